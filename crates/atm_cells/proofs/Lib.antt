@@ -1,0 +1,5 @@
+pub mod Division
+pub mod Fields
+pub mod Numbers
+pub mod Octets
+pub mod Quotient

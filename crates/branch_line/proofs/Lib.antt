@@ -1,0 +1,11 @@
+pub mod Trip
+pub mod Kept
+pub mod Exchanges
+pub mod Stretches
+pub mod SwitchSteps
+pub mod ControllerSteps
+pub mod AnswerSteps
+pub mod GreetingSteps
+pub mod LinkSteps
+pub mod Runs
+pub mod WorkedLives

@@ -1,0 +1,5 @@
+pub mod Lists
+pub mod Walks
+pub mod Regions
+pub mod Drains
+pub mod Lines

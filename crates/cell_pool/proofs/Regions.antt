@@ -1,0 +1,173 @@
+-- What each call of a region, of a queue and of a chain does, over plain regions.
+
+use Rattle.std.proofs.Common.{◌≡◌, ◌≢◌, ℕ, zero, suc, ◌+◌, ◌<◌, ◌≤◌, List, [], ◌∷◌, ◌++◌, length, map, get_or, set, take, drop, refl, sym, ap, subst, ◌∙◌, arith, rules, add-one, get_or-set_same, get_or-set_other, length-set, length-append}
+use Rattle.std.proofs.lemmas.List.{map-append}
+use Rattle.atm_cells.specs.declared.cell.Cell.{Cell}
+use Rattle.cell_pool.specs.Places.{NotIn, Apart, Distinct, Below}
+use Rattle.cell_pool.specs.Region.{Region, Thread, Line, Threaded, Own, size, blank, cell_at, walk, places, cells_of, len_of, IsOut, EndsAt, IsLine}
+use Rattle.cell_pool.specs.Steps.{IsKept, StaysOut, StaysOutBeside, IsKeptFrom, IsTaken, IsPut, IsPushed, IsPopped, IsDrained}
+use Rattle.cell_pool.specs.declared.pool.Pool.TheInside.{Inside}
+use Rattle.cell_pool.proofs.Lists.{NotIn-push, Distinct-push, Below-push, Apart-push, EndsAt-push, EndsAt-rest, length-le_from_Distinct, Below-end, Apart-end, NotIn_from_apart, Apart-rest_right, Apart-cons_right, Apart-sym, Apart-nil, map-set_apart}
+use Rattle.cell_pool.proofs.Walks.{length-walk, walk-set, walk_first, walk-put, walk-link}
+
+-- what the fields of a pool are seen as
+abbrev pub region : Inside → Region
+region p = record { free = walk p.next.items p.head p.free; cells = p.cells.items; next = p.next.items }
+
+-- a line whose places and cells are as they were is kept, if none of its places became free
+pub kept : (old new : Region) (l : Line) → IsLine old l → size new ≡ size old → Apart (places old l) new.free → places new l ≡ places old l → cells_of new l ≡ cells_of old l → IsKept old new l
+kept old new (Threaded q) line same taken p c = record {
+  threaded = record { inside = rw (same, p) line.inside; taken = rw p taken; distinct = rw p line.distinct; ends = rw p line.ends };
+  same_places = p;
+  same_cells = c;
+}
+kept old new (Own ps) line same taken p c = record {
+  threaded = record { inside = rw same line.inside; taken = taken; distinct = line.distinct; ends = line.ends };
+  same_places = p;
+  same_cells = c;
+}
+
+-- a line's places don't depend on what is free, nor on the cells
+pub places-next : (old : Region) (free : List ℕ) (cells : List Cell) (l : Line) → places (record { free = free; cells = cells; next = old.next }) l ≡ places old l
+places-next old free cells (Threaded q) = refl
+places-next old free cells (Own ps) = refl
+
+-- a new lead from a place that isn't in the line leaves its places
+pub places-set : (old : Region) (free : List ℕ) (i v : ℕ) (l : Line) → NotIn i (places old l) → places (record { free = free; cells = old.cells; next = set old.next i v }) l ≡ places old l
+places-set old free i v (Threaded q) n = walk-set old.next i v q.head q.len n
+places-set old free i v (Own ps) n = refl
+
+pub length-places : (r : Region) (l : Line) → length (places r l) ≡ len_of l
+length-places r (Threaded q) = length-walk r.next q.head q.len
+length-places r (Own ps) = refl
+
+abbrev pub taken_region : Region → ℕ → Cell → List ℕ → Region
+taken_region old s c rest = record { free = rest; cells = set old.cells s c; next = old.next }
+
+take_others : (old : Region) (s : ℕ) (c : Cell) (rest : List ℕ) → old.free ≡ s ∷ rest → (l : Line) → IsLine old l → IsKeptFrom old (taken_region old s c rest) s l
+take_others old s c rest e l line =
+    let taken : Apart (places old l) (s ∷ rest) = rw e at line.taken in
+    let fresh : NotIn s (places old l) = NotIn_from_apart (places old l) s rest taken in
+    let new : Region = taken_region old s c rest in
+    let p : places new l ≡ places old l = places-next old rest (set old.cells s c) l in
+    record {
+      kept = kept old new l line (length-set old.cells s c) (Apart-rest_right (places old l) s rest taken) p
+          (ap (map (cell_at new)) p ∙ map-set_apart old.cells s c blank (places old l) fresh);
+      without = fresh;
+    }
+
+-- the first free place is taken, with a cell
+pub take_first : (old : Region) (s : ℕ) (c : Cell) (rest : List ℕ) → old.free ≡ s ∷ rest → Distinct old.free → Below (size old) old.free → IsTaken old (taken_region old s c rest) s c
+take_first old s c rest e distinct below =
+    let d : Distinct (s ∷ rest) = rw e at distinct in
+    let b : Below (size old) (s ∷ rest) = rw e at below in
+    record {
+      first = e;
+      same_size = length-set old.cells s c;
+      out = record { inside = rw (length-set old.cells s c) b.0; taken = d.0 };
+      holds = get_or-set_same old.cells s c blank b.0;
+      others_out = λ p o.
+          let away : NotIn p (s ∷ rest) = rw e at o.taken in
+          record {
+            stays = record { out = record { inside = rw (length-set old.cells s c) o.inside; taken = away.1 }; same_cell = get_or-set_other old.cells s p c blank away.0 };
+            differs = away.0;
+          };
+      others = take_others old s c rest e;
+    }
+
+-- a place is put back before the free ones
+pub put_back : (old : Region) (s head n : ℕ) → old.free ≡ walk old.next head n → length old.next ≡ size old → IsOut old s
+    → IsPut old (record { free = walk (set old.next s head) s (n + 1); cells = old.cells; next = set old.next s head }) s
+put_back old s head n e even out =
+    let within : s < length old.next = rw even out.inside in
+    let fresh : NotIn s (walk old.next head n) = rw e at out.taken in
+    let now : walk (set old.next s head) s (n + 1) ≡ s ∷ old.free = rw e (walk-put old.next s head n within fresh) in
+    let new : Region = record { free = walk (set old.next s head) s (n + 1); cells = old.cells; next = set old.next s head } in
+    record {
+      first = now;
+      same_size = refl;
+      others_out = λ p o differs. record { out = record { inside = o.inside; taken = rw now (differs, o.taken) }; same_cell = refl };
+      others = λ l line without.
+          let p : places new l ≡ places old l = places-set old (walk (set old.next s head) s (n + 1)) s head l without in
+          kept old new l line refl (rw now (Apart-cons_right (places old l) s old.free line.taken without)) p (ap (map (cell_at old)) p);
+    }
+
+-- the place s is pushed to an empty thread
+pub push_first : (r : Region) (h t s : ℕ) → IsOut r s → IsPushed r r (Threaded (record { head = h; tail = t; len = 0 })) (Threaded (record { head = s; tail = s; len = 1 })) s
+push_first r h t s out = record {
+  threaded = record { inside = (out.inside, tt); taken = (out.taken, tt); distinct = (tt, tt); ends = refl };
+  now_places = refl;
+  now_cells = refl;
+  same_free = refl;
+  same_store = refl;
+  others = λ l line apart. kept r r l line refl line.taken refl refl;
+}
+
+-- what a line has with one place more at its end
+more : (r new : Region) (q l : Line) (s : ℕ) → IsLine r q → IsOut r s → NotIn s (places r q) → size new ≡ size r → new.free ≡ r.free → new.cells ≡ r.cells → places new l ≡ places r q ++ s ∷ []
+    → Below (size new) (places new l) × Apart (places new l) new.free × Distinct (places new l) × (cells_of new l ≡ cells_of r q ++ cell_at r s ∷ [])
+more r new q l s line out fresh same_size same_free same_cells p = (
+  rw (p, same_size) (Below-push (size r) (places r q) s line.inside out.inside),
+  rw (p, same_free) (Apart-push (places r q) r.free s line.taken out.taken),
+  rw p (Distinct-push (places r q) s line.distinct fresh),
+  rw (p, same_cells) (map-append (cell_at r) (places r q) (s ∷ [])),
+)
+
+-- the place s is pushed to a thread that has places: its tail leads on to it
+pub push_more : (r : Region) (h t k s : ℕ) → length r.next ≡ size r → IsLine r (Threaded (record { head = h; tail = t; len = suc k })) → IsOut r s → NotIn s (walk r.next h (suc k))
+    → IsPushed r (record { free = r.free; cells = r.cells; next = set r.next t s }) (Threaded (record { head = h; tail = t; len = suc k })) (Threaded (record { head = h; tail = s; len = suc k + 1 })) s
+push_more r h t k s even line out fresh =
+    let q : Line = Threaded (record { head = h; tail = t; len = suc k }) in
+    let l : Line = Threaded (record { head = h; tail = s; len = suc k + 1 }) in
+    let new : Region = record { free = r.free; cells = r.cells; next = set r.next t s } in
+    let rest : List ℕ = walk r.next (get_or r.next h 0) k in
+    let within : t < length r.next = rw even (Below-end (size r) h rest t line.inside line.ends) in
+    let p : places new l ≡ walk r.next h (suc k) ++ s ∷ [] = rw add-one (walk-link r.next h k t s within line.distinct line.ends) in
+    let m = more r new q l s line out fresh refl refl refl p in
+    record {
+      threaded = record { inside = m.0; taken = m.1; distinct = m.2; ends = subst (λ (xs : List ℕ). EndsAt xs s) (sym p) (EndsAt-push (walk r.next h (suc k)) s) };
+      now_places = p;
+      now_cells = m.3;
+      same_free = refl;
+      same_store = refl;
+      others = λ x other apart.
+          let e : places new x ≡ places r x = places-set r r.free t s x (Apart-end h rest t (places r x) apart line.ends) in
+          kept r new x other refl other.taken e (ap (map (cell_at r)) e);
+    }
+
+-- the same at any length that isn't 0
+pub push_some : (r : Region) (h t n s : ℕ) → n ≢ 0 → length r.next ≡ size r → IsLine r (Threaded (record { head = h; tail = t; len = n })) → IsOut r s → NotIn s (walk r.next h n)
+    → IsPushed r (record { free = r.free; cells = r.cells; next = set r.next t s }) (Threaded (record { head = h; tail = t; len = n })) (Threaded (record { head = h; tail = s; len = n + 1 })) s
+push_some r h t zero s some even line out fresh = absurd (some refl)
+push_some r h t (suc k) s some even line out fresh = push_more r h t k s even line out fresh
+
+-- the place s is pushed to a list of its own
+pub push_own : (r : Region) (xs : List ℕ) (s : ℕ) → IsLine r (Own xs) → IsOut r s → NotIn s xs → length xs < 32 → IsPushed r r (Own xs) (Own (xs ++ s ∷ [])) s
+push_own r xs s line out fresh room =
+    let m = more r r (Own xs) (Own (xs ++ s ∷ [])) s line out fresh refl refl refl refl in
+    record {
+      threaded = record { inside = m.0; taken = m.1; distinct = m.2; ends = omega (arith, length-append xs (s ∷ [])) };
+      now_places = refl;
+      now_cells = m.3;
+      same_free = refl;
+      same_store = refl;
+      others = λ l other apart. kept r r l other refl other.taken refl refl;
+    }
+
+-- the tail of a thread that has places is out
+pub tail_out : (r : Region) (h t n : ℕ) → n ≢ 0 → IsLine r (Threaded (record { head = h; tail = t; len = n })) → IsOut r t
+tail_out r h t zero some line = absurd (some refl)
+tail_out r h t (suc k) some line = record {
+  inside = Below-end (size r) h (walk r.next (get_or r.next h 0) k) t line.inside line.ends;
+  taken = Apart-end h (walk r.next (get_or r.next h 0) k) t r.free line.taken line.ends;
+}
+
+-- a line and one place more are no more than the region has
+pub len-lt-size : (r : Region) (l : Line) (s : ℕ) → IsLine r l → IsOut r s → NotIn s (places r l) → len_of l < size r
+len-lt-size r l s line out fresh =
+    let few : length (s ∷ places r l) ≤ size r = length-le_from_Distinct (size r) (s ∷ places r l) (fresh, line.distinct) (out.inside, line.inside) in
+    omega (arith, few, length-places r l)
+
+-- a region is its parts
+pub region_is : (r : Region) (free : List ℕ) (cells : List Cell) (next : List ℕ) → r.free ≡ free → r.cells ≡ cells → r.next ≡ next → r ≡ record { free = free; cells = cells; next = next }
+region_is r free cells next f c n = rw (← f, ← c, ← n) refl

@@ -1,0 +1,4 @@
+pub mod Places
+pub mod Region
+pub mod Steps
+pub mod Shares

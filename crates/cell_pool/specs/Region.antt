@@ -1,0 +1,91 @@
+-- A region of slots as plain data, and the queues and chains whose slots are in it.
+
+use Rattle.std.specs.Prelude.{◌≡◌, ℕ, zero, suc, ◌<◌, ◌≤◌, ◌+◌, List, [], ◌∷◌, length, map, replicate, slice_index, slice_index_or, nat_eq, if◌then◌else◌, false}
+use Rattle.std.specs.List.{list_any}
+use Rattle.atm_cells.specs.declared.cell.Cell.{Cell}
+use Rattle.cell_pool.specs.Places.{NotIn, Apart, Distinct, Below}
+
+-- the places that are free, the next one to be given out first; the cell in each place; the place
+-- to which each place leads
+pub record Region : Type 0 where
+  pub free : List ℕ
+  pub cells : List Cell
+  pub next : List ℕ
+
+-- a list of places that is threaded through a region: its first place, its last one, its length
+pub record Thread : Type 0 where
+  pub head : ℕ
+  pub tail : ℕ
+  pub len : ℕ
+
+-- what a queue or a chain is seen as: threaded through its region, or a list of its own
+pub data Line : Type 0 where
+  Threaded : Thread → Line
+  Own : List ℕ → Line
+
+-- how many slots the region has
+abbrev pub size : Region → ℕ
+size r = length r.cells
+
+-- a cell of zeros, which only a place outside the region has
+abbrev pub blank : Cell
+blank = record {
+  header = record { channel = record { vpi = 0; vci = 0 }; last = false };
+  payload = replicate 48 0;
+  mark = record { packet = 0; frame = 0 };
+}
+
+-- the cell in a place
+abbrev pub cell_at : Region → ℕ → Cell
+cell_at r p = slice_index_or r.cells p blank
+
+-- the places from h on, of which there are n
+abbrev pub walk : (next : List ℕ) (h n : ℕ) → List ℕ
+walk next h zero = []
+walk next h (suc n) = h ∷ walk next (slice_index next h) n
+
+-- the places of a line, the first one first
+abbrev pub places : Region → Line → List ℕ
+places r (Threaded q) = walk r.next q.head q.len
+places r (Own ps) = ps
+
+-- the cells of a line, the first one first
+abbrev pub cells_of : Region → Line → List Cell
+cells_of r l = map (cell_at r) (places r l)
+
+-- how many places a line has
+abbrev pub len_of : Line → ℕ
+len_of (Threaded q) = q.len
+len_of (Own ps) = length ps
+
+-- the place was taken and not put back
+pub record IsOut (r : Region) (p : ℕ) : Type 0 where
+  pub inside : p < size r
+  pub taken : NotIn p r.free
+
+-- how many of the first n places aren't in the list
+abbrev pub others_below : (n : ℕ) → List ℕ → ℕ
+others_below zero ps = 0
+others_below (suc n) ps = others_below n ps + (if list_any (λ x. nat_eq x n) ps then 0 else 1)
+
+-- how many slots were taken and not put back
+abbrev pub slots_out : Region → ℕ
+slots_out r = others_below (size r) r.free
+
+-- the list ends at the place t, if it has any
+abbrev pub EndsAt : List ℕ → ℕ → Type 0
+EndsAt [] t = Unit {0}
+EndsAt (x ∷ []) t = x ≡ t
+EndsAt (x ∷ y ∷ ys) t = EndsAt (y ∷ ys) t
+
+-- the tail of a thread is its last place; a list of its own has at most 32
+abbrev pub EndsRight : Region → Line → Type 0
+EndsRight r (Threaded q) = EndsAt (walk r.next q.head q.len) q.tail
+EndsRight r (Own ps) = length ps ≤ 32
+
+-- with this region the line is a list of distinct places, each taken and not put back
+pub record IsLine (r : Region) (l : Line) : Type 0 where
+  pub inside : Below (size r) (places r l)
+  pub taken : Apart (places r l) r.free
+  pub distinct : Distinct (places r l)
+  pub ends : EndsRight r l

@@ -1,0 +1,108 @@
+//! A queue of slots, threaded through its region.
+
+ghost use Rattle.std.specs.Prelude.{◌≡◌, ◌+◌, ◌↔◌, IsTrue, IsNone, IfNone, IfSome};
+ghost use Rattle.cell_pool.specs.Places.{NotIn};
+ghost use Rattle.cell_pool.specs.Region.{Region, places, len_of, IsOut, IsLine};
+ghost use Rattle.cell_pool.specs.Steps.{IsPushed, IsPopped, IsDrained};
+
+use crate::pool::{Pool, Slot};
+use std::marker::Model;
+
+/// A queue of slots of one region: first in, first out. It takes no memory, and it must be drained.
+#[must_use]
+#[derive(Debug)]
+pub struct Queue {
+    /// The first place, where there is one; each leads to the next in the region.
+    head: usize,
+    /// The last place, where there is one.
+    tail: usize,
+    /// How many places the queue has.
+    len: usize,
+}
+
+impl Model for Queue {
+    ghost use Rattle.cell_pool.specs.Region.{Line, Threaded};
+
+    ghost Value = { Line };
+
+    ghost view = { λ q. Threaded (record { head = q.head; tail = q.tail; len = q.len }) };
+}
+
+impl Queue {
+    /// An empty queue, of any region.
+    pub fn new() -> Queue
+        ensures empty { len_of result ≡ 0 }
+        ensures threaded { (pool : Region) → IsLine pool result }
+    {
+        Queue {
+            head: 0,
+            tail: 0,
+            len: 0,
+        }
+    }
+
+    /// How many cells the queue has.
+    pub fn len(&self) -> usize
+        ensures { result ≡ len_of self.now }
+    {
+        self.len
+    }
+
+    /// Whether the queue has no cell.
+    pub fn is_empty(&self) -> bool
+        ensures { IsTrue result ↔ (len_of self.now ≡ 0) }
+    {
+        self.len == 0
+    }
+
+    /// Puts the slot at the end.
+    pub fn push(&mut self, pool: &mut Pool, slot: Slot)
+        requires threaded { IsLine pool.old self.old }
+        requires out { IsOut pool.old slot }
+        requires fresh { NotIn slot (places pool.old self.old) }
+        ensures pushed { IsPushed pool.old pool.new self.old self.new slot }
+        ensures len { len_of self.new ≡ len_of self.old + 1 }
+    {
+        let place = slot.into_place();
+        if self.len == 0 {
+            self.head = place;
+        } else {
+            pool.link(self.tail, place);
+        }
+        self.tail = place;
+        self.len += 1;
+    }
+
+    /// Takes the first slot out. None exactly where the queue is empty.
+    pub fn pop(&mut self, pool: &mut Pool) -> Option<Slot>
+        requires { IsLine pool.old self.old }
+        ensures region { pool.new ≡ pool.old }
+        ensures threaded { IsLine pool.new self.new }
+        ensures none { IsNone result ↔ (len_of self.old ≡ 0) }
+        ensures none_same { IfNone result (self.new ≡ self.old) }
+        ensures some { IfSome result (λ slot. IsPopped pool.old self.old self.new slot) }
+    {
+        if self.len == 0 {
+            return None;
+        }
+        let place = self.head;
+        self.head = pool.after(place);
+        self.len -= 1;
+        Some(Slot::of_place(place))
+    }
+
+    /// Gives all slots back to the region.
+    pub fn drain(mut self, pool: &mut Pool)
+        requires { IsLine pool.old self }
+        ensures { IsDrained pool.old pool.new self }
+    {
+        while let Some(slot) = self.pop(pool) {
+            pool.put(slot);
+        }
+        let Queue {
+            head: _,
+            tail: _,
+            len: _,
+        } = self;
+    }
+}

@@ -1,0 +1,85 @@
+//! One slot is given once; queues and chains give their cells in order.
+
+use crate::{Chain, Pool, Queue};
+use atm_cells::{Cell, Header};
+use net_types::{Channel, Mark};
+use std::test::Fail;
+
+/// A cell whose frame is `frame`.
+fn cell(frame: u64) -> Cell {
+    Cell {
+        header: Header {
+            channel: Channel { vpi: 0, vci: 40 },
+            last: true,
+        },
+        payload: [9; 48],
+        mark: Mark { packet: 1, frame },
+    }
+}
+
+#[test]
+fn one_slot_is_given_once(rt: HostRuntime) -> Result<(), Fail> {
+    let mut pool = Pool::open(rt.alloc(), 1)?;
+    let first = pool.take(&cell(1)).ok_or("no slot")?;
+    match pool.take(&cell(2)) {
+        None => {}
+        Some(slot) => {
+            pool.put(slot);
+            panic!(rt; "a slot of one is given twice");
+        }
+    }
+    assert_eq!(rt; pool.read(&first).mark.frame, 1);
+    pool.put(first);
+    let second = pool.take(&cell(3)).ok_or("no slot after one was put back")?;
+    assert_eq!(rt; pool.free(), 0);
+    pool.put(second);
+    Ok(())
+}
+
+#[test]
+fn a_queue_gives_its_cells_in_order(rt: HostRuntime) -> Result<(), Fail> {
+    let mut pool = Pool::open(rt.alloc(), 2)?;
+    let mut queue = Queue::new();
+    let Some(slot) = pool.take(&cell(1)) else {
+        panic!(rt; "no slot for the first cell")
+    };
+    queue.push(&mut pool, slot);
+    let Some(slot) = pool.take(&cell(2)) else {
+        panic!(rt; "no slot for the second cell")
+    };
+    queue.push(&mut pool, slot);
+    assert_eq!(rt; (pool.free(), queue.len()), (0, 2));
+    let Some(slot) = queue.pop(&mut pool) else {
+        panic!(rt; "the first cell isn't there")
+    };
+    assert_eq!(rt; pool.read(&slot).mark.frame, 1);
+    pool.put(slot);
+    assert!(rt; !queue.is_empty());
+    queue.drain(&mut pool);
+    assert_eq!(rt; pool.free(), 2);
+    Ok(())
+}
+
+#[test]
+fn a_chain_gives_its_cells_in_order(rt: HostRuntime) -> Result<(), Fail> {
+    let mut pool = Pool::open(rt.alloc(), 2)?;
+    let mut chain = Chain::new();
+    let Some(slot) = pool.take(&cell(1)) else {
+        panic!(rt; "no slot for the first cell")
+    };
+    chain.push(&mut pool, slot);
+    let Some(slot) = pool.take(&cell(2)) else {
+        panic!(rt; "no slot for the second cell")
+    };
+    chain.push(&mut pool, slot);
+    assert_eq!(rt; (pool.free(), chain.len()), (0, 2));
+    let Some(slot) = chain.pop(&mut pool) else {
+        panic!(rt; "the first cell isn't there")
+    };
+    assert_eq!(rt; pool.read(&slot).mark.frame, 1);
+    pool.put(slot);
+    assert!(rt; !chain.is_empty());
+    chain.drain(&mut pool);
+    assert_eq!(rt; pool.free(), 2);
+    Ok(())
+}

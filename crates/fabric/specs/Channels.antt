@@ -1,0 +1,37 @@
+-- The channels that a switch connects, in order. Their ranges are this project's own.
+
+use Rattle.std.specs.Prelude.{◌≡◌, ℕ, ◌*◌, ◌≤◌, ◌⊎◌, List, map, All, Contains}
+use Rattle.std.specs.List.Sorted.{IsStrictlyIncreasing}
+use Rattle.std.specs.Ordering.{nat_cmp, ordering_then}
+use Rattle.std.specs.declared.cmp.Ordering.{Ordering}
+use Rattle.net_types.specs.declared.node.PortNo.{PortNo}
+use Rattle.net_types.specs.declared.channel.End.{End}
+
+-- the order of ends: by port, then by VPI, then by VCI
+abbrev pub end_cmp : End → End → Ordering
+end_cmp a b = ordering_then (nat_cmp a.port.0 b.port.0) (ordering_then (nat_cmp a.channel.vpi b.channel.vpi) (nat_cmp a.channel.vci b.channel.vci))
+
+-- port 0 is the control port, the ports of the links are 1 to 8
+abbrev pub IsLinkPort : PortNo → Type 0
+IsLinkPort p = (1 ≤ p.0) × (p.0 ≤ 8)
+
+-- the ports of a switch: of links, ascending, none twice
+pub record ArePorts (ports : List PortNo) : Type 0 where
+  pub of_links : All IsLinkPort ports
+  pub ascending : IsStrictlyIncreasing (map (λ p. p.0) ports)
+
+-- the default channel, or a label
+abbrev pub IsVci : ℕ → Type 0
+IsVci v = (v ≡ 15) ⊎ ((32 ≤ v) × (v ≤ 1023))
+
+-- the path of port p: VPI 0 there, and VPI 16p on the control port
+abbrev pub IsOfPort : PortNo → End → Type 0
+IsOfPort p e = ((e.port.0 ≡ p.0) × (e.channel.vpi ≡ 0)) ⊎ ((e.port.0 ≡ 0) × (e.channel.vpi ≡ 16 * p.0))
+
+-- a channel that a switch with these ports can connect
+abbrev pub IsConnectable : List PortNo → End → Type 0
+IsConnectable ports e = IsVci e.channel.vci × ((p : PortNo) × (Contains ports p × IsOfPort p e))
+
+-- a channel that some switch can connect
+abbrev pub IsSwitched : End → Type 0
+IsSwitched e = IsVci e.channel.vci × ((p : PortNo) × (IsLinkPort p × IsOfPort p e))

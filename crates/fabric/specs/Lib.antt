@@ -1,0 +1,4 @@
+pub mod Channels
+pub mod Crossbar
+pub mod Entries
+pub mod Fabric

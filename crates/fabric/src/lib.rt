@@ -1,0 +1,17 @@
+//! The fabric of a switch: which input goes to which output, and the cells that wait at each port.
+//! Queues live in one region of slots, which the switch's own chain shares.
+//!
+//! Contracts see the fabric as plain data (`specs/Crossbar.antt`): a finite map of branches and a
+//! list of cells for each port, over the region (`specs/Fabric.antt`).
+#![tactic(auto)]
+
+mod branch;
+mod branches;
+mod fabric;
+mod routed;
+#[cfg(test)]
+mod tests;
+
+pub use branch::Branch;
+pub use fabric::Fabric;
+pub use routed::Routed;

@@ -1,0 +1,93 @@
+//! The default encapsulation (RFC 1483 4.1).
+//!
+//! | Octets | Content |
+//! |---|---|
+//! | 0 to 2 | LLC: AA AA 03 |
+//! | 3 to 5 | OUI: 00 00 00 |
+//! | 6 to 7 | EtherType: 08 00 |
+//! | 8 on | the packet |
+
+ghost use Rattle.std.specs.Prelude.{◌≡◌, ◌≢◌, ℕ, ◌+◌, ◌<◌, ◌≤◌, ◌↔◌, ◌++◌, List, length, take, drop, IfOk, IsOkAnd};
+ghost use Rattle.flow_encaps.specs.Default.{default_payload, llc_snap};
+
+/// Why a payload isn't taken apart.
+#[derive(Clone, Copy, Debug, PartialEq, Eq)]
+pub enum EncapsFault {
+    /// The payload has fewer octets than its encapsulation's header.
+    Short,
+    /// The LLC/SNAP header isn't that of an IPv4 packet; [`unwrap_default`] alone gives it.
+    BadSnap,
+    /// A reserved field of a labelled frame isn't 0; [`unwrap_default`] never gives it.
+    Reserved,
+    /// A labelled frame's Total Length isn't the payload's; [`unwrap_default`] never gives it.
+    Length,
+    /// A labelled frame's Checksum isn't its header's; [`unwrap_default`] never gives it.
+    Checksum,
+}
+
+/// LLC, OUI and EtherType of an IPv4 packet.
+const LLC_SNAP: [u8; 8] = [0xaa, 0xaa, 0x03, 0x00, 0x00, 0x00, 0x08, 0x00];
+
+/// Writes the LLC/SNAP header and then `packet` to the front of `out`, and answers how many octets
+/// those are: 8 more than the packet has.
+pub fn wrap_default(packet: &[u8], out: &mut [u8]) -> usize
+    requires { length packet.now + 8 ≤ length out.old }
+    ensures len { result ≡ length packet.now + 8 }
+    ensures written { out.new ≡ default_payload packet.now ++ drop result out.old }
+{
+    let end = packet.len() + 8;
+    out[..8].copy_from_slice(&LLC_SNAP);
+    out[8..end].copy_from_slice(packet);
+    end
+}
+
+/// The packet behind the LLC/SNAP header. Refuses `Short` (under 8 octets) and then `BadSnap` (the
+/// header is another one).
+pub fn unwrap_default(payload: &[u8]) -> Result<&[u8], EncapsFault>
+    ensures short { (result ≡ Err EncapsFault.Short) ↔ (length payload.now < 8) }
+    ensures bad_snap { (result ≡ Err EncapsFault.BadSnap) ↔ ((8 ≤ length payload.now) × (take 8 payload.now ≢ llc_snap)) }
+    ensures ok { IfOk result (λ packet. payload.now ≡ default_payload packet.now) }
+    ensures inverse { (packet : List ℕ) → payload.now ≡ default_payload packet → IsOkAnd result (λ found. found.now ≡ packet) }
+{
+    if payload.len() < 8 {
+        return Err(EncapsFault::Short);
+    }
+    if !payload.starts_with(&LLC_SNAP) {
+        return Err(EncapsFault::BadSnap);
+    }
+    Ok(&payload[8..])
+}
+
+#[cfg(test)]
+mod tests {
+    use super::*;
+
+    /// The LLC/SNAP header of RFC 1483 4.1 before the first octets of a packet.
+    const PAYLOAD: [u8; 12] = [
+        0xaa, 0xaa, 0x03, 0x00, 0x00, 0x00, 0x08, 0x00, 0x45, 0x00, 0x00, 0x1c,
+    ];
+
+    #[test]
+    fn a_packet_stands_behind_llc_snap(rt: HostRuntime) {
+        let mut out = [0xff; 14];
+        let end = wrap_default(&[0x45, 0x00, 0x00, 0x1c], &mut out);
+        assert_eq!(rt; end, 12);
+        assert_eq!(rt; &out[..12], PAYLOAD.as_slice());
+        assert_eq!(rt; &out[12..], [0xff, 0xff].as_slice());
+        assert!(rt; matches!(unwrap_default(&PAYLOAD), Ok([0x45, 0x00, 0x00, 0x1c])));
+    }
+
+    #[test]
+    fn payloads_are_refused_by_cause(rt: HostRuntime) {
+        assert!(rt; matches!(unwrap_default(&PAYLOAD[..7]), Err(EncapsFault::Short)));
+        assert!(rt; matches!(unwrap_default(&PAYLOAD[..8]), Ok([])));
+        for place in 0..8usize {
+            let mut payload = PAYLOAD;
+            payload[place] ^= 1;
+            assert!(rt;
+                matches!(unwrap_default(&payload), Err(EncapsFault::BadSnap)),
+                "at {place}"
+            );
+        }
+    }
+}

@@ -1,0 +1,7 @@
+pub mod Inverse
+pub mod Places
+pub mod Reading
+pub mod RowSteps
+pub mod Spelling
+pub mod Tails
+pub mod Writing

@@ -1,0 +1,21 @@
+//! GSMP messages as octets, both ways (RFC 1987). [`decode`] is the exact inverse of [`encode`] on
+//! the messages in range, and each refusal comes exactly where its test is the first to fail.
+#![tactic(auto)]
+
+mod check;
+mod fault;
+mod fields;
+mod laws;
+mod message;
+mod read;
+mod rows;
+#[cfg(test)]
+mod tests;
+mod write;
+
+pub use fault::Fault;
+pub use laws::octets_have_one_message;
+pub use message::{BranchKind, Message};
+pub use read::decode;
+pub use rows::{PortRow, PortRows};
+pub use write::encode;

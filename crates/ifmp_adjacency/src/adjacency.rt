@@ -1,0 +1,277 @@
+//! One side of an IFMP adjacency.
+
+ghost use Rattle.std.specs.Prelude.{◌≡◌, false};
+ghost use Rattle.std.specs.Option.{option_map};
+ghost use Rattle.adjacency_table.specs.declared.message.Answer.TheVariants.{Reset};
+ghost use Rattle.ifmp_adjacency.specs.Hello.{hello_of, ifmp_answer};
+
+use crate::established::Established;
+use crate::peer::Peer;
+use adjacency_table::{self as table, Heard, Said, State};
+use net_types::{Addr, Hello, HelloKind, Instance};
+use std::marker::Model;
+
+/// What an adjacency answers.
+pub type Answer = table::Answer<Hello, Established>;
+
+/// One side of an IFMP adjacency (RFC 1953, IFMP Adjacency Protocol).
+#[derive(Debug, Drop)]
+pub struct Adjacency {
+    side: table::Adjacency<Peer>,
+}
+
+impl Model for Adjacency {
+    ghost use Rattle.adjacency_table.specs.Side.{Side};
+    ghost use Rattle.ifmp_adjacency.specs.declared.peer.Peer.{Peer};
+
+    ghost Value = { Side Peer };
+
+    ghost view = { λ a. a.side };
+}
+
+impl Adjacency {
+    ghost use Rattle.adjacency_table.specs.Side.{IsSide, fresh, is_entry, is_open, ticked};
+    ghost use Rattle.ifmp_adjacency.specs.Hello.{ifmp_answer, ifmp_received};
+
+    /// The adjacency of a router of this address, in Clearing.
+    pub fn start(own: Instance, address: Addr) -> Adjacency
+        ensures { result ≡ fresh State.Clearing (record { instance = own; address = address }) }
+    {
+        let own = Peer {
+            instance: own,
+            address,
+        };
+        Adjacency {
+            side: table::Adjacency::start(State::Clearing, own),
+        }
+    }
+
+    /// Its port is cleared: from Clearing to SynSent.
+    pub fn cleared(&mut self)
+        requires { self.old.state ≡ State.Clearing }
+        ensures { self.new ≡ record self.old { state = State.SynSent } }
+    {
+        self.side.cleared();
+    }
+
+    /// A message comes in a packet from `source`; `next` is the sequence number that SYNACK and
+    /// ACK carry. The answer opens exactly on entering Estab, and at a reset nothing changes.
+    pub fn receive(&mut self, source: Addr, hello: &Hello, next: u32) -> Answer
+        ensures side { self.new ≡ (ifmp_received self.old source hello.now).side }
+        ensures answer { result ≡ ifmp_answer next (ifmp_received self.old source hello.now).answer }
+        ensures opens { is_open result ≡ is_entry self.old.state self.new.state }
+        ensures reset { result ≡ Reset → self.new ≡ self.old }
+    {
+        let heard = Heard {
+            kind: hello.kind,
+            sender: Peer {
+                instance: hello.sender,
+                address: source,
+            },
+            receiver: Peer {
+                instance: hello.peer,
+                address: hello.identity,
+            },
+        };
+        answer_with(next, self.side.receive(&heard))
+    }
+
+    /// A tick goes by. In Estab the fourth one in a row at which nothing was heard is a reset.
+    pub fn tick(&mut self, next: u32) -> Answer
+        ensures side { self.new ≡ (ticked self.old).side }
+        ensures answer { result ≡ ifmp_answer next (ticked self.old).answer }
+        ensures opens { is_open result ≡ false }
+        ensures reset { result ≡ Reset → self.new ≡ self.old }
+    {
+        answer_with(next, self.side.tick())
+    }
+
+    /// Begins anew in Clearing with this own instance.
+    pub fn reset(&mut self, own: Instance)
+        ensures { self.new ≡ fresh State.Clearing (record self.old.own { instance = own }) }
+    {
+        let own = Peer {
+            instance: own,
+            address: self.side.own().address,
+        };
+        self.side = table::Adjacency::start(State::Clearing, own);
+    }
+
+    /// The peer was heard in another way: the silence count begins anew.
+    pub fn heard(&mut self)
+        ensures { self.new ≡ record self.old { silence = 0 } }
+    {
+        self.side.heard();
+    }
+
+    /// The peer's instance and address, none where nothing is stored.
+    pub fn peer(&self) -> Option<(Instance, Addr)>
+        ensures stored { result ≡ option_map (λ peer. (peer.instance, peer.address)) self.now.stored }
+        ensures sound { IsSide self.now }
+    {
+        let peer = self.side.peer()?;
+        Some((peer.instance, peer.address))
+    }
+
+    /// The state.
+    pub fn state(&self) -> State
+        ensures { result ≡ self.now.state }
+    {
+        self.side.state()
+    }
+}
+
+/// The table's answer in IFMP's messages.
+fn answer_with(next: u32, answer: table::Answer<Said<Peer>, Peer>) -> Answer
+    ensures { result ≡ ifmp_answer next answer }
+{
+    match answer {
+        table::Answer::Quiet => Answer::Quiet,
+        table::Answer::Send(said) => Answer::Send(hello_with(next, said)),
+        table::Answer::Open { send, key } => Answer::Open {
+            send: send.map(|said| hello_with(next, said)),
+            key: Established::new(key.instance),
+        },
+        table::Answer::Reset => Answer::Reset,
+    }
+}
+
+/// A message as it is written.
+fn hello_with(next: u32, said: Said<Peer>) -> Hello
+    ensures { result ≡ hello_of next said }
+{
+    let receiver = said.receiver.unwrap_or(Peer {
+        instance: Instance(0),
+        address: Addr(0),
+    });
+    Hello {
+        kind: said.kind,
+        sender: said.sender.instance,
+        peer: receiver.instance,
+        identity: receiver.address,
+        next: match said.kind {
+            HelloKind::Synack | HelloKind::Ack => next,
+            HelloKind::Syn | HelloKind::Rstack => 0,
+        },
+    }
+}
+
+#[cfg(test)]
+mod tests {
+    use super::*;
+
+    const FIRST: Addr = Addr(0x0a00_0101);
+
+    const SECOND: Addr = Addr(0x0a00_0201);
+
+    /// The answer with what it hands out spent.
+    fn spent(answer: Answer) -> table::Answer<Hello, Instance> {
+        match answer {
+            Answer::Quiet => table::Answer::Quiet,
+            Answer::Send(hello) => table::Answer::Send(hello),
+            Answer::Open { send, key } => {
+                let instance = key.instance();
+                key.spend();
+                table::Answer::Open {
+                    send,
+                    key: instance,
+                }
+            }
+            Answer::Reset => table::Answer::Reset,
+        }
+    }
+
+    fn hello(kind: HelloKind, sender: u32, peer: u32, identity: Addr, next: u32) -> Hello {
+        Hello {
+            kind,
+            sender: Instance(sender),
+            peer: Instance(peer),
+            identity,
+            next,
+        }
+    }
+
+    /// A side of instance 1 in Estab with instance 2 as its peer.
+    fn in_estab() -> Adjacency {
+        let mut side = Adjacency::start(Instance(1), FIRST);
+        side.cleared();
+        let synack = hello(HelloKind::Synack, 2, 1, FIRST, 1);
+        let _ = spent(side.receive(SECOND, &synack, 1));
+        side
+    }
+
+    /// Two routers with the instances 1 and 2 greet one another.
+    #[test]
+    fn two_routers_establish(rt: HostRuntime) {
+        let mut first = Adjacency::start(Instance(1), FIRST);
+        let mut second = Adjacency::start(Instance(2), SECOND);
+        first.cleared();
+        second.cleared();
+        let nobody = Addr(0);
+        let first_syn = hello(HelloKind::Syn, 1, 0, nobody, 0);
+        let second_syn = hello(HelloKind::Syn, 2, 0, nobody, 0);
+        assert_eq!(rt; spent(first.tick(1)), table::Answer::Send(first_syn));
+        assert_eq!(rt; spent(second.tick(1)), table::Answer::Send(second_syn));
+        let first_synack = hello(HelloKind::Synack, 1, 2, SECOND, 1);
+        let second_synack = hello(HelloKind::Synack, 2, 1, FIRST, 1);
+        let answer = spent(first.receive(SECOND, &second_syn, 1));
+        assert_eq!(rt; answer, table::Answer::Send(first_synack));
+        let answer = spent(second.receive(FIRST, &first_syn, 1));
+        assert_eq!(rt; answer, table::Answer::Send(second_synack));
+        let answer = spent(first.receive(SECOND, &second_synack, 1));
+        let send = Some(hello(HelloKind::Ack, 1, 2, SECOND, 1));
+        assert_eq!(rt;
+            answer,
+            table::Answer::Open {
+                send,
+                key: Instance(1)
+            }
+        );
+        let answer = spent(second.receive(FIRST, &first_synack, 1));
+        let send = Some(hello(HelloKind::Ack, 2, 1, FIRST, 1));
+        assert_eq!(rt;
+            answer,
+            table::Answer::Open {
+                send,
+                key: Instance(2)
+            }
+        );
+        assert_eq!(rt; first.state(), State::Estab);
+        assert_eq!(rt; second.state(), State::Estab);
+        assert_eq!(rt; first.peer(), Some((Instance(2), SECOND)));
+        assert_eq!(rt; second.peer(), Some((Instance(1), FIRST)));
+    }
+
+    /// A side in Estab that hears nothing says ACK three times, and then is to be reset.
+    #[test]
+    fn silence_ends_an_adjacency(rt: HostRuntime) {
+        let mut side = in_estab();
+        let ack = hello(HelloKind::Ack, 1, 2, SECOND, 9);
+        for _ in 0..3 {
+            assert_eq!(rt; spent(side.tick(9)), table::Answer::Send(ack));
+        }
+        assert_eq!(rt; spent(side.tick(9)), table::Answer::Reset);
+        assert_eq!(rt; side.state(), State::Estab);
+        side.reset(Instance(3));
+        assert_eq!(rt; side.state(), State::Clearing);
+        assert_eq!(rt; side.peer(), None);
+        let mut heard = in_estab();
+        for _ in 0..9 {
+            assert_eq!(rt; spent(heard.tick(9)), table::Answer::Send(ack));
+            heard.heard();
+        }
+    }
+
+    /// An RSTACK exchanges the instances, names the source, and carries no sequence number.
+    #[test]
+    fn a_stranger_is_answered_by_rstack(rt: HostRuntime) {
+        let mut side = in_estab();
+        let stranger = Addr(0x0a00_0901);
+        let ack = hello(HelloKind::Ack, 7, 5, FIRST, 4);
+        let rstack = hello(HelloKind::Rstack, 5, 7, stranger, 0);
+        assert_eq!(rt;
+            spent(side.receive(stranger, &ack, 9)),
+            table::Answer::Send(rstack)
+        );
+    }
+}

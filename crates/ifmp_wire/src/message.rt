@@ -1,0 +1,78 @@
+//! The messages as values.
+
+use flow_ids::FlowId;
+use net_types::{Channel, Hello, Instance};
+
+/// A message of the Ipsilon Flow Management Protocol.
+#[derive(Clone, Copy, Debug, PartialEq, Eq)]
+pub enum Message {
+    /// Sets an adjacency up, or keeps it.
+    Adjacency(Hello),
+    /// Asks the upstream end to send a flow under a label.
+    Redirect {
+        /// The sender's instance.
+        sender: Instance,
+        /// The receiver's instance.
+        peer: Instance,
+        /// The sequence number of the sender's redirection messages.
+        number: u32,
+        /// How long the flow may use the label, in ticks; never 0.
+        lifetime: u16,
+        /// The label.
+        label: Channel,
+        /// The flow.
+        flow: FlowId,
+    },
+    /// Asks for a label back.
+    Reclaim {
+        /// The sender's instance.
+        sender: Instance,
+        /// The receiver's instance.
+        peer: Instance,
+        /// The sequence number of the sender's redirection messages.
+        number: u32,
+        /// The label.
+        label: Channel,
+        /// The flow that used it.
+        flow: FlowId,
+    },
+    /// Gives a label back.
+    ReclaimAck {
+        /// The sender's instance.
+        sender: Instance,
+        /// The receiver's instance.
+        peer: Instance,
+        /// The sequence number of the sender's redirection messages.
+        number: u32,
+        /// The label.
+        label: Channel,
+        /// The flow that used it.
+        flow: FlowId,
+    },
+    /// Says which labels the sender can send under.
+    LabelRange {
+        /// The sender's instance.
+        sender: Instance,
+        /// The receiver's instance.
+        peer: Instance,
+        /// The sequence number of the sender's redirection messages.
+        number: u32,
+        /// The least label.
+        least: Channel,
+        /// The greatest label, not below the least.
+        greatest: Channel,
+    },
+    /// Refuses a redirection.
+    Error {
+        /// The sender's instance.
+        sender: Instance,
+        /// The receiver's instance.
+        peer: Instance,
+        /// The sequence number of the sender's redirection messages.
+        number: u32,
+        /// 1 Taken, 2 Leaving, 3 Full, 4 Mismatch.
+        code: u8,
+        /// The label that was asked for.
+        label: Channel,
+    },
+}

@@ -1,0 +1,4 @@
+pub mod Best
+pub mod Longest
+pub mod Room
+pub mod Hop

@@ -1,0 +1,10 @@
+//! The routing table and the routing step of an IPv4 router (RFC 1812 5.2).
+#![tactic(auto)]
+
+mod outcome;
+mod step;
+mod table;
+
+pub use outcome::Hop;
+pub use step::hop;
+pub use table::{AddFault, Next, Route, Table};

@@ -1,0 +1,137 @@
+//! A table of routes, one for each of its prefixes.
+
+ghost use Rattle.std.specs.Prelude.{◌≡◌, ◌++◌, ◌∷◌, [], List, false, IfOk, OnOk, OnErr, find};
+
+use net_types::{Addr, OutOfMemory, PortNo, Prefix};
+use std::alloc::Global;
+use std::marker::Model;
+
+/// Where the packets of a prefix go.
+#[derive(Clone, Copy, Debug, PartialEq, Eq)]
+pub enum Next {
+    /// This node is their destination.
+    Local,
+    /// The node at the other end of this port's link takes them.
+    Via(PortNo),
+}
+
+/// A prefix with where its packets go.
+#[derive(Clone, Copy, Debug)]
+pub struct Route {
+    /// The addresses that the route is for.
+    pub prefix: Prefix,
+    /// Where their packets go.
+    pub next: Next,
+}
+
+/// Why [`Table::add`] refuses.
+#[derive(Clone, Copy, Debug, PartialEq, Eq)]
+pub enum AddFault {
+    /// The table has a route for this prefix.
+    Duplicate,
+    /// The table has 256 routes.
+    TableFull,
+}
+
+/// At most 256 routes, in the order in which they were added; no two have the same prefix.
+#[derive(Debug, Drop)]
+pub struct Table {
+    routes: Vec<Route>,
+}
+
+impl Model for Table {
+    ghost use Rattle.std.specs.Prelude.{List};
+    ghost use Rattle.ipv4_forward.specs.declared.table.Route.{Route};
+
+    ghost Value = { List Route };
+
+    ghost use Rattle.ipv4_forward.specs.Room.{HasRoom};
+
+    ghost view = { λ t. t.routes.items };
+
+    ghost invariant = { HasRoom };
+}
+
+/// The most routes that a table holds.
+pub const ROUTES: usize = 256;
+
+impl Table {
+    ghost use Rattle.ipv4_forward.specs.Best.{best, add_fault};
+    ghost use Rattle.std.specs.Result.{result_err};
+
+    /// An empty table, with the room that it ever takes.
+    pub fn open(alloc: Global) -> Result<Table, OutOfMemory>
+        ensures { IfOk result (λ t. t ≡ []) }
+    {
+        let routes = Vec::with_capacity(alloc, ROUTES)?;
+        Ok(Table { routes })
+    }
+
+    /// Adds a route. Refuses `Duplicate` and then `TableFull`.
+    pub fn add(&mut self, prefix: Prefix, next: Next) -> Result<(), AddFault>
+        ensures ok { OnOk result (self.new ≡ self.old ++ record { prefix = prefix; next = next } ∷ []) }
+        ensures fault { result_err result ≡ add_fault self.old prefix }
+        ensures err { OnErr result (self.new ≡ self.old) }
+    {
+        if holds(self.routes.as_slice(), prefix) {
+            return Err(AddFault::Duplicate);
+        }
+        if self.routes.len() >= ROUTES {
+            return Err(AddFault::TableFull);
+        }
+        self.routes.push_reserved(Route { prefix, next });
+        Ok(())
+    }
+
+    /// Where packets for `addr` go: by the route of the longest prefix that covers it.
+    pub fn lookup(&self, addr: Addr) -> Option<Next>
+        ensures { result ≡ best self.now addr }
+    {
+        match longest(self.routes.as_slice(), addr) {
+            Some(route) => Some(route.next),
+            None => None,
+        }
+    }
+}
+
+ghost use Rattle.ipv4_forward.specs.Best.{is_best, has_prefix};
+ghost use Rattle.ipv4_forward.specs.Room.{AreDistinct};
+ghost use Rattle.ipv4_forward.specs.Longest.{IsLongest};
+
+fn holds(routes: &[Route], prefix: Prefix) -> bool
+    ensures { result ≡ has_prefix routes.now prefix }
+{
+    routes.iter().any(|route| route.prefix.addr() == prefix.addr()
+        && route.prefix.len() == prefix.len())
+}
+
+fn longest(routes: &[Route], addr: Addr) -> Option<Route>
+    requires { AreDistinct routes.now }
+    ensures { result ≡ find (is_best routes.now addr) routes.now }
+{
+    let mut found = None;
+    for route in routes {
+        found = longer(found, *route, addr);
+    }
+    found
+}
+
+// The longest of the routes so far and this one that covers the address.
+fn longer(found: Option<Route>, route: Route, addr: Addr) -> Option<Route>
+    ensures { (routes : List Route) → IsLongest routes addr found → has_prefix routes route.prefix ≡ false → IsLongest (routes ++ route ∷ []) addr result }
+{
+    if !route.prefix.covers(addr) {
+        return found;
+    }
+    match found {
+        None => Some(route),
+        Some(before) => {
+            let before_len = before.prefix.len();
+            if before_len < route.prefix.len() {
+                Some(route)
+            } else {
+                Some(before)
+            }
+        }
+    }
+}

@@ -1,0 +1,5 @@
+pub mod FieldLemmas
+pub mod HeaderLemmas
+pub mod MessageLemmas
+pub mod RouteLemmas
+pub mod WordLemmas

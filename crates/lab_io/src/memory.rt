@@ -1,0 +1,202 @@
+//! A source and a sink in memory, which move octets in pieces and fail at the calls that they are
+//! told to fail at.
+
+ghost use Rattle.std.specs.Prelude.{◌≡◌, ◌<◌, ◌++◌, [], length, min, take, drop, Some, IfOk, OnOk};
+ghost use Rattle.std.specs.Io.{ReadsAtMost, WritesAtMost};
+ghost use Rattle.std.specs.Io.KnownBytes.{ReadConsumes, WriteAppends};
+ghost use Rattle.lab_io.specs.Fault.{HasCause, Rose};
+ghost use Rattle.lab_io.specs.Memory.{is_failing, portion, read_answer, after_read, written_over, write_answer, after_write};
+
+use crate::edge::{Failed, Sink, Source};
+use net_types::OutOfMemory;
+use std::alloc::Global;
+use std::marker::Model;
+
+/// The most octets that a [`MemSink`] takes in all: 16 MiB.
+const ROOM: usize = 16_777_216;
+
+/// Whether the call after `calls` calls is listed in `failing`, which counts calls from 1.
+fn is_listed(failing: &[u32], calls: u64) -> bool
+    ensures { result ≡ is_failing failing.now calls }
+{
+    let next = calls.saturating_add(1);
+    failing.iter().any(|call| *call as u64 == next)
+}
+
+/// Copies octets over the front of `buf`, as many as fit but at most `piece`, and answers how many.
+fn give(buf: &mut [u8], octets: &[u8], piece: usize) -> usize
+    ensures count { result ≡ length (take (min piece (length buf.old)) octets.now) }
+    ensures front { take result buf.new ≡ take result octets.now }
+    ensures rest { drop result buf.new ≡ drop result buf.old }
+{
+    let count = piece.min(buf.len()).min(octets.len());
+    buf[..count].copy_from_slice(&octets[..count]);
+    count
+}
+
+/// A source of octets in memory.
+#[derive(Debug, Drop)]
+pub struct MemSource {
+    octets: Vec<u8>,
+    at: usize,
+    piece: usize,
+    failing: Vec<u32>,
+    calls: u64,
+    faults: u64,
+}
+
+impl Model for MemSource {
+    ghost use Rattle.std.specs.Prelude.{◌<◌, ◌≤◌, length, drop};
+    ghost use Rattle.lab_io.specs.Memory.{Supply};
+
+    ghost Value = { Supply };
+
+    ghost view = { λ s. record {
+      left = drop s.at s.octets.items;
+      piece = s.piece;
+      failing = s.failing.items;
+      calls = s.calls;
+      faults = s.faults;
+    } };
+
+    ghost invariant = { λ s. (s.at ≤ length s.octets.items) × (0 < s.piece) };
+}
+
+impl MemSource {
+    /// A source of `octets` that gives at most `piece` octets at a read and fails at the reads
+    /// that `failing` lists, counted from 1.
+    pub fn new(octets: Vec<u8>, piece: usize, failing: Vec<u32>) -> MemSource
+        requires { 0 < piece }
+        ensures { result ≡ record {
+          left = octets.items;
+          piece = piece;
+          failing = failing.items;
+          calls = 0;
+          faults = 0;
+        } }
+    {
+        MemSource {
+            octets,
+            at: 0,
+            piece,
+            failing,
+            calls: 0,
+            faults: 0,
+        }
+    }
+}
+
+impl Source for MemSource {
+    ghost left = { λ s. Some s.left };
+
+    ghost faults = { λ s. s.faults };
+
+    fn read(&mut self, buf: &mut [u8]) -> Result<usize, Failed>
+        ensures bound { ReadsAtMost result buf.new }
+        ensures octets { ReadConsumes (Some self.old.left) (Some self.new.left) result buf.new }
+        ensures cause { HasCause self.old.faults self.new.faults result }
+
+        ensures answer { result ≡ read_answer self.old (length buf.old) }
+        ensures after { self.new ≡ after_read self.old (length buf.old) }
+        ensures given { OnOk result (buf.new ≡ written_over buf.old (portion self.old (length buf.old))) }
+    {
+        let fails = is_listed(self.failing.as_slice(), self.calls);
+        self.calls = self.calls.saturating_add(1);
+        if fails {
+            self.faults = self.faults.saturating_add(1);
+            return Err(Failed);
+        }
+        let count = give(buf, &self.octets[self.at..], self.piece);
+        self.at += count;
+        Ok(count)
+    }
+}
+
+/// A sink of octets in memory, with room for 16 MiB.
+#[derive(Debug, Drop)]
+pub struct MemSink {
+    taken: Vec<u8>,
+    piece: usize,
+    failing: Vec<u32>,
+    calls: u64,
+    faults: u64,
+}
+
+impl Model for MemSink {
+    ghost use Rattle.std.specs.Prelude.{◌≤◌, length, vec_capacity};
+    ghost use Rattle.lab_io.specs.Memory.{Store, sink_room};
+
+    ghost Value = { Store };
+
+    ghost view = { λ s. record {
+      taken = s.taken.items;
+      piece = s.piece;
+      failing = s.failing.items;
+      calls = s.calls;
+      faults = s.faults;
+    } };
+
+    ghost invariant = { λ s. (length s.taken.items ≤ sink_room) × (sink_room ≤ vec_capacity s.taken) };
+}
+
+impl MemSink {
+    /// A sink that takes at most `piece` octets at a write and fails at the writes that `failing`
+    /// lists, counted from 1, and where a write doesn't fit its room. With `piece` 0 it takes
+    /// nothing. All of its room is taken here.
+    pub fn new(alloc: Global, piece: usize, failing: Vec<u32>) -> Result<MemSink, OutOfMemory>
+        ensures { IfOk result (λ sink. sink ≡ record {
+          taken = [];
+          piece = piece;
+          failing = failing.items;
+          calls = 0;
+          faults = 0;
+        }) }
+    {
+        Ok(MemSink {
+            taken: Vec::with_capacity(alloc, ROOM)?,
+            piece,
+            failing,
+            calls: 0,
+            faults: 0,
+        })
+    }
+
+    /// The octets that it took.
+    pub fn written(&self) -> &[u8]
+        ensures { result.now ≡ self.now.taken }
+    {
+        self.taken.as_slice()
+    }
+}
+
+impl Sink for MemSink {
+    ghost written = { λ s. Some s.taken };
+
+    ghost faults = { λ s. s.faults };
+
+    fn write(&mut self, buf: &[u8]) -> Result<usize, Failed>
+        ensures bound { WritesAtMost result buf.now }
+        ensures octets { WriteAppends (Some self.old.taken) (Some self.new.taken) result buf.now }
+        ensures cause { HasCause self.old.faults self.new.faults result }
+        ensures stuck { result ≡ Ok 0 → 0 < length buf.now → Rose self.old.faults self.new.faults }
+
+        ensures answer { result ≡ write_answer self.old buf.now }
+        ensures after { self.new ≡ after_write self.old buf.now }
+    {
+        let fails = is_listed(self.failing.as_slice(), self.calls);
+        self.calls = self.calls.saturating_add(1);
+        let count = self.piece.min(buf.len());
+        if fails || count > ROOM - self.taken.len() {
+            self.faults = self.faults.saturating_add(1);
+            return Err(Failed);
+        }
+        if count == 0 && !buf.is_empty() {
+            self.faults = self.faults.saturating_add(1);
+            return Ok(0);
+        }
+        match self.taken.extend_from_slice(&buf[..count]) {
+            Ok(()) => Ok(count),
+            Err(_) => unreachable!(),
+        }
+    }
+}

@@ -1,0 +1,42 @@
+-- which lines are refused, and what a line of hexadecimal says
+
+use Rattle.std.specs.Prelude.{ℕ, ◌+◌, ◌&&◌, nat_lt, nat_le, Bool, not, List, [], ◌∷◌, length, Option, Some, None, Result, Ok, Err, if◌then◌else◌}
+use Rattle.std.specs.List.{list_all}
+use Rattle.lab_text.specs.declared.line.LineFault.{LineFault}
+use Rattle.lab_text.specs.declared.line.LineFault.TheVariants.{ScriptTooLong, LineTooLong, BadByte, Arity, BadHex}
+use Rattle.lab_text.specs.Words.{is_script_octet, line_text, words, is_blank_line}
+use Rattle.lab_text.specs.Numeral.{hex_octets}
+
+-- the octet of the input with this number, counted from 1, is one of these octets, which so many
+-- others stand before
+abbrev pub holds_octet : (before : ℕ) → List ℕ → (place : ℕ) → Bool
+holds_octet before octets place = nat_lt before place && nat_le place (before + length octets)
+
+-- the tests that each line meets, in their order: which fails first
+abbrev pub line_fault : (before : ℕ) → List ℕ → Option LineFault
+line_fault before line =
+    if holds_octet before line 16777217 then Some ScriptTooLong
+    else if nat_lt 4096 (length (line_text line)) then Some LineTooLong
+    else if not (list_all is_script_octet (line_text line)) then Some BadByte
+    else None
+
+-- the octets of a line's one word, where it spells some
+abbrev pub hex_word : Option (List ℕ) → Result (Option (List ℕ)) LineFault
+hex_word None = Err BadHex
+hex_word (Some octets) = Ok (Some octets)
+
+abbrev pub hex_words : List (List ℕ) → Result (Option (List ℕ)) LineFault
+hex_words [] = Ok None
+hex_words (word ∷ []) = hex_word (hex_octets word)
+hex_words (word ∷ next ∷ others) = Err Arity
+
+-- a line of hexadecimal: the octets of its one word, or none where it is blank
+abbrev pub hex_text : List ℕ → Result (Option (List ℕ)) LineFault
+hex_text text = if is_blank_line text then Ok None else hex_words (words text)
+
+abbrev pub unless_refused : Option LineFault → Result (Option (List ℕ)) LineFault → Result (Option (List ℕ)) LineFault
+unless_refused None answer = answer
+unless_refused (Some fault) _ = Err fault
+
+abbrev pub hex_line : (before : ℕ) → List ℕ → Result (Option (List ℕ)) LineFault
+hex_line before line = unless_refused (line_fault before line) (hex_text (line_text line))

@@ -1,0 +1,149 @@
+//! The numbers and the octets that a word spells.
+
+ghost use Rattle.std.specs.Prelude.{◌≡◌, ◌<◌, ◌+◌, ◌*◌, ◌^◌, true, Some, IfOk, OnErr, IsSome};
+ghost use Rattle.std.specs.Char.{digit_value, is_ascii_digit, is_ascii_hexdigit};
+ghost use Rattle.std.specs.List.{list_all};
+ghost use Rattle.std.specs.Option.{option_map};
+ghost use Rattle.std.specs.Str.Parse.{digits_value};
+ghost use Rattle.lab_text.specs.Numeral.{number, below, is_number, hex_octets, is_hex, paired};
+
+use net_types::OutOfMemory;
+use std::alloc::{AllocError, Global};
+
+fn are_digits(word: &[u8]) -> bool
+    ensures { result ≡ list_all is_ascii_digit word.now }
+{
+    word.iter().all(|digit| digit.is_ascii_digit())
+}
+
+/// Whether `word` is a decimal number without a sign or a leading zero.
+fn is_number(word: &[u8]) -> bool
+    ensures { result ≡ is_number word.now }
+{
+    if word.is_empty() || !are_digits(word) {
+        return false;
+    }
+    word.len() == 1 || word[0] != b'0'
+}
+
+/// Ten times `number` and the digit; `None` where it isn't below 2 to the power of 32.
+fn with_digit(number: u32, digit: u8) -> Option<u32>
+    requires { is_ascii_digit digit ≡ true }
+    ensures { result ≡ below (2 ^ 32) (Some (number * 10 + digit_value digit)) }
+{
+    u32::try_from(number as u64 * 10 + (digit - b'0') as u64).ok()
+}
+
+/// The number that decimal digits spell; `None` where it isn't below 2 to the power of 32.
+fn decimal(digits: &[u8]) -> Option<u32>
+    requires { list_all is_ascii_digit digits.now ≡ true }
+    ensures { result ≡ below (2 ^ 32) (Some (digits_value 10 digits.now)) }
+{
+    let mut number = 0;
+    let mut left = digits;
+    while let [digit, rest @ ..] = left {
+        number = with_digit(number, *digit)?;
+        left = rest;
+    }
+    Some(number)
+}
+
+/// The number that `word` spells in decimal, without a sign or a leading zero; `None` where it
+/// spells none below 2 to the power of 32.
+pub fn read_number(word: &[u8]) -> Option<u32>
+    ensures { result ≡ below (2 ^ 32) (number word.now) }
+{
+    if is_number(word) { decimal(word) } else { None }
+}
+
+fn are_hex_digits(word: &[u8]) -> bool
+    ensures { result ≡ list_all is_ascii_hexdigit word.now }
+{
+    word.iter().all(|digit| digit.is_ascii_hexdigit())
+}
+
+/// Whether `word` is an even number of hexadecimal digits of either case.
+fn is_hex(word: &[u8]) -> bool
+    ensures { result ≡ is_hex word.now }
+{
+    word.len() % 2 == 0 && are_hex_digits(word)
+}
+
+/// The value of a hexadecimal digit.
+fn digit_value(digit: u8) -> u8
+    requires { is_ascii_hexdigit digit ≡ true }
+    ensures value { result ≡ digit_value digit }
+    ensures small { result < 16 }
+{
+    match digit {
+        b'0'..=b'9' => digit - b'0',
+        b'a'..=b'f' => digit - b'a' + 10,
+        _ => digit - b'A' + 10,
+    }
+}
+
+/// The octets that hexadecimal digits spell, two digits for each.
+fn hex_pairs(alloc: Global, digits: &[u8]) -> Result<Vec<u8>, AllocError>
+    requires { list_all is_ascii_hexdigit digits.now ≡ true }
+    ensures { IfOk result (λ octets. octets.items ≡ paired digits.now) }
+{
+    let mut octets = Vec::new(alloc);
+    let mut left = digits;
+    while let [high, low, rest @ ..] = left {
+        octets.push(16 * digit_value(*high) + digit_value(*low))?;
+        left = rest;
+    }
+    Ok(octets)
+}
+
+/// The octets that `word` spells in hexadecimal, two digits of either case for each; `None` where
+/// it isn't an even number of such digits.
+pub fn read_hex(alloc: Global, word: &[u8]) -> Result<Option<Vec<u8>>, OutOfMemory>
+    ensures octets { IfOk result (λ found. option_map (λ octets. octets.items) found ≡ hex_octets word.now) }
+    ensures memory { OnErr result (IsSome (hex_octets word.now)) }
+{
+    if !is_hex(word) {
+        return Ok(None);
+    }
+    Ok(Some(hex_pairs(alloc, word)?))
+}
+
+#[cfg(test)]
+mod tests {
+    use super::*;
+    use std::test::Fail;
+
+    #[test]
+    fn numbers_have_neither_sign_nor_leading_zero(rt: HostRuntime) {
+        for (word, number) in [
+            ("0", Some(0)),
+            ("16384", Some(16_384)),
+            ("4294967295", Some(4_294_967_295)),
+            ("4294967296", None),
+            ("99999999999999999999999", None),
+            ("", None),
+            ("00", None),
+            ("07", None),
+            ("+7", None),
+            ("-7", None),
+            ("7 ", None),
+            ("0x7", None),
+        ] {
+            assert_eq!(rt; read_number(word.as_bytes()), number, "{word:?}");
+        }
+    }
+
+    /// Digits of both cases, and words that aren't octets.
+    #[test]
+    fn octets_have_two_digits_of_either_case(rt: HostRuntime) -> Result<(), Fail> {
+        let octets = read_hex(rt.alloc(), b"4500001c0aBcDeFf")?.ok_or("octets")?;
+        assert!(rt; octets.as_slice() == b"\x45\x00\x00\x1c\x0a\xbc\xde\xff".as_slice());
+        for word in ["4", "450", "4g", "0x", "4 "] {
+            assert!(rt;
+                read_hex(rt.alloc(), word.as_bytes())?.is_none(),
+                "{word:?}"
+            );
+        }
+        Ok(())
+    }
+}

@@ -1,0 +1,95 @@
+-- what stands on a link between two ends, and in which order
+
+use Rattle.std.specs.Prelude.{ℕ, zero, suc, Bool, true, false, List, [], ◌∷◌, ◌++◌}
+use Rattle.net_types.specs.declared.adjacency.HelloKind.{HelloKind}
+
+-- the two ends of the link, as they stand to the label: the one that hands it out and the one that
+-- may send under it (RFC 1953)
+pub data Role : Type 0 where
+  Downstream : Role
+  Upstream : Role
+
+-- the messages that bear on the label, with the instances of their sender and of the peer that it
+-- means. Only the downstream end's sequence numbers are followed. So it may take a message of the
+-- upstream end that a real one ignores for its number, and the law holds of more than it asks
+pub data Message : Type 0 where
+  -- an adjacency message, with the peer next sequence number (RFC 1953)
+  Hello : (by : Role) → HelloKind → (sender receiver next : ℕ) → Message
+  -- REDIRECT, RECLAIM and RECLAIM ACK of the label, with its flow (RFC 1953)
+  Redirect : (sender receiver number flow : ℕ) → Message
+  Reclaim : (sender receiver number flow : ℕ) → Message
+  ReclaimAck : (sender receiver flow : ℕ) → Message
+  -- any other redirection message of the downstream end, of another label or of none
+  Other : (sender receiver number : ℕ) → Message
+
+-- a cell of the label's channel, by the flow under which it was sent, or a cell of the default
+-- channel: of the frame of a message, its last or another
+pub data Cell : Type 0 where
+  Labelled : (flow : ℕ) → Cell
+  Default : (last : Bool) → Message → Cell
+
+-- a message's frame has two cells: 20 to 40 octets of the message, 20 of IPv4, 8 of LLC and SNAP (RFC
+-- 1483 4.1) and 8 of the trailer (I.363.5 9.2.1) are more than 48 and at most 96
+abbrev pub frame : Message → List Cell
+frame message = Default false message ∷ Default true message ∷ []
+
+-- one way of the link, by its queues, each with its front first: what the receiver has reassembled
+-- of the default channel, what goes from its switch to it, what the sender's switch put out to the
+-- link, and what goes from the sender to its switch
+pub record Way : Type 0 where
+  pub chain : List Cell
+  pub to_controller : List Cell
+  pub output : List Cell
+  pub to_switch : List Cell
+
+abbrev pub empty : Way
+empty = record { chain = []; to_controller = []; output = []; to_switch = [] }
+
+-- all of it, from what is taken next to what was sent last
+abbrev pub cells : Way → List Cell
+cells way = way.chain ++ (way.to_controller ++ (way.output ++ way.to_switch))
+
+-- the sender puts cells at the end of its queue
+abbrev pub put : Way → List Cell → Way
+put way new = record way { to_switch = way.to_switch ++ new }
+
+-- the sender's switch puts the front cell of that queue out to the link
+abbrev pub switched : Way → List Cell → Way
+switched way [] = way
+switched way (cell ∷ rest) = record way { output = way.output ++ (cell ∷ []); to_switch = rest }
+
+-- the receiver's switch takes a cell from the link and passes it to the receiver
+abbrev pub linked : Way → List Cell → Way
+linked way [] = way
+linked way (cell ∷ rest) = record way { to_controller = way.to_controller ++ (cell ∷ []); output = rest }
+
+-- the receiver reassembles the default channel: the cell joins the chain
+abbrev pub chained : Way → Cell → List Cell → Way
+chained way cell rest = record way { chain = way.chain ++ (cell ∷ []); to_controller = rest }
+
+-- a list without its element at a place, where it has one there
+abbrev pub without : ℕ → List Cell → List Cell
+without place [] = []
+without zero (cell ∷ rest) = rest
+without (suc place) (cell ∷ rest) = cell ∷ without place rest
+
+-- where a cell may be lost
+pub data Place : Type 0 where
+  InChain : Place
+  ToController : Place
+  InOutput : Place
+  ToSwitch : Place
+
+abbrev pub lost : Place → ℕ → Way → Way
+lost InChain place way = record way { chain = without place way.chain }
+lost ToController place way = record way { to_controller = without place way.to_controller }
+lost InOutput place way = record way { output = without place way.output }
+lost ToSwitch place way = record way { to_switch = without place way.to_switch }
+
+-- a chain from its first last cell on. That cell's message is the one that is heard, also where the
+-- cell before it was lost, which a real reassembly refuses
+abbrev pub from_last : List Cell → List Cell
+from_last [] = []
+from_last (Labelled flow ∷ rest) = from_last rest
+from_last (Default false message ∷ rest) = from_last rest
+from_last (Default true message ∷ rest) = Default true message ∷ rest

@@ -1,0 +1,68 @@
+-- the line of one label: all that bears on it, from the end that hands it out to the end that uses
+-- it and back
+
+use Rattle.std.specs.Prelude.{ℕ, Bool, true, false, List, []}
+use Rattle.label_line.specs.Cells.{Way, empty}
+use Rattle.label_line.specs.Ends.{End, begun}
+
+-- the label at the downstream end. It is bound to a flow while it is Offered or Recalled
+pub data Label : Type 0 where
+  Spare : Label
+  -- the branch of its channel is being made, for this flow
+  Wiring : (flow : ℕ) → Label
+  Offered : Label
+  -- the number of its last RECLAIM, and whether a RECLAIM ACK was taken
+  Recalled : (last : ℕ) → (acknowledged : Bool) → Label
+  -- it was quit, and its branch is being deleted
+  Wired : Label
+
+abbrev pub is_bound : Label → Bool
+is_bound Offered = true
+is_bound (Recalled _ _) = true
+is_bound _ = false
+
+-- the upstream end's grant of the label, with its flow
+pub data Grant : Type 0 where
+  NoGrant : Grant
+  -- its branch is being made
+  Idle : (flow : ℕ) → Grant
+  -- the upstream controller sends cells under the label
+  ByController : (flow : ℕ) → Grant
+  -- an input of the upstream switch is joined to the label
+  ByInput : (flow : ℕ) → Grant
+  -- it ends once that join is released, and owes a RECLAIM ACK or not. After a restart of the
+  -- upstream end only the switch's branch may be left of it
+  Leaving : (flow : ℕ) → (owed : Bool) → Grant
+
+pub record Line : Type 0 where
+  pub downstream : End
+  pub upstream : End
+  -- the least instance that wasn't drawn yet, over all ports of the network
+  pub fresh : ℕ
+  -- the label, and the flow to which it was bound last
+  pub label : Label
+  pub flow : ℕ
+  -- the downstream end's next number, and the greatest next number that its peer said
+  pub number : ℕ
+  pub known : ℕ
+  -- what the downstream end has reassembled of the label's channel, by flows
+  pub reassembly : List ℕ
+  pub grant : Grant
+  pub to_downstream : Way
+  pub to_upstream : Way
+
+-- the start of a run: both ports wait until they are cleared, and the label was never bound
+abbrev pub start : (downstream upstream fresh : ℕ) → Line
+start downstream upstream fresh = record {
+  downstream = begun downstream (λ instance. false);
+  upstream = begun upstream (λ instance. false);
+  fresh = fresh;
+  label = Spare;
+  flow = 0;
+  number = 1;
+  known = 1;
+  reassembly = [];
+  grant = NoGrant;
+  to_downstream = empty;
+  to_upstream = empty;
+}

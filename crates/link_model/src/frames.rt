@@ -1,0 +1,70 @@
+//! The payloads of the frames that a run made, and the place of the latest one of each mark.
+
+ghost use Rattle.std.specs.Prelude.{◌≡◌, [], ◌∷◌, ◌++◌, option_copied, OnOk, OnErr};
+
+use indexmap::IndexMap;
+use net_types::{Mark, Octets, OutOfMemory};
+use std::alloc::Global;
+use std::marker::Model;
+
+/// A frame that a run made.
+#[derive(Debug, Drop)]
+pub struct Frame {
+    /// Its mark.
+    pub mark: Mark,
+    /// The octets that were segmented.
+    pub payload: Octets,
+}
+
+/// Frames in the order of their making.
+#[derive(Drop)]
+pub struct Frames {
+    list: Vec<Frame>,
+    latest: IndexMap<Mark, usize>,
+}
+
+impl Model for Frames {
+    ghost use Rattle.std.specs.Prelude.{List};
+    ghost use Rattle.link_model.specs.declared.frames.Frame.{Frame};
+    ghost use Rattle.link_model.specs.Indexes.{LeadsToLatest};
+
+    ghost Value = { List Frame };
+
+    ghost view = { λ f. f.list.items };
+
+    ghost invariant = { λ f. LeadsToLatest f.latest f.list.items };
+}
+
+impl Frames {
+    ghost use Rattle.link_model.specs.Ledger.{payload_of};
+
+    /// No frames.
+    pub fn new(alloc: Global) -> Frames
+        ensures { result ≡ [] }
+    {
+        Frames {
+            list: Vec::new(alloc),
+            latest: IndexMap::new(alloc),
+        }
+    }
+
+    /// Appends a frame.
+    pub fn push(&mut self, mark: Mark, payload: &[u8]) -> Result<(), OutOfMemory>
+        ensures ok { OnOk result (self.new ≡ self.old ++ record { mark = mark; payload = payload.now } ∷ []) }
+        ensures err { OnErr result (self.new ≡ self.old) }
+    {
+        let payload = Octets::new(payload.to_vec(*self.list.allocator())?);
+        self.list.reserve(1)?;
+        self.latest.insert(mark, self.list.len())?;
+        self.list.push_reserved(Frame { mark, payload });
+        Ok(())
+    }
+
+    /// The payload of the latest frame of the mark, if there is one.
+    pub fn payload_of(&self, mark: Mark) -> Option<&[u8]>
+        ensures { option_copied result ≡ payload_of self.now mark }
+    {
+        let place = self.latest.get(&mark)?;
+        Some(self.list[*place].payload.as_slice())
+    }
+}

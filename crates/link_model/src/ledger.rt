@@ -1,0 +1,159 @@
+//! The loss ledger of a run, beside the payloads of the frames that it made.
+
+ghost use Rattle.std.specs.Prelude.{◌≡◌, [], ◌∷◌, ◌++◌, Any, Some, IsTrue, ◌↔◌, IfOk, OnOk, OnErr};
+
+use crate::entries::Entries;
+use crate::frames::Frames;
+use crate::record::Cause;
+use net_types::{Mark, OutOfMemory};
+use std::alloc::Global;
+use std::marker::Model;
+
+/// The loss ledger of a run: a list of entries, each the mark of a frame and a cause. Beside it
+/// stand the payloads of the frames that the run made, each under its mark.
+///
+/// The look-ups go by a hash of the mark, whatever the number of entries and frames.
+#[derive(Drop)]
+pub struct Ledger {
+    entries: Entries,
+    frames: Frames,
+}
+
+impl Model for Ledger {
+    ghost use Rattle.link_model.specs.Ledger.{Books};
+
+    ghost Value = { Books };
+
+    ghost view = { λ l. record { entries = l.entries; frames = l.frames } };
+}
+
+impl Ledger {
+    ghost use Rattle.link_model.specs.Ledger.{has_entry, payload_of, is_frame};
+
+    /// A ledger with no entry and no frame.
+    pub fn open(alloc: Global) -> Result<Ledger, OutOfMemory>
+        ensures ok { IfOk result (λ l. l ≡ record { entries = []; frames = [] }) }
+    {
+        Ok(Ledger {
+            entries: Entries::new(alloc),
+            frames: Frames::new(alloc),
+        })
+    }
+
+    /// Enters `cause` for `mark`, as the last entry. Want of memory changes nothing.
+    pub fn enter(&mut self, mark: Mark, cause: Cause) -> Result<(), OutOfMemory>
+        ensures ok { OnOk result (self.new ≡ record self.old { entries = self.old.entries ++ record { mark = mark; cause = cause } ∷ [] }) }
+        ensures err { OnErr result (self.new ≡ self.old) }
+    {
+        self.entries.push(mark, cause)
+    }
+
+    /// Keeps `payload`, a list of octets, as that of the frame `mark`. In a run a mark is made
+    /// once; of several payloads under one mark the latest counts. Want of memory changes nothing.
+    pub fn made(&mut self, mark: Mark, payload: &[u8]) -> Result<(), OutOfMemory>
+        ensures ok { OnOk result (self.new ≡ record self.old { frames = self.old.frames ++ record { mark = mark; payload = payload.now } ∷ [] }) }
+        ensures err { OnErr result (self.new ≡ self.old) }
+    {
+        self.frames.push(mark, payload)
+    }
+
+    /// Whether `mark` has an entry.
+    pub fn has(&self, mark: Mark) -> bool
+        ensures has { result ≡ has_entry self.now.entries mark }
+        ensures entry { IsTrue result ↔ Any (λ entry. entry.mark ≡ mark) self.now.entries }
+    {
+        self.entries.has(mark)
+    }
+
+    /// Whether `payload` is what `made` kept under `mark`.
+    pub fn is_frame(&self, mark: Mark, payload: &[u8]) -> bool
+        ensures is_frame { result ≡ is_frame self.now.frames mark payload.now }
+        ensures kept { IsTrue result ↔ (payload_of self.now.frames mark ≡ Some payload.now) }
+    {
+        match self.frames.payload_of(mark) {
+            Some(kept) => kept == payload,
+            None => false,
+        }
+    }
+}
+
+#[cfg(test)]
+mod tests {
+    use super::*;
+    use std::test::Fail;
+
+    #[test]
+    fn entries_are_told_apart_by_both_numbers_of_a_mark(rt: HostRuntime) -> Result<(), Fail> {
+        let mut ledger = Ledger::open(rt.alloc())?;
+        ledger.enter(
+            Mark {
+                packet: 1,
+                frame: 1,
+            },
+            Cause::Lost,
+        )?;
+        ledger.enter(
+            Mark {
+                packet: 2,
+                frame: 3,
+            },
+            Cause::Broken,
+        )?;
+        ledger.enter(
+            Mark {
+                packet: 1,
+                frame: 1,
+            },
+            Cause::Broken,
+        )?;
+        let cases = [
+            (1, 1, true),
+            (2, 3, true),
+            (1, 3, false),
+            (2, 1, false),
+            (0, 1, false),
+        ];
+        for (packet, frame, want) in cases {
+            assert_eq!(rt;
+                ledger.has(Mark { packet, frame }),
+                want,
+                "at {packet}.{frame}"
+            );
+        }
+        Ok(())
+    }
+
+    #[test]
+    fn frames_are_told_apart_by_all_of_their_octets(rt: HostRuntime) -> Result<(), Fail> {
+        let first = Mark {
+            packet: 1,
+            frame: 1,
+        };
+        let next = Mark {
+            packet: 1,
+            frame: 2,
+        };
+        let mut ledger = Ledger::open(rt.alloc())?;
+        ledger.made(first, [0x45, 0x00].as_slice())?;
+        ledger.made(next, [0x45, 0x01].as_slice())?;
+        assert!(rt; ledger.is_frame(first, [0x45, 0x00].as_slice()));
+        assert!(rt; ledger.is_frame(next, [0x45, 0x01].as_slice()));
+        assert!(rt; !ledger.is_frame(first, [0x45, 0x01].as_slice()));
+        assert!(rt; !ledger.is_frame(first, [0x45].as_slice()));
+        assert!(rt;
+            !ledger.is_frame(
+                Mark {
+                    packet: 2,
+                    frame: 1
+                },
+                [].as_slice()
+            )
+        );
+        ledger.made(first, [0x60].as_slice())?;
+        assert!(rt; ledger.is_frame(first, [0x60].as_slice()));
+        assert!(rt; !ledger.is_frame(first, [0x45, 0x00].as_slice()));
+        assert!(rt; ledger.is_frame(next, [0x45, 0x01].as_slice()));
+        assert!(rt; !ledger.has(first));
+        Ok(())
+    }
+}

@@ -1,0 +1,12 @@
+//! The records of a run, its loss ledger, and the payloads of the frames that it made.
+#![tactic(auto)]
+
+mod entries;
+mod frames;
+mod ledger;
+mod notes;
+mod record;
+
+pub use ledger::Ledger;
+pub use notes::Notes;
+pub use record::{Cause, DropCause, Layer, Record, Refusal};

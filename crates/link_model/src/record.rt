@@ -1,0 +1,116 @@
+//! The records of a run: what became of packets, frames and cells.
+
+use net_types::{Mark, NodeId, Octets};
+
+/// Why a frame may be gone: the cause of an entry of the loss ledger.
+#[derive(Clone, Copy, Debug, PartialEq, Eq)]
+pub enum Cause {
+    /// A link lost one of its cells.
+    Lost,
+    /// A switch had no branch for one of its cells.
+    Unconnected,
+    /// No slot was free for one of its cells, or too few for the frame.
+    PoolFull,
+    /// A branch changed or ended, or a chain of cells was cut, while the frame was open there.
+    Cut,
+    /// A controller takes no such channel and has no binding of it.
+    Unbound,
+    /// A reassembly gave up a chain with one of its cells, or skipped one of them.
+    Broken,
+}
+
+/// Why a router drops a packet (RFC 1812 5.2.4.3, 5.3.1).
+#[derive(Clone, Copy, Debug, PartialEq, Eq)]
+pub enum DropCause {
+    /// No route has its destination.
+    NoRoute,
+    /// Its time to live ends here.
+    Expired,
+}
+
+/// The part of a node that refuses what a frame holds.
+#[derive(Clone, Copy, Debug, PartialEq, Eq)]
+pub enum Layer {
+    /// The encapsulation of the frame (RFC 1483, RFC 1954).
+    Encaps,
+    /// The IPv4 packet (RFC 791 3.1).
+    Packet,
+    /// The IFMP message (RFC 1953).
+    Ifmp,
+    /// The GSMP message (RFC 1987).
+    Gsmp,
+}
+
+/// The name of a refusal that a record shows.
+#[derive(Clone, Copy, Debug, PartialEq, Eq)]
+pub enum Refusal {
+    /// Fewer octets than the header that should begin here has.
+    Short,
+    /// A packet of another version than 4.
+    Version,
+    /// A packet with options.
+    Options,
+    /// A packet whose Total Length isn't its number of octets.
+    Length,
+    /// A packet of more octets than a link takes, 1500.
+    TooLong,
+    /// A packet whose header checksum is wrong.
+    Checksum,
+    /// A packet of the protocol of control messages, 101.
+    ControlProtocol,
+    /// A frame whose LLC and SNAP header isn't that of IPv4 (RFC 1483 4.1).
+    BadSnap,
+}
+
+/// One record of a run.
+#[derive(Debug, Drop)]
+pub enum Record {
+    /// A packet reached a node that is its destination.
+    Delivered {
+        /// Where it came to.
+        node: NodeId,
+        /// Its number, from 1.
+        packet: u32,
+        /// The packet's octets.
+        octets: Octets,
+    },
+    /// A router dropped a packet.
+    Dropped {
+        /// The router.
+        node: NodeId,
+        /// The packet's number, from 1.
+        packet: u32,
+        /// Why.
+        cause: DropCause,
+    },
+    /// A node refused a packet that it was given to send.
+    Refused {
+        /// The node.
+        node: NodeId,
+        /// The packet's number, from 1.
+        packet: u32,
+        /// Why.
+        name: Refusal,
+    },
+    /// An entry of the loss ledger.
+    Loss {
+        /// The frame that may be gone.
+        mark: Mark,
+        /// Why.
+        cause: Cause,
+    },
+    /// A chain of cells passed the test of a frame with another payload than the one that was made.
+    Chance {
+        /// The mark of its last cell.
+        mark: Mark,
+    },
+    /// A node refused what a good frame holds.
+    Bad {
+        /// The node.
+        node: NodeId,
+        /// Which part of it.
+        layer: Layer,
+        /// Why.
+        name: Refusal,
+    },
+}

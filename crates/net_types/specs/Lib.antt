@@ -1,0 +1,3 @@
+pub mod Channel
+pub mod Number
+pub mod Prefix

@@ -1,0 +1,54 @@
+//! What the two ends of an adjacency say to one another, as plain data (RFC 1953, RFC 1987).
+
+use crate::number::Instance;
+use crate::prefix::Addr;
+
+/// The four adjacency messages.
+#[derive(Clone, Copy, Debug, PartialEq, Eq)]
+pub enum HelloKind {
+    /// Offers a first instance.
+    Syn,
+    /// Answers an offer with both instances.
+    Synack,
+    /// Takes an adjacency back that its receiver doesn't know.
+    Rstack,
+    /// Confirms both instances.
+    Ack,
+}
+
+/// An IFMP adjacency message.
+#[derive(Clone, Copy, Debug, PartialEq, Eq)]
+pub struct Hello {
+    /// Which of the four.
+    pub kind: HelloKind,
+    /// The sender's instance.
+    pub sender: Instance,
+    /// The instance that the sender knows of its peer; 0 where it knows none.
+    pub peer: Instance,
+    /// The address that the sender knows of its peer; 0 where it knows none.
+    pub identity: Addr,
+    /// The sequence number that the sender expects next of its peer.
+    pub next: u32,
+}
+
+/// One party of a GSMP adjacency.
+#[derive(Clone, Copy, Debug, PartialEq, Eq)]
+pub struct Party {
+    /// Its name, as an Ethernet address.
+    pub name: [u8; 6],
+    /// Its port.
+    pub port: u32,
+    /// Its instance.
+    pub instance: Instance,
+}
+
+/// A GSMP adjacency message.
+#[derive(Clone, Copy, Debug, PartialEq, Eq)]
+pub struct Greeting {
+    /// Which of the four.
+    pub kind: HelloKind,
+    /// The party that sends it.
+    pub sender: Party,
+    /// The party that it is for, as the sender knows it.
+    pub receiver: Party,
+}

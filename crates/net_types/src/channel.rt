@@ -1,0 +1,58 @@
+//! ATM channels and the ends of connections (ITU-T I.361 2.2).
+
+ghost use Rattle.std.specs.Prelude.{◌≡◌, ◌<◌, ◌≤◌};
+ghost use Rattle.net_types.specs.Channel.{channel_on_control};
+
+use crate::node::PortNo;
+
+/// A virtual channel of one link: VPI (0 to 255 in a cell at the UNI) and VCI.
+#[derive(Clone, Copy, Debug, PartialEq, Eq, Hash)]
+pub struct Channel {
+    /// Virtual path identifier.
+    pub vpi: u16,
+    /// Virtual channel identifier.
+    pub vci: u16,
+}
+
+/// A channel of one port of a switch.
+#[derive(Clone, Copy, Debug, PartialEq, Eq, Hash)]
+pub struct End {
+    /// The port.
+    pub port: PortNo,
+    /// The channel of that port.
+    pub channel: Channel,
+}
+
+/// The channel of the control link that stands for `channel` of `port`: its VPI is 16 times the
+/// port number higher.
+pub fn on_control(port: PortNo, channel: Channel) -> Channel
+    requires port { (1 ≤ port.0) × (port.0 ≤ 8) }
+    requires vpi { channel.vpi < 16 }
+    ensures { result ≡ channel_on_control port channel }
+{
+    Channel {
+        vpi: 16 * port.0 as u16 + channel.vpi,
+        vci: channel.vci,
+    }
+}
+
+#[cfg(test)]
+mod tests {
+    use super::*;
+
+    /// The default channel 0/15 of ports 1 and 8, and label 0/32 of port 2.
+    #[test]
+    fn control_channels(rt: HostRuntime) {
+        let default = Channel { vpi: 0, vci: 15 };
+        assert_eq!(rt;
+            on_control(PortNo(1), default),
+            Channel { vpi: 16, vci: 15 }
+        );
+        assert_eq!(rt;
+            on_control(PortNo(8), default),
+            Channel { vpi: 128, vci: 15 }
+        );
+        let label = Channel { vpi: 0, vci: 32 };
+        assert_eq!(rt; on_control(PortNo(2), label), Channel { vpi: 32, vci: 32 });
+    }
+}

@@ -1,0 +1,95 @@
+//! Numbers that rise over a whole run: instances of adjacencies and marks of control frames.
+
+ghost use Rattle.std.specs.Prelude.{◌≡◌, ◌+◌, ◌-◌, ◌^◌, ◌<◌};
+
+use std::marker::Model;
+
+/// The instance of one end of an adjacency (RFC 1987, RFC 1953).
+#[derive(Clone, Copy, Debug, PartialEq, Eq, Hash)]
+pub struct Instance(pub u32);
+
+/// Which frame a cell belongs to. Marks stand beside the cells of a run; no octet on a link has one.
+#[derive(Clone, Copy, Debug, PartialEq, Eq, Hash)]
+pub struct Mark {
+    /// The packet, counted from 1 over the `send` lines; 0 for a control frame.
+    pub packet: u32,
+    /// For a packet, 1 at the node that took it and one higher at each router; for a control
+    /// frame its number in the run, from 1.
+    pub frame: u64,
+}
+
+/// The instances and the marks of control frames that a run has given out so far.
+#[derive(Debug, Drop)]
+pub struct Numbers {
+    instances: u32,
+    controls: u64,
+}
+
+impl Model for Numbers {
+    ghost use Rattle.net_types.specs.Number.{GivenOut};
+
+    ghost Value = { GivenOut };
+
+    ghost view = { λ n. record { instances = n.instances; controls = n.controls } };
+}
+
+impl Numbers {
+    /// Nothing is given out yet.
+    pub fn new() -> Numbers
+        ensures { result ≡ record { instances = 0; controls = 0 } }
+    {
+        Numbers {
+            instances: 0,
+            controls: 0,
+        }
+    }
+
+    /// The next instance, from 1.
+    pub fn instance(&mut self) -> Instance
+        requires { self.old.instances < 2 ^ 32 - 1 }
+        ensures next { result.0 ≡ self.old.instances + 1 }
+        ensures given { self.new ≡ record self.old { instances = self.old.instances + 1 } }
+    {
+        self.instances += 1;
+        Instance(self.instances)
+    }
+
+    /// The mark of the next control frame, from 0.1.
+    pub fn control(&mut self) -> Mark
+        requires { self.old.controls < 2 ^ 64 - 1 }
+        ensures next { result ≡ record { packet = 0; frame = self.old.controls + 1 } }
+        ensures given { self.new ≡ record self.old { controls = self.old.controls + 1 } }
+    {
+        self.controls += 1;
+        Mark {
+            packet: 0,
+            frame: self.controls,
+        }
+    }
+}
+
+#[cfg(test)]
+mod tests {
+    use super::*;
+
+    #[test]
+    fn numbers_rise_from_one(rt: HostRuntime) {
+        let mut numbers = Numbers::new();
+        assert_eq!(rt; numbers.instance(), Instance(1));
+        assert_eq!(rt;
+            numbers.control(),
+            Mark {
+                packet: 0,
+                frame: 1
+            }
+        );
+        assert_eq!(rt; numbers.instance(), Instance(2));
+        assert_eq!(rt;
+            numbers.control(),
+            Mark {
+                packet: 0,
+                frame: 2
+            }
+        );
+    }
+}

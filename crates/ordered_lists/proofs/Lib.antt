@@ -1,0 +1,5 @@
+pub mod Every
+pub mod InOrder
+pub mod Exchange
+pub mod Copies
+pub mod Parts

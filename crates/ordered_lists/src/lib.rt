@@ -1,0 +1,3 @@
+//! Lists of which every element has a property, and every two, in order, stand in a relation: how
+//! such a list is changed in one stretch. A library of definitions and lemmas; it has no code.
+#![tactic(auto)]

@@ -1,0 +1,5 @@
+pub mod Lists
+pub mod Journeys
+pub mod Steps
+pub mod Events
+pub mod Runs

@@ -1,0 +1,5 @@
+use Rattle.std.proofs.Common.{◌≡◌, replicate, []}
+use Rattle.plain_network.proofs.network.open_ports.Given as goal
+
+abbrev pub invariant-loop-node : goal.invariant-loop-node
+invariant-loop-node l = l.ports.items ≡ replicate l._node (replicate 8 [])

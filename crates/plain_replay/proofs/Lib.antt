@@ -1,0 +1,5 @@
+pub mod Halves
+pub mod Fields
+pub mod LineLemmas
+pub mod Scripts
+pub mod Runs

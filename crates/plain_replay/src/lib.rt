@@ -1,0 +1,14 @@
+//! The script of a plain network, read line by line, and the report of its run.
+#![tactic(auto)]
+
+mod forms;
+mod lines;
+mod reader;
+mod report;
+mod run;
+mod script;
+mod text;
+
+pub use reader::read_script;
+pub use run::{Reported, replay};
+pub use script::{PlainFault, Refusal, Script};

@@ -1,0 +1,78 @@
+//! From a script to its report.
+
+ghost use Rattle.std.specs.Prelude.{◌≡◌, ◌≤◌, length, IfOk, OnOk, is_some};
+ghost use Rattle.plain_laws.specs.Fates.{HasTrueFates};
+ghost use Rattle.plain_network.specs.Network.{run, no_traffic};
+ghost use Rattle.plain_replay.specs.Valid.{AreEvents};
+ghost use Rattle.plain_replay.specs.Script.{script_of, input_limit};
+ghost use Rattle.plain_replay.specs.Report.{report_of};
+
+use crate::reader::read_script;
+use crate::report::{write_end, write_records, write_refused};
+use crate::script::Script;
+use crate::text::Text;
+use link_model::Notes;
+use net_types::{Octets, OutOfMemory};
+use plain_laws::fates_are_journeys;
+use plain_network::{Event, Network, Topology};
+use std::alloc::Global;
+
+fn run_events(alloc: Global, topology: &Topology, events: &[Event]) -> Result<Notes, OutOfMemory>
+    requires { AreEvents topology.now.nodes events.now }
+    ensures { IfOk result (λ notes. notes.records ≡ (run topology.now.nodes (no_traffic topology.now.nodes) events.now).records) }
+{
+    let mut notes = Notes::open(alloc)?;
+    let mut network = Network::open(alloc, topology.nodes())?;
+    for event in events {
+        network.step(topology, event, &mut notes)?;
+    }
+    Ok(notes)
+}
+
+/// A report, and whether a line of its script was refused.
+#[derive(Debug, Drop)]
+pub struct Reported {
+    /// Its octets.
+    pub report: Octets,
+    /// Whether its last line names a refused line.
+    pub is_refused: bool,
+}
+
+/// The law of every run, at this network and these events.
+fn prove_fates(topology: &Topology, events: &[Event])
+    requires { AreEvents topology.now.nodes events.now }
+    ensures { HasTrueFates topology.now.nodes events.now }
+{
+    let _nodes = topology.nodes();
+    fates_are_journeys();
+}
+
+/// The report of the script that these octets are.
+pub fn replay(alloc: Global, octets: &[u8]) -> Result<Reported, OutOfMemory>
+    requires { length octets.now ≤ input_limit }
+    ensures octets { IfOk result (λ reported. reported.report ≡ report_of (script_of octets.now)) }
+    ensures refused { IfOk result (λ reported. reported.is_refused ≡ is_some (script_of octets.now).refusal) }
+    ensures fates { OnOk result (HasTrueFates (script_of octets.now).topology.nodes (script_of octets.now).events) }
+{
+    let script = read_script(alloc, octets)?;
+    report_on(alloc, &script)
+}
+
+fn report_on(alloc: Global, script: &Script) -> Result<Reported, OutOfMemory>
+    ensures octets { IfOk result (λ reported. reported.report ≡ report_of script.now) }
+    ensures refused { IfOk result (λ reported. reported.is_refused ≡ is_some script.now.refusal) }
+    ensures fates { OnOk result (HasTrueFates script.now.topology.nodes script.now.events) }
+{
+    prove_fates(&script.topology, script.events.as_slice());
+    let notes = run_events(alloc, &script.topology, script.events.as_slice())?;
+    let mut out = Text::new(alloc);
+    write_records(&mut out, &script.topology, &notes)?;
+    match script.refusal {
+        None => write_end(&mut out, script.events.as_slice(), &notes)?,
+        Some(refusal) => write_refused(&mut out, refusal)?,
+    }
+    Ok(Reported {
+        report: out.into_octets(),
+        is_refused: script.refusal.is_some(),
+    })
+}
