@@ -25,7 +25,7 @@ pushed f k old within =
     ∙ ap (λ l. l ++ drop (k + 1) old) (sym (map-range_with_len_more f 0 k k (zero-add k)))
 
 -- the payloads of the first k cells are the first octets
-gathered : (channel : Channel) (mark : Mark) (octets : List ℕ) (k : ℕ)
+pub gathered : (channel : Channel) (mark : Mark) (octets : List ℕ) (k : ℕ)
     → flat_map (λ c. c.payload) (map (cell_of channel mark octets) (range_with_len 0 k)) ≡ take (48 * k) octets
 gathered channel mark octets zero = refl
 gathered channel mark octets (suc k) =
@@ -65,7 +65,7 @@ IsPdu-pdu_of payload some most =
     }
 
 -- the cells of a whole number of cells' octets
-cells_all : (channel : Channel) (mark : Mark) (octets : List ℕ) (n : ℕ) → length octets ≡ 48 * n
+pub cells_all : (channel : Channel) (mark : Mark) (octets : List ℕ) (n : ℕ) → length octets ≡ 48 * n
     → cells_with channel mark octets ≡ map (cell_of channel mark octets) (range_with_len 0 n)
 unfolding cells_with
 cells_all channel mark octets n size =

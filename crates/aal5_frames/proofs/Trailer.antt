@@ -167,6 +167,12 @@ pdu_reads payload octets pdu =
     subst (λ (o : List ℕ). Reads payload o) (sym pdu.is)
     (reads payload pdu.pad pdu.uu pdu.pad_within pdu.not_empty pdu.at_most (subst P pdu.is pdu.whole_cells))
 
+-- no test refuses it, and its Length field is its payload's length
+pub pdu_passes : (payload octets : List ℕ) → IsPdu payload octets → (pdu_fault octets ≡ None) × (length_field octets ≡ length payload)
+pdu_passes payload octets pdu =
+    let r : Reads payload octets = pdu_reads payload octets pdu in
+    (passes _ _ _ _ _ r.tests, r.len)
+
 -- ---- what passes is a PDU
 
 two_bytes : (a b : ℕ) → a < 256 → b < 256 → (i : ℕ) → get_or (a ∷ b ∷ []) i 0 < 256

@@ -1,8 +1,8 @@
 //! Whether octets are a CPCS-PDU (I.363.5 9.2.1).
 
-ghost use Rattle.std.specs.Prelude.{◌≡◌, ℕ, ◌↔◌, take};
+ghost use Rattle.std.specs.Prelude.{◌≡◌, ℕ, ◌+◌, ◌≤◌, ◌↔◌, take, length, IfOk};
 ghost use Rattle.std.specs.Result.{result_err};
-ghost use Rattle.aal5_frames.specs.Frame.{IsPdu, pdu_fault};
+ghost use Rattle.aal5_frames.specs.Frame.{IsPdu, pdu_fault, length_field};
 
 use crate::crc::crc32;
 
@@ -26,6 +26,8 @@ pub enum FrameFault {
 pub fn check_pdu(octets: &[u8]) -> Result<usize, FrameFault>
     ensures ok { (n : ℕ) → (result ≡ Ok n) ↔ (IsPdu (take n octets.now) octets.now) }
     ensures refused { result_err result ≡ pdu_fault octets.now }
+    ensures len { IfOk result (λ n. n ≡ length_field octets.now) }
+    ensures within { IfOk result (λ n. n + 8 ≤ length octets.now) }
 {
     let size = octets.len();
     if size == 0 {

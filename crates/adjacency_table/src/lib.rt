@@ -1,7 +1,8 @@
 //! The adjacency table that IFMP and GSMP share: what one side does at a message of its peer and
 //! at a tick. The table stands in `specs/Table.antt`, and what it makes of a side in
 //! `specs/Side.antt`; [`Adjacency`] is proved to follow both for parties of any kind, and the two
-//! protocols' adjacencies are this one at their own parties.
+//! protocols' adjacencies are this one at their own parties. `specs/Instances.antt` is a side seen by
+//! instances alone, for the laws that stand on the table.
 #![tactic(auto)]
 
 mod adjacency;

@@ -85,7 +85,7 @@ impl PortRows {
     }
 
     /// Reads them.
-    pub(crate) fn as_slice(&self) -> &[PortRow]
+    pub fn as_slice(&self) -> &[PortRow]
         ensures rows { result.now ≡ self.now }
         ensures most { length self.now ≤ 9 }
     {

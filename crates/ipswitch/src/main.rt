@@ -1,12 +1,13 @@
 //! `ipswitch` replays a network from a script and reports what becomes of each packet.
 #![tactic(auto)]
 
-mod replay;
+mod command;
+mod run;
 #[cfg(test)]
 mod tests;
 mod word;
 
-use crate::replay::run;
+use crate::run::run;
 use crate::word::Word;
 use lab_io::{StdSink, StdSource};
 use std::env;

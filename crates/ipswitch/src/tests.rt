@@ -2,7 +2,7 @@
 
 ghost use Rattle.std.specs.Prelude.{◌<◌};
 
-use crate::replay::run;
+use crate::run::run;
 use crate::word::Word;
 use lab_io::{MemSink, MemSource};
 use net_types::OutOfMemory;
@@ -45,9 +45,18 @@ const ONE_NODE: &str = "node a 10.0.1.1\nroute a 10.0.0.0/8 local\n";
 const TWO_ROUTERS: &str =
     "node a 10.0.1.1\nnode b 10.0.3.1\nlink a:1 b:1\nroute a 10.0.0.0/8 via 1\nroute b 10.0.0.0/8 local\n";
 
+/// Three packets of two cells each; the last cell of the first is lost.
+const LOSING: &str =
+    "send a 450000280001000004119ec30a0001010a0003011389138a00140000000000000000000000000000\nsend a 450000280002000004119ec20a0001010a0003011389138a00140000000000000000000000000000\nsend a 450000280003000004119ec10a0001010a0003011389138a00140000000000000000000000000000\ncarry a:1\nlose a:1\ncarry a:1\ncarry a:1\ncarry a:1\ncarry a:1\n";
+
+const LOSING_REPORT: &str =
+    "loss 1.1 Lost\nloss 2.1 Broken\ndeliver b 3 450000280003000003119fc10a0001010a0003011389138a00140000000000000000000000000000\nend events 9 sent 3 delivered 1 dropped 0 refused 0 losses 2 redirects 0 switched 0 chance 0\n";
+
 /// A UDP packet delivered at the node that took it, at TTL 4 and 1; one whose TTL ends at the first
 /// router; one that crosses a link; one whose canonical checksum is 0100 behind a field of FFFF,
-/// and a word that a script doesn't have.
+/// and a word that a script doesn't have. Then three packets of two cells each, of which the last cell
+/// of the first is lost, which breaks the second; and two equal packets, of which the last cell of the
+/// first and the first cell of the second are lost, so that what is left is a frame again.
 #[test]
 fn worked_scripts(rt: HostRuntime) -> Result<(), Fail> {
     for (network, events, report, status) in [
@@ -87,6 +96,13 @@ fn worked_scripts(rt: HostRuntime) -> Result<(), Fail> {
             "deliver b 1 4500001c9ed00000031101000a0001010a0003011389138a00080000\nrefused 8 UnknownWord\n",
             2,
         ),
+        (TWO_ROUTERS, LOSING, LOSING_REPORT, 0),
+        (
+            TWO_ROUTERS,
+            "send a 450000280001000004119ec30a0001010a0003011389138a00140000000000000000000000000000\nsend a 450000280001000004119ec30a0001010a0003011389138a00140000000000000000000000000000\ncarry a:1\nlose a:1\nlose a:1\ncarry a:1\n",
+            "loss 1.1 Lost\nloss 2.1 Lost\ndeliver b 2 450000280001000003119fc30a0001010a0003011389138a00140000000000000000000000000000\nend events 6 sent 2 delivered 1 dropped 0 refused 0 losses 2 redirects 0 switched 0 chance 0\n",
+            0,
+        ),
     ] {
         let script = format!(in rt.alloc(); "{network}{events}")?;
         let (given, sink) = outcome(rt.alloc(), &["replay"], script.as_str(), 4096, &[], &[])?;
@@ -115,12 +131,77 @@ fn long_packet_is_refused(rt: HostRuntime) -> Result<(), Fail> {
 #[test]
 fn other_words_are_usage(rt: HostRuntime) -> Result<(), Fail> {
     let usage = "usage: ipswitch replay|replay toml|ideal|decode ifmp|decode gsmp|drill N\n";
-    let (given, sink) = outcome(rt.alloc(), &["replay", "x"], "", 4096, &[], &[])?;
-    assert_eq!(rt; given, 1);
-    assert_eq!(rt; sink.written(), usage.as_bytes());
-    let (given, sink) = outcome(rt.alloc(), &[], "", 4096, &[], &[])?;
-    assert_eq!(rt; given, 1);
-    assert_eq!(rt; sink.written(), usage.as_bytes());
+    let lists: [&[&str]; 7] = [
+        &[],
+        &["replay", "x"],
+        &["decode"],
+        &["ifmp"],
+        &["decode", "ip"],
+        &["replay", "ifmp"],
+        &["decode", "ifmp", "gsmp"],
+    ];
+    for words in lists {
+        let (given, sink) = outcome(rt.alloc(), words, "", 4096, &[], &[])?;
+        assert_eq!(rt; given, 1);
+        assert_eq!(rt; sink.written(), usage.as_bytes());
+    }
+    Ok(())
+}
+
+/// Messages of both protocols as text, the refusals of their octets, and the refusals of lines. The
+/// octets are written by hand from the layouts, with Python's sums for the checksums.
+#[test]
+fn messages_are_decoded(rt: HostRuntime) -> Result<(), Fail> {
+    for (protocol, input, text, status) in [
+        ("ifmp", "", "", 0),
+        (
+            "ifmp",
+            "# a Redirect\n0104766b0000000100000002000000070104003c00000020450003110a0001010a0003011389138a\n",
+            "redirect from 1 to 2 number 7 lifetime 60 label 0/32 flow 450003110a0001010a0003011389138a\n",
+            0,
+        ),
+        (
+            "ifmp",
+            "0104766b0000000100000002000000070104003c00000020450003110a0001010a000301138913\n0104766b\n",
+            "refuse Size\nrefuse Size\n",
+            0,
+        ),
+        (
+            "ifmp",
+            "010476a70000000100000002000000070104000000000020450003110a0001010a0003011389138a",
+            "refuse ZeroLifetime\n",
+            0,
+        ),
+        (
+            "ifmp",
+            "0104746b0000000100000002000000070304003c00000020450003110a0001010a0003011389138a\n0109766b\n",
+            "refuse FlowType\nrefuse OpCode\n",
+            0,
+        ),
+        (
+            "gsmp",
+            "AAAA03000000880C0110020000000005000000090000000100000020000000000010002000000000\n",
+            "addbranch request 0 transaction 5 session 9 input 1 0/32 output 0 16/32 branches 0 priority 0\n",
+            0,
+        ),
+        (
+            "gsmp",
+            "\n0104766b\naaaa03000000880b0110020000000005\n",
+            "refuse Short\nrefuse Snap\n",
+            0,
+        ),
+        (
+            "gsmp",
+            "00\n0g\n00\n",
+            "refuse Short\nrefused 2 BadHex\n",
+            2,
+        ),
+        ("ifmp", "# two words\n00 00\n", "refused 2 Arity\n", 2),
+    ] {
+        let (given, sink) = outcome(rt.alloc(), &["decode", protocol], input, 4096, &[], &[])?;
+        assert_eq!(rt; given, status, "{protocol} {input:?}");
+        assert_eq!(rt; sink.written(), text.as_bytes(), "{protocol} {input:?}");
+    }
     Ok(())
 }
 
@@ -141,7 +222,9 @@ fn refused_lines(rt: HostRuntime) -> Result<(), Fail> {
         ("send a 000", "refused 7 BadLine\n"),
         ("carry a:2", "refused 7 BadLine\n"),
         ("carry a:c", "refused 7 BadLine\n"),
-        ("lose a:1", "refused 7 UnknownWord\n"),
+        ("lose a:2", "refused 7 BadLine\n"),
+        ("lose a:0", "refused 7 BadLine\n"),
+        ("lose a", "refused 7 BadLine\n"),
         ("forward a:1", "refused 7 UnknownWord\n"),
     ] {
         let script = format!(in rt.alloc(); "{TWO_ROUTERS}\n{line}\nnode d 10.0.4.1\n")?;
@@ -152,24 +235,47 @@ fn refused_lines(rt: HostRuntime) -> Result<(), Fail> {
     Ok(())
 }
 
+const ONE_PACKET: &str = "send a 4500001c0001000004119ecf0a0001010a0003011389138a00080000\n";
+
+const ONE_REPORT: &str =
+    "deliver a 1 4500001c0001000004119ecf0a0001010a0003011389138a00080000\nend events 1 sent 1 delivered 1 dropped 0 refused 0 losses 0 redirects 0 switched 0 chance 0\n";
+
 /// A source that fails at each read in turn gives status 3 and writes nothing; a sink that fails at
-/// each write in turn gives status 4 and a front of the report.
+/// each write in turn gives status 4 and a front of the report. A fault that would come later than
+/// that many reads and writes never comes.
 #[test]
 fn faults_end_the_run(rt: HostRuntime) -> Result<(), Fail> {
-    let script =
-        "node a 10.0.1.1\nroute a 10.0.0.0/8 local\nsend a 4500001c0001000004119ecf0a0001010a0003011389138a00080000\n";
-    let report =
-        "deliver a 1 4500001c0001000004119ecf0a0001010a0003011389138a00080000\nend events 1 sent 1 delivered 1 dropped 0 refused 0 losses 0 redirects 0 switched 0 chance 0\n";
-    for (piece, calls) in [(1, 12), (7, 12), (4096, 1)] {
-        for call in 1..calls + 1 {
-            let (given, sink) = outcome(rt.alloc(), &["replay"], script, piece, &[call], &[])?;
+    for (network, events, report, piece, reads, writes) in [
+        (ONE_NODE, ONE_PACKET, ONE_REPORT, 1, 106, 162),
+        (ONE_NODE, ONE_PACKET, ONE_REPORT, 7, 16, 24),
+        (ONE_NODE, ONE_PACKET, ONE_REPORT, 4096, 2, 1),
+        (TWO_ROUTERS, LOSING, LOSING_REPORT, 1, 419, 216),
+        (TWO_ROUTERS, LOSING, LOSING_REPORT, 7, 61, 31),
+        (TWO_ROUTERS, LOSING, LOSING_REPORT, 4096, 2, 1),
+    ] {
+        let script = format!(in rt.alloc(); "{network}{events}")?;
+        let words = ["replay"];
+        for call in 1..reads + 1 {
+            let (given, sink) = outcome(rt.alloc(), &words, script.as_str(), piece, &[call], &[])?;
             assert_eq!(rt; given, 3);
             assert_eq!(rt; sink.written(), b"".as_slice());
-            let (given, sink) = outcome(rt.alloc(), &["replay"], script, piece, &[], &[call])?;
+        }
+        for call in 1..writes + 1 {
+            let (given, sink) = outcome(rt.alloc(), &words, script.as_str(), piece, &[], &[call])?;
             assert_eq!(rt; given, 4);
             assert!(rt; report.as_bytes().starts_with(sink.written()));
             assert!(rt; sink.written().len() < report.len());
         }
+        let (given, sink) = outcome(
+            rt.alloc(),
+            &words,
+            script.as_str(),
+            piece,
+            &[reads + 1],
+            &[writes + 1],
+        )?;
+        assert_eq!(rt; given, 0);
+        assert_eq!(rt; sink.written(), report.as_bytes());
     }
     Ok(())
 }

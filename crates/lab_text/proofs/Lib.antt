@@ -1,2 +1,3 @@
 pub mod NumeralLemmas
 pub mod WordLemmas
+pub mod LineLemmas

@@ -1,3 +1,6 @@
 pub mod Words
 pub mod Numeral
+pub mod Lines
 pub mod Line
+pub mod Text
+pub mod Names

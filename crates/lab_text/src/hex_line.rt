@@ -1,6 +1,6 @@
 //! Lines that hold one word of hexadecimal.
 
-ghost use Rattle.std.specs.Prelude.{◌≡◌, Ok, Err, IsOk, IfOk, IsErrOf};
+ghost use Rattle.std.specs.Prelude.{◌≡◌, ◌≢◌, Ok, Err, IsOk, IfOk, IsErrOf};
 ghost use Rattle.std.specs.Option.{option_map};
 ghost use Rattle.lab_text.specs.Line.{hex_line, hex_word};
 ghost use Rattle.lab_text.specs.Numeral.{hex_octets};
@@ -15,6 +15,7 @@ use std::alloc::Global;
 fn hex_word(alloc: Global, word: &[u8]) -> Result<Option<Vec<u8>>, LineFault>
     ensures octets { IfOk result (λ found. hex_word (hex_octets word.now) ≡ Ok (option_map (λ octets. octets.items) found)) }
     ensures refused { (fault : LineFault) → hex_word (hex_octets word.now) ≡ Err fault → result ≡ Err fault }
+    ensures only { (fault : LineFault) → result ≡ Err fault → fault ≢ LineFault.OutOfMemory → hex_word (hex_octets word.now) ≡ Err fault }
     ensures memory { IsErrOf result LineFault.OutOfMemory → IsOk (hex_word (hex_octets word.now)) }
 {
     match read_hex(alloc, word) {
@@ -31,6 +32,7 @@ fn hex_word(alloc: Global, word: &[u8]) -> Result<Option<Vec<u8>>, LineFault>
 pub fn read_hex_line(alloc: Global, before: u32, line: &[u8]) -> Result<Option<Vec<u8>>, LineFault>
     ensures octets { IfOk result (λ found. hex_line before line.now ≡ Ok (option_map (λ octets. octets.items) found)) }
     ensures refused { (fault : LineFault) → hex_line before line.now ≡ Err fault → result ≡ Err fault }
+    ensures only { (fault : LineFault) → result ≡ Err fault → fault ≢ LineFault.OutOfMemory → hex_line before line.now ≡ Err fault }
     ensures memory { IsErrOf result LineFault.OutOfMemory → IsOk (hex_line before line.now) }
 {
     let text = check_line(before, line)?;

@@ -41,7 +41,7 @@ sent_is = refl
 
 -- REDIRECT again: only the number counts
 refreshed_is : Shows (run offered (Refresh ∷ arrives Upstream)) Estab Estab Offered (ByController 7) ×
-    ((run offered (Refresh ∷ arrives Upstream)).upstream.expected ≡ 3)
+    ((run offered (Refresh ∷ arrives Upstream)).expected ≡ 3)
 refreshed_is = ((refl, refl, refl, refl), refl)
 
 -- RECLAIM, RECLAIM ACK, and an ACK with the next number: quit, free, and offered for flow 9

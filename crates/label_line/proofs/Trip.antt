@@ -5,10 +5,10 @@ use Rattle.std.proofs.Common.{◌≡◌, ℕ, ◌<◌, ◌≤◌, Bool, true, fa
 use Rattle.std.proofs.lemmas.List.{append-nil}
 use Rattle.adjacency_table.specs.declared.State.{State}
 use Rattle.adjacency_table.specs.declared.State.TheVariants.{Clearing, SynSent, SynRcvd, Estab}
+use Rattle.adjacency_table.specs.Instances.{SideByInstances}
 use Rattle.ordered_lists.specs.Ordered.{Every}
 use Rattle.ordered_lists.proofs.Exchange.{exchange_block, exchange_tail}
 use Rattle.label_line.specs.Cells.{Message, ReclaimAck, Cell, Labelled, Default, Way, cells, frame, put}
-use Rattle.label_line.specs.Ends.{End}
 use Rattle.label_line.specs.Line.{Label, Spare, Wiring, Offered, Recalled, Wired, Grant, NoGrant, Idle, ByController, ByInput, Leaving, Line}
 use Rattle.label_line.proofs.Tables.{last_of, up_silent, up_syn, up_synack, up_ack, Binding, Closed, Unused, InOffer, InRecall, Side, Fits, Before, Good, Changes, ChangesTail}
 use Rattle.label_line.proofs.UpstreamFacts.{first_cell}
@@ -30,7 +30,7 @@ granted (Leaving flow false) own stored = Labelled flow ∷ []
 granted (Leaving flow true) own stored = Labelled flow ∷ last_of (ReclaimAck own stored flow) ∷ []
 
 abbrev pub hello_of : Line → Cell
-hello_of line = standing line.upstream.state line.upstream.own line.upstream.stored line.upstream.expected
+hello_of line = standing line.upstream.state line.upstream.own line.upstream.stored line.expected
 
 abbrev pub grant_of : Line → List Cell
 grant_of line = granted line.grant line.upstream.own line.upstream.stored
@@ -62,16 +62,16 @@ side_of line late = record {
   flow = line.flow;
   binding = binding_of line.downstream.state line.label;
   late = late;
-  down = line.downstream.cleared;
-  up = line.upstream.cleared;
+  down = line.downstream_cleared;
+  up = line.upstream_cleared;
 }
 
 -- the instances that the downstream end may name were cleared
-abbrev pub Names : State → End → (up : ℕ → Bool) → Type 0
-Names Clearing end up = Unit {0}
-Names SynSent end up = end.cleared end.own ≡ true
-Names SynRcvd end up = (end.cleared end.own ≡ true) × (up end.stored ≡ true)
-Names Estab end up = (end.cleared end.own ≡ true) × (up end.stored ≡ true)
+abbrev pub Names : State → SideByInstances → (down up : ℕ → Bool) → Type 0
+Names Clearing end down up = Unit {0}
+Names SynSent end down up = down end.own ≡ true
+Names SynRcvd end down up = (down end.own ≡ true) × (up end.stored ≡ true)
+Names Estab end down up = (down end.own ≡ true) × (up end.stored ≡ true)
 
 -- a closed pool has no label
 abbrev pub LabelFits : State → Label → Type 0
@@ -88,12 +88,12 @@ ReassemblyFits InOffer flow taken = Every (λ sent. sent ≡ flow) taken
 ReassemblyFits (InRecall last acknowledged) flow taken = Every (λ sent. sent ≡ flow) taken
 
 -- what is kept at the downstream end
-pub record EndFits (end : End) (up : ℕ → Bool) (fresh number known : ℕ) (label : Label) (flow : ℕ)
+pub record EndFits (end : SideByInstances) (down up : ℕ → Bool) (fresh number known : ℕ) (label : Label) (flow : ℕ)
     (reassembly : List ℕ) : Type 0 where
   pub drawn : end.own < fresh
   pub positive : 1 ≤ number
   pub told : known ≤ number
-  pub names : Names end.state end up
+  pub names : Names end.state end down up
   pub label_fits : LabelFits end.state label
   pub reassembled : ReassemblyFits (binding_of end.state label) flow reassembly
 
@@ -107,8 +107,8 @@ GrantFits state grant = ⊥
 pub record IsKept (line : Line) : Type 0 where
   pub late : Bool
   pub good : Good (side_of line late) (trip line)
-  pub end : EndFits line.downstream line.upstream.cleared line.fresh line.number line.known line.label line.flow
-      line.reassembly
+  pub end : EndFits line.downstream line.downstream_cleared line.upstream_cleared line.fresh line.number line.known
+      line.label line.flow line.reassembly
   pub grant : GrantFits line.upstream.state line.grant
 
 -- a message's first cell joins its last
@@ -156,7 +156,7 @@ down_at line state stored label = record line
 
 abbrev pub up_at : Line → State → (stored expected : ℕ) → Grant → Line
 up_at line state stored expected grant = record line
-    { upstream = record (line.upstream) { state = state; stored = stored; expected = expected }; grant = grant }
+    { upstream = record (line.upstream) { state = state; stored = stored }; expected = expected; grant = grant }
 
 abbrev pub chain_down : Line → List Cell → Line
 chain_down line chain = record line { to_downstream = record (line.to_downstream) { chain = chain } }

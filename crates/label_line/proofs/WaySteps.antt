@@ -1,13 +1,13 @@
 -- cells pass from queue to queue, are reassembled or are lost
 
-use Rattle.std.proofs.Common.{◌≡◌, ℕ, zero, suc, true, false, List, [], ◌∷◌, ◌++◌, append_assoc, refl, sym, subst}
+use Rattle.std.proofs.Common.{◌≡◌, ℕ, true, false, List, [], ◌∷◌, ◌++◌, append_assoc, refl, sym, subst}
 use Rattle.std.specs.Prelude.{if◌then◌else◌}
 use Rattle.adjacency_table.specs.declared.State.{State}
 use Rattle.adjacency_table.specs.declared.State.TheVariants.{Clearing, SynSent, SynRcvd, Estab}
 use Rattle.ordered_lists.specs.Ordered.{Every}
 use Rattle.ordered_lists.proofs.Every.{every_left, every_right, every_join}
-use Rattle.ordered_lists.proofs.Parts.{IsPart, none, kept, left, part_whole, part_join, holds_part}
-use Rattle.label_line.specs.Cells.{Cell, Labelled, Default, Way, cells, switched, linked, chained, without, Place, InChain, ToController, InOutput, ToSwitch, lost, from_last}
+use Rattle.ordered_lists.proofs.Parts.{IsPart, none, kept, left, part_whole, part_join, part_removed, holds_part}
+use Rattle.label_line.specs.Cells.{Cell, Labelled, Default, Way, cells, switched, linked, chained, Place, InChain, ToController, InOutput, ToSwitch, lost, from_last}
 use Rattle.label_line.specs.Line.{Label, Spare, Wiring, Offered, Recalled, Wired, is_bound, Line}
 use Rattle.label_line.specs.Downstream.{takes_cell}
 use Rattle.label_line.specs.Moves.{reassembles_upstream}
@@ -160,20 +160,15 @@ reassembled_down line (Labelled f ∷ xs) k =
       grant = k.grant;
     }
 
-part_without : (place : ℕ) (xs : List Cell) → IsPart (without place xs) xs
-part_without place [] = none
-part_without zero (x ∷ xs) = left (part_whole xs)
-part_without (suc place) (x ∷ xs) = kept (part_without place xs)
-
 pub part_lost : (place : Place) (at : ℕ) (way : Way) → IsPart (cells (lost place at way)) (cells way)
-part_lost InChain at way = part_join (part_without at way.chain)
+part_lost InChain at way = part_join (part_removed way.chain at)
     (part_whole (way.to_controller ++ (way.output ++ way.to_switch)))
 part_lost ToController at way = part_join (part_whole way.chain)
-    (part_join (part_without at way.to_controller) (part_whole (way.output ++ way.to_switch)))
+    (part_join (part_removed way.to_controller at) (part_whole (way.output ++ way.to_switch)))
 part_lost InOutput at way = part_join (part_whole way.chain)
-    (part_join (part_whole way.to_controller) (part_join (part_without at way.output) (part_whole way.to_switch)))
+    (part_join (part_whole way.to_controller) (part_join (part_removed way.output at) (part_whole way.to_switch)))
 part_lost ToSwitch at way = part_join (part_whole way.chain)
-    (part_join (part_whole way.to_controller) (part_join (part_whole way.output) (part_without at way.to_switch)))
+    (part_join (part_whole way.to_controller) (part_join (part_whole way.output) (part_removed way.to_switch at)))
 
 part_from_last : (xs : List Cell) → IsPart (from_last xs) xs
 part_from_last [] = none

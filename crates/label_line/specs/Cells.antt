@@ -1,7 +1,9 @@
 -- what stands on a link between two ends, and in which order
 
-use Rattle.std.specs.Prelude.{ℕ, zero, suc, Bool, true, false, List, [], ◌∷◌, ◌++◌}
+use Rattle.std.specs.Prelude.{ℕ, Bool, true, false, List, [], ◌∷◌, ◌++◌, remove}
 use Rattle.net_types.specs.declared.adjacency.HelloKind.{HelloKind}
+use Rattle.net_types.specs.declared.adjacency.HelloKind.TheVariants.{Syn, Rstack}
+use Rattle.adjacency_table.specs.Instances.{SideByInstances, greeting}
 
 -- the two ends of the link, as they stand to the label: the one that hands it out and the one that
 -- may send under it (RFC 1953)
@@ -21,6 +23,16 @@ pub data Message : Type 0 where
   ReclaimAck : (sender receiver flow : ℕ) → Message
   -- any other redirection message of the downstream end, of another label or of none
   Other : (sender receiver number : ℕ) → Message
+
+-- the peer next sequence number in an adjacency message: SYN and RSTACK say none
+abbrev pub next_in : HelloKind → (expected : ℕ) → ℕ
+next_in Syn expected = 0
+next_in Rstack expected = 0
+next_in kind expected = expected
+
+-- the adjacency message of this kind that an end says, while it expects this number of its peer
+abbrev pub hello : Role → (expected : ℕ) → SideByInstances → HelloKind → (sender receiver : ℕ) → Message
+hello by expected = greeting (λ kind sender receiver. Hello by kind sender receiver (next_in kind expected))
 
 -- a cell of the label's channel, by the flow under which it was sent, or a cell of the default
 -- channel: of the frame of a message, its last or another
@@ -67,12 +79,6 @@ linked way (cell ∷ rest) = record way { to_controller = way.to_controller ++ (
 abbrev pub chained : Way → Cell → List Cell → Way
 chained way cell rest = record way { chain = way.chain ++ (cell ∷ []); to_controller = rest }
 
--- a list without its element at a place, where it has one there
-abbrev pub without : ℕ → List Cell → List Cell
-without place [] = []
-without zero (cell ∷ rest) = rest
-without (suc place) (cell ∷ rest) = cell ∷ without place rest
-
 -- where a cell may be lost
 pub data Place : Type 0 where
   InChain : Place
@@ -81,10 +87,10 @@ pub data Place : Type 0 where
   ToSwitch : Place
 
 abbrev pub lost : Place → ℕ → Way → Way
-lost InChain place way = record way { chain = without place way.chain }
-lost ToController place way = record way { to_controller = without place way.to_controller }
-lost InOutput place way = record way { output = without place way.output }
-lost ToSwitch place way = record way { to_switch = without place way.to_switch }
+lost InChain place way = record way { chain = remove way.chain place }
+lost ToController place way = record way { to_controller = remove way.to_controller place }
+lost InOutput place way = record way { output = remove way.output place }
+lost ToSwitch place way = record way { to_switch = remove way.to_switch place }
 
 -- a chain from its first last cell on. That cell's message is the one that is heard, also where the
 -- cell before it was lost, which a real reassembly refuses

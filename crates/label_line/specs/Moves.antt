@@ -1,6 +1,6 @@
 -- all that may happen on the line, each where its guard holds; elsewhere a move changes nothing
 
-use Rattle.std.specs.Prelude.{ℕ, Bool, List, [], ◌∷◌}
+use Rattle.std.specs.Prelude.{ℕ, Bool, List, [], ◌∷◌, fold}
 use Rattle.adjacency_table.specs.Table.{tick_reply}
 use Rattle.label_line.specs.Cells.{Role, Downstream, Upstream, Place, switched, linked, chained, lost, from_last, Cell}
 use Rattle.label_line.specs.Line.{Line}
@@ -79,5 +79,4 @@ step line SwitchLabelled = switches_labelled line line.grant
 
 -- after a list of moves, in order
 abbrev pub run : Line → List Move → Line
-run line [] = line
-run line (move ∷ moves) = run (step line move) moves
+run line moves = fold step line moves

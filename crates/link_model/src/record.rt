@@ -46,20 +46,49 @@ pub enum Layer {
 pub enum Refusal {
     /// Fewer octets than the header that should begin here has.
     Short,
-    /// A packet of another version than 4.
+    /// A packet of another version than 4, or a message of another version than its protocol's.
     Version,
     /// A packet with options.
     Options,
-    /// A packet whose Total Length isn't its number of octets.
+    /// A packet whose Total Length isn't its number of octets, or a labelled frame whose isn't its
+    /// payload's.
     Length,
     /// A packet of more octets than a link takes, 1500.
     TooLong,
-    /// A packet whose header checksum is wrong.
+    /// A packet, a labelled frame or an IFMP message whose checksum is wrong.
     Checksum,
     /// A packet of the protocol of control messages, 101.
     ControlProtocol,
     /// A frame whose LLC and SNAP header isn't that of IPv4 (RFC 1483 4.1).
     BadSnap,
+    /// A frame whose LLC and SNAP header isn't that of GSMP (RFC 1987).
+    Snap,
+    /// An IFMP message of an op code that there isn't.
+    OpCode,
+    /// A GSMP message of a Message Type that there isn't.
+    MessageType,
+    /// A GSMP message whose Result isn't one of its type.
+    Result,
+    /// A GSMP message whose Code isn't one of its type and Result.
+    Code,
+    /// A message of another length than its kind has.
+    Size,
+    /// An IFMP message of a flow type that there isn't.
+    FlowType,
+    /// An IFMP message whose Flow Length isn't that of its flow type.
+    FlowLength,
+    /// A Redirect whose lifetime is 0.
+    ZeroLifetime,
+    /// An IFMP message whose label doesn't begin with an octet 0.
+    LabelReserved,
+    /// A Label Range whose least label is above the greatest.
+    RangeOrder,
+    /// An IFMP Error whose code isn't 1 to 4.
+    ErrorCode,
+    /// A field that is to be 0 isn't, or one with few values has another.
+    Reserved,
+    /// An IFMP message whose flow identifier no flow has.
+    FlowFields,
 }
 
 /// One record of a run.

@@ -1,24 +1,11 @@
--- an element is left out, a stretch is left out, an element is copied to an earlier place
+-- an element is copied to an earlier place
 
-use Rattle.std.proofs.Common.{List, [], ◌∷◌, ◌++◌}
+use Rattle.std.proofs.Common.{List, ◌∷◌, ◌++◌}
 use Rattle.ordered_lists.specs.Ordered.{Every, InOrder, Holds}
-use Rattle.ordered_lists.proofs.Every.{every_left, every_right, every_join, every_map, every_pairs_right}
+use Rattle.ordered_lists.proofs.Every.{every_left, every_right, every_join, every_map}
 use Rattle.ordered_lists.proofs.InOrder.{order_left, order_right, order_across, order_join}
 
 module _ {A : Type 0} (P : A → Type 0) (R : A → A → Type 0) where
-  pub leave_all : (a ys c : List A) → Holds P R (a ++ (ys ++ c)) → Holds P R (a ++ c)
-  leave_all a ys c h =
-      let across : Every (λ z. Every (R z) c) a =
-      every_pairs_right R a ys c (order_across R a (ys ++ c) h.order) in
-      let rest : InOrder R c = order_right R ys c (order_right R a (ys ++ c) h.order) in
-      record {
-        each = every_join P a c (every_left P a (ys ++ c) h.each) (every_right P ys c (every_right P a (ys ++ c) h.each));
-        order = order_join R a c (order_left R a (ys ++ c) h.order) across rest;
-      }
-
-  pub leave_out : (a : List A) (x : A) (c : List A) → Holds P R (a ++ (x ∷ c)) → Holds P R (a ++ c)
-  leave_out a x c h = leave_all a (x ∷ []) c h
-
   -- x may stand before itself and before all between its copy and its place
   pub copy_back : (a : List A) (x : A) (b c : List A) → R x x → Every (R x) b → Holds P R (a ++ (b ++ (x ∷ c)))
       → Holds P R (a ++ (x ∷ (b ++ (x ∷ c))))

@@ -1,3 +1,4 @@
 //! Lists of which every element has a property, and every two, in order, stand in a relation: how
-//! such a list is changed in one stretch. A library of definitions and lemmas; it has no code.
+//! such a list is changed in one stretch, and that its parts are such lists. A library of definitions
+//! and lemmas; it has no code.
 #![tactic(auto)]

@@ -1,5 +1,10 @@
 pub mod Lists
 pub mod Journeys
+pub mod Ports
+pub mod Frames
+pub mod Growth
+pub mod Packets
+pub mod Good
 pub mod Steps
 pub mod Events
 pub mod Runs

@@ -1,3 +1,1 @@
-pub mod Passing
-pub mod Topology
-pub mod Network
+pub mod Frames

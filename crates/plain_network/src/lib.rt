@@ -1,14 +1,14 @@
-//! The plain network: routers that pass packets over links, with no switch and no label. Its run
-//! is defined in `specs/Network.antt`, the code is proved to follow it, and the laws that every run
-//! obeys are the contracts of the functions in `laws.rt`.
+//! The plain network: routers that pass packets to one another in frames of cells, with no switch
+//! and no label. What each event does is defined in `plain_model`; the code here is proved to do it.
 #![tactic(auto)]
 
-mod event;
+mod names;
 mod network;
+mod port;
+mod reassembly;
+#[cfg(test)]
+mod tests;
 mod topology;
-mod transit;
 
-pub use event::Event;
 pub use network::Network;
 pub use topology::{NODES, Topology};
-pub use transit::Transit;

@@ -1,92 +1,80 @@
 //! The traffic of a plain network and what each event does to it.
 
-ghost use Rattle.std.specs.Prelude.{◌≡◌, ◌-◌, ◌<◌, ◌≤◌, ◌^◌, length, OnOk, IfOk, IfNone, IfSome, OnSome, drop, true, replicate, [], ◌++◌, ◌∷◌};
-ghost use Rattle.ipv4_packet.specs.Packet.{IsPacket};
-ghost use Rattle.plain_network.specs.Topology.{IsNode, IsEnd};
-ghost use Rattle.plain_network.specs.Network.{step, injected, arrived, carried, refusal_of, no_traffic, queue_at, with_queue, is_for, name_of};
+ghost use Rattle.std.specs.Prelude.{◌≡◌, ℕ, ◌+◌, ◌-◌, ◌<◌, ◌≤◌, ◌^◌, length, OnOk, IfOk, IfNone, IfSome, OnSome, drop, true, replicate, [], ◌++◌, ◌∷◌, Some, None};
+ghost use Rattle.ipv4_packet.specs.Packet.{IsPacket, first_fault};
+ghost use Rattle.frame_model.specs.Reassembly.{taken};
+ghost use Rattle.frame_model.specs.Frame.{tested};
+ghost use Rattle.plain_model.specs.Topology.{IsNode, IsEnd};
+ghost use Rattle.plain_model.specs.Network.{step, injected, arrived, carried, received, lost, frame_taken, payload_taken, packet_taken, encaps_refusal, sent_on, with_port, port_at, queue_at, with_queue, with_reassembly, idle_port, is_for, default_channel};
+ghost use Rattle.plain_network.specs.Frames.{has_frames_up_to};
 
-use crate::event::Event;
+use crate::names::{CONTROL_PROTOCOL, name_of, packet_in, refusal_of};
+use crate::port::Port;
+use crate::reassembly::MAX_CELLS;
 use crate::topology::Topology;
-use crate::transit::Transit;
+use aal5_frames::segment;
+use atm_cells::{Cell, Header};
+use flow_encaps::wrap_default;
+use frame_model::test_frame;
 use ipv4_forward::Hop;
-use ipv4_packet::{PacketFault, check, protocol};
-use link_model::{DropCause, Notes, Record, Refusal};
-use net_types::{NodeId, Octets, OutOfMemory};
+use ipv4_packet::{check, protocol};
+use link_model::{Cause, DropCause, Layer, Notes, Record};
+use net_types::{Channel, Mark, NodeId, Octets, OutOfMemory};
+use plain_model::Event;
 use run_model::LinkEnd;
 use std::alloc::Global;
-use std::collections::VecDeque;
 use std::marker::Model;
 
-/// The packets on their way to the other end of one link, the first to arrive first.
-#[derive(Debug, Drop)]
-struct Queue {
-    passing: VecDeque<Transit>,
-}
+/// The greatest frame, in octets: that of 32 cells.
+const MAX_FRAME: usize = 1536;
 
-impl Model for Queue {
-    ghost use Rattle.std.specs.Prelude.{List};
-    ghost use Rattle.plain_network.specs.Passing.{Passing};
+/// The channel of every frame here (RFC 1954).
+const DEFAULT_CHANNEL: Channel = Channel { vpi: 0, vci: 15 };
 
-    ghost Value = { List Passing };
+/// What stands in a place for a cell before one is written there.
+const BLANK: Cell = Cell {
+    header: Header {
+        channel: DEFAULT_CHANNEL,
+        last: false,
+    },
+    payload: [0; 48],
+    mark: Mark {
+        packet: 0,
+        frame: 0,
+    },
+};
 
-    ghost view = { λ q. q.passing.items };
-}
-
-impl Queue {
-    fn new(alloc: Global) -> Queue
-        ensures { result ≡ [] }
-    {
-        Queue {
-            passing: VecDeque::new(alloc),
-        }
-    }
-
-    fn push(&mut self, transit: Transit) -> Result<(), OutOfMemory>
-        ensures { OnOk result (self.new ≡ self.old ++ transit ∷ []) }
-    {
-        self.passing.push_back(transit)?;
-        Ok(())
-    }
-
-    fn pop(&mut self) -> Option<Transit>
-        ensures none { IfNone result (self.old ≡ []) }
-        ensures same { IfNone result (self.new ≡ self.old) }
-        ensures some { IfSome result (λ transit. self.old ≡ transit ∷ self.new) }
-    {
-        self.passing.pop_front()
-    }
-}
-
-/// The queues of a node's ports 1 to 8.
+/// The ports 1 to 8 of a node.
 #[derive(Debug, Drop)]
 struct Ports {
-    queues: Vec<Queue>,
+    list: Vec<Port>,
 }
 
 impl Model for Ports {
     ghost use Rattle.std.specs.Prelude.{List, length, ◌≡◌};
-    ghost use Rattle.plain_network.specs.Passing.{Passing};
+    ghost use Rattle.plain_model.specs.Network.{Port as Shown};
 
-    ghost Value = { List (List Passing) };
+    ghost Value = { List Shown };
 
-    ghost view = { λ p. p.queues.items };
+    ghost view = { λ p. p.list.items };
 
-    ghost invariant = { λ p. length p.queues.items ≡ 8 };
+    ghost invariant = { λ p. length p.list.items ≡ 8 };
 }
 
 impl Ports {
     fn open(alloc: Global) -> Result<Ports, OutOfMemory>
-        ensures { IfOk result (λ p. p ≡ replicate 8 []) }
+        ensures { IfOk result (λ p. p ≡ replicate 8 idle_port) }
     {
-        let mut queues = Vec::new(alloc);
+        let mut list = Vec::new(alloc);
         for _port in 0..8usize {
-            queues.push(Queue::new(alloc))?;
+            list.push(Port::new(alloc))?;
         }
-        Ok(Ports { queues })
+        Ok(Ports { list })
     }
 }
 
-/// The traffic of a plain network: how many packets it was given, and the packets on its links.
+/// The traffic of a plain network: how many packets it was given, the cells on its links, and what
+/// its ports have taken of frames that aren't whole yet.
 #[derive(Debug, Drop)]
 pub struct Network {
     alloc: Global,
@@ -95,17 +83,19 @@ pub struct Network {
 }
 
 impl Model for Network {
-    ghost use Rattle.plain_network.specs.Network.{Traffic};
+    ghost use Rattle.plain_model.specs.Network.{Traffic};
 
     ghost Value = { Traffic };
 
-    ghost view = { λ n. record { sent = n.sent; queues = n.nodes.items } };
+    ghost view = { λ n. record { sent = n.sent; ports = n.nodes.items } };
 }
 
 impl Network {
     /// The network of so many nodes before its first event.
+    #[tactic(auto, using(crate::proofs::Traffic::frames_at_opening))]
     pub fn open(alloc: Global, nodes: usize) -> Result<Network, OutOfMemory>
-        ensures { IfOk result (λ n. n ≡ record { sent = 0; queues = replicate nodes (replicate 8 []) }) }
+        ensures network { IfOk result (λ n. n ≡ record { sent = 0; ports = replicate nodes (replicate 8 idle_port) }) }
+        ensures frames { IfOk result (λ n. has_frames_up_to 0 n ≡ true) }
     {
         let nodes = open_ports(alloc, nodes)?;
         Ok(Network {
@@ -115,18 +105,23 @@ impl Network {
         })
     }
 
-    /// One event. What it makes known is appended to `notes`.
+    /// One event. What it makes known is appended to `notes`. The number of a frame is one higher at
+    /// each router, so it is at most the number of events so far.
     pub fn step(
         &mut self,
         topology: &Topology,
         event: &Event,
         notes: &mut Notes,
     ) -> Result<(), OutOfMemory>
-        requires fits { length self.old.queues ≡ length topology.now.nodes }
+        requires fits { length self.old.ports ≡ length topology.now.nodes }
         requires event { is_for (length topology.now.nodes) event.now ≡ true }
         requires numbers { self.old.sent < 2 ^ 32 - 1 }
-        ensures traffic { OnOk result (self.new ≡ (step topology.now.nodes self.old event.now).traffic) }
-        ensures records { OnOk result (notes.new.records ≡ notes.old.records ++ (step topology.now.nodes self.old event.now).records) }
+        requires frames { has_frames_up_to (2 ^ 64 - 2) self.old ≡ true }
+        ensures traffic { OnOk result (self.new ≡ (step topology.now.nodes (record { traffic = self.old; notes = notes.old }) event.now).traffic) }
+        ensures notes { OnOk result (notes.new ≡ (step topology.now.nodes (record { traffic = self.old; notes = notes.old }) event.now).notes) }
+        ensures fits { OnOk result (length self.new.ports ≡ length self.old.ports) }
+        ensures numbers { OnOk result (self.new.sent ≤ self.old.sent + 1) }
+        ensures frames { (most : ℕ) → has_frames_up_to most self.old ≡ true → OnOk result (has_frames_up_to (most + 1) self.new ≡ true) }
     {
         match event {
             Event::Inject { node, octets } => self.inject(
@@ -136,9 +131,11 @@ impl Network {
                 notes,
             ),
             Event::Carry(end) => self.carry(topology, *end, notes),
+            Event::Lose(end) => self.lose(*end, notes),
         }
     }
 
+    /// A node takes octets that enter the network there, under the next number.
     fn inject(
         &mut self,
         topology: &Topology,
@@ -146,11 +143,11 @@ impl Network {
         octets: &[u8],
         notes: &mut Notes,
     ) -> Result<(), OutOfMemory>
-        requires fits { length self.old.queues ≡ length topology.now.nodes }
+        requires fits { length self.old.ports ≡ length topology.now.nodes }
         requires node { IsNode topology.now.nodes node }
         requires numbers { self.old.sent < 2 ^ 32 - 1 }
-        ensures traffic { OnOk result (self.new ≡ (injected topology.now.nodes self.old node octets.now).traffic) }
-        ensures records { OnOk result (notes.new.records ≡ notes.old.records ++ (injected topology.now.nodes self.old node octets.now).records) }
+        ensures traffic { OnOk result (self.new ≡ (injected topology.now.nodes (record { traffic = self.old; notes = notes.old }) node octets.now).traffic) }
+        ensures notes { OnOk result (notes.new ≡ (injected topology.now.nodes (record { traffic = self.old; notes = notes.old }) node octets.now).notes) }
     {
         self.sent += 1;
         let number = self.sent;
@@ -162,133 +159,274 @@ impl Network {
             }),
             None => {
                 let packet = octets.to_vec(self.alloc)?;
-                self.arrive(topology, node, number, packet, notes)
+                let mark = Mark {
+                    packet: number,
+                    frame: 0,
+                };
+                self.arrive(topology, node, mark, packet, notes)
             }
         }
     }
 
+    /// The head of a queue goes to the other end of its link.
     fn carry(
         &mut self,
         topology: &Topology,
         end: LinkEnd,
         notes: &mut Notes,
     ) -> Result<(), OutOfMemory>
-        requires fits { length self.old.queues ≡ length topology.now.nodes }
+        requires fits { length self.old.ports ≡ length topology.now.nodes }
         requires end { IsEnd topology.now.nodes end }
-        ensures traffic { OnOk result (self.new ≡ (carried topology.now.nodes self.old end).traffic) }
-        ensures records { OnOk result (notes.new.records ≡ notes.old.records ++ (carried topology.now.nodes self.old end).records) }
+        requires frames { has_frames_up_to (2 ^ 64 - 2) self.old ≡ true }
+        ensures traffic { OnOk result (self.new ≡ (carried topology.now.nodes (record { traffic = self.old; notes = notes.old }) end).traffic) }
+        ensures notes { OnOk result (notes.new ≡ (carried topology.now.nodes (record { traffic = self.old; notes = notes.old }) end).notes) }
     {
-        let Some(transit) = self.take(end) else {
+        let Some(cell) = self.pop(end) else {
             return Ok(());
         };
         match topology.peer(end) {
             None => Ok(()),
-            Some(far) => {
-                let number = transit.number();
-                self.arrive(topology, far.node, number, transit.into_packet(), notes)
+            Some(far) => self.receive(topology, far, cell, notes),
+        }
+    }
+
+    /// The head of a queue is lost.
+    fn lose(&mut self, end: LinkEnd, notes: &mut Notes) -> Result<(), OutOfMemory>
+        requires node { (1 ≤ end.node.0) × (end.node.0 ≤ length self.old.ports) }
+        requires port { (1 ≤ end.port.0) × (end.port.0 ≤ 8) }
+        ensures traffic { OnOk result (self.new ≡ (lost (record { traffic = self.old; notes = notes.old }) end).traffic) }
+        ensures notes { OnOk result (notes.new ≡ (lost (record { traffic = self.old; notes = notes.old }) end).notes) }
+    {
+        match self.pop(end) {
+            None => Ok(()),
+            Some(cell) => notes.push(Record::Loss {
+                mark: cell.mark,
+                cause: Cause::Lost,
+            }),
+        }
+    }
+
+    /// A port takes a cell. Where the cell ends a chain, the chain is tested.
+    #[tactic(auto, using(crate::proofs::Frames::none_ended, crate::proofs::Frames::one_ended))]
+    fn receive(
+        &mut self,
+        topology: &Topology,
+        end: LinkEnd,
+        cell: Cell,
+        notes: &mut Notes,
+    ) -> Result<(), OutOfMemory>
+        requires fits { length self.old.ports ≡ length topology.now.nodes }
+        requires end { IsEnd topology.now.nodes end }
+        requires frame { cell.mark.frame < 2 ^ 64 - 1 }
+        ensures traffic { OnOk result (self.new ≡ (received topology.now.nodes (record { traffic = self.old; notes = notes.old }) cell (Some end)).traffic) }
+        ensures notes { OnOk result (notes.new ≡ (received topology.now.nodes (record { traffic = self.old; notes = notes.old }) cell (Some end)).notes) }
+    {
+        let cells = self.take(end, cell, notes)?;
+        if cells.is_empty() {
+            return Ok(());
+        }
+        self.take_frame(topology, end.node, cell.mark, cells.as_slice(), notes)
+    }
+
+    /// A last cell ended a chain, whose frame it counts as.
+    fn take_frame(
+        &mut self,
+        topology: &Topology,
+        node: NodeId,
+        mark: Mark,
+        cells: &[Cell],
+        notes: &mut Notes,
+    ) -> Result<(), OutOfMemory>
+        requires fits { length self.old.ports ≡ length topology.now.nodes }
+        requires node { IsNode topology.now.nodes node }
+        requires mark { mark.frame < 2 ^ 64 - 1 }
+        requires cells { (1 ≤ length cells.now) × (length cells.now ≤ 32) }
+        ensures traffic { OnOk result (self.new ≡ (frame_taken topology.now.nodes self.old node mark (tested notes.old cells.now)).traffic) }
+        ensures notes { OnOk result (notes.new ≡ (frame_taken topology.now.nodes self.old node mark (tested notes.old cells.now)).notes) }
+    {
+        let mut octets = [0; MAX_FRAME];
+        let Some(len) = test_frame(notes, cells, &mut octets)? else {
+            return Ok(());
+        };
+        self.take_payload(topology, node, mark, &octets[..len], notes)
+    }
+
+    /// A frame passed its test.
+    fn take_payload(
+        &mut self,
+        topology: &Topology,
+        node: NodeId,
+        mark: Mark,
+        payload: &[u8],
+        notes: &mut Notes,
+    ) -> Result<(), OutOfMemory>
+        requires fits { length self.old.ports ≡ length topology.now.nodes }
+        requires node { IsNode topology.now.nodes node }
+        requires mark { mark.frame < 2 ^ 64 - 1 }
+        ensures traffic { OnOk result (self.new ≡ (payload_taken topology.now.nodes (record { traffic = self.old; notes = notes.old }) node mark payload.now (encaps_refusal payload.now)).traffic) }
+        ensures notes { OnOk result (notes.new ≡ (payload_taken topology.now.nodes (record { traffic = self.old; notes = notes.old }) node mark payload.now (encaps_refusal payload.now)).notes) }
+    {
+        match packet_in(payload) {
+            Err(name) => notes.push(Record::Bad {
+                node,
+                layer: Layer::Encaps,
+                name,
+            }),
+            Ok(packet) => self.take_packet(topology, node, mark, packet, notes),
+        }
+    }
+
+    /// What stands behind the header of a payload's encapsulation. A packet of the control protocol
+    /// does nothing more.
+    fn take_packet(
+        &mut self,
+        topology: &Topology,
+        node: NodeId,
+        mark: Mark,
+        packet: &[u8],
+        notes: &mut Notes,
+    ) -> Result<(), OutOfMemory>
+        requires fits { length self.old.ports ≡ length topology.now.nodes }
+        requires node { IsNode topology.now.nodes node }
+        requires mark { mark.frame < 2 ^ 64 - 1 }
+        ensures traffic { OnOk result (self.new ≡ (packet_taken topology.now.nodes (record { traffic = self.old; notes = notes.old }) node mark packet.now (first_fault packet.now)).traffic) }
+        ensures notes { OnOk result (notes.new ≡ (packet_taken topology.now.nodes (record { traffic = self.old; notes = notes.old }) node mark packet.now (first_fault packet.now)).notes) }
+    {
+        match check(packet) {
+            Err(fault) => notes.push(Record::Bad {
+                node,
+                layer: Layer::Packet,
+                name: name_of(fault),
+            }),
+            Ok(()) => {
+                if protocol(packet) == CONTROL_PROTOCOL {
+                    return Ok(());
+                }
+                let packet = packet.to_vec(self.alloc)?;
+                self.arrive(topology, node, mark, packet, notes)
             }
         }
     }
 
-    /// A packet stands at a node, which delivers it, drops it, or sends it on.
+    /// A packet stands at a node, which delivers it, drops it, or sends it on. The mark is that of the
+    /// frame in which it came.
     fn arrive(
         &mut self,
         topology: &Topology,
         node: NodeId,
-        number: u32,
+        mark: Mark,
         packet: Vec<u8>,
         notes: &mut Notes,
     ) -> Result<(), OutOfMemory>
-        requires fits { length self.old.queues ≡ length topology.now.nodes }
+        requires fits { length self.old.ports ≡ length topology.now.nodes }
         requires node { IsNode topology.now.nodes node }
+        requires mark { mark.frame < 2 ^ 64 - 1 }
         requires packet { IsPacket packet.items }
-        ensures traffic { OnOk result (self.new ≡ (arrived topology.now.nodes self.old node number packet.items).traffic) }
-        ensures records { OnOk result (notes.new.records ≡ notes.old.records ++ (arrived topology.now.nodes self.old node number packet.items).records) }
+        ensures traffic { OnOk result (self.new ≡ (arrived topology.now.nodes (record { traffic = self.old; notes = notes.old }) node mark packet.items).traffic) }
+        ensures notes { OnOk result (notes.new ≡ (arrived topology.now.nodes (record { traffic = self.old; notes = notes.old }) node mark packet.items).notes) }
     {
         let mut packet = packet;
         match topology.hop(node, packet.as_mut_slice()) {
             Hop::Here => notes.push(Record::Delivered {
                 node,
-                packet: number,
+                packet: mark.packet,
                 octets: Octets::new(packet),
             }),
             Hop::NoRoute => notes.push(Record::Dropped {
                 node,
-                packet: number,
+                packet: mark.packet,
                 cause: DropCause::NoRoute,
             }),
             Hop::Expired => notes.push(Record::Dropped {
                 node,
-                packet: number,
+                packet: mark.packet,
                 cause: DropCause::Expired,
             }),
-            Hop::On(port) => self.send(LinkEnd { node, port }, Transit::new(number, packet)),
+            Hop::On(port) => {
+                let next = Mark {
+                    packet: mark.packet,
+                    frame: mark.frame + 1,
+                };
+                self.send(LinkEnd { node, port }, next, packet.as_slice(), notes)
+            }
         }
     }
 
-    fn send(&mut self, end: LinkEnd, transit: Transit) -> Result<(), OutOfMemory>
-        requires node { (1 ≤ end.node.0) × (end.node.0 ≤ length self.old.queues) }
+    /// A frame of a packet goes to the end of a port's queue, under this mark.
+    #[tactic(auto, using(crate::proofs::Frames::payload_in_front, crate::proofs::Frames::cells_in_front))]
+    fn send(
+        &mut self,
+        end: LinkEnd,
+        mark: Mark,
+        packet: &[u8],
+        notes: &mut Notes,
+    ) -> Result<(), OutOfMemory>
+        requires node { (1 ≤ end.node.0) × (end.node.0 ≤ length self.old.ports) }
         requires port { (1 ≤ end.port.0) × (end.port.0 ≤ 8) }
-        ensures { OnOk result (self.new ≡ with_queue self.old end (queue_at self.old end ++ transit ∷ [])) }
+        requires packet { IsPacket packet.now }
+        ensures traffic { OnOk result (self.new ≡ (sent_on (record { traffic = self.old; notes = notes.old }) end mark packet.now).traffic) }
+        ensures notes { OnOk result (notes.new ≡ (sent_on (record { traffic = self.old; notes = notes.old }) end mark packet.now).notes) }
     {
-        let ports = &mut self.nodes[end.node.0 as usize - 1];
-        let queue = &mut ports.queues[end.port.0 as usize - 1];
-        queue.push(transit)
+        let mut payload = [0; MAX_FRAME];
+        let len = wrap_default(packet, &mut payload);
+        let mut cells = [BLANK; MAX_CELLS];
+        let count = segment(&payload[..len], DEFAULT_CHANNEL, mark, &mut cells);
+        notes.made(mark, &payload[..len])?;
+        self.put(end, &cells[..count])
     }
 
-    fn take(&mut self, end: LinkEnd) -> Option<Transit>
-        requires node { (1 ≤ end.node.0) × (end.node.0 ≤ length self.old.queues) }
+    /// Puts cells at the end of a port's queue.
+    fn put(&mut self, end: LinkEnd, cells: &[Cell]) -> Result<(), OutOfMemory>
+        requires node { (1 ≤ end.node.0) × (end.node.0 ≤ length self.old.ports) }
+        requires port { (1 ≤ end.port.0) × (end.port.0 ≤ 8) }
+        ensures { OnOk result (self.new ≡ with_queue self.old end (queue_at self.old end ++ cells.now)) }
+    {
+        let ports = &mut self.nodes[end.node.0 as usize - 1];
+        let port = &mut ports.list[end.port.0 as usize - 1];
+        port.send(cells)
+    }
+
+    /// Takes the head of a port's queue out of it, if there is one.
+    fn pop(&mut self, end: LinkEnd) -> Option<Cell>
+        requires node { (1 ≤ end.node.0) × (end.node.0 ≤ length self.old.ports) }
         requires port { (1 ≤ end.port.0) × (end.port.0 ≤ 8) }
         ensures none { IfNone result (queue_at self.old end ≡ []) }
         ensures same { IfNone result (self.new ≡ self.old) }
-        ensures some { IfSome result (λ transit. queue_at self.old end ≡ transit ∷ drop 1 (queue_at self.old end)) }
-        ensures taken { OnSome result (self.new ≡ with_queue self.old end (drop 1 (queue_at self.old end))) }
+        ensures some { IfSome result (λ cell. queue_at self.old end ≡ cell ∷ drop 1 (queue_at self.old end)) }
+        ensures popped { OnSome result (self.new ≡ with_queue self.old end (drop 1 (queue_at self.old end))) }
     {
         let ports = &mut self.nodes[end.node.0 as usize - 1];
-        let queue = &mut ports.queues[end.port.0 as usize - 1];
-        queue.pop()
+        let port = &mut ports.list[end.port.0 as usize - 1];
+        port.pop()
+    }
+
+    /// A port takes a cell. The answer is the chain that it ended, at most 32 cells; no cell where it
+    /// ended none.
+    fn take(
+        &mut self,
+        end: LinkEnd,
+        cell: Cell,
+        notes: &mut Notes,
+    ) -> Result<Vec<Cell>, OutOfMemory>
+        requires node { (1 ≤ end.node.0) × (end.node.0 ≤ length self.old.ports) }
+        requires port { (1 ≤ end.port.0) × (end.port.0 ≤ 8) }
+        ensures traffic { OnOk result (self.new ≡ with_reassembly self.old end (taken notes.old true (port_at self.old end).reassembly cell).reassembly) }
+        ensures notes { OnOk result (notes.new ≡ (taken notes.old true (port_at self.old end).reassembly cell).notes) }
+        ensures ended { IfOk result (λ cells. cells.items ≡ (taken notes.old true (port_at self.old end).reassembly cell).ended) }
+        ensures len { IfOk result (λ cells. length cells.items ≤ 32) }
+    {
+        let ports = &mut self.nodes[end.node.0 as usize - 1];
+        let port = &mut ports.list[end.port.0 as usize - 1];
+        port.take(cell, notes)
     }
 }
 
 fn open_ports(alloc: Global, nodes: usize) -> Result<Vec<Ports>, OutOfMemory>
-    ensures { IfOk result (λ v. v.items ≡ replicate nodes (replicate 8 [])) }
+    ensures { IfOk result (λ v. v.items ≡ replicate nodes (replicate 8 idle_port)) }
 {
     let mut ports = Vec::new(alloc);
     for _node in 0..nodes {
         ports.push(Ports::open(alloc)?)?;
     }
     Ok(ports)
-}
-
-/// Why a node refuses to send these octets, if it does.
-fn refusal_of(octets: &[u8]) -> Option<Refusal>
-    ensures refusal { result ≡ refusal_of octets.now }
-    ensures packet { IfNone result (IsPacket octets.now) }
-{
-    match check(octets) {
-        Err(fault) => Some(name_of(fault)),
-        Ok(()) => {
-            if protocol(octets) == CONTROL_PROTOCOL {
-                Some(Refusal::ControlProtocol)
-            } else {
-                None
-            }
-        }
-    }
-}
-
-/// The protocol of control messages, which no sender may use (RFC 1953).
-const CONTROL_PROTOCOL: u8 = 101;
-
-fn name_of(fault: PacketFault) -> Refusal
-    ensures { result ≡ name_of fault }
-{
-    match fault {
-        PacketFault::Short => Refusal::Short,
-        PacketFault::Version => Refusal::Version,
-        PacketFault::Options => Refusal::Options,
-        PacketFault::Length => Refusal::Length,
-        PacketFault::TooLong => Refusal::TooLong,
-        PacketFault::Checksum => Refusal::Checksum,
-    }
 }

@@ -1,12 +1,12 @@
 //! A network's nodes, routes and links, as a script describes them line by line.
 
-ghost use Rattle.std.specs.Prelude.{◌≡◌, ◌+◌, ◌<◌, ◌≤◌, [], length, OnOk, OnErr, true};
+ghost use Rattle.std.specs.Prelude.{◌≡◌, ◌≢◌, None, ◌+◌, ◌<◌, ◌≤◌, [], length, OnOk, OnErr, true};
 ghost use Rattle.std.specs.Result.{result_err};
 ghost use Rattle.ipv4_forward.specs.Best.{add_fault};
 ghost use Rattle.run_model.specs.Topology.{peer_of, routes_of, name_of};
 ghost use Rattle.ipv4_forward.specs.Hop.{hop_of, hopped_by};
 ghost use Rattle.ipv4_packet.specs.Packet.{IsPacket};
-ghost use Rattle.plain_network.specs.Topology.{IsNode, IsEnd, IsLinkedHop, IsNetwork, is_next, peers_of, node_named, with_node, with_link, with_route};
+ghost use Rattle.plain_model.specs.Topology.{IsNode, IsEnd, IsLinkedHop, IsNetwork, is_next, peers_of, node_named, with_node, with_link, with_route};
 
 use ipv4_forward::{AddFault, Hop, Next, Table, hop};
 use net_types::{Addr, NodeId, Octets, OutOfMemory, Prefix};
@@ -27,7 +27,7 @@ pub struct Topology {
 
 impl Model for Topology {
     ghost use Rattle.run_model.specs.Topology.{Topology as Described};
-    ghost use Rattle.plain_network.specs.Topology.{IsNetwork};
+    ghost use Rattle.plain_model.specs.Topology.{IsNetwork};
 
     ghost Value = { Described };
 
@@ -130,10 +130,13 @@ impl Topology {
         Ok(())
     }
 
-    /// Joins two ports by a link.
+    /// Joins two ports, of two nodes, that no link has.
     pub fn add_link(&mut self, first: LinkEnd, second: LinkEnd)
         requires first { IsEnd self.old.nodes first }
         requires second { IsEnd self.old.nodes second }
+        requires apart { first.node.0 ≢ second.node.0 }
+        requires first_free { peer_of self.old.nodes first.node first.port ≡ None }
+        requires second_free { peer_of self.old.nodes second.node second.port ≡ None }
         requires room { self.old.links < 256 }
         ensures { self.new ≡ with_link self.old first second }
     {
@@ -155,7 +158,7 @@ impl Topology {
 }
 
 ghost use Rattle.std.specs.Prelude.{position, IfSome};
-ghost use Rattle.plain_network.specs.Topology.{is_named, with_peer, with_changed, with_next};
+ghost use Rattle.plain_model.specs.Topology.{is_named, with_peer, with_changed, with_next};
 
 fn place_of(nodes: &[Node], name: &[u8]) -> Option<usize>
     ensures place { result ≡ position (is_named name.now) nodes.now }

@@ -5,7 +5,7 @@ use Rattle.net_types.specs.declared.node.NodeId.{NodeId}
 use Rattle.net_types.specs.Prefix.{Network}
 use Rattle.ipv4_forward.specs.declared.table.Next.{Next}
 use Rattle.plain_replay.specs.declared.script.LineStop.{LineStop}
-use Rattle.plain_replay.specs.Script.{Reading, route_line}
+use Rattle.plain_replay.specs.Reading.{Reading, route_line}
 use Rattle.plain_replay.specs.Taking.{TakesFields}
 
 pub takes_route : {T : Type 0} (old reading now : Reading) (node : NodeId) (prefix : Network) (next : Next) (a : Option NodeId) (b : Option Network) (c : Option Next) (result : Result T LineStop) → Some node ≡ a → Some prefix ≡ b → Some next ≡ c → TakesFields old (route_line reading (Some node) (Some prefix) (Some next)) now result → TakesFields old (route_line reading a b c) now result

@@ -1,6 +1,6 @@
 -- the two parts of a word round a sign
 
-use Rattle.std.proofs.Common.{◌≡◌, ℕ, List, ◌+◌, ◌-◌, ◌==◌, length, take, drop, Option, Some, arith, length-drop, refl}
+use Rattle.std.proofs.Common.{◌≡◌, ℕ, List, ◌+◌, ◌-◌, ◌==◌, length, take, drop, Some, arith, length-drop, refl}
 use Rattle.std.specs.Prelude.{position}
 use Rattle.std.proofs.lemmas.List.{take_all}
 use Rattle.plain_replay.specs.Forms.{parts}

@@ -1,10 +1,11 @@
 -- a script is read line by line
 
-use Rattle.std.proofs.Common.{◌≡◌, ℕ, ◌+◌, ◌≤◌, List, [], ◌∷◌, length, take, Option, None, Some, Result, Ok, Err, refl, ap, sym, ◌∙◌, arith}
+use Rattle.std.proofs.Common.{◌≡◌, ℕ, ◌+◌, ◌≤◌, List, [], ◌∷◌, length, None, Some, Ok, Err, ap, sym, ◌∙◌, arith}
 use Rattle.std.proofs.lemmas.List.{take_all}
 use Rattle.plain_replay.specs.declared.script.PlainFault.{PlainFault}
-use Rattle.plain_replay.specs.Lines.{lines_of}
-use Rattle.plain_replay.specs.Script.{Reading, Script, nothing_read, script_from, script_by, script_of, after_line, counted}
+use Rattle.lab_text.specs.Lines.{lines_of}
+use Rattle.plain_replay.specs.Reading.{Reading, nothing_read}
+use Rattle.plain_replay.specs.Script.{Script, script_from, script_by, script_of, after_line, counted}
 
 pub script_step : (reading next : Reading) (line : List ℕ) (lines : List (List ℕ)) → after_line reading line ≡ Ok next → script_from reading (line ∷ lines) ≡ script_from next lines
 script_step reading next line lines e = ap (script_by reading (λ after. script_from after lines)) e

@@ -9,7 +9,7 @@ use Rattle.net_types.specs.Prefix.{Network}
 use Rattle.run_model.specs.declared.LinkEnd.{LinkEnd}
 use Rattle.run_model.specs.declared.Node.{Node}
 use Rattle.lab_text.specs.Numeral.{number}
-use Rattle.plain_network.specs.Topology.{node_named}
+use Rattle.plain_model.specs.Topology.{node_named}
 
 abbrev pub is_letter : ℕ → Bool
 is_letter octet = nat_le 97 octet && nat_le octet 122

@@ -1,6 +1,6 @@
 pub mod Forms
-pub mod Lines
 pub mod Valid
+pub mod Reading
 pub mod Script
 pub mod Taking
 pub mod Report

@@ -1,23 +1,17 @@
 -- The report of a run: a line of text for each record, and a last line
 
-use Rattle.std.specs.Prelude.{ℕ, ◌+◌, ◌/◌, ◌%◌, List, [], ◌∷◌, ◌++◌, length, codes, decimal, nat_lt, if◌then◌else◌, count_by, Bool, true, false, Option, None, Some}
+use Rattle.std.specs.Prelude.{ℕ, List, [], ◌∷◌, ◌++◌, length, codes, decimal, count_by, Bool, true, false, Option, None, Some}
 use Rattle.std.specs.List.{flat_map}
 use Rattle.net_types.specs.declared.number.Mark.{Mark}
-use Rattle.link_model.specs.declared.record.Cause.{Cause}
-use Rattle.link_model.specs.declared.record.Cause.TheVariants.{Lost, Unconnected, PoolFull, Cut, Unbound, Broken}
-use Rattle.link_model.specs.declared.record.DropCause.{DropCause}
-use Rattle.link_model.specs.declared.record.DropCause.TheVariants.{NoRoute, Expired}
-use Rattle.link_model.specs.declared.record.Layer.{Layer}
-use Rattle.link_model.specs.declared.record.Layer.TheVariants.{Encaps, Packet, Ifmp, Gsmp}
-use Rattle.link_model.specs.declared.record.Refusal.{Refusal as Name}
-use Rattle.link_model.specs.declared.record.Refusal.TheVariants.{Short, Version, Options, Length, TooLong, Checksum, ControlProtocol, BadSnap}
 use Rattle.link_model.specs.declared.record.Record.{Record}
 use Rattle.link_model.specs.declared.record.Record.TheVariants.{Delivered, Dropped, Refused, Loss, Chance, Bad}
+use Rattle.lab_text.specs.Names.{cause_text, drop_text, layer_text, refusal_text}
+use Rattle.lab_text.specs.Text.{hex_digits, line_of}
 use Rattle.run_model.specs.declared.Node.{Node}
 use Rattle.run_model.specs.Topology.{name_of}
-use Rattle.plain_network.specs.declared.event.Event.{Event}
-use Rattle.plain_network.specs.declared.event.Event.TheVariants.{Inject}
-use Rattle.plain_network.specs.Network.{run, no_traffic}
+use Rattle.plain_model.specs.declared.event.Event.{Event}
+use Rattle.plain_model.specs.declared.event.Event.TheVariants.{Inject}
+use Rattle.plain_model.specs.Network.{run, opening}
 use Rattle.plain_replay.specs.declared.report.Kind.{Kind}
 use Rattle.plain_replay.specs.declared.report.Kind.TheVariants.{Deliveries, Drops, Refusals, Losses, Chances}
 use Rattle.plain_replay.specs.declared.script.PlainFault.{PlainFault}
@@ -25,54 +19,13 @@ use Rattle.plain_replay.specs.declared.script.PlainFault.TheVariants.{UnknownWor
 use Rattle.plain_replay.specs.declared.script.Refusal.{Refusal}
 use Rattle.plain_replay.specs.Script.{Script}
 
--- two lower-case hexadecimal digits an octet
-abbrev pub hex_digit : ℕ → ℕ
-hex_digit value = if nat_lt value 10 then 48 + value else 87 + value
-
-abbrev pub hex_text : List ℕ → List ℕ
-hex_text octets = flat_map (λ octet. hex_digit (octet / 16) ∷ hex_digit (octet % 16) ∷ []) octets
-
-abbrev pub cause_text : Cause → List ℕ
-cause_text Lost = codes "Lost"
-cause_text Unconnected = codes "Unconnected"
-cause_text PoolFull = codes "PoolFull"
-cause_text Cut = codes "Cut"
-cause_text Unbound = codes "Unbound"
-cause_text Broken = codes "Broken"
-
-abbrev pub drop_text : DropCause → List ℕ
-drop_text NoRoute = codes "NoRoute"
-drop_text Expired = codes "Expired"
-
-abbrev pub layer_text : Layer → List ℕ
-layer_text Encaps = codes "encaps"
-layer_text Packet = codes "packet"
-layer_text Ifmp = codes "ifmp"
-layer_text Gsmp = codes "gsmp"
-
-abbrev pub refusal_text : Name → List ℕ
-refusal_text Short = codes "Short"
-refusal_text Version = codes "Version"
-refusal_text Options = codes "Options"
-refusal_text Length = codes "Length"
-refusal_text TooLong = codes "TooLong"
-refusal_text Checksum = codes "Checksum"
-refusal_text ControlProtocol = codes "ControlProtocol"
-refusal_text BadSnap = codes "BadSnap"
-
 abbrev pub mark_text : Mark → List ℕ
 mark_text mark = decimal mark.packet ++ (codes "." ++ decimal mark.frame)
-
--- the words of a line, with a space between each two, and its end
-abbrev pub line_of : List (List ℕ) → List ℕ
-line_of [] = codes "\n"
-line_of (word ∷ []) = word ++ codes "\n"
-line_of (word ∷ next ∷ words) = word ++ (codes " " ++ line_of (next ∷ words))
 
 -- the words of a record's line
 abbrev pub record_words : List Node → Record → List (List ℕ)
 record_words nodes (Delivered node packet octets) =
-    codes "deliver" ∷ name_of nodes node ∷ decimal packet ∷ hex_text octets ∷ []
+    codes "deliver" ∷ name_of nodes node ∷ decimal packet ∷ hex_digits octets ∷ []
 record_words nodes (Dropped node packet cause) =
     codes "drop" ∷ name_of nodes node ∷ decimal packet ∷ drop_text cause ∷ []
 record_words nodes (Refused node packet name) =
@@ -144,5 +97,5 @@ last_line events records (Some refusal) = line_of (refused_words refusal)
 abbrev pub report_of : Script → List ℕ
 report_of script =
     let nodes = script.topology.nodes in
-    let records = (run nodes (no_traffic nodes) script.events).records in
+    let records = (run nodes (opening nodes) script.events).notes.records in
     record_lines nodes records ++ last_line script.events records script.refusal

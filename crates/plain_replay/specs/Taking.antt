@@ -7,7 +7,7 @@ use Rattle.plain_replay.specs.declared.script.PlainFault.{PlainFault}
 use Rattle.plain_replay.specs.declared.script.PlainFault.TheVariants.{BadLine}
 use Rattle.plain_replay.specs.declared.script.LineStop.{LineStop}
 use Rattle.plain_replay.specs.declared.script.LineStop.TheVariants.{Refused, OutOfMemory}
-use Rattle.plain_replay.specs.Script.{Reading}
+use Rattle.plain_replay.specs.Reading.{Reading}
 
 -- the reading that follows, or the refusal, which leaves the one before; want of memory is free
 abbrev pub Takes : {T : Type 0} → (old : Reading) → Result Reading PlainFault → (now : Reading) → Result T LineStop → Type 0

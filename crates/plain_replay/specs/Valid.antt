@@ -3,8 +3,8 @@
 use Rattle.std.specs.Prelude.{◌≡◌, ◌≤◌, true, List, length}
 use Rattle.std.specs.List.{list_all}
 use Rattle.run_model.specs.declared.Node.{Node}
-use Rattle.plain_network.specs.declared.event.Event.{Event}
-use Rattle.plain_network.specs.Network.{is_for}
+use Rattle.plain_model.specs.declared.event.Event.{Event}
+use Rattle.plain_model.specs.Network.{is_for}
 
 -- at most 200,000 events, each at a node or a port of the network
 pub record AreEvents (nodes : List Node) (events : List Event) : Type 0 where

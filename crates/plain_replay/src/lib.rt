@@ -2,12 +2,12 @@
 #![tactic(auto)]
 
 mod forms;
-mod lines;
 mod reader;
 mod report;
 mod run;
 mod script;
-mod text;
+#[cfg(test)]
+mod tests;
 
 pub use reader::read_script;
 pub use run::{Reported, replay};

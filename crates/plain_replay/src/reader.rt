@@ -4,20 +4,21 @@ ghost use Rattle.std.specs.Prelude.{◌≡◌, ◌+◌, ◌<◌, ◌≤◌, ◌^
 ghost use Rattle.std.specs.Option.{option_map};
 ghost use Rattle.lab_text.specs.Words.{words};
 ghost use Rattle.lab_text.specs.Numeral.{hex_octets};
-ghost use Rattle.plain_network.specs.Network.{is_for};
-ghost use Rattle.plain_network.specs.Topology.{node_named, is_next, peers_of, IsNode, IsEnd};
+ghost use Rattle.plain_model.specs.Network.{is_for};
+ghost use Rattle.plain_model.specs.Topology.{node_named, is_next, peers_of, IsNode, IsEnd};
 ghost use Rattle.plain_replay.specs.Forms.{address_of, prefix_of, end_of};
-ghost use Rattle.plain_replay.specs.Script.{Reading, nothing_read, one, two, keyword_of, node_line, link_line, can_link, can_route, is_linked, route_line, route_fields, next_of, with_event, send_line, carry_line, fields_line, keyword_line, worded_line, text_line, after_line, is_late, counted, script_of, input_limit};
+ghost use Rattle.plain_replay.specs.Reading.{Reading, nothing_read, node_line, link_line, can_link, can_route, is_linked, route_line, next_of, with_event, send_line, carry_line, lose_line, linked_end, is_late};
+ghost use Rattle.plain_replay.specs.Script.{one, two, keyword_of, route_fields, fields_line, keyword_line, worded_line, text_line, after_line, counted, script_of, input_limit};
 ghost use Rattle.plain_replay.specs.Taking.{Takes, TakesFields, NamesPort};
 ghost use Rattle.plain_replay.specs.declared.script.LineStop.TheVariants.{OutOfMemory as NoMemory};
 
 use crate::forms::{is_name, read_address, read_end, read_number_in, read_prefix};
-use crate::lines::split_line;
 use crate::script::{Keyword, LineStop, PlainFault, Refusal, Script};
 use ipv4_forward::Next;
-use lab_text::{check_line, is_blank_line, read_hex, split_word};
+use lab_text::{check_line, is_blank_line, read_hex, split_line, split_word};
 use net_types::{NodeId, Octets, OutOfMemory, PortNo, Prefix};
-use plain_network::{Event, NODES, Topology};
+use plain_model::Event;
+use plain_network::{NODES, Topology};
 use run_model::LinkEnd;
 use std::alloc::{AllocError, AllocFailed, Global};
 use std::marker::Model;
@@ -67,7 +68,7 @@ pub struct Reader {
 
 impl Model for Reader {
     ghost use Rattle.std.specs.Prelude.{◌≤◌};
-    ghost use Rattle.plain_replay.specs.Script.{Reading};
+    ghost use Rattle.plain_replay.specs.Reading.{Reading};
     ghost use Rattle.plain_replay.specs.Valid.{AreEvents};
 
     ghost Value = { Reading };
@@ -113,6 +114,8 @@ fn keyword_of(word: &[u8]) -> Option<Keyword>
         Some(Keyword::Send)
     } else if word == "carry".as_bytes() {
         Some(Keyword::Carry)
+    } else if word == "lose".as_bytes() {
+        Some(Keyword::Lose)
     } else {
         None
     }
@@ -276,16 +279,35 @@ impl Reader {
     }
 
     fn carry_line(&mut self, end: &[u8]) -> Result<(), LineStop>
-        ensures taken { TakesFields self.old (carry_line self.old (end_of self.old.topology.nodes end.now)) self.new result }
+        ensures taken { TakesFields self.old (carry_line self.old (linked_end self.old end.now)) self.new result }
         ensures octets { OnOk result (self.new.octets ≡ self.old.octets) }
     {
-        let Some(end) = read_end(&self.topology, end) else {
+        let Some(end) = self.linked_end(end) else {
             return Err(BAD_LINE);
         };
-        if self.topology.peer(end).is_none() {
-            return Err(BAD_LINE);
-        }
         self.happen(Event::Carry(end))
+    }
+
+    fn lose_line(&mut self, end: &[u8]) -> Result<(), LineStop>
+        ensures taken { TakesFields self.old (lose_line self.old (linked_end self.old end.now)) self.new result }
+        ensures octets { OnOk result (self.new.octets ≡ self.old.octets) }
+    {
+        let Some(end) = self.linked_end(end) else {
+            return Err(BAD_LINE);
+        };
+        self.happen(Event::Lose(end))
+    }
+
+    /// A port that is linked.
+    fn linked_end(&self, end: &[u8]) -> Option<LinkEnd>
+        ensures end { result ≡ linked_end self.now end.now }
+        ensures inside { IfSome result (λ end. IsEnd self.now.topology.nodes end) }
+    {
+        let end = read_end(&self.topology, end)?;
+        if self.topology.peer(end).is_none() {
+            return None;
+        }
+        Some(end)
     }
 }
 
@@ -323,6 +345,10 @@ impl Reader {
             },
             Keyword::Carry => match one_word(fields) {
                 Some(end) => self.carry_line(end),
+                None => Err(BAD_LINE),
+            },
+            Keyword::Lose => match one_word(fields) {
+                Some(end) => self.lose_line(end),
                 None => Err(BAD_LINE),
             },
         }

@@ -2,61 +2,15 @@
 
 ghost use Rattle.std.specs.Prelude.{◌≡◌, ◌++◌, OnOk, codes, count_by, decimal};
 ghost use Rattle.run_model.specs.Topology.{name_of};
-ghost use Rattle.plain_replay.specs.Report.{record_line, record_lines, line_of, total_text, events_text, fates_text, losses_text, end_of_run, refused_words, is_of, is_send, mark_text, cause_text, drop_text, layer_text, refusal_text, fault_text};
+ghost use Rattle.lab_text.specs.Text.{line_of};
+ghost use Rattle.plain_replay.specs.Report.{record_line, record_lines, total_text, events_text, fates_text, losses_text, end_of_run, refused_words, is_of, is_send, mark_text, fault_text};
 
 use crate::script::{PlainFault, Refusal as LineRefusal};
-use crate::text::Text;
-use link_model::{Cause, DropCause, Layer, Notes, Record, Refusal};
+use lab_text::{Text, cause_name, drop_name, layer_name, refusal_name};
+use link_model::{Notes, Record};
 use net_types::{Mark, NodeId, OutOfMemory};
-use plain_network::{Event, Topology};
-
-fn cause_name(cause: Cause) -> &'static str
-    ensures { result.now ≡ cause_text cause }
-{
-    match cause {
-        Cause::Lost => "Lost",
-        Cause::Unconnected => "Unconnected",
-        Cause::PoolFull => "PoolFull",
-        Cause::Cut => "Cut",
-        Cause::Unbound => "Unbound",
-        Cause::Broken => "Broken",
-    }
-}
-
-fn drop_name(cause: DropCause) -> &'static str
-    ensures { result.now ≡ drop_text cause }
-{
-    match cause {
-        DropCause::NoRoute => "NoRoute",
-        DropCause::Expired => "Expired",
-    }
-}
-
-fn layer_name(layer: Layer) -> &'static str
-    ensures { result.now ≡ layer_text layer }
-{
-    match layer {
-        Layer::Encaps => "encaps",
-        Layer::Packet => "packet",
-        Layer::Ifmp => "ifmp",
-        Layer::Gsmp => "gsmp",
-    }
-}
-
-fn refusal_name(name: Refusal) -> &'static str
-    ensures { result.now ≡ refusal_text name }
-{
-    match name {
-        Refusal::Short => "Short",
-        Refusal::Version => "Version",
-        Refusal::Options => "Options",
-        Refusal::Length => "Length",
-        Refusal::TooLong => "TooLong",
-        Refusal::Checksum => "Checksum",
-        Refusal::ControlProtocol => "ControlProtocol",
-        Refusal::BadSnap => "BadSnap",
-    }
-}
+use plain_model::Event;
+use plain_network::Topology;
 
 /// The name of a refusal of a line.
 pub fn fault_name(fault: PlainFault) -> &'static str

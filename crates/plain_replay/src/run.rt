@@ -1,8 +1,9 @@
 //! From a script to its report.
 
 ghost use Rattle.std.specs.Prelude.{◌≡◌, ◌≤◌, length, IfOk, OnOk, is_some};
-ghost use Rattle.plain_laws.specs.Fates.{HasTrueFates};
-ghost use Rattle.plain_network.specs.Network.{run, no_traffic};
+ghost use Rattle.plain_model.specs.Network.{run, opening};
+ghost use Rattle.plain_laws.specs.Fates.{HasTrueFronts};
+ghost use Rattle.cell_laws.specs.Causes.{HasCauses};
 ghost use Rattle.plain_replay.specs.Valid.{AreEvents};
 ghost use Rattle.plain_replay.specs.Script.{script_of, input_limit};
 ghost use Rattle.plain_replay.specs.Report.{report_of};
@@ -10,16 +11,18 @@ ghost use Rattle.plain_replay.specs.Report.{report_of};
 use crate::reader::read_script;
 use crate::report::{write_end, write_records, write_refused};
 use crate::script::Script;
-use crate::text::Text;
+use cell_laws::breaks_have_causes;
+use lab_text::Text;
 use link_model::Notes;
 use net_types::{Octets, OutOfMemory};
-use plain_laws::fates_are_journeys;
-use plain_network::{Event, Network, Topology};
+use plain_laws::fronts_have_true_fates;
+use plain_model::Event;
+use plain_network::{Network, Topology};
 use std::alloc::Global;
 
 fn run_events(alloc: Global, topology: &Topology, events: &[Event]) -> Result<Notes, OutOfMemory>
     requires { AreEvents topology.now.nodes events.now }
-    ensures { IfOk result (λ notes. notes.records ≡ (run topology.now.nodes (no_traffic topology.now.nodes) events.now).records) }
+    ensures { IfOk result (λ notes. notes ≡ (run topology.now.nodes (opening topology.now.nodes) events.now).notes) }
 {
     let mut notes = Notes::open(alloc)?;
     let mut network = Network::open(alloc, topology.nodes())?;
@@ -27,6 +30,17 @@ fn run_events(alloc: Global, topology: &Topology, events: &[Event]) -> Result<No
         network.step(topology, event, &mut notes)?;
     }
     Ok(notes)
+}
+
+/// The laws of every run, at this network and these events.
+fn prove_laws(topology: &Topology, events: &[Event])
+    requires { AreEvents topology.now.nodes events.now }
+    ensures fates { HasTrueFronts topology.now.nodes events.now }
+    ensures causes { HasCauses topology.now.nodes events.now }
+{
+    let _nodes = topology.nodes();
+    fronts_have_true_fates();
+    breaks_have_causes();
 }
 
 /// A report, and whether a line of its script was refused.
@@ -38,21 +52,15 @@ pub struct Reported {
     pub is_refused: bool,
 }
 
-/// The law of every run, at this network and these events.
-fn prove_fates(topology: &Topology, events: &[Event])
-    requires { AreEvents topology.now.nodes events.now }
-    ensures { HasTrueFates topology.now.nodes events.now }
-{
-    let _nodes = topology.nodes();
-    fates_are_journeys();
-}
-
-/// The report of the script that these octets are.
+/// The report of the script that these octets are. What its run has is clauses besides: before the
+/// first chance each delivery and each drop is its packet's journey, and each frame that is reported
+/// as broken stands beside a cause.
 pub fn replay(alloc: Global, octets: &[u8]) -> Result<Reported, OutOfMemory>
     requires { length octets.now ≤ input_limit }
     ensures octets { IfOk result (λ reported. reported.report ≡ report_of (script_of octets.now)) }
     ensures refused { IfOk result (λ reported. reported.is_refused ≡ is_some (script_of octets.now).refusal) }
-    ensures fates { OnOk result (HasTrueFates (script_of octets.now).topology.nodes (script_of octets.now).events) }
+    ensures fates { OnOk result (HasTrueFronts (script_of octets.now).topology.nodes (script_of octets.now).events) }
+    ensures causes { OnOk result (HasCauses (script_of octets.now).topology.nodes (script_of octets.now).events) }
 {
     let script = read_script(alloc, octets)?;
     report_on(alloc, &script)
@@ -61,9 +69,10 @@ pub fn replay(alloc: Global, octets: &[u8]) -> Result<Reported, OutOfMemory>
 fn report_on(alloc: Global, script: &Script) -> Result<Reported, OutOfMemory>
     ensures octets { IfOk result (λ reported. reported.report ≡ report_of script.now) }
     ensures refused { IfOk result (λ reported. reported.is_refused ≡ is_some script.now.refusal) }
-    ensures fates { OnOk result (HasTrueFates script.now.topology.nodes script.now.events) }
+    ensures fates { OnOk result (HasTrueFronts script.now.topology.nodes script.now.events) }
+    ensures causes { OnOk result (HasCauses script.now.topology.nodes script.now.events) }
 {
-    prove_fates(&script.topology, script.events.as_slice());
+    prove_laws(&script.topology, script.events.as_slice());
     let notes = run_events(alloc, &script.topology, script.events.as_slice())?;
     let mut out = Text::new(alloc);
     write_records(&mut out, &script.topology, &notes)?;

@@ -1,6 +1,7 @@
 //! What a script says.
 
-use plain_network::{Event, Topology};
+use plain_model::Event;
+use plain_network::Topology;
 use std::marker::Model;
 
 /// The first word of a line that says something.
@@ -14,8 +15,10 @@ pub enum Keyword {
     Route,
     /// A packet that a node takes.
     Send,
-    /// The head of a queue goes to the other end of its link.
+    /// The cell at the head of a queue goes to the other end of its link.
     Carry,
+    /// The cell at the head of a queue is lost.
+    Lose,
 }
 
 /// Why a line is refused.

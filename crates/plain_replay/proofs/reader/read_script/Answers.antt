@@ -1,4 +1,4 @@
-use Rattle.std.proofs.Common.{◌≡◌, ◌≤◌, length, arith}
+use Rattle.std.proofs.Common.{◌≡◌, length, arith}
 use Rattle.std.proofs.lemmas.Bool.Decides.{nat_tests}
 use Rattle.plain_replay.proofs.Scripts.{taken_line, refused_line, no_line}
 use Rattle.plain_replay.proofs.reader.read_script.Goals as goal

@@ -1,6 +1,7 @@
 use Rattle.std.proofs.Common.{◌≡◌, ◌+◌, ◌≤◌, length}
-use Rattle.plain_replay.specs.Lines.{lines_of}
-use Rattle.plain_replay.specs.Script.{nothing_read, script_from}
+use Rattle.lab_text.specs.Lines.{lines_of}
+use Rattle.plain_replay.specs.Reading.{nothing_read}
+use Rattle.plain_replay.specs.Script.{script_from}
 use Rattle.plain_replay.proofs.reader.read_script.Given as goal
 
 abbrev pub invariant-loop-rest : goal.invariant-loop-rest

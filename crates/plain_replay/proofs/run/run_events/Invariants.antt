@@ -1,10 +1,12 @@
-use Rattle.std.proofs.Common.{◌≡◌, ◌≤◌, ◌++◌, drop, length}
-use Rattle.plain_network.specs.Network.{run, no_traffic}
+use Rattle.std.proofs.Common.{◌≡◌, ◌≤◌, true, drop, length}
+use Rattle.plain_model.specs.Network.{run, opening}
+use Rattle.plain_network.specs.Frames.{has_frames_up_to}
 use Rattle.plain_replay.proofs.run.run_events.Given as goal
 
 abbrev pub invariant-loop-event : goal.invariant-loop-event
 invariant-loop-event l = record {
-  fits : length l.network.queues ≡ length l.topology.nodes;
+  fits : length l.network.ports ≡ length l.topology.nodes;
   numbers : l.network.sent ≤ l.event-index;
-  same : l.notes.records ++ (run l.topology.nodes l.network (drop l.event-index l.events)).records ≡ (run l.topology.nodes (no_traffic l.topology.nodes) l.events).records;
+  frames : has_frames_up_to l.event-index l.network ≡ true;
+  same : run l.topology.nodes (record { traffic = l.network; notes = l.notes }) (drop l.event-index l.events) ≡ run l.topology.nodes (opening l.topology.nodes) l.events;
 }

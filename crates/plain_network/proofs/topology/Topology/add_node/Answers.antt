@@ -1,6 +1,6 @@
-use Rattle.std.proofs.Common.{◌≡◌, ◌<◌, length, arith, ap}
+use Rattle.std.proofs.Common.{length, arith, ap}
 use Rattle.run_model.specs.Topology.{Topology as Described}
-use Rattle.plain_network.proofs.Networks.{node_added}
+use Rattle.plain_model.proofs.Networks.{node_added}
 use Rattle.plain_network.proofs.topology.Topology.add_node.Goals as goal
 
 pub invariant_of-self-2 : goal.invariant_of-self-2

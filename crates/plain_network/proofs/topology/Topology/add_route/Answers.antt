@@ -1,7 +1,8 @@
 use Rattle.std.proofs.Common.{◌≡◌, ◌∙◌, ap, true}
 use Rattle.run_model.specs.Topology.{Topology as Described}
-use Rattle.plain_network.specs.Topology.{IsNetwork, is_next, peers_of}
-use Rattle.plain_network.proofs.Networks.{route_added, at_outcome}
+use Rattle.plain_model.specs.Topology.{IsNetwork, is_next, peers_of}
+use Rattle.plain_model.proofs.Networks.{route_added}
+use Rattle.plain_network.proofs.Networks.{at_outcome}
 use Rattle.plain_network.proofs.topology.Topology.add_route.Goals as goal
 
 pub invariant_of-self : goal.invariant_of-self

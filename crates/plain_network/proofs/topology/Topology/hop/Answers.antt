@@ -1,4 +1,4 @@
-use Rattle.plain_network.proofs.Networks.{hop_linked}
+use Rattle.plain_model.proofs.Networks.{hop_linked}
 use Rattle.plain_network.proofs.topology.Topology.hop.Goals as goal
 
 pub returns-clause-linked : goal.returns-clause-linked

@@ -1,8 +1,5 @@
 use Rattle.std.proofs.Common.{◌≡◌, Some, rules}
-use Rattle.lab_text.specs.Words.{words}
-use Rattle.plain_network.specs.Topology.{node_named}
-use Rattle.plain_replay.specs.Forms.{prefix_of}
-use Rattle.plain_replay.specs.Script.{next_of}
+use Rattle.plain_model.specs.Topology.{node_named}
 use Rattle.plain_replay.proofs.Fields.{takes_route}
 use Rattle.plain_replay.proofs.reader.Reader.route_line.Goals as goal
 

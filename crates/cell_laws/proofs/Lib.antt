@@ -1,0 +1,9 @@
+mod Lookups
+mod Pieces
+mod Frames
+mod Pipes
+mod Worlds
+mod Adds
+mod Passing
+mod Takes
+mod Runs

@@ -1,0 +1,3 @@
+pub mod Reassembly
+pub mod Frame
+pub mod Stretch

@@ -1,0 +1,44 @@
+-- A source that tells its octets: what was read of them is all that a command needs
+
+use Rattle.std.proofs.Common.{◌≡◌, ℕ, ◌<◌, ◌≤◌, List, [], ◌∷◌, ◌++◌, Bool, length, take, Option, None, Some, is_some, refl, sym, ap, ◌∙◌, arith, inl, inr, ◌⊎◌, append-nil, zero, suc}
+use Rattle.std.specs.Prelude.{if◌then◌else◌}
+use Rattle.std.specs.Io.KnownBytes.{Consumes, IsAtEnd}
+use Rattle.std.proofs.lemmas.List.{take-append-le}
+use Rattle.lab_text.specs.Lines.{lines_of}
+use Rattle.message_text.specs.Listing.{fault_from, lines_in}
+use Rattle.plain_replay.specs.Reading.{nothing_read}
+use Rattle.plain_replay.specs.Script.{script_of, script_from}
+use Rattle.ipswitch.specs.declared.command.Command.{Command}
+use Rattle.ipswitch.specs.declared.command.Command.TheVariants.{Replay, Decode}
+use Rattle.ipswitch.specs.Run.{is_refused, status_of}
+
+below_or_at : (i n : ℕ) → i ≤ n → (i < n) ⊎ (n ≡ i)
+below_or_at zero zero h = inr refl
+below_or_at zero (suc n) h = inl (omega arith)
+below_or_at (suc i) zero h = absurd (omega arith)
+below_or_at (suc i) (suc n) h =
+    elim (below_or_at i n (omega arith)) [ inl low ↦ inl (omega arith) | inr at ↦ inr (omega arith) ]
+
+-- up to the limit, what was read is what was there
+same_front : (limit : ℕ) (there input rest : List ℕ) → there ≡ input ++ rest → length input ≤ limit → (length input < limit → rest ≡ []) → take limit input ≡ take limit there
+same_front limit there input [] e within whole = rw (e, append-nil) refl
+same_front limit there input (octet ∷ rest) e within whole =
+    elim (below_or_at (length input) limit within) [
+      | inl low ↦ absurd (cc (whole low))
+      | inr at ↦ rw e (sym (take-append-le limit input (octet ∷ rest) (omega (arith, at))))
+    ]
+
+same_refusal : (command : Command) (there input : List ℕ) → take 16777217 input ≡ take 16777217 there → is_refused command input ≡ is_refused command there
+unfolding script_of lines_in
+same_refusal Replay there input front = ap (λ (octets : List ℕ). is_some (script_from nothing_read (lines_of octets)).refusal) front
+same_refusal (Decode protocol) there input front = ap (λ (octets : List ℕ). is_some (fault_from 0 (lines_of octets))) front
+
+read_refusal : (command : Command) (there input : List ℕ) (left_new : Option (List ℕ)) → Consumes (Some there) left_new input → length input ≤ 16777217 → (length input < 16777217 → IsAtEnd left_new) → is_refused command input ≡ is_refused command there
+read_refusal command there input None read within whole = absurd read
+read_refusal command there input (Some rest) read within whole =
+    same_refusal command there input (same_front 16777217 there input rest read within whole)
+
+pub complete : (command : Command) (left_old left_new : Option (List ℕ)) (there input seen : List ℕ) (refused : Bool) (status : ℕ) → left_old ≡ Some there → Consumes left_old left_new input → length input ≤ 16777217 → (length input < 16777217 → IsAtEnd left_new)
+    → seen ≡ input → refused ≡ is_refused command seen → status ≡ (if refused then 2 else 0) → status ≡ status_of command there
+complete command left_old left_new there input seen refused status told read within whole at said outcome =
+    outcome ∙ ap (λ (b : Bool). if b then 2 else 0) (said ∙ (ap (is_refused command) at ∙ read_refusal command there input left_new (rw told at read) within whole))

@@ -1,0 +1,139 @@
+//! The commands over any source and any sink.
+
+ghost use Rattle.std.specs.Prelude.{◌≡◌, ◌⊎◌, ◌≤◌, ℕ, List, None, Some, IfOk, OnOk, length, if◌then◌else◌};
+ghost use Rattle.std.specs.Io.KnownBytes.{Appends};
+ghost use Rattle.lab_io.specs.Fault.{HasCause, Rose};
+ghost use Rattle.lab_io.specs.Transfer.{AppendsFront};
+ghost use Rattle.plain_replay.specs.Script.{input_limit};
+ghost use Rattle.ipswitch.specs.declared.command.Command.{Command};
+ghost use Rattle.ipswitch.specs.Command.{command_of, usage_line};
+ghost use Rattle.ipswitch.specs.Run.{IsAnswered, IsCutShort, IsDone, IsFront, IsReport, IsSilent, is_refused, status_of};
+
+use crate::command::{Command, command_of};
+use crate::word::Word;
+use lab_io::{Failed, InputFault, Sink, Source, read_to_end, write_all};
+use message_text::list_messages;
+use net_types::{Octets, OutOfMemory};
+use plain_replay::replay;
+use std::alloc::Global;
+
+/// Everything is read and the report is written.
+const DONE: u8 = 0;
+/// The words aren't those of a command.
+const USAGE: u8 = 1;
+/// A line of the input is refused; the last line of the report says which.
+const REFUSED: u8 = 2;
+/// A read failed.
+const READ_FAULT: u8 = 3;
+/// A write failed.
+const WRITE_FAULT: u8 = 4;
+/// No memory was left.
+const NO_MEMORY: u8 = 5;
+
+/// The greatest input, and one octet more, which is always refused.
+const INPUT_LIMIT: usize = 16_777_217;
+
+const USAGE_LINE: &str =
+    "usage: ipswitch replay|replay toml|ideal|decode ifmp|decode gsmp|drill N\n";
+
+/// A report, and whether a line of its input was refused.
+#[derive(Debug, Drop)]
+struct Report {
+    octets: Octets,
+    is_refused: bool,
+}
+
+fn write_usage<K: Sink>(sink: &mut K) -> Result<(), Failed>
+    ensures cause { HasCause (K.faults sink.old) (K.faults sink.new) result }
+    ensures ok { OnOk result (Appends (K.written sink.old) (K.written sink.new) usage_line) }
+    ensures front { AppendsFront (K.written sink.old) (K.written sink.new) usage_line }
+{
+    write_all(sink, USAGE_LINE.as_bytes())
+}
+
+/// What a command makes of its input.
+fn report_on(alloc: Global, command: Command, input: &[u8]) -> Result<Report, OutOfMemory>
+    requires { length input.now ≤ input_limit }
+    ensures report { IfOk result (λ report. IsReport command input.now report.octets) }
+    ensures refused { IfOk result (λ report. report.is_refused ≡ is_refused command input.now) }
+{
+    match command {
+        Command::Replay => {
+            let reported = replay(alloc, input)?;
+            Ok(Report {
+                octets: reported.report,
+                is_refused: reported.is_refused,
+            })
+        }
+        Command::Decode(protocol) => {
+            let listed = list_messages(alloc, protocol, input)?;
+            Ok(Report {
+                octets: listed.text,
+                is_refused: listed.is_refused,
+            })
+        }
+    }
+}
+
+fn status_of(report: &Report) -> u8
+    ensures { result ≡ (if report.now.is_refused then 2 else 0) }
+{
+    if report.is_refused { REFUSED } else { DONE }
+}
+
+/// Carries out a command.
+fn run_command<S: Source, K: Sink>(
+    alloc: Global,
+    command: Command,
+    source: &mut S,
+    sink: &mut K,
+) -> u8
+    ensures done { (result ≡ 0) ⊎ (result ≡ 2) → IsDone command (S.left source.old) (S.left source.new) (K.written sink.old) (K.written sink.new) result }
+    ensures read { result ≡ 3 → Rose (S.faults source.old) (S.faults source.new) }
+    ensures write { result ≡ 4 → Rose (K.faults sink.old) (K.faults sink.new) }
+    ensures silent { (result ≡ 3) ⊎ (result ≡ 5) → IsSilent (Some command) (S.left source.old) (S.left source.new) (K.written sink.old) (K.written sink.new) }
+    ensures cut { result ≡ 4 → IsFront command (S.left source.old) (S.left source.new) (K.written sink.old) (K.written sink.new) }
+    ensures complete { (input : List ℕ) → S.left source.old ≡ Some input → (Rose (S.faults source.old) (S.faults source.new) → ⊥) → (Rose (K.faults sink.old) (K.faults sink.new) → ⊥) → (result ≡ status_of command input) ⊎ (result ≡ 5) }
+    ensures not_usage { (result ≡ 1) → ⊥ }
+    ensures range { result ≤ 5 }
+{
+    let input = match read_to_end(alloc, source, INPUT_LIMIT) {
+        Ok(input) => input,
+        Err(InputFault::Failed) => return READ_FAULT,
+        Err(InputFault::OutOfMemory) => return NO_MEMORY,
+    };
+    let Ok(report) = report_on(alloc, command, input.as_slice()) else {
+        return NO_MEMORY;
+    };
+    match write_all(sink, report.octets.as_slice()) {
+        Err(_failed) => WRITE_FAULT,
+        Ok(()) => status_of(&report),
+    }
+}
+
+/// Runs the command that the words ask for, reads its input from `source`, writes its output to
+/// `sink`, and gives the status: 0 done, 1 usage, 2 a line is refused, 3 a read failed, 4 a write
+/// failed, 5 want of memory.
+pub fn run<S: Source, K: Sink>(alloc: Global, words: &[Word], source: &mut S, sink: &mut K) -> u8
+    ensures usage { result ≡ 1 → (command_of words.now ≡ None) × Appends (K.written sink.old) (K.written sink.new) usage_line }
+    ensures usage_only { command_of words.now ≡ None → (result ≡ 1) ⊎ (result ≡ 4) }
+    ensures answered { (result ≡ 0) ⊎ (result ≡ 2) → IsAnswered (command_of words.now) (S.left source.old) (S.left source.new) (K.written sink.old) (K.written sink.new) result }
+
+    // A fault comes only where the outside had one, and what it leaves is a front of the output.
+    ensures read { result ≡ 3 → Rose (S.faults source.old) (S.faults source.new) }
+    ensures write { result ≡ 4 → Rose (K.faults sink.old) (K.faults sink.new) }
+    ensures silent { (result ≡ 3) ⊎ (result ≡ 5) → IsSilent (command_of words.now) (S.left source.old) (S.left source.new) (K.written sink.old) (K.written sink.new) }
+    ensures cut { result ≡ 4 → IsCutShort (command_of words.now) (S.left source.old) (S.left source.new) (K.written sink.old) (K.written sink.new) }
+
+    // With an input and no fault the status is the input's, want of memory aside.
+    ensures complete { (command : Command) (input : List ℕ) → command_of words.now ≡ Some command → S.left source.old ≡ Some input → (Rose (S.faults source.old) (S.faults source.new) → ⊥) → (Rose (K.faults sink.old) (K.faults sink.new) → ⊥) → (result ≡ status_of command input) ⊎ (result ≡ 5) }
+    ensures range { result ≤ 5 }
+{
+    match command_of(words) {
+        None => match write_usage(sink) {
+            Ok(()) => USAGE,
+            Err(_failed) => WRITE_FAULT,
+        },
+        Some(command) => run_command(alloc, command, source, sink),
+    }
+}

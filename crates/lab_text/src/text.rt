@@ -1,0 +1,103 @@
+//! Text that grows, and the forms of numbers and octets in it.
+
+ghost use Rattle.std.specs.Prelude.{◌≡◌, ◌++◌, [], ◌<◌, OnOk, decimal};
+ghost use Rattle.lab_text.specs.Text.{hex_digits, hex_digit};
+
+use net_types::{Octets, OutOfMemory};
+use std::alloc::Global;
+use std::marker::Model;
+
+/// Text that grows at its end.
+#[derive(Debug, Drop)]
+pub struct Text {
+    alloc: Global,
+    octets: Vec<u8>,
+}
+
+impl Model for Text {
+    ghost use Rattle.std.specs.Prelude.{List, ℕ};
+
+    ghost Value = { List ℕ };
+
+    ghost view = { λ t. t.octets.items };
+}
+
+fn hex_digit(value: u8) -> u8
+    requires { value < 16 }
+    ensures { result ≡ hex_digit value }
+{
+    if value < 10 {
+        b'0' + value
+    } else {
+        b'a' - 10 + value
+    }
+}
+
+fn push_hex(out: &mut Vec<u8>, octets: &[u8]) -> Result<(), OutOfMemory>
+    ensures { OnOk result (out.new.items ≡ out.old.items ++ hex_digits octets.now) }
+{
+    for octet in octets {
+        out.push(hex_digit(*octet / 16))?;
+        out.push(hex_digit(*octet % 16))?;
+    }
+    Ok(())
+}
+
+impl Text {
+    /// No text yet.
+    pub fn new(alloc: Global) -> Text
+        ensures { result ≡ [] }
+    {
+        Text {
+            alloc,
+            octets: Vec::new(alloc),
+        }
+    }
+
+    /// The octets so far.
+    pub fn as_slice(&self) -> &[u8]
+        ensures { result.now ≡ self.now }
+    {
+        self.octets.as_slice()
+    }
+
+    /// Gives the octets up without taking memory.
+    pub fn into_octets(self) -> Octets
+        ensures { result ≡ self }
+    {
+        let Text { alloc: _, octets } = self;
+        Octets::new(octets)
+    }
+
+    /// Appends `text`.
+    pub fn text(&mut self, text: &str) -> Result<(), OutOfMemory>
+        ensures { OnOk result (self.new ≡ self.old ++ text.now) }
+    {
+        self.octets.extend_from_slice(text.as_bytes())?;
+        Ok(())
+    }
+
+    /// Appends `octets` as they are.
+    pub fn octets(&mut self, octets: &[u8]) -> Result<(), OutOfMemory>
+        ensures { OnOk result (self.new ≡ self.old ++ octets.now) }
+    {
+        self.octets.extend_from_slice(octets)?;
+        Ok(())
+    }
+
+    /// Appends `number` in decimal.
+    pub fn number(&mut self, number: u64) -> Result<(), OutOfMemory>
+        ensures { OnOk result (self.new ≡ self.old ++ decimal number) }
+    {
+        let digits = format!(in self.alloc; "{number}")?;
+        self.octets.extend_from_slice(digits.as_bytes())?;
+        Ok(())
+    }
+
+    /// Appends `octets` in lower-case hexadecimal.
+    pub fn hex(&mut self, octets: &[u8]) -> Result<(), OutOfMemory>
+        ensures { OnOk result (self.new ≡ self.old ++ hex_digits octets.now) }
+    {
+        push_hex(&mut self.octets, octets)
+    }
+}

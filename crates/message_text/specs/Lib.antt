@@ -1,0 +1,4 @@
+pub mod Fields
+pub mod Ifmp
+pub mod Gsmp
+pub mod Listing

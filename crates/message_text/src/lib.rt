@@ -1,0 +1,14 @@
+//! IFMP and GSMP messages as text: the text of each message, the names of the refusals, and what the
+//! hexadecimal lines of an input are decoded to. The texts are functions of the message in `specs/`.
+#![tactic(auto)]
+
+mod fields;
+mod gsmp;
+mod ifmp;
+mod listing;
+mod protocol;
+
+pub use gsmp::write_gsmp;
+pub use ifmp::write_ifmp;
+pub use listing::{Listed, list_messages};
+pub use protocol::Protocol;

@@ -1,0 +1,10 @@
+//! Whose messages are decoded.
+
+/// A protocol whose messages have a text.
+#[derive(Clone, Copy, Debug, PartialEq, Eq)]
+pub enum Protocol {
+    /// The Ipsilon Flow Management Protocol (RFC 1953).
+    Ifmp,
+    /// The General Switch Management Protocol (RFC 1987).
+    Gsmp,
+}
