@@ -1,3 +1,4 @@
 pub mod Side
 pub mod Table
 pub mod Instances
+pub mod Greeting

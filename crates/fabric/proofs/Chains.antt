@@ -7,7 +7,7 @@ use Rattle.cell_pool.specs.Region.{Region, Line}
 use Rattle.cell_pool.specs.Steps.{IsDrained}
 use Rattle.cell_pool.specs.Shares.{IsApartFromEach, ShareRegion, LineChanges}
 use Rattle.cell_pool.proofs.Lines.{share_beside, apart_beside, map-cells_of-beside, share_drained, map-cells_of-drained}
-use Rattle.fabric.specs.Crossbar.{Branches, Crossbar}
+use Rattle.crossbar_model.specs.Crossbar.{Branches, Crossbar}
 use Rattle.fabric.specs.Fabric.{FabricView, QueuesStay, ChainChanges}
 
 -- a fabric by its parts

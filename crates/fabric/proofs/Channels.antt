@@ -9,8 +9,8 @@ use Rattle.std.specs.FinMap.Entries.{is_sorted}
 use Rattle.std.specs.FinMap.{IsAntisymmetric, nat_cmp-IsAntisymmetric}
 use Rattle.std.proofs.lemmas.Bool.Decides.{nat_tests}
 use Rattle.net_types.specs.declared.channel.End.{End}
-use Rattle.fabric.specs.declared.branch.Branch.{Branch}
-use Rattle.fabric.specs.Channels.{end_cmp, IsVci, IsSwitched}
+use Rattle.crossbar_model.specs.declared.branch.Branch.{Branch}
+use Rattle.crossbar_model.specs.Channels.{end_cmp, IsVci, IsSwitched}
 use Rattle.fabric.specs.Entries.{AreSwitched}
 use Rattle.fabric.proofs.Ordered.{sorted_at, is_sorted-rest}
 

@@ -1,18 +1,21 @@
 -- A map of branches by its list of entries.
 
-use Rattle.std.proofs.Common.{◌≡◌, ℕ, zero, suc, ◌<◌, Bool, true, false, cond, not, List, [], ◌∷◌, length, map, get_or, set, Option, Some, None, T, refl, sym, ap, subst, ◌∙◌, arith}
+use Rattle.std.proofs.Common.{◌≡◌, ℕ, zero, suc, ◌<◌, Bool, true, false, cond, not, List, [], ◌∷◌, length, map, get_or, set, Option, Some, None, T, inl, inr, ◌⊎◌, ◌≤◌, refl, sym, ap, subst, ◌∙◌, arith}
 use Rattle.std.specs.Ordering.{eq_by_cmp, is_eq}
 use Rattle.std.specs.Cmp.{alike_right, eq_by_cmp_equiv}
 use Rattle.std.specs.FinMap.Entries.{find, put, where_key, is_sorted, find-where_key, is_sorted-put, is_sorted-where_key}
 use Rattle.std.specs.FinMap as finite
 use Rattle.std.specs.List.{insert, remove}
 use Rattle.net_types.specs.declared.channel.End.{End}
-use Rattle.fabric.specs.declared.branch.Branch.{Branch}
-use Rattle.fabric.specs.Channels.{end_cmp, IsSwitched}
+use Rattle.crossbar_model.specs.declared.branch.Branch.{Branch}
+use Rattle.crossbar_model.specs.Channels.{end_cmp, IsSwitched}
 use Rattle.fabric.specs.Entries.{AreSwitched, IsAt, IsGapFor}
 use Rattle.fabric.proofs.Channels.{end_cmp_total, end_cmp-IsAntisymmetric, length-le}
 use Rattle.fabric.proofs.Ordered.{find_at, find_gap, put_at, put_gap, where_at, where_gap}
 use Rattle.std.proofs.lemmas.List.Edits.{length-insert}
+use Rattle.std.proofs.lemmas.Bool.Decides.{nat_tests}
+use Rattle.std.specs.List.{list_all}
+use Rattle.std.specs.Prelude.{nat_le}
 
 -- the map of a list of entries in order
 abbrev pub map_of : List (End × Branch) → finite.FinMap end_cmp Branch
@@ -124,3 +127,15 @@ remove_absent es k i sorted gap = remove-map_of es es k sorted sorted (where_gap
 
 pub map_of-nil : map_of [] ≡ finite.empty
 map_of-nil = finite.empty_of_len (map_of []) (finite.len-entries (map_of []) ∙ ap length (finite.entries-from_sorted end_cmp [] tt))
+
+port_below : (e p : ℕ) (rest other : Type 0) → p ≤ 8 → ((e ≡ p) × rest) ⊎ ((e ≡ 0) × other) → nat_le e 8 ≡ true
+port_below e p rest other link (inl path) = let same = path.0 in grind (arith, nat_tests, same, link)
+port_below e p rest other link (inr path) = let same = path.0 in grind (arith, nat_tests, same)
+
+port_within : (e : End) → IsSwitched e → nat_le e.port.0 8 ≡ true
+port_within e is = port_below e.port.0 is.1.0.0 _ _ is.1.1.0.1 is.1.1.1
+
+-- a switch has no port above 8
+pub ports_within : (es : List (End × Branch)) → AreSwitched es → list_all (λ input. nat_le input.port.0 8) (map (λ e. e.0) es) ≡ true
+ports_within [] all = refl
+ports_within (e ∷ es) all = rw (port_within e.0 all.0) (ports_within es all.1.1)

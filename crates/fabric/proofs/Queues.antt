@@ -12,7 +12,7 @@ use Rattle.cell_pool.specs.Region.{Region, Line, cell_at, cells_of, IsLine}
 use Rattle.cell_pool.specs.Steps.{IsTaken, IsPut, IsPushed, IsPopped}
 use Rattle.cell_pool.specs.Shares.{ShareRegion, LineChanges, LinesChange}
 use Rattle.cell_pool.proofs.Lines.{line_sent, cells_of-sent, line_popped, cells_of-popped, line_set, map-cells_of-set}
-use Rattle.fabric.specs.Crossbar.{Crossbar, sent, queue_of}
+use Rattle.crossbar_model.specs.Crossbar.{Crossbar, sent, queue_of}
 
 -- the lines and their cells, of which the line at place k took the cells cs for its own
 pub record IsQueuesStep (old new : Region) (ls : List Line) (k : ℕ) (r : Line) (cs : List Cell) : Type 0 where

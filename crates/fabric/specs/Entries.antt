@@ -4,8 +4,8 @@ use Rattle.std.specs.Prelude.{◌≡◌, ℕ, ◌<◌, ◌≤◌, List, [], ◌�
 use Rattle.std.specs.declared.cmp.Ordering.{Ordering}
 use Rattle.std.specs.declared.cmp.Ordering.TheVariants.{Less, Equal, Greater}
 use Rattle.net_types.specs.declared.channel.End.{End}
-use Rattle.fabric.specs.declared.branch.Branch.{Branch}
-use Rattle.fabric.specs.Channels.{IsSwitched}
+use Rattle.crossbar_model.specs.declared.branch.Branch.{Branch}
+use Rattle.crossbar_model.specs.Channels.{IsSwitched}
 
 -- inputs and outputs are channels that a switch connects
 abbrev pub AreSwitched : List (End × Branch) → Type 0

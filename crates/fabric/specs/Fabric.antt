@@ -4,7 +4,7 @@ use Rattle.std.specs.Prelude.{◌≡◌, ℕ, List, length, map}
 use Rattle.net_types.specs.declared.node.PortNo.{PortNo}
 use Rattle.cell_pool.specs.Region.{Region, Line, cells_of}
 use Rattle.cell_pool.specs.Shares.{ShareRegion, IsApartFromEach, LineChanges, LinesChange}
-use Rattle.fabric.specs.Crossbar.{Branches, Crossbar}
+use Rattle.crossbar_model.specs.Crossbar.{Branches, Crossbar}
 
 -- the ports besides port 0, the branches, the region, and the queue of each port in that region, by
 -- the port's number from 0 to 8

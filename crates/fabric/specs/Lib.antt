@@ -1,4 +1,2 @@
-pub mod Channels
-pub mod Crossbar
 pub mod Entries
 pub mod Fabric

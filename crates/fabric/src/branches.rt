@@ -1,12 +1,13 @@
 //! The branches of a switch, by their inputs.
 
-ghost use Rattle.std.specs.Prelude.{◌≡◌, T, nat_eq, find, map as map_list, IfSome, IfOk, IfErr};
+ghost use Rattle.std.specs.Prelude.{◌≡◌, T, true, nat_eq, nat_le, find, map as map_list, IfSome, IfOk, IfErr};
 ghost use Rattle.std.specs.FinMap as map;
-ghost use Rattle.fabric.specs.Channels.{end_cmp, IsSwitched};
-ghost use Rattle.fabric.specs.Crossbar.{first_on};
+ghost use Rattle.std.specs.List.{list_all};
+ghost use Rattle.crossbar_model.specs.Channels.{end_cmp, IsSwitched};
+ghost use Rattle.crossbar_model.specs.Crossbar.{first_on};
 ghost use Rattle.fabric.specs.Entries.{IsAt, IsGapFor};
 
-use crate::branch::Branch;
+use crossbar_model::Branch;
 use net_types::{End, OutOfMemory, PortNo};
 use std::alloc::Global;
 use std::cmp::Ordering;
@@ -58,11 +59,11 @@ impl Model for Branches {
     ghost use Rattle.std.specs.Prelude.{◌≤◌, T};
     ghost use Rattle.std.specs.FinMap as map;
     ghost use Rattle.std.specs.Vec.{vec_capacity};
-    ghost use Rattle.fabric.specs.Channels.{end_cmp};
-    ghost use Rattle.fabric.specs.declared.branch.Branch.{Branch};
+    ghost use Rattle.crossbar_model.specs.Channels.{end_cmp};
+    ghost use Rattle.crossbar_model.specs.declared.branch.Branch.{Branch};
     ghost use Rattle.fabric.specs.Entries.{AreSwitched};
     ghost use Rattle.net_types.specs.contracts.channel.End as end_contract;
-    ghost use Rattle.fabric.specs.contracts.branch.Branch as branch_contract;
+    ghost use Rattle.crossbar_model.specs.contracts.branch.Branch as branch_contract;
 
     ghost Value = { map.FinMap end_cmp Branch };
 
@@ -125,7 +126,8 @@ impl Branches {
 
     /// The least input of the port that has a branch.
     pub(crate) fn first_on(&self, port: PortNo) -> Option<End>
-        ensures { result ≡ first_on self.now port }
+        ensures first { result ≡ first_on self.now port }
+        ensures ports { list_all (λ input. nat_le input.port.0 8) (map.keys self.now) ≡ true }
     {
         first_input(&self.entries, port)
     }

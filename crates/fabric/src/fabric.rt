@@ -1,19 +1,19 @@
 //! The fabric: branches, queues and the region.
 
-ghost use Rattle.std.specs.Prelude.{◌≡◌, [], ◌∷◌, ◌++◌, ◌<◌, ◌≤◌, ◌+◌, ◌↔◌, length, replicate, slice_get, IsTrue, IsSome, IsNone, IfSome, IfNone, IfOk};
+ghost use Rattle.std.specs.Prelude.{◌≡◌, [], ◌∷◌, ◌++◌, ◌<◌, ◌≤◌, ◌+◌, ◌↔◌, length, replicate, slice_get, IsTrue, IsSome, IsNone, IfSome, IfNone, IfOk, true, nat_le};
 ghost use Rattle.std.specs.Bool.{OnTrue, OnFalse};
 ghost use Rattle.std.specs.FinMap as map;
+ghost use Rattle.std.specs.List.{list_all};
 ghost use Rattle.cell_pool.specs.Region.{size as slots, cells_of, len_of, IsLine};
 ghost use Rattle.cell_pool.specs.Steps.{IsDrained};
 ghost use Rattle.cell_pool.specs.Shares.{IsApartFromEach, ShareRegion};
-ghost use Rattle.fabric.specs.Channels.{ArePorts, IsConnectable};
-ghost use Rattle.fabric.specs.Crossbar.{new_branch, moved, cut_by_move, output_of, unfinished_on, first_on, sent, popped, queue_of, routed, switched};
+ghost use Rattle.crossbar_model.specs.Channels.{ArePorts, IsConnectable};
+ghost use Rattle.crossbar_model.specs.Crossbar.{new_branch, moved, cut_by_move, output_of, unfinished_on, first_on, sent, popped, queue_of, routed, switched};
 
-use crate::branch::Branch;
 use crate::branches::Branches;
-use crate::routed::Routed;
 use atm_cells::{Cell, Header};
 use cell_pool::{Chain, Pool, Queue};
+use crossbar_model::{Branch, Routed};
 use net_types::{End, Mark, OutOfMemory, PortNo};
 use std::alloc::Global;
 use std::marker::Model;
@@ -37,11 +37,11 @@ pub struct Fabric {
 impl Model for Fabric {
     ghost use Rattle.std.specs.Prelude.{◌≡◌, length, All};
     ghost use Rattle.cell_pool.specs.Shares.{ShareRegion};
-    ghost use Rattle.fabric.specs.Channels.{IsLinkPort, end_cmp};
+    ghost use Rattle.crossbar_model.specs.Channels.{IsLinkPort, end_cmp};
     ghost use Rattle.std.specs.FinMap as map;
     ghost use Rattle.std.specs.Coded.{codes};
     ghost use Rattle.net_types.specs.contracts.channel.End as end_contract;
-    ghost use Rattle.fabric.specs.contracts.branch.Branch as branch_contract;
+    ghost use Rattle.crossbar_model.specs.contracts.branch.Branch as branch_contract;
     ghost use Rattle.fabric.specs.Fabric.{FabricView};
 
     ghost Value = { FabricView };
@@ -134,7 +134,10 @@ impl Fabric {
 
     /// The least input of the port that has a branch. None exactly where none has.
     pub fn first_of(&self, port: PortNo) -> Option<End>
-        ensures { result ≡ first_on self.now.branches port }
+        ensures first { result ≡ first_on self.now.branches port }
+
+        // What a caller that doesn't open the fabric needs besides.
+        ensures ports { list_all (λ input. nat_le input.port.0 8) (map.keys self.now.branches) ≡ true }
     {
         self.branches.first_on(port)
     }

@@ -5,13 +5,10 @@
 //! list of cells for each port, over the region (`specs/Fabric.antt`).
 #![tactic(auto)]
 
-mod branch;
 mod branches;
 mod fabric;
-mod routed;
 #[cfg(test)]
 mod tests;
 
-pub use branch::Branch;
+pub use crossbar_model::{Branch, Routed};
 pub use fabric::Fabric;
-pub use routed::Routed;

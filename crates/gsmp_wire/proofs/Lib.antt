@@ -1,3 +1,4 @@
+pub mod Decoding
 pub mod Inverse
 pub mod Places
 pub mod Reading

@@ -1,18 +1,20 @@
 -- The fields of octets that are a message, by their places, and what a write at a place leaves. The
 -- steps of `decode` and `encode` speak of them; what the two calls do is said by Layout alone.
 
-use Rattle.std.specs.Prelude.{ℕ, ◌+◌, ◌==◌, List, [], ◌∷◌, ◌++◌, length, take, drop, zero, suc, slice_index, if◌then◌else◌}
+use Rattle.std.specs.Prelude.{ℕ, ◌+◌, ◌==◌, List, [], ◌∷◌, ◌++◌, length, take, drop, zero, suc, slice_index, Option, Some, None, Result, Ok, Err, if◌then◌else◌}
 use Rattle.net_types.specs.declared.adjacency.Party.{Party}
 use Rattle.net_types.specs.declared.adjacency.HelloKind.{HelloKind}
 use Rattle.net_types.specs.declared.adjacency.HelloKind.TheVariants.{Syn, Synack, Rstack, Ack}
 use Rattle.net_types.specs.declared.channel.Channel.{Channel}
+use Rattle.gsmp_wire.specs.declared.fault.Fault.{Fault}
+use Rattle.gsmp_wire.specs.declared.fault.Fault.TheVariants as faults
 use Rattle.gsmp_wire.specs.declared.message.Connection.{Connection}
 use Rattle.gsmp_wire.specs.declared.message.MessageType.{MessageType}
 use Rattle.gsmp_wire.specs.declared.message.MessageType.TheVariants as kinds
 use Rattle.gsmp_wire.specs.declared.message.Message.{Message}
 use Rattle.gsmp_wire.specs.declared.message.Message.TheVariants.{Adjacency, Branch, Move, Port, AllPorts}
 use Rattle.gsmp_wire.specs.declared.rows.PortRow.{PortRow}
-use Rattle.gsmp_wire.specs.Refusal.{number16, number32}
+use Rattle.gsmp_wire.specs.Refusal.{number16, number32, refusal, type_of}
 
 abbrev pub channel_in : (place : ℕ) → List ℕ → Channel
 channel_in place m = record { vpi = number16 place m; vci = number16 (place + 2) m }
@@ -72,6 +74,16 @@ message_in kinds.Port m =
     (slice_index m 16)
 message_in kinds.AllPorts m =
     AllPorts (slice_index m 2) (slice_index m 3) (number32 4 m) (rows_in (number16 8 m) (drop 12 m))
+
+-- what octets are: the message of their fields, or why they are none; a message type that there isn't
+-- is a refusal already
+abbrev pub decoded_by : Option Fault → Option MessageType → List ℕ → Result Message Fault
+decoded_by (Some fault) kind m = Err fault
+decoded_by None (Some kind) m = Ok (message_in kind m)
+decoded_by None None m = Err faults.MessageType
+
+unfoldable pub decoded : List ℕ → Result Message Fault
+decoded octets = decoded_by (refusal octets) (type_of (slice_index octets 9)) (drop 8 octets)
 
 -- after these octets are written at a place
 abbrev pub written : (place : ℕ) → (octets old : List ℕ) → List ℕ

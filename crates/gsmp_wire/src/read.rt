@@ -4,7 +4,7 @@ ghost use Rattle.std.specs.Prelude.{◌≡◌, ◌↔◌, ◌+◌, ◌*◌, ◌�
 ghost use Rattle.gsmp_wire.specs.Layout.{octets_of};
 ghost use Rattle.gsmp_wire.specs.Range.{IsInRange};
 ghost use Rattle.gsmp_wire.specs.Refusal.{has_fields, has_size, number16, refusal};
-ghost use Rattle.gsmp_wire.specs.Fields.{channel_in, connection_in, message_in, party_in, row_in, rows_in};
+ghost use Rattle.gsmp_wire.specs.Fields.{channel_in, connection_in, decoded, message_in, party_in, row_in, rows_in};
 
 use crate::check::check;
 use crate::fault::Fault;
@@ -18,6 +18,7 @@ pub fn decode(octets: &[u8]) -> Result<Message, Fault>
     ensures exact { (message : Message) →
         (result ≡ Ok message) ↔ (IsInRange message × (octets.now ≡ octets_of message)) }
     ensures refused { (fault : Fault) → (result ≡ Err fault) ↔ (refusal octets.now ≡ Some fault) }
+    ensures decoded { result ≡ decoded octets.now }
 {
     let kind = check(octets)?;
     Ok(read_message(kind, &octets[8..]))

@@ -1,7 +1,7 @@
 use Rattle.std.proofs.Common.{◌≡◌, rules}
 use Rattle.std.proofs.lemmas.Fn.{always_returns_same}
 use Rattle.fabric.specs.Entries.{IsAt, IsGapFor}
-use Rattle.fabric.specs.Channels.{end_cmp}
+use Rattle.crossbar_model.specs.Channels.{end_cmp}
 use Rattle.fabric.proofs.Channels.{end_cmp_total}
 use Rattle.fabric.proofs.Ordered.{searched, answers_of}
 use Rattle.fabric.proofs.branches.place_of.Goals as goal

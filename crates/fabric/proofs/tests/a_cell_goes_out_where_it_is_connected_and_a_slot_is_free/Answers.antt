@@ -1,8 +1,8 @@
 use Rattle.std.proofs.Common.{◌≡◌, [], ◌∷◌, refl, ap, inl, inr, arith}
 use Rattle.std.specs.FinMap.{get-empty}
 use Rattle.net_types.specs.declared.node.PortNo.{PortNo}
-use Rattle.fabric.specs.Channels.{end_cmp}
-use Rattle.fabric.specs.Crossbar.{Crossbar}
+use Rattle.crossbar_model.specs.Channels.{end_cmp}
+use Rattle.crossbar_model.specs.Crossbar.{Crossbar}
 use Rattle.fabric.proofs.tests.a_cell_goes_out_where_it_is_connected_and_a_slot_is_free.Goals as goal
 
 pub connect-requires-clause-absent : goal.connect-requires-clause-absent

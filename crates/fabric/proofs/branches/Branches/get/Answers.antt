@@ -1,5 +1,5 @@
 use Rattle.fabric.specs.Entries.{IsAt, IsGapFor}
-use Rattle.fabric.specs.Channels.{end_cmp}
+use Rattle.crossbar_model.specs.Channels.{end_cmp}
 use Rattle.fabric.proofs.Maps.{get_found, get_absent, switched_found}
 use Rattle.fabric.proofs.branches.Branches.get.Goals as goal
 

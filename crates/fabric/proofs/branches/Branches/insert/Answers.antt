@@ -1,7 +1,7 @@
 use Rattle.std.proofs.Common.{◌≤◌, arith}
 use Rattle.std.specs.Vec.{vec_capacity, vec_len}
 use Rattle.fabric.specs.Entries.{IsAt, IsGapFor}
-use Rattle.fabric.specs.Channels.{end_cmp}
+use Rattle.crossbar_model.specs.Channels.{end_cmp}
 use Rattle.fabric.proofs.Maps.{entries_written, entries_inserted, length-lt}
 use Rattle.fabric.proofs.branches.Branches.insert.Goals as goal
 

@@ -1,6 +1,6 @@
 use Rattle.std.proofs.Common.{arith}
 use Rattle.fabric.specs.Entries.{IsAt, IsGapFor}
-use Rattle.fabric.specs.Channels.{end_cmp}
+use Rattle.crossbar_model.specs.Channels.{end_cmp}
 use Rattle.fabric.proofs.Maps.{entries_removed, remove_absent}
 use Rattle.fabric.proofs.branches.Branches.remove.Goals as goal
 

@@ -2,7 +2,7 @@ use Rattle.std.proofs.Common.{◌<◌, List, refl, ap, arith, length, length-set
 use Rattle.atm_cells.specs.declared.cell.Cell.{Cell}
 use Rattle.cell_pool.specs.Region.{IsLine}
 use Rattle.cell_pool.specs.Steps.{IsPut}
-use Rattle.fabric.specs.Crossbar.{Crossbar}
+use Rattle.crossbar_model.specs.Crossbar.{Crossbar}
 use Rattle.fabric.proofs.Queues.{pop_step}
 use Rattle.fabric.proofs.fabric.Fabric.pop.Goals as goal
 

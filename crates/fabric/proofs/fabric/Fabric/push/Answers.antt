@@ -1,6 +1,6 @@
 use Rattle.std.proofs.Common.{◌<◌, List, refl, ap, arith, length, length-set, ◌∙◌}
 use Rattle.atm_cells.specs.declared.cell.Cell.{Cell}
-use Rattle.fabric.specs.Crossbar.{Crossbar}
+use Rattle.crossbar_model.specs.Crossbar.{Crossbar}
 use Rattle.fabric.proofs.Queues.{push_step}
 use Rattle.fabric.proofs.fabric.Fabric.push.Goals as goal
 

@@ -1,5 +1,5 @@
 use Rattle.std.proofs.Common.{◌≡◌, ◌+◌, ◌≤◌, length, take}
-use Rattle.fabric.specs.Crossbar.{sent}
+use Rattle.crossbar_model.specs.Crossbar.{sent}
 use Rattle.fabric.specs.Fabric.{crossbar, free_slots, QueuesChange}
 use Rattle.fabric.proofs.fabric.Fabric.send.Given as goal
 

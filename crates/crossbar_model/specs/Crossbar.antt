@@ -1,4 +1,4 @@
--- The fabric as plain data, and what each call does to it: a finite map of branches and a list of
+-- A crossbar as plain data, and what each step does to it: a finite map of branches and a list of
 -- cells for each port.
 
 use Rattle.std.specs.Prelude.{ℕ, zero, suc, Bool, ◌&&◌, Option, None, Some, if◌then◌else◌, nat_eq, List, [], ◌∷◌, ◌++◌, find, drop, slice_set, slice_index_or, option_and_then}
@@ -8,10 +8,10 @@ use Rattle.net_types.specs.declared.node.PortNo.{PortNo}
 use Rattle.net_types.specs.declared.channel.End.{End}
 use Rattle.net_types.specs.declared.number.Mark.{Mark}
 use Rattle.atm_cells.specs.declared.cell.Cell.{Cell}
-use Rattle.fabric.specs.declared.branch.Branch.{Branch}
-use Rattle.fabric.specs.declared.routed.Routed.{Routed}
-use Rattle.fabric.specs.declared.routed.Routed.TheVariants.{Out, Unconnected, PoolFull}
-use Rattle.fabric.specs.Channels.{end_cmp}
+use Rattle.crossbar_model.specs.declared.branch.Branch.{Branch}
+use Rattle.crossbar_model.specs.declared.routed.Routed.{Routed}
+use Rattle.crossbar_model.specs.declared.routed.Routed.TheVariants.{Out, Unconnected, PoolFull}
+use Rattle.crossbar_model.specs.Channels.{end_cmp}
 
 -- each input that has a branch, with that branch (RFC 1987)
 abbrev pub Branches : Type 0

@@ -14,10 +14,10 @@ pub struct Branch {
 
 impl Branch {
     ghost use Rattle.std.specs.Prelude.{◌≡◌};
-    ghost use Rattle.fabric.specs.Crossbar.{new_branch, unfinished_after};
+    ghost use Rattle.crossbar_model.specs.Crossbar.{new_branch, unfinished_after};
 
     /// A branch to which no cell went yet.
-    pub(crate) fn new(output: End) -> Branch
+    pub fn new(output: End) -> Branch
         ensures { result ≡ new_branch output }
     {
         Branch {
@@ -27,7 +27,7 @@ impl Branch {
     }
 
     /// The branch after this cell went to it.
-    pub(crate) fn after(self, cell: &Cell) -> Branch
+    pub fn after(self, cell: &Cell) -> Branch
         ensures { result ≡ record self { unfinished = unfinished_after cell.now } }
     {
         let unfinished = if cell.header.last {

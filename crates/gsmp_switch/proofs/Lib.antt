@@ -1,0 +1,7 @@
+pub mod Cuts
+pub mod Exchanges
+pub mod Handling
+pub mod Inputs
+pub mod Ranges
+pub mod Restarts
+pub mod PortStates

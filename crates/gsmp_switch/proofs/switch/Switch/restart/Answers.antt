@@ -1,0 +1,16 @@
+use Rattle.std.proofs.Common.{◌≡◌, ◌∙◌, ℕ, ap, refl}
+use Rattle.node_model.specs.Switch.{next_instance}
+use Rattle.gsmp_switch.specs.Exchange.{Store}
+use Rattle.gsmp_switch.proofs.PortStates.{states_begun}
+use Rattle.gsmp_switch.proofs.switch.Switch.restart.Goals as goal
+
+pub invariant_of-self-2 : goal.invariant_of-self-2
+invariant_of-self-2 c =
+    let linked = ap (λ (x : Store). x.ports) c.take_chain-held.ensures.left ∙ c.clear_all.ensures.linked in
+    rw (c.begin.ensures, linked) (states_begun c.self.inside.ports.items c.self.inside.exchange.ports c.instance-own.result c.self.invariant)
+
+pub returns-clause-acted : goal.returns-clause-acted
+returns-clause-acted c =
+    let own : c.instance-own.result ≡ next_instance c.args.numbers.now = ap (λ (n : ℕ). record { 0 = n }) c.instance-own.ensures.next in
+    let entries = c.in_ok-note_cut_chain.ensures c.self.inside.is_skipping in
+    rw (← c.self.view_is, entries, c.begin.ensures, c.reset.ensures, c.instance-own.ensures.given, c.take_chain-held.ensures.taken, c.take_chain-held.ensures.left, c.in_ok-clear_all.ensures.exchange, c.in_ok-clear_all.ensures.notes, own) refl

@@ -1,0 +1,25 @@
+-- The ports of a switch and those of its exchange
+
+use Rattle.std.specs.Prelude.{◌≡◌, ◌+◌, ◌<◌, ◌^◌, List, ◌∷◌, map, IfSome}
+use Rattle.net_types.specs.declared.node.PortNo.{PortNo}
+use Rattle.link_model.specs.Notes.{Journal}
+use Rattle.net_types.specs.Number.{GivenOut}
+use Rattle.crossbar_model.specs.Channels.{ArePorts}
+use Rattle.node_model.specs.declared.port.PortState.{PortState}
+use Rattle.node_model.specs.declared.request.Request.{Request}
+use Rattle.node_model.specs.declared.request.Request.TheVariants.{PortManagement}
+use Rattle.node_model.specs.Switch.{Acted, Switch, control_port, port_of}
+
+-- the control port, and then these ports of links
+pub record AreStatesOf (states : List PortState) (linked : List PortNo) : Type 0 where
+  pub numbers : map (λ state. state.number) states ≡ control_port ∷ linked
+  pub are_ports : ArePorts linked
+
+-- a switch in a run
+abbrev pub acted : Switch → Journal → GivenOut → Acted
+acted s notes numbers = record { switch = s; notes = notes; numbers = numbers }
+
+-- the session of the port that a request manages isn't the last
+abbrev pub CanRaise : List PortState → Request → Type 0
+CanRaise states (PortManagement port function) = IfSome (port_of states port) (λ state. state.session + 1 < 2 ^ 32)
+CanRaise states request = Unit {0}

@@ -1,0 +1,497 @@
+//! The switch.
+
+ghost use Rattle.std.specs.Prelude.{◌≡◌, ◌∷◌, ◌⊎◌, ◌≤◌, ◌<◌, ◌+◌, ◌^◌, true, length, slice_get, All, IfOk, OnOk};
+ghost use Rattle.net_types.specs.Number.{GivenOut};
+ghost use Rattle.crossbar_model.specs.Channels.{ArePorts};
+ghost use Rattle.crossbar_model.specs.Crossbar.{output_of, popped, queue_of};
+ghost use Rattle.fabric.specs.Fabric.{crossbar};
+ghost use Rattle.gsmp_wire.specs.Range.{Bits, IsInRange};
+ghost use Rattle.node_model.specs.Switch.{AreDrawn, HasNumbersLeft, next_instance, opened, switch_party, with_instance};
+ghost use Rattle.node_model.specs.Requests.{is_request};
+ghost use Rattle.node_model.specs.Answers.{handled};
+ghost use Rattle.node_model.specs.Conduct.{answers, cell_comes, ends_frame, greeted, gsmp_cell, one_more, opened_frame, read, requested, reset, restarted, says, switched_cell, tick_comes, told};
+ghost use Rattle.adjacency_table.specs.Side.{fresh, is_estab};
+ghost use Rattle.gsmp_switch.specs.State.{acted};
+
+use crate::answer::{failure_answer, success_answer};
+use crate::change::{change, clear_all};
+use crate::cut::note_cut_chain;
+use crate::exchange::Exchange;
+use crate::ports::{begin, change_ports, opened_ports};
+use crate::refusal::name_of;
+use crate::request::{asked_in, failure_of, is_request};
+use aal5_frames::segment;
+use atm_cells::{Cell, Header};
+use fabric::{Fabric, Routed};
+use frame_model::{note_broken, test_frame};
+use gsmp_adjacency::{Adjacency, Answer, State};
+use gsmp_wire::{Message, decode, encode};
+use link_model::{Cause, Layer, Notes, Record};
+use net_types::{Channel, End, Greeting, Mark, NodeId, Numbers, OutOfMemory, Party, PortNo};
+use node_model::{Failure, PortState};
+use std::alloc::Global;
+use std::marker::Model;
+
+/// The control port.
+const CONTROL_PORT: PortNo = PortNo(0);
+
+/// The channel of GSMP on the control port.
+const GSMP_CHANNEL: Channel = Channel { vpi: 0, vci: 15 };
+
+/// The most cells of a frame.
+const MOST_CELLS: usize = 32;
+
+/// The greatest frame, in octets: that of 32 cells.
+const MAX_FRAME: usize = 1536;
+
+/// The greatest message, in octets: an All Ports answer with nine records.
+const MAX_MESSAGE: usize = 164;
+
+/// How many cells such a message has.
+const MESSAGE_CELLS: usize = 4;
+
+/// A cell of zeros, which fills buffers.
+const BLANK: Cell = Cell {
+    header: Header {
+        channel: Channel { vpi: 0, vci: 0 },
+        last: false,
+    },
+    payload: [0; 48],
+    mark: Mark {
+        packet: 0,
+        frame: 0,
+    },
+};
+
+/// What its type says of a name, for the proof of [`Switch::say_greeting`]: each octet is one of 8
+/// bits. It does nothing.
+fn name_fits(name: &[u8])
+    ensures { All (Bits 8) name.now }
+{}
+
+/// The switch of a node. It must be given up by [`Switch::abandon`].
+#[must_use]
+#[derive(Debug)]
+pub struct Switch {
+    node: NodeId,
+    /// Port 0 and the linked ports, ascending.
+    ports: Vec<PortState>,
+    exchange: Exchange,
+    /// Whether the GSMP channel passes over the cells of a frame.
+    is_skipping: bool,
+    adjacency: Adjacency,
+    /// How many cells went from a port of a link to a port of a link.
+    switched: u64,
+}
+
+impl Model for Switch {
+    ghost use Rattle.std.specs.FinMap as map;
+    ghost use Rattle.std.specs.Coded.{codes};
+    ghost use Rattle.crossbar_model.specs.Channels.{end_cmp};
+    ghost use Rattle.net_types.specs.contracts.channel.End as end_contract;
+    ghost use Rattle.crossbar_model.specs.contracts.branch.Branch as branch_contract;
+    ghost use Rattle.node_model.specs.Switch as model;
+    ghost use Rattle.gsmp_switch.specs.State.{AreStatesOf};
+
+    ghost Value = { model.Switch };
+
+    ghost coded = { Prim.hlevel (codes, map.code {R = end_cmp} end_contract.the_row.coded branch_contract.the_row.coded) };
+
+    ghost view = { λ s. record {
+      node = s.node;
+      ports = s.ports.items;
+      crossbar = s.exchange.crossbar;
+      reassembly = record { chain = s.exchange.chain; is_skipping = s.is_skipping };
+      adjacency = s.adjacency;
+      switched = s.switched;
+      cells = s.exchange.cells;
+    } };
+
+    ghost invariant = { λ s. AreStatesOf s.ports.items s.exchange.ports };
+}
+
+impl Switch {
+    /// A new switch: no branch, no cell, and an adjacency that has heard nobody. The linked ports are
+    /// `ports`; `cells` is the number of its slots, 1 to 16,384.
+    pub fn open(
+        alloc: Global,
+        node: NodeId,
+        ports: &[PortNo],
+        cells: usize,
+        numbers: &mut Numbers,
+    ) -> Result<Switch, OutOfMemory>
+        requires ports { ArePorts ports.now }
+        requires cells { (1 ≤ cells) × (cells ≤ 16384) }
+        requires numbers { HasNumbersLeft numbers.old }
+        ensures switch { IfOk result (λ s. s ≡ opened node ports.now cells (next_instance numbers.old)) }
+        ensures numbers { numbers.new ≡ with_instance numbers.old }
+    {
+        let own = numbers.instance();
+        let states = opened_ports(alloc, ports, own)?;
+        let party = Party {
+            name: [2, 0, 0, 0, 1, node.0],
+            port: 0,
+            instance: own,
+        };
+        Ok(Switch {
+            node,
+            ports: states,
+            exchange: Exchange::open(alloc, ports, cells)?,
+            is_skipping: false,
+            adjacency: Adjacency::start(party),
+            switched: 0,
+        })
+    }
+
+    /// Sends a message to the controller: whole, or not at all with the entry PoolFull.
+    fn say(
+        &mut self,
+        message: &Message,
+        numbers: &mut Numbers,
+        notes: &mut Notes,
+    ) -> Result<(), OutOfMemory>
+        requires range { IsInRange message.now }
+        requires numbers { numbers.old.controls + 1 < 2 ^ 64 }
+        ensures acted { OnOk result (acted self.new notes.new numbers.new ≡ says (acted self.old notes.old numbers.old) message.now) }
+        ensures drawn { AreDrawn numbers.old numbers.new }
+    {
+        let mark = numbers.control();
+        let mut octets = [0; MAX_MESSAGE];
+        let len = encode(message, &mut octets);
+        let payload = &octets[..len];
+        notes.made(mark, payload)?;
+        let mut cells = [BLANK; MESSAGE_CELLS];
+        let count = segment(payload, GSMP_CHANNEL, mark, &mut cells);
+        if !self.exchange.send(CONTROL_PORT, &cells[..count]) {
+            notes.push(Record::Loss {
+                mark,
+                cause: Cause::PoolFull,
+            })?;
+        }
+        Ok(())
+    }
+
+    /// Sends an adjacency message.
+    fn say_greeting(
+        &mut self,
+        greeting: Greeting,
+        numbers: &mut Numbers,
+        notes: &mut Notes,
+    ) -> Result<(), OutOfMemory>
+        requires { numbers.old.controls + 1 < 2 ^ 64 }
+        ensures acted { OnOk result (acted self.new notes.new numbers.new ≡ says (acted self.old notes.old numbers.old) (Message.Adjacency greeting)) }
+        ensures drawn { AreDrawn numbers.old numbers.new }
+    {
+        name_fits(&greeting.sender.name);
+        name_fits(&greeting.receiver.name);
+        self.say(&Message::Adjacency(greeting), numbers, notes)
+    }
+
+    /// The adjacency begins anew with a new instance.
+    fn reset(&mut self, numbers: &mut Numbers)
+        requires { numbers.old.instances + 1 < 2 ^ 32 }
+        ensures switch { self.new ≡ record self.old { adjacency = fresh State.SynSent (record self.old.adjacency.own { instance = next_instance numbers.old }) } }
+        ensures numbers { numbers.new ≡ with_instance numbers.old }
+    {
+        self.adjacency.reset(numbers.instance());
+    }
+
+    /// Does what the adjacency answers.
+    fn follow(
+        &mut self,
+        answer: Answer,
+        numbers: &mut Numbers,
+        notes: &mut Notes,
+    ) -> Result<(), OutOfMemory>
+        requires { HasNumbersLeft numbers.old }
+        ensures acted { OnOk result (acted self.new notes.new numbers.new ≡ answers (acted self.old notes.old numbers.old) answer) }
+        ensures drawn { AreDrawn numbers.old numbers.new }
+    {
+        match answer {
+            Answer::Quiet => Ok(()),
+            Answer::Send(greeting) => self.say_greeting(greeting, numbers, notes),
+            Answer::Open { send, key } => {
+                key.spend();
+                match send {
+                    Some(greeting) => self.say_greeting(greeting, numbers, notes),
+                    None => Ok(()),
+                }
+            }
+            Answer::Reset => {
+                self.reset(numbers);
+                Ok(())
+            }
+        }
+    }
+
+    /// Hears an adjacency message.
+    fn greet(
+        &mut self,
+        greeting: &Greeting,
+        numbers: &mut Numbers,
+        notes: &mut Notes,
+    ) -> Result<(), OutOfMemory>
+        requires { HasNumbersLeft numbers.old }
+        ensures acted { OnOk result (acted self.new notes.new numbers.new ≡ greeted (acted self.old notes.old numbers.old) greeting.now) }
+        ensures drawn { AreDrawn numbers.old numbers.new }
+    {
+        let answer = self.adjacency.receive(greeting);
+        self.follow(answer, numbers, notes)
+    }
+
+    /// A tick goes by.
+    pub fn tick(&mut self, numbers: &mut Numbers, notes: &mut Notes) -> Result<(), OutOfMemory>
+        requires { HasNumbersLeft numbers.old }
+        ensures acted { OnOk result (acted self.new notes.new numbers.new ≡ tick_comes (acted self.old notes.old numbers.old)) }
+        ensures drawn { AreDrawn numbers.old numbers.new }
+    {
+        let answer = self.adjacency.tick();
+        self.follow(answer, numbers, notes)
+    }
+
+    /// Handles a request: does what it asks, or refuses it by the first failure that applies. The
+    /// answer isn't sent.
+    pub fn handle(&mut self, request: &Message, notes: &mut Notes) -> Result<Message, OutOfMemory>
+        requires request { is_request request.now ≡ true }
+        requires range { IsInRange request.now }
+        ensures switch { OnOk result (self.new ≡ (handled self.old notes.old request.now).switch) }
+        ensures notes { OnOk result (notes.new ≡ (handled self.old notes.old request.now).notes) }
+        ensures answer { IfOk result (λ m. m ≡ (handled self.old notes.old request.now).answer) }
+        ensures range { IfOk result IsInRange }
+    {
+        let ports = self.ports.as_slice();
+        let Some(asked) = asked_in(request) else {
+            return Ok(failure_answer(Failure::NoPort, request));
+        };
+        if let Some(failure) = failure_of(ports, &self.exchange, &asked) {
+            return Ok(failure_answer(failure, request));
+        }
+        change(&mut self.exchange, &asked.request, notes)?;
+        change_ports(&mut self.ports, &asked.request);
+        Ok(success_answer(&self.ports, &self.exchange, &asked.request, request))
+    }
+
+    /// Takes a request, or another message that isn't the adjacency's.
+    fn take_request(
+        &mut self,
+        message: &Message,
+        numbers: &mut Numbers,
+        notes: &mut Notes,
+    ) -> Result<(), OutOfMemory>
+        requires range { IsInRange message.now }
+        requires numbers { HasNumbersLeft numbers.old }
+        ensures acted { OnOk result (acted self.new notes.new numbers.new ≡ requested (acted self.old notes.old numbers.old) message.now) }
+        ensures drawn { AreDrawn numbers.old numbers.new }
+    {
+        if is_request(message) && self.is_estab() {
+            let answer = self.handle(message, notes)?;
+            self.say(&answer, numbers, notes)
+        } else {
+            Ok(())
+        }
+    }
+
+    /// Whether the controller and the switch know each other.
+    fn is_estab(&self) -> bool
+        ensures { result ≡ is_estab self.now.adjacency.state }
+    {
+        match self.adjacency.state() {
+            State::Clearing => false,
+            State::SynSent => false,
+            State::SynRcvd => false,
+            State::Estab => true,
+        }
+    }
+
+    /// Takes a message.
+    fn tell(
+        &mut self,
+        message: &Message,
+        numbers: &mut Numbers,
+        notes: &mut Notes,
+    ) -> Result<(), OutOfMemory>
+        requires range { IsInRange message.now }
+        requires numbers { HasNumbersLeft numbers.old }
+        ensures acted { OnOk result (acted self.new notes.new numbers.new ≡ told (acted self.old notes.old numbers.old) message.now) }
+        ensures drawn { AreDrawn numbers.old numbers.new }
+    {
+        match message {
+            Message::Adjacency(greeting) => self.greet(greeting, numbers, notes),
+            Message::Branch { .. } => self.take_request(message, numbers, notes),
+            Message::Move { .. } => self.take_request(message, numbers, notes),
+            Message::Port { .. } => self.take_request(message, numbers, notes),
+            Message::AllPorts { .. } => self.take_request(message, numbers, notes),
+        }
+    }
+
+    /// Tests the cells that a last one ended, and takes what their frame holds.
+    fn take_frame(
+        &mut self,
+        cells: &[Cell],
+        numbers: &mut Numbers,
+        notes: &mut Notes,
+    ) -> Result<(), OutOfMemory>
+        requires cells { (1 ≤ length cells.now) × (length cells.now ≤ 32) }
+        requires numbers { HasNumbersLeft numbers.old }
+        ensures acted { OnOk result (acted self.new notes.new numbers.new ≡ ends_frame (acted self.old notes.old numbers.old) cells.now) }
+        ensures drawn { AreDrawn numbers.old numbers.new }
+    {
+        let mut octets = [0; MAX_FRAME];
+        let Some(len) = test_frame(notes, cells, &mut octets)? else {
+            return Ok(());
+        };
+        match decode(&octets[..len]) {
+            Ok(message) => self.tell(&message, numbers, notes),
+            Err(fault) => notes.push(Record::Bad {
+                node: self.node,
+                layer: Layer::Gsmp,
+                name: name_of(fault),
+            }),
+        }
+    }
+
+    /// Takes a cell of the GSMP channel.
+    fn take_cell(
+        &mut self,
+        cell: &Cell,
+        numbers: &mut Numbers,
+        notes: &mut Notes,
+    ) -> Result<(), OutOfMemory>
+        requires { HasNumbersLeft numbers.old }
+        ensures acted { OnOk result (acted self.new notes.new numbers.new ≡ gsmp_cell (acted self.old notes.old numbers.old) cell.now) }
+        ensures drawn { AreDrawn numbers.old numbers.new }
+    {
+        let mut cells = [BLANK; MOST_CELLS + 1];
+        if self.is_skipping {
+            cells[0] = *cell;
+            note_broken(notes, &cells[..1])?;
+            self.is_skipping = !cell.header.last;
+        } else if self.exchange.free() == 0 {
+            notes.push(Record::Loss {
+                mark: cell.mark,
+                cause: Cause::PoolFull,
+            })?;
+            let count = self.exchange.take_chain(&mut cells);
+            note_broken(notes, &cells[..count])?;
+            self.is_skipping = !cell.header.last;
+        } else if self.exchange.chain_len() == MOST_CELLS {
+            let count = self.exchange.take_chain(&mut cells);
+            cells[count] = *cell;
+            note_broken(notes, &cells[..count + 1])?;
+            self.is_skipping = !cell.header.last;
+        } else {
+            self.exchange.chain_push(cell);
+            if cell.header.last {
+                let count = self.exchange.take_chain(&mut cells);
+                self.take_frame(&cells[..count], numbers, notes)?;
+            }
+        }
+        Ok(())
+    }
+
+    /// Takes a cell of another channel: to where its branch leads.
+    fn switch_cell(
+        &mut self,
+        port: PortNo,
+        cell: &Cell,
+        notes: &mut Notes,
+    ) -> Result<(), OutOfMemory>
+        ensures { (numbers : GivenOut) → OnOk result (acted self.new notes.new numbers ≡ switched_cell (acted self.old notes.old numbers) port cell.now) }
+    {
+        let cause = match self.exchange.switch_cell(port, cell) {
+            Routed::Out(output) => {
+                if port != CONTROL_PORT && output.port != CONTROL_PORT {
+                    self.switched = self.switched.saturating_add(1);
+                }
+                return Ok(());
+            }
+            Routed::Unconnected => Cause::Unconnected,
+            Routed::PoolFull => Cause::PoolFull,
+        };
+        notes.push(Record::Loss {
+            mark: cell.mark,
+            cause,
+        })
+    }
+
+    /// Takes a cell that comes on a port.
+    pub fn receive(
+        &mut self,
+        port: PortNo,
+        cell: &Cell,
+        numbers: &mut Numbers,
+        notes: &mut Notes,
+    ) -> Result<(), OutOfMemory>
+        requires { HasNumbersLeft numbers.old }
+        ensures acted { OnOk result (acted self.new notes.new numbers.new ≡ cell_comes (acted self.old notes.old numbers.old) port cell.now) }
+        ensures drawn { AreDrawn numbers.old numbers.new }
+    {
+        if port == CONTROL_PORT && cell.header.channel == GSMP_CHANNEL {
+            self.take_cell(cell, numbers, notes)
+        } else {
+            self.switch_cell(port, cell, notes)
+        }
+    }
+
+    /// Starts anew: without branches, and with nothing taken of a frame. The cells that wait at the
+    /// ports stay.
+    pub fn restart(&mut self, numbers: &mut Numbers, notes: &mut Notes) -> Result<(), OutOfMemory>
+        requires { HasNumbersLeft numbers.old }
+        ensures acted { OnOk result (acted self.new notes.new numbers.new ≡ restarted (acted self.old notes.old numbers.old)) }
+        ensures drawn { AreDrawn numbers.old numbers.new }
+    {
+        let own = numbers.instance();
+        clear_all(&mut self.exchange, notes)?;
+        let mut cells = [BLANK; MOST_CELLS];
+        let held = self.exchange.take_chain(&mut cells);
+        note_cut_chain(notes, &cells[..held])?;
+        self.is_skipping = false;
+        self.adjacency.reset(own);
+        begin(&mut self.ports, own);
+        Ok(())
+    }
+
+    /// Takes the first cell that waits at a port, 0 to 8. None exactly where none waits there.
+    pub fn pop(&mut self, port: PortNo) -> Option<Cell>
+        requires { port.0 ≤ 8 }
+        ensures first { result ≡ slice_get (queue_of self.old.crossbar port) 0 }
+        ensures popped { self.new ≡ record self.old { crossbar = popped self.old.crossbar port } }
+    {
+        self.exchange.pop(port)
+    }
+
+    /// Where the cells of an input go. None exactly where it has no branch.
+    pub fn branch(&self, input: End) -> Option<End>
+        ensures { result ≡ output_of self.now.crossbar.branches input }
+    {
+        self.exchange.branch(input)
+    }
+
+    /// How many cells went from a port of a link to a port of a link since the opening; once at its
+    /// type's end it stays there.
+    pub fn switched(&self) -> u64
+        ensures { result ≡ self.now.switched }
+    {
+        self.switched
+    }
+
+    /// The fabric that the switch holds.
+    pub fn fabric(&self) -> &Fabric
+        ensures { crossbar result.now ≡ self.now.crossbar }
+    {
+        self.exchange.fabric()
+    }
+
+    /// Gives up all cells.
+    pub fn abandon(self) {
+        let Switch {
+            node: _,
+            ports: _,
+            exchange,
+            is_skipping: _,
+            adjacency: _,
+            switched: _,
+        } = self;
+        exchange.abandon();
+    }
+}
