@@ -12,7 +12,7 @@ use Rattle.adjacency_table.specs.declared.message.Said.{Said}
 use Rattle.adjacency_table.specs.declared.message.Answer.{Answer}
 use Rattle.adjacency_table.specs.declared.message.Answer.TheVariants.{Quiet, Send, Open, Reset}
 use Rattle.adjacency_table.specs.Side.{Side, Step, received}
-use Rattle.ifmp_adjacency.specs.declared.peer.Peer.{Peer}
+use Rattle.net_types.specs.declared.adjacency.Peer.{Peer}
 
 abbrev pub same_peer : Peer → Peer → Bool
 same_peer x y = (x.instance.0 == y.instance.0) && (x.address.0 == y.address.0)

@@ -6,9 +6,8 @@ ghost use Rattle.adjacency_table.specs.declared.message.Answer.TheVariants.{Rese
 ghost use Rattle.ifmp_adjacency.specs.Hello.{hello_of, ifmp_answer};
 
 use crate::established::Established;
-use crate::peer::Peer;
 use adjacency_table::{self as table, Heard, Said, State};
-use net_types::{Addr, Hello, HelloKind, Instance};
+use net_types::{Addr, Hello, HelloKind, Instance, Peer};
 use std::marker::Model;
 
 /// What an adjacency answers.
@@ -22,7 +21,7 @@ pub struct Adjacency {
 
 impl Model for Adjacency {
     ghost use Rattle.adjacency_table.specs.Side.{Side};
-    ghost use Rattle.ifmp_adjacency.specs.declared.peer.Peer.{Peer};
+    ghost use Rattle.net_types.specs.declared.adjacency.Peer.{Peer};
 
     ghost Value = { Side Peer };
 

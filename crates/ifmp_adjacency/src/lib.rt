@@ -5,9 +5,8 @@
 
 mod adjacency;
 mod established;
-mod peer;
 
 pub use adjacency::{Adjacency, Answer};
 pub use adjacency_table::State;
 pub use established::Established;
-pub use peer::Peer;
+pub use net_types::Peer;

@@ -1,3 +1,4 @@
 pub mod Channel
+pub mod Label
 pub mod Number
 pub mod Prefix

@@ -31,6 +31,15 @@ pub struct Hello {
     pub next: u32,
 }
 
+/// A router at one end of a link (RFC 1953, IFMP Adjacency Protocol).
+#[derive(Clone, Copy, Debug, PartialEq, Eq)]
+pub struct Peer {
+    /// The instance of its adjacency.
+    pub instance: Instance,
+    /// Its IPv4 address: the source of its IFMP packets.
+    pub address: Addr,
+}
+
 /// One party of a GSMP adjacency.
 #[derive(Clone, Copy, Debug, PartialEq, Eq)]
 pub struct Party {

@@ -4,14 +4,16 @@
 
 mod adjacency;
 mod channel;
+mod label;
 mod memory;
 mod node;
 mod number;
 mod octets;
 mod prefix;
 
-pub use adjacency::{Greeting, Hello, HelloKind, Party};
+pub use adjacency::{Greeting, Hello, HelloKind, Party, Peer};
 pub use channel::{Channel, End, on_control};
+pub use label::{label_channel, label_number, labels_are_numbered};
 pub use memory::OutOfMemory;
 pub use node::{NodeId, Place, PortNo};
 pub use number::{Instance, Mark, Numbers};
