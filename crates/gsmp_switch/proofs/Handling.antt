@@ -16,10 +16,10 @@ use Rattle.crossbar_model.specs.Channels.{IsConnectable, IsOfPort, IsVci}
 use Rattle.crossbar_model.specs.Crossbar.{Branches}
 use Rattle.node_model.specs.declared.port.PortState.{PortState}
 use Rattle.node_model.specs.declared.request.Asked.{Asked}
-use Rattle.node_model.specs.declared.request.Request.{Request}
+use Rattle.gsmp_wire.specs.declared.request.Request.{Request}
 use Rattle.node_model.specs.declared.request.Failure.{Failure}
 use Rattle.node_model.specs.declared.request.Failure.TheVariants.{NoPort, BadSession, PortDown, OutOfRange, SessionsSpent}
-use Rattle.node_model.specs.declared.request.Request.TheVariants.{AddBranch, MoveBranch, DeleteTree, VerifyTree, DeleteAll, PortManagement, AllPorts as AllPortsAsked}
+use Rattle.gsmp_wire.specs.declared.request.Request.TheVariants.{AddBranch, MoveBranch, DeleteTree, VerifyTree, DeleteAll, PortManagement, AllPorts as AllPortsAsked}
 use Rattle.node_model.specs.Switch.{Switch, control_port, has_port, has_session, is_up, port_of}
 use Rattle.node_model.specs.Requests.{asked_in}
 use Rattle.node_model.specs.Failures.{failure_of, is_connectable, is_path, is_vci, named_ends, named_ports, names_session, used_ports}

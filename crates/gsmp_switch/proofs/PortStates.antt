@@ -16,8 +16,8 @@ use Rattle.crossbar_model.specs.Channels.{ArePorts, IsLinkPort}
 use Rattle.gsmp_wire.proofs.Places.{both}
 use Rattle.node_model.specs.Switch.{begun, control_port, has_port, port_of, with_port}
 use Rattle.node_model.specs.Requests.{managed, ports_after}
-use Rattle.node_model.specs.declared.request.Request.{Request}
-use Rattle.node_model.specs.declared.request.Request.TheVariants.{AddBranch, MoveBranch, DeleteTree, VerifyTree, DeleteAll, PortManagement, AllPorts}
+use Rattle.gsmp_wire.specs.declared.request.Request.{Request}
+use Rattle.gsmp_wire.specs.declared.request.Request.TheVariants.{AddBranch, MoveBranch, DeleteTree, VerifyTree, DeleteAll, PortManagement, AllPorts}
 use Rattle.gsmp_switch.specs.State.{AreStatesOf}
 
 same_number : (m n : ℕ) → m ≡ n → (m == n) ≡ true

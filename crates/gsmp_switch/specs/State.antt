@@ -6,8 +6,8 @@ use Rattle.link_model.specs.Notes.{Journal}
 use Rattle.net_types.specs.Number.{GivenOut}
 use Rattle.crossbar_model.specs.Channels.{ArePorts}
 use Rattle.node_model.specs.declared.port.PortState.{PortState}
-use Rattle.node_model.specs.declared.request.Request.{Request}
-use Rattle.node_model.specs.declared.request.Request.TheVariants.{PortManagement}
+use Rattle.gsmp_wire.specs.declared.request.Request.{Request}
+use Rattle.gsmp_wire.specs.declared.request.Request.TheVariants.{PortManagement}
 use Rattle.node_model.specs.Switch.{Acted, Switch, control_port, port_of}
 
 -- the control port, and then these ports of links

@@ -8,6 +8,7 @@ mod fields;
 mod laws;
 mod message;
 mod read;
+mod request;
 mod rows;
 #[cfg(test)]
 mod tests;
@@ -17,5 +18,6 @@ pub use fault::Fault;
 pub use laws::octets_have_one_message;
 pub use message::{BranchKind, Message};
 pub use read::decode;
+pub use request::Request;
 pub use rows::{PortRow, PortRows};
 pub use write::encode;

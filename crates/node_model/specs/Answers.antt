@@ -13,8 +13,8 @@ use Rattle.link_model.specs.Notes.{Journal}
 use Rattle.crossbar_model.specs.Crossbar.{Branches, output_of}
 use Rattle.node_model.specs.declared.port.PortState.{PortState}
 use Rattle.node_model.specs.declared.request.Asked.{Asked}
-use Rattle.node_model.specs.declared.request.Request.{Request}
-use Rattle.node_model.specs.declared.request.Request.TheVariants.{AddBranch, MoveBranch, DeleteTree, VerifyTree, PortManagement}
+use Rattle.gsmp_wire.specs.declared.request.Request.{Request}
+use Rattle.gsmp_wire.specs.declared.request.Request.TheVariants.{AddBranch, MoveBranch, DeleteTree, VerifyTree, PortManagement}
 use Rattle.node_model.specs.declared.request.Failure.{Failure}
 use Rattle.node_model.specs.declared.request.Failure.TheVariants.{NoPort, BadSession, PortDown, OutOfRange, Busy, NoConnection, SessionsSpent}
 use Rattle.node_model.specs.Switch.{Switch, port_of, with_branches}

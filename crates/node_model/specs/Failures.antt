@@ -9,8 +9,8 @@ use Rattle.net_types.specs.declared.channel.End.{End}
 use Rattle.crossbar_model.specs.Crossbar.{Branches, output_of, same_end}
 use Rattle.node_model.specs.declared.port.PortState.{PortState}
 use Rattle.node_model.specs.declared.request.Asked.{Asked}
-use Rattle.node_model.specs.declared.request.Request.{Request}
-use Rattle.node_model.specs.declared.request.Request.TheVariants.{AddBranch, MoveBranch, DeleteTree, VerifyTree, DeleteAll, PortManagement, AllPorts}
+use Rattle.gsmp_wire.specs.declared.request.Request.{Request}
+use Rattle.gsmp_wire.specs.declared.request.Request.TheVariants.{AddBranch, MoveBranch, DeleteTree, VerifyTree, DeleteAll, PortManagement, AllPorts}
 use Rattle.node_model.specs.declared.request.Failure.{Failure}
 use Rattle.node_model.specs.declared.request.Failure.TheVariants.{NoPort, BadSession, PortDown, OutOfRange, Busy, NoConnection, SessionsSpent}
 use Rattle.node_model.specs.Switch.{has_port, has_session, is_up}

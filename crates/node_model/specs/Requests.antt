@@ -18,8 +18,8 @@ use Rattle.crossbar_model.specs.declared.branch.Branch.{Branch}
 use Rattle.crossbar_model.specs.Crossbar.{Branches, new_branch, moved, cut_by_move}
 use Rattle.node_model.specs.declared.port.PortState.{PortState}
 use Rattle.node_model.specs.declared.request.Asked.{Asked}
-use Rattle.node_model.specs.declared.request.Request.{Request}
-use Rattle.node_model.specs.declared.request.Request.TheVariants.{AddBranch, MoveBranch, DeleteTree, VerifyTree, DeleteAll, PortManagement, AllPorts}
+use Rattle.gsmp_wire.specs.declared.request.Request.{Request}
+use Rattle.gsmp_wire.specs.declared.request.Request.TheVariants.{AddBranch, MoveBranch, DeleteTree, VerifyTree, DeleteAll, PortManagement, AllPorts}
 use Rattle.node_model.specs.Switch.{with_port}
 
 -- an end as a message names it

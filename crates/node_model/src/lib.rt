@@ -6,5 +6,6 @@
 mod port;
 mod request;
 
+pub use gsmp_wire::Request;
 pub use port::PortState;
-pub use request::{Asked, Failure, Request};
+pub use request::{Asked, Failure};
