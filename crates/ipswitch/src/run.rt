@@ -100,7 +100,7 @@ fn run_command<S: Source, K: Sink>(
     let input = match read_to_end(alloc, source, INPUT_LIMIT) {
         Ok(input) => input,
         Err(InputFault::Failed) => return READ_FAULT,
-        Err(InputFault::OutOfMemory) => return NO_MEMORY,
+        Err(InputFault::OutOfMemory(_)) => return NO_MEMORY,
     };
     let Ok(report) = report_on(alloc, command, input.as_slice()) else {
         return NO_MEMORY;

@@ -6,6 +6,7 @@ ghost use Rattle.lab_io.specs.Fault.{HasCause, Rose};
 ghost use Rattle.lab_io.specs.Transfer.{AppendsFront, ConsumesSome};
 
 use crate::edge::{Failed, Sink, Source};
+use net_types::OutOfMemory;
 use std::alloc::Global;
 
 /// Why [`read_to_end`] gave no octets.
@@ -14,7 +15,7 @@ pub enum InputFault {
     /// A read failed.
     Failed,
     /// No memory was left for what was read.
-    OutOfMemory,
+    OutOfMemory(OutOfMemory),
 }
 
 /// The most octets that one read asks for.
@@ -45,8 +46,8 @@ pub fn read_to_end<S: Source>(
         if count == 0 {
             return Ok(octets);
         }
-        if octets.extend_from_slice(&buffer[..count]).is_err() {
-            return Err(InputFault::OutOfMemory);
+        if let Err(error) = octets.extend_from_slice(&buffer[..count]) {
+            return Err(InputFault::OutOfMemory(error.into()));
         }
     }
     Ok(octets)
@@ -74,7 +75,6 @@ pub fn write_all<K: Sink>(sink: &mut K, octets: &[u8]) -> Result<(), Failed>
 mod tests {
     use super::*;
     use crate::memory::{MemSink, MemSource};
-    use net_types::OutOfMemory;
     use std::alloc::AllocError;
     use std::test::Fail;
 

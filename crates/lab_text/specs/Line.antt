@@ -1,9 +1,9 @@
 -- which lines are refused, and what a line of hexadecimal says
 
-use Rattle.std.specs.Prelude.{ℕ, ◌+◌, ◌&&◌, nat_lt, nat_le, Bool, not, List, [], ◌∷◌, length, Option, Some, None, Result, Ok, Err, if◌then◌else◌}
+use Rattle.std.specs.Prelude.{ℕ, ◌+◌, ◌&&◌, nat_lt, nat_le, Bool, true, false, not, List, [], ◌∷◌, length, Option, Some, None, Result, Ok, Err, if◌then◌else◌}
 use Rattle.std.specs.List.{list_all}
 use Rattle.lab_text.specs.declared.line.LineFault.{LineFault}
-use Rattle.lab_text.specs.declared.line.LineFault.TheVariants.{ScriptTooLong, LineTooLong, BadByte, Arity, BadHex}
+use Rattle.lab_text.specs.declared.line.LineFault.TheVariants.{ScriptTooLong, LineTooLong, BadByte, Arity, BadHex, OutOfMemory}
 use Rattle.lab_text.specs.Words.{is_script_octet, line_text, words, is_blank_line}
 use Rattle.lab_text.specs.Numeral.{hex_octets}
 
@@ -11,6 +11,11 @@ use Rattle.lab_text.specs.Numeral.{hex_octets}
 -- others stand before
 abbrev pub holds_octet : (before : ℕ) → List ℕ → (place : ℕ) → Bool
 holds_octet before octets place = nat_lt before place && nat_le place (before + length octets)
+
+-- the refusal is for want of memory, and not for what the line says
+abbrev pub is_want_of_memory : LineFault → Bool
+is_want_of_memory (OutOfMemory error) = true
+is_want_of_memory fault = false
 
 -- the tests that each line meets, in their order: which fails first
 abbrev pub line_fault : (before : ℕ) → List ℕ → Option LineFault

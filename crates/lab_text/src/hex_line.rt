@@ -1,27 +1,26 @@
 //! Lines that hold one word of hexadecimal.
 
-ghost use Rattle.std.specs.Prelude.{◌≡◌, ◌≢◌, Ok, Err, IsOk, IfOk, IsErrOf};
+ghost use Rattle.std.specs.Prelude.{◌≡◌, true, false, Ok, Err, IsOk, IfOk};
 ghost use Rattle.std.specs.Option.{option_map};
-ghost use Rattle.lab_text.specs.Line.{hex_line, hex_word};
+ghost use Rattle.lab_text.specs.Line.{hex_line, hex_word, is_want_of_memory};
 ghost use Rattle.lab_text.specs.Numeral.{hex_octets};
 ghost use Rattle.lab_text.specs.declared.line.LineFault.{LineFault};
 
 use crate::line::{LineFault, check_line, is_blank_line, split_word};
 use crate::numeral::read_hex;
-use net_types::OutOfMemory;
 use std::alloc::Global;
 
 /// The octets that `word` spells in hexadecimal. Refuses `BadHex`, whether memory is left or not.
 fn hex_word(alloc: Global, word: &[u8]) -> Result<Option<Vec<u8>>, LineFault>
     ensures octets { IfOk result (λ found. hex_word (hex_octets word.now) ≡ Ok (option_map (λ octets. octets.items) found)) }
     ensures refused { (fault : LineFault) → hex_word (hex_octets word.now) ≡ Err fault → result ≡ Err fault }
-    ensures only { (fault : LineFault) → result ≡ Err fault → fault ≢ LineFault.OutOfMemory → hex_word (hex_octets word.now) ≡ Err fault }
-    ensures memory { IsErrOf result LineFault.OutOfMemory → IsOk (hex_word (hex_octets word.now)) }
+    ensures only { (fault : LineFault) → result ≡ Err fault → is_want_of_memory fault ≡ false → hex_word (hex_octets word.now) ≡ Err fault }
+    ensures memory { (fault : LineFault) → result ≡ Err fault → is_want_of_memory fault ≡ true → IsOk (hex_word (hex_octets word.now)) }
 {
     match read_hex(alloc, word) {
         Ok(Some(octets)) => Ok(Some(octets)),
         Ok(None) => Err(LineFault::BadHex),
-        Err(OutOfMemory) => Err(LineFault::OutOfMemory),
+        Err(error) => Err(LineFault::OutOfMemory(error)),
     }
 }
 
@@ -32,8 +31,8 @@ fn hex_word(alloc: Global, word: &[u8]) -> Result<Option<Vec<u8>>, LineFault>
 pub fn read_hex_line(alloc: Global, before: u32, line: &[u8]) -> Result<Option<Vec<u8>>, LineFault>
     ensures octets { IfOk result (λ found. hex_line before line.now ≡ Ok (option_map (λ octets. octets.items) found)) }
     ensures refused { (fault : LineFault) → hex_line before line.now ≡ Err fault → result ≡ Err fault }
-    ensures only { (fault : LineFault) → result ≡ Err fault → fault ≢ LineFault.OutOfMemory → hex_line before line.now ≡ Err fault }
-    ensures memory { IsErrOf result LineFault.OutOfMemory → IsOk (hex_line before line.now) }
+    ensures only { (fault : LineFault) → result ≡ Err fault → is_want_of_memory fault ≡ false → hex_line before line.now ≡ Err fault }
+    ensures memory { (fault : LineFault) → result ≡ Err fault → is_want_of_memory fault ≡ true → IsOk (hex_line before line.now) }
 {
     let text = check_line(before, line)?;
     if is_blank_line(text) {

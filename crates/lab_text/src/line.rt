@@ -6,6 +6,8 @@ ghost use Rattle.std.specs.Result.{result_err};
 ghost use Rattle.lab_text.specs.Words.{is_blank, line_text, words, is_blank_line, is_script_octet};
 ghost use Rattle.lab_text.specs.Line.{holds_octet, line_fault};
 
+use net_types::OutOfMemory;
+
 /// Why a line is refused.
 #[derive(Clone, Copy, Debug, PartialEq, Eq)]
 pub enum LineFault {
@@ -20,7 +22,7 @@ pub enum LineFault {
     /// A word isn't an even number of hexadecimal digits.
     BadHex,
     /// No memory was left for what was read.
-    OutOfMemory,
+    OutOfMemory(OutOfMemory),
 }
 
 /// The most octets of an input.

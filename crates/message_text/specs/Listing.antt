@@ -58,7 +58,7 @@ line_fault_text LineTooLong = codes "LineTooLong"
 line_fault_text BadByte = codes "BadByte"
 line_fault_text Arity = codes "Arity"
 line_fault_text BadHex = codes "BadHex"
-line_fault_text OutOfMemory = codes "OutOfMemory"
+line_fault_text (OutOfMemory error) = codes "OutOfMemory"
 
 -- the last line where the line of this number is refused
 abbrev pub refused_line : (number : ℕ) → LineFault → List ℕ

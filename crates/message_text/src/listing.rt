@@ -1,7 +1,7 @@
 //! What the hexadecimal lines of an input are decoded to.
 
-ghost use Rattle.std.specs.Prelude.{◌≡◌, ◌≤◌, ◌++◌, ◌↔◌, length, is_some, IsTrue, IfOk, OnOk};
-ghost use Rattle.lab_text.specs.Line.{hex_line};
+ghost use Rattle.std.specs.Prelude.{◌≡◌, ◌≤◌, ◌++◌, length, is_some, IfOk, OnOk};
+ghost use Rattle.lab_text.specs.Line.{hex_line, is_want_of_memory};
 ghost use Rattle.lab_text.specs.declared.line.LineFault.{LineFault};
 ghost use Rattle.message_text.specs.Listing.{IsListing, IsLineListed, IsAnswered, fault_in, input_limit, refused_line, line_fault_text, refuse_text};
 
@@ -31,7 +31,7 @@ fn fault_name(fault: LineFault) -> &'static str
         LineFault::BadByte => "BadByte",
         LineFault::Arity => "Arity",
         LineFault::BadHex => "BadHex",
-        LineFault::OutOfMemory => "OutOfMemory",
+        LineFault::OutOfMemory(_) => "OutOfMemory",
     }
 }
 
@@ -93,10 +93,13 @@ fn answer(out: &mut Text, protocol: Protocol, octets: &[u8]) -> Result<(), OutOf
     }
 }
 
-fn is_want_of_memory(fault: LineFault) -> bool
-    ensures { IsTrue result ↔ (fault ≡ LineFault.OutOfMemory) }
+fn want_of_memory(fault: LineFault) -> Option<OutOfMemory>
+    ensures { is_some result ≡ is_want_of_memory fault }
 {
-    matches!(fault, LineFault::OutOfMemory)
+    match fault {
+        LineFault::OutOfMemory(error) => Some(error),
+        _ => None,
+    }
 }
 
 /// Appends the answer to one line, where it isn't blank. `before` octets of the input stand before
@@ -116,13 +119,10 @@ fn list_line(
             answer(out, protocol, octets.as_slice())?;
             Ok(None)
         }
-        Err(fault) => {
-            if is_want_of_memory(fault) {
-                Err(OutOfMemory)
-            } else {
-                Ok(Some(fault))
-            }
-        }
+        Err(fault) => match want_of_memory(fault) {
+            Some(error) => Err(error),
+            None => Ok(Some(fault)),
+        },
     }
 }
 

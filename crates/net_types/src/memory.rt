@@ -2,18 +2,19 @@
 
 use std::alloc::{AllocError, AllocFailed};
 
-/// No memory was there for what a call had to keep. Each call says what it leaves.
+/// No memory was there for what a call had to keep. It hands on what an allocator answered, and is
+/// made of nothing else. Each call says what it leaves.
 #[derive(Clone, Copy, Debug, PartialEq, Eq)]
-pub struct OutOfMemory;
+pub struct OutOfMemory(AllocError);
 
 impl From<AllocError> for OutOfMemory {
-    fn from(_error: AllocError) -> OutOfMemory {
-        OutOfMemory
+    fn from(error: AllocError) -> OutOfMemory {
+        OutOfMemory(error)
     }
 }
 
 impl<T: Drop> From<AllocFailed<T>> for OutOfMemory {
-    fn from(_error: AllocFailed<T>) -> OutOfMemory {
-        OutOfMemory
+    fn from(error: AllocFailed<T>) -> OutOfMemory {
+        OutOfMemory(AllocError::from(error))
     }
 }

@@ -13,13 +13,18 @@ use Rattle.plain_replay.specs.Reading.{Reading}
 abbrev pub Takes : {T : Type 0} → (old : Reading) → Result Reading PlainFault → (now : Reading) → Result T LineStop → Type 0
 Takes old said now (Ok _) = said ≡ Ok now
 Takes old said now (Err (Refused fault)) = (said ≡ Err fault) × (now ≡ old)
-Takes old said now (Err OutOfMemory) = Unit {0}
+Takes old said now (Err (OutOfMemory error)) = Unit {0}
 
 -- the same of the words behind the first
 abbrev pub TakesFields : {T : Type 0} → (old : Reading) → Option Reading → (now : Reading) → Result T LineStop → Type 0
 TakesFields old said now (Ok _) = said ≡ Some now
 TakesFields old said now (Err (Refused fault)) = (fault ≡ BadLine) × (said ≡ None) × (now ≡ old)
-TakesFields old said now (Err OutOfMemory) = Unit {0}
+TakesFields old said now (Err (OutOfMemory error)) = Unit {0}
+
+-- a line isn't taken for want of memory
+abbrev pub IsWantOfMemory : LineStop → Type 0
+IsWantOfMemory (OutOfMemory error) = Unit {0}
+IsWantOfMemory (Refused fault) = ⊥
 
 -- a port that a link can name
 abbrev pub NamesPort : Next → Type 0

@@ -9,7 +9,7 @@ ghost use Rattle.plain_model.specs.Topology.{node_named, is_next, peers_of, IsNo
 ghost use Rattle.plain_replay.specs.Forms.{address_of, prefix_of, end_of};
 ghost use Rattle.plain_replay.specs.Reading.{Reading, nothing_read, node_line, link_line, can_link, can_route, is_linked, route_line, next_of, with_event, send_line, carry_line, lose_line, linked_end, is_late};
 ghost use Rattle.plain_replay.specs.Script.{one, two, keyword_of, route_fields, fields_line, keyword_line, worded_line, text_line, after_line, counted, script_of, input_limit};
-ghost use Rattle.plain_replay.specs.Taking.{Takes, TakesFields, NamesPort};
+ghost use Rattle.plain_replay.specs.Taking.{Takes, TakesFields, IsWantOfMemory, NamesPort};
 ghost use Rattle.plain_replay.specs.declared.script.LineStop.TheVariants.{OutOfMemory as NoMemory};
 
 use crate::forms::{is_name, read_address, read_end, read_number_in, read_prefix};
@@ -33,26 +33,26 @@ const LINKS: usize = 256;
 const EVENTS: usize = 200_000;
 
 impl From<OutOfMemory> for LineStop {
-    ghost from_gives = { λ _ e. e ≡ NoMemory };
+    ghost from_gives = { λ error stop. stop ≡ NoMemory error };
 
-    fn from(_error: OutOfMemory) -> LineStop {
-        LineStop::OutOfMemory
+    fn from(error: OutOfMemory) -> LineStop {
+        LineStop::OutOfMemory(error)
     }
 }
 
 impl From<AllocError> for LineStop {
-    ghost from_gives = { λ _ e. e ≡ NoMemory };
+    ghost from_gives = { λ _ stop. IsWantOfMemory stop };
 
-    fn from(_error: AllocError) -> LineStop {
-        LineStop::OutOfMemory
+    fn from(error: AllocError) -> LineStop {
+        LineStop::OutOfMemory(error.into())
     }
 }
 
 impl<T: Drop> From<AllocFailed<T>> for LineStop {
-    ghost from_gives = { λ _ e. e ≡ NoMemory };
+    ghost from_gives = { λ _ stop. IsWantOfMemory stop };
 
-    fn from(_error: AllocFailed<T>) -> LineStop {
-        LineStop::OutOfMemory
+    fn from(error: AllocFailed<T>) -> LineStop {
+        LineStop::OutOfMemory(error.into())
     }
 }
 
@@ -425,7 +425,7 @@ pub fn read_script(alloc: Global, octets: &[u8]) -> Result<Script, OutOfMemory>
         match reader.line(line) {
             Ok(()) => {}
             Err(LineStop::Refused(fault)) => return Ok(reader.refused(fault)),
-            Err(LineStop::OutOfMemory) => return Err(OutOfMemory),
+            Err(LineStop::OutOfMemory(error)) => return Err(error),
         }
         rest = others;
     }

@@ -1,5 +1,6 @@
 //! What a script says.
 
+use net_types::OutOfMemory;
 use plain_model::Event;
 use plain_network::Topology;
 use std::marker::Model;
@@ -46,7 +47,7 @@ pub enum LineStop {
     /// It is refused, and changes nothing.
     Refused(PlainFault),
     /// No memory was left for what it says.
-    OutOfMemory,
+    OutOfMemory(OutOfMemory),
 }
 
 /// What a script says: the network, the events in order, and the first refused line, if one is.
