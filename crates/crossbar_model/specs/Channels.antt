@@ -1,10 +1,12 @@
 -- The channels that a switch connects, in order. Their ranges are this project's own.
 
-use Rattle.std.specs.Prelude.{◌≡◌, ℕ, ◌*◌, ◌≤◌, ◌⊎◌, List, map, All, Contains}
+use Rattle.std.specs.Prelude.{◌≡◌, ℕ, ◌*◌, ◌-◌, ◌≤◌, ◌⊎◌, ◌==◌, nat_le, nat_lt, Bool, ◌&&◌, ◌||◌, if◌then◌else◌, List, map, All, Contains}
+use Rattle.std.specs.List.{list_any}
 use Rattle.std.specs.List.Sorted.{IsStrictlyIncreasing}
 use Rattle.std.specs.Ordering.{nat_cmp, ordering_then}
 use Rattle.std.specs.declared.cmp.Ordering.{Ordering}
 use Rattle.net_types.specs.declared.node.PortNo.{PortNo}
+use Rattle.net_types.specs.declared.channel.Channel.{Channel}
 use Rattle.net_types.specs.declared.channel.End.{End}
 
 -- the order of ends: by port, then by VPI, then by VCI
@@ -19,6 +21,23 @@ IsLinkPort p = (1 ≤ p.0) × (p.0 ≤ 8)
 pub record ArePorts (ports : List PortNo) : Type 0 where
   pub of_links : All IsLinkPort ports
   pub ascending : IsStrictlyIncreasing (map (λ p. p.0) ports)
+
+-- the default channel of a link, or a label of one of the first so many paths
+abbrev pub is_link_channel : (vpis : ℕ) → Channel → Bool
+is_link_channel vpis c = (c.vpi == 0 && c.vci == 15) || (nat_lt c.vpi vpis && (nat_le 32 c.vci && nat_le c.vci 1023))
+
+-- the end is such a channel of port p: there, or as VPI 16p + x for its VPI x on the control port
+abbrev pub is_channel_of : PortNo → (vpis : ℕ) → End → Bool
+is_channel_of p vpis e =
+    nat_lt 0 p.0 && (
+    if e.port.0 == 0
+    then nat_le (16 * p.0) e.channel.vpi && is_link_channel vpis (record e.channel { vpi = e.channel.vpi - 16 * p.0 })
+    else e.port.0 == p.0 && is_link_channel vpis e.channel
+    )
+
+-- a channel that a switch with these ports connects; on each it connects so many paths
+abbrev pub is_connectable : (ports : List PortNo) → (vpis : ℕ) → End → Bool
+is_connectable ports vpis e = list_any (λ p. is_channel_of p vpis e) ports
 
 -- the default channel, or a label
 abbrev pub IsVci : ℕ → Type 0

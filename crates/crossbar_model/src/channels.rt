@@ -1,0 +1,91 @@
+//! The channels that a switch connects.
+
+ghost use Rattle.std.specs.Prelude.{◌≡◌};
+ghost use Rattle.crossbar_model.specs.Channels.{is_channel_of, is_connectable, is_link_channel};
+
+use net_types::{Channel, End, PortNo};
+
+/// The VCI of the default channel of a link, whose VPI is 0.
+const DEFAULT_VCI: u16 = 15;
+
+/// The least and the greatest VCI of a label.
+const LEAST_LABEL: u16 = 32;
+
+const GREATEST_LABEL: u16 = 1023;
+
+/// How many paths of the control port show those of one port of a link.
+const PATHS_OF_A_PORT: u16 = 16;
+
+/// Whether this is the default channel of a link, or a label with a VPI below `vpis`.
+fn is_link_channel(vpis: u8, channel: Channel) -> bool
+    ensures { result ≡ is_link_channel vpis channel }
+{
+    let is_default = channel.vpi == 0 && channel.vci == DEFAULT_VCI;
+    let is_label = LEAST_LABEL <= channel.vci && channel.vci <= GREATEST_LABEL;
+    is_default || channel.vpi < vpis as u16 && is_label
+}
+
+/// Whether this is such a channel of the port, there or on the control port.
+fn is_channel_of(port: PortNo, vpis: u8, end: End) -> bool
+    ensures { result ≡ is_channel_of port vpis end }
+{
+    if port.0 == 0 {
+        return false;
+    }
+    if end.port.0 != 0 {
+        return end.port == port && is_link_channel(vpis, end.channel);
+    }
+    let first = PATHS_OF_A_PORT * port.0 as u16;
+    let Channel { vpi, vci } = end.channel;
+    if vpi < first {
+        return false;
+    }
+    let vpi = vpi - first;
+    is_link_channel(vpis, Channel { vpi, vci })
+}
+
+/// Whether a switch with these ports of links can connect a channel.
+///
+/// On a port above 0, one of `ports`, it connects VPI 0 with VCI 15, and each VPI below `vpis` with
+/// VCI 32 to 1023; on port 0 it connects VPI 16p + x with VCI v where p is one of `ports` and x/v is
+/// such a channel of p. That `ports` has port 0 or lacks it makes no difference.
+pub fn is_connectable(ports: &[PortNo], vpis: u8, end: End) -> bool
+    ensures { result ≡ is_connectable ports.now vpis end }
+{
+    ports.iter().any(|port| is_channel_of(*port, vpis, end))
+}
+
+#[cfg(test)]
+mod tests {
+    use super::*;
+
+    /// Channels of a switch with port 1: with one path and with 16.
+    #[test]
+    fn channels_that_are_connected(rt: HostRuntime) {
+        let table = [
+            (1, 0, 15, true, true),
+            (1, 3, 15, false, false),
+            (1, 0, 32, true, true),
+            (1, 0, 1023, true, true),
+            (1, 0, 31, false, false),
+            (1, 0, 1024, false, false),
+            (1, 3, 40, false, true),
+            (1, 16, 40, false, false),
+            (0, 16, 15, true, true),
+            (0, 16, 40, true, true),
+            (0, 19, 40, false, true),
+            (0, 32, 40, false, false),
+            (0, 0, 15, false, false),
+            (0, 0, 40, false, false),
+            (2, 0, 40, false, false),
+        ];
+        for (port, vpi, vci, of_one, of_sixteen) in table {
+            let end = End {
+                port: PortNo(port),
+                channel: Channel { vpi, vci },
+            };
+            assert_eq!(rt; is_connectable(&[PortNo(1)], 1, end), of_one);
+            assert_eq!(rt; is_connectable(&[PortNo(1)], 16, end), of_sixteen);
+        }
+    }
+}
