@@ -2,3 +2,4 @@ pub mod Side
 pub mod Table
 pub mod Instances
 pub mod Greeting
+pub mod Hello

@@ -9,4 +9,3 @@ mod established;
 pub use adjacency::{Adjacency, Answer};
 pub use adjacency_table::State;
 pub use established::Established;
-pub use net_types::Peer;

@@ -5,6 +5,7 @@ use Rattle.std.specs.Option.{option_map, option_map_or}
 use Rattle.net_types.specs.declared.prefix.Addr.{Addr}
 use Rattle.net_types.specs.declared.number.Instance.{Instance}
 use Rattle.net_types.specs.declared.adjacency.Hello.{Hello}
+use Rattle.net_types.specs.declared.adjacency.Peer.{Peer}
 use Rattle.net_types.specs.declared.adjacency.HelloKind.{HelloKind}
 use Rattle.net_types.specs.declared.adjacency.HelloKind.TheVariants.{Synack, Ack}
 use Rattle.adjacency_table.specs.declared.message.Heard.{Heard}
@@ -12,7 +13,6 @@ use Rattle.adjacency_table.specs.declared.message.Said.{Said}
 use Rattle.adjacency_table.specs.declared.message.Answer.{Answer}
 use Rattle.adjacency_table.specs.declared.message.Answer.TheVariants.{Quiet, Send, Open, Reset}
 use Rattle.adjacency_table.specs.Side.{Side, Step, received}
-use Rattle.net_types.specs.declared.adjacency.Peer.{Peer}
 
 abbrev pub same_peer : Peer → Peer → Bool
 same_peer x y = (x.instance.0 == y.instance.0) && (x.address.0 == y.address.0)
