@@ -3,3 +3,4 @@ pub mod Table
 pub mod Instances
 pub mod Greeting
 pub mod Hello
+pub mod Ends
