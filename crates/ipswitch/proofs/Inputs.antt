@@ -1,7 +1,6 @@
 -- A source that tells its octets: what was read of them is all that a command needs
 
 use Rattle.std.proofs.Common.{◌≡◌, ℕ, ◌<◌, ◌≤◌, List, [], ◌∷◌, ◌++◌, Bool, length, take, Option, None, Some, is_some, refl, sym, ap, ◌∙◌, arith, inl, inr, ◌⊎◌, append-nil, zero, suc}
-use Rattle.std.specs.Prelude.{if◌then◌else◌}
 use Rattle.std.specs.Io.KnownBytes.{Consumes, IsAtEnd}
 use Rattle.std.proofs.lemmas.List.{take-append-le}
 use Rattle.lab_text.specs.Lines.{lines_of}
@@ -10,7 +9,7 @@ use Rattle.plain_replay.specs.Reading.{nothing_read}
 use Rattle.plain_replay.specs.Script.{script_of, script_from}
 use Rattle.ipswitch.specs.declared.command.Command.{Command}
 use Rattle.ipswitch.specs.declared.command.Command.TheVariants.{Replay, Decode}
-use Rattle.ipswitch.specs.Run.{is_refused, status_of}
+use Rattle.ipswitch.specs.Run.{is_refused}
 
 below_or_at : (i n : ℕ) → i ≤ n → (i < n) ⊎ (n ≡ i)
 below_or_at zero zero h = inr refl
@@ -38,7 +37,8 @@ read_refusal command there input None read within whole = absurd read
 read_refusal command there input (Some rest) read within whole =
     same_refusal command there input (same_front 16777217 there input rest read within whole)
 
-pub complete : (command : Command) (left_old left_new : Option (List ℕ)) (there input seen : List ℕ) (refused : Bool) (status : ℕ) → left_old ≡ Some there → Consumes left_old left_new input → length input ≤ 16777217 → (length input < 16777217 → IsAtEnd left_new)
-    → seen ≡ input → refused ≡ is_refused command seen → status ≡ (if refused then 2 else 0) → status ≡ status_of command there
-complete command left_old left_new there input seen refused status told read within whole at said outcome =
-    outcome ∙ ap (λ (b : Bool). if b then 2 else 0) (said ∙ (ap (is_refused command) at ∙ read_refusal command there input left_new (rw told at read) within whole))
+-- what is said of the octets read is said of the octets that were there
+pub complete : (command : Command) (left_old left_new : Option (List ℕ)) (there input seen : List ℕ) (refused : Bool) → left_old ≡ Some there → Consumes left_old left_new input → length input ≤ 16777217 → (length input < 16777217 → IsAtEnd left_new)
+    → seen ≡ input → refused ≡ is_refused command seen → refused ≡ is_refused command there
+complete command left_old left_new there input seen refused told read within whole at said =
+    said ∙ (ap (is_refused command) at ∙ read_refusal command there input left_new (rw told at read) within whole)

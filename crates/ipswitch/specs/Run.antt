@@ -10,6 +10,8 @@ use Rattle.plain_replay.specs.Script.{Script, script_of, input_limit}
 use Rattle.plain_replay.specs.Report.{report_of}
 use Rattle.ipswitch.specs.declared.command.Command.{Command}
 use Rattle.ipswitch.specs.declared.command.Command.TheVariants.{Replay, Decode}
+use Rattle.ipswitch.specs.declared.run.RunFault.{RunFault}
+use Rattle.ipswitch.specs.declared.run.RunFault.TheVariants.{Read, Write, OutOfMemory}
 use Rattle.ipswitch.specs.Command.{usage_line}
 
 -- what the run of a script has: in each front of it before the first chance each fate is that of a
@@ -70,3 +72,9 @@ pub record IsSilent (asked : Option Command) (left_old left_new written_old writ
   pub asked_for : is_some asked ≡ true
   pub read : ConsumesSome left_old left_new
   pub written : Appends written_old written_new []
+
+-- what a command leaves that wasn't carried out to its end
+abbrev pub IsLeft : RunFault → Command → (left_old left_new written_old written_new : Option (List ℕ)) → Type 0
+IsLeft Write command left_old left_new written_old written_new = IsFront command left_old left_new written_old written_new
+IsLeft Read command left_old left_new written_old written_new = IsSilent (Some command) left_old left_new written_old written_new
+IsLeft (OutOfMemory _) command left_old left_new written_old written_new = IsSilent (Some command) left_old left_new written_old written_new

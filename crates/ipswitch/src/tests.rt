@@ -127,10 +127,11 @@ fn long_packet_is_refused(rt: HostRuntime) -> Result<(), Fail> {
     Ok(())
 }
 
+const USAGE: &str = "usage: ipswitch replay|replay toml|ideal|decode ifmp|decode gsmp|drill N\n";
+
 /// Words that ask for nothing get the usage line.
 #[test]
 fn other_words_are_usage(rt: HostRuntime) -> Result<(), Fail> {
-    let usage = "usage: ipswitch replay|replay toml|ideal|decode ifmp|decode gsmp|drill N\n";
     let lists: [&[&str]; 7] = [
         &[],
         &["replay", "x"],
@@ -143,7 +144,7 @@ fn other_words_are_usage(rt: HostRuntime) -> Result<(), Fail> {
     for words in lists {
         let (given, sink) = outcome(rt.alloc(), words, "", 4096, &[], &[])?;
         assert_eq!(rt; given, 1);
-        assert_eq!(rt; sink.written(), usage.as_bytes());
+        assert_eq!(rt; sink.written(), USAGE.as_bytes());
     }
     Ok(())
 }
@@ -276,6 +277,29 @@ fn faults_end_the_run(rt: HostRuntime) -> Result<(), Fail> {
         )?;
         assert_eq!(rt; given, 0);
         assert_eq!(rt; sink.written(), report.as_bytes());
+    }
+    Ok(())
+}
+
+/// A source that fails before its script is read; a sink that takes nothing; and words that ask for
+/// nothing, before a source that would fail, to a sink that takes all and to one that takes nothing.
+#[test]
+fn statuses_tell_who_failed(rt: HostRuntime) -> Result<(), Fail> {
+    let script = format!(in rt.alloc(); "{ONE_NODE}{ONE_PACKET}")?;
+    let rows: [(&[&str], &[u32], usize, u8, &str); 4] = [
+        (&["replay"], &[2], 4096, 3, ""),
+        (&["replay"], &[], 0, 4, ""),
+        (&["replay", "x"], &[1], 4096, 1, USAGE),
+        (&["replay", "x"], &[1], 0, 4, ""),
+    ];
+    for (texts, failing_reads, piece, status, written) in rows {
+        let words = words_of(rt.alloc(), texts)?;
+        let octets = script.as_bytes().to_vec(rt.alloc())?;
+        let mut source = MemSource::new(octets, 64, failing_reads.to_vec(rt.alloc())?);
+        let mut sink = MemSink::new(rt.alloc(), piece, Vec::new(rt.alloc()))?;
+        let given = run(rt.alloc(), words.as_slice(), &mut source, &mut sink);
+        assert_eq!(rt; given, status);
+        assert_eq!(rt; sink.written(), written.as_bytes());
     }
     Ok(())
 }

@@ -1,10 +1,10 @@
 //! A source and a sink in memory, which move octets in pieces and fail at the calls that they are
 //! told to fail at.
 
-ghost use Rattle.std.specs.Prelude.{◌≡◌, ◌<◌, ◌++◌, [], length, min, take, drop, Some, IfOk, OnOk};
+ghost use Rattle.std.specs.Prelude.{◌≡◌, ◌<◌, ◌++◌, [], length, min, take, drop, Some, is_err, IfOk, OnOk, OnErr};
 ghost use Rattle.std.specs.Io.{ReadsAtMost, WritesAtMost};
 ghost use Rattle.std.specs.Io.KnownBytes.{ReadConsumes, WriteAppends};
-ghost use Rattle.lab_io.specs.Fault.{HasCause, Rose};
+ghost use Rattle.lab_io.specs.Fault.{count_after, write_failed};
 ghost use Rattle.lab_io.specs.Memory.{is_failing, portion, read_answer, after_read, written_over, write_answer, after_write};
 
 use crate::edge::{Failed, Sink, Source};
@@ -92,13 +92,15 @@ impl Source for MemSource {
     ghost faults = { λ s. s.faults };
 
     fn read(&mut self, buf: &mut [u8]) -> Result<usize, Failed>
+        requires { 0 < length buf.old }
         ensures bound { ReadsAtMost result buf.new }
         ensures octets { ReadConsumes (Some self.old.left) (Some self.new.left) result buf.new }
-        ensures cause { HasCause self.old.faults self.new.faults result }
+        ensures faults { self.new.faults ≡ count_after (is_err result) self.old.faults }
 
         ensures answer { result ≡ read_answer self.old (length buf.old) }
         ensures after { self.new ≡ after_read self.old (length buf.old) }
         ensures given { OnOk result (buf.new ≡ written_over buf.old (portion self.old (length buf.old))) }
+        ensures kept { OnErr result (buf.new ≡ buf.old) }
     {
         let fails = is_listed(self.failing.as_slice(), self.calls);
         self.calls = self.calls.saturating_add(1);
@@ -177,8 +179,7 @@ impl Sink for MemSink {
     fn write(&mut self, buf: &[u8]) -> Result<usize, Failed>
         ensures bound { WritesAtMost result buf.now }
         ensures octets { WriteAppends (Some self.old.taken) (Some self.new.taken) result buf.now }
-        ensures cause { HasCause self.old.faults self.new.faults result }
-        ensures stuck { result ≡ Ok 0 → 0 < length buf.now → Rose self.old.faults self.new.faults }
+        ensures faults { self.new.faults ≡ count_after (write_failed result buf.now) self.old.faults }
 
         ensures answer { result ≡ write_answer self.old buf.now }
         ensures after { self.new ≡ after_write self.old buf.now }

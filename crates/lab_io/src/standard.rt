@@ -77,7 +77,7 @@ impl Sink for StdSink {
 
     fn write(&mut self, buf: &[u8]) -> Result<usize, Failed> {
         match self.stdout.write(buf) {
-            Ok(0) => {
+            Ok(0) if !buf.is_empty() => {
                 self.faults = self.faults.saturating_add(1);
                 Ok(0)
             }

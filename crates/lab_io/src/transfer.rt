@@ -1,9 +1,9 @@
 //! Whole inputs and whole outputs over a source and a sink.
 
-ghost use Rattle.std.specs.Prelude.{◌≡◌, ◌<◌, ◌≤◌, length, IfOk, OnOk, OnErr, IsErrOf};
+ghost use Rattle.std.specs.Prelude.{◌≡◌, ◌<◌, ◌≤◌, length, is_err, IfOk, OnOk, OnErr};
 ghost use Rattle.std.specs.Io.KnownBytes.{Appends, Consumes, IsAtEnd};
-ghost use Rattle.lab_io.specs.Fault.{HasCause, Rose};
-ghost use Rattle.lab_io.specs.Transfer.{AppendsFront, ConsumesSome};
+ghost use Rattle.lab_io.specs.Fault.{count_after};
+ghost use Rattle.lab_io.specs.Transfer.{AppendsFront, ConsumesSome, input_failed};
 
 use crate::edge::{Failed, Sink, Source};
 use net_types::OutOfMemory;
@@ -14,7 +14,7 @@ use std::alloc::Global;
 pub enum InputFault {
     /// A read failed.
     Failed,
-    /// No memory was left for what was read.
+    /// No memory was there for what was read.
     OutOfMemory(OutOfMemory),
 }
 
@@ -22,14 +22,14 @@ pub enum InputFault {
 const CHUNK: usize = 4096;
 
 /// Reads `source` to its end, but never more than `limit` octets: it ends without a further read
-/// where it has as many. After a refusal the octets read so far are lost.
+/// where it has as many. The first read that fails is the last one. After a refusal the octets read so
+/// far are lost.
 pub fn read_to_end<S: Source>(
     alloc: Global,
     source: &mut S,
     limit: usize,
 ) -> Result<Vec<u8>, InputFault>
-    ensures later { S.faults source.old ≤ S.faults source.new }
-    ensures failed { IsErrOf result InputFault.Failed → Rose (S.faults source.old) (S.faults source.new) }
+    ensures faults { S.faults source.new ≡ count_after (input_failed result) (S.faults source.old) }
     ensures octets { IfOk result (λ read. Consumes (S.left source.old) (S.left source.new) read.items) }
     ensures bound { IfOk result (λ read. length read.items ≤ limit) }
     ensures whole { IfOk result (λ read. length read.items < limit → IsAtEnd (S.left source.new)) }
@@ -54,9 +54,9 @@ pub fn read_to_end<S: Source>(
 }
 
 /// Writes all of `octets` to `sink`, or a front of them where it fails. A sink that takes none of
-/// some octets has failed.
+/// some octets has failed. The first write that fails is the last one.
 pub fn write_all<K: Sink>(sink: &mut K, octets: &[u8]) -> Result<(), Failed>
-    ensures cause { HasCause (K.faults sink.old) (K.faults sink.new) result }
+    ensures faults { K.faults sink.new ≡ count_after (is_err result) (K.faults sink.old) }
     ensures ok { OnOk result (Appends (K.written sink.old) (K.written sink.new) octets.now) }
     ensures front { AppendsFront (K.written sink.old) (K.written sink.new) octets.now }
 {
@@ -75,6 +75,7 @@ pub fn write_all<K: Sink>(sink: &mut K, octets: &[u8]) -> Result<(), Failed>
 mod tests {
     use super::*;
     use crate::memory::{MemSink, MemSource};
+    use net_types::OutOfMemory;
     use std::alloc::AllocError;
     use std::test::Fail;
 
