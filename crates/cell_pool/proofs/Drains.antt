@@ -1,8 +1,8 @@
 -- A line that gives its places back one by one.
 
-use Rattle.std.proofs.Common.{◌≡◌, ◌≢◌, ℕ, ◌+◌, List, [], ◌∷◌, length, refl, sym, ap, subst, ◌∙◌, arith}
+use Rattle.std.proofs.Common.{◌≡◌, ℕ, ◌+◌, List, ◌∷◌, length, refl, sym, ap, subst, ◌∙◌, arith}
 use Rattle.cell_pool.specs.Places.{NotIn, Apart}
-use Rattle.cell_pool.specs.Region.{Region, Line, size, cell_at, places, cells_of, len_of, IsOut, IsLine}
+use Rattle.cell_pool.specs.Region.{Region, Line, size, places, len_of, IsOut, IsLine}
 use Rattle.cell_pool.specs.Steps.{IsKept, StaysOut, IsPut, IsPopped, IsDrained}
 
 pub IsKept-trans : (a b c : Region) (l : Line) → IsKept a b l → IsKept b c l → IsKept a c l

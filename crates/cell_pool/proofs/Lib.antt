@@ -3,3 +3,4 @@ pub mod Walks
 pub mod Regions
 pub mod Drains
 pub mod Lines
+pub mod Pairs

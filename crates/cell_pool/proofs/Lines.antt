@@ -1,17 +1,17 @@
 -- Several lines that share one region: what a call on one of them leaves of the others.
 
-use Rattle.std.proofs.Common.{◌≡◌, ◌≢◌, ℕ, zero, suc, ◌+◌, ◌<◌, ◌⊎◌, inl, inr, List, [], ◌∷◌, ◌++◌, length, map, get_or, set, refl, sym, ap, subst, ◌∙◌, arith, length-set, length-append, get_or-set_same, get_or-set_other, add-one}
+use Rattle.std.proofs.Common.{◌≡◌, ◌≢◌, ℕ, zero, suc, ◌+◌, ◌<◌, inl, inr, List, [], ◌∷◌, ◌++◌, length, map, get_or, set, refl, sym, ap, subst, ◌∙◌, arith, length-set, length-append, get_or-set_same, get_or-set_other}
 use Rattle.std.specs.List.{sum_by}
 use Rattle.std.proofs.lemmas.Bool.{cases_eq}
-use Rattle.std.proofs.lemmas.List.{map-set, map-append, length-map}
+use Rattle.std.proofs.lemmas.List.{map-set, length-map}
 use Rattle.std.proofs.Math.ListN.{get_or-append}
 use Rattle.std.proofs.Math.Seq.{get_or-append_seam}
 use Rattle.std.proofs.lemmas.List.Sums.{sum_by-set, sum_by-cons}
 use Rattle.atm_cells.specs.declared.cell.Cell.{Cell}
 use Rattle.cell_pool.specs.Places.{NotIn, Apart}
-use Rattle.cell_pool.specs.Region.{Region, Line, size, cell_at, places, cells_of, len_of, IsLine}
+use Rattle.cell_pool.specs.Region.{Region, Line, cell_at, places, cells_of, len_of, IsLine}
 use Rattle.cell_pool.specs.Steps.{IsKept, IsKeptFrom, IsTaken, IsPut, IsPushed, IsPopped, IsDrained}
-use Rattle.cell_pool.specs.Shares.{IsApartFromEach, ShareRegion, len_of_all, IsKeptBeside, LineChanges, IsKeptBesideEach, LinesChange}
+use Rattle.cell_pool.specs.Shares.{IsApartFromEach, ShareRegion, len_of_all, IsKeptBeside, LineChanges, IsKeptBesideEach, LinesChange, ChangesBeside}
 use Rattle.cell_pool.proofs.Lists.{Apart-push, Apart-sym, Apart-nil}
 use Rattle.cell_pool.proofs.Regions.{length-places}
 use Rattle.cell_pool.proofs.Drains.{IsKept-trans}
@@ -243,3 +243,7 @@ pub apart_empty : (r : Region) (ls : List Line) (l : Line) → len_of l ≡ 0 �
 apart_empty r ls l none = record {
   each = λ k d h. subst (λ (xs : List ℕ). Apart (places r (get_or ls k d)) xs) (sym (places-empty r l none)) (Apart-nil (places r (get_or ls k d)));
 }
+
+-- a line changed in a region without other lines
+pub changes_alone : (old new : Region) (q r : Line) → LineChanges old new q r → ChangesBeside old new [] q r
+changes_alone old new q r changed = record { chain = changed; apart = record { each = λ k d h. absurd (omega arith) } }

@@ -1,14 +1,14 @@
 -- What each call of a region, of a queue and of a chain does, over plain regions.
 
-use Rattle.std.proofs.Common.{◌≡◌, ◌≢◌, ℕ, zero, suc, ◌+◌, ◌<◌, ◌≤◌, List, [], ◌∷◌, ◌++◌, length, map, get_or, set, take, drop, refl, sym, ap, subst, ◌∙◌, arith, rules, add-one, get_or-set_same, get_or-set_other, length-set, length-append}
+use Rattle.std.proofs.Common.{◌≡◌, ◌≢◌, ℕ, zero, suc, ◌+◌, ◌<◌, ◌≤◌, List, [], ◌∷◌, ◌++◌, length, map, get_or, set, refl, sym, ap, subst, ◌∙◌, arith, add-one, get_or-set_same, get_or-set_other, length-set}
 use Rattle.std.proofs.lemmas.List.{map-append}
 use Rattle.atm_cells.specs.declared.cell.Cell.{Cell}
 use Rattle.cell_pool.specs.Places.{NotIn, Apart, Distinct, Below}
-use Rattle.cell_pool.specs.Region.{Region, Thread, Line, Threaded, Own, size, blank, cell_at, walk, places, cells_of, len_of, IsOut, EndsAt, IsLine}
-use Rattle.cell_pool.specs.Steps.{IsKept, StaysOut, StaysOutBeside, IsKeptFrom, IsTaken, IsPut, IsPushed, IsPopped, IsDrained}
+use Rattle.cell_pool.specs.Region.{Region, Line, size, blank, cell_at, walk, places, cells_of, len_of, IsOut, EndsAt, IsLine}
+use Rattle.cell_pool.specs.Steps.{IsKept, IsKeptFrom, IsTaken, IsPut, IsPushed}
 use Rattle.cell_pool.specs.declared.pool.Pool.TheInside.{Inside}
-use Rattle.cell_pool.proofs.Lists.{NotIn-push, Distinct-push, Below-push, Apart-push, EndsAt-push, EndsAt-rest, length-le_from_Distinct, Below-end, Apart-end, NotIn_from_apart, Apart-rest_right, Apart-cons_right, Apart-sym, Apart-nil, map-set_apart}
-use Rattle.cell_pool.proofs.Walks.{length-walk, walk-set, walk_first, walk-put, walk-link}
+use Rattle.cell_pool.proofs.Lists.{Distinct-push, Below-push, Apart-push, EndsAt-push, length-le_from_Distinct, Below-end, Apart-end, NotIn_from_apart, Apart-rest_right, Apart-cons_right, map-set_apart}
+use Rattle.cell_pool.proofs.Walks.{length-walk, walk-set, walk-put, walk-link}
 
 -- what the fields of a pool are seen as
 abbrev pub region : Inside → Region
@@ -16,30 +16,22 @@ region p = record { free = walk p.next.items p.head p.free; cells = p.cells.item
 
 -- a line whose places and cells are as they were is kept, if none of its places became free
 pub kept : (old new : Region) (l : Line) → IsLine old l → size new ≡ size old → Apart (places old l) new.free → places new l ≡ places old l → cells_of new l ≡ cells_of old l → IsKept old new l
-kept old new (Threaded q) line same taken p c = record {
+kept old new l line same taken p c = record {
   threaded = record { inside = rw (same, p) line.inside; taken = rw p taken; distinct = rw p line.distinct; ends = rw p line.ends };
-  same_places = p;
-  same_cells = c;
-}
-kept old new (Own ps) line same taken p c = record {
-  threaded = record { inside = rw same line.inside; taken = taken; distinct = line.distinct; ends = line.ends };
   same_places = p;
   same_cells = c;
 }
 
 -- a line's places don't depend on what is free, nor on the cells
 pub places-next : (old : Region) (free : List ℕ) (cells : List Cell) (l : Line) → places (record { free = free; cells = cells; next = old.next }) l ≡ places old l
-places-next old free cells (Threaded q) = refl
-places-next old free cells (Own ps) = refl
+places-next old free cells l = refl
 
 -- a new lead from a place that isn't in the line leaves its places
 pub places-set : (old : Region) (free : List ℕ) (i v : ℕ) (l : Line) → NotIn i (places old l) → places (record { free = free; cells = old.cells; next = set old.next i v }) l ≡ places old l
-places-set old free i v (Threaded q) n = walk-set old.next i v q.head q.len n
-places-set old free i v (Own ps) n = refl
+places-set old free i v l n = walk-set old.next i v l.head l.len n
 
 pub length-places : (r : Region) (l : Line) → length (places r l) ≡ len_of l
-length-places r (Threaded q) = length-walk r.next q.head q.len
-length-places r (Own ps) = refl
+length-places r l = length-walk r.next l.head l.len
 
 abbrev pub taken_region : Region → ℕ → Cell → List ℕ → Region
 taken_region old s c rest = record { free = rest; cells = set old.cells s c; next = old.next }
@@ -92,8 +84,8 @@ put_back old s head n e even out =
           kept old new l line refl (rw now (Apart-cons_right (places old l) s old.free line.taken without)) p (ap (map (cell_at old)) p);
     }
 
--- the place s is pushed to an empty thread
-pub push_first : (r : Region) (h t s : ℕ) → IsOut r s → IsPushed r r (Threaded (record { head = h; tail = t; len = 0 })) (Threaded (record { head = s; tail = s; len = 1 })) s
+-- the place s is pushed to an empty line
+pub push_first : (r : Region) (h t s : ℕ) → IsOut r s → IsPushed r r (record { head = h; tail = t; len = 0 }) (record { head = s; tail = s; len = 1 }) s
 push_first r h t s out = record {
   threaded = record { inside = (out.inside, tt); taken = (out.taken, tt); distinct = (tt, tt); ends = refl };
   now_places = refl;
@@ -113,12 +105,12 @@ more r new q l s line out fresh same_size same_free same_cells p = (
   rw (p, same_cells) (map-append (cell_at r) (places r q) (s ∷ [])),
 )
 
--- the place s is pushed to a thread that has places: its tail leads on to it
-pub push_more : (r : Region) (h t k s : ℕ) → length r.next ≡ size r → IsLine r (Threaded (record { head = h; tail = t; len = suc k })) → IsOut r s → NotIn s (walk r.next h (suc k))
-    → IsPushed r (record { free = r.free; cells = r.cells; next = set r.next t s }) (Threaded (record { head = h; tail = t; len = suc k })) (Threaded (record { head = h; tail = s; len = suc k + 1 })) s
+-- the place s is pushed to a line that has places: its tail leads on to it
+pub push_more : (r : Region) (h t k s : ℕ) → length r.next ≡ size r → IsLine r (record { head = h; tail = t; len = suc k }) → IsOut r s → NotIn s (walk r.next h (suc k))
+    → IsPushed r (record { free = r.free; cells = r.cells; next = set r.next t s }) (record { head = h; tail = t; len = suc k }) (record { head = h; tail = s; len = suc k + 1 }) s
 push_more r h t k s even line out fresh =
-    let q : Line = Threaded (record { head = h; tail = t; len = suc k }) in
-    let l : Line = Threaded (record { head = h; tail = s; len = suc k + 1 }) in
+    let q : Line = record { head = h; tail = t; len = suc k } in
+    let l : Line = record { head = h; tail = s; len = suc k + 1 } in
     let new : Region = record { free = r.free; cells = r.cells; next = set r.next t s } in
     let rest : List ℕ = walk r.next (get_or r.next h 0) k in
     let within : t < length r.next = rw even (Below-end (size r) h rest t line.inside line.ends) in
@@ -136,26 +128,13 @@ push_more r h t k s even line out fresh =
     }
 
 -- the same at any length that isn't 0
-pub push_some : (r : Region) (h t n s : ℕ) → n ≢ 0 → length r.next ≡ size r → IsLine r (Threaded (record { head = h; tail = t; len = n })) → IsOut r s → NotIn s (walk r.next h n)
-    → IsPushed r (record { free = r.free; cells = r.cells; next = set r.next t s }) (Threaded (record { head = h; tail = t; len = n })) (Threaded (record { head = h; tail = s; len = n + 1 })) s
+pub push_some : (r : Region) (h t n s : ℕ) → n ≢ 0 → length r.next ≡ size r → IsLine r (record { head = h; tail = t; len = n }) → IsOut r s → NotIn s (walk r.next h n)
+    → IsPushed r (record { free = r.free; cells = r.cells; next = set r.next t s }) (record { head = h; tail = t; len = n }) (record { head = h; tail = s; len = n + 1 }) s
 push_some r h t zero s some even line out fresh = absurd (some refl)
 push_some r h t (suc k) s some even line out fresh = push_more r h t k s even line out fresh
 
--- the place s is pushed to a list of its own
-pub push_own : (r : Region) (xs : List ℕ) (s : ℕ) → IsLine r (Own xs) → IsOut r s → NotIn s xs → length xs < 32 → IsPushed r r (Own xs) (Own (xs ++ s ∷ [])) s
-push_own r xs s line out fresh room =
-    let m = more r r (Own xs) (Own (xs ++ s ∷ [])) s line out fresh refl refl refl refl in
-    record {
-      threaded = record { inside = m.0; taken = m.1; distinct = m.2; ends = omega (arith, length-append xs (s ∷ [])) };
-      now_places = refl;
-      now_cells = m.3;
-      same_free = refl;
-      same_store = refl;
-      others = λ l other apart. kept r r l other refl other.taken refl refl;
-    }
-
--- the tail of a thread that has places is out
-pub tail_out : (r : Region) (h t n : ℕ) → n ≢ 0 → IsLine r (Threaded (record { head = h; tail = t; len = n })) → IsOut r t
+-- the tail of a line that has places is out
+pub tail_out : (r : Region) (h t n : ℕ) → n ≢ 0 → IsLine r (record { head = h; tail = t; len = n }) → IsOut r t
 tail_out r h t zero some line = absurd (some refl)
 tail_out r h t (suc k) some line = record {
   inside = Below-end (size r) h (walk r.next (get_or r.next h 0) k) t line.inside line.ends;

@@ -1,6 +1,6 @@
 -- Lemmas on lists of places that are threaded through a region.
 
-use Rattle.std.proofs.Common.{◌≡◌, ◌≢◌, ℕ, zero, suc, ◌+◌, ◌-◌, ◌<◌, ◌≤◌, List, [], ◌∷◌, ◌++◌, length, get_or, set, refl, sym, ap, subst, ◌∙◌, arith, rules, add-one, get_or-set_other, get_or-set_same}
+use Rattle.std.proofs.Common.{◌≡◌, ◌≢◌, ℕ, zero, suc, ◌+◌, ◌<◌, ◌≤◌, List, [], ◌∷◌, ◌++◌, length, get_or, set, refl, sym, ap, ◌∙◌, arith, add-one, get_or-set_other, get_or-set_same}
 use Rattle.cell_pool.specs.Places.{NotIn, Distinct, Below}
 use Rattle.cell_pool.specs.Region.{EndsAt, walk}
 use Rattle.cell_pool.proofs.Lists.{NotIn-end}

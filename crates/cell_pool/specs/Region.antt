@@ -1,6 +1,6 @@
 -- A region of slots as plain data, and the queues and chains whose slots are in it.
 
-use Rattle.std.specs.Prelude.{◌≡◌, ℕ, zero, suc, ◌<◌, ◌≤◌, ◌+◌, List, [], ◌∷◌, length, map, replicate, slice_index, slice_index_or, nat_eq, if◌then◌else◌, false}
+use Rattle.std.specs.Prelude.{◌≡◌, ℕ, zero, suc, ◌<◌, ◌+◌, List, [], ◌∷◌, length, map, replicate, slice_index, slice_index_or, nat_eq, if◌then◌else◌, false}
 use Rattle.std.specs.List.{list_any}
 use Rattle.atm_cells.specs.declared.cell.Cell.{Cell}
 use Rattle.cell_pool.specs.Places.{NotIn, Apart, Distinct, Below}
@@ -12,16 +12,12 @@ pub record Region : Type 0 where
   pub cells : List Cell
   pub next : List ℕ
 
--- a list of places that is threaded through a region: its first place, its last one, its length
-pub record Thread : Type 0 where
+-- what a queue or a chain is seen as, a list of places that is threaded through its region: its
+-- first place, its last one, its length
+pub record Line : Type 0 where
   pub head : ℕ
   pub tail : ℕ
   pub len : ℕ
-
--- what a queue or a chain is seen as: threaded through its region, or a list of its own
-pub data Line : Type 0 where
-  Threaded : Thread → Line
-  Own : List ℕ → Line
 
 -- how many slots the region has
 abbrev pub size : Region → ℕ
@@ -46,8 +42,7 @@ walk next h (suc n) = h ∷ walk next (slice_index next h) n
 
 -- the places of a line, the first one first
 abbrev pub places : Region → Line → List ℕ
-places r (Threaded q) = walk r.next q.head q.len
-places r (Own ps) = ps
+places r l = walk r.next l.head l.len
 
 -- the cells of a line, the first one first
 abbrev pub cells_of : Region → Line → List Cell
@@ -55,8 +50,7 @@ cells_of r l = map (cell_at r) (places r l)
 
 -- how many places a line has
 abbrev pub len_of : Line → ℕ
-len_of (Threaded q) = q.len
-len_of (Own ps) = length ps
+len_of l = l.len
 
 -- the place was taken and not put back
 pub record IsOut (r : Region) (p : ℕ) : Type 0 where
@@ -78,14 +72,10 @@ EndsAt [] t = Unit {0}
 EndsAt (x ∷ []) t = x ≡ t
 EndsAt (x ∷ y ∷ ys) t = EndsAt (y ∷ ys) t
 
--- the tail of a thread is its last place; a list of its own has at most 32
-abbrev pub EndsRight : Region → Line → Type 0
-EndsRight r (Threaded q) = EndsAt (walk r.next q.head q.len) q.tail
-EndsRight r (Own ps) = length ps ≤ 32
-
--- with this region the line is a list of distinct places, each taken and not put back
+-- with this region the line is a list of distinct places, each taken and not put back, that ends at
+-- its tail
 pub record IsLine (r : Region) (l : Line) : Type 0 where
   pub inside : Below (size r) (places r l)
   pub taken : Apart (places r l) r.free
   pub distinct : Distinct (places r l)
-  pub ends : EndsRight r l
+  pub ends : EndsAt (places r l) l.tail

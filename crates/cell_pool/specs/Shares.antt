@@ -44,3 +44,8 @@ pub record LinesChange (old new : Region) (qs rs : List Line) : Type 0 where
   pub same_size : size new ≡ size old
   pub counted : length new.free + len_of_all rs ≡ length old.free + len_of_all qs
   pub others : (l : Line) → IsLine old l → IsApartFromEach old qs l → IsKeptBesideEach old new rs l
+
+-- the line q became r beside the lines ls, and r shares no place with them
+pub record ChangesBeside (old new : Region) (ls : List Line) (q r : Line) : Type 0 where
+  pub chain : LineChanges old new q r
+  pub apart : IsApartFromEach new ls r

@@ -6,30 +6,28 @@ ghost use Rattle.cell_pool.specs.Region.{Region, places, len_of, IsOut, IsLine};
 ghost use Rattle.cell_pool.specs.Steps.{IsPushed, IsPopped, IsDrained};
 
 use crate::pool::{Pool, Slot};
+use crate::queue::Queue;
 use std::marker::Model;
 
 /// The most cells that a chain holds: those of the longest AAL5 frame in use, 1,536 octets.
 pub const CHAIN_CELLS: usize = 32;
 
-/// At most 32 slots of one region in order. It must be drained.
+/// At most 32 slots of one region in order. It takes no memory, and it must be drained.
 #[must_use]
 #[derive(Debug)]
 pub struct Chain {
-    /// The places, the first one first.
-    places: [usize; CHAIN_CELLS],
-    /// How many of them are in use.
-    len: usize,
+    queue: Queue,
 }
 
 impl Model for Chain {
-    ghost use Rattle.std.specs.Prelude.{◌≤◌, take};
-    ghost use Rattle.cell_pool.specs.Region.{Line, Own};
+    ghost use Rattle.std.specs.Prelude.{◌≤◌};
+    ghost use Rattle.cell_pool.specs.Region.{Line, len_of};
 
     ghost Value = { Line };
 
-    ghost view = { λ c. Own (take c.len c.places) };
+    ghost view = { λ c. c.queue };
 
-    ghost invariant = { λ c. c.len ≤ 32 };
+    ghost invariant = { λ c. len_of c.queue ≤ 32 };
 }
 
 impl Chain {
@@ -39,8 +37,7 @@ impl Chain {
         ensures threaded { (pool : Region) → IsLine pool result }
     {
         Chain {
-            places: [0; CHAIN_CELLS],
-            len: 0,
+            queue: Queue::new(),
         }
     }
 
@@ -49,14 +46,14 @@ impl Chain {
         ensures len { result ≡ len_of self.now }
         ensures most { result ≤ 32 }
     {
-        self.len
+        self.queue.len()
     }
 
     /// Whether the chain has no cell.
     pub fn is_empty(&self) -> bool
         ensures { IsTrue result ↔ (len_of self.now ≡ 0) }
     {
-        self.len == 0
+        self.queue.is_empty()
     }
 
     /// Puts the slot at the end.
@@ -68,8 +65,7 @@ impl Chain {
         ensures pushed { IsPushed pool.old pool.new self.old self.new slot }
         ensures len { len_of self.new ≡ len_of self.old + 1 }
     {
-        self.places[self.len] = slot.into_place();
-        self.len += 1;
+        self.queue.push(pool, slot);
     }
 
     /// Takes the first slot out. None exactly where the chain is empty.
@@ -81,23 +77,15 @@ impl Chain {
         ensures none_same { IfNone result (self.new ≡ self.old) }
         ensures some { IfSome result (λ slot. IsPopped pool.old self.old self.new slot) }
     {
-        if self.len == 0 {
-            return None;
-        }
-        let place = self.places[0];
-        self.places.copy_within(1.., 0);
-        self.len -= 1;
-        Some(Slot::of_place(place))
+        self.queue.pop(pool)
     }
 
     /// Gives all slots back to the region.
-    pub fn drain(mut self, pool: &mut Pool)
+    pub fn drain(self, pool: &mut Pool)
         requires { IsLine pool.old self }
         ensures { IsDrained pool.old pool.new self }
     {
-        while let Some(slot) = self.pop(pool) {
-            pool.put(slot);
-        }
-        let Chain { places: _, len: _ } = self;
+        let Chain { queue } = self;
+        queue.drain(pool);
     }
 }

@@ -9,9 +9,11 @@
 mod chain;
 mod pool;
 mod queue;
+mod store;
 #[cfg(test)]
 mod tests;
 
 pub use chain::{CHAIN_CELLS, Chain};
 pub use pool::{Pool, Slot};
 pub use queue::Queue;
+pub use store::ChainStore;

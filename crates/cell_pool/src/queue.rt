@@ -21,11 +21,11 @@ pub struct Queue {
 }
 
 impl Model for Queue {
-    ghost use Rattle.cell_pool.specs.Region.{Line, Threaded};
+    ghost use Rattle.cell_pool.specs.Region.{Line};
 
     ghost Value = { Line };
 
-    ghost view = { λ q. Threaded (record { head = q.head; tail = q.tail; len = q.len }) };
+    ghost view = { λ q. record { head = q.head; tail = q.tail; len = q.len } };
 }
 
 impl Queue {

@@ -1,5 +1,5 @@
-use Rattle.std.proofs.Common.{◌≡◌, ◌+◌, length, sym}
-use Rattle.cell_pool.specs.Region.{others_below, walk}
+use Rattle.std.proofs.Common.{length, sym}
+use Rattle.cell_pool.specs.Region.{walk}
 use Rattle.cell_pool.proofs.Lists.{others_below-length}
 use Rattle.cell_pool.proofs.Walks.{length-walk}
 use Rattle.cell_pool.proofs.pool.Pool.free.Goals as goal

@@ -1,6 +1,5 @@
-use Rattle.std.proofs.Common.{◌≡◌, length, length-set}
-use Rattle.cell_pool.specs.Places.{NotIn}
-use Rattle.cell_pool.specs.Region.{walk, IsOut}
+use Rattle.std.proofs.Common.{length-set}
+use Rattle.cell_pool.specs.Region.{IsOut}
 use Rattle.cell_pool.proofs.Regions.{region}
 use Rattle.cell_pool.proofs.Walks.{walk-set}
 use Rattle.cell_pool.proofs.pool.Pool.link.Goals as goal

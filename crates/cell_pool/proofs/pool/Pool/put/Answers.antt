@@ -1,5 +1,4 @@
-use Rattle.std.proofs.Common.{◌≡◌, ◌+◌, ◌≤◌, ◌∷◌, List, ℕ, length, refl, arith, length-set}
-use Rattle.cell_pool.specs.Places.{Distinct, Below}
+use Rattle.std.proofs.Common.{◌≡◌, ◌∷◌, length, refl, arith, length-set}
 use Rattle.cell_pool.specs.Region.{walk, IsOut}
 use Rattle.cell_pool.proofs.Regions.{region, put_back}
 use Rattle.cell_pool.proofs.Lists.{length-le_from_Distinct}

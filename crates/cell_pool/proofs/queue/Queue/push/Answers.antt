@@ -1,6 +1,4 @@
-use Rattle.std.proofs.Common.{◌≡◌, ◌+◌, ◌<◌, ap, arith}
-use Rattle.cell_pool.specs.Region.{IsLine, Threaded, walk}
-use Rattle.cell_pool.specs.Places.{NotIn}
+use Rattle.std.proofs.Common.{ap, arith}
 use Rattle.cell_pool.specs.declared.queue.Queue.TheInside.{Inside}
 use Rattle.cell_pool.proofs.Regions.{tail_out, len-lt-size, push_first, push_some, region_is}
 use Rattle.cell_pool.proofs.queue.Queue.push.Goals as goal
