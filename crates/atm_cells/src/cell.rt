@@ -12,7 +12,7 @@ pub struct Header {
 }
 
 /// A cell with the mark of the frame that it belongs to.
-#[derive(Clone, Copy, Debug)]
+#[derive(Clone, Copy, Debug, PartialEq, Eq)]
 pub struct Cell {
     /// Its header.
     pub header: Header,

@@ -16,7 +16,7 @@ pub enum Next {
 }
 
 /// A prefix with where its packets go.
-#[derive(Clone, Copy, Debug)]
+#[derive(Clone, Copy, Debug, PartialEq, Eq)]
 pub struct Route {
     /// The addresses that the route is for.
     pub prefix: Prefix,

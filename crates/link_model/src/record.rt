@@ -1,6 +1,7 @@
 //! The records of a run: what became of packets, frames and cells.
 
-use net_types::{Mark, NodeId, Octets};
+use flow_ids::FlowId;
+use net_types::{Mark, NodeId, Octets, Place, PortNo};
 
 /// Why a frame may be gone: the cause of an entry of the loss ledger.
 #[derive(Clone, Copy, Debug, PartialEq, Eq)]
@@ -141,5 +142,73 @@ pub enum Record {
         layer: Layer,
         /// Why.
         name: Refusal,
+    },
+    /// A port of a node may hand out labels: its adjacency with the next node is established.
+    Opened {
+        /// The node.
+        node: NodeId,
+        /// The port.
+        port: PortNo,
+    },
+    /// A port may hand out labels no more, and all that it did are void.
+    Closed {
+        /// The node.
+        node: NodeId,
+        /// The port.
+        port: PortNo,
+    },
+    /// A label is bound to a flow, and offered to the node before.
+    Bind {
+        /// The node that receives what comes under the label.
+        node: NodeId,
+        /// The port that it comes in at.
+        port: PortNo,
+        /// The label's number.
+        vci: u16,
+        /// The flow.
+        flow: FlowId,
+    },
+    /// A label is spare again.
+    Free {
+        /// The node.
+        node: NodeId,
+        /// The port.
+        port: PortNo,
+        /// The label's number.
+        vci: u16,
+    },
+    /// A label's cells go on under a label of another port, and past the controller.
+    Join {
+        /// The node.
+        node: NodeId,
+        /// The port that the cells come in at.
+        port: PortNo,
+        /// The number of the label that they come under.
+        vci: u16,
+        /// The port that they go out at.
+        to_port: PortNo,
+        /// The number of the label that they go out under.
+        to_vci: u16,
+    },
+    /// A joined label's cells go to the controller again, or nowhere.
+    Part {
+        /// The node.
+        node: NodeId,
+        /// The port that the cells come in at.
+        port: PortNo,
+        /// The number of the label that they come under.
+        vci: u16,
+    },
+    /// A frame that no node made was put on a queue.
+    Forged {
+        /// The queue.
+        place: Place,
+    },
+    /// A node goes by its changed routes from here on.
+    Routes {
+        /// The node.
+        node: NodeId,
+        /// The number of the change among those of the node, from 1.
+        number: u32,
     },
 }

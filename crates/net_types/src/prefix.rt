@@ -18,7 +18,7 @@ pub enum PrefixFault {
 }
 
 /// The addresses whose first `len` bits are those of `addr`, which has no bit set past them.
-#[derive(Clone, Copy, Debug)]
+#[derive(Clone, Copy, Debug, PartialEq, Eq)]
 pub struct Prefix {
     addr: Addr,
     len: u8,

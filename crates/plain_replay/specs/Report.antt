@@ -22,21 +22,19 @@ use Rattle.plain_replay.specs.Script.{Script}
 abbrev pub mark_text : Mark → List ℕ
 mark_text mark = decimal mark.packet ++ (codes "." ++ decimal mark.frame)
 
--- the words of a record's line
-abbrev pub record_words : List Node → Record → List (List ℕ)
-record_words nodes (Delivered node packet octets) =
-    codes "deliver" ∷ name_of nodes node ∷ decimal packet ∷ hex_digits octets ∷ []
-record_words nodes (Dropped node packet cause) =
-    codes "drop" ∷ name_of nodes node ∷ decimal packet ∷ drop_text cause ∷ []
-record_words nodes (Refused node packet name) =
-    codes "refuse" ∷ name_of nodes node ∷ decimal packet ∷ refusal_text name ∷ []
-record_words nodes (Loss mark cause) = codes "loss" ∷ mark_text mark ∷ cause_text cause ∷ []
-record_words nodes (Chance mark) = codes "chance" ∷ mark_text mark ∷ []
-record_words nodes (Bad node layer name) =
-    codes "bad" ∷ name_of nodes node ∷ layer_text layer ∷ refusal_text name ∷ []
-
+-- the line of a record; a plain network makes no records but these, and others have none here
 abbrev pub record_line : List Node → Record → List ℕ
-record_line nodes item = line_of (record_words nodes item)
+record_line nodes (Delivered node packet octets) =
+    line_of (codes "deliver" ∷ name_of nodes node ∷ decimal packet ∷ hex_digits octets ∷ [])
+record_line nodes (Dropped node packet cause) =
+    line_of (codes "drop" ∷ name_of nodes node ∷ decimal packet ∷ drop_text cause ∷ [])
+record_line nodes (Refused node packet name) =
+    line_of (codes "refuse" ∷ name_of nodes node ∷ decimal packet ∷ refusal_text name ∷ [])
+record_line nodes (Loss mark cause) = line_of (codes "loss" ∷ mark_text mark ∷ cause_text cause ∷ [])
+record_line nodes (Chance mark) = line_of (codes "chance" ∷ mark_text mark ∷ [])
+record_line nodes (Bad node layer name) =
+    line_of (codes "bad" ∷ name_of nodes node ∷ layer_text layer ∷ refusal_text name ∷ [])
+record_line nodes other = []
 
 -- the lines of records, in order
 abbrev pub record_lines : List Node → List Record → List ℕ

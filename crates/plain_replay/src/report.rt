@@ -30,7 +30,7 @@ fn write_mark(out: &mut Text, mark: Mark) -> Result<(), OutOfMemory>
     out.number(mark.frame)
 }
 
-/// Appends a record's line.
+/// Appends a record's line. Records that no plain network makes have none.
 pub fn write_record(out: &mut Text, topology: &Topology, item: &Record) -> Result<(), OutOfMemory>
     ensures { OnOk result (out.new ≡ out.old ++ record_line topology.now.nodes item.now) }
 {
@@ -77,6 +77,14 @@ pub fn write_record(out: &mut Text, topology: &Topology, item: &Record) -> Resul
             out.text(" ")?;
             out.text(refusal_name(*name))?;
         }
+        Record::Opened { .. }
+        | Record::Closed { .. }
+        | Record::Bind { .. }
+        | Record::Free { .. }
+        | Record::Join { .. }
+        | Record::Part { .. }
+        | Record::Forged { .. }
+        | Record::Routes { .. } => return Ok(()),
     }
     out.text("\n")
 }
@@ -118,7 +126,15 @@ fn is_of(kind: Kind, item: &Record) -> bool
         Record::Refused { .. } => matches!(kind, Kind::Refusals),
         Record::Loss { .. } => matches!(kind, Kind::Losses),
         Record::Chance { .. } => matches!(kind, Kind::Chances),
-        Record::Bad { .. } => false,
+        Record::Bad { .. }
+        | Record::Opened { .. }
+        | Record::Closed { .. }
+        | Record::Bind { .. }
+        | Record::Free { .. }
+        | Record::Join { .. }
+        | Record::Part { .. }
+        | Record::Forged { .. }
+        | Record::Routes { .. } => false,
     }
 }
 
