@@ -7,9 +7,9 @@ use Rattle.std.specs.Int.{w16, w32, to_be_bytes}
 use Rattle.std.proofs.lemmas.Bool.Decides.{nat_tests}
 use Rattle.std.proofs.lemmas.List.{length-drop, length-set}
 use Rattle.std.proofs.lemmas.Nat.{from_be_bytes-to_be_bytes_2}
-use Rattle.ipv4_packet.specs.Fields.{u16_at, u32_at}
+use Rattle.octet_fields.specs.Fields.{u16_at, u32_at}
 use Rattle.ipv4_packet.specs.Packet.{tos_of, total_length_of, fragment_of, ttl_of, protocol_of, source_of, destination_of, with_ttl, with_checksum, canonical, canonical_checksum, IsPacket}
-use Rattle.ipv4_packet.proofs.FieldLemmas.{AreOctets, AreOctets-drop, AreOctets-take, u16-then, u32-then}
+use Rattle.octet_fields.proofs.FieldLemmas.{AreOctets, AreOctets-drop, AreOctets-take, u16-then, u32-then}
 use Rattle.ipv4_packet.proofs.HeaderLemmas.{on_header, IsPacket-with_ttl}
 use Rattle.ipv4_packet.proofs.RouteLemmas.{length-rerouted, canonical-canonical}
 use Rattle.flow_ids.specs.declared.flow.FlowKind.{FlowKind}
@@ -18,8 +18,8 @@ use Rattle.flow_ids.specs.declared.flow.FlowId.{FlowId}
 use Rattle.flow_ids.specs.declared.flow.FlowId.TheVariants.{One, Two}
 use Rattle.flow_ids.specs.Flow.{kind_of, flow_ttl, at_ttl, has_ports, shows_ports, flow_of, next_hop_of}
 use Rattle.flow_ids.proofs.HopLemmas.{next_hop_of-flow_of}
-use Rattle.flow_encaps.specs.Labelled.{still_checksum, labelled_payload, Carries, made, head_size, left_out, has_zeros, said_length, said_checksum, unwrap_fault, HasLayout}
-use Rattle.flow_encaps.proofs.MadeLemmas.{AreOctets-pair, still_checksum-with_checksum, canonical-with_checksum, layout_fault-passed, unwrap_fault-none}
+use Rattle.flow_encaps.specs.Labelled.{checksum_at_ttl_zero, labelled_payload, Carries, rebuilt, head_size, left_out, has_zeros, said_length, said_checksum, unwrap_fault, HasLayout}
+use Rattle.flow_encaps.proofs.RebuiltLemmas.{AreOctets-pair, checksum_at_ttl_zero-with_checksum, canonical-with_checksum, layout_fault-passed, unwrap_fault-none}
 
 -- the flow of a packet tells its fields
 cond_some : (test : Bool) (flow other : FlowId) → cond test (Some flow) None ≡ Some other → (other ≡ flow) × (test ≡ true)
@@ -67,15 +67,15 @@ hosts_head : (packet : List ℕ) → 20 ≤ length packet → get_or packet 0 0 
 hosts_head = on_header (λ p. get_or p 0 0 ≡ 69 → 69 ∷ get_or (labelled_payload HostsKind p) 1 0 ∷ (take 6 (drop 2 (labelled_payload HostsKind p)) ++ (ttl_of p ∷ get_or (labelled_payload HostsKind p) 9 0 ∷ 0 ∷ 0 ∷ drop 12 p)) ≡ with_checksum p 0)
     (λ a b c d e f g h i j k l m n o p q r s t rest first. ap (λ (octet : ℕ). octet ∷ b ∷ c ∷ d ∷ e ∷ f ∷ g ∷ h ∷ i ∷ j ∷ 0 ∷ 0 ∷ m ∷ n ∷ o ∷ p ∷ q ∷ r ∷ s ∷ t ∷ rest) (sym first))
 
-made-connection_at : (packet : List ℕ) → AreOctets packet → IsPacket packet → 24 ≤ length packet → made (connection_at packet) (labelled_payload ConnectionKind packet) ≡ with_checksum packet 0
-made-connection_at packet small known long =
+rebuilt-connection_at : (packet : List ℕ) → AreOctets packet → IsPacket packet → 24 ≤ length packet → rebuilt (connection_at packet) (labelled_payload ConnectionKind packet) ≡ with_checksum packet 0
+rebuilt-connection_at packet small known long =
     let payload = labelled_payload ConnectionKind packet in
     let behind = u32-then packet 12 _ small (omega arith) (u32-then packet 16 _ small (omega arith) (u16-then packet 20 _ small (omega arith) (u16-then packet 22 (drop 8 payload) small (omega arith) (sym (drop_8-labelled packet known.has_header))))) in
     ap (λ (part : List ℕ). 69 ∷ tos_of packet ∷ (take 6 payload ++ (ttl_of packet ∷ protocol_of packet ∷ 0 ∷ 0 ∷ part))) (sym behind)
     ∙ connection_head packet known.has_header known.version_and_header_length
 
-made-hosts_at : (packet : List ℕ) → AreOctets packet → IsPacket packet → made (hosts_at packet) (labelled_payload HostsKind packet) ≡ with_checksum packet 0
-made-hosts_at packet small known =
+rebuilt-hosts_at : (packet : List ℕ) → AreOctets packet → IsPacket packet → rebuilt (hosts_at packet) (labelled_payload HostsKind packet) ≡ with_checksum packet 0
+rebuilt-hosts_at packet small known =
     let payload = labelled_payload HostsKind packet in
     let long = known.has_header in
     let behind = u32-then packet 12 _ small (omega arith) (u32-then packet 16 (drop 12 payload) small (omega arith) (sym (drop_12-labelled packet known.has_header))) in
@@ -83,32 +83,32 @@ made-hosts_at packet small known =
     ∙ hosts_head packet known.has_header known.version_and_header_length
 
 -- flow and payload make the packet, but for its checksum
-made-carried : (flow : FlowId) (packet payload : List ℕ) → Carries flow packet payload → made flow payload ≡ with_checksum packet 0
-made-carried (One tos ttl protocol source destination source_port destination_port) packet payload carried =
+rebuilt-carried : (flow : FlowId) (packet payload : List ℕ) → Carries flow packet payload → rebuilt flow payload ≡ with_checksum packet 0
+rebuilt-carried (One tos ttl protocol source destination source_port destination_port) packet payload carried =
     let flow = One tos ttl protocol source destination source_port destination_port in
     let is = connection_is packet flow carried.of_flow in
     let shown = shows (ttl_of packet) (protocol_of packet) (fragment_of packet) (length packet) is.1 in
-    ap (λ (f : FlowId). made f payload) is.0 ∙ ap (λ (octets : List ℕ). made (connection_at packet) octets) carried.filled
-    ∙ made-connection_at packet carried.octets carried.is_packet shown.2
-made-carried (Two ttl source destination) packet payload carried =
+    ap (λ (f : FlowId). rebuilt f payload) is.0 ∙ ap (λ (octets : List ℕ). rebuilt (connection_at packet) octets) carried.filled
+    ∙ rebuilt-connection_at packet carried.octets carried.is_packet shown.2
+rebuilt-carried (Two ttl source destination) packet payload carried =
     let flow = Two ttl source destination in
     let is = hosts_is packet flow carried.of_flow in
-    ap (λ (f : FlowId). made f payload) is.0 ∙ ap (λ (octets : List ℕ). made (hosts_at packet) octets) carried.filled
-    ∙ made-hosts_at packet carried.octets carried.is_packet
+    ap (λ (f : FlowId). rebuilt f payload) is.0 ∙ ap (λ (octets : List ℕ). rebuilt (hosts_at packet) octets) carried.filled
+    ∙ rebuilt-hosts_at packet carried.octets carried.is_packet
 
-pub packet-carried : (flow : FlowId) (packet payload : List ℕ) → Carries flow packet payload → canonical (made flow payload) ≡ packet
+pub packet-carried : (flow : FlowId) (packet payload : List ℕ) → Carries flow packet payload → canonical (rebuilt flow payload) ≡ packet
 packet-carried flow packet payload carried =
-    ap canonical (made-carried flow packet payload carried) ∙ canonical-with_checksum packet 0 carried.is_packet.has_header ∙ carried.is_canonical
+    ap canonical (rebuilt-carried flow packet payload carried) ∙ canonical-with_checksum packet 0 carried.is_packet.has_header ∙ carried.is_canonical
 
 pub Carries-injective : (flow : FlowId) (first second payload : List ℕ) → Carries flow first payload → Carries flow second payload → first ≡ second
 Carries-injective flow first second payload one other = sym (packet-carried flow first payload one) ∙ packet-carried flow second payload other
 
 -- a payload that is a packet passes each test
-said_checksum-labelled : (kind : FlowKind) (packet : List ℕ) → 20 ≤ length packet → said_checksum kind (labelled_payload kind packet) ≡ still_checksum packet
+said_checksum-labelled : (kind : FlowKind) (packet : List ℕ) → 20 ≤ length packet → said_checksum kind (labelled_payload kind packet) ≡ checksum_at_ttl_zero packet
 said_checksum-labelled ConnectionKind packet long =
-    on_header (λ p. said_checksum ConnectionKind (labelled_payload ConnectionKind p) ≡ still_checksum p) (λ a b c d e f g h i j k l m n o p q r s t rest. from_be_bytes-to_be_bytes_2 (still_checksum (a ∷ b ∷ c ∷ d ∷ e ∷ f ∷ g ∷ h ∷ i ∷ j ∷ k ∷ l ∷ m ∷ n ∷ o ∷ p ∷ q ∷ r ∷ s ∷ t ∷ rest)) (omega arith)) packet long
+    on_header (λ p. said_checksum ConnectionKind (labelled_payload ConnectionKind p) ≡ checksum_at_ttl_zero p) (λ a b c d e f g h i j k l m n o p q r s t rest. from_be_bytes-to_be_bytes_2 (checksum_at_ttl_zero (a ∷ b ∷ c ∷ d ∷ e ∷ f ∷ g ∷ h ∷ i ∷ j ∷ k ∷ l ∷ m ∷ n ∷ o ∷ p ∷ q ∷ r ∷ s ∷ t ∷ rest)) (omega arith)) packet long
 said_checksum-labelled HostsKind packet long =
-    on_header (λ p. said_checksum HostsKind (labelled_payload HostsKind p) ≡ still_checksum p) (λ a b c d e f g h i j k l m n o p q r s t rest. from_be_bytes-to_be_bytes_2 (still_checksum (a ∷ b ∷ c ∷ d ∷ e ∷ f ∷ g ∷ h ∷ i ∷ j ∷ k ∷ l ∷ m ∷ n ∷ o ∷ p ∷ q ∷ r ∷ s ∷ t ∷ rest)) (omega arith)) packet long
+    on_header (λ p. said_checksum HostsKind (labelled_payload HostsKind p) ≡ checksum_at_ttl_zero p) (λ a b c d e f g h i j k l m n o p q r s t rest. from_be_bytes-to_be_bytes_2 (checksum_at_ttl_zero (a ∷ b ∷ c ∷ d ∷ e ∷ f ∷ g ∷ h ∷ i ∷ j ∷ k ∷ l ∷ m ∷ n ∷ o ∷ p ∷ q ∷ r ∷ s ∷ t ∷ rest)) (omega arith)) packet long
 
 said_length-labelled : (kind : FlowKind) (packet : List ℕ) → 20 ≤ length packet → said_length kind (labelled_payload kind packet) ≡ total_length_of packet
 said_length-labelled ConnectionKind = on_header (λ p. said_length ConnectionKind (labelled_payload ConnectionKind p) ≡ total_length_of p) (λ a b c d e f g h i j k l m n o p q r s t rest. refl)
@@ -150,8 +150,8 @@ pub unwrap_fault-carried : (flow : FlowId) (packet payload : List ℕ) → Carri
 unwrap_fault-carried flow packet payload carried =
     let long = carried.is_packet.has_header in
     let layout = subst (λ (octets : List ℕ). HasLayout (kind_of flow) octets) (sym carried.filled) (layout-labelled flow packet carried.is_packet carried.of_flow) in
-    let said : said_checksum (kind_of flow) payload ≡ still_checksum packet = ap (λ (octets : List ℕ). said_checksum (kind_of flow) octets) carried.filled ∙ said_checksum-labelled (kind_of flow) packet long in
-    let still : still_checksum (made flow payload) ≡ still_checksum packet = ap still_checksum (made-carried flow packet payload carried) ∙ still_checksum-with_checksum packet 0 long in
+    let said : said_checksum (kind_of flow) payload ≡ checksum_at_ttl_zero packet = ap (λ (octets : List ℕ). said_checksum (kind_of flow) octets) carried.filled ∙ said_checksum-labelled (kind_of flow) packet long in
+    let still : checksum_at_ttl_zero (rebuilt flow payload) ≡ checksum_at_ttl_zero packet = ap checksum_at_ttl_zero (rebuilt-carried flow packet payload carried) ∙ checksum_at_ttl_zero-with_checksum packet 0 long in
     unwrap_fault-none flow payload (layout_fault-passed (kind_of flow) payload layout) (said ∙ sym still)
 
 -- a hop

@@ -2,7 +2,7 @@
 
 use Rattle.std.proofs.Common.{◌≡◌, ℕ, ◌+◌, ◌-◌, ◌≤◌, List, [], ◌++◌, length, take, drop, refl, ap, sym, ◌∙◌, arith, length-append, append_assoc}
 use Rattle.std.proofs.lemmas.List.{drop-drop}
-use Rattle.ipv4_packet.specs.Fields.{written}
+use Rattle.octet_fields.specs.Fields.{written}
 use Rattle.ipv4_packet.proofs.MessageLemmas.{take-front, drop-front}
 
 -- the front of a list is new up to a place, and old from there on

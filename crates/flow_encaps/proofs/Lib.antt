@@ -1,4 +1,4 @@
 pub mod AnswerLemmas
 pub mod CarryLemmas
 pub mod GrowLemmas
-pub mod MadeLemmas
+pub mod RebuiltLemmas

@@ -5,7 +5,7 @@ use Rattle.std.specs.Prelude.{◌≡◌, ℕ, ◌+◌, ◌-◌, ◌*◌, ◌^◌
 use Rattle.std.specs.Option.{option_or}
 use Rattle.std.specs.Int.{w16, w32, to_be_bytes}
 use Rattle.net_types.specs.declared.prefix.Addr.{Addr}
-use Rattle.ipv4_packet.specs.Fields.{u16_at}
+use Rattle.octet_fields.specs.Fields.{u16_at}
 use Rattle.ipv4_packet.specs.Packet.{tos_of, protocol_of, with_ttl, canonical, canonical_checksum, IsPacket}
 use Rattle.flow_ids.specs.declared.flow.FlowKind.{FlowKind}
 use Rattle.flow_ids.specs.declared.flow.FlowKind.TheVariants.{One as ConnectionKind, Two as HostsKind}
@@ -16,8 +16,8 @@ use Rattle.flow_encaps.specs.declared.default.EncapsFault.{EncapsFault}
 use Rattle.flow_encaps.specs.declared.default.EncapsFault.TheVariants.{Short, Reserved, Length, Checksum}
 
 -- the canonical checksum of the header with Time To Live zero: it stays the same at each router
-abbrev pub still_checksum : List ℕ → ℕ
-still_checksum packet = canonical_checksum (with_ttl packet 0)
+abbrev pub checksum_at_ttl_zero : List ℕ → ℕ
+checksum_at_ttl_zero packet = canonical_checksum (with_ttl packet 0)
 
 -- Total Length, Identification, Flags and Fragment Offset, which stand in one piece (RFC 791 3.1)
 abbrev pub length_to_fragment : List ℕ → List ℕ
@@ -25,10 +25,10 @@ length_to_fragment packet = take 6 (drop 2 packet)
 
 abbrev pub labelled_payload : FlowKind → List ℕ → List ℕ
 labelled_payload ConnectionKind packet =
-    length_to_fragment packet ++ (to_be_bytes w16 (still_checksum packet) ++ drop 24 packet)
+    length_to_fragment packet ++ (to_be_bytes w16 (checksum_at_ttl_zero packet) ++ drop 24 packet)
 labelled_payload HostsKind packet =
     0 ∷ tos_of packet ∷ (length_to_fragment packet
-    ++ (0 ∷ protocol_of packet ∷ (to_be_bytes w16 (still_checksum packet) ++ drop 20 packet)))
+    ++ (0 ∷ protocol_of packet ∷ (to_be_bytes w16 (checksum_at_ttl_zero packet) ++ drop 20 packet)))
 
 -- under this flow's label this payload is this packet
 pub record Carries (flow : FlowId) (packet payload : List ℕ) : Type 0 where
@@ -39,12 +39,12 @@ pub record Carries (flow : FlowId) (packet payload : List ℕ) : Type 0 where
   pub filled : payload ≡ labelled_payload (kind_of flow) packet
 
 -- the octets that flow and payload make, with the checksum field zero
-abbrev pub made : FlowId → List ℕ → List ℕ
-made (One tos ttl protocol source destination source_port destination_port) payload =
+abbrev pub rebuilt : FlowId → List ℕ → List ℕ
+rebuilt (One tos ttl protocol source destination source_port destination_port) payload =
     69 ∷ tos ∷ (take 6 payload ++ (ttl ∷ protocol ∷ 0 ∷ 0 ∷ (to_be_bytes w32 source.0
     ++ (to_be_bytes w32 destination.0 ++ (to_be_bytes w16 source_port
     ++ (to_be_bytes w16 destination_port ++ drop 8 payload))))))
-made (Two ttl source destination) payload =
+rebuilt (Two ttl source destination) payload =
     69 ∷ slice_index payload 1 ∷ (take 6 (drop 2 payload) ++ (ttl ∷ slice_index payload 9 ∷ 0 ∷ 0
     ∷ (to_be_bytes w32 source.0 ++ (to_be_bytes w32 destination.0 ++ drop 12 payload))))
 
@@ -81,7 +81,7 @@ layout_fault kind payload =
 
 abbrev pub checksum_fault : FlowId → List ℕ → Option EncapsFault
 checksum_fault flow payload =
-    if said_checksum (kind_of flow) payload == still_checksum (made flow payload) then None else Some Checksum
+    if said_checksum (kind_of flow) payload == checksum_at_ttl_zero (rebuilt flow payload) then None else Some Checksum
 
 abbrev pub unwrap_fault : FlowId → List ℕ → Option EncapsFault
 unwrap_fault flow payload =

@@ -19,12 +19,12 @@ ghost use Rattle.std.specs.Result.{result_err};
 ghost use Rattle.ipv4_packet.specs.Packet.{IsPacket, canonical};
 ghost use Rattle.flow_ids.specs.Flow.{IsFlow, kind_of, flow_of};
 ghost use Rattle.flow_ids.specs.Identifier.{FitsFields};
-ghost use Rattle.flow_encaps.specs.Labelled.{still_checksum as checksum_at_zero, labelled_payload, Carries, made, layout_fault, said_checksum as checksum_said, unwrap_fault, head_size as size_of_head, left_out, HasLayout};
+ghost use Rattle.flow_encaps.specs.Labelled.{checksum_at_ttl_zero as zero_ttl_checksum, labelled_payload, Carries, rebuilt, layout_fault, said_checksum as checksum_said, unwrap_fault, head_size as size_of_head, left_out, HasLayout};
 
 use crate::default::EncapsFault;
 use flow_ids::{FlowId, FlowKind};
-use ipv4_packet::fields::{put_octets, put_u16, put_u32, u16_at};
 use ipv4_packet::{internet_sum, write_checksum};
+use octet_fields::{put_octets, put_u16, put_u32, u16_at};
 
 /// Writes the payload of the packet's labelled frame to the front of `out` and gives its length in
 /// octets: 16 less than the packet has for type 1, 8 less for type 2.
@@ -65,14 +65,14 @@ fn put_together(flow: &FlowId, payload: &[u8], out: &mut [u8]) -> Result<usize, 
     requires room { 1500 ≤ length out.old }
     ensures layout { OnOk result (HasLayout (kind_of flow.now) payload.now) }
     ensures fits { OnOk result (FitsFields flow.now) }
-    ensures written { IfOk result (λ size. out.new ≡ canonical (made flow.now payload.now) ++ drop size out.old) }
+    ensures written { IfOk result (λ size. out.new ≡ canonical (rebuilt flow.now payload.now) ++ drop size out.old) }
     ensures len { IfOk result (λ size. size ≡ length payload.now + left_out (kind_of flow.now)) }
     ensures fault { result_err result ≡ unwrap_fault flow.now payload.now }
     ensures err { OnErr result (out.new ≡ out.old) }
 {
     check_layout(flow.kind(), payload)?;
     let (mut head, size) = head_of(flow, payload);
-    if said_checksum(flow.kind(), payload) != still_checksum(&head[..size]) {
+    if said_checksum(flow.kind(), payload) != checksum_at_ttl_zero(&head[..size]) {
         return Err(EncapsFault::Checksum);
     }
     write_checksum(&mut head[..size]);
@@ -81,15 +81,15 @@ fn put_together(flow: &FlowId, payload: &[u8], out: &mut [u8]) -> Result<usize, 
 }
 
 /// The canonical checksum of the header with Time To Live zero.
-fn still_checksum(packet: &[u8]) -> u16
+fn checksum_at_ttl_zero(packet: &[u8]) -> u16
     requires { 20 ≤ length packet.now }
-    ensures { result ≡ checksum_at_zero packet.now }
+    ensures { result ≡ zero_ttl_checksum packet.now }
 {
-    let mut still = [0; 20];
-    still.copy_from_slice(&packet[..20]);
-    still[8] = 0;
-    put_u16(&mut still, 10, 0);
-    0xffff - internet_sum(&still)
+    let mut header = [0; 20];
+    header.copy_from_slice(&packet[..20]);
+    header[8] = 0;
+    put_u16(&mut header, 10, 0);
+    0xffff - internet_sum(&header)
 }
 
 /// The payload of type 1.
@@ -100,7 +100,7 @@ fn wrap_connection(packet: &[u8], out: &mut [u8]) -> usize
     ensures len { result + 16 ≡ length packet.now }
 {
     put_octets(out, 0, &packet[2..8]);
-    put_u16(out, 6, still_checksum(packet));
+    put_u16(out, 6, checksum_at_ttl_zero(packet));
     put_octets(out, 8, &packet[24..]);
     packet.len() - 16
 }
@@ -115,7 +115,7 @@ fn wrap_hosts(packet: &[u8], out: &mut [u8]) -> usize
     put_octets(out, 0, &[0, packet[1]]);
     put_octets(out, 2, &packet[2..8]);
     put_octets(out, 8, &[0, packet[9]]);
-    put_u16(out, 10, still_checksum(packet));
+    put_u16(out, 10, checksum_at_ttl_zero(packet));
     put_octets(out, 12, &packet[20..]);
     packet.len() - 8
 }
@@ -193,7 +193,7 @@ fn head_size(kind: FlowKind) -> usize
 fn head_of(flow: &FlowId, payload: &[u8]) -> ([u8; 24], usize)
     requires { size_of_head (kind_of flow.now) ≤ length payload.now }
     ensures size { result.1 ≡ size_of_head (kind_of flow.now) + left_out (kind_of flow.now) }
-    ensures made { take result.1 result.0 ≡ take result.1 (made flow.now payload.now) }
+    ensures rebuilt { take result.1 result.0 ≡ take result.1 (rebuilt flow.now payload.now) }
     ensures fits { FitsFields flow.now }
 {
     let mut head = [0; 24];

@@ -4,7 +4,7 @@ use Rattle.std.proofs.Common.{◌≡◌, ℕ, ◌-◌, ◌<◌, Bool, true, fals
 use mathlib.Core.Bool.{◌&&◌}
 use Rattle.net_types.specs.declared.prefix.Addr.{Addr}
 use Rattle.std.proofs.lemmas.Bool.Decides.{nat_tests}
-use Rattle.ipv4_packet.specs.Fields.{u16_at}
+use Rattle.octet_fields.specs.Fields.{u16_at}
 use Rattle.ipv4_packet.specs.Packet.{tos_of, ttl_of, protocol_of, source_of, destination_of, with_ttl, canonical, IsPacket}
 use Rattle.ipv4_packet.proofs.HeaderLemmas.{on_header}
 use Rattle.flow_ids.specs.declared.flow.FlowKind.{FlowKind}

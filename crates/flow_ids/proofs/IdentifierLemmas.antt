@@ -6,8 +6,8 @@ use Rattle.std.specs.Result.{result_err}
 use Rattle.std.specs.Int.{w16, w32, to_be_bytes}
 use Rattle.std.proofs.lemmas.Nat.{from_be_bytes-to_be_bytes_2, from_be_bytes-to_be_bytes_4}
 use Rattle.std.proofs.lemmas.Bool.Decides.{nat_tests}
-use Rattle.ipv4_packet.specs.Fields.{u16_at, u32_at}
-use Rattle.ipv4_packet.proofs.FieldLemmas.{AreOctets, octet-then, u16-then, u32-then, nothing-then, u16_at-fits, u32_at-fits}
+use Rattle.octet_fields.specs.Fields.{u16_at, u32_at}
+use Rattle.octet_fields.proofs.FieldLemmas.{AreOctets, octet-then, u16-then, u32-then, nothing-then, u16_at-fits, u32_at-fits}
 use Rattle.flow_ids.specs.declared.flow.FlowKind.{FlowKind}
 use Rattle.flow_ids.specs.declared.flow.FlowKind.TheVariants.{One as ConnectionKind, Two as HostsKind}
 use Rattle.flow_ids.specs.declared.flow.FlowId.{FlowId}

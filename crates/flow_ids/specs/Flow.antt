@@ -2,7 +2,7 @@
 -- ends of a transport connection, type 2 the two hosts.
 
 use Rattle.std.specs.Prelude.{ℕ, ◌-◌, ◌%◌, ◌<◌, ◌==◌, ◌&&◌, ◌||◌, nat_le, not, Bool, IsTrue, List, length, Option, Some, None, if◌then◌else◌}
-use Rattle.ipv4_packet.specs.Fields.{u16_at}
+use Rattle.octet_fields.specs.Fields.{u16_at}
 use Rattle.ipv4_packet.specs.Packet.{tos_of, fragment_of, ttl_of, protocol_of, source_of, destination_of}
 use Rattle.flow_ids.specs.declared.flow.FlowKind.{FlowKind}
 use Rattle.flow_ids.specs.declared.flow.FlowKind.TheVariants.{One as ConnectionKind, Two as HostsKind}

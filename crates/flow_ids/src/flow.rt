@@ -4,9 +4,9 @@ ghost use Rattle.std.specs.Prelude.{◌≡◌, ◌↔◌, IsTrue, Some};
 ghost use Rattle.ipv4_packet.specs.Packet.{IsPacket};
 ghost use Rattle.flow_ids.specs.Flow.{kind_of, flow_ttl, at_ttl as with_ttl, flow_of, has_ports as shows, next_hop_of};
 
-use ipv4_packet::fields::u16_at;
 use ipv4_packet::{destination, fragment, protocol, source, tos, ttl};
 use net_types::Addr;
+use octet_fields::u16_at;
 
 /// What a flow tells apart.
 #[derive(Clone, Copy, Debug, PartialEq, Eq, Hash)]

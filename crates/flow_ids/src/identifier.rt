@@ -16,17 +16,21 @@ ghost use Rattle.std.specs.Result.{result_err};
 ghost use Rattle.flow_ids.specs.Identifier.{identifier, Identifies, first_fault};
 
 use crate::flow::{FlowId, FlowKind, has_ports};
-use ipv4_packet::fields::{put_octets, put_u16, put_u32, u16_at, u32_at};
 use net_types::Addr;
+use octet_fields::{put_octets, put_u16, put_u32, u16_at, u32_at};
+use thiserror::Error;
 
 /// Why octets don't identify a flow.
-#[derive(Clone, Copy, Debug, PartialEq, Eq)]
+#[derive(Clone, Copy, Debug, PartialEq, Eq, Error)]
 pub enum FlowFault {
     /// Not 16 octets for type 1, or 12 for type 2.
+    #[error("another length than the flow type has")]
     Size,
     /// Octet 1 or 3 of type 2 isn't 0.
+    #[error("a zero octet isn't 0")]
     Reserved,
     /// Octet 0 isn't 45 (hexadecimal), Time To Live is 0, or the protocol of type 1 isn't 6 or 17.
+    #[error("no packet is of this flow")]
     Fields,
 }
 

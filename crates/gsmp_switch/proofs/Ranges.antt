@@ -18,7 +18,8 @@ use Rattle.gsmp_wire.specs.declared.message.Message.{Message}
 use Rattle.gsmp_wire.specs.declared.message.Message.TheVariants.{Adjacency, Branch, Move, Port, AllPorts}
 use Rattle.gsmp_wire.specs.Layout.{octets_of, row_octets, rows_octets}
 use Rattle.gsmp_wire.specs.Range.{Bits, FitsChannel, FitsParty, FitsRow, FitsRows, IsInRange}
-use Rattle.gsmp_wire.specs.Refusal.{are_rows, are_zero, between, is_connection, is_row, number16, refusal}
+use Rattle.gsmp_wire.specs.Refusal.{are_rows, are_zero, between, is_connection, is_row, refusal}
+use Rattle.octet_fields.specs.Fields.{u16_at}
 use Rattle.gsmp_wire.proofs.Places.{both}
 use Rattle.gsmp_wire.proofs.Reading.{six}
 use Rattle.gsmp_wire.proofs.Writing.{length-rows_octets}
@@ -201,11 +202,11 @@ size_and_fields size fields p q = rw (p, q) refl
 ports_accepted : (t : ℕ) (rows : List PortRow) → 1 ≤ length rows → length rows ≤ 9 → are_rows (length rows) (rows_octets rows) ≡ true → refusal (octets_of (AllPorts 3 0 t rows)) ≡ None
 ports_accepted t rows some few hold =
     let m = body (AllPorts 3 0 t rows) in
-    let count : number16 8 m ≡ length rows = from_be_bytes-to_be_bytes_2 (length rows) (omega (arith, few)) in
+    let count : u16_at m 8 ≡ length rows = from_be_bytes-to_be_bytes_2 (length rows) (omega (arith, few)) in
     let size = length-rows_octets rows in
     let long : nat_lt (length (octets_of (AllPorts 3 0 t rows))) 12 ≡ false = grind (arith, nat_tests) in
-    let sized : (between 1 9 (number16 8 m) && (length m == 12 + 16 * number16 8 m)) ≡ true = sized_by _ (length rows) _ count some few (omega (arith, size)) in
-    let fields : are_rows (number16 8 m) (rows_octets rows) ≡ true = ap (λ (n : ℕ). are_rows n (rows_octets rows)) count ∙ hold in
+    let sized : (between 1 9 (u16_at m 8) && (length m == 12 + 16 * u16_at m 8)) ≡ true = sized_by _ (length rows) _ count some few (omega (arith, size)) in
+    let fields : are_rows (u16_at m 8) (rows_octets rows) ≡ true = ap (λ (n : ℕ). are_rows n (rows_octets rows)) count ∙ hold in
     chain _ true true _ long refl refl (size_and_fields _ _ sized fields)
 
 pub rows_in_range : (t : ℕ) (states : List PortState) → Bits 32 t → 1 ≤ length states → length states ≤ 9 → FitsRows (map row_of states) → IsInRange (AllPorts 3 0 t (map row_of states))

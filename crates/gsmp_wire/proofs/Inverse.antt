@@ -17,7 +17,8 @@ use Rattle.gsmp_wire.specs.declared.message.Message.{Message}
 use Rattle.gsmp_wire.specs.Fields.{channel_in, message_in, party_in, rows_in}
 use Rattle.gsmp_wire.specs.Layout.{octets_of, snap_header, type_number}
 use Rattle.gsmp_wire.specs.Range.{Bits, Fits, FitsChannel, FitsParty, FitsRows, IsInRange}
-use Rattle.gsmp_wire.specs.Refusal.{has_fields, has_size, is_code, is_result, number16, refusal, refusal_at, refusal_by, type_of}
+use Rattle.gsmp_wire.specs.Refusal.{has_fields, has_size, is_code, is_result, refusal, refusal_at, refusal_by, type_of}
+use Rattle.octet_fields.specs.Fields.{u16_at}
 use Rattle.gsmp_wire.proofs.Places.{AreOctets, behind, front, number16_fits, number32_fits}
 use Rattle.gsmp_wire.proofs.Reading.{kind_of, read_again, type_again, type_at}
 use Rattle.gsmp_wire.proofs.Spelling.{IsMessage, length-rows_in, rows_in_message, spelled}
@@ -111,8 +112,8 @@ fits kinds.Port m is =
     (o.each 2, o.each 3, number32_fits 4 m o, number32_fits 8 m o, number32_fits 12 m o, o.each 16)
 fits kinds.AllPorts m is =
     let o = is.octets in
-    let few : length (rows_in (number16 8 m) (drop 12 m)) ≤ 9 = omega (arith, (rows_in_message m is).0, length-rows_in (number16 8 m) (drop 12 m)) in
-    (o.each 2, o.each 3, number32_fits 4 m o, few, rows_fit (number16 8 m) (drop 12 m) (behind 12 m o))
+    let few : length (rows_in (u16_at m 8) (drop 12 m)) ≤ 9 = omega (arith, (rows_in_message m is).0, length-rows_in (u16_at m 8) (drop 12 m)) in
+    (o.each 2, o.each 3, number32_fits 4 m o, few, rows_fit (u16_at m 8) (drop 12 m) (behind 12 m o))
 
 -- octets that no test refuses are those of the message that is read
 pub spelled_whole : (o : List ℕ) (kind : MessageType) → IsAccepted kind o → octets_of (message_in kind (drop 8 o)) ≡ o

@@ -8,7 +8,8 @@ use Rattle.std.proofs.lemmas.Bool.{eqb-true}
 use Rattle.std.proofs.lemmas.Bool.Decides.{leb_tells}
 use Rattle.std.proofs.lemmas.List.{drop-drop, get_or-drop, get_or-take, get_or_past, length-drop, length-take, take-append-drop}
 use Rattle.std.proofs.lemmas.Nat.{be_bytes_2, be_bytes_4}
-use Rattle.gsmp_wire.specs.Refusal.{are_zero, number16, number32}
+use Rattle.octet_fields.specs.Fields.{u16_at, u32_at}
+use Rattle.gsmp_wire.specs.Refusal.{are_zero}
 
 -- every element is an octet
 pub record AreOctets (m : List ℕ) : Type 0 where
@@ -41,15 +42,15 @@ part_at i n m part rest is behind_it = rw (is, behind_it) (part_rest i n m)
 pub octet_at : (i : ℕ) (m rest : List ℕ) → i < length m → rest ≡ drop (i + 1) m → get_or m i 0 ∷ rest ≡ drop i m
 octet_at i m rest inside is = ap (λ (xs : List ℕ). get_or m i 0 ∷ xs) (is ∙ rw add-one refl) ∙ sym (drop-cons m i 0 inside)
 
-pub number16_at : (i : ℕ) (m rest : List ℕ) → AreOctets m → i + 2 ≤ length m → rest ≡ drop (i + 2) m → to_be_bytes w16 (number16 i m) ++ rest ≡ drop i m
+pub number16_at : (i : ℕ) (m rest : List ℕ) → AreOctets m → i + 2 ≤ length m → rest ≡ drop (i + 2) m → to_be_bytes w16 (u16_at m i) ++ rest ≡ drop i m
 number16_at i m rest octets room is =
     let size : length (take 2 (drop i m)) ≡ 2 = omega (arith, length-take 2 (drop i m), length-drop i m) in
-    part_at i 2 m (to_be_bytes w16 (number16 i m)) rest (be_bytes_2 (take 2 (drop i m)) (number16 i m) size (front 2 (drop i m) (behind i m octets)).each refl) is
+    part_at i 2 m (to_be_bytes w16 (u16_at m i)) rest (be_bytes_2 (take 2 (drop i m)) (u16_at m i) size (front 2 (drop i m) (behind i m octets)).each refl) is
 
-pub number32_at : (i : ℕ) (m rest : List ℕ) → AreOctets m → i + 4 ≤ length m → rest ≡ drop (i + 4) m → to_be_bytes w32 (number32 i m) ++ rest ≡ drop i m
+pub number32_at : (i : ℕ) (m rest : List ℕ) → AreOctets m → i + 4 ≤ length m → rest ≡ drop (i + 4) m → to_be_bytes w32 (u32_at m i) ++ rest ≡ drop i m
 number32_at i m rest octets room is =
     let size : length (take 4 (drop i m)) ≡ 4 = omega (arith, length-take 4 (drop i m), length-drop i m) in
-    part_at i 4 m (to_be_bytes w32 (number32 i m)) rest (be_bytes_4 (take 4 (drop i m)) (number32 i m) size (front 4 (drop i m) (behind i m octets)).each refl) is
+    part_at i 4 m (to_be_bytes w32 (u32_at m i)) rest (be_bytes_4 (take 4 (drop i m)) (u32_at m i) size (front 4 (drop i m) (behind i m octets)).each refl) is
 
 zeros : (xs : List ℕ) → list_all (λ x. x == 0) xs ≡ true → replicate (length xs) 0 ≡ xs
 zeros [] h = refl
@@ -70,8 +71,8 @@ four a b c d ha hb hc hd = omega arith
 two : (a b : ℕ) → a < 256 → b < 256 → a * 256 ^ 1 + b < 2 ^ 16
 two a b ha hb = omega arith
 
-pub number32_fits : (i : ℕ) (m : List ℕ) → AreOctets m → number32 i m < 2 ^ 32
+pub number32_fits : (i : ℕ) (m : List ℕ) → AreOctets m → u32_at m i < 2 ^ 32
 number32_fits i m octets = let each = (front 4 (drop i m) (behind i m octets)).each in four _ _ _ _ (each 0) (each 1) (each 2) (each 3)
 
-pub number16_fits : (i : ℕ) (m : List ℕ) → AreOctets m → number16 i m < 2 ^ 16
+pub number16_fits : (i : ℕ) (m : List ℕ) → AreOctets m → u16_at m i < 2 ^ 16
 number16_fits i m octets = let each = (front 2 (drop i m) (behind i m octets)).each in two _ _ (each 0) (each 1)

@@ -14,7 +14,8 @@ use Rattle.gsmp_wire.specs.declared.message.MessageType.{MessageType}
 use Rattle.gsmp_wire.specs.declared.message.MessageType.TheVariants as kinds
 use Rattle.gsmp_wire.specs.Fields.{channel_in, hello_kind, message_in, row_in, rows_in}
 use Rattle.gsmp_wire.specs.Layout.{end_octets, hello_code, message_octets, row_octets, rows_octets, state_octet, type_number}
-use Rattle.gsmp_wire.specs.Refusal.{are_rows, are_zero, between, has_fields, has_size, is_code, is_connection, is_result, is_row, is_success, number16, number32}
+use Rattle.gsmp_wire.specs.Refusal.{are_rows, are_zero, between, has_fields, has_size, is_code, is_connection, is_result, is_row, is_success}
+use Rattle.octet_fields.specs.Fields.{u16_at, u32_at}
 use Rattle.gsmp_wire.proofs.Places.{AreOctets, behind, both, number16_at, number32_at, octet_at, part_at, zeros_at}
 
 -- the octets of a message of this type
@@ -35,7 +36,7 @@ header_at m rest number version kind room is =
 
 -- octets 4 to 31 of a connection message and the rest
 connection_at : (m rest : List ℕ) → AreOctets m → 32 ≤ length m → are_zero 30 1 m ≡ true → rest ≡ drop 32 m →
-    to_be_bytes w32 (number32 4 m) ++ (to_be_bytes w32 (number32 8 m) ++ (end_octets (number32 12 m) (channel_in 16 m) ++ (end_octets (number32 20 m) (channel_in 24 m) ++ (to_be_bytes w16 (number16 28 m) ++ (0 ∷ slice_index m 31 ∷ rest))))) ≡ drop 4 m
+    to_be_bytes w32 (u32_at m 4) ++ (to_be_bytes w32 (u32_at m 8) ++ (end_octets (u32_at m 12) (channel_in 16 m) ++ (end_octets (u32_at m 20) (channel_in 24 m) ++ (to_be_bytes w16 (u16_at m 28) ++ (0 ∷ slice_index m 31 ∷ rest))))) ≡ drop 4 m
 connection_at m rest o room clear is =
     number32_at 4 m _ o (omega arith) (number32_at 8 m _ o (omega arith)
     (number32_at 12 m _ o (omega arith) (number16_at 16 m _ o (omega arith) (number16_at 18 m _ o (omega arith)
@@ -95,7 +96,7 @@ adjacency_spelled m is =
     let none : slice_index m 2 ≡ 0 = eqb-true (slice_index m 2) 0 is.has_result in
     let code = hello_code_again (slice_index m 3) is.has_code in
     let o = is.octets in
-    (λ i. 1 ∷ 10 ∷ sym none i ∷ code i ∷ (take 6 (drop 4 m) ++ (take 6 (drop 10 m) ++ (to_be_bytes w32 (number32 16 m) ++ (to_be_bytes w32 (number32 20 m) ++ (to_be_bytes w32 (number32 24 m) ++ to_be_bytes w32 (number32 28 m))))))) ∙
+    (λ i. 1 ∷ 10 ∷ sym none i ∷ code i ∷ (take 6 (drop 4 m) ++ (take 6 (drop 10 m) ++ (to_be_bytes w32 (u32_at m 16) ++ (to_be_bytes w32 (u32_at m 20) ++ (to_be_bytes w32 (u32_at m 24) ++ to_be_bytes w32 (u32_at m 28))))))) ∙
     header_at m _ 10 is.version is.has_type (omega arith)
     (part_at 4 6 m _ _ refl (part_at 10 6 m _ _ refl (number32_at 16 m _ o (omega arith) (number32_at 20 m _ o (omega arith)
     (number32_at 24 m _ o (omega arith) (number32_at 28 m [] o (omega arith) (at_end 32 m size)))))))
@@ -114,7 +115,7 @@ row_at : (r rest : List ℕ) → AreOctets r → is_row r ≡ true → 16 ≤ le
 row_at r rest o h room is =
     let tests = both (between 1 2 (slice_index r 8)) _ h in
     let clear = both (are_zero 9 1 r) (are_zero 14 2 r) tests.1 in
-    (λ i. to_be_bytes w32 (number32 0 r) ++ (to_be_bytes w32 (number32 4 r) ++ (state_again (slice_index r 8) tests.0 i ∷ 0 ∷ (to_be_bytes w16 (number16 10 r) ++ (to_be_bytes w16 (number16 12 r) ++ (0 ∷ 0 ∷ rest)))))) ∙
+    (λ i. to_be_bytes w32 (u32_at r 0) ++ (to_be_bytes w32 (u32_at r 4) ++ (state_again (slice_index r 8) tests.0 i ∷ 0 ∷ (to_be_bytes w16 (u16_at r 10) ++ (to_be_bytes w16 (u16_at r 12) ++ (0 ∷ 0 ∷ rest)))))) ∙
     number32_at 0 r _ o (omega arith) (number32_at 4 r _ o (omega arith) (octet_at 8 r _ (omega arith) (zeros_at 9 1 r _ clear.0 (omega arith)
     (number16_at 10 r _ o (omega arith) (number16_at 12 r _ o (omega arith) (zeros_at 14 2 r rest clear.1 (omega arith) is))))))
 
@@ -142,19 +143,19 @@ rows_by false n m size fields =
     (omega arith, omega arith, rw none refl)
 
 pub rows_in_message : (m : List ℕ) → IsMessage kinds.AllPorts m
-    → (number16 8 m ≤ 9) × (length m ≡ 12 + 16 * number16 8 m) × (are_rows (number16 8 m) (drop 12 m) ≡ true)
+    → (u16_at m 8 ≤ 9) × (length m ≡ 12 + 16 * u16_at m 8) × (are_rows (u16_at m 8) (drop 12 m) ≡ true)
 rows_in_message m is =
-    rows_by (is_success (slice_index m 2)) (number16 8 m) m is.has_its_size (both (are_zero 10 2 m) _ is.has_its_fields).1
+    rows_by (is_success (slice_index m 2)) (u16_at m 8) m is.has_its_size (both (are_zero 10 2 m) _ is.has_its_fields).1
 
 all_ports_spelled : (m : List ℕ) → IsMessage kinds.AllPorts m → message_octets (message_in kinds.AllPorts m) ≡ m
 all_ports_spelled m is =
     let clear : are_zero 10 2 m ≡ true = (both (are_zero 10 2 m) _ is.has_its_fields).0 in
     let facts = rows_in_message m is in
-    let size : length m ≡ 12 + 16 * number16 8 m = facts.1 in
+    let size : length m ≡ 12 + 16 * u16_at m 8 = facts.1 in
     let o = is.octets in
-    (λ i. 1 ∷ 66 ∷ slice_index m 2 ∷ slice_index m 3 ∷ (to_be_bytes w32 (number32 4 m) ++ (to_be_bytes w16 (length-rows_in (number16 8 m) (drop 12 m) i) ++ (0 ∷ 0 ∷ rows_octets (rows_in (number16 8 m) (drop 12 m)))))) ∙
+    (λ i. 1 ∷ 66 ∷ slice_index m 2 ∷ slice_index m 3 ∷ (to_be_bytes w32 (u32_at m 4) ++ (to_be_bytes w16 (length-rows_in (u16_at m 8) (drop 12 m) i) ++ (0 ∷ 0 ∷ rows_octets (rows_in (u16_at m 8) (drop 12 m)))))) ∙
     header_at m _ 66 is.version is.has_type (omega arith) (number32_at 4 m _ o (omega arith) (number16_at 8 m _ o (omega arith)
-    (zeros_at 10 2 m _ clear (omega arith) (rows_spelled (number16 8 m) (drop 12 m) (behind 12 m o) facts.2 (omega (arith, length-drop 12 m))))))
+    (zeros_at 10 2 m _ clear (omega arith) (rows_spelled (u16_at m 8) (drop 12 m) (behind 12 m o) facts.2 (omega (arith, length-drop 12 m))))))
 
 -- the message that octets are read as is spelled by these octets
 pub spelled : (kind : MessageType) (m : List ℕ) → IsMessage kind m → message_octets (message_in kind m) ≡ m

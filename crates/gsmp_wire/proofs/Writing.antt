@@ -5,19 +5,19 @@ use Rattle.std.specs.Int.{w32, to_be_bytes}
 use Rattle.std.proofs.Math.Seq.{drop-append-add, take-append_seam}
 use Rattle.std.proofs.lemmas.List.{drop-drop, length-take, take_more}
 use Rattle.gsmp_wire.specs.declared.rows.PortRow.{PortRow}
-use Rattle.gsmp_wire.specs.Fields.{written}
+use Rattle.octet_fields.specs.Fields.{written}
 use Rattle.gsmp_wire.specs.Layout.{row_octets, rows_octets}
 use Rattle.gsmp_wire.proofs.Reading.{six}
 
 -- a write right behind another
-pub written_then : (place j : ℕ) (xs ys old : List ℕ) → j ≡ place + length xs → place + length xs ≤ length old → written j ys (written place xs old) ≡ written place (xs ++ ys) old
+pub written_then : (place j : ℕ) (xs ys old : List ℕ) → j ≡ place + length xs → place + length xs ≤ length old → written (written old place xs) j ys ≡ written old place (xs ++ ys)
 written_then place j xs ys old here room =
     let size : length (take place old ++ xs) ≡ j = omega (arith, length-append (take place old) xs, length-take place old) in
-    let whole : written place xs old ≡ (take place old ++ xs) ++ drop (place + length xs) old = sym (append_assoc (take place old) xs (drop (place + length xs) old)) in
-    let front : take j (written place xs old) ≡ take place old ++ xs =
+    let whole : written old place xs ≡ (take place old ++ xs) ++ drop (place + length xs) old = sym (append_assoc (take place old) xs (drop (place + length xs) old)) in
+    let front : take j (written old place xs) ≡ take place old ++ xs =
     ap (take j) whole ∙ ap (λ (n : ℕ). take n ((take place old ++ xs) ++ drop (place + length xs) old)) (sym size) ∙ take-append_seam (take place old ++ xs) (drop (place + length xs) old) in
     let far : place + length xs + length ys ≡ place + length (xs ++ ys) = omega (arith, length-append xs ys) in
-    let back : drop (j + length ys) (written place xs old) ≡ drop (place + length (xs ++ ys)) old =
+    let back : drop (j + length ys) (written old place xs) ≡ drop (place + length (xs ++ ys)) old =
     ap (drop (j + length ys)) whole ∙ ap (λ (n : ℕ). drop (n + length ys) ((take place old ++ xs) ++ drop (place + length xs) old)) (sym size)
     ∙ drop-append-add (take place old ++ xs) (drop (place + length xs) old) (length ys) ∙ drop-drop (length ys) (place + length xs) old ∙ ap (λ (n : ℕ). drop n old) far in
     (λ i. front i ++ (ys ++ back i))
@@ -34,20 +34,20 @@ rows_octets-append (r ∷ xs) ys = ap (λ (rest : List ℕ). row_octets r ++ res
 
 -- one more record is written
 pub rows_written : (place k : ℕ) (rows : List PortRow) (blank : PortRow) (old out : List ℕ) → k < length rows → place + length (rows_octets rows) ≤ length old
-    → out ≡ written place (rows_octets (take k rows)) old → written (place + 16 * k) (row_octets (get_or rows k blank)) out ≡ written place (rows_octets (take (k + 1) rows)) old
+    → out ≡ written old place (rows_octets (take k rows)) → written out (place + 16 * k) (row_octets (get_or rows k blank)) ≡ written old place (rows_octets (take (k + 1) rows))
 rows_written place k rows blank old out inside room so_far =
     let count : length (take k rows) ≡ k = omega (arith, length-take k rows) in
     let size : length (rows_octets (take k rows)) ≡ 16 * k = length-rows_octets (take k rows) ∙ ap (λ (n : ℕ). 16 * n) count in
     let fits : place + length (rows_octets (take k rows)) ≤ length old = omega (arith, size, length-rows_octets rows) in
     let more : rows_octets (take (k + 1) rows) ≡ rows_octets (take k rows) ++ row_octets (get_or rows k blank) =
     ap rows_octets (take_more rows k blank inside) ∙ rows_octets-append (take k rows) (get_or rows k blank ∷ []) in
-    ap (written (place + 16 * k) (row_octets (get_or rows k blank))) so_far
+    ap (λ (octets : List ℕ). written octets (place + 16 * k) (row_octets (get_or rows k blank))) so_far
     ∙ written_then place (place + 16 * k) (rows_octets (take k rows)) (row_octets (get_or rows k blank)) old (omega (arith, size)) fits
-    ∙ ap (λ (octets : List ℕ). written place octets old) (sym more)
+    ∙ ap (λ (octets : List ℕ). written old place octets) (sym more)
 
 abbrev pub GreetingWritten : (s r : List ℕ) (sp rp si ri : ℕ) → Type 0
 GreetingWritten s r sp rp si ri =
-    written 24 (to_be_bytes w32 ri) (written 20 (to_be_bytes w32 si) (written 16 (to_be_bytes w32 rp) (written 12 (to_be_bytes w32 sp) (written 6 r (written 0 s (replicate 28 0))))))
+    written (written (written (written (written (written (replicate 28 0) 0 s) 6 r) 12 (to_be_bytes w32 sp)) 16 (to_be_bytes w32 rp)) 20 (to_be_bytes w32 si)) 24 (to_be_bytes w32 ri)
     ≡ s ++ (r ++ (to_be_bytes w32 sp ++ (to_be_bytes w32 rp ++ (to_be_bytes w32 si ++ to_be_bytes w32 ri))))
 
 greeting_by_octets : (a b c d e f u v w x y z sp rp si ri : ℕ) → GreetingWritten (a ∷ b ∷ c ∷ d ∷ e ∷ f ∷ []) (u ∷ v ∷ w ∷ x ∷ y ∷ z ∷ []) sp rp si ri
@@ -61,10 +61,10 @@ greeting_written s r sp rp si ri s_size r_size =
     (greeting_by_octets _ _ _ _ _ _ _ _ _ _ _ _ sp rp si ri))
 
 -- a further write behind what was written from the front on
-pub written_more : (j : ℕ) (xs ys old before after : List ℕ) → before ≡ written 0 xs old → after ≡ written j ys before → j ≡ 0 + length xs → 0 + length xs ≤ length old → after ≡ written 0 (xs ++ ys) old
-written_more j xs ys old before after first then here room = then ∙ ap (written j ys) first ∙ written_then 0 j xs ys old here room
+pub written_more : (j : ℕ) (xs ys old before after : List ℕ) → before ≡ written old 0 xs → after ≡ written before j ys → j ≡ 0 + length xs → 0 + length xs ≤ length old → after ≡ written old 0 (xs ++ ys)
+written_more j xs ys old before after first then here room = then ∙ ap (λ (octets : List ℕ). written octets j ys) first ∙ written_then 0 j xs ys old here room
 
 -- all octets are written
-pub written_whole : (octets whole old out : List ℕ) → octets ≡ whole → out ≡ written 0 octets old → out ≡ whole ++ drop (length whole) old
+pub written_whole : (octets whole old out : List ℕ) → octets ≡ whole → out ≡ written old 0 octets → out ≡ whole ++ drop (length whole) old
 written_whole octets whole old out is all =
-    all ∙ ap (λ (xs : List ℕ). written 0 xs old) is ∙ ap (λ (n : ℕ). whole ++ drop n old) (zero-add (length whole))
+    all ∙ ap (λ (xs : List ℕ). written old 0 xs) is ∙ ap (λ (n : ℕ). whole ++ drop n old) (zero-add (length whole))

@@ -1,5 +1,5 @@
--- The fields of octets that are a message, by their places, and what a write at a place leaves. The
--- steps of `decode` and `encode` speak of them; what the two calls do is said by Layout alone.
+-- The fields of octets that are a message, by their places. The steps of `decode` speak of them; what
+-- it does is said by Layout alone.
 
 use Rattle.std.specs.Prelude.{ℕ, ◌+◌, ◌==◌, List, [], ◌∷◌, ◌++◌, length, take, drop, zero, suc, slice_index, Option, Some, None, Result, Ok, Err, if◌then◌else◌}
 use Rattle.net_types.specs.declared.adjacency.Party.{Party}
@@ -14,20 +14,21 @@ use Rattle.gsmp_wire.specs.declared.message.MessageType.TheVariants as kinds
 use Rattle.gsmp_wire.specs.declared.message.Message.{Message}
 use Rattle.gsmp_wire.specs.declared.message.Message.TheVariants.{Adjacency, Branch, Move, Port, AllPorts}
 use Rattle.gsmp_wire.specs.declared.rows.PortRow.{PortRow}
-use Rattle.gsmp_wire.specs.Refusal.{number16, number32, refusal, type_of}
+use Rattle.octet_fields.specs.Fields.{u16_at, u32_at}
+use Rattle.gsmp_wire.specs.Refusal.{refusal, type_of}
 
 abbrev pub channel_in : (place : ℕ) → List ℕ → Channel
-channel_in place m = record { vpi = number16 place m; vci = number16 (place + 2) m }
+channel_in place m = record { vpi = u16_at m place; vci = u16_at m (place + 2) }
 
 abbrev pub connection_in : List ℕ → Connection
 connection_in m = record {
-  transaction = number32 4 m;
-  session = number32 8 m;
-  input_port = number32 12 m;
+  transaction = u32_at m 4;
+  session = u32_at m 8;
+  input_port = u32_at m 12;
   input = channel_in 16 m;
-  output_port = number32 20 m;
+  output_port = u32_at m 20;
   output = channel_in 24 m;
-  branches = number16 28 m;
+  branches = u16_at m 28;
   priority = slice_index m 31;
 }
 
@@ -38,17 +39,17 @@ hello_kind code =
 abbrev pub party_in : (name port instance : ℕ) → List ℕ → Party
 party_in name port instance m = record {
   name = take 6 (drop name m);
-  port = number32 port m;
-  instance = record { 0 = number32 instance m };
+  port = u32_at m port;
+  instance = record { 0 = u32_at m instance };
 }
 
 abbrev pub row_in : List ℕ → PortRow
 row_in r = record {
-  port = number32 0 r;
-  session = number32 4 r;
+  port = u32_at r 0;
+  session = u32_at r 4;
   up = slice_index r 8 == 1;
-  least = number16 10 r;
-  greatest = number16 12 r;
+  least = u16_at r 10;
+  greatest = u16_at r 12;
 }
 
 abbrev pub rows_in : (count : ℕ) → List ℕ → List PortRow
@@ -63,17 +64,17 @@ message_in kinds.Adjacency m =
       receiver = party_in 10 20 28 m;
     })
 message_in (kinds.Branch kind) m =
-    Branch kind (slice_index m 2) (slice_index m 3) (number32 4 m) (number32 8 m) (number32 12 m)
-    (channel_in 16 m) (number32 20 m) (channel_in 24 m) (number16 28 m) (slice_index m 31)
+    Branch kind (slice_index m 2) (slice_index m 3) (u32_at m 4) (u32_at m 8) (u32_at m 12)
+    (channel_in 16 m) (u32_at m 20) (channel_in 24 m) (u16_at m 28) (slice_index m 31)
 message_in kinds.Move m =
-    Move (slice_index m 2) (slice_index m 3) (number32 4 m) (number32 8 m) (number32 12 m)
-    (channel_in 16 m) (number32 20 m) (channel_in 24 m) (number32 32 m) (channel_in 36 m)
-    (number16 28 m) (slice_index m 31)
+    Move (slice_index m 2) (slice_index m 3) (u32_at m 4) (u32_at m 8) (u32_at m 12)
+    (channel_in 16 m) (u32_at m 20) (channel_in 24 m) (u32_at m 32) (channel_in 36 m)
+    (u16_at m 28) (slice_index m 31)
 message_in kinds.Port m =
-    Port (slice_index m 2) (slice_index m 3) (number32 4 m) (number32 8 m) (number32 12 m)
+    Port (slice_index m 2) (slice_index m 3) (u32_at m 4) (u32_at m 8) (u32_at m 12)
     (slice_index m 16)
 message_in kinds.AllPorts m =
-    AllPorts (slice_index m 2) (slice_index m 3) (number32 4 m) (rows_in (number16 8 m) (drop 12 m))
+    AllPorts (slice_index m 2) (slice_index m 3) (u32_at m 4) (rows_in (u16_at m 8) (drop 12 m))
 
 -- what octets are: the message of their fields, or why they are none; a message type that there isn't
 -- is a refusal already
@@ -84,7 +85,3 @@ decoded_by None None m = Err faults.MessageType
 
 unfoldable pub decoded : List ℕ → Result Message Fault
 decoded octets = decoded_by (refusal octets) (type_of (slice_index octets 9)) (drop 8 octets)
-
--- after these octets are written at a place
-abbrev pub written : (place : ℕ) → (octets old : List ℕ) → List ℕ
-written place octets old = take place old ++ (octets ++ drop (place + length octets) old)

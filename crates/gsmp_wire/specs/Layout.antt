@@ -1,7 +1,7 @@
 -- GSMP messages as octets (RFC 1987). Numbers are big-endian; octets are counted from 0 behind the
 -- LLC/SNAP header. The layouts are this project's own, after that document's.
 
-use Rattle.std.specs.Prelude.{ℕ, Bool, true, false, List, [], ◌∷◌, ◌++◌, length}
+use Rattle.std.specs.Prelude.{ℕ, Bool, true, false, List, [], ◌∷◌, ◌++◌, length, Option, Some, None}
 use Rattle.std.specs.Int.{w16, w32, to_be_bytes}
 use Rattle.net_types.specs.declared.adjacency.Greeting.{Greeting}
 use Rattle.net_types.specs.declared.adjacency.HelloKind.{HelloKind}
@@ -85,6 +85,26 @@ abbrev pub rows_octets : List PortRow → List ℕ
 rows_octets [] = []
 rows_octets (r ∷ rows) = row_octets r ++ rows_octets rows
 
+-- the connection that a message is about, where it is about one
+abbrev pub connection : (transaction session input_port : ℕ) → Channel → (output_port : ℕ) → Channel → (branches priority : ℕ) → Connection
+connection transaction session input_port input output_port output branches priority = record {
+  transaction = transaction;
+  session = session;
+  input_port = input_port;
+  input = input;
+  output_port = output_port;
+  output = output;
+  branches = branches;
+  priority = priority;
+}
+
+abbrev pub connection_of : Message → Option Connection
+connection_of (Branch _ _ _ transaction session input_port input output_port output branches priority) =
+    Some (connection transaction session input_port input output_port output branches priority)
+connection_of (Move _ _ transaction session input_port input output_port output _ _ branches priority) =
+    Some (connection transaction session input_port input output_port output branches priority)
+connection_of message = None
+
 -- octets 4 on
 --   Adjacency: the names, ports and instances of the two parties
 --   Add Branch, Delete Tree, Verify Tree, Delete All: the fields of the connection
@@ -96,30 +116,13 @@ message_octets (Adjacency g) =
     header kinds.Adjacency 0 (hello_code g.kind) ++ greeting_octets g
 message_octets (Branch kind result code transaction session input_port input output_port output
     branches priority) =
-    let c : Connection = record {
-      transaction = transaction;
-      session = session;
-      input_port = input_port;
-      input = input;
-      output_port = output_port;
-      output = output;
-      branches = branches;
-      priority = priority;
-    } in
-    header (kinds.Branch kind) result code ++ connection_octets c
+    header (kinds.Branch kind) result code
+    ++ connection_octets (connection transaction session input_port input output_port output branches priority)
 message_octets (Move result code transaction session input_port input output_port output
     target_port target branches priority) =
-    let c : Connection = record {
-      transaction = transaction;
-      session = session;
-      input_port = input_port;
-      input = input;
-      output_port = output_port;
-      output = output;
-      branches = branches;
-      priority = priority;
-    } in
-    header kinds.Move result code ++ connection_octets c ++ end_octets target_port target
+    header kinds.Move result code
+    ++ connection_octets (connection transaction session input_port input output_port output branches priority)
+    ++ end_octets target_port target
 message_octets (Port result code transaction port session function) =
     header kinds.Port result code
     ++ to_be_bytes w32 transaction

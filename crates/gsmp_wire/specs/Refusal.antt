@@ -10,13 +10,8 @@ use Rattle.gsmp_wire.specs.declared.fault.Fault.TheVariants as faults
 use Rattle.gsmp_wire.specs.declared.message.BranchKind.TheVariants.{Add, Delete, Verify, DeleteAll}
 use Rattle.gsmp_wire.specs.declared.message.MessageType.{MessageType}
 use Rattle.gsmp_wire.specs.declared.message.MessageType.TheVariants.{Adjacency, Branch, Move, Port, AllPorts}
+use Rattle.octet_fields.specs.Fields.{u16_at}
 use Rattle.gsmp_wire.specs.Layout.{snap_header, type_number}
-
-abbrev pub number16 : (place : ℕ) → List ℕ → ℕ
-number16 place m = from_be_bytes w16 (take 2 (drop place m))
-
-abbrev pub number32 : (place : ℕ) → List ℕ → ℕ
-number32 place m = from_be_bytes w32 (take 4 (drop place m))
 
 -- these octets are 0
 abbrev pub are_zero : (place count : ℕ) → List ℕ → Bool
@@ -55,13 +50,13 @@ has_size Move m = length m == 40
 has_size Port m = length m == 20
 has_size AllPorts m =
     if is_success (slice_index m 2)
-    then between 1 9 (number16 8 m) && length m == 12 + 16 * number16 8 m
+    then between 1 9 (u16_at m 8) && length m == 12 + 16 * u16_at m 8
     else length m == 12
 
 -- the fields of a connection message that are to be 0, and Branches: 0, in a success answer 0 or 1
 abbrev pub is_connection : List ℕ → Bool
 is_connection m =
-    are_zero 30 1 m && nat_le (number16 28 m) (if is_success (slice_index m 2) then 1 else 0)
+    are_zero 30 1 m && nat_le (u16_at m 28) (if is_success (slice_index m 2) then 1 else 0)
 
 abbrev pub is_row : List ℕ → Bool
 is_row r = between 1 2 (slice_index r 8) && (are_zero 9 1 r && are_zero 14 2 r)
@@ -84,8 +79,8 @@ has_fields Port m = between 1 2 (slice_index m 16) && are_zero 17 3 m
 has_fields AllPorts m =
     are_zero 10 2 m && (
     if is_success (slice_index m 2)
-    then are_rows (number16 8 m) (drop 12 m)
-    else number16 8 m == 0)
+    then are_rows (u16_at m 8) (drop 12 m)
+    else u16_at m 8 == 0)
 
 -- the tests of a message of this type
 abbrev pub refusal_at : MessageType → List ℕ → Option Fault

@@ -1,11 +1,13 @@
 //! The tests of `decode`, in their order.
 
 ghost use Rattle.std.specs.Prelude.{◌≡◌, ◌+◌, ◌*◌, ◌/◌, ◌%◌, ◌≤◌, ◌&&◌, ◌==◌, length, slice_index, true, MatchResult};
-ghost use Rattle.gsmp_wire.specs.Refusal.{are_rows, between, has_fields, has_size, is_code, is_connection, is_result, is_row, number16, refusal, refusal_at, type_of};
+ghost use Rattle.octet_fields.specs.Fields.{u16_at as number16};
+ghost use Rattle.gsmp_wire.specs.Refusal.{are_rows, between, has_fields, has_size, is_code, is_connection, is_result, is_row, refusal, refusal_at, type_of};
 
 use crate::fault::Fault;
-use crate::fields::{are_zero, u16_at};
+use crate::fields::are_zero;
 use crate::message::{BranchKind, MessageType, SNAP_HEADER};
+use octet_fields::u16_at;
 
 /// The result of a success answer.
 const SUCCESS: u8 = 3;
@@ -111,7 +113,7 @@ fn has_size(kind: MessageType, message: &[u8]) -> bool
 
 /// Whether an answer with records is as long as their number says.
 fn has_size_by_rows(message: &[u8]) -> bool
-    ensures { let count = number16 8 message.now in
+    ensures { let count = number16 message.now 8 in
         result ≡ (between 1 9 count && length message.now == 12 + 16 * count) }
 {
     if message.len() < 12 {

@@ -35,7 +35,7 @@ pub(crate) enum MessageType {
 }
 
 /// The fields that all messages about a connection have.
-#[derive(Clone, Copy, Debug)]
+#[derive(Clone, Copy, Debug, PartialEq, Eq)]
 pub(crate) struct Connection {
     /// Pairs an answer with its request.
     pub transaction: u32,

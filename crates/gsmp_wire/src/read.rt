@@ -3,15 +3,15 @@
 ghost use Rattle.std.specs.Prelude.{◌≡◌, ◌↔◌, ◌+◌, ◌*◌, ◌≤◌, length, true};
 ghost use Rattle.gsmp_wire.specs.Layout.{octets_of};
 ghost use Rattle.gsmp_wire.specs.Range.{IsInRange};
-ghost use Rattle.gsmp_wire.specs.Refusal.{has_fields, has_size, number16, refusal};
+ghost use Rattle.gsmp_wire.specs.Refusal.{has_fields, has_size, refusal};
 ghost use Rattle.gsmp_wire.specs.Fields.{channel_in, connection_in, decoded, message_in, party_in, row_in, rows_in};
 
 use crate::check::check;
 use crate::fault::Fault;
-use crate::fields::{u16_at, u32_at};
 use crate::message::{BranchKind, Connection, Message, MessageType};
 use crate::rows::{PortRow, PortRows};
 use net_types::{Channel, Greeting, HelloKind, Instance, Party};
+use octet_fields::{u16_at, u32_at};
 
 /// The message of these octets, which begin with the LLC/SNAP header of GSMP.
 pub fn decode(octets: &[u8]) -> Result<Message, Fault>

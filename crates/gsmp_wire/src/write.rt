@@ -1,15 +1,15 @@
 //! From the message to octets.
 
-ghost use Rattle.std.specs.Prelude.{◌≡◌, ◌+◌, ◌*◌, ◌≤◌, ◌++◌, length, drop};
-ghost use Rattle.std.specs.Int.{w16, w32, to_be_bytes};
-ghost use Rattle.gsmp_wire.specs.Layout.{connection_octets, end_octets, greeting_octets, header, hello_code, octets_of, row_octets, rows_octets, snap_header, type_number};
+ghost use Rattle.std.specs.Prelude.{◌≡◌, ◌+◌, ◌*◌, ◌≤◌, ◌++◌, length, drop, Some};
+ghost use Rattle.gsmp_wire.specs.declared.message.Connection.{Connection as Fields};
+ghost use Rattle.gsmp_wire.specs.Layout.{connection_octets, connection_of, end_octets, greeting_octets, header, hello_code, octets_of, row_octets, rows_octets, snap_header, type_number};
 ghost use Rattle.gsmp_wire.specs.Range.{IsInRange};
-ghost use Rattle.gsmp_wire.specs.Fields.{written};
+ghost use Rattle.octet_fields.specs.Fields.{written};
 
 use crate::message::{BranchKind, Connection, Message, MessageType, SNAP_HEADER};
 use crate::rows::{PortRow, PortRows};
-use byteorder::{BigEndian, ByteOrder};
 use net_types::{Channel, Greeting, HelloKind};
+use octet_fields::{put_octets, put_u16, put_u32};
 
 /// Writes the octets of a message, with the LLC/SNAP header in front, and says how many they are.
 pub fn encode(message: &Message, out: &mut [u8]) -> usize
@@ -26,58 +26,21 @@ pub fn encode(message: &Message, out: &mut [u8]) -> usize
             40
         }
         Message::Branch {
-            kind,
-            result,
-            code,
-            transaction,
-            session,
-            input_port,
-            input,
-            output_port,
-            output,
-            branches,
-            priority,
+            kind, result, code, ..
         } => {
-            let connection = Connection {
-                transaction: *transaction,
-                session: *session,
-                input_port: *input_port,
-                input: *input,
-                output_port: *output_port,
-                output: *output,
-                branches: *branches,
-                priority: *priority,
-            };
             put_header(out, MessageType::Branch(*kind), *result, *code);
-            put_octets(out, 12, &connection_octets(&connection));
+            put_connection(out, message);
             40
         }
         Message::Move {
             result,
             code,
-            transaction,
-            session,
-            input_port,
-            input,
-            output_port,
-            output,
             target_port,
             target,
-            branches,
-            priority,
+            ..
         } => {
-            let connection = Connection {
-                transaction: *transaction,
-                session: *session,
-                input_port: *input_port,
-                input: *input,
-                output_port: *output_port,
-                output: *output,
-                branches: *branches,
-                priority: *priority,
-            };
             put_header(out, MessageType::Move, *result, *code);
-            put_octets(out, 12, &connection_octets(&connection));
+            put_connection(out, message);
             put_octets(out, 40, &end_octets(*target_port, *target));
             48
         }
@@ -112,34 +75,10 @@ pub fn encode(message: &Message, out: &mut [u8]) -> usize
     }
 }
 
-/// Writes these octets at a place.
-fn put_octets(out: &mut [u8], place: usize, octets: &[u8])
-    requires { place + length octets.now ≤ length out.old }
-    ensures { out.new ≡ written place octets.now out.old }
-{
-    out[place..place + octets.len()].copy_from_slice(octets);
-}
-
-/// Writes a number of 16 bits at a place.
-fn put_u16(out: &mut [u8], place: usize, number: u16)
-    requires { place + 2 ≤ length out.old }
-    ensures { out.new ≡ written place (to_be_bytes w16 number) out.old }
-{
-    BigEndian::write_u16(&mut out[place..place + 2], number);
-}
-
-/// Writes a number of 32 bits at a place.
-fn put_u32(out: &mut [u8], place: usize, number: u32)
-    requires { place + 4 ≤ length out.old }
-    ensures { out.new ≡ written place (to_be_bytes w32 number) out.old }
-{
-    BigEndian::write_u32(&mut out[place..place + 4], number);
-}
-
 /// Writes the LLC/SNAP header and the first four octets of a message.
 fn put_header(out: &mut [u8], kind: MessageType, outcome: u8, code: u8)
     requires { 12 ≤ length out.old }
-    ensures { out.new ≡ written 0 (snap_header ++ header kind outcome code) out.old }
+    ensures { out.new ≡ written out.old 0 (snap_header ++ header kind outcome code) }
 {
     put_octets(out, 0, &SNAP_HEADER);
     put_octets(out, 8, &[1, number_of(kind), outcome, code]);
@@ -198,6 +137,56 @@ fn end_octets(port: u32, channel: Channel) -> [u8; 8]
     octets
 }
 
+/// Writes octets 4 to 31 of a connection message.
+fn put_connection(out: &mut [u8], message: &Message)
+    requires room { 40 ≤ length out.old }
+    ensures { (connection : Fields) → connection_of message.now ≡ Some connection → out.new ≡ written out.old 12 (connection_octets connection) }
+{
+    if let Some(connection) = connection_of(message) {
+        put_octets(out, 12, &connection_octets(&connection));
+    }
+}
+
+/// The connection that a message is about, where it is about one.
+fn connection_of(message: &Message) -> Option<Connection>
+    ensures { result ≡ connection_of message.now }
+{
+    match message {
+        Message::Branch {
+            transaction,
+            session,
+            input_port,
+            input,
+            output_port,
+            output,
+            branches,
+            priority,
+            ..
+        }
+        | Message::Move {
+            transaction,
+            session,
+            input_port,
+            input,
+            output_port,
+            output,
+            branches,
+            priority,
+            ..
+        } => Some(Connection {
+            transaction: *transaction,
+            session: *session,
+            input_port: *input_port,
+            input: *input,
+            output_port: *output_port,
+            output: *output,
+            branches: *branches,
+            priority: *priority,
+        }),
+        _ => None,
+    }
+}
+
 /// Octets 4 to 31 of a connection message.
 fn connection_octets(connection: &Connection) -> [u8; 28]
     ensures { result ≡ connection_octets connection.now }
@@ -220,10 +209,10 @@ fn connection_octets(connection: &Connection) -> [u8; 28]
     octets
 }
 
-/// Writes the records at a place.
+/// Writes the records from `place` on.
 fn put_rows(out: &mut [u8], place: usize, rows: &PortRows)
     requires { place + length (rows_octets rows.now) ≤ length out.old }
-    ensures { out.new ≡ written place (rows_octets rows.now) out.old }
+    ensures { out.new ≡ written out.old place (rows_octets rows.now) }
 {
     for (index, row) in rows.as_slice().iter().enumerate() {
         put_octets(out, place + 16 * index, &row_octets(row));

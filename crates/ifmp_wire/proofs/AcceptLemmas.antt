@@ -12,7 +12,7 @@ use Rattle.net_types.specs.declared.adjacency.HelloKind.{HelloKind}
 use Rattle.net_types.specs.declared.adjacency.HelloKind.TheVariants.{Syn, Synack, Rstack, Ack}
 use Rattle.net_types.specs.declared.channel.Channel.{Channel}
 use Rattle.net_types.specs.declared.number.Instance.{Instance}
-use Rattle.ipv4_packet.specs.Fields.{u16_at, u32_at}
+use Rattle.octet_fields.specs.Fields.{u16_at, u32_at}
 use Rattle.ipv4_packet.specs.Packet.{internet_sum_of}
 use Rattle.flow_ids.specs.declared.flow.FlowKind.{FlowKind}
 use Rattle.flow_ids.specs.declared.flow.FlowKind.TheVariants.{One as ConnectionKind, Two as HostsKind}
@@ -24,7 +24,7 @@ use Rattle.flow_ids.proofs.IdentifierLemmas.{flow_at, flow_at-identifier}
 use Rattle.ifmp_wire.specs.declared.message.Message.{Message}
 use Rattle.ifmp_wire.specs.declared.message.Message.TheVariants.{Adjacency, Redirect, Reclaim, ReclaimAck, LabelRange, Error}
 use Rattle.ifmp_wire.specs.declared.reader.Fault.{Fault}
-use Rattle.ifmp_wire.specs.Message.{label_number, hello_code, flow_type, sealed, unsealed, octets_of, body, op_code, InRange, FitsMessage, Tells}
+use Rattle.ifmp_wire.specs.Message.{label_number, hello_code, flow_type, with_checksum, without_checksum, octets_of, body, op_code, InRange, FitsMessage, Tells}
 use Rattle.ifmp_wire.specs.Tests.{op_at, checksum_of, has_size, head_fault, identifier_fault, lifetime_fault, kind_fault, kind_at, flow_fault, body_fault, first_fault}
 use Rattle.ifmp_wire.proofs.ReadLemmas.{sender_at, peer_at, label_at}
 
@@ -112,20 +112,20 @@ Tells-injective octets first second one other =
     ∙ message_at-octets_of second other.fits
 
 -- the tests of the head
-head_fault-sealed : (op : ℕ) (rest : List ℕ) → op ≤ 8 → has_size (sealed op rest) ≡ true → head_fault (sealed op rest) ≡ None
-head_fault-sealed op rest known size =
-    let long : ltb (length (sealed op rest)) 4 ≡ false = grind (arith, nat_tests) in
+head_fault-with_checksum : (op : ℕ) (rest : List ℕ) → op ≤ 8 → has_size (with_checksum op rest) ≡ true → head_fault (with_checksum op rest) ≡ None
+head_fault-with_checksum op rest known size =
+    let long : ltb (length (with_checksum op rest)) 4 ≡ false = grind (arith, nat_tests) in
     let low : ltb 8 op ≡ false = grind (arith, nat_tests) in
-    let checksum = 65535 - internet_sum_of (unsealed op rest) in
-    let read : u16_at (sealed op rest) 2 ≡ checksum = from_be_bytes-to_be_bytes_2 checksum (omega arith) in
-    let sum : eqb (u16_at (sealed op rest) 2) (checksum_of (sealed op rest)) ≡ true = rw read (grind (arith, nat_tests)) in
+    let checksum = 65535 - internet_sum_of (without_checksum op rest) in
+    let read : u16_at (with_checksum op rest) 2 ≡ checksum = from_be_bytes-to_be_bytes_2 checksum (omega arith) in
+    let sum : eqb (u16_at (with_checksum op rest) 2) (checksum_of (with_checksum op rest)) ≡ true = rw read (grind (arith, nat_tests)) in
     rw (long, low, size, sum) refl
 
-first_fault-sealed : (op : ℕ) (rest : List ℕ) → op ≤ 8 → has_size (sealed op rest) ≡ true → body_fault (sealed op rest) ≡ None → first_fault (sealed op rest) ≡ None
-first_fault-sealed op rest known size told = ap (λ (fault : Option Fault). option_or fault (body_fault (sealed op rest))) (head_fault-sealed op rest known size) ∙ told
+first_fault-with_checksum : (op : ℕ) (rest : List ℕ) → op ≤ 8 → has_size (with_checksum op rest) ≡ true → body_fault (with_checksum op rest) ≡ None → first_fault (with_checksum op rest) ≡ None
+first_fault-with_checksum op rest known size told = ap (λ (fault : Option Fault). option_or fault (body_fault (with_checksum op rest))) (head_fault-with_checksum op rest known size) ∙ told
 
 first_fault-of : (message : Message) → op_code message ≤ 8 → has_size (octets_of message) ≡ true → body_fault (octets_of message) ≡ None → first_fault (octets_of message) ≡ None
-first_fault-of message known size told = first_fault-sealed (op_code message) (body message) known size told
+first_fault-of message known size told = first_fault-with_checksum (op_code message) (body message) known size told
 
 ltb-false-of : (m n : ℕ) → n ≤ m → ltb m n ≡ false
 ltb-false-of m n order = grind (arith, nat_tests)

@@ -13,6 +13,7 @@ use Rattle.flow_ids.specs.declared.flow.FlowKind.TheVariants.{One, Two}
 use Rattle.flow_ids.specs.declared.flow.FlowId.{FlowId}
 use Rattle.flow_ids.specs.Flow.{kind_of, IsFlow}
 use Rattle.flow_ids.specs.Identifier.{identifier, FitsFields}
+use Rattle.ifmp_wire.specs.declared.message.Names.{Names}
 use Rattle.ifmp_wire.specs.declared.message.Message.{Message}
 use Rattle.ifmp_wire.specs.declared.message.Message.TheVariants.{Adjacency, Redirect, Reclaim, ReclaimAck, LabelRange, Error}
 
@@ -46,10 +47,20 @@ abbrev pub flow_words : FlowKind → ℕ
 flow_words One = 4
 flow_words Two = 3
 
--- both instances, a number of 32 bits, and the rest
-abbrev pub numbered : Instance → Instance → ℕ → List ℕ → List ℕ
-numbered sender peer number rest =
-    to_be_bytes w32 sender.0 ++ (to_be_bytes w32 peer.0 ++ (to_be_bytes w32 number ++ rest))
+-- the instances of sender and receiver, and a number of 32 bits: the Peer Identity of an adjacency
+-- message, the Sequence Number of the others
+abbrev pub names_of : Message → Names
+names_of (Adjacency hello) =
+    record { sender = hello.sender; peer = hello.peer; number = hello.identity.0 }
+names_of (Redirect sender peer number _ _ _) = record { sender = sender; peer = peer; number = number }
+names_of (Reclaim sender peer number _ _) = record { sender = sender; peer = peer; number = number }
+names_of (ReclaimAck sender peer number _ _) = record { sender = sender; peer = peer; number = number }
+names_of (LabelRange sender peer number _ _) = record { sender = sender; peer = peer; number = number }
+names_of (Error sender peer number _ _) = record { sender = sender; peer = peer; number = number }
+
+abbrev pub with_names : Names → List ℕ → List ℕ
+with_names names rest =
+    to_be_bytes w32 names.sender.0 ++ (to_be_bytes w32 names.peer.0 ++ (to_be_bytes w32 names.number ++ rest))
 
 -- what a message says of a label and its flow; zero stands in place of a lifetime
 abbrev pub flow_octets : (lifetime : ℕ) → Channel → FlowId → List ℕ
@@ -57,30 +68,29 @@ flow_octets lifetime label flow =
     flow_type (kind_of flow) ∷ flow_words (kind_of flow)
     ∷ (to_be_bytes w16 lifetime ++ (label_octets label ++ identifier flow))
 
+-- the octets behind the names
+abbrev pub rest_of : Message → List ℕ
+rest_of (Adjacency hello) = to_be_bytes w32 hello.next
+rest_of (Redirect _ _ _ lifetime label flow) = flow_octets lifetime label flow
+rest_of (Reclaim _ _ _ label flow) = flow_octets 0 label flow
+rest_of (ReclaimAck _ _ _ label flow) = flow_octets 0 label flow
+rest_of (LabelRange _ _ _ least greatest) = label_octets least ++ label_octets greatest
+rest_of (Error _ _ _ code label) = code ∷ 0 ∷ 0 ∷ 0 ∷ label_octets label
+
 -- the octets from the fifth on
 abbrev pub body : Message → List ℕ
-body (Adjacency hello) =
-    numbered hello.sender hello.peer hello.identity.0 (to_be_bytes w32 hello.next)
-body (Redirect sender peer number lifetime label flow) =
-    numbered sender peer number (flow_octets lifetime label flow)
-body (Reclaim sender peer number label flow) = numbered sender peer number (flow_octets 0 label flow)
-body (ReclaimAck sender peer number label flow) =
-    numbered sender peer number (flow_octets 0 label flow)
-body (LabelRange sender peer number least greatest) =
-    numbered sender peer number (label_octets least ++ label_octets greatest)
-body (Error sender peer number code label) =
-    numbered sender peer number (code ∷ 0 ∷ 0 ∷ 0 ∷ label_octets label)
+body message = with_names (names_of message) (rest_of message)
 
 -- version 1, op code, the Internet checksum of the whole with its field zero, body
-abbrev pub unsealed : ℕ → List ℕ → List ℕ
-unsealed op rest = 1 ∷ op ∷ 0 ∷ 0 ∷ rest
+abbrev pub without_checksum : ℕ → List ℕ → List ℕ
+without_checksum op rest = 1 ∷ op ∷ 0 ∷ 0 ∷ rest
 
-abbrev pub sealed : ℕ → List ℕ → List ℕ
-sealed op rest =
-    1 ∷ op ∷ (to_be_bytes w16 (65535 - internet_sum_of (unsealed op rest)) ++ rest)
+abbrev pub with_checksum : ℕ → List ℕ → List ℕ
+with_checksum op rest =
+    1 ∷ op ∷ (to_be_bytes w16 (65535 - internet_sum_of (without_checksum op rest)) ++ rest)
 
 abbrev pub octets_of : Message → List ℕ
-octets_of message = sealed (op_code message) (body message)
+octets_of message = with_checksum (op_code message) (body message)
 
 -- a message that may be sent: labels with a VPI of 8 bits, a flow that packets can have, a lifetime,
 -- a range that isn't empty, an error that has a name

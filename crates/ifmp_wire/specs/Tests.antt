@@ -3,7 +3,7 @@
 
 use Rattle.std.specs.Prelude.{◌≡◌, ℕ, ◌+◌, ◌-◌, ◌==◌, ◌&&◌, ◌||◌, ◌≤◌, nat_lt, nat_le, not, Bool, IsTrue, List, [], ◌∷◌, length, drop, slice_index, Option, Some, None, if◌then◌else◌}
 use Rattle.std.specs.Option.{option_or}
-use Rattle.ipv4_packet.specs.Fields.{u16_at, u32_at, written}
+use Rattle.octet_fields.specs.Fields.{u16_at, u32_at, written}
 use Rattle.ipv4_packet.specs.Packet.{internet_sum_of}
 use Rattle.flow_ids.specs.declared.flow.FlowKind.{FlowKind}
 use Rattle.flow_ids.specs.declared.flow.FlowKind.TheVariants.{One, Two}

@@ -76,3 +76,14 @@ pub enum Message {
         label: Channel,
     },
 }
+
+/// What every message begins with, behind version, op code and checksum.
+#[derive(Clone, Copy, Debug, PartialEq, Eq)]
+pub(crate) struct Names {
+    /// The sender's instance.
+    pub sender: Instance,
+    /// The receiver's instance.
+    pub peer: Instance,
+    /// The Peer Identity of an adjacency message, the Sequence Number of the others.
+    pub number: u32,
+}

@@ -4,45 +4,59 @@ ghost use Rattle.std.specs.Prelude.{◌≡◌, ◌≢◌, ◌↔◌, ◌+◌, �
 ghost use Rattle.std.specs.Result.{result_err};
 ghost use Rattle.flow_ids.specs.Flow.{kind_of};
 ghost use Rattle.flow_ids.specs.Identifier.{identifier_size, Identifies};
-ghost use Rattle.ipv4_packet.specs.Fields.{u16_at as number16};
+ghost use Rattle.octet_fields.specs.Fields.{u16_at as number16};
 ghost use Rattle.ifmp_wire.specs.Message.{Tells, hello_code};
 ghost use Rattle.ifmp_wire.specs.Tests.{first_fault, head_fault, flow_fault, kind_fault, lifetime_fault, identifier_fault, range_fault, error_fault, op_at, checksum_of, has_size as fits_op, HasHead, HasKind};
 
 use crate::message::Message;
 use flow_ids::{FlowFault, FlowId, FlowKind};
-use ipv4_packet::fields::{u16_at, u32_at};
 use ipv4_packet::internet_sum;
 use net_types::{Addr, Channel, Hello, HelloKind, Instance};
+use octet_fields::{u16_at, u32_at};
+use thiserror::Error;
 
 /// Why octets aren't a message.
-#[derive(Clone, Copy, Debug, PartialEq, Eq)]
+#[derive(Clone, Copy, Debug, PartialEq, Eq, Error)]
 pub enum Fault {
     /// Under 4 octets.
+    #[error("under 4 octets")]
     Short,
     /// Octet 0 isn't 1.
+    #[error("the version isn't 1")]
     Version,
     /// The op code is above 8.
+    #[error("the op code is above 8")]
     OpCode,
     /// Not as many octets as the op code asks for.
+    #[error("another length than the op code has")]
     Size,
     /// The checksum field isn't the checksum.
+    #[error("the checksum isn't right")]
     Checksum,
     /// The flow type is neither 1 nor 2.
+    #[error("the flow type is neither 1 nor 2")]
     FlowType,
     /// The flow length isn't the type's, or isn't that of the octets that are there.
+    #[error("the flow length isn't that of the flow type")]
     FlowLength,
     /// A REDIRECT whose lifetime is 0.
+    #[error("a REDIRECT whose lifetime is 0")]
     ZeroLifetime,
     /// Octet 0 of a label isn't 0.
+    #[error("a label whose first octet isn't 0")]
     LabelReserved,
     /// A LABEL RANGE whose least label is above its greatest.
+    #[error("a LABEL RANGE whose least label is above its greatest")]
     RangeOrder,
     /// An ERROR whose code isn't 1 to 4.
+    #[error("an ERROR whose code isn't 1 to 4")]
     ErrorCode,
     /// An octet that should be 0 isn't.
+    #[error("a zero octet isn't 0")]
     Reserved,
     /// No packet can be of the flow: octet 0 of its identifier isn't 45 (hexadecimal), its Time To
     /// Live is 0, or its type is 1 and its protocol isn't 6 or 17.
+    #[error("no packet is of the flow")]
     FlowFields,
 }
 

@@ -4,7 +4,7 @@ ghost use Rattle.std.specs.Prelude.{◌≡◌, ◌<◌, ◌≤◌, length};
 
 use super::*;
 use flow_ids::FlowId;
-use ipv4_packet::fields::put_u16;
+use octet_fields::put_u16;
 use ipv4_packet::internet_sum;
 use net_types::{Addr, Channel, Hello, HelloKind, Instance};
 

@@ -4,7 +4,7 @@ use Rattle.std.proofs.Common.{◌≡◌, ℕ, ◌+◌, ◌≤◌, ◌<◌, List,
 use Rattle.std.specs.Int.{w16, w32, to_be_bytes}
 use Rattle.std.proofs.lemmas.List.{length-set}
 use Rattle.net_types.specs.declared.prefix.Addr.{Addr}
-use Rattle.ipv4_packet.specs.Fields.{written}
+use Rattle.octet_fields.specs.Fields.{written}
 use Rattle.ipv4_packet.specs.Packet.{words, header, header_sum, total_length_of, with_ttl, with_checksum, canonical, canonical_checksum, ifmp_header, IsPacket}
 use Rattle.ipv4_packet.proofs.WordLemmas.{ones_complement-completed}
 

@@ -1,4 +1,3 @@
-pub mod FieldLemmas
 pub mod HeaderLemmas
 pub mod MessageLemmas
 pub mod RouteLemmas

@@ -5,7 +5,7 @@ use Rattle.std.specs.Int.{w16, w32, to_be_bytes}
 use Rattle.net_types.specs.declared.prefix.Addr.{Addr}
 use Rattle.ipv4_packet.specs.declared.validate.PacketFault.{PacketFault}
 use Rattle.ipv4_packet.specs.declared.validate.PacketFault.TheVariants.{Short, Version, Options, Length, TooLong, Checksum}
-use Rattle.ipv4_packet.specs.Fields.{u16_at, u32_at, written}
+use Rattle.octet_fields.specs.Fields.{u16_at, u32_at, written}
 
 -- the 16-bit words of octets, the first octet of each highest; a last octet that stands alone is
 -- followed by zero (RFC 1071 4.1)

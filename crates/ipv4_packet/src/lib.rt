@@ -16,7 +16,6 @@
 #![tactic(auto)]
 
 mod checksum;
-pub mod fields;
 mod read;
 #[cfg(test)]
 mod tests;

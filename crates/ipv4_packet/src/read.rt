@@ -3,8 +3,8 @@
 ghost use Rattle.std.specs.Prelude.{◌≡◌};
 ghost use Rattle.ipv4_packet.specs.Packet.{IsPacket, tos_of, total_length_of, identification_of, fragment_of, ttl_of, protocol_of, source_of, destination_of};
 
-use crate::fields::{u16_at, u32_at};
 use net_types::Addr;
+use octet_fields::{u16_at, u32_at};
 
 /// Type of Service (octet 1).
 pub fn tos(packet: &[u8]) -> u8

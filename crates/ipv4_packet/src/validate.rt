@@ -5,22 +5,29 @@ ghost use Rattle.std.specs.Result.{result_err};
 ghost use Rattle.ipv4_packet.specs.Packet.{IsPacket, first_fault};
 
 use crate::checksum::internet_sum;
-use crate::fields::u16_at;
+use octet_fields::u16_at;
+use thiserror::Error;
 
 /// Why octets aren't a packet that a router takes.
-#[derive(Clone, Copy, Debug, PartialEq, Eq)]
+#[derive(Clone, Copy, Debug, PartialEq, Eq, Error)]
 pub enum PacketFault {
     /// Under 20 octets.
+    #[error("under 20 octets")]
     Short,
     /// The version isn't 4.
+    #[error("the version isn't 4")]
     Version,
     /// The header isn't 5 words of 4 octets, so it has options.
+    #[error("the header has options")]
     Options,
     /// Total Length isn't the number of octets.
+    #[error("Total Length isn't the number of octets")]
     Length,
     /// Over 1500 octets.
+    #[error("over 1500 octets")]
     TooLong,
     /// The words of the header don't sum to FFFF.
+    #[error("the header checksum isn't right")]
     Checksum,
 }
 

@@ -4,8 +4,8 @@ ghost use Rattle.std.specs.Prelude.{◌≡◌, ◌+◌, ◌≤◌, ◌++◌, len
 ghost use Rattle.ipv4_packet.specs.Packet.{IsPacket, with_ttl, canonical, ifmp_header, ifmp_packet_of};
 
 use crate::checksum::internet_sum;
-use crate::fields::{put_u16, put_u32};
 use net_types::Addr;
+use octet_fields::{put_u16, put_u32};
 
 /// Writes the canonical header checksum.
 pub fn write_checksum(packet: &mut [u8])

@@ -1,5 +1,5 @@
 use Rattle.std.proofs.Common.{◌≡◌, ◌∙◌, ◌+◌, ◌*◌, ◌≤◌, List, ℕ, length, ap, arith}
-use Rattle.gsmp_wire.specs.Fields.{written}
+use Rattle.octet_fields.specs.Fields.{written}
 use Rattle.gsmp_wire.specs.Layout.{rows_octets}
 use Rattle.gsmp_wire.proofs.Writing.{length-rows_octets, rows_written}
 use Rattle.gsmp_wire.proofs.write.put_rows.Goals as goal
@@ -16,5 +16,5 @@ loop-index-preserved c =
     let room : c.args.place + length (rows_octets c.as_slice-row-items.result.now) ≤ length c.args.out.now =
     omega (arith, same, length-rows_octets c.args.rows.now, length-rows_octets c.as_slice-row-items.result.now) in
     c.put_octets.ensures
-    ∙ ap (λ (octets : List ℕ). written (c.args.place + 16 * c.loop-index.index) octets c.loop-index.out) c.row_octets.ensures
+    ∙ ap (λ (octets : List ℕ). written c.loop-index.out (c.args.place + 16 * c.loop-index.index) octets) c.row_octets.ensures
     ∙ rows_written c.args.place c.loop-index.index c.as_slice-row-items.result.now _ c.args.out.now c.loop-index.out c.loop-index-test.true room c.loop-index.invariant

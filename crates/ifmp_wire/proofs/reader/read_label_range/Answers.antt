@@ -1,5 +1,5 @@
 use Rattle.std.proofs.Common.{◌≤◌, arith}
-use Rattle.ipv4_packet.specs.Fields.{u32_at}
+use Rattle.octet_fields.specs.Fields.{u32_at}
 use Rattle.ifmp_wire.proofs.ReadLemmas.{tells-label_range}
 use Rattle.ifmp_wire.proofs.reader.read_label_range.Goals as goal
 

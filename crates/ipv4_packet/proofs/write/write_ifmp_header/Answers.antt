@@ -1,7 +1,7 @@
 use Rattle.std.proofs.Common.{ℕ, List, ◌++◌, ◌∙◌, ◌+◌, drop, ap, arith}
 use Rattle.std.proofs.lemmas.List.{length-take-le}
 use Rattle.std.specs.Int.{w16, w32, to_be_bytes}
-use Rattle.ipv4_packet.specs.Fields.{written}
+use Rattle.octet_fields.specs.Fields.{written}
 use Rattle.ipv4_packet.proofs.HeaderLemmas.{ifmp_header-written}
 use Rattle.ipv4_packet.proofs.write.write_ifmp_header.Goals as goal
 

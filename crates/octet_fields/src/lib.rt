@@ -1,8 +1,10 @@
-//! Numbers of 16 and 32 bits among octets, the first octet highest.
+//! Numbers of 16 and 32 bits among octets, the first octet highest (RFC 791, appendix B), and copies
+//! of octets from a place on.
+#![tactic(auto)]
 
 ghost use Rattle.std.specs.Prelude.{◌≡◌, ◌+◌, ◌≤◌, length};
 ghost use Rattle.std.specs.Int.{w16, w32, to_be_bytes};
-ghost use Rattle.ipv4_packet.specs.Fields.{u16_at as number16, u32_at as number32, written};
+ghost use Rattle.octet_fields.specs.Fields.{u16_at as number16, u32_at as number32, written};
 
 use byteorder::{BigEndian, ByteOrder};
 
@@ -46,4 +48,20 @@ pub fn put_octets(octets: &mut [u8], place: usize, field: &[u8])
     ensures { octets.new ≡ written octets.old place field.now }
 {
     octets[place..place + field.len()].copy_from_slice(field);
+}
+
+#[cfg(test)]
+mod tests {
+    use super::*;
+
+    #[test]
+    fn the_first_octet_is_the_highest(rt: HostRuntime) {
+        let mut octets = [9; 9];
+        put_u32(&mut octets, 1, 0x0102_0304);
+        put_u16(&mut octets, 5, 0x0506);
+        put_octets(&mut octets, 7, &[7]);
+        assert_eq!(rt; octets, [9, 1, 2, 3, 4, 5, 6, 7, 9]);
+        assert_eq!(rt; u32_at(&octets, 3), 0x0304_0506);
+        assert_eq!(rt; u16_at(&octets, 6), 0x0607);
+    }
 }

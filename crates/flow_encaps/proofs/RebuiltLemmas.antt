@@ -8,9 +8,9 @@ use Rattle.std.proofs.lemmas.Bool.Decides.{nat_tests}
 use Rattle.std.proofs.lemmas.List.{length-drop, take-append-drop}
 use Rattle.std.proofs.lemmas.Nat.{from_be_bytes-to_be_bytes_2, from_be_bytes-to_be_bytes_4, be_bytes_2}
 use Rattle.net_types.specs.declared.prefix.Addr.{Addr}
-use Rattle.ipv4_packet.specs.Fields.{u16_at, u32_at}
+use Rattle.octet_fields.specs.Fields.{u16_at, u32_at}
 use Rattle.ipv4_packet.specs.Packet.{tos_of, total_length_of, fragment_of, ttl_of, protocol_of, source_of, destination_of, with_ttl, with_checksum, canonical, canonical_checksum, IsPacket}
-use Rattle.ipv4_packet.proofs.FieldLemmas.{AreOctets, u16-then, u32-then}
+use Rattle.octet_fields.proofs.FieldLemmas.{AreOctets, u16-then, u32-then}
 use Rattle.ipv4_packet.proofs.HeaderLemmas.{on_header, length-canonical, IsPacket-canonical}
 use Rattle.ipv4_packet.proofs.RouteLemmas.{canonical-canonical}
 use Rattle.flow_ids.specs.declared.flow.FlowKind.{FlowKind}
@@ -21,7 +21,7 @@ use Rattle.flow_ids.specs.Flow.{kind_of, has_ports, shows_ports, flow_of, IsFlow
 use Rattle.flow_ids.specs.Identifier.{FitsFields}
 use Rattle.flow_encaps.specs.declared.default.EncapsFault.{EncapsFault}
 use Rattle.flow_encaps.specs.declared.default.EncapsFault.TheVariants.{Checksum}
-use Rattle.flow_encaps.specs.Labelled.{still_checksum, labelled_payload, Carries, made, head_size, left_out, has_zeros, said_length, said_checksum, layout_fault, checksum_fault, unwrap_fault, HasLayout}
+use Rattle.flow_encaps.specs.Labelled.{checksum_at_ttl_zero, labelled_payload, Carries, rebuilt, head_size, left_out, has_zeros, said_length, said_checksum, layout_fault, checksum_fault, unwrap_fault, HasLayout}
 
 -- a claim about every payload of at least 8, or 12, octets follows from the claim about one that is
 -- written out
@@ -33,23 +33,23 @@ on_twelve : (P : List ℕ → Type 0) → ((a b c d e f g h i j k l : ℕ) (rest
 on_twelve P claim (a ∷ b ∷ c ∷ d ∷ e ∷ f ∷ g ∷ h ∷ i ∷ j ∷ k ∷ l ∷ rest) long = claim a b c d e f g h i j k l rest
 on_twelve P claim _ long = absurd (omega arith)
 
--- length and parts of what is made
-pub length-made : (flow : FlowId) (payload : List ℕ) → head_size (kind_of flow) ≤ length payload → length (made flow payload) ≡ length payload + left_out (kind_of flow)
-length-made (One tos ttl protocol source destination source_port destination_port) payload =
-    on_eight (λ p. length (made (One tos ttl protocol source destination source_port destination_port) p) ≡ length p + 16) (λ a b c d e f g h rest. omega arith) payload
-length-made (Two ttl source destination) payload =
-    on_twelve (λ p. length (made (Two ttl source destination) p) ≡ length p + 8) (λ a b c d e f g h i j k l rest. omega arith) payload
+-- length and parts of what is rebuilt
+pub length-rebuilt : (flow : FlowId) (payload : List ℕ) → head_size (kind_of flow) ≤ length payload → length (rebuilt flow payload) ≡ length payload + left_out (kind_of flow)
+length-rebuilt (One tos ttl protocol source destination source_port destination_port) payload =
+    on_eight (λ p. length (rebuilt (One tos ttl protocol source destination source_port destination_port) p) ≡ length p + 16) (λ a b c d e f g h rest. omega arith) payload
+length-rebuilt (Two ttl source destination) payload =
+    on_twelve (λ p. length (rebuilt (Two ttl source destination) p) ≡ length p + 8) (λ a b c d e f g h i j k l rest. omega arith) payload
 
-pub long-made : (flow : FlowId) (payload : List ℕ) → head_size (kind_of flow) ≤ length payload → 20 ≤ length (made flow payload)
-long-made (One tos ttl protocol source destination source_port destination_port) payload long =
-    omega (arith, length-made (One tos ttl protocol source destination source_port destination_port) payload long)
-long-made (Two ttl source destination) payload long = omega (arith, length-made (Two ttl source destination) payload long)
+pub long-rebuilt : (flow : FlowId) (payload : List ℕ) → head_size (kind_of flow) ≤ length payload → 20 ≤ length (rebuilt flow payload)
+long-rebuilt (One tos ttl protocol source destination source_port destination_port) payload long =
+    omega (arith, length-rebuilt (One tos ttl protocol source destination source_port destination_port) payload long)
+long-rebuilt (Two ttl source destination) payload long = omega (arith, length-rebuilt (Two ttl source destination) payload long)
 
--- what is made in front, and that the rest is the payload's own
-pub drop-made : (flow : FlowId) (payload : List ℕ) → head_size (kind_of flow) ≤ length payload → drop (head_size (kind_of flow) + left_out (kind_of flow)) (made flow payload) ≡ drop (head_size (kind_of flow)) payload
-drop-made (One tos ttl protocol source destination source_port destination_port) =
-    on_eight (λ p. drop 24 (made (One tos ttl protocol source destination source_port destination_port) p) ≡ drop 8 p) (λ a b c d e f g h rest. refl)
-drop-made (Two ttl source destination) = on_twelve (λ p. drop 20 (made (Two ttl source destination) p) ≡ drop 12 p) (λ a b c d e f g h i j k l rest. refl)
+-- the rest is the payload's own
+pub drop-rebuilt : (flow : FlowId) (payload : List ℕ) → head_size (kind_of flow) ≤ length payload → drop (head_size (kind_of flow) + left_out (kind_of flow)) (rebuilt flow payload) ≡ drop (head_size (kind_of flow)) payload
+drop-rebuilt (One tos ttl protocol source destination source_port destination_port) =
+    on_eight (λ p. drop 24 (rebuilt (One tos ttl protocol source destination source_port destination_port) p) ≡ drop 8 p) (λ a b c d e f g h rest. refl)
+drop-rebuilt (Two ttl source destination) = on_twelve (λ p. drop 20 (rebuilt (Two ttl source destination) p) ≡ drop 12 p) (λ a b c d e f g h i j k l rest. refl)
 
 -- the checksum of a header alone, and with what stands behind it
 canonical-front_24 : (packet : List ℕ) → 20 ≤ length packet → canonical (take 24 packet) ++ drop 24 packet ≡ canonical packet
@@ -60,15 +60,15 @@ pub canonical-front : (kind : FlowKind) (packet : List ℕ) → 20 ≤ length pa
 canonical-front ConnectionKind = canonical-front_24
 canonical-front HostsKind = on_header (λ p. canonical (take 20 p) ++ drop 20 p ≡ canonical p) (λ a b c d e f g h i j k l m n o p q r s t rest. refl)
 
-pub still_checksum-front : (kind : FlowKind) (packet : List ℕ) → 20 ≤ length packet → still_checksum (take (head_size kind + left_out kind) packet) ≡ still_checksum packet
-still_checksum-front ConnectionKind = on_header (λ p. still_checksum (take 24 p) ≡ still_checksum p) (λ a b c d e f g h i j k l m n o p q r s t rest. refl)
-still_checksum-front HostsKind = on_header (λ p. still_checksum (take 20 p) ≡ still_checksum p) (λ a b c d e f g h i j k l m n o p q r s t rest. refl)
+pub checksum_at_ttl_zero-front : (kind : FlowKind) (packet : List ℕ) → 20 ≤ length packet → checksum_at_ttl_zero (take (head_size kind + left_out kind) packet) ≡ checksum_at_ttl_zero packet
+checksum_at_ttl_zero-front ConnectionKind = on_header (λ p. checksum_at_ttl_zero (take 24 p) ≡ checksum_at_ttl_zero p) (λ a b c d e f g h i j k l m n o p q r s t rest. refl)
+checksum_at_ttl_zero-front HostsKind = on_header (λ p. checksum_at_ttl_zero (take 20 p) ≡ checksum_at_ttl_zero p) (λ a b c d e f g h i j k l m n o p q r s t rest. refl)
 
-pub still_checksum-canonical : (packet : List ℕ) → 20 ≤ length packet → still_checksum (canonical packet) ≡ still_checksum packet
-still_checksum-canonical = on_header (λ p. still_checksum (canonical p) ≡ still_checksum p) (λ a b c d e f g h i j k l m n o p q r s t rest. refl)
+pub checksum_at_ttl_zero-canonical : (packet : List ℕ) → 20 ≤ length packet → checksum_at_ttl_zero (canonical packet) ≡ checksum_at_ttl_zero packet
+checksum_at_ttl_zero-canonical = on_header (λ p. checksum_at_ttl_zero (canonical p) ≡ checksum_at_ttl_zero p) (λ a b c d e f g h i j k l m n o p q r s t rest. refl)
 
-pub still_checksum-with_checksum : (packet : List ℕ) (checksum : ℕ) → 20 ≤ length packet → still_checksum (with_checksum packet checksum) ≡ still_checksum packet
-still_checksum-with_checksum packet checksum = on_header (λ p. still_checksum (with_checksum p checksum) ≡ still_checksum p) (λ a b c d e f g h i j k l m n o p q r s t rest. refl) packet
+pub checksum_at_ttl_zero-with_checksum : (packet : List ℕ) (checksum : ℕ) → 20 ≤ length packet → checksum_at_ttl_zero (with_checksum packet checksum) ≡ checksum_at_ttl_zero packet
+checksum_at_ttl_zero-with_checksum packet checksum = on_header (λ p. checksum_at_ttl_zero (with_checksum p checksum) ≡ checksum_at_ttl_zero p) (λ a b c d e f g h i j k l m n o p q r s t rest. refl) packet
 
 pub canonical-with_checksum : (packet : List ℕ) (checksum : ℕ) → 20 ≤ length packet → canonical (with_checksum packet checksum) ≡ canonical packet
 canonical-with_checksum packet checksum = on_header (λ p. canonical (with_checksum p checksum) ≡ canonical p) (λ a b c d e f g h i j k l m n o p q r s t rest. refl) packet
@@ -82,14 +82,14 @@ layout_fault-passed kind payload known =
     let fits : leb (said_length kind payload) 1500 ≡ true = let fact = known.fits_mtu in grind (arith, nat_tests) in
     rw (head, zeros, own, fits) refl
 
-pub unwrap_fault-checksum : (flow : FlowId) (payload : List ℕ) → layout_fault (kind_of flow) payload ≡ None → said_checksum (kind_of flow) payload ≢ still_checksum (made flow payload) → unwrap_fault flow payload ≡ Some Checksum
+pub unwrap_fault-checksum : (flow : FlowId) (payload : List ℕ) → layout_fault (kind_of flow) payload ≡ None → said_checksum (kind_of flow) payload ≢ checksum_at_ttl_zero (rebuilt flow payload) → unwrap_fault flow payload ≡ Some Checksum
 unwrap_fault-checksum flow payload layout differs =
-    let test : eqb (said_checksum (kind_of flow) payload) (still_checksum (made flow payload)) ≡ false = grind (arith, nat_tests) in
+    let test : eqb (said_checksum (kind_of flow) payload) (checksum_at_ttl_zero (rebuilt flow payload)) ≡ false = grind (arith, nat_tests) in
     rw (layout, test) refl
 
-pub unwrap_fault-none : (flow : FlowId) (payload : List ℕ) → layout_fault (kind_of flow) payload ≡ None → said_checksum (kind_of flow) payload ≡ still_checksum (made flow payload) → unwrap_fault flow payload ≡ None
+pub unwrap_fault-none : (flow : FlowId) (payload : List ℕ) → layout_fault (kind_of flow) payload ≡ None → said_checksum (kind_of flow) payload ≡ checksum_at_ttl_zero (rebuilt flow payload) → unwrap_fault flow payload ≡ None
 unwrap_fault-none flow payload layout same =
-    let test : eqb (said_checksum (kind_of flow) payload) (still_checksum (made flow payload)) ≡ true = grind (arith, nat_tests) in
+    let test : eqb (said_checksum (kind_of flow) payload) (checksum_at_ttl_zero (rebuilt flow payload)) ≡ true = grind (arith, nat_tests) in
     rw (layout, test) refl
 
 -- from a payload to its packet
@@ -100,17 +100,17 @@ AreOctets-pair high low is_high is_low (suc (suc place)) = lit< tt
 
 connection_carried : (tos ttl protocol : ℕ) (source destination : Addr) (source_port destination_port : ℕ) → FitsFields (One tos ttl protocol source destination source_port destination_port) → 0 < ttl → IsTrue (has_ports protocol)
     → (payload : List ℕ) → 8 ≤ length payload → AreOctets payload → HasLayout ConnectionKind payload
-    → said_checksum ConnectionKind payload ≡ still_checksum (made (One tos ttl protocol source destination source_port destination_port) payload)
-    → AreOctets (canonical (made (One tos ttl protocol source destination source_port destination_port) payload))
-    → Carries (One tos ttl protocol source destination source_port destination_port) (canonical (made (One tos ttl protocol source destination source_port destination_port) payload)) payload
+    → said_checksum ConnectionKind payload ≡ checksum_at_ttl_zero (rebuilt (One tos ttl protocol source destination source_port destination_port) payload)
+    → AreOctets (canonical (rebuilt (One tos ttl protocol source destination source_port destination_port) payload))
+    → Carries (One tos ttl protocol source destination source_port destination_port) (canonical (rebuilt (One tos ttl protocol source destination source_port destination_port) payload)) payload
 connection_carried tos ttl protocol source destination source_port destination_port fits alive ports =
-    on_eight (λ p. AreOctets p → HasLayout ConnectionKind p → said_checksum ConnectionKind p ≡ still_checksum (made (One tos ttl protocol source destination source_port destination_port) p)
-    → AreOctets (canonical (made (One tos ttl protocol source destination source_port destination_port) p))
-    → Carries (One tos ttl protocol source destination source_port destination_port) (canonical (made (One tos ttl protocol source destination source_port destination_port) p)) p)
+    on_eight (λ p. AreOctets p → HasLayout ConnectionKind p → said_checksum ConnectionKind p ≡ checksum_at_ttl_zero (rebuilt (One tos ttl protocol source destination source_port destination_port) p)
+    → AreOctets (canonical (rebuilt (One tos ttl protocol source destination source_port destination_port) p))
+    → Carries (One tos ttl protocol source destination source_port destination_port) (canonical (rebuilt (One tos ttl protocol source destination source_port destination_port) p)) p)
     (λ a b c d e f g h rest small layout checksum octets.
     let flow = One tos ttl protocol source destination source_port destination_port in
-    let packet = made flow (a ∷ b ∷ c ∷ d ∷ e ∷ f ∷ g ∷ h ∷ rest) in
-    let said = be_bytes_2 (g ∷ h ∷ []) (still_checksum packet) refl (AreOctets-pair g h (small 6) (small 7)) (sym checksum) in
+    let packet = rebuilt flow (a ∷ b ∷ c ∷ d ∷ e ∷ f ∷ g ∷ h ∷ rest) in
+    let said = be_bytes_2 (g ∷ h ∷ []) (checksum_at_ttl_zero packet) refl (AreOctets-pair g h (small 6) (small 7)) (sym checksum) in
     let source_is = from_be_bytes-to_be_bytes_4 source.0 fits.3 in
     let destination_is = from_be_bytes-to_be_bytes_4 destination.0 fits.4 in
     let source_port_is = from_be_bytes-to_be_bytes_2 source_port fits.5 in
@@ -129,17 +129,17 @@ connection_carried tos ttl protocol source destination source_port destination_p
 
 hosts_carried : (ttl : ℕ) (source destination : Addr) → FitsFields (Two ttl source destination) → 0 < ttl
     → (payload : List ℕ) → 12 ≤ length payload → AreOctets payload → HasLayout HostsKind payload
-    → said_checksum HostsKind payload ≡ still_checksum (made (Two ttl source destination) payload)
-    → AreOctets (canonical (made (Two ttl source destination) payload))
-    → Carries (Two ttl source destination) (canonical (made (Two ttl source destination) payload)) payload
+    → said_checksum HostsKind payload ≡ checksum_at_ttl_zero (rebuilt (Two ttl source destination) payload)
+    → AreOctets (canonical (rebuilt (Two ttl source destination) payload))
+    → Carries (Two ttl source destination) (canonical (rebuilt (Two ttl source destination) payload)) payload
 hosts_carried ttl source destination fits alive =
-    on_twelve (λ p. AreOctets p → HasLayout HostsKind p → said_checksum HostsKind p ≡ still_checksum (made (Two ttl source destination) p)
-    → AreOctets (canonical (made (Two ttl source destination) p))
-    → Carries (Two ttl source destination) (canonical (made (Two ttl source destination) p)) p)
+    on_twelve (λ p. AreOctets p → HasLayout HostsKind p → said_checksum HostsKind p ≡ checksum_at_ttl_zero (rebuilt (Two ttl source destination) p)
+    → AreOctets (canonical (rebuilt (Two ttl source destination) p))
+    → Carries (Two ttl source destination) (canonical (rebuilt (Two ttl source destination) p)) p)
     (λ a b c d e f g h i j k l rest small layout checksum octets.
     let flow = Two ttl source destination in
-    let packet = made flow (a ∷ b ∷ c ∷ d ∷ e ∷ f ∷ g ∷ h ∷ i ∷ j ∷ k ∷ l ∷ rest) in
-    let said = be_bytes_2 (k ∷ l ∷ []) (still_checksum packet) refl (AreOctets-pair k l (small 10) (small 11)) (sym checksum) in
+    let packet = rebuilt flow (a ∷ b ∷ c ∷ d ∷ e ∷ f ∷ g ∷ h ∷ i ∷ j ∷ k ∷ l ∷ rest) in
+    let said = be_bytes_2 (k ∷ l ∷ []) (checksum_at_ttl_zero packet) refl (AreOctets-pair k l (small 10) (small 11)) (sym checksum) in
     let source_is = from_be_bytes-to_be_bytes_4 source.0 fits.1 in
     let destination_is = from_be_bytes-to_be_bytes_4 destination.0 fits.2 in
     let first : a ≡ 0 = let fact = layout.zeros in grind (arith, nat_tests) in
@@ -159,7 +159,7 @@ hosts_carried ttl source destination fits alive =
     })
 
 -- a payload that passes each test is the packet that it makes with the flow
-pub Carries-made : (flow : FlowId) (payload : List ℕ) → FitsFields flow → IsFlow flow → AreOctets payload → HasLayout (kind_of flow) payload → said_checksum (kind_of flow) payload ≡ still_checksum (made flow payload) → AreOctets (canonical (made flow payload)) → Carries flow (canonical (made flow payload)) payload
-Carries-made (One tos ttl protocol source destination source_port destination_port) payload fits alive small layout =
+pub Carries-rebuilt : (flow : FlowId) (payload : List ℕ) → FitsFields flow → IsFlow flow → AreOctets payload → HasLayout (kind_of flow) payload → said_checksum (kind_of flow) payload ≡ checksum_at_ttl_zero (rebuilt flow payload) → AreOctets (canonical (rebuilt flow payload)) → Carries flow (canonical (rebuilt flow payload)) payload
+Carries-rebuilt (One tos ttl protocol source destination source_port destination_port) payload fits alive small layout =
     connection_carried tos ttl protocol source destination source_port destination_port fits alive.0 alive.1 payload layout.head small layout
-Carries-made (Two ttl source destination) payload fits alive small layout = hosts_carried ttl source destination fits alive payload layout.head small layout
+Carries-rebuilt (Two ttl source destination) payload fits alive small layout = hosts_carried ttl source destination fits alive payload layout.head small layout
