@@ -5,19 +5,26 @@ ghost use Rattle.std.specs.Result.{result_err};
 ghost use Rattle.aal5_frames.specs.Frame.{IsPdu, pdu_fault, length_field};
 
 use crate::crc::crc32;
+use crate::segmentation::MAX_FRAME;
+use thiserror::Error;
 
 /// Why [`check_pdu`] refuses octets.
-#[derive(Clone, Copy, Debug, PartialEq, Eq)]
+#[derive(Clone, Copy, Debug, PartialEq, Eq, Error)]
 pub enum FrameFault {
     /// There are none.
+    #[error("no octets")]
     Empty,
     /// They are no multiple of 48, or more than 1536.
+    #[error("no multiple of 48 octets up to 1536")]
     Size,
     /// The common part indicator isn't 0.
+    #[error("the common part indicator isn't 0")]
     Cpi,
     /// The Length field is 0, or leaves no pad of 0 to 47 octets.
+    #[error("the Length field leaves no pad of 0 to 47 octets")]
     Length,
     /// The CRC field isn't the CRC of all octets before it.
+    #[error("the CRC isn't right")]
     Crc,
 }
 
@@ -33,7 +40,7 @@ pub fn check_pdu(octets: &[u8]) -> Result<usize, FrameFault>
     if size == 0 {
         return Err(FrameFault::Empty);
     }
-    if size % 48 != 0 || size > 1536 {
+    if size % 48 != 0 || size > MAX_FRAME {
         return Err(FrameFault::Size);
     }
     if octets[size - 7] != 0 {

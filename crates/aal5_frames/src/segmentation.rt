@@ -12,7 +12,7 @@ use byteorder::{BigEndian, ByteOrder};
 use net_types::{Channel, Mark};
 
 /// The greatest CPCS-PDU, in octets: that of 32 cells.
-const MAX_PDU: usize = 1536;
+pub const MAX_FRAME: usize = 1536;
 
 /// How many cells carry a payload of `len` octets.
 pub fn cells_of(len: usize) -> usize
@@ -70,7 +70,7 @@ pub fn segment(payload: &[u8], channel: Channel, mark: Mark, out: &mut [Cell]) -
     ensures pdu { IsPdu payload.now (flat_map (λ c. c.payload) (take result out.new)) }
 {
     let count = cells_of(payload.len());
-    let mut buffer = [0; MAX_PDU];
+    let mut buffer = [0; MAX_FRAME];
     write_pdu(payload, &mut buffer[..48 * count]);
     let pdu = &buffer[..48 * count];
     for k in 0..count {
@@ -83,6 +83,7 @@ pub fn segment(payload: &[u8], channel: Channel, mark: Mark, out: &mut [Cell]) -
 mod tests {
     use super::*;
     use crate::check::check_pdu;
+    use atm_cells::BLANK_CELL;
 
     /// By the length of a payload of octets 3, 10, 17 and on modulo 256: the cells and the CRC of its
     /// PDU. The CRCs are zlib's over the octets with the bits of each turned round, turned round.
@@ -116,20 +117,9 @@ mod tests {
             packet: 1,
             frame: 2,
         };
-        let blank = Cell {
-            header: Header {
-                channel,
-                last: false,
-            },
-            payload: [0; 48],
-            mark: Mark {
-                packet: 0,
-                frame: 0,
-            },
-        };
         for (len, cells, crc) in FRAMES {
             assert!(rt; 1 <= len && len <= 1528);
-            let mut out = [blank; 33];
+            let mut out = [BLANK_CELL; 33];
             let count = segment(&payload[..len], channel, mark, &mut out);
             assert_eq!(rt; count, cells, "{len}");
             assert!(rt; 1 <= count && count <= 32);

@@ -1,7 +1,7 @@
 -- The cell at the user-network interface (I.361 2.2) and its header error control (I.432.1 4.3.2)
 
-use Rattle.std.specs.Prelude.{ℕ, ◌+◌, ◌*◌, ◌/◌, ◌%◌, ◌^◌, List, ◌∷◌, ◌++◌, Bool, false, not, replicate, take, slice_index, Option, Some, None, if◌then◌else◌, ◌==◌, nat_lt}
-use Rattle.std.specs.Int.{w32, to_be_bytes, from_be_bytes}
+use Rattle.std.specs.Prelude.{ℕ, List, ◌∷◌, ◌++◌, Bool, false, not, replicate, take, drop, slice_index, Option, Some, None, if◌then◌else◌, ◌==◌, nat_lt}
+use Rattle.std.specs.Int.{w32, to_be_bytes}
 use Rattle.atm_cells.specs.declared.cell.Header.{Header}
 use Rattle.atm_cells.specs.declared.fault.CellFault.{CellFault}
 use Rattle.atm_cells.specs.declared.fault.CellFault.TheVariants.{Hec, Gfc, Pt, Clp}
@@ -25,27 +25,31 @@ hec_of front = number (plus (remainder hec_generator (octet_bits front ++ replic
 abbrev pub pt_of : (last : Bool) → ℕ
 pt_of last = if last then 1 else 0
 
--- the first four octets of a header: GFC (4 bits, 0), VPI (8), VCI (16), PT (3), CLP (1 bit, 0), the
--- highest bit first (I.361 2.2)
+-- the fields of a header in their order (I.361 2.2): GFC, VPI, VCI, PT, CLP
+abbrev pub header_bits : Header → List Bool
+header_bits h =
+    bits 4 0 ++ (bits 8 h.channel.vpi ++ (bits 16 h.channel.vci ++ (bits 3 (pt_of h.last) ++ bits 1 0)))
+
+-- the four octets of these bits, each octet's highest bit first
 abbrev pub header_front : Header → List ℕ
-header_front h = to_be_bytes w32 (h.channel.vpi * 2 ^ 20 + h.channel.vci * 2 ^ 4 + pt_of h.last * 2)
+header_front h = to_be_bytes w32 (number (header_bits h))
 
 -- the octets of a cell: the header's four, their HEC, the payload
 abbrev pub cell_octets : Header → (payload : List ℕ) → List ℕ
 cell_octets h payload = header_front h ++ hec_of (header_front h) ∷ payload
 
--- the fields of any header
-abbrev pub front_word : (octets : List ℕ) → ℕ
-front_word octets = from_be_bytes w32 (take 4 octets)
+-- the fields of any header, by their places among its bits
+abbrev pub front_bits : (octets : List ℕ) → List Bool
+front_bits octets = octet_bits (take 4 octets)
 
 abbrev pub gfc : (octets : List ℕ) → ℕ
-gfc octets = front_word octets / 2 ^ 28
+gfc octets = number (take 4 (front_bits octets))
 
 abbrev pub pt : (octets : List ℕ) → ℕ
-pt octets = front_word octets / 2 % 2 ^ 3
+pt octets = number (take 3 (drop 28 (front_bits octets)))
 
 abbrev pub clp : (octets : List ℕ) → ℕ
-clp octets = front_word octets % 2
+clp octets = number (drop 31 (front_bits octets))
 
 -- the first test that 53 octets fail
 abbrev pub cell_fault : (octets : List ℕ) → Option CellFault

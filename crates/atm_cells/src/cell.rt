@@ -21,3 +21,16 @@ pub struct Cell {
     /// Its frame's mark, which no octet on a link has.
     pub mark: Mark,
 }
+
+/// What stands in a place for a cell before one is written there.
+pub const BLANK_CELL: Cell = Cell {
+    header: Header {
+        channel: Channel { vpi: 0, vci: 0 },
+        last: false,
+    },
+    payload: [0; 48],
+    mark: Mark {
+        packet: 0,
+        frame: 0,
+    },
+};

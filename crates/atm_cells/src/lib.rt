@@ -8,7 +8,7 @@ mod fault;
 mod hec;
 mod polynomial;
 
-pub use cell::{Cell, Header};
+pub use cell::{BLANK_CELL, Cell, Header};
 pub use codec::{decode, encode};
 pub use fault::CellFault;
 pub use polynomial::remainder_law;

@@ -5,6 +5,7 @@ ghost use Rattle.std.specs.Prelude.{◌≡◌, ◌++◌, ◌∷◌, [], List, fa
 use net_types::{Addr, OutOfMemory, PortNo, Prefix};
 use std::alloc::Global;
 use std::marker::Model;
+use thiserror::Error;
 
 /// Where the packets of a prefix go.
 #[derive(Clone, Copy, Debug, PartialEq, Eq)]
@@ -25,11 +26,13 @@ pub struct Route {
 }
 
 /// Why [`Table::add`] refuses.
-#[derive(Clone, Copy, Debug, PartialEq, Eq)]
+#[derive(Clone, Copy, Debug, PartialEq, Eq, Error)]
 pub enum AddFault {
     /// The table has a route for this prefix.
+    #[error("the table has a route for this prefix")]
     Duplicate,
     /// The table has 256 routes.
+    #[error("the table has 256 routes")]
     TableFull,
 }
 

@@ -4,6 +4,7 @@ use mir.Val.{bool_byte}
 use Rattle.atm_cells.specs.declared.cell.Header.{Header}
 use Rattle.atm_cells.specs.Cell.{pt_of}
 use Rattle.std.proofs.lemmas.Nat.{or_shifted}
+use Rattle.atm_cells.proofs.Fields.{number-header_bits}
 use Rattle.atm_cells.proofs.codec.front.Goals as goal
 
 -- the fields stand in places of their own
@@ -31,4 +32,4 @@ returns c =
     let small : vci < 2 ^ 16 = omega arith in
     let is : bit_or (bit_or (c.from.result * 2 ^ 20 % 2 ^ 32) (c.from-2.result * 2 ^ 4 % 2 ^ 32)) (c.from-3.result * 2 ^ 1 % 2 ^ 32) ≡ vpi * 2 ^ 20 + vci * 2 ^ 4 + pt_of h.last * 2
     = rw (c.from.ensures, c.from-2.ensures, c.from-3.ensures, bit.1) (word vpi vci (pt_of h.last) (omega arith) small bit.0) in
-    c.write_u32.ensures ∙ ap (to_be_bytes w32) is
+    c.write_u32.ensures ∙ ap (to_be_bytes w32) (is ∙ sym (number-header_bits h (omega arith) small))
