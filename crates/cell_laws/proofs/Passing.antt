@@ -10,19 +10,20 @@ use Rattle.ipv4_forward.specs.Hop.{hop_of, onward}
 use Rattle.ipv4_forward.specs.declared.outcome.Hop.{Hop}
 use Rattle.ipv4_forward.specs.declared.outcome.Hop.TheVariants.{Here, On, NoRoute, Expired}
 use Rattle.atm_cells.specs.declared.cell.Cell.{Cell}
-use Rattle.flow_encaps.specs.Default.{default_payload}
+use Rattle.flow_encaps.specs.declared.default.EncapsFault.{EncapsFault}
+use Rattle.flow_encaps.specs.Default.{default_payload, default_fault}
 use Rattle.link_model.specs.declared.record.DropCause.TheVariants.{NoRoute as NoRouteCause, Expired as ExpiredCause}
 use Rattle.link_model.specs.declared.record.Layer.TheVariants.{Encaps, Packet}
 use Rattle.link_model.specs.declared.record.Record.{Record}
 use Rattle.link_model.specs.declared.record.Record.TheVariants.{Delivered, Dropped, Bad}
-use Rattle.link_model.specs.declared.record.Refusal.{Refusal}
+use Rattle.refusal_names.specs.Names.{packet_refusal, encaps_refusal}
 use Rattle.link_model.specs.Notes.{losses_of}
 use Rattle.frame_model.specs.Frame.{frame_cells, made, next_mark}
 use Rattle.run_model.specs.declared.LinkEnd.{LinkEnd}
 use Rattle.run_model.specs.declared.Node.{Node}
 use Rattle.run_model.specs.Topology.{routes_of}
-use Rattle.plain_model.specs.Topology.{IsNetwork, IsNode, IsEnd, IsLinkedHop, is_port}
-use Rattle.plain_model.specs.Network.{World, default_channel, queue_at, note, sent_on, forwarded, arrived, packet_taken, payload_taken, encaps_refusal, frame_by, control_protocol, name_of}
+use Rattle.plain_model.specs.Topology.{IsPlainNetwork, IsNode, IsEnd, IsLinkedHop, is_port}
+use Rattle.plain_model.specs.Network.{World, default_channel, queue_at, note, sent_on, forwarded, arrived, packet_taken, payload_taken, frame_by, control_protocol}
 use Rattle.plain_model.proofs.Lists.{and_left}
 use Rattle.plain_laws.proofs.Lists.{if_cases}
 use Rattle.plain_laws.proofs.Growth.{extends_same}
@@ -37,7 +38,7 @@ pub record Passes (nodes : List Node) (begun : LinkEnd → List Cell) (world aft
   pub flows : Flows nodes begun after
   pub entries : after.notes.entries ≡ world.notes.entries
 
-module _ (nodes : List Node) (network : IsNetwork nodes) (begun : LinkEnd → List Cell) where
+module _ (nodes : List Node) (network : IsPlainNetwork nodes) (begun : LinkEnd → List Cell) where
   -- a record that is no loss
   pub passes_noted : (world : World) (item : Record) → losses_of (item ∷ []) ≡ [] → Flows nodes begun world → Passes nodes begun world (note world item)
   passes_noted world item none f =
@@ -77,16 +78,16 @@ module _ (nodes : List Node) (network : IsNetwork nodes) (begun : LinkEnd → Li
   -- the packet of a good frame
   passes_packet : (world : World) (node : NodeId) (mark : Mark) (packet : List ℕ) (fault : Option PacketFault) → first_fault packet ≡ fault → IsNode nodes node → Flows nodes begun world
       → Passes nodes begun world (packet_taken nodes world node mark packet fault)
-  passes_packet world node mark packet (Some fault) is inside f = passes_noted world (Bad node Packet (name_of fault)) refl f
+  passes_packet world node mark packet (Some fault) is inside f = passes_noted world (Bad node Packet (packet_refusal fault)) refl f
   passes_packet world node mark packet None is inside f =
       if_cases (λ (w : World). Passes nodes begun world w) (protocol_of packet == control_protocol) world (arrived nodes world node mark packet)
       (λ e. record { flows = f; entries = refl }) (λ e. passes_arrived world node mark packet inside is f)
 
-  passes_payload : (world : World) (node : NodeId) (mark : Mark) (payload : List ℕ) (name : Option Refusal) → IsNode nodes node → Flows nodes begun world
-      → Passes nodes begun world (payload_taken nodes world node mark payload name)
-  passes_payload world node mark payload (Some name) inside f = passes_noted world (Bad node Encaps name) refl f
+  passes_payload : (world : World) (node : NodeId) (mark : Mark) (payload : List ℕ) (fault : Option EncapsFault) → IsNode nodes node → Flows nodes begun world
+      → Passes nodes begun world (payload_taken nodes world node mark payload fault)
+  passes_payload world node mark payload (Some fault) inside f = passes_noted world (Bad node Encaps (encaps_refusal fault)) refl f
   passes_payload world node mark payload None inside f = passes_packet world node mark (drop 8 payload) (first_fault (drop 8 payload)) refl inside f
 
   pub passes_frame : (world : World) (node : NodeId) (mark : Mark) (payload : List ℕ) → IsNode nodes node → Flows nodes begun world
       → Passes nodes begun world (frame_by nodes world node mark (Some payload))
-  passes_frame world node mark payload inside f = passes_payload world node mark payload (encaps_refusal payload) inside f
+  passes_frame world node mark payload inside f = passes_payload world node mark payload (default_fault payload) inside f

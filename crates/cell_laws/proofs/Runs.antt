@@ -19,7 +19,7 @@ use Rattle.run_model.specs.declared.Node.{Node}
 use Rattle.run_model.specs.Topology.{peer_of}
 use Rattle.plain_model.specs.declared.event.Event.{Event}
 use Rattle.plain_model.specs.declared.event.Event.TheVariants.{Inject, Carry, Lose}
-use Rattle.plain_model.specs.Topology.{IsNetwork, IsNode, IsEnd}
+use Rattle.plain_model.specs.Topology.{IsPlainNetwork, IsNode, IsEnd}
 use Rattle.plain_model.specs.Network.{World, Port, counted, injected_by, refusal_of, port_at, queue_at, with_queue, received, carried_from, lost_from, step, run, opening, is_for}
 use Rattle.ordered_lists.proofs.Every.{every_map}
 use Rattle.plain_laws.specs.Fates.{world_after}
@@ -52,7 +52,7 @@ pub record Follows (nodes : List Node) (begun : LinkEnd → List Cell) (world : 
   pub flows : Flows nodes (after_turn nodes begun world event) after
   pub adds : Adds (IsCausedAt nodes begun world event) world.notes.entries after.notes.entries
 
-module _ (nodes : List Node) (network : IsNetwork nodes) where
+module _ (nodes : List Node) (network : IsPlainNetwork nodes) where
   follows_injected : (begun : LinkEnd → List Cell) (world : World) (node : NodeId) (octets : List ℕ) (refusal : Option Refusal) → refusal_of octets ≡ refusal → IsNode nodes node → Flows nodes begun world
       → Follows nodes begun world (Inject node octets) (injected_by nodes (counted world) node octets refusal)
   follows_injected begun world node octets (Some name) is inside f =

@@ -13,7 +13,7 @@ use Rattle.frame_model.specs.Stretch.{Takes, stretch_from}
 use Rattle.run_model.specs.declared.LinkEnd.{LinkEnd}
 use Rattle.run_model.specs.declared.Node.{Node}
 use Rattle.run_model.specs.Topology.{peer_of}
-use Rattle.plain_model.specs.Topology.{IsNetwork, IsEnd}
+use Rattle.plain_model.specs.Topology.{IsPlainNetwork, IsEnd}
 use Rattle.plain_model.specs.Network.{World, Traffic, Port, port_at, queue_at, with_queue, with_reassembly, frame_taken, chain_taken, cell_taken}
 use Rattle.ordered_lists.specs.Ordered.{Every}
 use Rattle.ordered_lists.proofs.Every.{every_map}
@@ -50,7 +50,7 @@ pub record Leaves (nodes : List Node) (next : LinkEnd → List Cell) (stretch : 
   pub flows : Flows nodes next after
   pub adds : Adds (IsCausedIn stretch old) old after.notes.entries
 
-module _ (nodes : List Node) (network : IsNetwork nodes) where
+module _ (nodes : List Node) (network : IsPlainNetwork nodes) where
   -- the frame that passes its test adds nothing, one that fails breaks the marks of its stretch
   leaves_tested : (next : LinkEnd → List Cell) (traffic : Traffic) (notes : Journal) (far : LinkEnd) (mark : Mark) (chain : List Cell) (payload : Option (List ℕ)) → IsEnd nodes far
       → (payload ≡ None → is_caused notes.entries chain ≡ true)

@@ -8,7 +8,7 @@ use Rattle.frame_model.specs.Reassembly.{Reassembly}
 use Rattle.run_model.specs.declared.LinkEnd.{LinkEnd}
 use Rattle.run_model.specs.declared.Node.{Node}
 use Rattle.run_model.specs.Topology.{peer_of}
-use Rattle.plain_model.specs.Topology.{IsNetwork, IsEnd, same_end}
+use Rattle.plain_model.specs.Topology.{IsPlainNetwork, IsEnd, same_end}
 use Rattle.plain_model.specs.Network.{World, Traffic, Port, port_at, queue_at, with_queue, with_reassembly}
 use Rattle.cell_laws.specs.Causes.{leads_to}
 use Rattle.plain_model.proofs.Links.{by_ends, same_is, same_itself}
@@ -38,7 +38,7 @@ not_same nodes end other far peer linked joined differ =
     absurd (cc clash)))
     (λ e. e)
 
-module _ (nodes : List Node) (network : IsNetwork nodes) where
+module _ (nodes : List Node) (network : IsPlainNetwork nodes) where
   -- the notes grow
   pub flows_noted : (begun : LinkEnd → List Cell) (world : World) (notes : Journal) → Extends world.notes.entries notes.entries → Flows nodes begun world → Flows nodes begun (record world { notes = notes })
   flows_noted begun world notes grows f = record {

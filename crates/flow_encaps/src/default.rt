@@ -7,21 +7,29 @@
 //! | 6 to 7 | EtherType: 08 00 |
 //! | 8 on | the packet |
 
-ghost use Rattle.std.specs.Prelude.{◌≡◌, ◌≢◌, ℕ, ◌+◌, ◌<◌, ◌≤◌, ◌↔◌, ◌++◌, List, length, take, drop, IfOk, IsOkAnd};
-ghost use Rattle.flow_encaps.specs.Default.{default_payload, llc_snap};
+ghost use Rattle.std.specs.Prelude.{◌≡◌, ℕ, ◌+◌, ◌≤◌, ◌++◌, List, length, drop, IfOk, IsOkAnd};
+ghost use Rattle.std.specs.Result.{result_err};
+ghost use Rattle.flow_encaps.specs.Default.{default_payload, default_fault};
+
+use thiserror::Error;
 
 /// Why a payload isn't taken apart.
-#[derive(Clone, Copy, Debug, PartialEq, Eq)]
+#[derive(Clone, Copy, Debug, PartialEq, Eq, Error)]
 pub enum EncapsFault {
     /// The payload has fewer octets than its encapsulation's header.
+    #[error("shorter than its encapsulation's header")]
     Short,
     /// The LLC/SNAP header isn't that of an IPv4 packet; [`unwrap_default`] alone gives it.
+    #[error("the LLC/SNAP header isn't that of IPv4")]
     BadSnap,
     /// A reserved field of a labelled frame isn't 0; [`unwrap_default`] never gives it.
+    #[error("a reserved field isn't 0")]
     Reserved,
     /// A labelled frame's Total Length isn't the payload's; [`unwrap_default`] never gives it.
+    #[error("Total Length isn't the payload's")]
     Length,
     /// A labelled frame's Checksum isn't its header's; [`unwrap_default`] never gives it.
+    #[error("the checksum isn't the header's")]
     Checksum,
 }
 
@@ -44,8 +52,7 @@ pub fn wrap_default(packet: &[u8], out: &mut [u8]) -> usize
 /// The packet behind the LLC/SNAP header. Refuses `Short` (under 8 octets) and then `BadSnap` (the
 /// header is another one).
 pub fn unwrap_default(payload: &[u8]) -> Result<&[u8], EncapsFault>
-    ensures short { (result ≡ Err EncapsFault.Short) ↔ (length payload.now < 8) }
-    ensures bad_snap { (result ≡ Err EncapsFault.BadSnap) ↔ ((8 ≤ length payload.now) × (take 8 payload.now ≢ llc_snap)) }
+    ensures fault { result_err result ≡ default_fault payload.now }
     ensures ok { IfOk result (λ packet. payload.now ≡ default_payload packet.now) }
     ensures inverse { (packet : List ℕ) → payload.now ≡ default_payload packet → IsOkAnd result (λ found. found.now ≡ packet) }
 {

@@ -8,7 +8,6 @@ mod change;
 mod cut;
 mod exchange;
 mod ports;
-mod refusal;
 mod request;
 mod switch;
 #[cfg(test)]

@@ -18,7 +18,6 @@ use crate::change::{change, clear_all};
 use crate::cut::note_cut_chain;
 use crate::exchange::Exchange;
 use crate::ports::{begin, change_ports, opened_ports};
-use crate::refusal::name_of;
 use crate::request::{asked_in, failure_of, is_request};
 use aal5_frames::segment;
 use atm_cells::{Cell, Header};
@@ -29,6 +28,7 @@ use gsmp_wire::{Message, decode, encode};
 use link_model::{Cause, Layer, Notes, Record};
 use net_types::{Channel, End, Greeting, Mark, NodeId, Numbers, OutOfMemory, Party, PortNo};
 use node_model::{Failure, PortState};
+use refusal_names::gsmp_refusal;
 use std::alloc::Global;
 use std::marker::Model;
 
@@ -345,7 +345,7 @@ impl Switch {
             Err(fault) => notes.push(Record::Bad {
                 node: self.node,
                 layer: Layer::Gsmp,
-                name: name_of(fault),
+                name: gsmp_refusal(fault),
             }),
         }
     }

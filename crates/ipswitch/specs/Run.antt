@@ -6,7 +6,8 @@ use Rattle.lab_io.specs.Transfer.{AppendsFront, ConsumesSome}
 use Rattle.message_text.specs.Listing.{IsListing, fault_in}
 use Rattle.plain_laws.specs.Fates.{HasTrueFronts}
 use Rattle.cell_laws.specs.Causes.{HasCauses}
-use Rattle.plain_replay.specs.Script.{Script, script_of, input_limit}
+use Rattle.lab_text.specs.Line.{input_limit}
+use Rattle.plain_replay.specs.Script.{Script, script_of}
 use Rattle.plain_replay.specs.Report.{report_of}
 use Rattle.ipswitch.specs.declared.command.Command.{Command}
 use Rattle.ipswitch.specs.declared.command.Command.TheVariants.{Replay, Decode}

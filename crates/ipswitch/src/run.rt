@@ -4,7 +4,7 @@ ghost use Rattle.std.specs.Prelude.{◌≡◌, ◌⊎◌, ◌≤◌, ◌==◌, �
 ghost use Rattle.std.specs.Io.KnownBytes.{Appends};
 ghost use Rattle.lab_io.specs.Fault.{Rose, count_after};
 ghost use Rattle.lab_io.specs.Transfer.{AppendsFront};
-ghost use Rattle.plain_replay.specs.Script.{input_limit};
+ghost use Rattle.lab_text.specs.Line.{input_limit};
 ghost use Rattle.ipswitch.specs.declared.command.Command.{Command};
 ghost use Rattle.ipswitch.specs.Command.{command_of, usage_line};
 ghost use Rattle.ipswitch.specs.Fault.{fault_of_input, fault_status, no_memory, read_failed, write_failed};
@@ -13,6 +13,7 @@ ghost use Rattle.ipswitch.specs.Run.{IsAnswered, IsCutShort, IsDone, IsLeft, IsR
 use crate::command::{Command, command_of};
 use crate::word::Word;
 use lab_io::{Failed, InputFault, Sink, Source, read_to_end, write_all};
+use lab_text::INPUT_LIMIT;
 use message_text::list_messages;
 use net_types::{Octets, OutOfMemory};
 use plain_replay::replay;
@@ -30,9 +31,6 @@ const READ_FAULT: u8 = 3;
 const WRITE_FAULT: u8 = 4;
 /// No memory was left.
 const NO_MEMORY: u8 = 5;
-
-/// The greatest input, and one octet more, which is always refused.
-const INPUT_LIMIT: usize = 16_777_217;
 
 const USAGE_LINE: &str =
     "usage: ipswitch replay|replay toml|ideal|decode ifmp|decode gsmp|drill N\n";

@@ -7,6 +7,11 @@ use Rattle.lab_text.specs.declared.line.LineFault.TheVariants.{ScriptTooLong, Li
 use Rattle.lab_text.specs.Words.{is_script_octet, line_text, words, is_blank_line}
 use Rattle.lab_text.specs.Numeral.{hex_octets}
 
+-- the number of the octet that no input may hold: the greatest has 2 to the power of 24. Nothing is
+-- read past this one
+abbrev pub input_limit : ℕ
+input_limit = 16777217
+
 -- the octet of the input with this number, counted from 1, is one of these octets, which so many
 -- others stand before
 abbrev pub holds_octet : (before : ℕ) → List ℕ → (place : ℕ) → Bool
@@ -20,7 +25,7 @@ is_want_of_memory fault = false
 -- the tests that each line meets, in their order: which fails first
 abbrev pub line_fault : (before : ℕ) → List ℕ → Option LineFault
 line_fault before line =
-    if holds_octet before line 16777217 then Some ScriptTooLong
+    if holds_octet before line input_limit then Some ScriptTooLong
     else if nat_lt 4096 (length (line_text line)) then Some LineTooLong
     else if not (list_all is_script_octet (line_text line)) then Some BadByte
     else None

@@ -4,7 +4,7 @@ ghost use Rattle.std.specs.Prelude.{◌≡◌, ◌<◌, ◌≤◌, ◌∷◌, []
 ghost use Rattle.std.specs.List.{list_all, prefix_len, position_or_len};
 ghost use Rattle.std.specs.Result.{result_err};
 ghost use Rattle.lab_text.specs.Words.{is_blank, line_text, words, is_blank_line, is_script_octet};
-ghost use Rattle.lab_text.specs.Line.{holds_octet, line_fault};
+ghost use Rattle.lab_text.specs.Line.{holds_octet, input_limit, line_fault};
 
 use net_types::OutOfMemory;
 
@@ -25,8 +25,9 @@ pub enum LineFault {
     OutOfMemory(OutOfMemory),
 }
 
-/// The most octets of an input.
-const INPUT_LIMIT: u32 = 16_777_216;
+/// The number of the octet that no input may hold: the greatest has 2 to the power of 24. Nothing is
+/// read past this one.
+pub const INPUT_LIMIT: usize = 16_777_217;
 
 /// The most octets of a line, its end not counted.
 const LINE_LIMIT: usize = 4096;
@@ -100,12 +101,10 @@ pub fn is_blank_line(text: &[u8]) -> bool
 /// Whether `octets`, which `before` octets of the input stand before, hold the first octet past the
 /// greatest input.
 fn passes_limit(before: u32, octets: &[u8]) -> bool
-    ensures { result ≡ holds_octet before octets.now 16777217 }
+    ensures { result ≡ holds_octet before octets.now input_limit }
 {
-    if before > INPUT_LIMIT {
-        return false;
-    }
-    octets.len() > (INPUT_LIMIT - before) as usize
+    let before = before as usize;
+    before < INPUT_LIMIT && INPUT_LIMIT - before <= octets.len()
 }
 
 /// Whether all of `octets` may stand in a line.

@@ -1,13 +1,13 @@
 //! Text that grows, and the forms of numbers and octets in it.
 
-ghost use Rattle.std.specs.Prelude.{◌≡◌, ◌++◌, [], ◌<◌, OnOk, decimal};
+ghost use Rattle.std.specs.Prelude.{◌≡◌, ◌++◌, [], ◌<◌, OnOk, OnErr, decimal};
 ghost use Rattle.lab_text.specs.Text.{hex_digits, hex_digit};
 
 use net_types::{Octets, OutOfMemory};
 use std::alloc::Global;
 use std::marker::Model;
 
-/// Text that grows at its end.
+/// Text that grows at its end. Where memory is wanting it stays as it was.
 #[derive(Debug, Drop)]
 pub struct Text {
     alloc: Global,
@@ -34,11 +34,13 @@ fn hex_digit(value: u8) -> u8
 }
 
 fn push_hex(out: &mut Vec<u8>, octets: &[u8]) -> Result<(), OutOfMemory>
-    ensures { OnOk result (out.new.items ≡ out.old.items ++ hex_digits octets.now) }
+    ensures ok { OnOk result (out.new.items ≡ out.old.items ++ hex_digits octets.now) }
+    ensures err { OnErr result (out.new.items ≡ out.old.items) }
 {
+    out.reserve(2 * octets.len())?;
     for octet in octets {
-        out.push(hex_digit(*octet / 16))?;
-        out.push(hex_digit(*octet % 16))?;
+        out.push_reserved(hex_digit(*octet / 16));
+        out.push_reserved(hex_digit(*octet % 16));
     }
     Ok(())
 }
@@ -71,7 +73,8 @@ impl Text {
 
     /// Appends `text`.
     pub fn text(&mut self, text: &str) -> Result<(), OutOfMemory>
-        ensures { OnOk result (self.new ≡ self.old ++ text.now) }
+        ensures ok { OnOk result (self.new ≡ self.old ++ text.now) }
+        ensures err { OnErr result (self.new ≡ self.old) }
     {
         self.octets.extend_from_slice(text.as_bytes())?;
         Ok(())
@@ -79,7 +82,8 @@ impl Text {
 
     /// Appends `octets` as they are.
     pub fn octets(&mut self, octets: &[u8]) -> Result<(), OutOfMemory>
-        ensures { OnOk result (self.new ≡ self.old ++ octets.now) }
+        ensures ok { OnOk result (self.new ≡ self.old ++ octets.now) }
+        ensures err { OnErr result (self.new ≡ self.old) }
     {
         self.octets.extend_from_slice(octets)?;
         Ok(())
@@ -87,7 +91,8 @@ impl Text {
 
     /// Appends `number` in decimal.
     pub fn number(&mut self, number: u64) -> Result<(), OutOfMemory>
-        ensures { OnOk result (self.new ≡ self.old ++ decimal number) }
+        ensures ok { OnOk result (self.new ≡ self.old ++ decimal number) }
+        ensures err { OnErr result (self.new ≡ self.old) }
     {
         let digits = format!(in self.alloc; "{number}")?;
         self.octets.extend_from_slice(digits.as_bytes())?;
@@ -96,7 +101,8 @@ impl Text {
 
     /// Appends `octets` in lower-case hexadecimal.
     pub fn hex(&mut self, octets: &[u8]) -> Result<(), OutOfMemory>
-        ensures { OnOk result (self.new ≡ self.old ++ hex_digits octets.now) }
+        ensures ok { OnOk result (self.new ≡ self.old ++ hex_digits octets.now) }
+        ensures err { OnErr result (self.new ≡ self.old) }
     {
         push_hex(&mut self.octets, octets)
     }

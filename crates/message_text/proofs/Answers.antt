@@ -12,28 +12,29 @@ use Rattle.gsmp_wire.specs.Layout.{octets_of}
 use Rattle.gsmp_wire.specs.Range.{IsInRange}
 use Rattle.gsmp_wire.specs.Refusal.{refusal}
 use Rattle.message_text.specs.declared.protocol.Protocol.TheVariants.{Ifmp, Gsmp}
-use Rattle.message_text.specs.Ifmp.{ifmp_text, ifmp_refusal}
-use Rattle.message_text.specs.Fields.{numbered}
-use Rattle.message_text.specs.Gsmp.{gsmp_text, gsmp_refusal, head_text, result_word}
-use Rattle.message_text.specs.Listing.{IsAnswered, IfmpTold, IfmpRefused, GsmpTold, GsmpRefused, refuse_text}
+use Rattle.refusal_names.specs.Names.{ifmp_refusal, gsmp_refusal}
+use Rattle.message_text.specs.Ifmp.{ifmp_text}
+use Rattle.message_text.specs.Fields.{named_number}
+use Rattle.message_text.specs.Gsmp.{gsmp_text, head_text, result_word}
+use Rattle.message_text.specs.Listing.{AppendsAnswer, IfmpTold, IfmpRefused, GsmpTold, GsmpRefused, refuse_text}
 
 lined : (old mid new text : List ℕ) → mid ≡ old ++ text → new ≡ mid ++ codes "\n" → new ≡ old ++ (text ++ codes "\n")
 lined old mid new text written ended = ended ∙ (ap (λ (xs : List ℕ). xs ++ codes "\n") written ∙ append_assoc old text (codes "\n"))
 
-pub ifmp_told : (octets old mid new : List ℕ) (message : IfmpMessage) → Tells octets message → mid ≡ old ++ ifmp_text message → new ≡ mid ++ codes "\n" → IsAnswered Ifmp octets old new
+pub ifmp_told : (octets old mid new : List ℕ) (message : IfmpMessage) → Tells octets message → mid ≡ old ++ ifmp_text message → new ≡ mid ++ codes "\n" → AppendsAnswer Ifmp octets old new
 ifmp_told octets old mid new message tells written ended =
     record { answer = ifmp_text message; is_answer = IfmpTold message tells refl; appended = lined old mid new (ifmp_text message) written ended }
 
-pub ifmp_refused : (octets old mid new : List ℕ) (fault : IfmpFault) → first_fault octets ≡ Some fault → mid ≡ old ++ refuse_text (ifmp_refusal fault) → new ≡ mid ++ codes "\n" → IsAnswered Ifmp octets old new
+pub ifmp_refused : (octets old mid new : List ℕ) (fault : IfmpFault) → first_fault octets ≡ Some fault → mid ≡ old ++ refuse_text (ifmp_refusal fault) → new ≡ mid ++ codes "\n" → AppendsAnswer Ifmp octets old new
 ifmp_refused octets old mid new fault fails written ended =
     let text : List ℕ = refuse_text (ifmp_refusal fault) in
     record { answer = text; is_answer = IfmpRefused fault fails refl; appended = lined old mid new text written ended }
 
-pub gsmp_told : (octets old mid new : List ℕ) (message : GsmpMessage) → IsInRange message → octets ≡ octets_of message → mid ≡ old ++ gsmp_text message → new ≡ mid ++ codes "\n" → IsAnswered Gsmp octets old new
+pub gsmp_told : (octets old mid new : List ℕ) (message : GsmpMessage) → IsInRange message → octets ≡ octets_of message → mid ≡ old ++ gsmp_text message → new ≡ mid ++ codes "\n" → AppendsAnswer Gsmp octets old new
 gsmp_told octets old mid new message in_range spelled written ended =
     record { answer = gsmp_text message; is_answer = GsmpTold message in_range spelled refl; appended = lined old mid new (gsmp_text message) written ended }
 
-pub gsmp_refused : (octets old mid new : List ℕ) (fault : GsmpFault) → refusal octets ≡ Some fault → mid ≡ old ++ refuse_text (gsmp_refusal fault) → new ≡ mid ++ codes "\n" → IsAnswered Gsmp octets old new
+pub gsmp_refused : (octets old mid new : List ℕ) (fault : GsmpFault) → refusal octets ≡ Some fault → mid ≡ old ++ refuse_text (gsmp_refusal fault) → new ≡ mid ++ codes "\n" → AppendsAnswer Gsmp octets old new
 gsmp_refused octets old mid new fault fails written ended =
     let text : List ℕ = refuse_text (gsmp_refusal fault) in
     record { answer = text; is_answer = GsmpRefused fault fails refl; appended = lined old mid new text written ended }
@@ -46,7 +47,7 @@ on_ok (Err error) A B follows holds = holds
 -- the front of the text of a message about a switch
 pub head_written : (a b c d e word : List ℕ) (result code transaction code_written transaction_written : ℕ)
     → code_written ≡ code → transaction_written ≡ transaction
-    → b ≡ a ++ word → c ≡ b ++ result_word result → d ≡ c ++ numbered (codes " ") code_written → e ≡ d ++ numbered (codes " transaction ") transaction_written
+    → b ≡ a ++ word → c ≡ b ++ result_word result → d ≡ c ++ named_number (codes " ") code_written → e ≡ d ++ named_number (codes " transaction ") transaction_written
     → e ≡ a ++ head_text word result code transaction
 unfolding head_text
 head_written a b c d e word result code transaction code_written transaction_written of_code of_transaction eb ec ed ee =

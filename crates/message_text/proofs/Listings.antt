@@ -6,7 +6,7 @@ use Rattle.lab_text.specs.declared.line.LineFault.{LineFault}
 use Rattle.lab_text.specs.Line.{hex_line}
 use Rattle.lab_text.specs.Lines.{lines_of}
 use Rattle.message_text.specs.declared.protocol.Protocol.{Protocol}
-use Rattle.message_text.specs.Listing.{IsFollowed, IsAnswered, IsLineListed, IsListedFrom, IsListing, listed_by, fault_by, fault_from, fault_in, refused_line, lines_in}
+use Rattle.message_text.specs.Listing.{IsFollowed, AppendsAnswer, IsLineListed, IsListedFrom, IsListing, listed_by, fault_by, fault_from, fault_in, refused_line, lines_in}
 
 -- what a line adds, and what the others add behind it, add up
 line_step : (p : Protocol) (number : ℕ) (others : List ℕ → Type 0) (whole : List ℕ → Type 0) (read : Result (Option (List ℕ)) LineFault) (old new : List ℕ)
@@ -15,7 +15,7 @@ line_step : (p : Protocol) (number : ℕ) (others : List ℕ → Type 0) (whole 
 line_step p number others whole (Ok None) old new same onward text rest =
     subst (λ (xs : List ℕ). whole (xs ++ text)) (sym same.1) (onward text rest)
 line_step p number others whole (Ok (Some octets)) old new listed onward text rest =
-    let answered : IsAnswered p octets old new = listed.1 in
+    let answered : AppendsAnswer p octets old new = listed.1 in
     let line : List ℕ = codes "\n" in
     let follows : IsFollowed p octets others (answered.answer ++ (line ++ text)) =
     record { answer = answered.answer; rest = text; is_answer = answered.is_answer; is_rest = rest; whole = refl } in

@@ -11,11 +11,7 @@ use Rattle.gsmp_wire.specs.declared.message.BranchKind.TheVariants.{Add, Delete,
 use Rattle.gsmp_wire.specs.declared.message.Message.{Message}
 use Rattle.gsmp_wire.specs.declared.message.Message.TheVariants.{Adjacency, Branch, Move, Port, AllPorts}
 use Rattle.gsmp_wire.specs.declared.rows.PortRow.{PortRow}
-use Rattle.gsmp_wire.specs.declared.fault.Fault.{Fault}
-use Rattle.gsmp_wire.specs.declared.fault.Fault.TheVariants as faults
-use Rattle.link_model.specs.declared.record.Refusal.{Refusal}
-use Rattle.link_model.specs.declared.record.Refusal.TheVariants as names
-use Rattle.message_text.specs.Fields.{numbered, spelled, channelled}
+use Rattle.message_text.specs.Fields.{named_number, named_octets, named_channel}
 
 abbrev pub greeting_word : HelloKind → List ℕ
 greeting_word Syn = codes "adjacency syn"
@@ -32,7 +28,7 @@ branch_word DeleteAll = codes "deleteall"
 -- a name, a port and an instance behind what the party is
 unfoldable pub party_text : (name : List ℕ) → Party → List ℕ
 party_text name party =
-    spelled name party.name ++ (numbered (codes " ") party.port ++ numbered (codes " ") party.instance.0)
+    named_octets name party.name ++ (named_number (codes " ") party.port ++ named_number (codes " ") party.instance.0)
 
 -- a Result: 2 in a request, 3 in a success answer, 4 in a failure answer
 unfoldable pub result_word : ℕ → List ℕ
@@ -42,14 +38,14 @@ result_word result =
 -- which message it is, its Result, Code and Transaction
 unfoldable pub head_text : (word : List ℕ) → (result code transaction : ℕ) → List ℕ
 head_text word result code transaction =
-    word ++ (result_word result ++ (numbered (codes " ") code ++ numbered (codes " transaction ") transaction))
+    word ++ (result_word result ++ (named_number (codes " ") code ++ named_number (codes " transaction ") transaction))
 
 -- a port and a channel of it behind what they are
 unfoldable pub end_text : (name : List ℕ) → (port : ℕ) → Channel → List ℕ
-end_text name port channel = numbered name port ++ channelled (codes " ") channel
+end_text name port channel = named_number name port ++ named_channel (codes " ") channel
 
 abbrev pub tail_text : (branches priority : ℕ) → List ℕ
-tail_text branches priority = numbered (codes " branches ") branches ++ numbered (codes " priority ") priority
+tail_text branches priority = named_number (codes " branches ") branches ++ named_number (codes " priority ") priority
 
 abbrev pub state_word : Bool → List ℕ
 state_word true = codes " state up"
@@ -58,9 +54,9 @@ state_word false = codes " state down"
 -- the record of a port
 unfoldable pub row_text : PortRow → List ℕ
 row_text row =
-    numbered (codes " port ") row.port
-    ++ (numbered (codes " session ") row.session
-    ++ (state_word row.up ++ (numbered (codes " least ") row.least ++ numbered (codes " greatest ") row.greatest)))
+    named_number (codes " port ") row.port
+    ++ (named_number (codes " session ") row.session
+    ++ (state_word row.up ++ (named_number (codes " least ") row.least ++ named_number (codes " greatest ") row.greatest)))
 
 abbrev pub rows_text : List PortRow → List ℕ
 rows_text rows = flat_map row_text rows
@@ -71,29 +67,18 @@ gsmp_text (Adjacency greeting) =
     ++ (party_text (codes " sender ") greeting.sender ++ party_text (codes " receiver ") greeting.receiver)
 gsmp_text (Branch kind result code transaction session input_port input output_port output branches priority) =
     head_text (branch_word kind) result code transaction
-    ++ (numbered (codes " session ") session
+    ++ (named_number (codes " session ") session
     ++ (end_text (codes " input ") input_port input
     ++ (end_text (codes " output ") output_port output ++ tail_text branches priority)))
 gsmp_text (Move result code transaction session input_port input output_port output target_port target branches priority) =
     head_text (codes "movebranch") result code transaction
-    ++ (numbered (codes " session ") session
+    ++ (named_number (codes " session ") session
     ++ (end_text (codes " input ") input_port input
     ++ (end_text (codes " output ") output_port output
     ++ (end_text (codes " new ") target_port target ++ tail_text branches priority))))
 gsmp_text (Port result code transaction port session function) =
     head_text (codes "port") result code transaction
-    ++ (numbered (codes " port ") port
-    ++ (numbered (codes " session ") session ++ numbered (codes " function ") function))
+    ++ (named_number (codes " port ") port
+    ++ (named_number (codes " session ") session ++ named_number (codes " function ") function))
 gsmp_text (AllPorts result code transaction rows) =
     head_text (codes "allports") result code transaction ++ rows_text rows
-
--- the name of a refusal
-abbrev pub gsmp_refusal : Fault → Refusal
-gsmp_refusal faults.Short = names.Short
-gsmp_refusal faults.Snap = names.Snap
-gsmp_refusal faults.Version = names.Version
-gsmp_refusal faults.MessageType = names.MessageType
-gsmp_refusal faults.Result = names.Result
-gsmp_refusal faults.Code = names.Code
-gsmp_refusal faults.Size = names.Size
-gsmp_refusal faults.Reserved = names.Reserved

@@ -3,16 +3,13 @@
 use Rattle.std.specs.Prelude.{ℕ, List, ◌++◌, codes}
 use Rattle.net_types.specs.declared.adjacency.HelloKind.{HelloKind}
 use Rattle.net_types.specs.declared.adjacency.HelloKind.TheVariants.{Syn, Synack, Rstack, Ack}
+use Rattle.net_types.specs.declared.channel.Channel.{Channel}
 use Rattle.net_types.specs.declared.number.Instance.{Instance}
 use Rattle.flow_ids.specs.declared.flow.FlowId.{FlowId}
 use Rattle.flow_ids.specs.Identifier.{identifier}
 use Rattle.ifmp_wire.specs.declared.message.Message.{Message}
 use Rattle.ifmp_wire.specs.declared.message.Message.TheVariants.{Adjacency, Redirect, Reclaim, ReclaimAck, LabelRange, Error}
-use Rattle.ifmp_wire.specs.declared.reader.Fault.{Fault}
-use Rattle.ifmp_wire.specs.declared.reader.Fault.TheVariants as faults
-use Rattle.link_model.specs.declared.record.Refusal.{Refusal}
-use Rattle.link_model.specs.declared.record.Refusal.TheVariants as names
-use Rattle.message_text.specs.Fields.{numbered, spelled, channelled, addressed}
+use Rattle.message_text.specs.Fields.{named_number, named_octets, named_channel, named_address}
 
 abbrev pub hello_word : HelloKind → List ℕ
 hello_word Syn = codes "syn"
@@ -22,46 +19,30 @@ hello_word Ack = codes "ack"
 
 -- which message it is, and the instances of its sender and of its receiver
 unfoldable pub between : (word : List ℕ) → (sender peer : Instance) → List ℕ
-between word sender peer = word ++ (numbered (codes " from ") sender.0 ++ numbered (codes " to ") peer.0)
+between word sender peer = word ++ (named_number (codes " from ") sender.0 ++ named_number (codes " to ") peer.0)
 
-abbrev pub flow_text : FlowId → List ℕ
-flow_text flow = spelled (codes " flow ") (identifier flow)
+-- the same, and its sequence number
+unfoldable pub head_text : (word : List ℕ) → (sender peer : Instance) → (number : ℕ) → List ℕ
+head_text word sender peer number = between word sender peer ++ named_number (codes " number ") number
+
+-- a label, and the flow that is to use it or used it
+unfoldable pub use_text : Channel → FlowId → List ℕ
+use_text label flow = named_channel (codes " label ") label ++ named_octets (codes " flow ") (identifier flow)
 
 abbrev pub ifmp_text : Message → List ℕ
 ifmp_text (Adjacency hello) =
     between (hello_word hello.kind) hello.sender hello.peer
-    ++ (addressed (codes " identity ") hello.identity ++ numbered (codes " next ") hello.next)
+    ++ (named_address (codes " identity ") hello.identity ++ named_number (codes " next ") hello.next)
 ifmp_text (Redirect sender peer number lifetime label flow) =
-    between (codes "redirect") sender peer
-    ++ (numbered (codes " number ") number
-    ++ (numbered (codes " lifetime ") lifetime ++ (channelled (codes " label ") label ++ flow_text flow)))
+    head_text (codes "redirect") sender peer number
+    ++ (named_number (codes " lifetime ") lifetime ++ use_text label flow)
 ifmp_text (Reclaim sender peer number label flow) =
-    between (codes "reclaim") sender peer
-    ++ (numbered (codes " number ") number ++ (channelled (codes " label ") label ++ flow_text flow))
+    head_text (codes "reclaim") sender peer number ++ use_text label flow
 ifmp_text (ReclaimAck sender peer number label flow) =
-    between (codes "reclaimack") sender peer
-    ++ (numbered (codes " number ") number ++ (channelled (codes " label ") label ++ flow_text flow))
+    head_text (codes "reclaimack") sender peer number ++ use_text label flow
 ifmp_text (LabelRange sender peer number least greatest) =
-    between (codes "labelrange") sender peer
-    ++ (numbered (codes " number ") number
-    ++ (channelled (codes " least ") least ++ channelled (codes " greatest ") greatest))
+    head_text (codes "labelrange") sender peer number
+    ++ (named_channel (codes " least ") least ++ named_channel (codes " greatest ") greatest)
 ifmp_text (Error sender peer number code label) =
-    between (codes "error") sender peer
-    ++ (numbered (codes " number ") number
-    ++ (numbered (codes " code ") code ++ channelled (codes " label ") label))
-
--- the name of a refusal
-abbrev pub ifmp_refusal : Fault → Refusal
-ifmp_refusal faults.Short = names.Short
-ifmp_refusal faults.Version = names.Version
-ifmp_refusal faults.OpCode = names.OpCode
-ifmp_refusal faults.Size = names.Size
-ifmp_refusal faults.Checksum = names.Checksum
-ifmp_refusal faults.FlowType = names.FlowType
-ifmp_refusal faults.FlowLength = names.FlowLength
-ifmp_refusal faults.ZeroLifetime = names.ZeroLifetime
-ifmp_refusal faults.LabelReserved = names.LabelReserved
-ifmp_refusal faults.RangeOrder = names.RangeOrder
-ifmp_refusal faults.ErrorCode = names.ErrorCode
-ifmp_refusal faults.Reserved = names.Reserved
-ifmp_refusal faults.FlowFields = names.FlowFields
+    head_text (codes "error") sender peer number
+    ++ (named_number (codes " code ") code ++ named_channel (codes " label ") label)

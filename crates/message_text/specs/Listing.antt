@@ -12,15 +12,16 @@ use Rattle.gsmp_wire.specs.Layout.{octets_of}
 use Rattle.gsmp_wire.specs.Range.{IsInRange}
 use Rattle.gsmp_wire.specs.Refusal.{refusal}
 use Rattle.link_model.specs.declared.record.Refusal.{Refusal as Name}
+use Rattle.refusal_names.specs.Names.{ifmp_refusal, gsmp_refusal}
 use Rattle.lab_text.specs.declared.line.LineFault.{LineFault}
 use Rattle.lab_text.specs.declared.line.LineFault.TheVariants.{ScriptTooLong, LineTooLong, BadByte, Arity, BadHex, OutOfMemory}
-use Rattle.lab_text.specs.Line.{hex_line}
+use Rattle.lab_text.specs.Line.{hex_line, input_limit}
 use Rattle.lab_text.specs.Lines.{lines_of}
 use Rattle.lab_text.specs.Names.{refusal_text}
 use Rattle.message_text.specs.declared.protocol.Protocol.{Protocol}
 use Rattle.message_text.specs.declared.protocol.Protocol.TheVariants.{Ifmp, Gsmp}
-use Rattle.message_text.specs.Ifmp.{ifmp_text, ifmp_refusal}
-use Rattle.message_text.specs.Gsmp.{gsmp_text, gsmp_refusal}
+use Rattle.message_text.specs.Ifmp.{ifmp_text}
+use Rattle.message_text.specs.Gsmp.{gsmp_text}
 
 -- the answer to octets that are no message
 abbrev pub refuse_text : Name → List ℕ
@@ -41,7 +42,7 @@ IsAnswer Ifmp octets text = IsIfmpAnswer octets text
 IsAnswer Gsmp octets text = IsGsmpAnswer octets text
 
 -- the text after an answer, on a line of its own
-pub record IsAnswered (protocol : Protocol) (octets old new : List ℕ) : Type 0 where
+pub record AppendsAnswer (protocol : Protocol) (octets old new : List ℕ) : Type 0 where
   pub answer : List ℕ
   pub is_answer : IsAnswer protocol octets answer
   pub appended : new ≡ old ++ (answer ++ codes "\n")
@@ -49,7 +50,7 @@ pub record IsAnswered (protocol : Protocol) (octets old new : List ℕ) : Type 0
 -- the text after one line was read, and the refusal of the line, where it is refused
 abbrev pub IsLineListed : Protocol → Result (Option (List ℕ)) LineFault → Option LineFault → (old new : List ℕ) → Type 0
 IsLineListed protocol (Ok None) refused old new = (refused ≡ None) × (new ≡ old)
-IsLineListed protocol (Ok (Some octets)) refused old new = (refused ≡ None) × IsAnswered protocol octets old new
+IsLineListed protocol (Ok (Some octets)) refused old new = (refused ≡ None) × AppendsAnswer protocol octets old new
 IsLineListed protocol (Err fault) refused old new = (refused ≡ Some fault) × (new ≡ old)
 
 abbrev pub line_fault_text : LineFault → List ℕ
@@ -91,10 +92,6 @@ fault_by (Err fault) others = Some fault
 abbrev pub fault_from : (before : ℕ) → List (List ℕ) → Option LineFault
 fault_from before [] = None
 fault_from before (line ∷ lines) = fault_by (hex_line before line) (fault_from (before + length line) lines)
-
--- nothing is read past the octet behind the greatest input, which makes its line refused
-abbrev pub input_limit : ℕ
-input_limit = 16777217
 
 unfoldable pub lines_in : List ℕ → List (List ℕ)
 lines_in octets = lines_of (take input_limit octets)

@@ -2,12 +2,11 @@
 
 ghost use Rattle.std.specs.Prelude.{◌≡◌, ◌++◌, OnOk};
 ghost use Rattle.gsmp_wire.specs.declared.message.Message.TheVariants.{Adjacency};
-ghost use Rattle.message_text.specs.Gsmp.{gsmp_text, gsmp_refusal, greeting_word, branch_word, party_text, result_word, head_text, end_text, tail_text, state_word, row_text, rows_text};
+ghost use Rattle.message_text.specs.Gsmp.{gsmp_text, greeting_word, branch_word, party_text, result_word, head_text, end_text, tail_text, state_word, row_text, rows_text};
 
 use crate::fields::{write_channel, write_number, write_octets};
-use gsmp_wire::{BranchKind, Fault, Message, PortRow, PortRows};
+use gsmp_wire::{BranchKind, Message, PortRow, PortRows};
 use lab_text::Text;
-use link_model::Refusal;
 use net_types::{Channel, Greeting, HelloKind, OutOfMemory, Party};
 
 fn greeting_word(kind: HelloKind) -> &'static str
@@ -193,21 +192,5 @@ pub fn write_gsmp(out: &mut Text, message: &Message) -> Result<(), OutOfMemory>
             write_head(out, "allports", *outcome, *code, *transaction)?;
             write_rows(out, rows)
         }
-    }
-}
-
-/// The name of a refusal of octets that are no message.
-pub(crate) fn gsmp_refusal(fault: Fault) -> Refusal
-    ensures { result ≡ gsmp_refusal fault }
-{
-    match fault {
-        Fault::Short => Refusal::Short,
-        Fault::Snap => Refusal::Snap,
-        Fault::Version => Refusal::Version,
-        Fault::MessageType => Refusal::MessageType,
-        Fault::Result => Refusal::Result,
-        Fault::Code => Refusal::Code,
-        Fault::Size => Refusal::Size,
-        Fault::Reserved => Refusal::Reserved,
     }
 }

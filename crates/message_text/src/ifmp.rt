@@ -2,14 +2,13 @@
 
 ghost use Rattle.std.specs.Prelude.{◌≡◌, ◌++◌, OnOk};
 ghost use Rattle.ifmp_wire.specs.declared.message.Message.TheVariants.{Adjacency};
-ghost use Rattle.message_text.specs.Ifmp.{ifmp_text, ifmp_refusal, hello_word, between, flow_text};
+ghost use Rattle.message_text.specs.Ifmp.{ifmp_text, hello_word, between, head_text, use_text};
 
 use crate::fields::{write_address, write_channel, write_number, write_octets};
 use flow_ids::FlowId;
-use ifmp_wire::{Fault, Message};
+use ifmp_wire::Message;
 use lab_text::Text;
-use link_model::Refusal;
-use net_types::{Hello, HelloKind, Instance, OutOfMemory};
+use net_types::{Channel, Hello, HelloKind, Instance, OutOfMemory};
 
 fn hello_word(kind: HelloKind) -> &'static str
     ensures { result.now ≡ hello_word kind }
@@ -36,11 +35,27 @@ fn write_between(
     write_number(out, " to ", u64::from(peer.0))
 }
 
-fn write_flow(out: &mut Text, flow: &FlowId) -> Result<(), OutOfMemory>
-    ensures { OnOk result (out.new ≡ out.old ++ flow_text flow.now) }
+#[tactic(auto, unfolding(crate::specs::Ifmp::head_text))]
+fn write_head(
+    out: &mut Text,
+    word: &str,
+    sender: Instance,
+    peer: Instance,
+    number: u32,
+) -> Result<(), OutOfMemory>
+    ensures { OnOk result (out.new ≡ out.old ++ head_text word.now sender peer number) }
+{
+    write_between(out, word, sender, peer)?;
+    write_number(out, " number ", u64::from(number))
+}
+
+#[tactic(auto, unfolding(crate::specs::Ifmp::use_text))]
+fn write_use(out: &mut Text, label: Channel, flow: &FlowId) -> Result<(), OutOfMemory>
+    ensures { OnOk result (out.new ≡ out.old ++ use_text label flow.now) }
 {
     let mut identifier = [0; 16];
     let size = flow_ids::write(flow, &mut identifier);
+    write_channel(out, " label ", label)?;
     write_octets(out, " flow ", &identifier[..size])
 }
 
@@ -66,11 +81,9 @@ pub fn write_ifmp(out: &mut Text, message: &Message) -> Result<(), OutOfMemory>
             label,
             flow,
         } => {
-            write_between(out, "redirect", *sender, *peer)?;
-            write_number(out, " number ", u64::from(*number))?;
+            write_head(out, "redirect", *sender, *peer, *number)?;
             write_number(out, " lifetime ", u64::from(*lifetime))?;
-            write_channel(out, " label ", *label)?;
-            write_flow(out, flow)
+            write_use(out, *label, flow)
         }
         Message::Reclaim {
             sender,
@@ -79,10 +92,8 @@ pub fn write_ifmp(out: &mut Text, message: &Message) -> Result<(), OutOfMemory>
             label,
             flow,
         } => {
-            write_between(out, "reclaim", *sender, *peer)?;
-            write_number(out, " number ", u64::from(*number))?;
-            write_channel(out, " label ", *label)?;
-            write_flow(out, flow)
+            write_head(out, "reclaim", *sender, *peer, *number)?;
+            write_use(out, *label, flow)
         }
         Message::ReclaimAck {
             sender,
@@ -91,10 +102,8 @@ pub fn write_ifmp(out: &mut Text, message: &Message) -> Result<(), OutOfMemory>
             label,
             flow,
         } => {
-            write_between(out, "reclaimack", *sender, *peer)?;
-            write_number(out, " number ", u64::from(*number))?;
-            write_channel(out, " label ", *label)?;
-            write_flow(out, flow)
+            write_head(out, "reclaimack", *sender, *peer, *number)?;
+            write_use(out, *label, flow)
         }
         Message::LabelRange {
             sender,
@@ -103,8 +112,7 @@ pub fn write_ifmp(out: &mut Text, message: &Message) -> Result<(), OutOfMemory>
             least,
             greatest,
         } => {
-            write_between(out, "labelrange", *sender, *peer)?;
-            write_number(out, " number ", u64::from(*number))?;
+            write_head(out, "labelrange", *sender, *peer, *number)?;
             write_channel(out, " least ", *least)?;
             write_channel(out, " greatest ", *greatest)
         }
@@ -115,31 +123,9 @@ pub fn write_ifmp(out: &mut Text, message: &Message) -> Result<(), OutOfMemory>
             code,
             label,
         } => {
-            write_between(out, "error", *sender, *peer)?;
-            write_number(out, " number ", u64::from(*number))?;
+            write_head(out, "error", *sender, *peer, *number)?;
             write_number(out, " code ", u64::from(*code))?;
             write_channel(out, " label ", *label)
         }
-    }
-}
-
-/// The name of a refusal of octets that are no message.
-pub(crate) fn ifmp_refusal(fault: Fault) -> Refusal
-    ensures { result ≡ ifmp_refusal fault }
-{
-    match fault {
-        Fault::Short => Refusal::Short,
-        Fault::Version => Refusal::Version,
-        Fault::OpCode => Refusal::OpCode,
-        Fault::Size => Refusal::Size,
-        Fault::Checksum => Refusal::Checksum,
-        Fault::FlowType => Refusal::FlowType,
-        Fault::FlowLength => Refusal::FlowLength,
-        Fault::ZeroLifetime => Refusal::ZeroLifetime,
-        Fault::LabelReserved => Refusal::LabelReserved,
-        Fault::RangeOrder => Refusal::RangeOrder,
-        Fault::ErrorCode => Refusal::ErrorCode,
-        Fault::Reserved => Refusal::Reserved,
-        Fault::FlowFields => Refusal::FlowFields,
     }
 }

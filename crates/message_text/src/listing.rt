@@ -1,16 +1,17 @@
 //! What the hexadecimal lines of an input are decoded to.
 
 ghost use Rattle.std.specs.Prelude.{◌≡◌, ◌≤◌, ◌++◌, length, is_some, IfOk, OnOk};
-ghost use Rattle.lab_text.specs.Line.{hex_line, is_want_of_memory};
+ghost use Rattle.lab_text.specs.Line.{hex_line, input_limit, is_want_of_memory};
 ghost use Rattle.lab_text.specs.declared.line.LineFault.{LineFault};
-ghost use Rattle.message_text.specs.Listing.{IsListing, IsLineListed, IsAnswered, fault_in, input_limit, refused_line, line_fault_text, refuse_text};
+ghost use Rattle.message_text.specs.Listing.{IsListing, IsLineListed, AppendsAnswer, fault_in, refused_line, line_fault_text, refuse_text};
 
-use crate::gsmp::{gsmp_refusal, write_gsmp};
-use crate::ifmp::{ifmp_refusal, write_ifmp};
+use crate::gsmp::write_gsmp;
+use crate::ifmp::write_ifmp;
 use crate::protocol::Protocol;
 use lab_text::{LineFault, Text, read_hex_line, refusal_name, split_line};
 use link_model::Refusal;
 use net_types::{Octets, OutOfMemory};
+use refusal_names::{gsmp_refusal, ifmp_refusal};
 use std::alloc::Global;
 
 /// What an input is decoded to, and whether a line of it was refused.
@@ -54,7 +55,7 @@ fn write_refuse(out: &mut Text, name: Refusal) -> Result<(), OutOfMemory>
 
 #[tactic(auto, using(crate::proofs::Answers::ifmp_told, crate::proofs::Answers::ifmp_refused))]
 fn answer_ifmp(out: &mut Text, octets: &[u8]) -> Result<(), OutOfMemory>
-    ensures { OnOk result (IsAnswered Protocol.Ifmp octets.now out.old out.new) }
+    ensures { OnOk result (AppendsAnswer Protocol.Ifmp octets.now out.old out.new) }
 {
     match ifmp_wire::decode(octets) {
         Ok(message) => {
@@ -70,7 +71,7 @@ fn answer_ifmp(out: &mut Text, octets: &[u8]) -> Result<(), OutOfMemory>
 
 #[tactic(auto, using(crate::proofs::Answers::gsmp_told, crate::proofs::Answers::gsmp_refused))]
 fn answer_gsmp(out: &mut Text, octets: &[u8]) -> Result<(), OutOfMemory>
-    ensures { OnOk result (IsAnswered Protocol.Gsmp octets.now out.old out.new) }
+    ensures { OnOk result (AppendsAnswer Protocol.Gsmp octets.now out.old out.new) }
 {
     match gsmp_wire::decode(octets) {
         Ok(message) => {
@@ -85,7 +86,7 @@ fn answer_gsmp(out: &mut Text, octets: &[u8]) -> Result<(), OutOfMemory>
 }
 
 fn answer(out: &mut Text, protocol: Protocol, octets: &[u8]) -> Result<(), OutOfMemory>
-    ensures { OnOk result (IsAnswered protocol octets.now out.old out.new) }
+    ensures { OnOk result (AppendsAnswer protocol octets.now out.old out.new) }
 {
     match protocol {
         Protocol::Ifmp => answer_ifmp(out, octets),

@@ -16,7 +16,6 @@ use Rattle.adjacency_table.specs.declared.message.Answer.TheVariants.{Quiet, Sen
 use Rattle.adjacency_table.specs.Side.{Step, fresh, is_estab, ticked}
 use Rattle.adjacency_table.specs.Greeting.{gsmp_answer, gsmp_received}
 use Rattle.gsmp_wire.specs.declared.fault.Fault.{Fault}
-use Rattle.gsmp_wire.specs.declared.fault.Fault.TheVariants as faults
 use Rattle.gsmp_wire.specs.declared.message.Message.{Message}
 use Rattle.gsmp_wire.specs.declared.message.Message.TheVariants.{Adjacency}
 use Rattle.gsmp_wire.specs.Layout.{octets_of}
@@ -24,9 +23,8 @@ use Rattle.gsmp_wire.specs.Fields.{decoded}
 use Rattle.link_model.specs.declared.record.Record.TheVariants.{Loss, Bad}
 use Rattle.link_model.specs.declared.record.Cause.TheVariants.{Unconnected, PoolFull}
 use Rattle.link_model.specs.declared.record.Layer.TheVariants.{Gsmp}
-use Rattle.link_model.specs.declared.record.Refusal.{Refusal}
-use Rattle.link_model.specs.declared.record.Refusal.TheVariants as refusals
 use Rattle.link_model.specs.Notes.{noted}
+use Rattle.refusal_names.specs.Names.{gsmp_refusal}
 use Rattle.frame_model.specs.Reassembly.{Taken, taken, cut, nothing_taken}
 use Rattle.frame_model.specs.Frame.{Tested, tested, made, frame_cells}
 use Rattle.crossbar_model.specs.declared.routed.Routed.{Routed}
@@ -104,20 +102,9 @@ told a message = requested a message
 
 -- *Frames*
 
--- the name under which a refusal is recorded
-abbrev pub name_of : Fault → Refusal
-name_of faults.Short = refusals.Short
-name_of faults.Snap = refusals.Snap
-name_of faults.Version = refusals.Version
-name_of faults.MessageType = refusals.MessageType
-name_of faults.Result = refusals.Result
-name_of faults.Code = refusals.Code
-name_of faults.Size = refusals.Size
-name_of faults.Reserved = refusals.Reserved
-
 abbrev pub read : Acted → Result Message Fault → Acted
 read a (Ok message) = told a message
-read a (Err fault) = record a { notes = noted a.notes (Bad a.switch.node Gsmp (name_of fault)) }
+read a (Err fault) = record a { notes = noted a.notes (Bad a.switch.node Gsmp (gsmp_refusal fault)) }
 
 -- a frame that failed its test holds nothing
 abbrev pub opened_frame : Acted → Option (List ℕ) → Acted

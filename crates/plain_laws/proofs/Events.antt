@@ -15,7 +15,7 @@ use Rattle.run_model.specs.declared.Node.{Node}
 use Rattle.run_model.specs.Topology.{peer_of}
 use Rattle.plain_model.specs.declared.event.Event.{Event}
 use Rattle.plain_model.specs.declared.event.Event.TheVariants.{Inject, Carry, Lose}
-use Rattle.plain_model.specs.Topology.{IsNetwork, IsNode, IsEnd}
+use Rattle.plain_model.specs.Topology.{IsPlainNetwork, IsNode, IsEnd}
 use Rattle.plain_model.specs.Network.{World, counted, injected_by, refusal_of, port_at, queue_at, with_queue, received, carried_from, lost_from, note, step, run, is_for}
 use Rattle.ordered_lists.specs.Ordered.{Every}
 use Rattle.plain_laws.specs.Fates.{Sent, sent_by, is_chance, has_entry_of}
@@ -65,7 +65,7 @@ continues_on events sent (Lose end) others c = record { at = λ i j is. c.at i j
 abbrev pub Steady : List Node → List Event → World → Type 0
 Steady nodes events world = IsGood nodes events world.traffic.sent nothing world
 
-module _ (nodes : List Node) (events : List Event) (network : IsNetwork nodes) where
+module _ (nodes : List Node) (events : List Event) (network : IsPlainNetwork nodes) where
   -- the number of an accepted packet is new
   good_accepted : (world : World) (item : Sent) → slice_get (sent_by events) world.traffic.sent ≡ Some item → Steady nodes events world
       → IsGood nodes events (world.traffic.sent + 1) (one (world.traffic.sent + 1)) (counted world)

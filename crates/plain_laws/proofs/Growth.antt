@@ -10,7 +10,8 @@ use Rattle.ipv4_forward.specs.Hop.{hop_of, onward}
 use Rattle.ipv4_forward.specs.declared.outcome.Hop.{Hop}
 use Rattle.ipv4_forward.specs.declared.outcome.Hop.TheVariants.{Here, On, NoRoute, Expired}
 use Rattle.atm_cells.specs.declared.cell.Cell.{Cell}
-use Rattle.flow_encaps.specs.Default.{default_payload}
+use Rattle.flow_encaps.specs.declared.default.EncapsFault.{EncapsFault}
+use Rattle.flow_encaps.specs.Default.{default_payload, default_fault}
 use Rattle.link_model.specs.declared.record.Cause.TheVariants.{Broken}
 use Rattle.link_model.specs.declared.record.Record.{Record}
 use Rattle.link_model.specs.declared.record.Record.TheVariants.{Loss, Chance}
@@ -24,7 +25,7 @@ use Rattle.run_model.specs.declared.Node.{Node}
 use Rattle.run_model.specs.Topology.{peer_of, routes_of}
 use Rattle.plain_model.specs.declared.event.Event.{Event}
 use Rattle.plain_model.specs.declared.event.Event.TheVariants.{Inject, Carry, Lose}
-use Rattle.plain_model.specs.Network.{World, Traffic, forwarded, arrived, counted, injected_by, refusal_of, packet_taken, payload_taken, encaps_refusal, frame_by, chain_taken, received, carried_from, lost_from, step, run, control_protocol, port_at, queue_at, with_queue, with_reassembly}
+use Rattle.plain_model.specs.Network.{World, Traffic, forwarded, arrived, counted, injected_by, refusal_of, packet_taken, payload_taken, frame_by, chain_taken, received, carried_from, lost_from, step, run, control_protocol, port_at, queue_at, with_queue, with_reassembly}
 use Rattle.plain_laws.proofs.Lists.{if_cases}
 
 -- the second list begins with the first
@@ -108,13 +109,13 @@ grows_packet nodes world node mark packet None =
     if_cases (λ (w : World). Grows world.notes w.notes) (protocol_of packet == control_protocol) world (arrived nodes world node mark packet) (λ e. grows_same world.notes)
     (λ e. grows_forwarded world node mark packet (hop_of (routes_of nodes node) packet))
 
-grows_payload : (nodes : List Node) (world : World) (node : NodeId) (mark : Mark) (payload : List ℕ) (name : Option Refusal) → Grows world.notes (payload_taken nodes world node mark payload name).notes
-grows_payload nodes world node mark payload (Some name) = grows_noted world.notes _
+grows_payload : (nodes : List Node) (world : World) (node : NodeId) (mark : Mark) (payload : List ℕ) (fault : Option EncapsFault) → Grows world.notes (payload_taken nodes world node mark payload fault).notes
+grows_payload nodes world node mark payload (Some fault) = grows_noted world.notes _
 grows_payload nodes world node mark payload None = grows_packet nodes world node mark (drop 8 payload) (first_fault (drop 8 payload))
 
 pub grows_frame : (nodes : List Node) (world : World) (node : NodeId) (mark : Mark) (payload : Option (List ℕ)) → Grows world.notes (frame_by nodes world node mark payload).notes
 grows_frame nodes world node mark None = grows_same world.notes
-grows_frame nodes world node mark (Some payload) = grows_payload nodes world node mark payload (encaps_refusal payload)
+grows_frame nodes world node mark (Some payload) = grows_payload nodes world node mark payload (default_fault payload)
 
 grows_chain : (nodes : List Node) (traffic : Traffic) (node : NodeId) (notes : Journal) (cells : List Cell) → Grows notes (chain_taken nodes traffic node notes cells).notes
 grows_chain nodes traffic node notes [] = grows_same notes

@@ -10,11 +10,11 @@ use Rattle.ipv4_packet.specs.declared.validate.PacketFault.TheVariants.{Short, V
 use Rattle.ipv4_packet.proofs.HeaderLemmas.{on_header}
 use Rattle.ipv4_packet.proofs.RouteLemmas.{length-rerouted, header_sum-rerouted, total_length_of-rerouted, protocol_of-rerouted}
 use Rattle.ipv4_forward.specs.Hop.{onward}
-use Rattle.flow_encaps.specs.Default.{default_payload}
+use Rattle.flow_encaps.specs.Default.{default_payload, default_fault}
 use Rattle.link_model.specs.declared.record.Refusal.{Refusal}
 use Rattle.link_model.specs.declared.record.Refusal.TheVariants.{ControlProtocol}
 use Rattle.run_model.specs.declared.Node.{Node}
-use Rattle.plain_model.specs.Network.{World, arrived, refusal_of, refused_by, control_protocol, frame_by, encaps_refusal}
+use Rattle.plain_model.specs.Network.{World, arrived, refusal_of, refused_by, control_protocol, frame_by}
 
 -- the first test that fails, by the numbers that are tested: length, first octet, Total Length, sum
 abbrev fault_by : (size first total sum : ℕ) → Option PacketFault
@@ -84,7 +84,7 @@ accepted_onward packet e =
 eight_or_more : (packet : List ℕ) → nat_lt (length (default_payload packet)) 8 ≡ false
 eight_or_more packet = grind (arith, nat_tests)
 
-encaps_fine : (packet : List ℕ) → encaps_refusal (default_payload packet) ≡ None
+encaps_fine : (packet : List ℕ) → default_fault (default_payload packet) ≡ None
 encaps_fine packet = rw (eight_or_more packet) refl
 
 pub payload_arrives : (nodes : List Node) (world : World) (node : NodeId) (mark : Mark) (packet : List ℕ) → refusal_of packet ≡ None → frame_by nodes world node mark (Some (default_payload packet)) ≡ arrived nodes world node mark packet

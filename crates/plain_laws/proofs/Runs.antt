@@ -6,7 +6,7 @@ use Rattle.std.proofs.lemmas.Bool.{cases_lt}
 use Rattle.atm_cells.specs.declared.cell.Cell.{Cell}
 use Rattle.run_model.specs.declared.Node.{Node}
 use Rattle.plain_model.specs.declared.event.Event.{Event}
-use Rattle.plain_model.specs.Topology.{IsNetwork}
+use Rattle.plain_model.specs.Topology.{IsPlainNetwork}
 use Rattle.plain_model.specs.Network.{World, Traffic, Port, opening, is_for}
 use Rattle.ordered_lists.specs.Ordered.{Every}
 use Rattle.plain_laws.specs.Fates.{sent_by, IsTrueFate, is_nothing, is_idle, world_after, HasNoChance, HasTrueFates, HasTrueFronts}
@@ -39,7 +39,7 @@ idle_counts k traffic idle =
     (λ ports h. sum_of_zeros (count_in k) (λ (port : Port). is_nothing port.queue) ports (λ port e. nothing_counts k port.queue e) h) idle
 
 -- the law of every run without a chance
-pub run_has_true_fates : (nodes : List Node) (events : List Event) → IsNetwork nodes → list_all (is_for (length nodes)) events ≡ true → HasNoChance nodes events → HasTrueFates nodes events
+pub run_has_true_fates : (nodes : List Node) (events : List Event) → IsPlainNetwork nodes → list_all (is_for (length nodes)) events ≡ true → HasNoChance nodes events → HasTrueFates nodes events
 run_has_true_fates nodes events network all free =
     let continues : Continues events 0 events = record { at = λ i j is. ap (slice_get (sent_by events)) (let same : j ≡ i = omega (arith, is) in same) } in
     let end : World = world_after nodes events in
@@ -59,7 +59,7 @@ run_has_true_fates nodes events network all free =
     }
 
 -- each front is a run of its own
-pub run_has_true_fronts : (nodes : List Node) (events : List Event) → IsNetwork nodes → list_all (is_for (length nodes)) events ≡ true → HasTrueFronts nodes events
+pub run_has_true_fronts : (nodes : List Node) (events : List Event) → IsPlainNetwork nodes → list_all (is_for (length nodes)) events ≡ true → HasTrueFronts nodes events
 run_has_true_fronts nodes events network all = record {
   fates = λ before after whole free.
       run_has_true_fates nodes before network (all_front (is_for (length nodes)) before after (rw whole at all)) free;

@@ -28,7 +28,7 @@ use Rattle.run_model.specs.declared.Node.{Node}
 use Rattle.run_model.specs.Topology.{node_at, peer_of, routes_of}
 use Rattle.run_model.specs.Journey.{Fate, IsDelivered, IsDropped, journey, fate_record, at_peer}
 use Rattle.plain_model.specs.declared.event.Event.{Event}
-use Rattle.plain_model.specs.Topology.{IsNetwork, IsNode, IsEnd, IsLinkedHop, is_port}
+use Rattle.plain_model.specs.Topology.{IsPlainNetwork, IsNode, IsEnd, IsLinkedHop, is_port}
 use Rattle.plain_model.specs.Network.{World, Traffic, Port, port_at, queue_at, with_reassembly, note, default_channel, sent_on, forwarded, arrived, frame_by, chain_taken, frame_taken, cell_taken}
 use Rattle.ordered_lists.specs.Ordered.{Every}
 use Rattle.ordered_lists.proofs.Every.{every_join, every_map}
@@ -95,7 +95,7 @@ pub few_in_hand : (cell : Cell) (k : ℕ) → in_hand cell k ≤ one cell.mark.p
 few_in_hand cell k =
     elim cell.header.last as (λ (v : Bool). cond (v && (cell.mark.packet == k)) 1 0 ≤ one cell.mark.packet k) [ true ↦ omega arith | false ↦ omega arith ]
 
-module _ (nodes : List Node) (events : List Event) (network : IsNetwork nodes) (sent : ℕ) where
+module _ (nodes : List Node) (events : List Event) (network : IsPlainNetwork nodes) (sent : ℕ) where
   -- the record of a packet that ends where it stands is true
   true_fate : (number : ℕ) (packet : List ℕ) (node : NodeId) (fate : Fate) → Stands nodes events number packet node → journey nodes node packet ≡ fate → IsTrueFate nodes events (fate_record number fate)
   true_fate number packet node (IsDelivered at octets) s e = record {

@@ -20,7 +20,7 @@ use Rattle.ipv4_forward.proofs.Passing.{and_true, single}
 use Rattle.run_model.specs.declared.LinkEnd.{LinkEnd}
 use Rattle.run_model.specs.declared.Node.{Node}
 use Rattle.run_model.specs.Topology.{node_at, peer_at, peer_of, routes_of, routes_at}
-use Rattle.plain_model.specs.Topology.{IsNetwork, IsNode, IsEnd, IsLinkedHop, IsLinkedBy, changed_at, with_changed, with_peer, with_next, new_node, has_ports, same_end, is_next, is_port, is_far_end, has_linked_routes, has_inner_links, peers_of, peers_at}
+use Rattle.plain_model.specs.Topology.{IsPlainNetwork, IsNode, IsEnd, IsLinkedHop, IsLinkedBy, changed_at, with_changed, with_peer, with_next, new_node, has_ports, same_end, is_next, is_port, is_far_end, has_linked_routes, has_inner_links, peers_of, peers_at}
 use Rattle.plain_model.specs.Network.{is_node, is_end}
 use Rattle.plain_model.proofs.Lists.{and_left, and_right, some_is, passes_or, passes_at, all_set}
 use Rattle.plain_model.proofs.Links.{same_back, peer_here, peer_elsewhere, back_linked, back_added, peer_kept}
@@ -50,7 +50,7 @@ inside_far nodes node port far links linked =
     ] eo in
     far_is_end nodes far (by (slice_get nodes (node.0 - 1)) refl linked)
 
-pub far_inside : (nodes : List Node) (node : NodeId) (port : PortNo) (far : LinkEnd) → IsNetwork nodes → peer_of nodes node port ≡ Some far → IsEnd nodes far
+pub far_inside : (nodes : List Node) (node : NodeId) (port : PortNo) (far : LinkEnd) → IsPlainNetwork nodes → peer_of nodes node port ≡ Some far → IsEnd nodes far
 far_inside nodes node port far network linked = inside_far nodes node port far network.links linked
 
 -- a hop out of a port follows a route
@@ -64,7 +64,7 @@ found_linked peers table ttl test None all e = tt
 found_linked peers table ttl test (Some route) all e =
     via_linked peers ttl route.next (passes_found (λ (other : Route). is_next peers other.next) test table route all e)
 
-pub hop_linked : (nodes : List Node) (node : NodeId) (packet : List ℕ) → IsNetwork nodes → IsLinkedHop nodes node (hop_of (routes_of nodes node) packet)
+pub hop_linked : (nodes : List Node) (node : NodeId) (packet : List ℕ) → IsPlainNetwork nodes → IsLinkedHop nodes node (hop_of (routes_of nodes node) packet)
 hop_linked nodes node packet n =
     let by : (o : Option Node) → node_at nodes node ≡ o → IsLinkedBy (peers_at o) (hop_of (routes_at o) packet) = λ o eo.
     elim o as (λ v. node_at nodes node ≡ v → IsLinkedBy (peers_at v) (hop_of (routes_at v) packet)) [
@@ -99,7 +99,7 @@ length-changed change nodes i =
     by (slice_get nodes i)
 
 -- no node
-pub no_node : IsNetwork []
+pub no_node : IsPlainNetwork []
 no_node = record { within = omega arith; ports = refl; routes = refl; links = refl; linked_back = λ end far inside linked. absurd (omega (arith, inside.0)) }
 
 -- one more node
@@ -110,7 +110,7 @@ far_end_more count (Some far) h = grind (arith, nat_tests)
 inner_more : (count : ℕ) (node : Node) → has_inner_links count node ≡ true → has_inner_links (count + 1) node ≡ true
 inner_more count node h = all_pass _ _ node.peers (far_end_more count) h
 
-pub node_added : (nodes : List Node) (name : List ℕ) (address : Addr) → length nodes < 64 → IsNetwork nodes → IsNetwork (nodes ++ new_node name address ∷ [])
+pub node_added : (nodes : List Node) (name : List ℕ) (address : Addr) → length nodes < 64 → IsPlainNetwork nodes → IsPlainNetwork (nodes ++ new_node name address ∷ [])
 node_added nodes name address room n =
     let more : Node = new_node name address in
     let size : length (nodes ++ more ∷ []) ≡ length nodes + 1 = length-append nodes (more ∷ []) in
@@ -163,7 +163,7 @@ peer_set nodes end far inside n = record {
 
 pub link_added : (nodes : List Node) (first second : LinkEnd) → IsEnd nodes first → IsEnd nodes second → same_end first second ≡ false
     → peer_of nodes first.node first.port ≡ None → peer_of nodes second.node second.port ≡ None
-    → IsNetwork nodes → IsNetwork (with_peer second first (with_peer first second nodes))
+    → IsPlainNetwork nodes → IsPlainNetwork (with_peer second first (with_peer first second nodes))
 link_added nodes first second at_first at_second differ free_first free_second n =
     let once : List Node = with_peer first second nodes in
     let twice : List Node = with_peer second first once in
@@ -186,7 +186,7 @@ link_added nodes first second at_first at_second differ free_first free_second n
     }
 
 -- one more route
-pub route_added : (nodes : List Node) (node : NodeId) (prefix : Network) (next : Next) → is_next (peers_of nodes node) next ≡ true → IsNetwork nodes → IsNetwork (with_changed (with_next prefix next) nodes node)
+pub route_added : (nodes : List Node) (node : NodeId) (prefix : Network) (next : Next) → is_next (peers_of nodes node) next ≡ true → IsPlainNetwork nodes → IsPlainNetwork (with_changed (with_next prefix next) nodes node)
 route_added nodes node prefix next linked n =
     let size : length (with_changed (with_next prefix next) nodes node) ≡ length nodes = length-changed (with_next prefix next) nodes (node.0 - 1) in
     let same : (end : LinkEnd) → peer_of (with_changed (with_next prefix next) nodes node) end.node end.port ≡ peer_of nodes end.node end.port = λ end.

@@ -1,27 +1,27 @@
 -- The run of the plain network: what each event does to the cells on the links and to what the ports
 -- make of them, and the notes that it leaves
 
-use Rattle.std.specs.Prelude.{ℕ, ◌+◌, ◌-◌, ◌==◌, List, [], ◌∷◌, ◌++◌, replicate, length, take, drop, Option, None, Some, slice_set, slice_index_or, if◌then◌else◌, Bool, not, true, ◌&&◌, nat_le, nat_lt}
-use Rattle.std.specs.Str.{bytes_eq}
+use Rattle.std.specs.Prelude.{ℕ, ◌+◌, ◌-◌, ◌==◌, List, [], ◌∷◌, ◌++◌, replicate, length, drop, Option, None, Some, slice_set, slice_index_or, if◌then◌else◌, Bool, true, ◌&&◌, nat_le}
 use Rattle.net_types.specs.declared.node.NodeId.{NodeId}
 use Rattle.net_types.specs.declared.channel.Channel.{Channel}
 use Rattle.net_types.specs.declared.number.Mark.{Mark}
 use Rattle.ipv4_packet.specs.Packet.{protocol_of, first_fault}
 use Rattle.ipv4_packet.specs.declared.validate.PacketFault.{PacketFault}
-use Rattle.ipv4_packet.specs.declared.validate.PacketFault.TheVariants.{Short, Version, Options, Length, TooLong, Checksum}
 use Rattle.ipv4_forward.specs.Hop.{hop_of, onward}
 use Rattle.ipv4_forward.specs.declared.outcome.Hop.{Hop}
 use Rattle.ipv4_forward.specs.declared.outcome.Hop.TheVariants.{Here, On, NoRoute, Expired}
 use Rattle.atm_cells.specs.declared.cell.Cell.{Cell}
-use Rattle.flow_encaps.specs.Default.{default_payload, llc_snap}
+use Rattle.flow_encaps.specs.declared.default.EncapsFault.{EncapsFault}
+use Rattle.flow_encaps.specs.Default.{default_payload, default_fault}
 use Rattle.link_model.specs.declared.record.Cause.TheVariants.{Lost}
 use Rattle.link_model.specs.declared.record.DropCause.TheVariants.{NoRoute as NoRouteCause, Expired as ExpiredCause}
 use Rattle.link_model.specs.declared.record.Layer.TheVariants.{Encaps, Packet}
 use Rattle.link_model.specs.declared.record.Record.{Record}
 use Rattle.link_model.specs.declared.record.Record.TheVariants.{Delivered, Dropped, Refused, Loss, Bad}
 use Rattle.link_model.specs.declared.record.Refusal.{Refusal}
-use Rattle.link_model.specs.declared.record.Refusal.TheVariants.{ControlProtocol, BadSnap, Short as ShortName, Version as VersionName, Options as OptionsName, Length as LengthName, TooLong as TooLongName, Checksum as ChecksumName}
+use Rattle.link_model.specs.declared.record.Refusal.TheVariants.{ControlProtocol}
 use Rattle.link_model.specs.Notes.{Journal, noted}
+use Rattle.refusal_names.specs.Names.{packet_refusal, encaps_refusal}
 use Rattle.frame_model.specs.Reassembly.{Reassembly, Taken, taken, nothing_taken}
 use Rattle.frame_model.specs.Frame.{Tested, tested, frame_cells, made, next_mark, last_mark}
 use Rattle.run_model.specs.declared.LinkEnd.{LinkEnd}
@@ -108,21 +108,12 @@ forwarded world node mark packet (On port) =
 abbrev pub arrived : List Node → World → NodeId → Mark → (packet : List ℕ) → World
 arrived nodes world node mark packet = forwarded world node mark packet (hop_of (routes_of nodes node) packet)
 
--- the name under which a record shows what `check` refuses
-abbrev pub name_of : PacketFault → Refusal
-name_of Short = ShortName
-name_of Version = VersionName
-name_of Options = OptionsName
-name_of Length = LengthName
-name_of TooLong = TooLongName
-name_of Checksum = ChecksumName
-
 -- the protocol of control messages (RFC 1953), which no sender may use
 abbrev pub control_protocol : ℕ
 control_protocol = 101
 
 abbrev pub refused_by : List ℕ → Option PacketFault → Option Refusal
-refused_by octets (Some fault) = Some (name_of fault)
+refused_by octets (Some fault) = Some (packet_refusal fault)
 refused_by octets None = if protocol_of octets == control_protocol then Some ControlProtocol else None
 
 -- why a node refuses to send these octets, if it does
@@ -143,25 +134,20 @@ injected nodes world node octets = injected_by nodes (counted world) node octets
 
 -- the packet of a good frame; a packet of the control protocol does nothing more
 abbrev pub packet_taken : List Node → World → NodeId → Mark → (packet : List ℕ) → Option PacketFault → World
-packet_taken nodes world node mark packet (Some fault) = note world (Bad node Packet (name_of fault))
+packet_taken nodes world node mark packet (Some fault) = note world (Bad node Packet (packet_refusal fault))
 packet_taken nodes world node mark packet None =
     if protocol_of packet == control_protocol then world else arrived nodes world node mark packet
 
--- why a payload isn't in the default encapsulation, if it isn't
-abbrev pub encaps_refusal : (payload : List ℕ) → Option Refusal
-encaps_refusal payload =
-    if nat_lt (length payload) 8 then Some ShortName
-    else (if not (bytes_eq (take 8 payload) llc_snap) then Some BadSnap else None)
-
-abbrev pub payload_taken : List Node → World → NodeId → Mark → (payload : List ℕ) → Option Refusal → World
-payload_taken nodes world node mark payload (Some name) = note world (Bad node Encaps name)
+-- what stands behind the header of a payload in the default encapsulation
+abbrev pub payload_taken : List Node → World → NodeId → Mark → (payload : List ℕ) → Option EncapsFault → World
+payload_taken nodes world node mark payload (Some fault) = note world (Bad node Encaps (encaps_refusal fault))
 payload_taken nodes world node mark payload None =
     packet_taken nodes world node mark (drop 8 payload) (first_fault (drop 8 payload))
 
 abbrev pub frame_by : List Node → World → NodeId → Mark → Option (List ℕ) → World
 frame_by nodes world node mark None = world
 frame_by nodes world node mark (Some payload) =
-    payload_taken nodes world node mark payload (encaps_refusal payload)
+    payload_taken nodes world node mark payload (default_fault payload)
 
 -- what a frame that passed its test carries
 abbrev pub frame_taken : List Node → Traffic → NodeId → Mark → Tested → World

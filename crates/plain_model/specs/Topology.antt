@@ -96,7 +96,7 @@ HasMutualLinks nodes = (end far : LinkEnd) → IsEnd nodes end → peer_of nodes
     → peer_of nodes far.node far.port ≡ Some end
 
 -- what is so of every network that a script describes
-pub record IsNetwork (nodes : List Node) : Type 0 where
+pub record IsPlainNetwork (nodes : List Node) : Type 0 where
   pub within : length nodes ≤ 64
   pub ports : list_all has_ports nodes ≡ true
   pub routes : list_all has_linked_routes nodes ≡ true

@@ -16,7 +16,8 @@ use Rattle.ipv4_forward.proofs.Tests.{all_pass}
 use Rattle.ipv4_forward.proofs.Passing.{and_true}
 use Rattle.atm_cells.specs.declared.cell.Cell.{Cell}
 use Rattle.aal5_frames.specs.Frame.{cells_with, cell_of, pdu_of}
-use Rattle.flow_encaps.specs.Default.{default_payload}
+use Rattle.flow_encaps.specs.declared.default.EncapsFault.{EncapsFault}
+use Rattle.flow_encaps.specs.Default.{default_payload, default_fault}
 use Rattle.link_model.specs.declared.record.Refusal.{Refusal}
 use Rattle.link_model.specs.Notes.{Journal}
 use Rattle.frame_model.specs.Frame.{frame_cells, next_mark, last_mark, Tested, tested}
@@ -26,7 +27,7 @@ use Rattle.run_model.specs.declared.Node.{Node}
 use Rattle.run_model.specs.Topology.{peer_of, routes_of}
 use Rattle.plain_model.specs.declared.event.Event.{Event}
 use Rattle.plain_model.specs.declared.event.Event.TheVariants.{Inject, Carry, Lose}
-use Rattle.plain_model.specs.Network.{Traffic, World, Port, forwarded, arrived, injected_by, carried_from, received, lost_from, counted, step, queue_at, port_at, ports_at, with_port, with_queue, with_reassembly, refusal_of, idle_port, sent_on, packet_taken, payload_taken, encaps_refusal, frame_by, chain_taken, default_channel, control_protocol}
+use Rattle.plain_model.specs.Network.{Traffic, World, Port, forwarded, arrived, injected_by, carried_from, received, lost_from, counted, step, queue_at, port_at, ports_at, with_port, with_queue, with_reassembly, refusal_of, idle_port, sent_on, packet_taken, payload_taken, frame_by, chain_taken, default_channel, control_protocol}
 use Rattle.plain_network.specs.Frames.{is_up_to, sends_up_to, all_send_up_to, has_frames_up_to}
 use Rattle.plain_model.proofs.Lists.{all_set, and_left, and_right}
 use Rattle.plain_network.proofs.Frames.{ended_mark}
@@ -105,15 +106,15 @@ after_packet most nodes world node mark packet None within =
     elim (protocol_of packet == control_protocol) as (λ v. let w : World = if v then world else arrived nodes world node mark packet in IsAfter most 0 world.traffic w.traffic)
     [ true ↦ after_nothing most world.traffic | false ↦ after_arrived most nodes world node mark packet within ]
 
-after_payload : (most : ℕ) (nodes : List Node) (world : World) (node : NodeId) (mark : Mark) (payload : List ℕ) (refusal : Option Refusal) → mark.frame < most
-    → IsAfter most 0 world.traffic (payload_taken nodes world node mark payload refusal).traffic
-after_payload most nodes world node mark payload (Some name) within = after_nothing most world.traffic
+after_payload : (most : ℕ) (nodes : List Node) (world : World) (node : NodeId) (mark : Mark) (payload : List ℕ) (fault : Option EncapsFault) → mark.frame < most
+    → IsAfter most 0 world.traffic (payload_taken nodes world node mark payload fault).traffic
+after_payload most nodes world node mark payload (Some fault) within = after_nothing most world.traffic
 after_payload most nodes world node mark payload None within = after_packet most nodes world node mark (drop 8 payload) (first_fault (drop 8 payload)) within
 
 after_frame_by : (most : ℕ) (nodes : List Node) (world : World) (node : NodeId) (mark : Mark) (payload : Option (List ℕ)) → mark.frame < most
     → IsAfter most 0 world.traffic (frame_by nodes world node mark payload).traffic
 after_frame_by most nodes world node mark None within = after_nothing most world.traffic
-after_frame_by most nodes world node mark (Some payload) within = after_payload most nodes world node mark payload (encaps_refusal payload) within
+after_frame_by most nodes world node mark (Some payload) within = after_payload most nodes world node mark payload (default_fault payload) within
 
 -- a port takes a cell
 after_chain : (most : ℕ) (nodes : List Node) (traffic : Traffic) (node : NodeId) (notes : Journal) (cells : List Cell)

@@ -2,10 +2,10 @@
 //! and no label. What each event does is defined in `plain_model`; the code here is proved to do it.
 #![tactic(auto)]
 
-mod names;
 mod network;
 mod port;
 mod reassembly;
+mod refused;
 #[cfg(test)]
 mod tests;
 mod topology;

@@ -2,47 +2,33 @@
 
 ghost use Rattle.std.specs.Prelude.{◌≡◌, ℕ, ◌+◌, ◌-◌, ◌<◌, ◌≤◌, ◌^◌, length, OnOk, IfOk, IfNone, IfSome, OnSome, drop, true, replicate, [], ◌++◌, ◌∷◌, Some, None};
 ghost use Rattle.ipv4_packet.specs.Packet.{IsPacket, first_fault};
+ghost use Rattle.flow_encaps.specs.Default.{default_fault};
 ghost use Rattle.frame_model.specs.Reassembly.{taken};
 ghost use Rattle.frame_model.specs.Frame.{tested};
 ghost use Rattle.plain_model.specs.Topology.{IsNode, IsEnd};
-ghost use Rattle.plain_model.specs.Network.{step, injected, arrived, carried, received, lost, frame_taken, payload_taken, packet_taken, encaps_refusal, sent_on, with_port, port_at, queue_at, with_queue, with_reassembly, idle_port, is_for, default_channel};
+ghost use Rattle.plain_model.specs.Network.{step, injected, arrived, carried, received, lost, frame_taken, payload_taken, packet_taken, sent_on, with_port, port_at, queue_at, with_queue, with_reassembly, idle_port, is_for, default_channel};
 ghost use Rattle.plain_network.specs.Frames.{has_frames_up_to};
 
-use crate::names::{CONTROL_PROTOCOL, name_of, packet_in, refusal_of};
 use crate::port::Port;
 use crate::reassembly::MAX_CELLS;
+use crate::refused::{CONTROL_PROTOCOL, refusal_of};
 use crate::topology::Topology;
-use aal5_frames::segment;
-use atm_cells::{Cell, Header};
-use flow_encaps::wrap_default;
+use aal5_frames::{MAX_FRAME, segment};
+use atm_cells::{BLANK_CELL, Cell};
+use flow_encaps::{unwrap_default, wrap_default};
 use frame_model::test_frame;
 use ipv4_forward::Hop;
 use ipv4_packet::{check, protocol};
 use link_model::{Cause, DropCause, Layer, Notes, Record};
 use net_types::{Channel, Mark, NodeId, Octets, OutOfMemory};
 use plain_model::Event;
+use refusal_names::{encaps_refusal, packet_refusal};
 use run_model::LinkEnd;
 use std::alloc::Global;
 use std::marker::Model;
 
-/// The greatest frame, in octets: that of 32 cells.
-const MAX_FRAME: usize = 1536;
-
 /// The channel of every frame here (RFC 1954).
 const DEFAULT_CHANNEL: Channel = Channel { vpi: 0, vci: 15 };
-
-/// What stands in a place for a cell before one is written there.
-const BLANK: Cell = Cell {
-    header: Header {
-        channel: DEFAULT_CHANNEL,
-        last: false,
-    },
-    payload: [0; 48],
-    mark: Mark {
-        packet: 0,
-        frame: 0,
-    },
-};
 
 /// The ports 1 to 8 of a node.
 #[derive(Debug, Drop)]
@@ -263,14 +249,14 @@ impl Network {
         requires fits { length self.old.ports ≡ length topology.now.nodes }
         requires node { IsNode topology.now.nodes node }
         requires mark { mark.frame < 2 ^ 64 - 1 }
-        ensures traffic { OnOk result (self.new ≡ (payload_taken topology.now.nodes (record { traffic = self.old; notes = notes.old }) node mark payload.now (encaps_refusal payload.now)).traffic) }
-        ensures notes { OnOk result (notes.new ≡ (payload_taken topology.now.nodes (record { traffic = self.old; notes = notes.old }) node mark payload.now (encaps_refusal payload.now)).notes) }
+        ensures traffic { OnOk result (self.new ≡ (payload_taken topology.now.nodes (record { traffic = self.old; notes = notes.old }) node mark payload.now (default_fault payload.now)).traffic) }
+        ensures notes { OnOk result (notes.new ≡ (payload_taken topology.now.nodes (record { traffic = self.old; notes = notes.old }) node mark payload.now (default_fault payload.now)).notes) }
     {
-        match packet_in(payload) {
-            Err(name) => notes.push(Record::Bad {
+        match unwrap_default(payload) {
+            Err(fault) => notes.push(Record::Bad {
                 node,
                 layer: Layer::Encaps,
-                name,
+                name: encaps_refusal(fault),
             }),
             Ok(packet) => self.take_packet(topology, node, mark, packet, notes),
         }
@@ -296,7 +282,7 @@ impl Network {
             Err(fault) => notes.push(Record::Bad {
                 node,
                 layer: Layer::Packet,
-                name: name_of(fault),
+                name: packet_refusal(fault),
             }),
             Ok(()) => {
                 if protocol(packet) == CONTROL_PROTOCOL {
@@ -369,7 +355,7 @@ impl Network {
     {
         let mut payload = [0; MAX_FRAME];
         let len = wrap_default(packet, &mut payload);
-        let mut cells = [BLANK; MAX_CELLS];
+        let mut cells = [BLANK_CELL; MAX_CELLS];
         let count = segment(&payload[..len], DEFAULT_CHANNEL, mark, &mut cells);
         notes.made(mark, &payload[..len])?;
         self.put(end, &cells[..count])

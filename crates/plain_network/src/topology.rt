@@ -6,7 +6,7 @@ ghost use Rattle.ipv4_forward.specs.Best.{add_fault};
 ghost use Rattle.run_model.specs.Topology.{peer_of, routes_of, name_of};
 ghost use Rattle.ipv4_forward.specs.Hop.{hop_of, hopped_by};
 ghost use Rattle.ipv4_packet.specs.Packet.{IsPacket};
-ghost use Rattle.plain_model.specs.Topology.{IsNode, IsEnd, IsLinkedHop, IsNetwork, is_next, peers_of, node_named, with_node, with_link, with_route};
+ghost use Rattle.plain_model.specs.Topology.{IsNode, IsEnd, IsLinkedHop, IsPlainNetwork, is_next, peers_of, node_named, with_node, with_link, with_route};
 
 use ipv4_forward::{AddFault, Hop, Next, Table, hop};
 use net_types::{Addr, NodeId, Octets, OutOfMemory, Prefix};
@@ -27,13 +27,13 @@ pub struct Topology {
 
 impl Model for Topology {
     ghost use Rattle.run_model.specs.Topology.{Topology as Described};
-    ghost use Rattle.plain_model.specs.Topology.{IsNetwork};
+    ghost use Rattle.plain_model.specs.Topology.{IsPlainNetwork};
 
     ghost Value = { Described };
 
     ghost view = { λ t. record { nodes = t.nodes.items; links = t.links } };
 
-    ghost invariant = { λ t. IsNetwork t.nodes.items };
+    ghost invariant = { λ t. IsPlainNetwork t.nodes.items };
 }
 
 impl Topology {
@@ -52,7 +52,7 @@ impl Topology {
     pub fn nodes(&self) -> usize
         ensures len { result ≡ length self.now.nodes }
         ensures bound { result ≤ NODES }
-        ensures network { IsNetwork self.now.nodes }
+        ensures network { IsPlainNetwork self.now.nodes }
     {
         self.nodes.len()
     }
@@ -100,7 +100,7 @@ impl Topology {
     fn table(&self, node: NodeId) -> &Table
         requires { IsNode self.now.nodes node }
         ensures table { result.now ≡ routes_of self.now.nodes node }
-        ensures network { IsNetwork self.now.nodes }
+        ensures network { IsPlainNetwork self.now.nodes }
     {
         &self.nodes[node.0 as usize - 1].table
     }

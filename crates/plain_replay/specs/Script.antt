@@ -5,7 +5,7 @@ use Rattle.std.specs.Prelude.{ℕ, ◌+◌, List, [], ◌∷◌, length, take, c
 use Rattle.std.specs.Option.{option_and_then, ok_or}
 use Rattle.run_model.specs.Topology.{Topology}
 use Rattle.lab_text.specs.declared.line.LineFault.{LineFault}
-use Rattle.lab_text.specs.Line.{line_fault}
+use Rattle.lab_text.specs.Line.{input_limit, line_fault}
 use Rattle.lab_text.specs.Numeral.{hex_octets}
 use Rattle.lab_text.specs.Words.{line_text, words, is_blank_text}
 use Rattle.plain_model.specs.declared.event.Event.{Event}
@@ -99,10 +99,6 @@ script_by reading onward (Err fault) =
 abbrev pub script_from : Reading → List (List ℕ) → Script
 script_from reading [] = record { topology = reading.topology; events = reading.events; refusal = None }
 script_from reading (line ∷ lines) = script_by reading (λ next. script_from next lines) (after_line reading line)
-
--- the greatest input, and one octet more, which makes its line refused: nothing is read past it
-abbrev pub input_limit : ℕ
-input_limit = 16777217
 
 unfoldable pub script_of : List ℕ → Script
 script_of octets = script_from nothing_read (lines_of (take input_limit octets))

@@ -3,12 +3,13 @@
 ghost use Rattle.std.specs.Prelude.{◌≡◌, ◌+◌, ◌<◌, ◌≤◌, ◌^◌, length, true, Bool, [], ◌∷◌, bytes_eq, codes, take, Some, None, IfSome, IfOk, OnOk};
 ghost use Rattle.std.specs.Option.{option_map};
 ghost use Rattle.lab_text.specs.Words.{words};
+ghost use Rattle.lab_text.specs.Line.{input_limit};
 ghost use Rattle.lab_text.specs.Numeral.{hex_octets};
 ghost use Rattle.plain_model.specs.Network.{is_for};
 ghost use Rattle.plain_model.specs.Topology.{node_named, is_next, peers_of, IsNode, IsEnd};
 ghost use Rattle.plain_replay.specs.Forms.{address_of, prefix_of, end_of};
 ghost use Rattle.plain_replay.specs.Reading.{Reading, nothing_read, node_line, link_line, can_link, can_route, is_linked, route_line, next_of, with_event, send_line, carry_line, lose_line, linked_end, is_late};
-ghost use Rattle.plain_replay.specs.Script.{one, two, keyword_of, route_fields, fields_line, keyword_line, worded_line, text_line, after_line, counted, script_of, input_limit};
+ghost use Rattle.plain_replay.specs.Script.{one, two, keyword_of, route_fields, fields_line, keyword_line, worded_line, text_line, after_line, counted, script_of};
 ghost use Rattle.plain_replay.specs.Taking.{Takes, TakesFields, IsWantOfMemory, NamesPort};
 ghost use Rattle.plain_replay.specs.declared.script.LineStop.TheVariants.{OutOfMemory as NoMemory};
 

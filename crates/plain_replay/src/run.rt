@@ -5,7 +5,8 @@ ghost use Rattle.plain_model.specs.Network.{run, opening};
 ghost use Rattle.plain_laws.specs.Fates.{HasTrueFronts};
 ghost use Rattle.cell_laws.specs.Causes.{HasCauses};
 ghost use Rattle.plain_replay.specs.Valid.{AreEvents};
-ghost use Rattle.plain_replay.specs.Script.{script_of, input_limit};
+ghost use Rattle.lab_text.specs.Line.{input_limit};
+ghost use Rattle.plain_replay.specs.Script.{script_of};
 ghost use Rattle.plain_replay.specs.Report.{report_of};
 
 use crate::reader::read_script;

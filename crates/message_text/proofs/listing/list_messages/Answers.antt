@@ -14,7 +14,7 @@ loop-rest-preserved c =
     subst (λ (refused : Option LineFault). IsLineListed c.args.protocol (hex_line c.loop-rest.before c.split_line.result.0.now) refused c.loop-rest.out c.list_line.new.out) c.in-None.is c.in_ok-list_line.ensures in
     record {
       counted = omega (arith, c.loop-rest.invariant.counted, c.split_line.ensures.all);
-      numbered = omega (arith, c.loop-rest.invariant.numbered, c.split_line.ensures.some);
+      numbers = omega (arith, c.loop-rest.invariant.numbers, c.split_line.ensures.some);
       listed = line_listed c.args.protocol c.loop-rest.before c.loop-rest.number c.loop-rest.rest.now c.split_line.result.0.now c.split_line.result.1.now whole c.loop-rest.out c.list_line.new.out c.split_line.ensures.lines listed c.loop-rest.invariant.listed;
       fault = fault_later c.args.protocol c.loop-rest.before c.loop-rest.rest.now c.split_line.result.0.now c.split_line.result.1.now c.loop-rest.out c.list_line.new.out _ c.split_line.ensures.lines listed c.loop-rest.invariant.fault;
     }
