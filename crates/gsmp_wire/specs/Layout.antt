@@ -85,7 +85,7 @@ abbrev pub rows_octets : List PortRow → List ℕ
 rows_octets [] = []
 rows_octets (r ∷ rows) = row_octets r ++ rows_octets rows
 
--- the connection that a message is about, where it is about one
+-- a connection by its fields, in their order
 abbrev pub connection : (transaction session input_port : ℕ) → Channel → (output_port : ℕ) → Channel → (branches priority : ℕ) → Connection
 connection transaction session input_port input output_port output branches priority = record {
   transaction = transaction;
@@ -98,6 +98,7 @@ connection transaction session input_port input output_port output branches prio
   priority = priority;
 }
 
+-- the connection that a message is about, where it is about one
 abbrev pub connection_of : Message → Option Connection
 connection_of (Branch _ _ _ transaction session input_port input output_port output branches priority) =
     Some (connection transaction session input_port input output_port output branches priority)
