@@ -3,9 +3,9 @@
 use Rattle.std.proofs.Common.{◌≡◌, true, false, List, [], ◌∷◌, ◌++◌, refl}
 use Rattle.adjacency_table.specs.declared.State.{State}
 use Rattle.adjacency_table.specs.declared.State.TheVariants.{Clearing, SynSent, Estab}
-use Rattle.label_line.specs.Cells.{Role, Downstream, Upstream, ToSwitch}
+use Rattle.label_line.specs.Cells.{Role, Downstream, Upstream, InOutput, ToSwitch}
 use Rattle.label_line.specs.Line.{Label, Spare, Offered, Recalled, Wired, Grant, NoGrant, Idle, ByController, Leaving, Line, start}
-use Rattle.label_line.specs.Moves.{Move, Switch, Pass, Reassemble, Lose, Hear, Tick, Clear, Restart, Wire, Bind, Refresh, Recall, RecallAgain, Quit, Free, Start, Lend, Release, Expire, SendLabelled, SwitchLabelled, run}
+use Rattle.label_line.specs.Moves.{Move, Switch, Pass, Reassemble, Lose, Split, Hear, Tick, Clear, Restart, Wire, Bind, Refresh, Recall, RecallAgain, Quit, Free, Start, Lend, Release, Expire, SendLabelled, SwitchLabelled, run}
 
 -- the states of both ends, of the label and of the grant
 abbrev Shows : Line → State → State → Label → Grant → Type 0
@@ -14,7 +14,7 @@ Shows line downstream upstream label grant = (line.downstream.state ≡ downstre
 
 -- the next frame comes through and is heard, or a cell of the label
 abbrev arrives : Role → List Move
-arrives end = Switch end ∷ Switch end ∷ Pass end ∷ Pass end ∷ Reassemble end ∷ Reassemble end ∷ Hear end true 0 ∷ []
+arrives end = Switch end ∷ Pass end ∷ Reassemble end ∷ Hear end true 0 ∷ []
 
 abbrev cell_arrives : List Move
 cell_arrives = Switch Downstream ∷ Pass Downstream ∷ Reassemble Downstream ∷ []
@@ -35,6 +35,20 @@ offered = run met (Wire 7 ∷ Bind ∷ (arrives Upstream ++ (Start ∷ [])))
 
 offered_is : Shows offered Estab Estab Offered (ByController 7)
 offered_is = (refl, refl, refl, refl)
+
+-- the same where the frame of the REDIRECT has two cells, and where the first of them is lost
+abbrev in_two_cells : List Move
+in_two_cells = Wire 7 ∷ Bind ∷ Split Upstream 0 ∷ Switch Upstream ∷ Switch Upstream ∷ []
+
+abbrev both_arrive : List Move
+both_arrive = Pass Upstream ∷ Pass Upstream ∷ Reassemble Upstream ∷ Reassemble Upstream ∷ Hear Upstream true 0 ∷ []
+
+split_is : Shows (run met (in_two_cells ++ (both_arrive ++ (Start ∷ [])))) Estab Estab Offered (ByController 7)
+split_is = (refl, refl, refl, refl)
+
+half_is : Shows (run met (in_two_cells ++ (Lose Upstream InOutput 0 ∷ (both_arrive ++ (Start ∷ []))))) Estab Estab Offered
+    (ByController 7)
+half_is = (refl, refl, refl, refl)
 
 sent_is : (run offered (SendLabelled ∷ cell_arrives)).reassembly ≡ 7 ∷ []
 sent_is = refl
@@ -67,7 +81,7 @@ reused_is = (refl, refl, refl, refl)
 -- a RECLAIM ACK is lost; RECLAIM is said again and acknowledged again, and an ACK that only passed
 -- the first RECLAIM isn't enough
 abbrev repeated : Line
-repeated = run offered (Recall ∷ (arrives Upstream ++ (Lose Downstream ToSwitch 0 ∷ Lose Downstream ToSwitch 0 ∷
+repeated = run offered (Recall ∷ (arrives Upstream ++ (Lose Downstream ToSwitch 0 ∷
     Tick Upstream 0 0 ∷ RecallAgain ∷ (arrives Downstream ++ (arrives Upstream ++ arrives Downstream)))))
 
 repeated_is : Shows repeated Estab Estab (Recalled 3 true) NoGrant × (repeated.known ≡ 3)

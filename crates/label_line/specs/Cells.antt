@@ -1,6 +1,6 @@
 -- what stands on a link between two ends, and in which order
 
-use Rattle.std.specs.Prelude.{ℕ, Bool, true, false, List, [], ◌∷◌, ◌++◌, remove}
+use Rattle.std.specs.Prelude.{ℕ, zero, suc, Bool, true, false, List, [], ◌∷◌, ◌++◌, remove}
 use Rattle.net_types.specs.declared.adjacency.HelloKind.{HelloKind}
 use Rattle.net_types.specs.declared.adjacency.HelloKind.TheVariants.{Syn, Rstack}
 use Rattle.adjacency_table.specs.Instances.{SideByInstances, greeting}
@@ -40,10 +40,9 @@ pub data Cell : Type 0 where
   Labelled : (flow : ℕ) → Cell
   Default : (last : Bool) → Message → Cell
 
--- a message's frame has two cells: 20 to 40 octets of the message, 20 of IPv4, 8 of LLC and SNAP (RFC
--- 1483 4.1) and 8 of the trailer (I.363.5 9.2.1) are more than 48 and at most 96
+-- a message's frame, put as its last cell; how many others come before it is left open (`split`)
 abbrev pub frame : Message → List Cell
-frame message = Default false message ∷ Default true message ∷ []
+frame message = Default true message ∷ []
 
 -- one way of the link, by its queues, each with its front first: what the receiver has reassembled
 -- of the default channel, what goes from its switch to it, what the sender's switch put out to the
@@ -64,6 +63,16 @@ cells way = way.chain ++ (way.to_controller ++ (way.output ++ way.to_switch))
 -- the sender puts cells at the end of its queue
 abbrev pub put : Way → List Cell → Way
 put way new = record way { to_switch = way.to_switch ++ new }
+
+-- where the last cell of a frame stands, one more cell of the frame comes before it
+abbrev pub preceded : (place : ℕ) → List Cell → List Cell
+preceded place [] = []
+preceded zero (Default true message ∷ rest) = Default false message ∷ Default true message ∷ rest
+preceded zero (cell ∷ rest) = cell ∷ rest
+preceded (suc place) (cell ∷ rest) = cell ∷ preceded place rest
+
+abbrev pub split : (place : ℕ) → Way → Way
+split place way = record way { to_switch = preceded place way.to_switch }
 
 -- the sender's switch puts the front cell of that queue out to the link
 abbrev pub switched : Way → List Cell → Way

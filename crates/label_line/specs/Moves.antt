@@ -2,7 +2,7 @@
 
 use Rattle.std.specs.Prelude.{ℕ, Bool, List, [], ◌∷◌, fold}
 use Rattle.adjacency_table.specs.Table.{tick_reply}
-use Rattle.label_line.specs.Cells.{Role, Downstream, Upstream, Place, switched, linked, chained, lost, from_last, Cell}
+use Rattle.label_line.specs.Cells.{Role, Downstream, Upstream, Place, switched, linked, chained, lost, split, from_last, Cell}
 use Rattle.label_line.specs.Line.{Line}
 use Rattle.label_line.specs.Downstream.{sends_other, wire, bind, refresh, recall, recall_again, quit, free, takes_cell, resets_downstream, hears_downstream, ticks_downstream, clears_downstream}
 use Rattle.label_line.specs.Upstream.{started, lent, released, expired, sends_labelled, switches_labelled, resets_upstream, hears_upstream, ticks_upstream, clears_upstream}
@@ -14,6 +14,8 @@ pub data Move : Type 0 where
   Pass : (to : Role) → Move
   Reassemble : (by : Role) → Move
   Lose : (to : Role) → Place → ℕ → Move
+  -- a frame that its sender has put into the queue to the switch turns out to have one more cell
+  Split : (to : Role) → (place : ℕ) → Move
   -- an end hears a message, ticks after some ticks of silence, has its port cleared, restarts. `room`
   -- says whether a new grant can be made, `drawn` how many instances other ports drew in between
   Hear : (by : Role) → (room : Bool) → (drawn : ℕ) → Move
@@ -53,6 +55,8 @@ step line (Reassemble Downstream) = takes_cell line line.to_downstream.to_contro
 step line (Reassemble Upstream) = reassembles_upstream line line.to_upstream.to_controller
 step line (Lose Downstream place at) = record line { to_downstream = lost place at line.to_downstream }
 step line (Lose Upstream place at) = record line { to_upstream = lost place at line.to_upstream }
+step line (Split Downstream place) = record line { to_downstream = split place line.to_downstream }
+step line (Split Upstream place) = record line { to_upstream = split place line.to_upstream }
 step line (Hear Downstream room drawn) = hears_downstream line (from_last line.to_downstream.chain) drawn
 step line (Hear Upstream room drawn) = hears_upstream line (from_last line.to_upstream.chain) room drawn
 step line (Tick Downstream silence drawn) = ticks_downstream line (tick_reply line.downstream.state silence) drawn
