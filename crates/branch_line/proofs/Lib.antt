@@ -8,4 +8,5 @@ pub mod AnswerSteps
 pub mod GreetingSteps
 pub mod LinkSteps
 pub mod Runs
+pub mod Reached
 pub mod WorkedLives

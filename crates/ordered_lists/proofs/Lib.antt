@@ -3,3 +3,4 @@ pub mod InOrder
 pub mod Exchange
 pub mod Copies
 pub mod Parts
+pub mod Found
