@@ -2,8 +2,8 @@
 
 use Rattle.std.specs.Prelude.{ℕ, zero, suc, Bool, true, false, List, [], ◌∷◌, ◌++◌, remove}
 use Rattle.net_types.specs.declared.adjacency.HelloKind.{HelloKind}
-use Rattle.net_types.specs.declared.adjacency.HelloKind.TheVariants.{Syn, Rstack}
 use Rattle.adjacency_table.specs.Instances.{SideByInstances, greeting}
+use Rattle.adjacency_table.specs.Hello.{next_in}
 
 -- the two ends of the link, as they stand to the label: the one that hands it out and the one that
 -- may send under it (RFC 1953)
@@ -23,12 +23,6 @@ pub data Message : Type 0 where
   ReclaimAck : (sender receiver flow : ℕ) → Message
   -- any other redirection message of the downstream end, of another label or of none
   Other : (sender receiver number : ℕ) → Message
-
--- the peer next sequence number in an adjacency message: SYN and RSTACK say none
-abbrev pub next_in : HelloKind → (expected : ℕ) → ℕ
-next_in Syn expected = 0
-next_in Rstack expected = 0
-next_in kind expected = expected
 
 -- the adjacency message of this kind that an end says, while it expects this number of its peer
 abbrev pub hello : Role → (expected : ℕ) → SideByInstances → HelloKind → (sender receiver : ℕ) → Message
