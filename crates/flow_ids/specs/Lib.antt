@@ -1,2 +1,3 @@
 pub mod Flow
 pub mod Identifier
+pub mod Parts

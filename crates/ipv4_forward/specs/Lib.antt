@@ -2,3 +2,4 @@ pub mod Best
 pub mod Longest
 pub mod Room
 pub mod Hop
+pub mod Change
