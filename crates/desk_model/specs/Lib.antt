@@ -1,0 +1,4 @@
+pub mod Requests
+pub mod Messages
+pub mod Desk
+pub mod Answers

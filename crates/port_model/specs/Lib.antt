@@ -1,0 +1,15 @@
+pub mod Setup
+pub mod Labels
+pub mod Grants
+pub mod Counts
+pub mod Port
+pub mod Resets
+pub mod Saying
+pub mod Counting
+pub mod Redirection
+pub mod Adjacency
+pub mod Reclaiming
+pub mod Hearing
+pub mod Answers
+pub mod Joins
+pub mod Ticks

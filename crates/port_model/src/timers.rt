@@ -1,0 +1,12 @@
+//! The times of a port.
+
+/// How long labels, refreshes and counts last, in ticks.
+#[derive(Clone, Copy, Debug, PartialEq, Eq)]
+pub struct Timers {
+    /// How long a flow may use a label after a REDIRECT, 1 to 65,535.
+    pub lifetime: u16,
+    /// How many ticks after a REDIRECT it is sent again, 1 to 65,535.
+    pub refresh: u16,
+    /// Over how many ticks the packets of a flow are counted, 1 to 64.
+    pub window: usize,
+}
