@@ -1,13 +1,13 @@
 //! From a script to its report.
 
-ghost use Rattle.std.specs.Prelude.{◌≡◌, ◌≤◌, length, IfOk, OnOk, is_some};
+ghost use Rattle.std.specs.Prelude.{◌≡◌, ◌≤◌, ◌++◌, length, IfOk, OnOk, is_some};
 ghost use Rattle.plain_model.specs.Network.{run, opening};
 ghost use Rattle.plain_laws.specs.Fates.{HasTrueFronts};
 ghost use Rattle.cell_laws.specs.Causes.{HasCauses};
 ghost use Rattle.plain_replay.specs.Valid.{AreEvents};
 ghost use Rattle.lab_text.specs.Line.{input_limit};
 ghost use Rattle.plain_replay.specs.Script.{script_of};
-ghost use Rattle.plain_replay.specs.Report.{report_of};
+ghost use Rattle.plain_replay.specs.Report.{last_line, record_lines, report_of};
 
 use crate::reader::read_script;
 use crate::report::{write_end, write_records, write_refused};
@@ -67,6 +67,26 @@ pub fn replay(alloc: Global, octets: &[u8]) -> Result<Reported, OutOfMemory>
     report_on(alloc, &script)
 }
 
+/// Writes the last line: what the run came to, or the line that was refused.
+fn write_last(out: &mut Text, script: &Script, notes: &Notes) -> Result<(), OutOfMemory>
+    ensures { OnOk result (out.new ≡ out.old ++ last_line script.now.events notes.now.records script.now.refusal) }
+{
+    match script.refusal {
+        None => write_end(out, script.events.as_slice(), notes),
+        Some(refusal) => write_refused(out, refusal),
+    }
+}
+
+/// The lines of the records, and the last line.
+fn report_of(alloc: Global, script: &Script, notes: &Notes) -> Result<Octets, OutOfMemory>
+    ensures { IfOk result (λ report. report ≡ record_lines script.now.topology.nodes notes.now.records ++ last_line script.now.events notes.now.records script.now.refusal) }
+{
+    let mut out = Text::new(alloc);
+    write_records(&mut out, &script.topology, notes)?;
+    write_last(&mut out, script, notes)?;
+    Ok(out.into_octets())
+}
+
 fn report_on(alloc: Global, script: &Script) -> Result<Reported, OutOfMemory>
     ensures octets { IfOk result (λ reported. reported.report ≡ report_of script.now) }
     ensures refused { IfOk result (λ reported. reported.is_refused ≡ is_some script.now.refusal) }
@@ -75,14 +95,8 @@ fn report_on(alloc: Global, script: &Script) -> Result<Reported, OutOfMemory>
 {
     prove_laws(&script.topology, script.events.as_slice());
     let notes = run_events(alloc, &script.topology, script.events.as_slice())?;
-    let mut out = Text::new(alloc);
-    write_records(&mut out, &script.topology, &notes)?;
-    match script.refusal {
-        None => write_end(&mut out, script.events.as_slice(), &notes)?,
-        Some(refusal) => write_refused(&mut out, refusal)?,
-    }
     Ok(Reported {
-        report: out.into_octets(),
+        report: report_of(alloc, script, &notes)?,
         is_refused: script.refusal.is_some(),
     })
 }
