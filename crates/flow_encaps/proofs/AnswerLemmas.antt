@@ -4,7 +4,6 @@ use Rattle.std.proofs.Common.{◌≡◌, ℕ, ◌+◌, ◌-◌, ◌≤◌, Bool,
 use Rattle.std.specs.Prelude.{IfOk, OnOk}
 use Rattle.std.proofs.Math.ListN.{set}
 use Rattle.std.specs.Result.{result_err}
-use Rattle.std.specs.Option.{option_or}
 use Rattle.std.proofs.lemmas.List.{length-take-le, length-drop, take_all}
 use Rattle.flow_ids.specs.declared.flow.FlowId.TheVariants.{One, Two}
 use Rattle.std.proofs.lemmas.Bool.Decides.{nat_tests}
@@ -19,7 +18,7 @@ use Rattle.flow_ids.specs.Flow.{kind_of, IsFlow}
 use Rattle.flow_ids.specs.Identifier.{FitsFields}
 use Rattle.flow_encaps.specs.declared.default.EncapsFault.{EncapsFault}
 use Rattle.flow_encaps.specs.declared.default.EncapsFault.TheVariants.{Checksum}
-use Rattle.flow_encaps.specs.Labelled.{Carries, rebuilt, head_size, left_out, said_checksum, checksum_at_ttl_zero, layout_fault, unwrap_fault, HasLayout}
+use Rattle.flow_encaps.specs.Labelled.{Carries, rebuilt, head_size, left_out, said_checksum, checksum_at_ttl_zero, unwrap_fault, HasLayout}
 use Rattle.flow_encaps.proofs.RebuiltLemmas.{length-rebuilt, long-rebuilt, drop-rebuilt, canonical-front, layout_fault-passed, Carries-rebuilt}
 use Rattle.flow_encaps.proofs.CarryLemmas.{packet-carried, unwrap_fault-carried}
 

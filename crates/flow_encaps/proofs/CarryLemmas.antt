@@ -1,24 +1,24 @@
 -- from a packet to its payload and back
 
-use Rattle.std.proofs.Common.{◌≡◌, ℕ, zero, suc, ◌+◌, ◌-◌, ◌*◌, ◌/◌, ◌%◌, ◌≤◌, ◌<◌, ◌^◌, Bool, true, false, not, cond, eqb, leb, IsTrue, List, [], ◌∷◌, ◌++◌, length, take, drop, get_or, Option, Some, None, refl, ap, sym, ◌∙◌, subst, arith, lit<}
+use Rattle.std.proofs.Common.{◌≡◌, ℕ, zero, suc, ◌+◌, ◌-◌, ◌/◌, ◌%◌, ◌≤◌, ◌<◌, Bool, true, false, not, cond, eqb, leb, IsTrue, List, [], ◌∷◌, ◌++◌, length, take, drop, get_or, Option, Some, None, refl, ap, sym, ◌∙◌, subst, arith}
 use Rattle.std.proofs.Math.ListN.{set}
 use mathlib.Core.Bool.{◌&&◌}
-use Rattle.std.specs.Int.{w16, w32, to_be_bytes}
+use Rattle.std.specs.Int.{w16, to_be_bytes}
 use Rattle.std.proofs.lemmas.Bool.Decides.{nat_tests}
 use Rattle.std.proofs.lemmas.List.{length-drop, length-set}
 use Rattle.std.proofs.lemmas.Nat.{from_be_bytes-to_be_bytes_2}
-use Rattle.octet_fields.specs.Fields.{u16_at, u32_at}
+use Rattle.octet_fields.specs.Fields.{u16_at}
 use Rattle.ipv4_packet.specs.Packet.{tos_of, total_length_of, fragment_of, ttl_of, protocol_of, source_of, destination_of, with_ttl, with_checksum, canonical, canonical_checksum, IsPacket}
 use Rattle.octet_fields.proofs.FieldLemmas.{AreOctets, AreOctets-drop, AreOctets-take, u16-then, u32-then}
 use Rattle.ipv4_packet.proofs.HeaderLemmas.{on_header, IsPacket-with_ttl}
-use Rattle.ipv4_packet.proofs.RouteLemmas.{length-rerouted, canonical-canonical}
+use Rattle.ipv4_packet.proofs.RouteLemmas.{canonical-canonical}
 use Rattle.flow_ids.specs.declared.flow.FlowKind.{FlowKind}
 use Rattle.flow_ids.specs.declared.flow.FlowKind.TheVariants.{One as ConnectionKind, Two as HostsKind}
 use Rattle.flow_ids.specs.declared.flow.FlowId.{FlowId}
 use Rattle.flow_ids.specs.declared.flow.FlowId.TheVariants.{One, Two}
 use Rattle.flow_ids.specs.Flow.{kind_of, flow_ttl, at_ttl, has_ports, shows_ports, flow_of, next_hop_of}
 use Rattle.flow_ids.proofs.HopLemmas.{next_hop_of-flow_of}
-use Rattle.flow_encaps.specs.Labelled.{checksum_at_ttl_zero, labelled_payload, Carries, rebuilt, head_size, left_out, has_zeros, said_length, said_checksum, unwrap_fault, HasLayout}
+use Rattle.flow_encaps.specs.Labelled.{checksum_at_ttl_zero, labelled_payload, Carries, rebuilt, has_zeros, said_length, said_checksum, unwrap_fault, HasLayout}
 use Rattle.flow_encaps.proofs.RebuiltLemmas.{AreOctets-pair, checksum_at_ttl_zero-with_checksum, canonical-with_checksum, layout_fault-passed, unwrap_fault-none}
 
 -- the flow of a packet tells its fields

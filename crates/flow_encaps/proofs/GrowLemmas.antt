@@ -1,6 +1,6 @@
 -- a front that grows by one field after another
 
-use Rattle.std.proofs.Common.{◌≡◌, ℕ, ◌+◌, ◌-◌, ◌≤◌, List, [], ◌++◌, length, take, drop, refl, ap, sym, ◌∙◌, arith, length-append, append_assoc}
+use Rattle.std.proofs.Common.{◌≡◌, ℕ, ◌+◌, List, [], ◌++◌, length, take, drop, refl, ap, sym, ◌∙◌, length-append, append_assoc}
 use Rattle.std.proofs.lemmas.List.{drop-drop}
 use Rattle.octet_fields.specs.Fields.{written}
 use Rattle.ipv4_packet.proofs.MessageLemmas.{take-front, drop-front}

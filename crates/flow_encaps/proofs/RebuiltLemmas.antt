@@ -1,27 +1,24 @@
 -- what flow and payload make
 
-use Rattle.std.proofs.Common.{◌≡◌, ◌≢◌, ℕ, zero, suc, ◌+◌, ◌-◌, ◌*◌, ◌/◌, ◌%◌, ◌≤◌, ◌<◌, ◌^◌, Bool, true, false, not, cond, eqb, leb, ltb, IsTrue, List, [], ◌∷◌, ◌++◌, length, take, drop, get_or, Option, Some, None, refl, ap, sym, ◌∙◌, subst, arith, lit<, lit≤}
+use Rattle.std.proofs.Common.{◌≡◌, ◌≢◌, ℕ, zero, suc, ◌+◌, ◌*◌, ◌/◌, ◌%◌, ◌≤◌, ◌<◌, true, false, not, eqb, leb, ltb, IsTrue, List, [], ◌∷◌, ◌++◌, length, take, drop, Some, None, refl, ap, sym, ◌∙◌, arith, lit<}
 use mathlib.Core.Bool.{◌&&◌}
-use Rattle.std.specs.Option.{option_or}
-use Rattle.std.specs.Int.{w16, w32, to_be_bytes}
 use Rattle.std.proofs.lemmas.Bool.Decides.{nat_tests}
-use Rattle.std.proofs.lemmas.List.{length-drop, take-append-drop}
+use Rattle.std.proofs.lemmas.List.{take-append-drop}
 use Rattle.std.proofs.lemmas.Nat.{from_be_bytes-to_be_bytes_2, from_be_bytes-to_be_bytes_4, be_bytes_2}
 use Rattle.net_types.specs.declared.prefix.Addr.{Addr}
-use Rattle.octet_fields.specs.Fields.{u16_at, u32_at}
-use Rattle.ipv4_packet.specs.Packet.{tos_of, total_length_of, fragment_of, ttl_of, protocol_of, source_of, destination_of, with_ttl, with_checksum, canonical, canonical_checksum, IsPacket}
-use Rattle.octet_fields.proofs.FieldLemmas.{AreOctets, u16-then, u32-then}
-use Rattle.ipv4_packet.proofs.HeaderLemmas.{on_header, length-canonical, IsPacket-canonical}
+use Rattle.octet_fields.specs.Fields.{u16_at}
+use Rattle.ipv4_packet.specs.Packet.{source_of, destination_of, with_checksum, canonical, canonical_checksum}
+use Rattle.octet_fields.proofs.FieldLemmas.{AreOctets}
+use Rattle.ipv4_packet.proofs.HeaderLemmas.{on_header, IsPacket-canonical}
 use Rattle.ipv4_packet.proofs.RouteLemmas.{canonical-canonical}
 use Rattle.flow_ids.specs.declared.flow.FlowKind.{FlowKind}
 use Rattle.flow_ids.specs.declared.flow.FlowKind.TheVariants.{One as ConnectionKind, Two as HostsKind}
 use Rattle.flow_ids.specs.declared.flow.FlowId.{FlowId}
 use Rattle.flow_ids.specs.declared.flow.FlowId.TheVariants.{One, Two}
-use Rattle.flow_ids.specs.Flow.{kind_of, has_ports, shows_ports, flow_of, IsFlow}
+use Rattle.flow_ids.specs.Flow.{kind_of, has_ports, IsFlow}
 use Rattle.flow_ids.specs.Identifier.{FitsFields}
-use Rattle.flow_encaps.specs.declared.default.EncapsFault.{EncapsFault}
 use Rattle.flow_encaps.specs.declared.default.EncapsFault.TheVariants.{Checksum}
-use Rattle.flow_encaps.specs.Labelled.{checksum_at_ttl_zero, labelled_payload, Carries, rebuilt, head_size, left_out, has_zeros, said_length, said_checksum, layout_fault, checksum_fault, unwrap_fault, HasLayout}
+use Rattle.flow_encaps.specs.Labelled.{checksum_at_ttl_zero, Carries, rebuilt, head_size, left_out, has_zeros, said_length, said_checksum, layout_fault, unwrap_fault, HasLayout}
 
 -- a claim about every payload of at least 8, or 12, octets follows from the claim about one that is
 -- written out

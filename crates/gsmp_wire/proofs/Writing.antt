@@ -1,28 +1,13 @@
 -- What writes in a row leave
 
-use Rattle.std.proofs.Common.{◌≡◌, ℕ, ◌+◌, ◌*◌, ◌<◌, ◌≤◌, List, [], ◌∷◌, ◌++◌, length, get_or, take, drop, replicate, refl, sym, ◌∙◌, ap, subst, arith, append_assoc, length-append, zero-add}
+use Rattle.std.proofs.Common.{◌≡◌, ℕ, ◌+◌, ◌*◌, ◌<◌, ◌≤◌, List, [], ◌∷◌, ◌++◌, length, get_or, take, drop, replicate, refl, sym, ◌∙◌, ap, subst, arith, zero-add}
 use Rattle.std.specs.Int.{w32, to_be_bytes}
-use Rattle.std.proofs.Math.Seq.{drop-append-add, take-append_seam}
-use Rattle.std.proofs.lemmas.List.{drop-drop, length-take, take_more}
+use Rattle.std.proofs.lemmas.List.{length-take, take_more}
 use Rattle.gsmp_wire.specs.declared.rows.PortRow.{PortRow}
 use Rattle.octet_fields.specs.Fields.{written}
+use Rattle.octet_fields.proofs.FieldLemmas.{written_then}
 use Rattle.gsmp_wire.specs.Layout.{row_octets, rows_octets}
 use Rattle.gsmp_wire.proofs.Reading.{six}
-
--- a write right behind another
-pub written_then : (place j : ℕ) (xs ys old : List ℕ) → j ≡ place + length xs → place + length xs ≤ length old → written (written old place xs) j ys ≡ written old place (xs ++ ys)
-written_then place j xs ys old here room =
-    let size : length (take place old ++ xs) ≡ j = omega (arith, length-append (take place old) xs, length-take place old) in
-    let whole : written old place xs ≡ (take place old ++ xs) ++ drop (place + length xs) old = sym (append_assoc (take place old) xs (drop (place + length xs) old)) in
-    let front : take j (written old place xs) ≡ take place old ++ xs =
-    ap (take j) whole ∙ ap (λ (n : ℕ). take n ((take place old ++ xs) ++ drop (place + length xs) old)) (sym size) ∙ take-append_seam (take place old ++ xs) (drop (place + length xs) old) in
-    let far : place + length xs + length ys ≡ place + length (xs ++ ys) = omega (arith, length-append xs ys) in
-    let back : drop (j + length ys) (written old place xs) ≡ drop (place + length (xs ++ ys)) old =
-    ap (drop (j + length ys)) whole ∙ ap (λ (n : ℕ). drop (n + length ys) ((take place old ++ xs) ++ drop (place + length xs) old)) (sym size)
-    ∙ drop-append-add (take place old ++ xs) (drop (place + length xs) old) (length ys) ∙ drop-drop (length ys) (place + length xs) old ∙ ap (λ (n : ℕ). drop n old) far in
-    (λ i. front i ++ (ys ++ back i))
-    ∙ append_assoc (take place old) xs (ys ++ drop (place + length (xs ++ ys)) old)
-    ∙ ap (λ (rest : List ℕ). take place old ++ rest) (sym (append_assoc xs ys (drop (place + length (xs ++ ys)) old)))
 
 pub length-rows_octets : (rows : List PortRow) → length (rows_octets rows) ≡ 16 * length rows
 length-rows_octets [] = refl

@@ -2,7 +2,6 @@
 -- behind the LLC/SNAP header.
 
 use Rattle.std.specs.Prelude.{ℕ, Bool, true, not, ◌&&◌, ◌||◌, ◌==◌, ◌+◌, ◌*◌, List, [], ◌∷◌, length, take, drop, Option, Some, None, zero, suc, nat_le, nat_lt, slice_index, if◌then◌else◌}
-use Rattle.std.specs.Int.{w16, w32, from_be_bytes}
 use Rattle.std.specs.List.{find, list_all}
 use Rattle.std.specs.Str.{bytes_eq}
 use Rattle.gsmp_wire.specs.declared.fault.Fault.{Fault}

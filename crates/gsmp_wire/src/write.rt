@@ -26,7 +26,10 @@ pub fn encode(message: &Message, out: &mut [u8]) -> usize
             40
         }
         Message::Branch {
-            kind, result, code, ..
+            kind,
+            result,
+            code,
+            ..
         } => {
             put_header(out, MessageType::Branch(*kind), *result, *code);
             put_connection(out, message);

@@ -1,31 +1,26 @@
 -- the octets of a message pass each test, and read back as that message
 
-use Rattle.std.proofs.Common.{◌≡◌, ℕ, ◌+◌, ◌-◌, ◌*◌, ◌≤◌, ◌<◌, ◌^◌, Bool, true, false, cond, eqb, leb, ltb, not, IsTrue, List, [], ◌∷◌, ◌++◌, length, drop, get_or, Option, Some, None, Result, Ok, Err, refl, ap, sym, ◌∙◌, subst, arith, lit≤}
+use Rattle.std.proofs.Common.{◌≡◌, ℕ, ◌-◌, ◌≤◌, true, false, cond, eqb, leb, ltb, List, length, drop, get_or, Option, None, Result, Ok, Err, refl, ap, sym, ◌∙◌, subst, arith, lit≤}
 use Rattle.std.specs.Prelude.{◌↔◌, IfOk}
 use Rattle.std.specs.Result.{result_err}
 use Rattle.std.specs.Option.{option_or}
-use Rattle.std.specs.Int.{w16, w32, to_be_bytes}
 use Rattle.std.proofs.lemmas.Bool.Decides.{nat_tests}
 use Rattle.std.proofs.lemmas.Nat.{from_be_bytes-to_be_bytes_2, from_be_bytes-to_be_bytes_4}
-use Rattle.net_types.specs.declared.adjacency.Hello.{Hello}
 use Rattle.net_types.specs.declared.adjacency.HelloKind.{HelloKind}
 use Rattle.net_types.specs.declared.adjacency.HelloKind.TheVariants.{Syn, Synack, Rstack, Ack}
-use Rattle.net_types.specs.declared.channel.Channel.{Channel}
-use Rattle.net_types.specs.declared.number.Instance.{Instance}
 use Rattle.octet_fields.specs.Fields.{u16_at, u32_at}
 use Rattle.ipv4_packet.specs.Packet.{internet_sum_of}
-use Rattle.flow_ids.specs.declared.flow.FlowKind.{FlowKind}
 use Rattle.flow_ids.specs.declared.flow.FlowKind.TheVariants.{One as ConnectionKind, Two as HostsKind}
 use Rattle.flow_ids.specs.declared.flow.FlowId.{FlowId}
 use Rattle.flow_ids.specs.declared.flow.FlowId.TheVariants.{One, Two}
-use Rattle.flow_ids.specs.Flow.{kind_of, has_ports, IsFlow}
-use Rattle.flow_ids.specs.Identifier.{identifier, FitsFields, has_zeros, has_fields}
+use Rattle.flow_ids.specs.Flow.{kind_of, IsFlow}
+use Rattle.flow_ids.specs.Identifier.{identifier, FitsFields, has_fields}
 use Rattle.flow_ids.proofs.IdentifierLemmas.{flow_at, flow_at-identifier}
 use Rattle.ifmp_wire.specs.declared.message.Message.{Message}
 use Rattle.ifmp_wire.specs.declared.message.Message.TheVariants.{Adjacency, Redirect, Reclaim, ReclaimAck, LabelRange, Error}
 use Rattle.ifmp_wire.specs.declared.reader.Fault.{Fault}
-use Rattle.ifmp_wire.specs.Message.{label_number, hello_code, flow_type, with_checksum, without_checksum, octets_of, body, op_code, InRange, FitsMessage, Tells}
-use Rattle.ifmp_wire.specs.Tests.{op_at, checksum_of, has_size, head_fault, identifier_fault, lifetime_fault, kind_fault, kind_at, flow_fault, body_fault, first_fault}
+use Rattle.ifmp_wire.specs.Message.{hello_code, flow_type, with_checksum, without_checksum, octets_of, body, op_code, InRange, FitsMessage, Tells}
+use Rattle.ifmp_wire.specs.Tests.{op_at, checksum_of, has_size, head_fault, kind_at, body_fault, first_fault}
 use Rattle.ifmp_wire.proofs.ReadLemmas.{sender_at, peer_at, label_at}
 
 -- the message whose fields stand in these octets

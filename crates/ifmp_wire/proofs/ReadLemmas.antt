@@ -1,25 +1,22 @@
 -- what octets tell, field by field
 
-use Rattle.std.proofs.Common.{◌≡◌, ℕ, ◌+◌, ◌-◌, ◌*◌, ◌≤◌, ◌<◌, ◌^◌, Bool, true, false, cond, eqb, leb, IsTrue, List, [], ◌∷◌, ◌++◌, length, take, drop, get_or, Option, Some, None, refl, ap, sym, ◌∙◌, arith, lit<}
-use Rattle.std.specs.Int.{w16, w32, to_be_bytes}
+use Rattle.std.proofs.Common.{◌≡◌, ℕ, ◌+◌, ◌-◌, ◌≤◌, ◌<◌, List, [], ◌∷◌, ◌++◌, length, take, drop, get_or, refl, ap, sym, ◌∙◌, arith, lit<}
+use Rattle.std.specs.Int.{w16, to_be_bytes}
 use Rattle.std.proofs.lemmas.List.{get_or-take, get_or-drop}
 use Rattle.std.proofs.lemmas.Bool.Decides.{nat_tests}
-use Rattle.net_types.specs.declared.adjacency.Hello.{Hello}
 use Rattle.net_types.specs.declared.adjacency.HelloKind.{HelloKind}
 use Rattle.net_types.specs.declared.channel.Channel.{Channel}
 use Rattle.net_types.specs.declared.number.Instance.{Instance}
-use Rattle.net_types.specs.declared.prefix.Addr.{Addr}
-use Rattle.octet_fields.specs.Fields.{u16_at, u32_at, written}
+use Rattle.octet_fields.specs.Fields.{u16_at, u32_at}
 use Rattle.ipv4_packet.specs.Packet.{internet_sum_of}
 use Rattle.octet_fields.proofs.FieldLemmas.{AreOctets, octet-then, u16-then, u32-then, nothing-then, u16_at-fits, u32_at-fits}
 use Rattle.flow_ids.specs.declared.flow.FlowId.{FlowId}
 use Rattle.flow_ids.specs.Flow.{kind_of}
-use Rattle.flow_ids.specs.Identifier.{identifier, identifier_size, Identifies}
+use Rattle.flow_ids.specs.Identifier.{identifier, Identifies}
 use Rattle.ifmp_wire.specs.declared.message.Names.{Names}
-use Rattle.ifmp_wire.specs.declared.message.Message.{Message}
 use Rattle.ifmp_wire.specs.declared.message.Message.TheVariants.{Adjacency, Redirect, Reclaim, ReclaimAck, LabelRange, Error}
-use Rattle.ifmp_wire.specs.Message.{label_octets, label_number, hello_code, flow_type, flow_words, with_names, flow_octets, with_checksum, without_checksum, octets_of, body, op_code, Tells}
-use Rattle.ifmp_wire.specs.Tests.{op_at, checksum_of, has_size, HasHead, HasKind}
+use Rattle.ifmp_wire.specs.Message.{label_octets, label_number, hello_code, with_names, flow_octets, with_checksum, without_checksum, Tells}
+use Rattle.ifmp_wire.specs.Tests.{op_at, checksum_of, HasHead, HasKind}
 
 octet-is : (octets : List ℕ) (place value : ℕ) (rest : List ℕ) → get_or octets place 0 ≡ value → place + 1 ≤ length octets → drop (place + 1) octets ≡ rest → drop place octets ≡ value ∷ rest
 octet-is octets place value rest is room behind = octet-then octets place rest room behind ∙ ap (λ (octet : ℕ). octet ∷ rest) is

@@ -4,9 +4,9 @@ ghost use Rattle.std.specs.Prelude.{◌≡◌, ◌<◌, ◌≤◌, length};
 
 use super::*;
 use flow_ids::FlowId;
-use octet_fields::put_u16;
 use ipv4_packet::internet_sum;
 use net_types::{Addr, Channel, Hello, HelloKind, Instance};
+use octet_fields::put_u16;
 
 const SENDER: Instance = Instance(1);
 

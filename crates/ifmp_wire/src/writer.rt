@@ -82,11 +82,40 @@ fn names_of(message: &Message) -> Names
             peer: hello.peer,
             number: hello.identity.0,
         },
-        Message::Redirect { sender, peer, number, .. }
-        | Message::Reclaim { sender, peer, number, .. }
-        | Message::ReclaimAck { sender, peer, number, .. }
-        | Message::LabelRange { sender, peer, number, .. }
-        | Message::Error { sender, peer, number, .. } => Names { sender, peer, number },
+        Message::Redirect {
+            sender,
+            peer,
+            number,
+            ..
+        }
+        | Message::Reclaim {
+            sender,
+            peer,
+            number,
+            ..
+        }
+        | Message::ReclaimAck {
+            sender,
+            peer,
+            number,
+            ..
+        }
+        | Message::LabelRange {
+            sender,
+            peer,
+            number,
+            ..
+        }
+        | Message::Error {
+            sender,
+            peer,
+            number,
+            ..
+        } => Names {
+            sender,
+            peer,
+            number,
+        },
     }
 }
 
@@ -113,10 +142,19 @@ fn write_rest(message: &Message, out: &mut [u8]) -> usize
             put_u32(out, 0, hello.next);
             4
         }
-        Message::Redirect { lifetime, label, flow, .. } => write_flow(lifetime, label, &flow, out),
+        Message::Redirect {
+            lifetime,
+            label,
+            flow,
+            ..
+        } => write_flow(lifetime, label, &flow, out),
         Message::Reclaim { label, flow, .. } => write_flow(0, label, &flow, out),
         Message::ReclaimAck { label, flow, .. } => write_flow(0, label, &flow, out),
-        Message::LabelRange { least, greatest, .. } => {
+        Message::LabelRange {
+            least,
+            greatest,
+            ..
+        } => {
             put_label(out, 0, least);
             put_label(out, 4, greatest);
             8
@@ -135,8 +173,8 @@ fn put_label(out: &mut [u8], place: usize, label: Channel)
     requires room { place + 4 ≤ length out.old }
     ensures { out.new ≡ written out.old place (label_octets label) }
 {
-    let [high, low] = label.vci.to_be_bytes();
-    put_octets(out, place, &[0, label.vpi as u8, high, low]);
+    put_octets(out, place, &[0, label.vpi as u8]);
+    put_u16(out, place + 2, label.vci);
 }
 
 /// Writes what a message says of a label and its flow; zero stands in place of a lifetime.

@@ -1,18 +1,18 @@
 -- one pass over distinct routes finds the best
 
-use Rattle.std.proofs.Common.{◌≡◌, ℕ, ◌<◌, ◌≤◌, ◌+◌, ◌-◌, ◌*◌, ◌/◌, ◌%◌, ◌^◌, Bool, true, false, not, ◌&&◌, ◌||◌, ◌==◌, nat_lt, List, [], ◌∷◌, ◌++◌, Option, None, Some, refl, sym, ◌∙◌, ap, arith, suc, zero, length, take, get_or, slice_get, add-one, ◌⊎◌, inl, inr, length-append}
+use Rattle.std.proofs.Common.{◌≡◌, ℕ, ◌<◌, ◌≤◌, ◌+◌, ◌-◌, ◌*◌, ◌/◌, ◌%◌, ◌^◌, Bool, true, false, not, ◌&&◌, ◌||◌, nat_lt, List, [], ◌∷◌, ◌++◌, Option, None, Some, refl, sym, ◌∙◌, ap, arith, suc, zero, length, take, get_or, slice_get, add-one, ◌⊎◌, inl, inr, length-append}
 use Rattle.std.proofs.Math.Seq.{take-suc, take-append_seam}
 use Rattle.std.proofs.lemmas.List.{take-append-le}
 use Rattle.std.proofs.lemmas.Option.{slice_get_within}
 use Rattle.ipv4_forward.specs.Room.{AreDistinct}
-use Rattle.std.specs.List.{list_all, list_any, find}
+use Rattle.std.specs.List.{list_all, find}
 use Rattle.std.proofs.lemmas.List.Folds.{list_all-append, find-append}
 use Rattle.std.proofs.lemmas.Bool.Decides.{nat_tests}
 use Rattle.std.proofs.lemmas.Nat.{pow_pos}
 use Rattle.net_types.specs.declared.prefix.Addr.{Addr}
 use Rattle.net_types.specs.Prefix.{Network, covers, IsNetwork}
 use Rattle.ipv4_forward.specs.declared.table.Route.{Route}
-use Rattle.ipv4_forward.specs.Best.{is_same, has_prefix, is_best, best}
+use Rattle.ipv4_forward.specs.Best.{is_same, has_prefix, is_best}
 use Rattle.ipv4_forward.specs.Longest.{is_below, IsFound, IsLongest}
 use Rattle.ipv4_forward.proofs.Tests.{passes_found, all_pass, find_agreed, find_nothing, find_absent}
 

@@ -1,6 +1,6 @@
 -- tests over lists, and what a search by them finds
 
-use Rattle.std.proofs.Common.{◌≡◌, Bool, true, false, not, ◌&&◌, ◌||◌, List, [], ◌∷◌, ◌++◌, Option, None, Some, refl, sym, ◌∙◌, ap}
+use Rattle.std.proofs.Common.{◌≡◌, Bool, true, false, List, [], ◌∷◌, None, Some, refl}
 use Rattle.std.specs.List.{list_all, list_any, find}
 
 -- what all pass, one that was found passes

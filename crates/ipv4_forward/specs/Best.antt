@@ -1,6 +1,6 @@
 -- The best route of an address: the longest prefix that covers it (RFC 1812 5.2.4.3)
 
-use Rattle.std.specs.Prelude.{ℕ, Bool, not, ◌&&◌, ◌||◌, ◌==◌, nat_lt, List, length, Option, None, Some, option_map, find, if◌then◌else◌}
+use Rattle.std.specs.Prelude.{Bool, not, ◌&&◌, ◌||◌, ◌==◌, nat_lt, List, length, Option, None, Some, option_map, find, if◌then◌else◌}
 use Rattle.std.specs.List.{list_all, list_any}
 use Rattle.net_types.specs.declared.prefix.Addr.{Addr}
 use Rattle.net_types.specs.Prefix.{Network, covers}

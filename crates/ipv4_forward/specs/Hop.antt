@@ -1,7 +1,6 @@
 -- What a router does with a packet (RFC 1812 5.2.1, 5.3.1)
 
 use Rattle.std.specs.Prelude.{ℕ, ◌-◌, nat_le, List, Option, None, Some, if◌then◌else◌}
-use Rattle.net_types.specs.declared.node.PortNo.{PortNo}
 use Rattle.ipv4_packet.specs.Packet.{ttl_of, destination_of, with_ttl, canonical}
 use Rattle.ipv4_forward.specs.Best.{best}
 use Rattle.ipv4_forward.specs.declared.table.Next.{Next}

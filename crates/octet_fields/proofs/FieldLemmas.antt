@@ -1,11 +1,11 @@
 -- a list of octets, told field by field
 
-use Rattle.std.proofs.Common.{◌≡◌, ℕ, zero, suc, ◌+◌, ◌^◌, ◌≤◌, ◌<◌, List, [], ◌∷◌, ◌++◌, length, take, drop, get_or, refl, ap, sym, ◌∙◌, arith, add-one}
-use Rattle.std.proofs.lemmas.List.{length-drop, length-take-le, take-append-drop, drop-drop, drop_all, get_or-drop}
+use Rattle.std.proofs.Common.{◌≡◌, ℕ, zero, suc, ◌+◌, ◌^◌, ◌≤◌, ◌<◌, List, [], ◌∷◌, ◌++◌, length, take, drop, get_or, refl, ap, sym, ◌∙◌, arith, add-one, append_assoc, length-append}
+use Rattle.std.proofs.lemmas.List.{length-drop, length-take, length-take-le, take-append-drop, drop-drop, drop_all, get_or-drop}
 use Rattle.std.proofs.lemmas.Nat.{be_bytes_2, be_bytes_4}
-use Rattle.std.proofs.Math.Seq.{drop-cons}
+use Rattle.std.proofs.Math.Seq.{drop-append-add, drop-cons, take-append_seam}
 use Rattle.std.specs.Int.{w16, w32, to_be_bytes}
-use Rattle.octet_fields.specs.Fields.{u16_at, u32_at}
+use Rattle.octet_fields.specs.Fields.{u16_at, u32_at, written}
 
 -- each is an octet
 abbrev pub AreOctets : List ℕ → Type 0
@@ -53,3 +53,18 @@ u32-then octets place rest small room behind =
 
 pub nothing-then : (octets : List ℕ) (size : ℕ) → length octets ≡ size → drop size octets ≡ []
 nothing-then octets size same = drop_all size octets (omega arith)
+
+-- a write right behind another
+pub written_then : (place j : ℕ) (xs ys old : List ℕ) → j ≡ place + length xs → place + length xs ≤ length old → written (written old place xs) j ys ≡ written old place (xs ++ ys)
+written_then place j xs ys old here room =
+    let size : length (take place old ++ xs) ≡ j = omega (arith, length-append (take place old) xs, length-take place old) in
+    let whole : written old place xs ≡ (take place old ++ xs) ++ drop (place + length xs) old = sym (append_assoc (take place old) xs (drop (place + length xs) old)) in
+    let front : take j (written old place xs) ≡ take place old ++ xs =
+    ap (take j) whole ∙ ap (λ (n : ℕ). take n ((take place old ++ xs) ++ drop (place + length xs) old)) (sym size) ∙ take-append_seam (take place old ++ xs) (drop (place + length xs) old) in
+    let far : place + length xs + length ys ≡ place + length (xs ++ ys) = omega (arith, length-append xs ys) in
+    let back : drop (j + length ys) (written old place xs) ≡ drop (place + length (xs ++ ys)) old =
+    ap (drop (j + length ys)) whole ∙ ap (λ (n : ℕ). drop (n + length ys) ((take place old ++ xs) ++ drop (place + length xs) old)) (sym size)
+    ∙ drop-append-add (take place old ++ xs) (drop (place + length xs) old) (length ys) ∙ drop-drop (length ys) (place + length xs) old ∙ ap (λ (n : ℕ). drop n old) far in
+    (λ i. front i ++ (ys ++ back i))
+    ∙ append_assoc (take place old) xs (ys ++ drop (place + length (xs ++ ys)) old)
+    ∙ ap (λ (rest : List ℕ). take place old ++ rest) (sym (append_assoc xs ys (drop (place + length (xs ++ ys)) old)))

@@ -1,8 +1,7 @@
-use Rattle.std.proofs.Common.{◌≡◌, ◌≢◌, ℕ, ◌+◌, ◌≤◌, List, ◌++◌, length, take, drop, None, refl, ap, sym, ◌∙◌, subst, arith}
+use Rattle.std.proofs.Common.{◌≡◌, ◌≢◌, ℕ, ◌+◌, take, ap, sym, ◌∙◌, subst}
 use Rattle.flow_ids.specs.declared.flow.FlowKind.{FlowKind}
 use Rattle.flow_ids.specs.Flow.{kind_of}
-use Rattle.ipv4_packet.specs.Packet.{canonical}
-use Rattle.flow_encaps.specs.Labelled.{rebuilt, head_size, left_out, said_checksum, checksum_at_ttl_zero, layout_fault, HasLayout}
+use Rattle.flow_encaps.specs.Labelled.{rebuilt, head_size, left_out, said_checksum, checksum_at_ttl_zero, HasLayout}
 use Rattle.flow_encaps.proofs.RebuiltLemmas.{long-rebuilt, checksum_at_ttl_zero-front, layout_fault-passed, unwrap_fault-checksum, unwrap_fault-none}
 use Rattle.flow_encaps.proofs.AnswerLemmas.{packet-joined}
 use Rattle.flow_encaps.proofs.labelled.put_together.Goals as goal

@@ -1,4 +1,4 @@
-use Rattle.std.proofs.Common.{◌≡◌, ℕ, ◌≤◌, List, length, Some, sym, ◌∙◌, subst, arith}
+use Rattle.std.proofs.Common.{◌≡◌, ◌≤◌, length, Some, sym, ◌∙◌, subst, arith}
 use Rattle.flow_ids.specs.declared.flow.FlowKind.{FlowKind}
 use Rattle.flow_ids.specs.declared.flow.FlowKind.TheVariants.{One, Two}
 use Rattle.flow_ids.specs.Flow.{kind_of, flow_of}

@@ -1,4 +1,4 @@
-use Rattle.std.proofs.Common.{◌≡◌, ℕ, List, [], ◌++◌, drop, refl, ap, ap₂, ◌∙◌}
+use Rattle.std.proofs.Common.{◌≡◌, [], ◌++◌, drop, refl, ap₂, ◌∙◌}
 use Rattle.ifmp_wire.specs.Message.{op_code, names_of, rest_of, with_names, without_checksum}
 use Rattle.ifmp_wire.proofs.WriteLemmas.{written-behind}
 use Rattle.ifmp_wire.proofs.writer.write_without_checksum.Goals as goal

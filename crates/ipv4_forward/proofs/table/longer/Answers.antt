@@ -1,4 +1,4 @@
-use Rattle.std.proofs.Common.{◌≡◌, ◌<◌, ◌≤◌, None, Some, true, sym, ◌∙◌, arith}
+use Rattle.std.proofs.Common.{◌≡◌, None, Some, true, sym, ◌∙◌, arith}
 use Rattle.net_types.specs.Prefix.{covers}
 use Rattle.ipv4_forward.specs.Longest.{IsLongest}
 use Rattle.ipv4_forward.proofs.Passing.{missed, first, longer_one, kept}
