@@ -1,0 +1,5 @@
+pub mod Feeds
+pub mod Buffers
+pub mod Sights
+pub mod Skips
+pub mod Puts

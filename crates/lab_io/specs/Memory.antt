@@ -5,8 +5,14 @@ use Rattle.std.specs.List.{list_any}
 use Rattle.lab_io.specs.declared.edge.Failed.{Failed}
 use Rattle.lab_io.specs.Fault.{counted}
 
--- what a source in memory is seen as: the octets that are left, the most that it gives at a time,
--- the calls that fail, and how many calls and faults there were
+-- what a source that never fails is seen as: the octets that are left, and the most that it gives at
+-- a time
+pub record Pieces : Type 0 where
+  pub left : List ℕ
+  pub piece : ℕ
+
+-- what a source that may fail is seen as: the same, the calls that fail, and how many calls and faults
+-- there were
 pub record Supply : Type 0 where
   pub left : List ℕ
   pub piece : ℕ
@@ -18,14 +24,14 @@ pub record Supply : Type 0 where
 abbrev pub is_failing : List ℕ → (calls : ℕ) → Bool
 is_failing failing calls = list_any (λ call. call == counted calls) failing
 
--- the octets that the next read gives into a buffer of this length, where it doesn't fail
-abbrev pub portion : Supply → (room : ℕ) → List ℕ
-portion supply room = take (min supply.piece room) supply.left
+-- the octets that a read gives into a buffer of this length, where it doesn't fail
+abbrev pub portion : (piece : ℕ) → (left : List ℕ) → (room : ℕ) → List ℕ
+portion piece left room = take (min piece room) left
 
 -- a read into a buffer of this length: its answer, and what the source is afterwards
 abbrev pub read_answer : Supply → (room : ℕ) → Result ℕ Failed
 read_answer supply room =
-    if is_failing supply.failing supply.calls then Err (record {}) else Ok (length (portion supply room))
+    if is_failing supply.failing supply.calls then Err (record {}) else Ok (length (portion supply.piece supply.left room))
 
 abbrev pub after_read : Supply → (room : ℕ) → Supply
 after_read supply room =

@@ -1,13 +1,22 @@
 //! The edge of the program: where octets come from and where they go, each with a count of its
-//! faults, and the two loops that move whole inputs and outputs over it.
+//! faults; the two loops that move whole inputs and outputs over it; and what moves them as they
+//! come, the lines of an input and a report.
 #![tactic(auto)]
 
 mod edge;
+mod line_reader;
 mod memory;
+mod report_writer;
 mod standard;
+mod sure;
+#[cfg(test)]
+mod tests;
 mod transfer;
 
 pub use edge::{Failed, Sink, Source};
+pub use line_reader::{LineReader, NextLine};
 pub use memory::{MemSink, MemSource};
+pub use report_writer::ReportWriter;
 pub use standard::{StdSink, StdSource};
+pub use sure::{SureSink, SureSource};
 pub use transfer::{InputFault, read_to_end, write_all};

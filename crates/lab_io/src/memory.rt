@@ -1,13 +1,14 @@
 //! A source and a sink in memory, which move octets in pieces and fail at the calls that they are
 //! told to fail at.
 
-ghost use Rattle.std.specs.Prelude.{◌≡◌, ◌<◌, ◌++◌, [], length, min, take, drop, Some, is_err, IfOk, OnOk, OnErr};
+ghost use Rattle.std.specs.Prelude.{◌≡◌, ◌<◌, [], length, Some, is_err, IfOk, OnOk, OnErr};
 ghost use Rattle.std.specs.Io.{ReadsAtMost, WritesAtMost};
 ghost use Rattle.std.specs.Io.KnownBytes.{ReadConsumes, WriteAppends};
 ghost use Rattle.lab_io.specs.Fault.{count_after, write_failed};
 ghost use Rattle.lab_io.specs.Memory.{is_failing, portion, read_answer, after_read, written_over, write_answer, after_write};
 
 use crate::edge::{Failed, Sink, Source};
+use crate::sure::SureSource;
 use net_types::OutOfMemory;
 use std::alloc::Global;
 use std::marker::Model;
@@ -23,43 +24,27 @@ fn is_listed(failing: &[u32], calls: u64) -> bool
     failing.iter().any(|call| *call as u64 == next)
 }
 
-/// Copies octets over the front of `buf`, as many as fit but at most `piece`, and answers how many.
-fn give(buf: &mut [u8], octets: &[u8], piece: usize) -> usize
-    ensures count { result ≡ length (take (min piece (length buf.old)) octets.now) }
-    ensures front { take result buf.new ≡ take result octets.now }
-    ensures rest { drop result buf.new ≡ drop result buf.old }
-{
-    let count = piece.min(buf.len()).min(octets.len());
-    buf[..count].copy_from_slice(&octets[..count]);
-    count
-}
-
-/// A source of octets in memory.
+/// A source of octets in memory that fails where it is told to.
 #[derive(Debug, Drop)]
 pub struct MemSource {
-    octets: Vec<u8>,
-    at: usize,
-    piece: usize,
+    octets: SureSource,
     failing: Vec<u32>,
     calls: u64,
     faults: u64,
 }
 
 impl Model for MemSource {
-    ghost use Rattle.std.specs.Prelude.{◌<◌, ◌≤◌, length, drop};
     ghost use Rattle.lab_io.specs.Memory.{Supply};
 
     ghost Value = { Supply };
 
     ghost view = { λ s. record {
-      left = drop s.at s.octets.items;
-      piece = s.piece;
+      left = s.octets.left;
+      piece = s.octets.piece;
       failing = s.failing.items;
       calls = s.calls;
       faults = s.faults;
     } };
-
-    ghost invariant = { λ s. (s.at ≤ length s.octets.items) × (0 < s.piece) };
 }
 
 impl MemSource {
@@ -76,9 +61,7 @@ impl MemSource {
         } }
     {
         MemSource {
-            octets,
-            at: 0,
-            piece,
+            octets: SureSource::new(octets, piece),
             failing,
             calls: 0,
             faults: 0,
@@ -99,7 +82,7 @@ impl Source for MemSource {
 
         ensures answer { result ≡ read_answer self.old (length buf.old) }
         ensures after { self.new ≡ after_read self.old (length buf.old) }
-        ensures given { OnOk result (buf.new ≡ written_over buf.old (portion self.old (length buf.old))) }
+        ensures given { OnOk result (buf.new ≡ written_over buf.old (portion self.old.piece self.old.left (length buf.old))) }
         ensures kept { OnErr result (buf.new ≡ buf.old) }
     {
         let fails = is_listed(self.failing.as_slice(), self.calls);
@@ -108,9 +91,7 @@ impl Source for MemSource {
             self.faults = self.faults.saturating_add(1);
             return Err(Failed);
         }
-        let count = give(buf, &self.octets[self.at..], self.piece);
-        self.at += count;
-        Ok(count)
+        self.octets.read(buf)
     }
 }
 

@@ -1,6 +1,6 @@
 use Rattle.std.proofs.Common.{◌≡◌, ◌+◌, ◌-◌, ◌<◌, ◌++◌, ◌∙◌, ℕ, List, [], min, length, take, drop, arith, ap, sym, length-take, length-drop}
 use Rattle.std.proofs.lemmas.List.{take-append-drop, drop-drop, nil_from_length, take_rest}
-use Rattle.lab_io.proofs.memory.MemSourceSource.read.Goals as goal
+use Rattle.lab_io.proofs.sure.SureSourceSource.read.Goals as goal
 
 -- what was left is what was given and then what is left
 given_and_left : (items buffer : List ℕ) (at count : ℕ)
