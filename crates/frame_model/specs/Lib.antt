@@ -1,3 +1,4 @@
 pub mod Reassembly
 pub mod Frame
+pub mod Sending
 pub mod Stretch

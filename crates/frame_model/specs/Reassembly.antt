@@ -91,6 +91,10 @@ abbrev pub noted_all : Journal → List Record → Journal
 noted_all notes [] = notes
 noted_all notes (item ∷ items) = noted_all (noted notes item) items
 
--- a channel is cut: each mark of its chain gets Cut, and the chain and a skipping end
+-- each mark of these cells gets Cut, once
+abbrev pub cut_chain : Journal → List Cell → Journal
+cut_chain notes cells = noted_all notes (map (λ mark. Loss mark Cut) (distinct (marks_of cells)))
+
+-- a channel is cut, and its chain and a skipping end
 abbrev pub cut : Journal → Reassembly → Journal
-cut notes r = noted_all notes (map (λ mark. Loss mark Cut) (distinct (marks_of r.chain)))
+cut notes r = cut_chain notes r.chain

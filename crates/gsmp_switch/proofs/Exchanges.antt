@@ -1,14 +1,22 @@
 -- A fabric and its chain, against what they are seen as
 
-use Rattle.std.proofs.Common.{◌≡◌, ℕ, ◌+◌, List, [], ◌∷◌, length, map, replicate, take, slice_set, ◌++◌, ◌<◌, ap, refl, arith}
+use Rattle.std.proofs.Common.{◌≡◌, ◌∙◌, Bool, true, false, cond, Result, Ok, Err, ℕ, ◌+◌, List, [], ◌∷◌, length, map, replicate, take, slice_set, ◌++◌, ◌<◌, ap, refl, arith}
 use Rattle.std.proofs.lemmas.Grind.{common_steps}
 use Rattle.std.proofs.lemmas.List.{take_more_set}
+use Rattle.std.specs.Prelude.{nat_le, OnOk, OnErr}
+use Rattle.net_types.specs.declared.node.PortNo.{PortNo}
+use Rattle.net_types.specs.declared.channel.Channel.{Channel}
+use Rattle.net_types.specs.declared.number.Mark.{Mark}
+use Rattle.net_types.specs.declared.memory.OutOfMemory.{OutOfMemory}
 use Rattle.atm_cells.specs.declared.cell.Cell.{Cell}
+use Rattle.link_model.specs.Notes.{Journal}
+use Rattle.frame_model.specs.Frame.{frame_cells}
+use Rattle.frame_model.specs.Sending.{Sent, sent_frame}
 use Rattle.std.specs.List.{sum_by}
 use Rattle.cell_pool.specs.Region.{Line, Region, size, cells_of, len_of, IsLine}
 use Rattle.cell_pool.specs.Shares.{len_of_all}
 use Rattle.cell_pool.proofs.Lines.{apart_empty, length-cells_of, len_of_all-cells}
-use Rattle.crossbar_model.specs.Crossbar.{Branches, Crossbar}
+use Rattle.crossbar_model.specs.Crossbar.{Branches, Crossbar, sent}
 use Rattle.fabric.specs.Fabric.{FabricView, ChainChanges, crossbar, free_slots}
 use Rattle.gsmp_switch.specs.Exchange.{AreOneRegion, Store, free_in, store_of}
 
@@ -64,3 +72,16 @@ taken_more out i c rest all within h = grind (arith, common_steps, take_more_set
 
 pub length_set : (out : List Cell) (i : ℕ) (c : Cell) → length (slice_set out i c) ≡ length out
 length_set out i c = grind (arith, common_steps)
+
+-- *Sending a frame keeps the ports*
+
+sent_by : (b : Bool) (linked : List PortNo) (all none : Sent Store) → all.queues.ports ≡ linked → none.queues.ports ≡ linked → (cond b all none).queues.ports ≡ linked
+sent_by true linked all none all_keep none_keep = all_keep
+sent_by false linked all none all_keep none_keep = none_keep
+
+pub ports_after_frame : (r : Result Unit OutOfMemory) (port : PortNo) (channel : Channel) (mark : Mark) (payload : List ℕ) (old new : Store) (before after : Journal)
+    → OnOk r (record { queues = new; notes = after } ≡ sent_frame (free_in old) (λ cells. record old { crossbar = sent old.crossbar port cells }) (record { queues = old; notes = before }) channel mark payload)
+    → OnErr r (new ≡ old) → new.ports ≡ old.ports
+ports_after_frame (Ok done) port channel mark payload old new before after is fails =
+    ap (λ (s : Sent Store). s.queues.ports) is ∙ sent_by (nat_le (length (frame_cells channel mark payload)) (free_in old)) old.ports _ _ refl refl
+ports_after_frame (Err error) port channel mark payload old new before after is fails = ap (λ (x : Store). x.ports) fails

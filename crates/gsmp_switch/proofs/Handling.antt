@@ -14,16 +14,16 @@ use Rattle.gsmp_wire.proofs.Places.{both}
 use Rattle.link_model.specs.Notes.{Journal}
 use Rattle.crossbar_model.specs.Channels.{IsConnectable, IsOfPort, IsVci}
 use Rattle.crossbar_model.specs.Crossbar.{Branches}
-use Rattle.node_model.specs.declared.port.PortState.{PortState}
-use Rattle.node_model.specs.declared.request.Asked.{Asked}
+use Rattle.switch_model.specs.declared.port.PortState.{PortState}
+use Rattle.switch_model.specs.declared.request.Asked.{Asked}
 use Rattle.gsmp_wire.specs.declared.request.Request.{Request}
-use Rattle.node_model.specs.declared.request.Failure.{Failure}
-use Rattle.node_model.specs.declared.request.Failure.TheVariants.{NoPort, BadSession, PortDown, OutOfRange, SessionsSpent}
+use Rattle.switch_model.specs.declared.request.Failure.{Failure}
+use Rattle.switch_model.specs.declared.request.Failure.TheVariants.{NoPort, BadSession, PortDown, OutOfRange, SessionsSpent}
 use Rattle.gsmp_wire.specs.declared.request.Request.TheVariants.{AddBranch, MoveBranch, DeleteTree, VerifyTree, DeleteAll, PortManagement, AllPorts as AllPortsAsked}
-use Rattle.node_model.specs.Switch.{Switch, control_port, has_port, has_session, is_up, port_of}
-use Rattle.node_model.specs.Requests.{asked_in}
-use Rattle.node_model.specs.Failures.{failure_of, is_connectable, is_path, is_vci, named_ends, named_ports, names_session, used_ports}
-use Rattle.node_model.specs.Answers.{carried_out, failure_answer, handled, handled_asked, handled_by}
+use Rattle.switch_model.specs.Switch.{Switch, control_port, has_port, has_session, is_up, port_of}
+use Rattle.switch_model.specs.Requests.{asked_in}
+use Rattle.switch_model.specs.Failures.{failure_of, is_connectable, is_path, is_vci, named_ends, named_ports, names_session, used_ports}
+use Rattle.switch_model.specs.Answers.{carried_out, failure_answer, handled, handled_asked, handled_by}
 use Rattle.gsmp_switch.specs.State.{AreStatesOf, CanRaise}
 use Rattle.gsmp_switch.proofs.PortStates.{has_port_small, numbers_of}
 

@@ -1,4 +1,3 @@
-pub mod Cuts
 pub mod Exchanges
 pub mod Handling
 pub mod Inputs

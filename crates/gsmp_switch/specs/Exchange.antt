@@ -9,7 +9,7 @@ use Rattle.cell_pool.specs.Shares.{IsApartFromEach, len_of_all}
 use Rattle.crossbar_model.specs.Crossbar.{Crossbar}
 use Rattle.fabric.specs.Fabric.{FabricView, crossbar, free_slots}
 use Rattle.link_model.specs.Notes.{Journal}
-use Rattle.node_model.specs.Requests.{Changed}
+use Rattle.switch_model.specs.Requests.{Changed}
 
 -- the ports besides port 0, the crossbar, the cells of the chain, and how many slots there are
 pub record Store : Type 0 where

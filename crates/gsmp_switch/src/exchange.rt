@@ -13,6 +13,7 @@ ghost use Rattle.gsmp_switch.specs.Exchange.{AreOneRegion, free_in, store_of};
 use atm_cells::Cell;
 use cell_pool::Chain;
 use fabric::{Fabric, Routed};
+use frame_model::Queues;
 use net_types::{End, Mark, OutOfMemory, PortNo};
 use std::alloc::Global;
 use std::marker::Model;
@@ -132,18 +133,6 @@ impl Exchange {
         self.fabric.switch_cell(port, cell)
     }
 
-    /// Puts the cells at the end of a port's queue, or none of them. False exactly where fewer slots
-    /// are free than cells.
-    #[tactic(auto, using(crate::proofs::Exchanges::free_is, crate::proofs::Exchanges::chain_length))]
-    pub(crate) fn send(&mut self, port: PortNo, cells: &[Cell]) -> bool
-        requires { port.0 ≤ 8 }
-        ensures all { IsTrue result ↔ (length cells.now ≤ free_in self.old) }
-        ensures sent { OnTrue result (self.new ≡ record self.old { crossbar = sent self.old.crossbar port cells.now }) }
-        ensures none { OnFalse result (self.new ≡ self.old) }
-    {
-        self.fabric.send(port, cells)
-    }
-
     /// Takes the first cell of a port's queue.
     pub(crate) fn pop(&mut self, port: PortNo) -> Option<Cell>
         requires { port.0 ≤ 8 }
@@ -204,5 +193,27 @@ impl Exchange {
         let Exchange { mut fabric, chain } = self;
         fabric.chain_drain(chain);
         fabric.abandon();
+    }
+}
+
+impl Queues<PortNo> for Exchange {
+    ghost use Rattle.std.specs.Prelude.{◌≤◌};
+    ghost use Rattle.crossbar_model.specs.Crossbar.{sent};
+    ghost use Rattle.gsmp_switch.specs.Exchange.{free_in};
+
+    ghost free = { free_in };
+
+    ghost with_cells = { λ x port cells. record x { crossbar = sent x.crossbar port cells } };
+
+    ghost has_queue = { λ x port. port.0 ≤ 8 };
+
+    #[tactic(auto, using(crate::proofs::Exchanges::free_is, crate::proofs::Exchanges::chain_length))]
+    fn send(&mut self, port: PortNo, cells: &[Cell]) -> bool
+        requires { port.0 ≤ 8 }
+        ensures all { IsTrue result ↔ (length cells.now ≤ free_in self.old) }
+        ensures sent { OnTrue result (self.new ≡ record self.old { crossbar = sent self.old.crossbar port cells.now }) }
+        ensures none { OnFalse result (self.new ≡ self.old) }
+    {
+        self.fabric.send(port, cells)
     }
 }

@@ -1,12 +1,12 @@
 //! The ports of a switch, by their numbers.
 
 ghost use Rattle.std.specs.Prelude.{◌≡◌, ◌∷◌, ◌<◌, ◌+◌, ◌^◌, map, IfOk, IfSome};
-ghost use Rattle.node_model.specs.Switch.{begun, control_port, has_port, has_session, is_up, port_of, with_port};
-ghost use Rattle.node_model.specs.Requests.{managed, ports_after};
+ghost use Rattle.switch_model.specs.Switch.{begun, control_port, has_port, has_session, is_up, port_of, with_port};
+ghost use Rattle.switch_model.specs.Requests.{managed, ports_after};
 ghost use Rattle.gsmp_switch.specs.State.{CanRaise};
 
 use net_types::{Instance, OutOfMemory, PortNo};
-use node_model::{PortState, Request};
+use switch_model::{PortState, Request};
 use std::alloc::Global;
 
 /// The function of Port Management that brings a port up.

@@ -1,34 +1,32 @@
 //! The switch.
 
 ghost use Rattle.std.specs.Prelude.{◌≡◌, ◌∷◌, ◌⊎◌, ◌≤◌, ◌<◌, ◌+◌, ◌^◌, true, length, slice_get, All, IfOk, OnOk};
-ghost use Rattle.net_types.specs.Number.{GivenOut};
+ghost use Rattle.net_types.specs.Number.{AreDrawn, GivenOut, HasNumbersLeft, next_instance, with_instance};
 ghost use Rattle.crossbar_model.specs.Channels.{ArePorts};
 ghost use Rattle.crossbar_model.specs.Crossbar.{output_of, popped, queue_of};
 ghost use Rattle.fabric.specs.Fabric.{crossbar};
 ghost use Rattle.gsmp_wire.specs.Range.{Bits, IsInRange};
-ghost use Rattle.node_model.specs.Switch.{AreDrawn, HasNumbersLeft, next_instance, opened, switch_party, with_instance};
-ghost use Rattle.node_model.specs.Requests.{is_request};
-ghost use Rattle.node_model.specs.Answers.{handled};
-ghost use Rattle.node_model.specs.Conduct.{answers, cell_comes, ends_frame, greeted, gsmp_cell, one_more, opened_frame, read, requested, reset, restarted, says, switched_cell, tick_comes, told};
+ghost use Rattle.switch_model.specs.Switch.{has_port, opened, switch_party};
+ghost use Rattle.switch_model.specs.Requests.{is_request};
+ghost use Rattle.switch_model.specs.Answers.{handled};
+ghost use Rattle.switch_model.specs.Conduct.{answers, cell_comes, ends_frame, forged, greeted, gsmp_cell, one_more, opened_frame, read, requested, reset, restarted, says, switched_cell, tick_comes, told};
 ghost use Rattle.adjacency_table.specs.Side.{fresh, is_estab};
 ghost use Rattle.gsmp_switch.specs.State.{acted};
 
 use crate::answer::{failure_answer, success_answer};
 use crate::change::{change, clear_all};
-use crate::cut::note_cut_chain;
 use crate::exchange::Exchange;
 use crate::ports::{begin, change_ports, opened_ports};
 use crate::request::{asked_in, failure_of, is_request};
-use aal5_frames::segment;
 use atm_cells::{Cell, Header};
 use fabric::{Fabric, Routed};
-use frame_model::{note_broken, test_frame};
+use frame_model::{note_broken, note_cut_chain, send_frame, test_frame};
 use gsmp_adjacency::{Adjacency, Answer, State};
 use gsmp_wire::{Message, decode, encode};
 use link_model::{Cause, Layer, Notes, Record};
 use net_types::{Channel, End, Greeting, Mark, NodeId, Numbers, OutOfMemory, Party, PortNo};
-use node_model::{Failure, PortState};
 use refusal_names::gsmp_refusal;
+use switch_model::{Failure, PortState};
 use std::alloc::Global;
 use std::marker::Model;
 
@@ -46,9 +44,6 @@ const MAX_FRAME: usize = 1536;
 
 /// The greatest message, in octets: an All Ports answer with nine records.
 const MAX_MESSAGE: usize = 164;
-
-/// How many cells such a message has.
-const MESSAGE_CELLS: usize = 4;
 
 /// A cell of zeros, which fills buffers.
 const BLANK: Cell = Cell {
@@ -90,7 +85,7 @@ impl Model for Switch {
     ghost use Rattle.crossbar_model.specs.Channels.{end_cmp};
     ghost use Rattle.net_types.specs.contracts.channel.End as end_contract;
     ghost use Rattle.crossbar_model.specs.contracts.branch.Branch as branch_contract;
-    ghost use Rattle.node_model.specs.Switch as model;
+    ghost use Rattle.switch_model.specs.Switch as model;
     ghost use Rattle.gsmp_switch.specs.State.{AreStatesOf};
 
     ghost Value = { model.Switch };
@@ -159,16 +154,7 @@ impl Switch {
         let mut octets = [0; MAX_MESSAGE];
         let len = encode(message, &mut octets);
         let payload = &octets[..len];
-        notes.made(mark, payload)?;
-        let mut cells = [BLANK; MESSAGE_CELLS];
-        let count = segment(payload, GSMP_CHANNEL, mark, &mut cells);
-        if !self.exchange.send(CONTROL_PORT, &cells[..count]) {
-            notes.push(Record::Loss {
-                mark,
-                cause: Cause::PoolFull,
-            })?;
-        }
-        Ok(())
+        send_frame(&mut self.exchange, CONTROL_PORT, GSMP_CHANNEL, mark, payload, notes)
     }
 
     /// Sends an adjacency message.
@@ -449,6 +435,24 @@ impl Switch {
         self.adjacency.reset(own);
         begin(&mut self.ports, own);
         Ok(())
+    }
+
+    /// Puts the cells of a frame of 1 to 1528 octets at the end of a port's queue: whole, or not at all
+    /// with the entry PoolFull. The port is 0 or one of the linked ports.
+    pub fn forge(
+        &mut self,
+        port: PortNo,
+        channel: Channel,
+        payload: &[u8],
+        mark: Mark,
+        notes: &mut Notes,
+    ) -> Result<(), OutOfMemory>
+        requires port { has_port self.old.ports port ≡ true }
+        requires channel { channel.vpi ≤ 255 }
+        requires payload { (1 ≤ length payload.now) × (length payload.now ≤ 1528) }
+        ensures { (numbers : GivenOut) → OnOk result (acted self.new notes.new numbers ≡ forged (acted self.old notes.old numbers) port channel mark payload.now) }
+    {
+        send_frame(&mut self.exchange, port, channel, mark, payload, notes)
     }
 
     /// Takes the first cell that waits at a port, 0 to 8. None exactly where none waits there.

@@ -1,6 +1,6 @@
 //! Numbers that rise over a whole run: instances of adjacencies and marks of control frames.
 
-ghost use Rattle.std.specs.Prelude.{◌≡◌, ◌+◌, ◌-◌, ◌^◌, ◌<◌};
+ghost use Rattle.std.specs.Prelude.{◌≡◌, ◌-◌, ◌^◌, ◌<◌};
 
 use std::marker::Model;
 
@@ -34,6 +34,8 @@ impl Model for Numbers {
 }
 
 impl Numbers {
+    ghost use Rattle.net_types.specs.Number.{next_control, next_instance, with_control, with_instance};
+
     /// Nothing is given out yet.
     pub fn new() -> Numbers
         ensures { result ≡ record { instances = 0; controls = 0 } }
@@ -47,8 +49,8 @@ impl Numbers {
     /// The next instance, from 1.
     pub fn instance(&mut self) -> Instance
         requires { self.old.instances < 2 ^ 32 - 1 }
-        ensures next { result.0 ≡ self.old.instances + 1 }
-        ensures given { self.new ≡ record self.old { instances = self.old.instances + 1 } }
+        ensures next { result ≡ next_instance self.old }
+        ensures given { self.new ≡ with_instance self.old }
     {
         self.instances += 1;
         Instance(self.instances)
@@ -57,8 +59,8 @@ impl Numbers {
     /// The mark of the next control frame, from 0.1.
     pub fn control(&mut self) -> Mark
         requires { self.old.controls < 2 ^ 64 - 1 }
-        ensures next { result ≡ record { packet = 0; frame = self.old.controls + 1 } }
-        ensures given { self.new ≡ record self.old { controls = self.old.controls + 1 } }
+        ensures next { result ≡ next_control self.old }
+        ensures given { self.new ≡ with_control self.old }
     {
         self.controls += 1;
         Mark {

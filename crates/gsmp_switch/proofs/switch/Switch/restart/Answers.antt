@@ -1,5 +1,4 @@
-use Rattle.std.proofs.Common.{◌≡◌, ◌∙◌, ℕ, ap, refl}
-use Rattle.node_model.specs.Switch.{next_instance}
+use Rattle.std.proofs.Common.{◌∙◌, ap, refl}
 use Rattle.gsmp_switch.specs.Exchange.{Store}
 use Rattle.gsmp_switch.proofs.PortStates.{states_begun}
 use Rattle.gsmp_switch.proofs.switch.Switch.restart.Goals as goal
@@ -11,6 +10,4 @@ invariant_of-self-2 c =
 
 pub returns-clause-acted : goal.returns-clause-acted
 returns-clause-acted c =
-    let own : c.instance-own.result ≡ next_instance c.args.numbers.now = ap (λ (n : ℕ). record { 0 = n }) c.instance-own.ensures.next in
-    let entries = c.in_ok-note_cut_chain.ensures c.self.inside.is_skipping in
-    rw (← c.self.view_is, entries, c.begin.ensures, c.reset.ensures, c.instance-own.ensures.given, c.take_chain-held.ensures.taken, c.take_chain-held.ensures.left, c.in_ok-clear_all.ensures.exchange, c.in_ok-clear_all.ensures.notes, own) refl
+    rw (← c.self.view_is, c.in_ok-note_cut_chain.ensures, c.begin.ensures, c.reset.ensures, c.instance-own.ensures.given, c.take_chain-held.ensures.taken, c.take_chain-held.ensures.left, c.in_ok-clear_all.ensures.exchange, c.in_ok-clear_all.ensures.notes, c.instance-own.ensures.next) refl

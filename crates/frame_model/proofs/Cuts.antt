@@ -11,13 +11,10 @@ use Rattle.link_model.specs.declared.record.Record.TheVariants.{Loss}
 use Rattle.link_model.specs.declared.record.Cause.TheVariants.{Cut}
 use Rattle.link_model.specs.Ledger.{same_mark}
 use Rattle.link_model.specs.Notes.{Journal, noted}
-use Rattle.frame_model.specs.Reassembly.{distinct, marks_of, noted_all}
+use Rattle.frame_model.specs.Reassembly.{cut_chain, distinct, marks_of, noted_all}
 
 abbrev cuts_of : List Mark → List Record
 cuts_of marks = map (λ mark. Loss mark Cut) marks
-
-abbrev pub noted_cuts : Journal → List Cell → Journal
-noted_cuts notes cells = noted_all notes (cuts_of (distinct (marks_of cells)))
 
 abbrev if_new : Bool → Mark → List Mark
 if_new known mark = cond known [] (mark ∷ [])
@@ -65,26 +62,26 @@ new_noted notes true mark = refl
 new_noted notes false mark = refl
 
 -- the entries of one more cell
-cuts_more : (notes : Journal) (xs : List Cell) (i : ℕ) (d : Cell) → i < length xs → noted_cuts notes (take (i + 1) xs) ≡ (if list_any (λ cell. same_mark cell.mark (get_or xs i d).mark) (take i xs) then noted_cuts notes (take i xs) else noted (noted_cuts notes (take i xs)) (Loss (get_or xs i d).mark Cut))
+cuts_more : (notes : Journal) (xs : List Cell) (i : ℕ) (d : Cell) → i < length xs → cut_chain notes (take (i + 1) xs) ≡ (if list_any (λ cell. same_mark cell.mark (get_or xs i d).mark) (take i xs) then cut_chain notes (take i xs) else noted (cut_chain notes (take i xs)) (Loss (get_or xs i d).mark Cut))
 cuts_more notes xs i d within =
     let cell = get_or xs i d in
     let before = take i xs in
     let known = list_any (λ x. same_mark x.mark cell.mark) before in
     let more : take (i + 1) xs ≡ before ++ cell ∷ [] = grind (arith, common_steps, within) in
-    ap (noted_cuts notes) more
+    ap (cut_chain notes) more
     ∙ ap (λ (ms : List Mark). noted_all notes (cuts_of (distinct ms))) (marks_of-push before cell)
     ∙ ap (λ (ms : List Mark). noted_all notes (cuts_of ms)) (distinct_push (marks_of before) cell.mark ∙ ap (λ (b : Bool). distinct (marks_of before) ++ if_new b cell.mark) (any_mark before cell.mark))
     ∙ ap (noted_all notes) (cuts_of-append (distinct (marks_of before)) (if_new known cell.mark))
     ∙ noted_all-append notes (cuts_of (distinct (marks_of before))) (cuts_of (if_new known cell.mark))
-    ∙ new_noted (noted_cuts notes before) known cell.mark
+    ∙ new_noted (cut_chain notes before) known cell.mark
 
-pub cuts_step : (notes now next : Journal) (xs : List Cell) (i : ℕ) (d : Cell) → i < length xs → now ≡ noted_cuts notes (take i xs) → next ≡ (if list_any (λ cell. same_mark cell.mark (get_or xs i d).mark) (take i xs) then now else noted now (Loss (get_or xs i d).mark Cut)) → next ≡ noted_cuts notes (take (i + 1) xs)
+pub cuts_step : (notes now next : Journal) (xs : List Cell) (i : ℕ) (d : Cell) → i < length xs → now ≡ cut_chain notes (take i xs) → next ≡ (if list_any (λ cell. same_mark cell.mark (get_or xs i d).mark) (take i xs) then now else noted now (Loss (get_or xs i d).mark Cut)) → next ≡ cut_chain notes (take (i + 1) xs)
 cuts_step notes now next xs i d within before h =
     h
     ∙ ap (λ (n : Journal). if list_any (λ cell. same_mark cell.mark (get_or xs i d).mark) (take i xs) then n else noted n (Loss (get_or xs i d).mark Cut)) before
     ∙ sym (cuts_more notes xs i d within)
 
-pub cuts_all : (notes now : Journal) (xs : List Cell) (i : ℕ) → length xs ≤ i → now ≡ noted_cuts notes (take i xs) → now ≡ noted_cuts notes xs
+pub cuts_all : (notes now : Journal) (xs : List Cell) (i : ℕ) → length xs ≤ i → now ≡ cut_chain notes (take i xs) → now ≡ cut_chain notes xs
 cuts_all notes now xs i whole h =
     let all : take i xs ≡ xs = grind (arith, common_steps, whole) in
-    h ∙ ap (noted_cuts notes) all
+    h ∙ ap (cut_chain notes) all

@@ -1,7 +1,7 @@
 -- A switch as plain data. Its ports and their sessions are RFC 1987's; the limit of slots, the names
 -- of the parties and the count of cells are this project's own.
 
-use Rattle.std.specs.Prelude.{ℕ, Bool, true, false, ◌+◌, ◌-◌, ◌<◌, ◌≤◌, ◌^◌, ◌==◌, List, [], ◌∷◌, length, map, replicate, find, Option, is_some, if◌then◌else◌}
+use Rattle.std.specs.Prelude.{ℕ, Bool, true, false, ◌+◌, ◌-◌, ◌==◌, List, [], ◌∷◌, length, map, replicate, find, Option, is_some, if◌then◌else◌}
 use Rattle.std.specs.List.{sum_by}
 use Rattle.std.specs.Option.{option_map_or}
 use Rattle.std.specs.FinMap.{empty}
@@ -16,7 +16,7 @@ use Rattle.adjacency_table.specs.Side.{Side, fresh}
 use Rattle.link_model.specs.Notes.{Journal}
 use Rattle.frame_model.specs.Reassembly.{Reassembly, nothing_taken}
 use Rattle.crossbar_model.specs.Crossbar.{Branches, Crossbar}
-use Rattle.node_model.specs.declared.port.PortState.{PortState}
+use Rattle.switch_model.specs.declared.port.PortState.{PortState}
 
 -- its ports, the control port 0 first and then those of links, ascending; its branches and the cells
 -- that wait at its ports; what it makes of the cells of the GSMP channel; its side of the adjacency
@@ -36,16 +36,6 @@ pub record Acted : Type 0 where
   pub switch : Switch
   pub notes : Journal
   pub numbers : GivenOut
-
--- what a call may need: 20 instances and 1,000,000 control marks are left
-pub record HasNumbersLeft (numbers : GivenOut) : Type 0 where
-  pub instances : numbers.instances + 20 < 2 ^ 32
-  pub controls : numbers.controls + 1000000 < 2 ^ 64
-
--- and what it draws at most
-pub record AreDrawn (old new : GivenOut) : Type 0 where
-  pub instances : (old.instances ≤ new.instances) × (new.instances ≤ old.instances + 20)
-  pub controls : (old.controls ≤ new.controls) × (new.controls ≤ old.controls + 1000000)
 
 -- the control port, and the channel of GSMP there: VPI 0, VCI 15 (RFC 1987)
 abbrev pub control_port : PortNo
@@ -90,13 +80,6 @@ controller_party node own = record { name = 2 ∷ 0 ∷ 0 ∷ 0 ∷ 0 ∷ node.0
 
 abbrev pub switch_party : NodeId → Instance → Party
 switch_party node own = record { name = 2 ∷ 0 ∷ 0 ∷ 0 ∷ 1 ∷ node.0 ∷ []; port = 0; instance = own }
-
--- the next instance of a run, and the numbers after it is given out
-abbrev pub next_instance : GivenOut → Instance
-next_instance numbers = record { 0 = numbers.instances + 1 }
-
-abbrev pub with_instance : GivenOut → GivenOut
-with_instance numbers = record numbers { instances = numbers.instances + 1 }
 
 -- a port that begins anew: it is up, and its session is the switch's instance
 abbrev pub begun : Instance → PortNo → PortState

@@ -1,14 +1,14 @@
 -- What a switch does at each input: a cell, a tick, a restart. The cells are RFC 1987's and I.361's;
 -- what is kept of them and recorded is this project's own.
 
-use Rattle.std.specs.Prelude.{ℕ, Bool, not, ◌&&◌, ◌+◌, ◌==◌, List, [], ◌∷◌, length, map, nat_le, nat_lt, Option, None, Some, Result, Ok, Err, min, if◌then◌else◌}
+use Rattle.std.specs.Prelude.{ℕ, Bool, not, ◌&&◌, ◌+◌, ◌==◌, List, [], ◌∷◌, map, nat_lt, Option, None, Some, Result, Ok, Err, min, if◌then◌else◌}
 use Rattle.std.specs.FinMap.{keys}
 use Rattle.net_types.specs.declared.node.PortNo.{PortNo}
 use Rattle.net_types.specs.declared.number.Mark.{Mark}
 use Rattle.net_types.specs.declared.channel.Channel.{Channel}
 use Rattle.net_types.specs.declared.adjacency.Greeting.{Greeting}
 use Rattle.net_types.specs.declared.adjacency.Party.{Party}
-use Rattle.net_types.specs.Number.{GivenOut}
+use Rattle.net_types.specs.Number.{next_control, with_control, next_instance, with_instance}
 use Rattle.atm_cells.specs.declared.cell.Cell.{Cell}
 use Rattle.adjacency_table.specs.declared.State.TheVariants.{SynSent}
 use Rattle.adjacency_table.specs.declared.message.Answer.{Answer}
@@ -26,37 +26,35 @@ use Rattle.link_model.specs.declared.record.Layer.TheVariants.{Gsmp}
 use Rattle.link_model.specs.Notes.{noted}
 use Rattle.refusal_names.specs.Names.{gsmp_refusal}
 use Rattle.frame_model.specs.Reassembly.{Taken, taken, cut, nothing_taken}
-use Rattle.frame_model.specs.Frame.{Tested, tested, made, frame_cells}
+use Rattle.frame_model.specs.Frame.{Tested, tested}
+use Rattle.frame_model.specs.Sending.{Sent, sent_frame}
 use Rattle.crossbar_model.specs.declared.routed.Routed.{Routed}
 use Rattle.crossbar_model.specs.declared.routed.Routed.TheVariants as routes
 use Rattle.crossbar_model.specs.Crossbar.{routed, switched, sent}
-use Rattle.node_model.specs.Switch.{Acted, control_port, gsmp_channel, free_slots, with_branches, next_instance, with_instance, begun}
-use Rattle.node_model.specs.Requests.{Changed, all_ended, is_request}
-use Rattle.node_model.specs.Answers.{Handled, handled}
+use Rattle.switch_model.specs.Switch.{Switch, Acted, control_port, gsmp_channel, free_slots, with_branches, begun}
+use Rattle.switch_model.specs.Requests.{Changed, all_ended, is_request}
+use Rattle.switch_model.specs.Answers.{Handled, handled}
 
 -- *Sending*
 
--- the mark of the next control frame
-abbrev pub next_control : GivenOut → Mark
-next_control numbers = record { packet = 0; frame = numbers.controls + 1 }
+abbrev pub with_cells : Switch → PortNo → List Cell → Switch
+with_cells s port cells = record s { crossbar = sent s.crossbar port cells }
 
--- cells go to the end of the queue of the control port, all or, where fewer slots are free, none
-abbrev pub queued : Acted → Mark → List Cell → Acted
-queued a mark cells =
-    if nat_le (length cells) (free_slots a.switch)
-    then record a { switch = record a.switch { crossbar = sent a.switch.crossbar control_port cells } }
-    else record a { notes = noted a.notes (Loss mark PoolFull) }
+-- the cells of a frame go to the end of a port's queue, or PoolFull is entered
+abbrev pub sends : Acted → PortNo → Channel → Mark → (payload : List ℕ) → Acted
+sends a port channel mark payload =
+    let before : Sent Switch = record { queues = a.switch; notes = a.notes } in
+    let after = sent_frame (free_slots a.switch) (with_cells a.switch port) before channel mark payload in
+    record a { switch = after.queues; notes = after.notes }
 
 -- a message is sent to the controller; its frame has the next mark, whether or not it finds slots
 abbrev pub says : Acted → Message → Acted
 says a message =
-    let mark = next_control a.numbers in
-    let next : Acted = record {
-      switch = a.switch;
-      notes = made a.notes mark (octets_of message);
-      numbers = record a.numbers { controls = a.numbers.controls + 1 };
-    } in
-    queued next mark (frame_cells gsmp_channel mark (octets_of message))
+    sends (record a { numbers = with_control a.numbers }) control_port gsmp_channel (next_control a.numbers) (octets_of message)
+
+-- a frame that no node made is put on a port's queue
+abbrev pub forged : Acted → PortNo → Channel → Mark → (payload : List ℕ) → Acted
+forged a port channel mark payload = sends a port channel mark payload
 
 -- *Adjacency*
 

@@ -1,0 +1,76 @@
+//! Sending frames.
+
+ghost use Rattle.std.specs.Prelude.{◌≡◌, ◌≤◌, length, OnOk, OnErr};
+ghost use Rattle.frame_model.specs.Sending.{sent_frame};
+
+use aal5_frames::segment;
+use atm_cells::{Cell, Header};
+use link_model::{Cause, Notes, Record};
+use net_types::{Channel, Mark, OutOfMemory};
+
+/// The most cells of a frame.
+const MOST_CELLS: usize = 32;
+
+/// A cell of zeros, which fills the buffer.
+const BLANK: Cell = Cell {
+    header: Header {
+        channel: Channel { vpi: 0, vci: 0 },
+        last: false,
+    },
+    payload: [0; 48],
+    mark: Mark {
+        packet: 0,
+        frame: 0,
+    },
+};
+
+/// Queues of cells in one region of slots, each named by a `Place`.
+pub trait Queues<Place> {
+    ghost use Rattle.std.specs.Prelude.{◌≡◌, ◌≤◌, ◌↔◌, ℕ, List, length, IsTrue};
+    ghost use Rattle.std.specs.Bool.{OnTrue, OnFalse};
+    ghost use Rattle.atm_cells.specs.declared.cell.Cell.{Cell};
+
+    // How many slots are free.
+    ghost free: { Self → ℕ };
+
+    // What they become where cells go to the end of the queue of this name.
+    ghost with_cells: { Self → Place → List Cell → Self };
+
+    // A queue has this name.
+    ghost has_queue: { Self → Place → Type 0 };
+
+    /// Puts the cells at the end of a queue, or none of them. False exactly where fewer slots are
+    /// free than cells.
+    fn send(&mut self, place: Place, cells: &[Cell]) -> bool
+        requires { has_queue self.old place }
+        ensures all { IsTrue result ↔ (length cells.now ≤ free self.old) }
+        ensures sent { OnTrue result (self.new ≡ with_cells self.old place cells.now) }
+        ensures none { OnFalse result (self.new ≡ self.old) };
+}
+
+/// Sends a frame of 1 to 1528 octets: the notes keep its payload under its mark, and its cells go to
+/// the end of a queue, all, or none with the entry PoolFull where fewer slots are free.
+pub fn send_frame<Place: Copy, Q: Queues<Place>>(
+    queues: &mut Q,
+    place: Place,
+    channel: Channel,
+    mark: Mark,
+    payload: &[u8],
+    notes: &mut Notes,
+) -> Result<(), OutOfMemory>
+    requires queue { Q.has_queue queues.old place }
+    requires payload { (1 ≤ length payload.now) × (length payload.now ≤ 1528) }
+    ensures sent { OnOk result (record { queues = queues.new; notes = notes.new } ≡ sent_frame (Q.free queues.old) (Q.with_cells queues.old place) (record { queues = queues.old; notes = notes.old }) channel mark payload.now) }
+    ensures err { OnErr result (queues.new ≡ queues.old) }
+{
+    notes.made(mark, payload)?;
+    let mut cells = [BLANK; MOST_CELLS];
+    let count = segment(payload, channel, mark, &mut cells);
+    if !queues.send(place, &cells[..count]) {
+        notes.push(Record::Loss {
+            mark,
+            cause: Cause::PoolFull,
+        })?;
+    }
+    Ok(())
+}
