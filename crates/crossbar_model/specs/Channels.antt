@@ -47,10 +47,6 @@ IsVci v = (v ≡ 15) ⊎ ((32 ≤ v) × (v ≤ 1023))
 abbrev pub IsOfPort : PortNo → End → Type 0
 IsOfPort p e = ((e.port.0 ≡ p.0) × (e.channel.vpi ≡ 0)) ⊎ ((e.port.0 ≡ 0) × (e.channel.vpi ≡ 16 * p.0))
 
--- a channel that a switch with these ports can connect
+-- the same of one path
 abbrev pub IsConnectable : List PortNo → End → Type 0
 IsConnectable ports e = IsVci e.channel.vci × ((p : PortNo) × (Contains ports p × IsOfPort p e))
-
--- a channel that some switch can connect
-abbrev pub IsSwitched : End → Type 0
-IsSwitched e = IsVci e.channel.vci × ((p : PortNo) × (IsLinkPort p × IsOfPort p e))

@@ -1,5 +1,6 @@
-pub mod Ordered
 pub mod Channels
 pub mod Maps
+pub mod Tables
+pub mod Rows
 pub mod Queues
 pub mod Chains

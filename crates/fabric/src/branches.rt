@@ -1,134 +1,150 @@
-//! The branches of a switch, by their inputs.
+//! The branches of a switch, in arrays by channel.
 
-ghost use Rattle.std.specs.Prelude.{◌≡◌, T, true, nat_eq, nat_le, find, map as map_list, IfSome, IfOk, IfErr};
+ghost use Rattle.std.specs.Prelude.{◌≡◌, ◌≤◌, ◌<◌, ◌==◌, ◌+◌, ℕ, true, nat_le, All, IfSome, IfOk};
 ghost use Rattle.std.specs.FinMap as map;
-ghost use Rattle.std.specs.List.{list_all};
-ghost use Rattle.crossbar_model.specs.Channels.{end_cmp, IsSwitched};
+ghost use Rattle.std.specs.List.{list_all, list_any};
+ghost use Rattle.crossbar_model.specs.Channels.{IsLinkPort, is_connectable};
 ghost use Rattle.crossbar_model.specs.Crossbar.{first_on};
-ghost use Rattle.fabric.specs.Entries.{IsAt, IsGapFor};
+ghost use Rattle.fabric.specs.Table.{end_of};
 
+use crate::place::{CHANNELS, PORTS, ROWS, end_of, place_of};
+use crate::row::Row;
 use crossbar_model::Branch;
 use net_types::{End, OutOfMemory, PortNo};
 use std::alloc::Global;
-use std::cmp::Ordering;
 use std::marker::Model;
 
-/// The channels of one path that a switch connects: VCI 15 and VCI 32 to 1023.
-const CHANNELS_OF_A_PATH: usize = 993;
-
-/// The paths of a switch with eight ports: one on each port, and one for each on port 0.
-const PATHS: usize = 16;
-
-/// The order of ends: by port, then by VPI, then by VCI.
-fn order(a: &End, b: &End) -> Ordering
-    ensures { result ≡ end_cmp a.now b.now }
-{
-    let ports = a.port.0.cmp(&b.port.0);
-    let paths = a.channel.vpi.cmp(&b.channel.vpi);
-    let channels = a.channel.vci.cmp(&b.channel.vci);
-    ports.then(paths).then(channels)
-}
-
-/// The place of the entry of an input, or else the place where one would stand.
-fn place_of(entries: &[(End, Branch)], input: &End) -> Result<usize, usize>
-    requires sorted { T (map.is_sorted end_cmp entries.now) }
-    ensures found { IfOk result (IsAt end_cmp entries.now input.now) }
-    ensures absent { IfErr result (IsGapFor end_cmp entries.now input.now) }
-{
-    entries.binary_search_by(|entry| order(&entry.0, input))
-}
-
-/// The first input of a port.
-fn first_input(entries: &[(End, Branch)], port: PortNo) -> Option<End>
-    ensures { result ≡ find (λ e. nat_eq e.port.0 port.0) (map_list (λ e. e.0) entries.now) }
-{
-    entries
-        .iter()
-        .map(|entry| entry.0)
-        .find(|input| input.port.0 == port.0)
-}
-
-/// The branches of a switch: a map from inputs, with room for every channel that a switch connects.
+/// The branches of a switch: a map from inputs, with room for every channel that the switch
+/// connects.
 #[derive(Debug, Drop)]
 pub(crate) struct Branches {
-    /// The branches in the order of their inputs.
-    entries: Vec<(End, Branch)>,
+    /// The ports of links.
+    ports: Vec<PortNo>,
+    /// How many paths the switch connects on each.
+    vpis: u8,
+    /// The rows in the order of their channels; a row of a port that the switch lacks is empty.
+    rows: Vec<Row>,
 }
 
 impl Model for Branches {
-    ghost use Rattle.std.specs.Prelude.{◌≤◌, T};
     ghost use Rattle.std.specs.FinMap as map;
-    ghost use Rattle.std.specs.Vec.{vec_capacity};
+    ghost use Rattle.std.specs.Coded.{codes};
     ghost use Rattle.crossbar_model.specs.Channels.{end_cmp};
-    ghost use Rattle.crossbar_model.specs.declared.branch.Branch.{Branch};
-    ghost use Rattle.fabric.specs.Entries.{AreSwitched};
+    ghost use Rattle.fabric.specs.Table.{Table, IsTable, branches_in};
     ghost use Rattle.net_types.specs.contracts.channel.End as end_contract;
     ghost use Rattle.crossbar_model.specs.contracts.branch.Branch as branch_contract;
 
-    ghost Value = { map.FinMap end_cmp Branch };
+    ghost Value = { Table };
 
-    ghost coded = { map.code end_contract.the_row.coded branch_contract.the_row.coded };
+    ghost coded = { Prim.hlevel (codes, map.code {R = end_cmp} end_contract.the_row.coded branch_contract.the_row.coded) };
 
-    ghost view = { λ b. map.from_sorted b.entries.items };
+    ghost view = { λ b. record { ports = b.ports.items; vpis = b.vpis; branches = branches_in b.rows.items } };
 
-    ghost invariant = { λ b. record {
-      sorted : T (map.is_sorted end_cmp b.entries.items);
-      switched : AreSwitched b.entries.items;
-      room : 15888 ≤ vec_capacity b.entries;
-    } };
+    ghost invariant = { λ b. IsTable b.ports.items b.vpis b.rows.items };
+}
+
+/// Whether a port is one of these.
+fn has_port(ports: &[PortNo], number: usize) -> bool
+    ensures { result ≡ list_any (λ p. p.0 == number) ports.now }
+{
+    ports.iter().any(|port| port.0 as usize == number)
+}
+
+/// The first row of a port's channels, and the row after the last.
+fn rows_of(port: PortNo) -> (usize, usize)
+    ensures low { result.1 ≤ 16 }
+    ensures order { result.0 ≤ result.1 }
+    ensures these { (row column : ℕ) → result.0 ≤ row → row < result.1 → (end_of row column).port ≡ port }
+    ensures others { (row column : ℕ) → row < 16 → (end_of row column).port.0 ≡ port.0 → (result.0 ≤ row) × (row < result.1) }
+{
+    let port = port.0 as usize;
+    if port == 0 {
+        (0, PORTS)
+    } else if port <= PORTS {
+        (PORTS + port - 1, PORTS + port)
+    } else {
+        (ROWS, ROWS)
+    }
 }
 
 impl Branches {
     /// No branch yet.
-    pub(crate) fn open(alloc: Global) -> Result<Branches, OutOfMemory>
-        ensures { IfOk result (λ b. b ≡ map.empty) }
+    pub(crate) fn open(alloc: Global, ports: &[PortNo], vpis: u8) -> Result<Branches, OutOfMemory>
+        requires ports { All IsLinkPort ports.now }
+        requires vpis { (1 ≤ vpis) × (vpis ≤ 16) }
+        ensures { IfOk result (λ b. b ≡ record { ports = ports.now; vpis = vpis; branches = map.empty }) }
     {
+        let mut rows = Vec::with_capacity(alloc, ROWS)?;
+        for row in 0..ROWS {
+            let paths = if has_port(ports, row % PORTS + 1) {
+                vpis as usize
+            } else {
+                0
+            };
+            rows.push(Row::open(alloc, CHANNELS * paths)?)?;
+        }
         Ok(Branches {
-            entries: Vec::with_capacity(alloc, PATHS * CHANNELS_OF_A_PATH)?,
+            ports: ports.to_vec(alloc)?,
+            vpis,
+            rows,
         })
     }
 
-    /// The branch of an input.
-    pub(crate) fn get(&self, input: &End) -> Option<Branch>
-        ensures value { result ≡ map.get self.now input.now }
-        ensures switched { IfSome result (λ b. IsSwitched input.now × IsSwitched b.output) }
+    /// Whether the switch can connect a channel.
+    pub(crate) fn is_connectable(&self, end: End) -> bool
+        ensures { result ≡ is_connectable self.now.ports self.now.vpis end }
     {
-        match place_of(&self.entries, input) {
-            Ok(place) => Some(self.entries[place].1),
-            Err(_) => None,
-        }
+        crossbar_model::is_connectable(&self.ports, self.vpis, end)
+    }
+
+    /// The branch of an input.
+    pub(crate) fn get(&self, input: End) -> Option<Branch>
+        ensures value { result ≡ map.get self.now.branches input }
+        ensures input { IfSome result (λ b. is_connectable self.now.ports self.now.vpis input ≡ true) }
+        ensures output { IfSome result (λ b. is_connectable self.now.ports self.now.vpis b.output ≡ true) }
+        ensures port { IfSome result (λ b. b.output.port.0 ≤ 8) }
+    {
+        let rows = &self.rows;
+        let place = place_of(input)?;
+        rows[place.row].get(place.column)
     }
 
     /// Enters the branch of an input, in place of the one that it has.
     pub(crate) fn insert(&mut self, input: End, branch: Branch)
-        requires input { IsSwitched input }
-        requires output { IsSwitched branch.output }
-        ensures { self.new ≡ map.insert self.old input branch }
+        requires input { is_connectable self.old.ports self.old.vpis input ≡ true }
+        requires output { is_connectable self.old.ports self.old.vpis branch.output ≡ true }
+        ensures { self.new ≡ record self.old { branches = map.insert self.old.branches input branch } }
     {
-        match place_of(&self.entries, &input) {
-            Ok(place) => self.entries[place].1 = branch,
-            Err(place) => {
-                let Ok(()) = self.entries.insert(place, (input, branch)) else {
-                    unreachable!()
-                };
-            }
-        }
+        let rows = &mut self.rows;
+        let Some(place) = place_of(input) else {
+            unreachable!()
+        };
+        rows[place.row].set(place.column, Some(branch));
     }
 
     /// Takes the branch of an input away.
-    pub(crate) fn remove(&mut self, input: &End)
-        ensures { self.new ≡ map.remove self.old input.now }
+    pub(crate) fn remove(&mut self, input: End)
+        requires { is_connectable self.old.ports self.old.vpis input ≡ true }
+        ensures { self.new ≡ record self.old { branches = map.remove self.old.branches input } }
     {
-        if let Ok(place) = place_of(&self.entries, input) {
-            self.entries.remove(place);
-        }
+        let rows = &mut self.rows;
+        let Some(place) = place_of(input) else {
+            unreachable!()
+        };
+        rows[place.row].set(place.column, None);
     }
 
     /// The least input of the port that has a branch.
     pub(crate) fn first_on(&self, port: PortNo) -> Option<End>
-        ensures first { result ≡ first_on self.now port }
-        ensures ports { list_all (λ input. nat_le input.port.0 8) (map.keys self.now) ≡ true }
+        ensures first { result ≡ first_on self.now.branches port }
+        ensures ports { list_all (λ input. nat_le input.port.0 8) (map.keys self.now.branches) ≡ true }
     {
-        first_input(&self.entries, port)
+        let (from, to) = rows_of(port);
+        for row in from..to {
+            if let Some(column) = self.rows[row].first() {
+                return Some(end_of(row, column));
+            }
+        }
+        None
     }
 }

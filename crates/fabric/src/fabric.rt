@@ -7,7 +7,7 @@ ghost use Rattle.std.specs.List.{list_all};
 ghost use Rattle.cell_pool.specs.Region.{size as slots, cells_of, len_of, IsLine};
 ghost use Rattle.cell_pool.specs.Steps.{IsDrained};
 ghost use Rattle.cell_pool.specs.Shares.{IsApartFromEach, ShareRegion};
-ghost use Rattle.crossbar_model.specs.Channels.{ArePorts, IsConnectable};
+ghost use Rattle.crossbar_model.specs.Channels.{ArePorts, is_connectable};
 ghost use Rattle.crossbar_model.specs.Crossbar.{new_branch, moved, cut_by_move, output_of, unfinished_on, first_on, sent, popped, queue_of, routed, switched};
 
 use crate::branches::Branches;
@@ -26,8 +26,6 @@ const PORTS: usize = 9;
 #[must_use]
 #[derive(Debug)]
 pub struct Fabric {
-    /// The ports besides port 0.
-    ports: Vec<PortNo>,
     branches: Branches,
     /// The queue of each port, by its number.
     queues: Vec<Queue>,
@@ -35,9 +33,9 @@ pub struct Fabric {
 }
 
 impl Model for Fabric {
-    ghost use Rattle.std.specs.Prelude.{◌≡◌, length, All};
+    ghost use Rattle.std.specs.Prelude.{◌≡◌, length};
     ghost use Rattle.cell_pool.specs.Shares.{ShareRegion};
-    ghost use Rattle.crossbar_model.specs.Channels.{IsLinkPort, end_cmp};
+    ghost use Rattle.crossbar_model.specs.Channels.{end_cmp};
     ghost use Rattle.std.specs.FinMap as map;
     ghost use Rattle.std.specs.Coded.{codes};
     ghost use Rattle.net_types.specs.contracts.channel.End as end_contract;
@@ -48,10 +46,9 @@ impl Model for Fabric {
 
     ghost coded = { Prim.hlevel (codes, map.code {R = end_cmp} end_contract.the_row.coded branch_contract.the_row.coded) };
 
-    ghost view = { λ f. record { ports = f.ports.items; branches = f.branches; lines = f.queues.items; region = f.pool } };
+    ghost view = { λ f. record { ports = f.branches.ports; vpis = f.branches.vpis; branches = f.branches.branches; lines = f.queues.items; region = f.pool } };
 
     ghost invariant = { λ f. record {
-      of_links : All IsLinkPort f.ports.items;
       nine : length f.queues.items ≡ 9;
       share : ShareRegion f.pool f.queues.items;
     } };
@@ -60,17 +57,25 @@ impl Model for Fabric {
 impl Fabric {
     ghost use Rattle.fabric.specs.Fabric.{crossbar, free_slots, QueuesChange, QueuesStay, ChainChanges};
 
-    /// A fabric with port 0 and these ports, with so many slots, all free: no branch, no cell.
-    pub fn open(alloc: Global, ports: &[PortNo], cells: usize) -> Result<Fabric, OutOfMemory>
-        requires { ArePorts ports.now }
+    /// A fabric with port 0 and these ports, on each of which it connects VPIs below `vpis`, with so
+    /// many slots, all free: no branch, no cell. It takes memory for the slots, and for each port
+    /// `vpis` times about 64,000 octets.
+    pub fn open(
+        alloc: Global,
+        ports: &[PortNo],
+        cells: usize,
+        vpis: u8,
+    ) -> Result<Fabric, OutOfMemory>
+        requires ports { ArePorts ports.now }
+        requires vpis { (1 ≤ vpis) × (vpis ≤ 16) }
         ensures ports { IfOk result (λ f. f.ports ≡ ports.now) }
+        ensures vpis { IfOk result (λ f. f.vpis ≡ vpis) }
         ensures empty { IfOk result (λ f. crossbar f ≡ record { branches = map.empty; queues = replicate 9 [] }) }
         ensures size { IfOk result (λ f. slots f.region ≡ cells) }
         ensures free { IfOk result (λ f. free_slots f ≡ cells) }
         ensures share { IfOk result (λ f. ShareRegion f.region f.lines) }
     {
-        let ports = ports.to_vec(alloc)?;
-        let branches = Branches::open(alloc)?;
+        let branches = Branches::open(alloc, ports, vpis)?;
         let pool = Pool::open(alloc, cells)?;
         let mut queues = Vec::with_capacity(alloc, PORTS)?;
         while queues.len() < PORTS {
@@ -78,18 +83,24 @@ impl Fabric {
             let Ok(()) = pushed else { unreachable!() };
         }
         Ok(Fabric {
-            ports,
             branches,
             queues,
             pool,
         })
     }
 
+    /// Whether the switch can connect a channel.
+    pub fn is_connectable(&self, end: End) -> bool
+        ensures { result ≡ is_connectable self.now.ports self.now.vpis end }
+    {
+        self.branches.is_connectable(end)
+    }
+
     /// Makes a branch.
     pub fn connect(&mut self, input: End, output: End)
         requires absent { map.get self.old.branches input ≡ None }
-        requires input { IsConnectable self.old.ports input }
-        requires output { IsConnectable self.old.ports output }
+        requires input { is_connectable self.old.ports self.old.vpis input ≡ true }
+        requires output { is_connectable self.old.ports self.old.vpis output ≡ true }
         ensures { self.new ≡ record self.old { branches = map.insert self.old.branches input (new_branch output) } }
     {
         self.branches.insert(input, Branch::new(output));
@@ -99,12 +110,12 @@ impl Fabric {
     /// the last cell queued on the branch, if that wasn't a last one and the output changes.
     pub fn move_to(&mut self, input: End, output: End) -> Option<Mark>
         requires present { IsSome (map.get self.old.branches input) }
-        requires input { IsConnectable self.old.ports input }
-        requires output { IsConnectable self.old.ports output }
+        requires input { is_connectable self.old.ports self.old.vpis input ≡ true }
+        requires output { is_connectable self.old.ports self.old.vpis output ≡ true }
         ensures moved { IfSome (map.get self.old.branches input) (λ b. self.new ≡ record self.old { branches = moved self.old.branches input b output }) }
         ensures cut { IfSome (map.get self.old.branches input) (λ b. result ≡ cut_by_move b output) }
     {
-        let branch = self.branches.get(&input)?;
+        let branch = self.branches.get(input)?;
         if branch.output == output {
             return None;
         }
@@ -119,8 +130,8 @@ impl Fabric {
         ensures disconnected { self.new ≡ record self.old { branches = map.remove self.old.branches input } }
         ensures cut { result ≡ unfinished_on self.old.branches input }
     {
-        let ended = self.branches.get(&input)?;
-        self.branches.remove(&input);
+        let ended = self.branches.get(input)?;
+        self.branches.remove(input);
         ended.unfinished
     }
 
@@ -128,7 +139,7 @@ impl Fabric {
     pub fn branch(&self, input: End) -> Option<End>
         ensures { result ≡ output_of self.now.branches input }
     {
-        let branch = self.branches.get(&input)?;
+        let branch = self.branches.get(input)?;
         Some(branch.output)
     }
 
@@ -153,7 +164,7 @@ impl Fabric {
             port,
             channel: cell.header.channel,
         };
-        let Some(branch) = self.branches.get(&input) else {
+        let Some(branch) = self.branches.get(input) else {
             return Routed::Unconnected;
         };
         let header = Header {
@@ -259,7 +270,6 @@ impl Fabric {
     /// Gives up all queues.
     pub fn abandon(self) {
         let Fabric {
-            ports: _,
             branches: _,
             mut queues,
             mut pool,

@@ -7,6 +7,9 @@
 
 mod branches;
 mod fabric;
+mod place;
+mod row;
+mod store;
 #[cfg(test)]
 mod tests;
 

@@ -1,4 +1,5 @@
 pub mod Exchanges
+pub mod OnePath
 pub mod Handling
 pub mod Inputs
 pub mod Ranges

@@ -1,11 +1,12 @@
 -- A fabric and the chain that shares its region of slots, as plain data
 
-use Rattle.std.specs.Prelude.{◌≡◌, ℕ, ◌+◌, ◌-◌, List, length}
+use Rattle.std.specs.Prelude.{◌≡◌, ℕ, ◌+◌, ◌-◌, List, length, All}
 use Rattle.std.specs.List.{sum_by}
 use Rattle.net_types.specs.declared.node.PortNo.{PortNo}
 use Rattle.atm_cells.specs.declared.cell.Cell.{Cell}
 use Rattle.cell_pool.specs.Region.{Line, size, cells_of, len_of, IsLine}
 use Rattle.cell_pool.specs.Shares.{IsApartFromEach, len_of_all}
+use Rattle.crossbar_model.specs.Channels.{IsLinkPort}
 use Rattle.crossbar_model.specs.Crossbar.{Crossbar}
 use Rattle.fabric.specs.Fabric.{FabricView, crossbar, free_slots}
 use Rattle.link_model.specs.Notes.{Journal}
@@ -35,6 +36,8 @@ pub record AreOneRegion (f : FabricView) (chain : Line) : Type 0 where
   pub threaded : IsLine f.region chain
   pub apart : IsApartFromEach f.region f.lines chain
   pub counted : free_slots f + len_of_all f.lines + len_of chain ≡ size f.region
+  pub of_links : All IsLinkPort f.ports
+  pub one_path : f.vpis ≡ 1
 
 -- its branches with the notes, and after both changed
 abbrev pub changed_in : Store → Journal → Changed

@@ -74,7 +74,7 @@ impl Exchange {
         ensures { IfOk result (λ x. x ≡ record { ports = ports.now; crossbar = record { branches = map.empty; queues = replicate 9 [] }; chain = []; cells = cells }) }
     {
         Ok(Exchange {
-            fabric: Fabric::open(alloc, ports, cells)?,
+            fabric: Fabric::open(alloc, ports, cells, 1)?,
             chain: Chain::new(),
         })
     }

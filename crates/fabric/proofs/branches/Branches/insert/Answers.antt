@@ -1,45 +1,50 @@
-use Rattle.std.proofs.Common.{◌≤◌, arith}
-use Rattle.std.specs.Vec.{vec_capacity, vec_len}
-use Rattle.fabric.specs.Entries.{IsAt, IsGapFor}
-use Rattle.crossbar_model.specs.Channels.{end_cmp}
-use Rattle.fabric.proofs.Maps.{entries_written, entries_inserted, length-lt}
+use Rattle.std.specs.Prelude.{Option}
+use Rattle.crossbar_model.specs.declared.branch.Branch.{Branch}
+use Rattle.std.proofs.Common.{◌≡◌, ◌<◌, List, [], true, Some, set, length, refl, sym, ap, subst, ◌∙◌, arith}
+use Rattle.std.proofs.lemmas.List.{get_or_read}
+use Rattle.net_types.specs.declared.channel.End.{End}
+use Rattle.crossbar_model.specs.Channels.{is_connectable}
+use Rattle.fabric.specs.Table.{IsTable, branches_in}
+use Rattle.fabric.proofs.Channels.{inside_row, has_place}
+use Rattle.fabric.proofs.Rows.{table_with, table_written, map_inserted}
 use Rattle.fabric.proofs.branches.Branches.insert.Goals as goal
-
-pub invariant_of-self : goal.invariant_of-self
-invariant_of-self c =
-    let found : IsAt end_cmp c.self.inside.entries.items c.args.input c.in-Ok.place = rw c.deref.ensures.value at c.in-Ok.ensures.found in
-    let next = entries_written c.self.inside.entries.items c.args.input c.args.branch c.in-Ok.place c.index_mut.result.now c.self.invariant.sorted c.self.invariant.switched found c.index_mut.ensures.value c.requires.output in
-    record { sorted = next.sorted; switched = next.switched; room = c.self.invariant.room }
-
-pub returns-in-Ok : goal.returns-in-Ok
-returns-in-Ok c =
-    let found : IsAt end_cmp c.self.inside.entries.items c.args.input c.in-Ok.place = rw c.deref.ensures.value at c.in-Ok.ensures.found in
-    let next = entries_written c.self.inside.entries.items c.args.input c.args.branch c.in-Ok.place c.index_mut.result.now c.self.invariant.sorted c.self.invariant.switched found c.index_mut.ensures.value c.requires.output in
-    rw (← c.self.view_is) next.is
-
-pub invariant_of-self-in-Ok-insert : goal.invariant_of-self-in-Ok-insert
-invariant_of-self-in-Ok-insert c =
-    let gap : IsGapFor end_cmp c.self.inside.entries.items c.args.input c.in-Err.place = rw c.deref.ensures.value at c.in-Err.ensures.absent in
-    let next = entries_inserted c.self.inside.entries.items c.args.input c.args.branch c.in-Err.place c.self.invariant.sorted c.self.invariant.switched gap c.requires.input c.requires.output in
-    record {
-      sorted = rw c.in-Ok-insert.ensures.items next.sorted;
-      switched = rw c.in-Ok-insert.ensures.items next.switched;
-      room = omega (arith, c.self.invariant.room, c.in-Ok-insert.ensures.capacity);
-    }
-
-pub returns-in-Ok-insert : goal.returns-in-Ok-insert
-returns-in-Ok-insert c =
-    let gap : IsGapFor end_cmp c.self.inside.entries.items c.args.input c.in-Err.place = rw c.deref.ensures.value at c.in-Err.ensures.absent in
-    let next = entries_inserted c.self.inside.entries.items c.args.input c.args.branch c.in-Err.place c.self.invariant.sorted c.self.invariant.switched gap c.requires.input c.requires.output in
-    rw (← c.self.view_is, c.in-Ok-insert.ensures.items) next.is
 
 pub unreachable-requires : goal.unreachable-requires
 unreachable-requires c =
-    let gap : IsGapFor end_cmp c.self.inside.entries.items c.args.input c.in-Err.place = rw c.deref.ensures.value at c.in-Err.ensures.absent in
-    let full : vec_capacity c.self.inside.entries ≤ vec_len c.self.inside.entries = rw c.in_default.is at c.insert.ensures.full in
-    omega (
-      arith,
-      full,
-      c.self.invariant.room,
-      length-lt c.self.inside.entries.items c.args.input c.args.branch c.in-Err.place c.self.invariant.sorted c.self.invariant.switched gap c.requires.input c.requires.output,
-    )
+    has_place c.self.inside.ports.items c.self.inside.vpis c.args.input c.self.invariant.of_links c.self.invariant.some c.self.invariant.few
+    (rw (← c.self.view_is) at c.requires.input) c.in_default.ensures.none
+
+pub set-requires : goal.set-requires
+set-requires c =
+    let place = c.in-Some.place in
+    let within : place.row < length c.self.inside.rows.items = omega (arith, c.in-Some.ensures.row, c.self.invariant.sixteen) in
+    let row = get_or_read c.self.inside.rows.items place.row c.index_mut.result.now within c.index_mut.ensures.value [] in
+    let inside = inside_row c.self.inside.ports.items c.self.inside.vpis c.args.input place.row place.column c.self.invariant.of_links c.self.invariant.some c.self.invariant.few
+    (rw (← c.self.view_is) at c.requires.input) c.in-Some.ensures.column c.in-Some.ensures.end in
+    omega (arith, inside, c.self.invariant.columns place.row c.in-Some.ensures.row, ap (λ r. length r) row)
+
+pub invariant_of-self : goal.invariant_of-self
+invariant_of-self c =
+    let place = c.in-Some.place in
+    let within : place.row < length c.self.inside.rows.items = omega (arith, c.in-Some.ensures.row, c.self.invariant.sixteen) in
+    let row = get_or_read c.self.inside.rows.items place.row c.index_mut.result.now within c.index_mut.ensures.value [] in
+    let input : is_connectable c.self.inside.ports.items c.self.inside.vpis c.args.input ≡ true = rw (← c.self.view_is) at c.requires.input in
+    let output : is_connectable c.self.inside.ports.items c.self.inside.vpis c.args.branch.output ≡ true = rw (← c.self.view_is) at c.requires.output in
+    let inside = inside_row c.self.inside.ports.items c.self.inside.vpis c.args.input place.row place.column c.self.invariant.of_links c.self.invariant.some c.self.invariant.few
+    input c.in-Some.ensures.column c.in-Some.ensures.end in
+    subst (λ (r : List (Option Branch)). IsTable c.self.inside.ports.items c.self.inside.vpis (set c.self.inside.rows.items place.row r)) (sym (c.set.ensures ∙ ap (λ r. set r place.column (Some c.args.branch)) row))
+    (table_written c.self.inside.ports.items c.self.inside.vpis c.self.inside.rows.items place.row place.column (Some c.args.branch) c.self.invariant c.in-Some.ensures.row c.in-Some.ensures.column inside
+    (subst (λ (e : End). is_connectable c.self.inside.ports.items c.self.inside.vpis e ≡ true) (sym c.in-Some.ensures.end) input, output))
+
+pub returns : goal.returns
+returns c =
+    let place = c.in-Some.place in
+    let within : place.row < length c.self.inside.rows.items = omega (arith, c.in-Some.ensures.row, c.self.invariant.sixteen) in
+    let row = get_or_read c.self.inside.rows.items place.row c.index_mut.result.now within c.index_mut.ensures.value [] in
+    let input : is_connectable c.self.inside.ports.items c.self.inside.vpis c.args.input ≡ true = rw (← c.self.view_is) at c.requires.input in
+    let inside = inside_row c.self.inside.ports.items c.self.inside.vpis c.args.input place.row place.column c.self.invariant.of_links c.self.invariant.some c.self.invariant.few
+    input c.in-Some.ensures.column c.in-Some.ensures.end in
+    rw (← c.self.view_is) (table_with c.self.inside.ports.items c.self.inside.vpis _ _
+    (ap (λ (r : List (Option Branch)). branches_in (set c.self.inside.rows.items place.row r)) (c.set.ensures ∙ ap (λ r. set r place.column (Some c.args.branch)) row)
+    ∙ map_inserted c.self.inside.ports.items c.self.inside.vpis c.self.inside.rows.items place.row place.column (Some c.args.branch) c.self.invariant c.in-Some.ensures.row c.in-Some.ensures.column inside
+    c.args.branch c.args.input refl c.in-Some.ensures.end))

@@ -12,8 +12,8 @@ invariant_of-self-2 c =
     let rest : IsLine c.self.inside.pool c.pop.new.self = rw c.pop.ensures.region at c.pop.ensures.threaded in
     let put : IsPut c.self.inside.pool c.put.new.self c.in_ok-slot.slot = rw c.pop.ensures.region at c.put.ensures in
     let changed = line_popped c.self.inside.pool c.put.new.self c.args.chain.now c.pop.new.self c.in_ok-slot.slot c.in_ok-slot.ensures.some rest put in
-    let next = chain_changes c.self.inside.ports.items c.self.inside.branches c.self.inside.queues.items c.self.inside.pool c.put.new.self c.args.chain.now c.pop.new.self c.self.invariant.share apart changed in
-    record { of_links = c.self.invariant.of_links; nine = c.self.invariant.nine; share = next.queues.share }
+    let next = chain_changes c.self.inside.branches c.self.inside.queues.items c.self.inside.pool c.put.new.self c.args.chain.now c.pop.new.self c.self.invariant.share apart changed in
+    record { nine = c.self.invariant.nine; share = next.queues.share }
 
 pub returns-clause-chain : goal.returns-clause-chain
 returns-clause-chain c =
@@ -22,4 +22,4 @@ returns-clause-chain c =
     let rest : IsLine c.self.inside.pool c.pop.new.self = rw c.pop.ensures.region at c.pop.ensures.threaded in
     let put : IsPut c.self.inside.pool c.put.new.self c.in_ok-slot.slot = rw c.pop.ensures.region at c.put.ensures in
     let changed = line_popped c.self.inside.pool c.put.new.self c.args.chain.now c.pop.new.self c.in_ok-slot.slot c.in_ok-slot.ensures.some rest put in
-    rw (← c.self.view_is) (chain_changes c.self.inside.ports.items c.self.inside.branches c.self.inside.queues.items c.self.inside.pool c.put.new.self c.args.chain.now c.pop.new.self c.self.invariant.share apart changed)
+    rw (← c.self.view_is) (chain_changes c.self.inside.branches c.self.inside.queues.items c.self.inside.pool c.put.new.self c.args.chain.now c.pop.new.self c.self.invariant.share apart changed)

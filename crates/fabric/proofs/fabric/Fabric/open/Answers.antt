@@ -18,9 +18,7 @@ loop-queues-preserved c =
 
 pub invariant_of-result : goal.invariant_of-result
 invariant_of-result c =
-    let same : c.in_ok-ports.ports.items ≡ c.args.ports.now = search rules in
     record {
-      of_links = rw same c.requires.of_links;
       nine = omega arith;
       share = share_empty c.in_ok-pool.pool c.loop-queues.queues.items (c.loop-queues.invariant.lines c.in_ok-pool.pool) c.loop-queues.invariant.empty;
     }

@@ -13,7 +13,6 @@ invariant_of-self-2 c =
     let within : c.args.port.0 < length c.self.inside.queues.items = omega (arith, c.requires, c.self.invariant.nine) in
     let step = pop_step c.self.inside.pool c.put.new.self c.self.inside.queues.items c.args.port.0 c.in_ok-slot.slot c.index_mut-queue.result.now c.pop.new.self within c.index_mut-queue.ensures.value c.self.invariant.share c.in_ok-slot.ensures.some rest put in
     record {
-      of_links = c.self.invariant.of_links;
       nine = length-set c.self.inside.queues.items c.args.port.0 c.pop.new.self ∙ c.self.invariant.nine;
       share = step.lines.share;
     }
@@ -24,7 +23,7 @@ returns-clause-popped c =
     let put : IsPut c.self.inside.pool c.put.new.self c.in_ok-slot.slot = rw c.pop.ensures.region at c.put.ensures in
     let within : c.args.port.0 < length c.self.inside.queues.items = omega (arith, c.requires, c.self.invariant.nine) in
     let step = pop_step c.self.inside.pool c.put.new.self c.self.inside.queues.items c.args.port.0 c.in_ok-slot.slot c.index_mut-queue.result.now c.pop.new.self within c.index_mut-queue.ensures.value c.self.invariant.share c.in_ok-slot.ensures.some rest put in
-    rw (← c.self.view_is) (ap (λ (qs : List (List Cell)). let x : Crossbar = record { branches = c.self.inside.branches; queues = qs } in x) step.cells)
+    rw (← c.self.view_is) (ap (λ (qs : List (List Cell)). let x : Crossbar = record { branches = c.self.inside.branches.branches; queues = qs } in x) step.cells)
 
 pub returns-clause-queues : goal.returns-clause-queues
 returns-clause-queues c =
@@ -32,4 +31,4 @@ returns-clause-queues c =
     let put : IsPut c.self.inside.pool c.put.new.self c.in_ok-slot.slot = rw c.pop.ensures.region at c.put.ensures in
     let within : c.args.port.0 < length c.self.inside.queues.items = omega (arith, c.requires, c.self.invariant.nine) in
     let step = pop_step c.self.inside.pool c.put.new.self c.self.inside.queues.items c.args.port.0 c.in_ok-slot.slot c.index_mut-queue.result.now c.pop.new.self within c.index_mut-queue.ensures.value c.self.invariant.share c.in_ok-slot.ensures.some rest put in
-    rw (← c.self.view_is) (record { same_ports = refl; lines = step.lines })
+    rw (← c.self.view_is) (record { same_ports = refl; same_vpis = refl; lines = step.lines })

@@ -9,7 +9,6 @@ invariant_of-self-2 c =
     let within : c.args.port.0 < length c.self.inside.queues.items = omega (arith, c.requires, c.self.invariant.nine) in
     let step = push_step c.self.inside.pool c.take.new.self c.push.new.pool c.self.inside.queues.items c.args.port.0 c.in-Some.slot c.index_mut-queue.result.now c.push.new.self c.args.cell.now within c.index_mut-queue.ensures.value c.self.invariant.share c.in-Some.ensures.some c.push.ensures.pushed in
     record {
-      of_links = c.self.invariant.of_links;
       nine = length-set c.self.inside.queues.items c.args.port.0 c.push.new.self ∙ c.self.invariant.nine;
       share = step.lines.share;
     }
@@ -18,10 +17,10 @@ pub returns-clause-sent : goal.returns-clause-sent
 returns-clause-sent c =
     let within : c.args.port.0 < length c.self.inside.queues.items = omega (arith, c.requires, c.self.invariant.nine) in
     let step = push_step c.self.inside.pool c.take.new.self c.push.new.pool c.self.inside.queues.items c.args.port.0 c.in-Some.slot c.index_mut-queue.result.now c.push.new.self c.args.cell.now within c.index_mut-queue.ensures.value c.self.invariant.share c.in-Some.ensures.some c.push.ensures.pushed in
-    rw (← c.self.view_is) (ap (λ (qs : List (List Cell)). let x : Crossbar = record { branches = c.self.inside.branches; queues = qs } in x) step.cells)
+    rw (← c.self.view_is) (ap (λ (qs : List (List Cell)). let x : Crossbar = record { branches = c.self.inside.branches.branches; queues = qs } in x) step.cells)
 
 pub returns-clause-queues : goal.returns-clause-queues
 returns-clause-queues c =
     let within : c.args.port.0 < length c.self.inside.queues.items = omega (arith, c.requires, c.self.invariant.nine) in
     let step = push_step c.self.inside.pool c.take.new.self c.push.new.pool c.self.inside.queues.items c.args.port.0 c.in-Some.slot c.index_mut-queue.result.now c.push.new.self c.args.cell.now within c.index_mut-queue.ensures.value c.self.invariant.share c.in-Some.ensures.some c.push.ensures.pushed in
-    rw (← c.self.view_is) (record { same_ports = refl; lines = step.lines })
+    rw (← c.self.view_is) (record { same_ports = refl; same_vpis = refl; lines = step.lines })

@@ -19,6 +19,7 @@ loop-cell-preserved c =
       sent = sent_more (crossbar c.args.self.now) (crossbar c.loop-cell.self) (crossbar c.push.new.self) c.args.port c.args.cells.now c.loop-cell.cell-index _ within c.loop-cell-test.true c.loop-cell.invariant.sent more;
       queues = record {
         same_ports = c.push.ensures.queues.same_ports ∙ c.loop-cell.invariant.queues.same_ports;
+        same_vpis = c.push.ensures.queues.same_vpis ∙ c.loop-cell.invariant.queues.same_vpis;
         lines = LinesChange-trans c.args.self.now.region c.loop-cell.self.region c.push.new.self.region c.args.self.now.lines c.loop-cell.self.lines c.push.new.self.lines
             c.loop-cell.invariant.queues.lines c.push.ensures.queues.lines;
       };
