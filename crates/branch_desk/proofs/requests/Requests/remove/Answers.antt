@@ -1,0 +1,31 @@
+use Rattle.std.proofs.Common.{◌<◌, ◌+◌, ◌∙◌, length, ap, sym, arith}
+use Rattle.std.proofs.lemmas.List.Quantifiers.{all_pairs_remove}
+use Rattle.desk_model.specs.Desk.{Standing}
+use Rattle.branch_desk.specs.Requests.{IsUnder}
+use Rattle.branch_desk.proofs.Numbers.{has, none_left, left_at}
+use Rattle.branch_desk.proofs.OnInputs.{inputs_remove, input_there}
+use Rattle.branch_desk.proofs.requests.Requests.remove.Goals as goal
+
+pub returns-in_default : goal.returns-in_default
+returns-in_default c = sym (rw (← c.self.view_is, ← c.deref.ensures.value) (none_left (has c.args.number) c.deref.result.now c.in_default.ensures.absent))
+
+pub remove-requires : goal.remove-requires
+remove-requires c =
+    let under : IsUnder c.args.number c.self.inside.entries.items c.in-Some.place = rw (← c.deref.ensures.value) c.in-Some.ensures.found in
+    rw c.input.ensures (input_there _ c.in-Some.place c.remove-entry.result _ under.within c.remove-entry.ensures.value c.self.invariant.inputs)
+
+pub invariant_of-self : goal.invariant_of-self
+invariant_of-self c =
+    let under : IsUnder c.args.number c.self.inside.entries.items c.in-Some.place = rw (← c.deref.ensures.value) c.in-Some.ensures.found in
+    record {
+      rising = rw c.remove-entry.ensures.items (all_pairs_remove (λ (a b : Standing). a.number < b.number) _ c.in-Some.place under.within c.self.invariant.rising);
+      inputs = rw c.remove-entry.ensures.items (inputs_remove _ c.in-Some.place c.remove-entry.result _ _ under.within c.remove-entry.ensures.value c.self.invariant.inputs (rw (← c.input.ensures) c.remove.ensures));
+      most = omega (arith, c.remove-entry.ensures.len, c.self.invariant.most);
+      room = omega (arith, c.remove-entry.ensures.capacity, c.self.invariant.room);
+    }
+
+pub returns : goal.returns
+returns c =
+    let under : IsUnder c.args.number c.self.inside.entries.items c.in-Some.place = rw (← c.deref.ensures.value) c.in-Some.ensures.found in
+    c.remove-entry.ensures.items
+    ∙ sym (rw (← c.self.view_is) (left_at c.args.number _ c.in-Some.place c.remove-entry.result c.self.invariant.rising under.within (under.here c.remove-entry.result)))

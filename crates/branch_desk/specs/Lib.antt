@@ -1,0 +1,4 @@
+pub mod Inputs
+pub mod Requests
+pub mod Answers
+pub mod Later

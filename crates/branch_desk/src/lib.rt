@@ -1,0 +1,18 @@
+//! The desk of a GSMP client (RFC 1987): the requests that it asked of its switch and that aren't
+//! answered yet. What a request asks, when it is answered and what takes its place is defined in
+//! `desk_model`.
+#![tactic(auto)]
+
+mod answered;
+mod desk;
+mod entry;
+mod inputs;
+mod message;
+mod requests;
+#[cfg(test)]
+mod tests;
+mod ticket;
+
+pub use answered::{Answered, Ports};
+pub use desk::{Desk, DeskFull};
+pub use ticket::{BranchDone, Ticket, redeem};

@@ -1,0 +1,203 @@
+//! Messages of GSMP, as a desk writes and hears them.
+
+ghost use Rattle.std.specs.Prelude.{◌≡◌};
+ghost use Rattle.desk_model.specs.Answers.{head_of, is_branch_of, is_of_type};
+ghost use Rattle.desk_model.specs.Messages.{all_of, branch_message, message_of, row_of, session_of};
+
+use gsmp_wire::{BranchKind, Message, PortRow, PortRows, Request};
+use net_types::{Channel, End, PortNo};
+use std::marker::Model;
+
+/// The Result of a request.
+const REQUEST: u8 = 2;
+
+/// The Result of a success answer.
+pub(crate) const SUCCESS: u8 = 3;
+
+/// The Result of a failure answer.
+pub(crate) const FAILURE: u8 = 4;
+
+/// What each message but those of the adjacency has.
+#[derive(Debug, Drop)]
+pub(crate) struct Head {
+    /// The Result.
+    pub(crate) result: u8,
+    /// The Code.
+    pub(crate) code: u8,
+    /// The transaction number.
+    pub(crate) number: u32,
+}
+
+impl Model for Head {
+    ghost use Rattle.desk_model.specs.Answers as answers;
+
+    ghost Value = { answers.Head };
+
+    ghost view = { λ h. record { result = h.result; code = h.code; number = h.number } };
+}
+
+/// The head of a message; none of an adjacency message.
+pub(crate) fn head_of(message: &Message) -> Option<Head>
+    ensures { result ≡ head_of message.now }
+{
+    match message {
+        Message::Adjacency(_) => None,
+        Message::Branch {
+            result,
+            code,
+            transaction,
+            ..
+        }
+        | Message::Move {
+            result,
+            code,
+            transaction,
+            ..
+        }
+        | Message::Port {
+            result,
+            code,
+            transaction,
+            ..
+        }
+        | Message::AllPorts {
+            result,
+            code,
+            transaction,
+            ..
+        } => Some(Head {
+            result: *result,
+            code: *code,
+            number: *transaction,
+        }),
+    }
+}
+
+/// Whether a message about branches of this kind and a request have one type.
+fn is_branch_of(kind: BranchKind, request: &Request) -> bool
+    ensures { result ≡ is_branch_of kind request.now }
+{
+    match (kind, request) {
+        (BranchKind::Add, Request::AddBranch { .. })
+        | (BranchKind::Delete, Request::DeleteTree { .. })
+        | (BranchKind::Verify, Request::VerifyTree { .. })
+        | (BranchKind::DeleteAll, Request::DeleteAll { .. }) => true,
+        _ => false,
+    }
+}
+
+/// Whether a message and a request have one type.
+pub(crate) fn is_of_type(message: &Message, request: &Request) -> bool
+    ensures { result ≡ is_of_type message.now request.now }
+{
+    match (message, request) {
+        (Message::Branch { kind, .. }, _) => is_branch_of(*kind, request),
+        (Message::Move { .. }, Request::MoveBranch { .. })
+        | (Message::Port { .. }, Request::PortManagement { .. })
+        | (Message::AllPorts { .. }, Request::AllPorts) => true,
+        _ => false,
+    }
+}
+
+/// The record of a port: the first one.
+fn row_of(rows: &PortRows, port: PortNo) -> Option<PortRow>
+    ensures { result ≡ row_of rows.now port }
+{
+    rows.as_slice()
+        .iter()
+        .copied()
+        .find(|row| row.port == port.0 as u32)
+}
+
+/// The session of a port; 0 where no record tells it.
+fn session_of(rows: &PortRows, port: PortNo) -> u32
+    ensures { result ≡ session_of rows.now port }
+{
+    match row_of(rows, port) {
+        Some(row) => row.session,
+        None => 0,
+    }
+}
+
+/// How a request writes an input that is a whole port, and an end of which it doesn't speak.
+fn all_of(port: PortNo) -> End
+    ensures { result ≡ all_of port }
+{
+    End {
+        port,
+        channel: Channel { vpi: 0, vci: 0 },
+    }
+}
+
+/// A request about a branch, or all branches, of an input.
+fn branch_message(kind: BranchKind, number: u32, session: u32, input: End, output: End) -> Message
+    ensures { result ≡ branch_message kind number session input output }
+{
+    Message::Branch {
+        kind,
+        result: REQUEST,
+        code: 0,
+        transaction: number,
+        session,
+        input_port: input.port.0 as u32,
+        input: input.channel,
+        output_port: output.port.0 as u32,
+        output: output.channel,
+        branches: 0,
+        priority: 0,
+    }
+}
+
+/// The message of a request, with the session that the records tell.
+pub(crate) fn message_of(rows: &PortRows, number: u32, request: &Request) -> Message
+    ensures { result ≡ message_of rows.now number request.now }
+{
+    let unnamed = all_of(PortNo(0));
+    match *request {
+        Request::AddBranch { input, output } => {
+            let session = session_of(rows, input.port);
+            branch_message(BranchKind::Add, number, session, input, output)
+        }
+        Request::MoveBranch { input, from, to } => Message::Move {
+            result: REQUEST,
+            code: 0,
+            transaction: number,
+            session: session_of(rows, input.port),
+            input_port: input.port.0 as u32,
+            input: input.channel,
+            output_port: from.port.0 as u32,
+            output: from.channel,
+            target_port: to.port.0 as u32,
+            target: to.channel,
+            branches: 0,
+            priority: 0,
+        },
+        Request::DeleteTree { input } => {
+            let session = session_of(rows, input.port);
+            branch_message(BranchKind::Delete, number, session, input, unnamed)
+        }
+        Request::VerifyTree { input } => {
+            let session = session_of(rows, input.port);
+            branch_message(BranchKind::Verify, number, session, input, unnamed)
+        }
+        Request::DeleteAll { port } => {
+            let session = session_of(rows, port);
+            let input = all_of(port);
+            branch_message(BranchKind::DeleteAll, number, session, input, unnamed)
+        }
+        Request::PortManagement { port, function } => Message::Port {
+            result: REQUEST,
+            code: 0,
+            transaction: number,
+            port: port.0 as u32,
+            session: session_of(rows, port),
+            function,
+        },
+        Request::AllPorts => Message::AllPorts {
+            result: REQUEST,
+            code: 0,
+            transaction: number,
+            rows: PortRows::new(),
+        },
+    }
+}
