@@ -1,12 +1,10 @@
 -- A fabric and its chain, against what they are seen as
 
-use Rattle.std.specs.Prelude.{All}
 use Rattle.std.proofs.Common.{◌≡◌, ◌∙◌, Bool, true, false, cond, Result, Ok, Err, ℕ, ◌+◌, List, [], ◌∷◌, length, map, replicate, take, slice_set, ◌++◌, ◌<◌, ap, refl, arith}
 use Rattle.std.proofs.lemmas.Grind.{common_steps}
-use Rattle.net_types.specs.declared.node.PortNo.{PortNo}
-use Rattle.crossbar_model.specs.Channels.{IsLinkPort}
 use Rattle.std.proofs.lemmas.List.{take_more_set}
 use Rattle.std.specs.Prelude.{nat_le, OnOk, OnErr}
+use Rattle.net_types.specs.declared.node.PortNo.{PortNo}
 use Rattle.net_types.specs.declared.channel.Channel.{Channel}
 use Rattle.net_types.specs.declared.number.Mark.{Mark}
 use Rattle.net_types.specs.declared.memory.OutOfMemory.{OutOfMemory}
@@ -34,16 +32,14 @@ free_is f q is =
     omega (arith, chain, queues, counted)
 
 -- a new fabric beside an empty chain
-pub opened_region : (f : FabricView) (q : Line) (b : Branches) (n : ℕ) → crossbar f ≡ record { branches = b; queues = replicate 9 [] } → free_slots f ≡ n → size f.region ≡ n → len_of q ≡ 0 → IsLine f.region q → All IsLinkPort f.ports → f.vpis ≡ 1 → AreOneRegion f q
-opened_region f q b n same free all none line links path =
+pub opened_region : (f : FabricView) (q : Line) (b : Branches) (n : ℕ) → crossbar f ≡ record { branches = b; queues = replicate 9 [] } → free_slots f ≡ n → size f.region ≡ n → len_of q ≡ 0 → IsLine f.region q → AreOneRegion f q
+opened_region f q b n same free all none line =
     let queues = len_of_all-cells f.region f.lines in
     let empty : sum_by (λ cs. length cs) (map (cells_of f.region) f.lines) ≡ 0 = ap (λ (x : Crossbar). sum_by (λ cs. length cs) x.queues) same in
     record {
       threaded = line;
       apart = apart_empty f.region f.lines q none;
       counted = omega (arith, queues, empty, free, all, none);
-      of_links = links;
-      one_path = path;
     }
 
 -- a cell was taken off the chain
@@ -57,8 +53,6 @@ chain_shorter f g q r c is changed popped =
       threaded = changed.chain.threaded;
       apart = changed.apart;
       counted = omega (arith, counted, before, same_size, lines);
-      of_links = rw changed.queues.same_ports is.of_links;
-      one_path = changed.queues.same_vpis ∙ is.one_path;
     }
 
 -- and it was the first of the cells; the rest of what is seen stayed
@@ -70,7 +64,7 @@ one_less f g q r c popped =
     omega (arith, before, after, lengths)
 
 pub rest_stays : (f g : FabricView) (q r : Line) → ChainChanges f g q r → ◌≡◌ {A = Store} (record (store_of g r) { chain = [] }) (record (store_of f q) { chain = [] })
-rest_stays f g q r changed = rw (changed.queues.same_ports, changed.queues.same_crossbar, changed.chain.same_size) refl
+rest_stays f g q r changed = rw (changed.queues.same_ports, changed.queues.same_vpis, changed.queues.same_crossbar, changed.chain.same_size) refl
 
 -- the cells that are out already, with one more
 pub taken_more : (out : List Cell) (i : ℕ) (c : Cell) (rest all : List Cell) → i < length out → take i out ++ c ∷ rest ≡ all → take (i + 1) (slice_set out i c) ++ rest ≡ all

@@ -1,5 +1,4 @@
 pub mod Exchanges
-pub mod OnePath
 pub mod Handling
 pub mod Inputs
 pub mod Ranges

@@ -14,7 +14,7 @@ use Rattle.std.proofs.lemmas.Bool.Decides.{nat_tests}
 use Rattle.std.proofs.lemmas.List.Elements.{All-tail}
 use Rattle.crossbar_model.specs.Channels.{ArePorts, IsLinkPort}
 use Rattle.gsmp_wire.proofs.Places.{both}
-use Rattle.switch_model.specs.Switch.{begun, control_port, has_port, port_of, with_port}
+use Rattle.switch_model.specs.Switch.{begun, control_port, has_port, numbers_of, port_of, with_port}
 use Rattle.switch_model.specs.Requests.{managed, ports_after}
 use Rattle.gsmp_wire.specs.declared.request.Request.{Request}
 use Rattle.gsmp_wire.specs.declared.request.Request.TheVariants.{AddBranch, MoveBranch, DeleteTree, VerifyTree, DeleteAll, PortManagement, AllPorts}
@@ -35,9 +35,6 @@ changed_at port change xs all i x within at here h =
     ∙ h
 
 -- *The ports are the control port and the linked ones*
-
-abbrev pub numbers_of : List PortState → List PortNo
-numbers_of states = map (λ state. state.number) states
 
 numbers-with_port : (port : PortNo) (function : ℕ) (states : List PortState) → numbers_of (with_port port (managed function) states) ≡ numbers_of states
 numbers-with_port port function [] = refl

@@ -1,20 +1,21 @@
 -- A fabric and the chain that shares its region of slots, as plain data
 
-use Rattle.std.specs.Prelude.{◌≡◌, ℕ, ◌+◌, ◌-◌, List, length, All}
+use Rattle.std.specs.Prelude.{◌≡◌, ℕ, ◌+◌, ◌-◌, List, length}
 use Rattle.std.specs.List.{sum_by}
 use Rattle.net_types.specs.declared.node.PortNo.{PortNo}
 use Rattle.atm_cells.specs.declared.cell.Cell.{Cell}
 use Rattle.cell_pool.specs.Region.{Line, size, cells_of, len_of, IsLine}
 use Rattle.cell_pool.specs.Shares.{IsApartFromEach, len_of_all}
-use Rattle.crossbar_model.specs.Channels.{IsLinkPort}
 use Rattle.crossbar_model.specs.Crossbar.{Crossbar}
 use Rattle.fabric.specs.Fabric.{FabricView, crossbar, free_slots}
 use Rattle.link_model.specs.Notes.{Journal}
 use Rattle.switch_model.specs.Requests.{Changed}
 
--- the ports besides port 0, the crossbar, the cells of the chain, and how many slots there are
+-- the ports besides port 0, how many VPIs labels may have, the crossbar, the cells of the chain, and how
+-- many slots there are
 pub record Store : Type 0 where
   pub ports : List PortNo
+  pub vpis : ℕ
   pub crossbar : Crossbar
   pub chain : List Cell
   pub cells : ℕ
@@ -26,6 +27,7 @@ free_in x = x.cells - (sum_by length x.crossbar.queues + length x.chain)
 abbrev pub store_of : FabricView → Line → Store
 store_of f chain = record {
   ports = f.ports;
+  vpis = f.vpis;
   crossbar = crossbar f;
   chain = cells_of f.region chain;
   cells = size f.region;
@@ -36,8 +38,6 @@ pub record AreOneRegion (f : FabricView) (chain : Line) : Type 0 where
   pub threaded : IsLine f.region chain
   pub apart : IsApartFromEach f.region f.lines chain
   pub counted : free_slots f + len_of_all f.lines + len_of chain ≡ size f.region
-  pub of_links : All IsLinkPort f.ports
-  pub one_path : f.vpis ≡ 1
 
 -- its branches with the notes, and after both changed
 abbrev pub changed_in : Store → Journal → Changed

@@ -1,9 +1,9 @@
 //! What a request changes of the branches.
 
-ghost use Rattle.std.specs.Prelude.{◌≡◌, true, nat_le, All, OnOk};
+ghost use Rattle.std.specs.Prelude.{◌≡◌, true, nat_le, OnOk};
 ghost use Rattle.std.specs.FinMap.{keys};
 ghost use Rattle.std.specs.List.{list_all};
-ghost use Rattle.crossbar_model.specs.Channels.{IsConnectable};
+ghost use Rattle.crossbar_model.specs.Channels.{is_connectable};
 ghost use Rattle.gsmp_switch.specs.Exchange.{Store, changed_in, with_changed};
 ghost use Rattle.switch_model.specs.Requests.{Changed, added, all_ended, branches_after, cleared, ended, moved_to};
 ghost use Rattle.switch_model.specs.Failures.{named_ends};
@@ -22,8 +22,8 @@ const LAST_PORT: u8 = 8;
 
 /// Makes a branch, where the input has none.
 fn add(exchange: &mut Exchange, input: End, output: End)
-    requires input { IsConnectable exchange.old.ports input }
-    requires output { IsConnectable exchange.old.ports output }
+    requires input { is_connectable exchange.old.ports exchange.old.vpis input ≡ true }
+    requires output { is_connectable exchange.old.ports exchange.old.vpis output ≡ true }
     ensures { exchange.new ≡ record exchange.old { crossbar = record exchange.old.crossbar { branches = added exchange.old.crossbar.branches input output } } }
 {
     if exchange.branch(input).is_none() {
@@ -38,8 +38,8 @@ fn move_branch(
     to: End,
     notes: &mut Notes,
 ) -> Result<(), OutOfMemory>
-    requires input { IsConnectable exchange.old.ports input }
-    requires output { IsConnectable exchange.old.ports to }
+    requires input { is_connectable exchange.old.ports exchange.old.vpis input ≡ true }
+    requires output { is_connectable exchange.old.ports exchange.old.vpis to ≡ true }
     ensures linked { exchange.new.ports ≡ exchange.old.ports }
     ensures exchange { OnOk result (exchange.new ≡ with_changed exchange.old (moved_to (changed_in exchange.old notes.old) input to)) }
     ensures notes { OnOk result (notes.new ≡ (moved_to (changed_in exchange.old notes.old) input to).notes) }
@@ -95,7 +95,7 @@ pub(crate) fn change(
     request: &Request,
     notes: &mut Notes,
 ) -> Result<(), OutOfMemory>
-    requires { All (IsConnectable exchange.old.ports) (named_ends request.now) }
+    requires { list_all (is_connectable exchange.old.ports exchange.old.vpis) (named_ends request.now) ≡ true }
     ensures linked { exchange.new.ports ≡ exchange.old.ports }
     ensures exchange { OnOk result (exchange.new ≡ with_changed exchange.old (branches_after (changed_in exchange.old notes.old) request.now)) }
     ensures notes { OnOk result (notes.new ≡ (branches_after (changed_in exchange.old notes.old) request.now).notes) }

@@ -5,9 +5,9 @@ ghost use Rattle.std.specs.List.{list_all};
 ghost use Rattle.std.specs.Bool.{OnTrue, OnFalse};
 ghost use Rattle.std.specs.FinMap as map;
 ghost use Rattle.cell_pool.specs.Region.{cells_of};
-ghost use Rattle.crossbar_model.specs.Channels.{ArePorts, IsConnectable};
+ghost use Rattle.crossbar_model.specs.Channels.{ArePorts, is_connectable};
 ghost use Rattle.crossbar_model.specs.Crossbar.{new_branch, moved, cut_by_move, output_of, unfinished_on, first_on, sent, popped, queue_of, routed, switched};
-ghost use Rattle.fabric.specs.Fabric.{crossbar};
+ghost use Rattle.fabric.specs.Fabric.{crossbar, free_slots};
 ghost use Rattle.gsmp_switch.specs.Exchange.{AreOneRegion, free_in, store_of};
 
 use atm_cells::Cell;
@@ -69,21 +69,30 @@ impl Exchange {
         alloc: Global,
         ports: &[PortNo],
         cells: usize,
+        vpis: u8,
     ) -> Result<Exchange, OutOfMemory>
-        requires { ArePorts ports.now }
-        ensures { IfOk result (λ x. x ≡ record { ports = ports.now; crossbar = record { branches = map.empty; queues = replicate 9 [] }; chain = []; cells = cells }) }
+        requires ports { ArePorts ports.now }
+        requires vpis { (1 ≤ vpis) × (vpis ≤ 16) }
+        ensures { IfOk result (λ x. x ≡ record { ports = ports.now; vpis = vpis; crossbar = record { branches = map.empty; queues = replicate 9 [] }; chain = []; cells = cells }) }
     {
         Ok(Exchange {
-            fabric: Fabric::open(alloc, ports, cells, 1)?,
+            fabric: Fabric::open(alloc, ports, cells, vpis)?,
             chain: Chain::new(),
         })
+    }
+
+    /// Whether a channel can be connected.
+    pub(crate) fn is_connectable(&self, end: End) -> bool
+        ensures { result ≡ is_connectable self.now.ports self.now.vpis end }
+    {
+        self.fabric.is_connectable(end)
     }
 
     /// Makes a branch.
     pub(crate) fn connect(&mut self, input: End, output: End)
         requires absent { map.get self.old.crossbar.branches input ≡ None }
-        requires input { IsConnectable self.old.ports input }
-        requires output { IsConnectable self.old.ports output }
+        requires input { is_connectable self.old.ports self.old.vpis input ≡ true }
+        requires output { is_connectable self.old.ports self.old.vpis output ≡ true }
         ensures { self.new ≡ record self.old { crossbar = record self.old.crossbar { branches = map.insert self.old.crossbar.branches input (new_branch output) } } }
     {
         self.fabric.connect(input, output);
@@ -92,8 +101,8 @@ impl Exchange {
     /// Moves a branch. The answer is the mark of the frame that is cut.
     pub(crate) fn move_to(&mut self, input: End, output: End) -> Option<Mark>
         requires present { IsSome (map.get self.old.crossbar.branches input) }
-        requires input { IsConnectable self.old.ports input }
-        requires output { IsConnectable self.old.ports output }
+        requires input { is_connectable self.old.ports self.old.vpis input ≡ true }
+        requires output { is_connectable self.old.ports self.old.vpis output ≡ true }
         ensures moved { IfSome (map.get self.old.crossbar.branches input) (λ b. self.new ≡ record self.old { crossbar = record self.old.crossbar { branches = moved self.old.crossbar.branches input b output } }) }
         ensures cut { IfSome (map.get self.old.crossbar.branches input) (λ b. result ≡ cut_by_move b output) }
     {
@@ -181,9 +190,12 @@ impl Exchange {
     }
 
     /// The fabric.
+    #[tactic(auto, using(crate::proofs::Exchanges::free_is, crate::proofs::Exchanges::chain_length))]
     pub(crate) fn fabric(&self) -> &Fabric
         ensures ports { result.now.ports ≡ self.now.ports }
+        ensures vpis { result.now.vpis ≡ self.now.vpis }
         ensures crossbar { crossbar result.now ≡ self.now.crossbar }
+        ensures free { free_slots result.now ≡ free_in self.now }
     {
         &self.fabric
     }

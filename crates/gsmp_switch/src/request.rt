@@ -3,8 +3,10 @@
 ghost use Rattle.std.specs.Prelude.{◌≡◌, Some, None, false, ◌&&◌, ◌==◌, ◌*◌, nat_le, nat_lt, IfSome, IfNone, if◌then◌else◌};
 ghost use Rattle.std.specs.List.{list_all, list_any};
 ghost use Rattle.switch_model.specs.Requests.{asked_in, end_at, is_request};
-ghost use Rattle.switch_model.specs.Failures.{failure_of, is_busy, is_connectable, is_last_session, is_path, is_vci, lacks_branch, leads_elsewhere, named_ends, named_ports, names_session, used_ports};
-ghost use Rattle.switch_model.specs.Switch.{has_port, is_up};
+ghost use Rattle.crossbar_model.specs.Channels.{is_connectable};
+ghost use Rattle.switch_model.specs.Failures.{failure_of, is_busy, is_last_session, lacks_branch, leads_elsewhere, named_ends, named_ports, names_session, used_ports};
+ghost use Rattle.switch_model.specs.Switch.{has_port, is_up, numbers_of};
+ghost use Rattle.gsmp_switch.specs.State.{AreStatesOf};
 
 use crate::exchange::Exchange;
 use crate::ports::{has_port, has_session, is_up};
@@ -24,10 +26,10 @@ pub(crate) fn is_request(message: &Message) -> bool
 {
     match message {
         Message::Adjacency(_) => false,
-        Message::Branch { result, .. } => *result == REQUEST,
-        Message::Move { result, .. } => *result == REQUEST,
-        Message::Port { result, .. } => *result == REQUEST,
-        Message::AllPorts { result, .. } => *result == REQUEST,
+        Message::Branch { result, .. }
+        | Message::Move { result, .. }
+        | Message::Port { result, .. }
+        | Message::AllPorts { result, .. } => *result == REQUEST,
     }
 }
 
@@ -132,10 +134,10 @@ fn has_ports(ports: &[PortState], request: &Request) -> bool
         Request::MoveBranch { input, from, to } => {
             has_port(ports, input.port) && has_port(ports, from.port) && has_port(ports, to.port)
         }
-        Request::DeleteTree { input } => has_port(ports, input.port),
-        Request::VerifyTree { input } => has_port(ports, input.port),
-        Request::DeleteAll { port } => has_port(ports, port),
-        Request::PortManagement { port, function: _ } => has_port(ports, port),
+        Request::DeleteTree { input } | Request::VerifyTree { input } => {
+            has_port(ports, input.port)
+        }
+        Request::DeleteAll { port } | Request::PortManagement { port, .. } => has_port(ports, port),
         Request::AllPorts => true,
     }
 }
@@ -145,16 +147,13 @@ fn names_session(ports: &[PortState], session: u32, request: &Request) -> bool
     ensures { result ≡ names_session ports.now session (named_ports request.now) }
 {
     match *request {
-        Request::AddBranch { input, output: _ } => has_session(ports, input.port, session),
-        Request::MoveBranch {
-            input,
-            from: _,
-            to: _,
-        } => has_session(ports, input.port, session),
-        Request::DeleteTree { input } => has_session(ports, input.port, session),
-        Request::VerifyTree { input } => has_session(ports, input.port, session),
-        Request::DeleteAll { port } => has_session(ports, port, session),
-        Request::PortManagement { port, function: _ } => has_session(ports, port, session),
+        Request::AddBranch { input, .. }
+        | Request::MoveBranch { input, .. }
+        | Request::DeleteTree { input }
+        | Request::VerifyTree { input } => has_session(ports, input.port, session),
+        Request::DeleteAll { port } | Request::PortManagement { port, .. } => {
+            has_session(ports, port, session)
+        }
         Request::AllPorts => true,
     }
 }
@@ -170,64 +169,38 @@ fn are_up(ports: &[PortState], request: &Request) -> bool
         Request::MoveBranch { input, from, to } => {
             is_up(ports, input.port) && is_up(ports, from.port) && is_up(ports, to.port)
         }
-        Request::DeleteTree { input } => is_up(ports, input.port),
-        Request::VerifyTree { input } => is_up(ports, input.port),
+        Request::DeleteTree { input } | Request::VerifyTree { input } => is_up(ports, input.port),
         Request::DeleteAll { port } => is_up(ports, port),
-        Request::PortManagement {
-            port: _,
-            function: _,
-        } => true,
-        Request::AllPorts => true,
+        Request::PortManagement { .. } | Request::AllPorts => true,
     }
 }
 
-/// Whether the switch can connect this channel of a port that it has.
-fn is_connectable(ports: &[PortState], e: &End) -> bool
-    ensures { result ≡ is_connectable ports.now e.now }
+/// Whether the switch can connect this channel.
+fn is_connectable(ports: &[PortState], exchange: &Exchange, end: End) -> bool
+    requires { AreStatesOf ports.now exchange.now.ports }
+    ensures { result ≡ is_connectable (numbers_of ports.now) exchange.now.vpis end }
 {
-    let vci = e.channel.vci;
-    (vci == 15 || 32 <= vci && vci <= 1023) && is_path(ports, e)
-}
-
-/// Whether this is the path, on the control port, of a port of a link.
-fn is_control_path(ports: &[PortState], vpi: u16) -> bool
-    ensures { result ≡ list_any (λ state. nat_lt 0 state.number.0 && (vpi == 16 * state.number.0)) ports.now }
-{
-    ports.iter().any(|state| 0 < state.number.0 && vpi == 16 * state.number.0 as u16)
-}
-
-/// Whether its path is that of a port of a link.
-fn is_path(ports: &[PortState], e: &End) -> bool
-    ensures { result ≡ is_path ports.now e.now }
-{
-    if e.port.0 == 0 {
-        is_control_path(ports, e.channel.vpi)
-    } else {
-        e.channel.vpi == 0
-    }
+    exchange.is_connectable(end)
 }
 
 /// Whether the switch can connect all channels that the request names.
-fn are_connectable(ports: &[PortState], request: &Request) -> bool
-    ensures { result ≡ list_all (is_connectable ports.now) (named_ends request.now) }
+fn are_connectable(ports: &[PortState], exchange: &Exchange, request: &Request) -> bool
+    requires { AreStatesOf ports.now exchange.now.ports }
+    ensures { result ≡ list_all (is_connectable (numbers_of ports.now) exchange.now.vpis) (named_ends request.now) }
 {
     match *request {
         Request::AddBranch { input, output } => {
-            is_connectable(ports, &input) && is_connectable(ports, &output)
+            is_connectable(ports, exchange, input) && is_connectable(ports, exchange, output)
         }
         Request::MoveBranch { input, from, to } => {
-            is_connectable(ports, &input)
-                && is_connectable(ports, &from)
-                && is_connectable(ports, &to)
+            is_connectable(ports, exchange, input)
+                && is_connectable(ports, exchange, from)
+                && is_connectable(ports, exchange, to)
         }
-        Request::DeleteTree { input } => is_connectable(ports, &input),
-        Request::VerifyTree { input } => is_connectable(ports, &input),
-        Request::DeleteAll { port: _ } => true,
-        Request::PortManagement {
-            port: _,
-            function: _,
-        } => true,
-        Request::AllPorts => true,
+        Request::DeleteTree { input } | Request::VerifyTree { input } => {
+            is_connectable(ports, exchange, input)
+        }
+        Request::DeleteAll { .. } | Request::PortManagement { .. } | Request::AllPorts => true,
     }
 }
 
@@ -263,17 +236,15 @@ fn is_last_session(session: u32, request: &Request) -> bool
     ensures { result ≡ is_last_session session request.now }
 {
     match *request {
-        Request::PortManagement {
-            port: _,
-            function: _,
-        } => session == LAST_SESSION,
+        Request::PortManagement { .. } => session == LAST_SESSION,
         _ => false,
     }
 }
 
 /// Why the switch refuses a request, if it does: the first failure that applies.
 pub(crate) fn failure_of(ports: &[PortState], exchange: &Exchange, asked: &Asked) -> Option<Failure>
-    ensures { result ≡ failure_of ports.now exchange.now.crossbar.branches asked.now }
+    requires { AreStatesOf ports.now exchange.now.ports }
+    ensures { result ≡ failure_of ports.now exchange.now.vpis exchange.now.crossbar.branches asked.now }
 {
     let request = &asked.request;
     if !has_ports(ports, request) {
@@ -285,7 +256,7 @@ pub(crate) fn failure_of(ports: &[PortState], exchange: &Exchange, asked: &Asked
     if !are_up(ports, request) {
         return Some(Failure::PortDown);
     }
-    if !are_connectable(ports, request) {
+    if !are_connectable(ports, exchange, request) {
         return Some(Failure::OutOfRange);
     }
     if is_busy(exchange, request) {

@@ -4,9 +4,9 @@ ghost use Rattle.std.specs.Prelude.{◌≡◌, ◌∷◌, ◌⊎◌, ◌≤◌, 
 ghost use Rattle.net_types.specs.Number.{AreDrawn, GivenOut, HasNumbersLeft, next_instance, with_instance};
 ghost use Rattle.crossbar_model.specs.Channels.{ArePorts};
 ghost use Rattle.crossbar_model.specs.Crossbar.{output_of, popped, queue_of};
-ghost use Rattle.fabric.specs.Fabric.{crossbar};
+ghost use Rattle.fabric.specs.Fabric.{crossbar, free_slots as fabric_slots};
 ghost use Rattle.gsmp_wire.specs.Range.{Bits, IsInRange};
-ghost use Rattle.switch_model.specs.Switch.{has_port, opened, switch_party};
+ghost use Rattle.switch_model.specs.Switch.{control_port, free_slots, has_port, numbers_of, opened, switch_party};
 ghost use Rattle.switch_model.specs.Requests.{is_request};
 ghost use Rattle.switch_model.specs.Answers.{handled};
 ghost use Rattle.switch_model.specs.Conduct.{answers, cell_comes, ends_frame, forged, greeted, gsmp_cell, one_more, opened_frame, read, requested, reset, restarted, says, switched_cell, tick_comes, told};
@@ -100,6 +100,7 @@ impl Model for Switch {
       adjacency = s.adjacency;
       switched = s.switched;
       cells = s.exchange.cells;
+      vpis = s.exchange.vpis;
     } };
 
     ghost invariant = { λ s. AreStatesOf s.ports.items s.exchange.ports };
@@ -107,18 +108,21 @@ impl Model for Switch {
 
 impl Switch {
     /// A new switch: no branch, no cell, and an adjacency that has heard nobody. The linked ports are
-    /// `ports`; `cells` is the number of its slots, 1 to 16,384.
+    /// `ports`; `cells` is the number of its slots, 1 to 16,384; `vpis` is how many VPIs labels may have
+    /// on a link, from 0 on, 1 to 16.
     pub fn open(
         alloc: Global,
         node: NodeId,
         ports: &[PortNo],
         cells: usize,
+        vpis: u8,
         numbers: &mut Numbers,
     ) -> Result<Switch, OutOfMemory>
         requires ports { ArePorts ports.now }
         requires cells { (1 ≤ cells) × (cells ≤ 16384) }
+        requires vpis { (1 ≤ vpis) × (vpis ≤ 16) }
         requires numbers { HasNumbersLeft numbers.old }
-        ensures switch { IfOk result (λ s. s ≡ opened node ports.now cells (next_instance numbers.old)) }
+        ensures switch { IfOk result (λ s. s ≡ opened node ports.now cells vpis (next_instance numbers.old)) }
         ensures numbers { numbers.new ≡ with_instance numbers.old }
     {
         let own = numbers.instance();
@@ -131,7 +135,7 @@ impl Switch {
         Ok(Switch {
             node,
             ports: states,
-            exchange: Exchange::open(alloc, ports, cells)?,
+            exchange: Exchange::open(alloc, ports, cells, vpis)?,
             is_skipping: false,
             adjacency: Adjacency::start(party),
             switched: 0,
@@ -481,7 +485,10 @@ impl Switch {
 
     /// The fabric that the switch holds.
     pub fn fabric(&self) -> &Fabric
-        ensures { crossbar result.now ≡ self.now.crossbar }
+        ensures crossbar { crossbar result.now ≡ self.now.crossbar }
+        ensures free { fabric_slots result.now ≡ free_slots self.now }
+        ensures ports { numbers_of self.now.ports ≡ control_port ∷ result.now.ports }
+        ensures vpis { result.now.vpis ≡ self.now.vpis }
     {
         self.exchange.fabric()
     }

@@ -176,7 +176,7 @@ fn outcome(switch: &mut Switch, ask: Ask, notes: &mut Notes) -> (u8, u8, u32) {
 fn requests_are_answered(rt: HostRuntime) -> Result<(), Fail> {
     let mut numbers = Numbers::new();
     let mut notes = Notes::open(rt.alloc())?;
-    let mut switch = Switch::open(rt.alloc(), NodeId(1), &[PortNo(1)], 4, &mut numbers)?;
+    let mut switch = Switch::open(rt.alloc(), NodeId(1), &[PortNo(1)], 4, 1, &mut numbers)?;
     let rows = [
         // Add Branch succeeds where the branch is there; then the failures, by code.
         (Ask::Add(1, 1, LABEL, ON_CONTROL), (3, 0, 1)),
@@ -250,7 +250,7 @@ fn are_entries(notes: &Notes, want: &[(u64, Cause)]) -> bool {
 fn cells_are_switched_or_entered(rt: HostRuntime) -> Result<(), Fail> {
     let mut numbers = Numbers::new();
     let mut notes = Notes::open(rt.alloc())?;
-    let mut switch = Switch::open(rt.alloc(), NodeId(1), &[PortNo(1)], 2, &mut numbers)?;
+    let mut switch = Switch::open(rt.alloc(), NodeId(1), &[PortNo(1)], 2, 1, &mut numbers)?;
     let made = outcome(&mut switch, Ask::Add(1, 1, LABEL, ON_CONTROL), &mut notes);
     assert_eq!(rt; made, (3, 0, 1));
     let cells = [
@@ -296,7 +296,7 @@ fn cells_are_switched_or_entered(rt: HostRuntime) -> Result<(), Fail> {
 fn a_chain_has_32_cells(rt: HostRuntime) -> Result<(), Fail> {
     let mut numbers = Numbers::new();
     let mut notes = Notes::open(rt.alloc())?;
-    let mut switch = Switch::open(rt.alloc(), NodeId(1), &[PortNo(1)], 64, &mut numbers)?;
+    let mut switch = Switch::open(rt.alloc(), NodeId(1), &[PortNo(1)], 64, 1, &mut numbers)?;
     for _ in 0..32usize {
         assert!(rt; take(&mut switch, 0, GSMP, 1, false, &mut notes));
     }
@@ -379,7 +379,7 @@ fn says(switch: &mut Switch, message: &[u8; 40]) -> bool {
 fn a_controller_is_answered(rt: HostRuntime) -> Result<(), Fail> {
     let mut numbers = Numbers::new();
     let mut notes = Notes::open(rt.alloc())?;
-    let mut switch = Switch::open(rt.alloc(), NodeId(1), &[PortNo(1)], 4, &mut numbers)?;
+    let mut switch = Switch::open(rt.alloc(), NodeId(1), &[PortNo(1)], 4, 1, &mut numbers)?;
     assert!(rt; hear(&mut switch, &SYN, &mut notes));
     assert!(rt; says(&mut switch, &SYNACK));
     assert!(rt; hear(&mut switch, &ADD, &mut notes));

@@ -127,7 +127,7 @@ handled_by s notes m request None = carried_out s notes m request
 abbrev pub handled_asked : Switch → Journal → Message → Option Asked → Handled
 handled_asked s notes m None = record { switch = s; notes = notes; answer = m }
 handled_asked s notes m (Some asked) =
-    handled_by s notes m asked.request (failure_of s.ports s.crossbar.branches asked)
+    handled_by s notes m asked.request (failure_of s.ports s.vpis s.crossbar.branches asked)
 
 -- a switch handles a request
 abbrev pub handled : Switch → Journal → Message → Handled

@@ -1,11 +1,12 @@
 -- Why a switch refuses a request: the first of these failures that applies (RFC 1987; their names
--- and order, and the channels that a switch connects, are this project's own)
+-- and order are this project's own)
 
-use Rattle.std.specs.Prelude.{ℕ, Bool, true, false, not, ◌&&◌, ◌||◌, ◌*◌, ◌==◌, List, [], ◌∷◌, map, find, nat_le, nat_lt, Option, is_none, if◌then◌else◌}
-use Rattle.std.specs.List.{list_all, list_any}
+use Rattle.std.specs.Prelude.{ℕ, Bool, true, false, not, ◌||◌, ◌==◌, List, [], ◌∷◌, map, find, Option, is_none}
+use Rattle.std.specs.List.{list_all}
 use Rattle.std.specs.Option.{option_map_or}
 use Rattle.net_types.specs.declared.node.PortNo.{PortNo}
 use Rattle.net_types.specs.declared.channel.End.{End}
+use Rattle.crossbar_model.specs.Channels.{is_connectable}
 use Rattle.crossbar_model.specs.Crossbar.{Branches, output_of, same_end}
 use Rattle.switch_model.specs.declared.port.PortState.{PortState}
 use Rattle.switch_model.specs.declared.request.Asked.{Asked}
@@ -13,7 +14,7 @@ use Rattle.gsmp_wire.specs.declared.request.Request.{Request}
 use Rattle.gsmp_wire.specs.declared.request.Request.TheVariants.{AddBranch, MoveBranch, DeleteTree, VerifyTree, DeleteAll, PortManagement, AllPorts}
 use Rattle.switch_model.specs.declared.request.Failure.{Failure}
 use Rattle.switch_model.specs.declared.request.Failure.TheVariants.{NoPort, BadSession, PortDown, OutOfRange, Busy, NoConnection, SessionsSpent}
-use Rattle.switch_model.specs.Switch.{has_port, has_session, is_up}
+use Rattle.switch_model.specs.Switch.{has_port, has_session, is_up, numbers_of}
 
 -- the channels that a request names
 abbrev pub named_ends : Request → List End
@@ -41,20 +42,6 @@ abbrev pub names_session : List PortState → (session : ℕ) → List PortNo �
 names_session ports session [] = true
 names_session ports session (port ∷ others) = has_session ports port session
 
--- the default channel, or a label
-abbrev pub is_vci : ℕ → Bool
-is_vci vci = vci == 15 || (nat_le 32 vci && nat_le vci 1023)
-
--- the path of a port p of a link: VPI 0 there, and VPI 16p on the control port
-abbrev pub is_path : List PortState → End → Bool
-is_path ports e =
-    if e.port.0 == 0
-    then list_any (λ state. nat_lt 0 state.number.0 && (e.channel.vpi == 16 * state.number.0)) ports
-    else e.channel.vpi == 0
-
-abbrev pub is_connectable : List PortState → End → Bool
-is_connectable ports e = is_vci e.channel.vci && is_path ports e
-
 -- an input has a branch to another output
 abbrev pub leads_elsewhere : (output : End) → Option End → Bool
 leads_elsewhere output found = option_map_or (λ other. not (same_end other output)) found false
@@ -75,18 +62,18 @@ abbrev pub is_last_session : (session : ℕ) → Request → Bool
 is_last_session session (PortManagement port function) = session == 4294967295
 is_last_session session request = false
 
--- whether a failure applies, where these are the ports and branches of the switch
-abbrev pub applies : List PortState → Branches → Asked → Failure → Bool
-applies ports m asked NoPort = not (list_all (has_port ports) (named_ports asked.request))
-applies ports m asked BadSession = not (names_session ports asked.session (named_ports asked.request))
-applies ports m asked PortDown = not (list_all (is_up ports) (used_ports asked.request))
-applies ports m asked OutOfRange = not (list_all (is_connectable ports) (named_ends asked.request))
-applies ports m asked Busy = is_busy m asked.request
-applies ports m asked NoConnection = lacks_branch m asked.request
-applies ports m asked SessionsSpent = is_last_session asked.session asked.request
+-- whether a failure applies, where these are the ports, the VPIs of labels and the branches of the switch
+abbrev pub applies : List PortState → (vpis : ℕ) → Branches → Asked → Failure → Bool
+applies ports vpis m asked NoPort = not (list_all (has_port ports) (named_ports asked.request))
+applies ports vpis m asked BadSession = not (names_session ports asked.session (named_ports asked.request))
+applies ports vpis m asked PortDown = not (list_all (is_up ports) (used_ports asked.request))
+applies ports vpis m asked OutOfRange = not (list_all (is_connectable (numbers_of ports) vpis) (named_ends asked.request))
+applies ports vpis m asked Busy = is_busy m asked.request
+applies ports vpis m asked NoConnection = lacks_branch m asked.request
+applies ports vpis m asked SessionsSpent = is_last_session asked.session asked.request
 
 -- the first that applies
-abbrev pub failure_of : List PortState → Branches → Asked → Option Failure
-failure_of ports m asked =
-    find (applies ports m asked)
+abbrev pub failure_of : List PortState → (vpis : ℕ) → Branches → Asked → Option Failure
+failure_of ports vpis m asked =
+    find (applies ports vpis m asked)
     (NoPort ∷ BadSession ∷ PortDown ∷ OutOfRange ∷ Busy ∷ NoConnection ∷ SessionsSpent ∷ [])

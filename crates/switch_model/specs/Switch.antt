@@ -21,7 +21,7 @@ use Rattle.switch_model.specs.declared.port.PortState.{PortState}
 -- its ports, the control port 0 first and then those of links, ascending; its branches and the cells
 -- that wait at its ports; what it makes of the cells of the GSMP channel; its side of the adjacency
 -- with its controller; how many cells it switched from a port of a link to a port of a link; how many
--- slots it has
+-- slots it has; and how many VPIs labels may have on a link, from 0 on: 1 or 16
 pub record Switch : Type 0 where
   pub node : NodeId
   pub ports : List PortState
@@ -30,6 +30,7 @@ pub record Switch : Type 0 where
   pub adjacency : Side Party
   pub switched : ℕ
   pub cells : ℕ
+  pub vpis : ℕ
 
 -- a switch in a run: with the notes of the run, and the numbers that the run has given out
 pub record Acted : Type 0 where
@@ -50,6 +51,9 @@ used_slots s = sum_by length s.crossbar.queues + length s.reassembly.chain
 
 abbrev pub free_slots : Switch → ℕ
 free_slots s = s.cells - used_slots s
+
+abbrev pub numbers_of : List PortState → List PortNo
+numbers_of ports = map (λ state. state.number) ports
 
 -- what is known of a port, if the switch has it
 abbrev pub port_of : List PortState → PortNo → Option PortState
@@ -86,8 +90,8 @@ abbrev pub begun : Instance → PortNo → PortState
 begun own port = record { number = port; is_up = true; session = own.0 }
 
 -- a new switch: no branch, no cell, and an adjacency that has heard nobody
-abbrev pub opened : NodeId → List PortNo → (cells : ℕ) → Instance → Switch
-opened node ports cells own = record {
+abbrev pub opened : NodeId → List PortNo → (cells vpis : ℕ) → Instance → Switch
+opened node ports cells vpis own = record {
   node = node;
   ports = map (begun own) (control_port ∷ ports);
   crossbar = record { branches = empty; queues = replicate 9 [] };
@@ -95,4 +99,5 @@ opened node ports cells own = record {
   adjacency = fresh SynSent (switch_party node own);
   switched = 0;
   cells = cells;
+  vpis = vpis;
 }

@@ -21,14 +21,14 @@ returns-in_default-clause-answer c =
 
 pub change-requires : goal.change-requires
 change-requires c =
-    let none : failure_of c.self.inside.ports.items c.self.inside.exchange.crossbar.branches c.in-Some.asked ≡ None = rw c.as_slice-ports.ensures.value at (sym c.failure_of.ensures ∙ c.in_default-failure_of.is) in
-    all_connectable c.self.inside.ports.items c.self.inside.exchange.ports c.self.inside.exchange.crossbar.branches c.in-Some.asked c.self.invariant none
+    let none : failure_of c.self.inside.ports.items c.self.inside.exchange.vpis c.self.inside.exchange.crossbar.branches c.in-Some.asked ≡ None = rw c.as_slice-ports.ensures.value at (sym c.failure_of.ensures ∙ c.in_default-failure_of.is) in
+    all_connectable c.self.inside.ports.items c.self.inside.exchange.ports c.self.inside.exchange.vpis c.self.inside.exchange.crossbar.branches c.in-Some.asked c.self.invariant none
 
 pub change_ports-requires : goal.change_ports-requires
 change_ports-requires c =
-    let none : failure_of c.self.inside.ports.items c.self.inside.exchange.crossbar.branches c.in-Some.asked ≡ None = rw c.as_slice-ports.ensures.value at (sym c.failure_of.ensures ∙ c.in_default-failure_of.is) in
+    let none : failure_of c.self.inside.ports.items c.self.inside.exchange.vpis c.self.inside.exchange.crossbar.branches c.in-Some.asked ≡ None = rw c.as_slice-ports.ensures.value at (sym c.failure_of.ensures ∙ c.in_default-failure_of.is) in
     let fits : c.in-Some.asked.session < 2 ^ 32 = search rules in
-    can_raise c.self.inside.ports.items c.self.inside.exchange.crossbar.branches c.in-Some.asked fits none
+    can_raise c.self.inside.ports.items c.self.inside.exchange.vpis c.self.inside.exchange.crossbar.branches c.in-Some.asked fits none
 
 pub invariant_of-self : goal.invariant_of-self
 invariant_of-self c = rw c.change.ensures.linked c.self.invariant
@@ -42,7 +42,7 @@ invariant_of-self-2 c = rw (c.change_ports.ensures, c.change.ensures.linked) (st
 
 pub returns-clause-answer : goal.returns-clause-answer
 returns-clause-answer c =
-    let none : failure_of c.self.inside.ports.items c.self.inside.exchange.crossbar.branches c.in-Some.asked ≡ None = rw c.as_slice-ports.ensures.value at (sym c.failure_of.ensures ∙ c.in_default-failure_of.is) in
+    let none : failure_of c.self.inside.ports.items c.self.inside.exchange.vpis c.self.inside.exchange.crossbar.branches c.in-Some.asked ≡ None = rw c.as_slice-ports.ensures.value at (sym c.failure_of.ensures ∙ c.in_default-failure_of.is) in
     rw (← c.self.view_is, c.success_answer.ensures.answer, c.deref.ensures.value, c.change_ports.ensures, c.in_ok-change.ensures.exchange)
     (ap (λ (h : Handled). h.answer) (sym (handled_is _ c.args.notes.now c.args.request.now c.in-Some.asked c.in-Some.ensures.some none)))
 
