@@ -1,8 +1,8 @@
 -- the first line of a text, and the others
 
-use Rattle.std.proofs.Common.{◌≡◌, ℕ, zero, suc, ◌+◌, ◌-◌, ◌<◌, ◌≤◌, ◌==◌, List, [], ◌∷◌, ◌++◌, Bool, true, false, not, length, take, drop, Option, None, Some, refl, arith, cond, ap, sym, ◌∙◌, nat_lt, add-one}
-use Rattle.std.specs.Prelude.{if◌then◌else◌, position}
-use Rattle.std.specs.List.{position_or_len, prefix_len}
+use Rattle.std.proofs.Common.{◌≡◌, ℕ, suc, ◌+◌, ◌<◌, ◌≤◌, ◌==◌, List, [], ◌∷◌, Bool, true, false, length, take, drop, None, Some, refl, arith, ap, ◌∙◌, add-one}
+use Rattle.std.specs.Prelude.{position}
+use Rattle.std.specs.List.{position_or_len}
 use Rattle.std.proofs.lemmas.Bool.Decides.{nat_tests}
 use Rattle.std.proofs.lemmas.List.{take_all, drop_all}
 use Rattle.lab_text.specs.Lines.{lines_of, begun_with}
