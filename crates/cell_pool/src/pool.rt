@@ -4,23 +4,10 @@ ghost use Rattle.std.specs.Prelude.{◌≡◌, [], ◌+◌, ◌<◌, ◌^◌, �
 ghost use Rattle.cell_pool.specs.Region.{size as slots, cell_at, slots_out, IsOut};
 ghost use Rattle.cell_pool.specs.Steps.{IsTaken, IsPut};
 
-use atm_cells::{Cell, Header};
-use net_types::{Channel, Mark, OutOfMemory};
+use atm_cells::{BLANK_CELL, Cell};
+use net_types::OutOfMemory;
 use std::alloc::Global;
 use std::marker::Model;
-
-/// A cell of zeros, which fills the slots of a new region.
-const BLANK: Cell = Cell {
-    header: Header {
-        channel: Channel { vpi: 0, vci: 0 },
-        last: false,
-    },
-    payload: [0; 48],
-    mark: Mark {
-        packet: 0,
-        frame: 0,
-    },
-};
 
 /// One place of a region, taken from it. It must be spent: by [`Pool::put`], or by a push to a
 /// queue or chain.
@@ -90,7 +77,7 @@ impl Pool {
         ensures size { IfOk result (λ p. slots p ≡ n) }
         ensures free { IfOk result (λ p. length p.free ≡ n) }
     {
-        let cells = vec![in alloc; BLANK; n]?;
+        let cells = vec![in alloc; BLANK_CELL; n]?;
         let mut next = Vec::with_capacity(alloc, n)?;
         for place in 0..n {
             next.push(place + 1)?;

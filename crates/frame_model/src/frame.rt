@@ -5,13 +5,10 @@ ghost use Rattle.std.specs.Option.{option_map};
 ghost use Rattle.frame_model.specs.Reassembly.{marks_of, broken};
 ghost use Rattle.frame_model.specs.Frame.{tested, octets_of, last_mark, payload_in, passed};
 
-use aal5_frames::check_pdu;
+use aal5_frames::{MAX_FRAME, check_pdu};
 use atm_cells::Cell;
 use link_model::{Cause, Notes, Record};
 use net_types::{Mark, OutOfMemory};
-
-/// The greatest frame, in octets: that of 32 cells.
-const MAX_FRAME: usize = 1536;
 
 /// Enters Broken for the mark of each of these cells that has no entry yet, in order.
 pub fn note_broken(notes: &mut Notes, cells: &[Cell]) -> Result<(), OutOfMemory>

@@ -4,25 +4,12 @@ ghost use Rattle.std.specs.Prelude.{◌≡◌, ◌≤◌, length, OnOk, OnErr};
 ghost use Rattle.frame_model.specs.Sending.{sent_frame};
 
 use aal5_frames::segment;
-use atm_cells::{Cell, Header};
+use atm_cells::{BLANK_CELL, Cell};
 use link_model::{Cause, Notes, Record};
 use net_types::{Channel, Mark, OutOfMemory};
 
 /// The most cells of a frame.
 const MOST_CELLS: usize = 32;
-
-/// A cell of zeros, which fills the buffer.
-const BLANK: Cell = Cell {
-    header: Header {
-        channel: Channel { vpi: 0, vci: 0 },
-        last: false,
-    },
-    payload: [0; 48],
-    mark: Mark {
-        packet: 0,
-        frame: 0,
-    },
-};
 
 /// Queues of cells in one region of slots, each named by a `Place`.
 pub trait Queues<Place> {
@@ -64,7 +51,7 @@ pub fn send_frame<Place: Copy, Q: Queues<Place>>(
     ensures err { OnErr result (queues.new ≡ queues.old) }
 {
     notes.made(mark, payload)?;
-    let mut cells = [BLANK; MOST_CELLS];
+    let mut cells = [BLANK_CELL; MOST_CELLS];
     let count = segment(payload, channel, mark, &mut cells);
     if !queues.send(place, &cells[..count]) {
         notes.push(Record::Loss {

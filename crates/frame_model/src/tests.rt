@@ -2,7 +2,7 @@
 
 use crate::test_frame;
 use aal5_frames::segment;
-use atm_cells::{Cell, Header};
+use atm_cells::BLANK_CELL;
 use link_model::{Cause, Notes, Record};
 use net_types::{Channel, Mark};
 use std::test::Fail;
@@ -19,15 +19,6 @@ const SECOND: Mark = Mark {
     frame: 1,
 };
 
-const BLANK: Cell = Cell {
-    header: Header {
-        channel: CHANNEL,
-        last: false,
-    },
-    payload: [0; 48],
-    mark: FIRST,
-};
-
 /// The frame of another mark than its payload's passes by chance, and one with a changed octet is
 /// broken.
 #[test]
@@ -35,7 +26,7 @@ fn a_chain_counts_as_the_frame_of_its_last_mark(rt: HostRuntime) -> Result<(), F
     let payload = [0xaa, 0xaa, 0x03, 0, 0, 0, 0x08, 0, 0x45];
     let mut notes = Notes::open(rt.alloc())?;
     notes.made(FIRST, payload.as_slice())?;
-    let mut cells = [BLANK; 1];
+    let mut cells = [BLANK_CELL; 1];
     let mut out = [0; 1536];
     let count = segment(payload.as_slice(), CHANNEL, FIRST, &mut cells);
     assert_eq!(rt; count, 1);

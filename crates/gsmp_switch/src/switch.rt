@@ -18,7 +18,8 @@ use crate::change::{change, clear_all};
 use crate::exchange::Exchange;
 use crate::ports::{begin, change_ports, opened_ports};
 use crate::request::{asked_in, failure_of, is_request};
-use atm_cells::{Cell, Header};
+use aal5_frames::MAX_FRAME;
+use atm_cells::{BLANK_CELL, Cell};
 use fabric::{Fabric, Routed};
 use frame_model::{note_broken, note_cut_chain, send_frame, test_frame};
 use gsmp_adjacency::{Adjacency, Answer, State};
@@ -39,24 +40,8 @@ const GSMP_CHANNEL: Channel = Channel { vpi: 0, vci: 15 };
 /// The most cells of a frame.
 const MOST_CELLS: usize = 32;
 
-/// The greatest frame, in octets: that of 32 cells.
-const MAX_FRAME: usize = 1536;
-
 /// The greatest message, in octets: an All Ports answer with nine records.
 const MAX_MESSAGE: usize = 164;
-
-/// A cell of zeros, which fills buffers.
-const BLANK: Cell = Cell {
-    header: Header {
-        channel: Channel { vpi: 0, vci: 0 },
-        last: false,
-    },
-    payload: [0; 48],
-    mark: Mark {
-        packet: 0,
-        frame: 0,
-    },
-};
 
 /// What its type says of a name, for the proof of [`Switch::say_greeting`]: each octet is one of 8
 /// bits. It does nothing.
@@ -351,7 +336,7 @@ impl Switch {
         ensures acted { OnOk result (acted self.new notes.new numbers.new ≡ gsmp_cell (acted self.old notes.old numbers.old) cell.now) }
         ensures drawn { AreDrawn numbers.old numbers.new }
     {
-        let mut cells = [BLANK; MOST_CELLS + 1];
+        let mut cells = [BLANK_CELL; MOST_CELLS + 1];
         if self.is_skipping {
             cells[0] = *cell;
             note_broken(notes, &cells[..1])?;
@@ -432,7 +417,7 @@ impl Switch {
     {
         let own = numbers.instance();
         clear_all(&mut self.exchange, notes)?;
-        let mut cells = [BLANK; MOST_CELLS];
+        let mut cells = [BLANK_CELL; MOST_CELLS];
         let held = self.exchange.take_chain(&mut cells);
         note_cut_chain(notes, &cells[..held])?;
         self.is_skipping = false;

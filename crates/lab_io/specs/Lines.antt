@@ -4,7 +4,7 @@ use Rattle.std.specs.Prelude.{ℕ, ◌+◌, ◌≤◌, ◌==◌, ◌||◌, nat_l
 use Rattle.std.specs.List.{position_or_len}
 use Rattle.std.specs.Option.{option_map}
 use Rattle.lab_text.specs.Words.{line_text}
-use Rattle.lab_text.specs.Line.{input_limit}
+use Rattle.lab_text.specs.Line.{input_limit, line_limit}
 use Rattle.lab_io.specs.declared.line_reader.NextLine.{NextLine}
 use Rattle.lab_io.specs.declared.line_reader.NextLine.TheVariants.{Line, LongLine, PastEnd, End}
 
@@ -40,7 +40,7 @@ abbrev pub answer_to : (given : ℕ) → (line : List ℕ) → Answer
 answer_to given line =
     if length line == 0 then Over
     else if nat_le input_limit (given + length line) then Past
-    else if nat_lt 4096 (length (line_text line)) then Long
+    else if nat_lt line_limit (length (line_text line)) then Long
     else Given line
 
 -- no other octet may come behind those that were seen

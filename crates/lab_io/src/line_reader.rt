@@ -9,13 +9,10 @@ ghost use Rattle.lab_io.specs.Lines.{Answer, IsWithin, after_answer, answer_in, 
 ghost use Rattle.lab_io.specs.Reading.{IsCutOff, IsNext, Saw};
 
 use crate::edge::{Failed, Source};
-use lab_text::{INPUT_LIMIT, line_text};
+use lab_text::{INPUT_LIMIT, LINE_LIMIT, line_text};
 use net_types::OutOfMemory;
 use std::alloc::Global;
 use std::marker::Model;
-
-/// The most octets of a line, its end not counted.
-const LINE_LIMIT: usize = 4096;
 
 /// The most octets without an LF that may yet be those of a line within the limit and its CR.
 const OPEN_LIMIT: usize = LINE_LIMIT + 2;

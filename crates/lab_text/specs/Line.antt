@@ -12,6 +12,10 @@ use Rattle.lab_text.specs.Numeral.{hex_octets}
 abbrev pub input_limit : ℕ
 input_limit = 16777217
 
+-- the most octets of a line, its end not counted
+abbrev pub line_limit : ℕ
+line_limit = 4096
+
 -- the octet of the input with this number, counted from 1, is one of these octets, which so many
 -- others stand before
 abbrev pub holds_octet : (before : ℕ) → List ℕ → (place : ℕ) → Bool
@@ -26,7 +30,7 @@ is_want_of_memory fault = false
 abbrev pub line_fault : (before : ℕ) → List ℕ → Option LineFault
 line_fault before line =
     if holds_octet before line input_limit then Some ScriptTooLong
-    else if nat_lt 4096 (length (line_text line)) then Some LineTooLong
+    else if nat_lt line_limit (length (line_text line)) then Some LineTooLong
     else if not (list_all is_script_octet (line_text line)) then Some BadByte
     else None
 

@@ -30,7 +30,7 @@ pub enum LineFault {
 pub const INPUT_LIMIT: usize = 16_777_217;
 
 /// The most octets of a line, its end not counted.
-const LINE_LIMIT: usize = 4096;
+pub const LINE_LIMIT: usize = 4096;
 
 /// Whether words end at `octet`: a space or a tab.
 fn is_blank(octet: u8) -> bool
