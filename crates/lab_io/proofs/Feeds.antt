@@ -1,10 +1,10 @@
 -- The first LF of some octets, and the line that it ends
 
-use Rattle.std.proofs.Common.{◌≡◌, ◌∙◌, ℕ, ◌+◌, ◌-◌, ◌<◌, ◌≤◌, ◌==◌, List, [], ◌++◌, Bool, true, false, not, length, take, drop, Option, None, Some, refl, sym, ap, arith, nat_lt, nat_le, eq-eqb, length-take, length-take-le, length-drop}
+use Rattle.std.proofs.Common.{◌≡◌, ◌∙◌, ℕ, ◌+◌, ◌-◌, ◌<◌, ◌≤◌, ◌==◌, List, ◌++◌, Bool, true, false, not, length, take, drop, None, Some, refl, sym, ap, arith, nat_lt, nat_le, eq-eqb, length-take, length-take-le, length-drop}
 use Rattle.std.specs.Prelude.{if◌then◌else◌, position, ◌||◌}
 use Rattle.std.specs.Option.{option_map}
 use Rattle.std.proofs.lemmas.Bool.Decides.{nat_tests}
-use Rattle.std.proofs.lemmas.List.{take_all, take_rest, take-append-drop, nil_from_length}
+use Rattle.std.proofs.lemmas.List.{take_all, take_rest, take-append-drop}
 use Rattle.std.proofs.lemmas.List.Folds.{prefix_len-append}
 use Rattle.std.proofs.lemmas.List.Sums.{prefix_len-le-length}
 use Rattle.lab_text.specs.Words.{line_text}

@@ -1,6 +1,6 @@
 -- A line that is too long, read on to its end
 
-use Rattle.std.proofs.Common.{◌≡◌, ◌∙◌, ℕ, ◌+◌, ◌<◌, ◌≤◌, List, [], ◌++◌, Bool, true, false, length, take, Option, None, refl, sym, ap, arith, length-append, length-take-le, append-nil}
+use Rattle.std.proofs.Common.{◌≡◌, ℕ, ◌+◌, ◌<◌, ◌≤◌, List, [], ◌++◌, true, false, length, take, Option, refl, arith, length-append, length-take-le, append-nil}
 use Rattle.std.specs.Io.KnownBytes.{Consumes, Keeps}
 use Rattle.lab_io.specs.Lines.{Reader, Answer, Long, Past, answer_to, feed}
 use Rattle.lab_io.specs.Reading.{IsCutOff, IsKept, IsNext, Saw}

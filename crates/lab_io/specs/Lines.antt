@@ -30,9 +30,9 @@ feed octets = position_or_len (λ octet. octet == 10) octets
 
 -- the first line of an input of which these octets were seen: up to the first LF, or all of them
 -- where no others may come
-abbrev pub first_line : (is_all : Bool) → (seen : List ℕ) → Option (List ℕ)
-first_line is_all seen =
-    if nat_lt (feed seen) (length seen) || is_all then Some (take (feed seen + 1) seen) else None
+abbrev pub first_line : (whole : Bool) → (seen : List ℕ) → Option (List ℕ)
+first_line whole seen =
+    if nat_lt (feed seen) (length seen) || whole then Some (take (feed seen + 1) seen) else None
 
 -- what becomes of a line that so many octets of the input stand before; its end isn't counted in its
 -- length

@@ -1,4 +1,4 @@
-use Rattle.std.proofs.Common.{◌≡◌, ◌-◌, ◌+◌, ◌≤◌, refl, ap, length, take, drop, arith, length-take-le, length-take, length-drop, ℕ}
+use Rattle.std.proofs.Common.{◌≡◌, ◌-◌, ◌+◌, ◌≤◌, refl, ap, length, take, drop, arith, length-take-le, length-take, ℕ}
 use Rattle.lab_io.specs.Lines.{Reader}
 use Rattle.lab_io.proofs.Buffers.{part_behind}
 use Rattle.lab_io.proofs.line_reader.LineReader.give.Goals as goal

@@ -1,7 +1,7 @@
-use Rattle.std.proofs.Common.{◌≡◌, ◌∙◌, ◌≤◌, length, take, drop, refl, arith, length-take-le}
+use Rattle.std.proofs.Common.{◌≡◌, ◌∙◌, length, take, refl, arith, length-take-le}
 use Rattle.lab_io.proofs.Buffers.{written_back}
 use Rattle.lab_io.proofs.Feeds.{feed_found, feed_missing}
-use Rattle.lab_io.proofs.Skips.{skip_ended, skip_found, skip_found_past, skip_past, skip_failed, skipped_more}
+use Rattle.lab_io.proofs.Skips.{skip_ended, skip_found, skip_found_past, skipped_more}
 use Rattle.lab_io.proofs.line_reader.LineReader.skip_line.Goals as goal
 
 pub loop-read-preserved : goal.loop-read-preserved
