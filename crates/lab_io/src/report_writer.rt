@@ -45,7 +45,8 @@ impl ReportWriter {
     /// Holds `octets` too.
     fn hold(&mut self, octets: &[u8])
         requires { length self.old.held + length octets.now ≤ self.old.room }
-        ensures { self.new ≡ record self.old { held = self.old.held ++ octets.now } }
+        ensures bound { length self.new.held ≤ self.new.room }
+        ensures held { self.new ≡ record self.old { held = self.old.held ++ octets.now } }
     {
         match self.buffer.extend_from_slice(octets) {
             Ok(()) => (),
@@ -71,14 +72,16 @@ impl ReportWriter {
     /// write that fails is the last one; then the writer can only be given up.
     pub fn put<K: Sink>(&mut self, octets: &[u8], sink: &mut K) -> Result<(), Failed>
         ensures room { self.new.room ≡ self.old.room }
+        ensures bound { length self.new.held ≤ self.new.room }
         ensures ok { OnOk result (IsPut self.old self.new (K.written sink.old) (K.written sink.new) octets.now) }
         ensures failed { OnErr result (IsStuck self.old self.new (K.written sink.old) (K.written sink.new) octets.now) }
         ensures faults { K.faults sink.new ≡ count_after (is_err result) (K.faults sink.old) }
     {
+        let room = self.room;
         let mut done = 0;
         while done < octets.len() {
             self.make_room(sink)?;
-            let count = (self.room - self.buffer.len()).min(octets.len() - done);
+            let count = (room - self.buffer.len()).min(octets.len() - done);
             self.hold(&octets[done..done + count]);
             done += count;
         }

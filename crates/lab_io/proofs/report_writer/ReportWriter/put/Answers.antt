@@ -1,4 +1,4 @@
-use Rattle.std.proofs.Common.{◌≡◌, ◌∙◌, ◌+◌, ◌-◌, ap, arith}
+use Rattle.std.proofs.Common.{◌≡◌, ◌∙◌, ◌+◌, ◌-◌, ap, sym, arith}
 use Rattle.lab_io.specs.Report.{Writer}
 use Rattle.lab_io.proofs.Puts.{put_failed, put_more}
 use Rattle.lab_io.proofs.Sights.{on_err}
@@ -13,8 +13,10 @@ loop-done-preserved g c =
     let span : c.loop-done.done + c.min-count.result - c.loop-done.done ≡ c.min-count.result = omega arith in
     record {
       put = put_more _ c.loop-done.self c.make_room.new.self c.hold.new.self _ _ _ c.loop-done.done c.min-count.result _ c.loop-done.invariant.put
-      c.in_ok-make_room.ensures.ok (rw span at (ap (λ (w : Writer). w.held) c.hold.ensures));
-      room = ap (λ (w : Writer). w.room) c.hold.ensures ∙ c.in_ok-make_room.ensures.room ∙ c.loop-done.invariant.room;
+      c.in_ok-make_room.ensures.ok (rw span at (ap (λ (w : Writer). w.held) c.hold.ensures.held));
+      room = ap (λ (w : Writer). w.room) c.hold.ensures.held ∙ c.in_ok-make_room.ensures.room ∙ c.loop-done.invariant.room;
+      bound = c.hold.ensures.bound;
+      limit = c.loop-done.invariant.limit ∙ sym (ap (λ (w : Writer). w.room) c.hold.ensures.held ∙ c.in_ok-make_room.ensures.room);
       faults = c.in_ok-make_room.ensures.faults ∙ c.loop-done.invariant.faults;
       within = omega arith;
     }

@@ -6,6 +6,8 @@ abbrev pub invariant-loop-done : goal.invariant-loop-done
 invariant-loop-done g l = record {
   put : IsPut l.fn.self l.self (g.K.Sink.written l.fn.sink) (g.K.Sink.written l.sink) (take l.done l.octets);
   room : l.self.room ≡ l.fn.self.room;
+  bound : length l.self.held ≤ l.self.room;
+  limit : l.room ≡ l.self.room;
   faults : g.K.Sink.faults l.sink ≡ g.K.Sink.faults l.fn.sink;
   within : l.done ≤ length l.octets;
 }
