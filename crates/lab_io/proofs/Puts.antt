@@ -19,8 +19,8 @@ put_failed old middle new first second third done octets put same front =
       within = front.within;
       appended = Appends-trans _ _ _ _ _ put.appended front.appended;
       all = ap (λ xs. xs ++ drop done octets) put.all
-      ∙ append_assoc old.held (take done octets) (drop done octets)
-      ∙ ap (λ xs. old.held ++ xs) (take-append-drop done octets);
+          ∙ append_assoc old.held (take done octets) (drop done octets)
+          ∙ ap (λ xs. old.held ++ xs) (take-append-drop done octets);
     })
 
 -- written, held, and what stands behind
@@ -35,10 +35,10 @@ put_more old middle emptied new first second third done count octets put flushed
       written = put.written ++ flushed.written;
       appended = Appends-trans _ _ _ _ _ put.appended flushed.appended;
       all = ap (λ xs. (put.written ++ flushed.written) ++ xs) held
-      ∙ regroup put.written flushed.written emptied.held (take count (drop done octets))
-      ∙ ap (λ xs. put.written ++ (xs ++ take count (drop done octets))) (flushed.all ∙ append-nil middle.held)
-      ∙ sym (append_assoc put.written middle.held (take count (drop done octets)))
-      ∙ ap (λ xs. xs ++ take count (drop done octets)) put.all
-      ∙ append_assoc old.held (take done octets) (take count (drop done octets))
-      ∙ ap (λ xs. old.held ++ xs) (sym (take-add done count octets));
+          ∙ regroup put.written flushed.written emptied.held (take count (drop done octets))
+          ∙ ap (λ xs. put.written ++ (xs ++ take count (drop done octets))) (flushed.all ∙ append-nil middle.held)
+          ∙ sym (append_assoc put.written middle.held (take count (drop done octets)))
+          ∙ ap (λ xs. xs ++ take count (drop done octets)) put.all
+          ∙ append_assoc old.held (take done octets) (take count (drop done octets))
+          ∙ ap (λ xs. old.held ++ xs) (sym (take-add done count octets));
     }

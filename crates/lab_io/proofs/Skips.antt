@@ -36,7 +36,7 @@ skip_ended old new first second third read octets skipped early more none ended 
       seen = skipped.seen;
       saw = rw (none, append-nil) at (saw_more old.held first second third skipped.seen octets skipped.saw more);
       answered = answered-whole old.given new.is_ended skipped.seen Long skipped.no_feed (rw ended refl)
-      (answer-long old.given skipped.seen skipped.long (omega (arith, skipped.counted)));
+          (answer-long old.given skipped.seen skipped.long (omega (arith, skipped.counted)));
       kept = tt;
     }
 
@@ -54,7 +54,7 @@ found_in old new first second third read place octets answer skipped more at wit
       seen = skipped.seen ++ octets;
       saw = saw_more old.held first second third skipped.seen octets skipped.saw more;
       answered = answered-found old.given new.is_ended (skipped.seen ++ octets) answer found
-      (is (take (feed (skipped.seen ++ octets) + 1) (skipped.seen ++ octets)) (omega (arith, skipped.long)) (omega (arith, skipped.counted)));
+          (is (take (feed (skipped.seen ++ octets) + 1) (skipped.seen ++ octets)) (omega (arith, skipped.long)) (omega (arith, skipped.counted)));
       kept = kept (skipped.seen ++ octets);
     }
 
@@ -80,8 +80,8 @@ skip_past old new first second read skipped late =
       seen = skipped.seen;
       saw = skipped.saw;
       answered = answered-whole old.given new.is_ended skipped.seen Past skipped.no_feed
-      (is_all-past old.given new.is_ended skipped.seen (omega (arith, skipped.counted)))
-      (answer-past old.given skipped.seen (omega (arith, skipped.long)) (omega (arith, skipped.counted)));
+          (is_all-past old.given new.is_ended skipped.seen (omega (arith, skipped.counted)))
+          (answer-past old.given skipped.seen (omega (arith, skipped.long)) (omega (arith, skipped.counted)));
       kept = tt;
     }
 
@@ -92,5 +92,5 @@ skip_failed old first second third read skipped early ended kept =
       seen = skipped.seen;
       saw = saw_after old.held skipped.seen first second third skipped.seen skipped.saw (saw_none skipped.seen second third skipped.seen refl kept);
       unanswered = answered-none old.given old.is_ended skipped.seen
-      (line-open skipped.seen _ skipped.no_feed (is_all-open old.given old.is_ended skipped.seen ended (omega (arith, skipped.counted))));
+          (line-open skipped.seen _ skipped.no_feed (is_all-open old.given old.is_ended skipped.seen ended (omega (arith, skipped.counted))));
     }

@@ -51,7 +51,10 @@ fn lines_come_whole_in_any_pieces(rt: HostRuntime) -> Result<(), Fail> {
         ] {
             let mut source = SureSource::new(script.as_bytes().to_vec(rt.alloc())?, piece);
             let (lines, last) = read_lines(rt.alloc(), &mut source, 4099)?;
-            assert!(rt; lines.as_slice() == want.as_bytes(), "{script:?} by {piece}");
+            assert!(rt;
+                lines.as_slice() == want.as_bytes(),
+                "{script:?} by {piece}"
+            );
             assert_eq!(rt; last, Ok(NextLine::End), "{script:?} by {piece}");
         }
     }
@@ -104,7 +107,10 @@ fn long_lines_are_read_on_and_not_kept(rt: HostRuntime) -> Result<(), Fail> {
                 want.extend_from_slice(script.as_slice().get(5..).ok_or("a line")?)?;
                 want.push(b'|')?;
             }
-            assert!(rt; lines.as_slice() == want.as_slice(), "{length} {end:?} by {piece}");
+            assert!(rt;
+                lines.as_slice() == want.as_slice(),
+                "{length} {end:?} by {piece}"
+            );
         }
     }
     Ok(())
@@ -134,7 +140,10 @@ fn an_input_ends_at_its_greatest_octet(rt: HostRuntime) -> Result<(), Fail> {
     for _ in 0..4095 {
         lines.extend_from_slice(line.as_slice())?;
     }
-    for (end, count, last) in [("x", 4096, NextLine::End), ("\n\n", 4096, NextLine::PastEnd)] {
+    for (end, count, last) in [
+        ("x", 4096, NextLine::End),
+        ("\n\n", 4096, NextLine::PastEnd),
+    ] {
         let mut octets = lines.as_slice().to_vec(rt.alloc())?;
         octets.extend_from_slice(end.as_bytes())?;
         let mut source = SureSource::new(octets, 65_536);
@@ -148,7 +157,10 @@ fn an_input_ends_at_its_greatest_octet(rt: HostRuntime) -> Result<(), Fail> {
 /// A line that is too long and holds that octet too.
 #[test]
 fn a_long_line_may_reach_past_the_end(rt: HostRuntime) -> Result<(), Fail> {
-    for (length, last) in [(16_777_216, NextLine::LongLine), (16_777_217, NextLine::PastEnd)] {
+    for (length, last) in [
+        (16_777_216, NextLine::LongLine),
+        (16_777_217, NextLine::PastEnd),
+    ] {
         let mut source = SureSource::new(vec![in rt.alloc(); b'x'; length]?, 65_536);
         let (given, outcome) = count_lines(rt.alloc(), &mut source)?;
         assert_eq!(rt; given, 0, "{length}");
@@ -182,7 +194,10 @@ fn reports_are_written_whole_through_any_room(rt: HostRuntime) -> Result<(), Fai
             let mut sink = MemSink::new(rt.alloc(), piece, Vec::new(rt.alloc()))?;
             let outcome = write_report(rt.alloc(), &mut sink, room)?;
             assert_eq!(rt; outcome, Ok(()), "{room} by {piece}");
-            assert!(rt; sink.written() == b"deliver a 1\nend\n".as_slice(), "{room} by {piece}");
+            assert!(rt;
+                sink.written() == b"deliver a 1\nend\n".as_slice(),
+                "{room} by {piece}"
+            );
         }
     }
     Ok(())

@@ -26,7 +26,7 @@ loop-len-preserved g c =
       unended = λ _. c.loop-len.invariant.unended (open_reader c.loop-len.self c.in-None.ensures.line).unended;
       ended = λ e. inr (c.in_ok-fill.ensures.ended e);
       unread = λ answer told.
-      (let same = (c.loop-len.invariant.unread answer told).0 in
+          (let same = (c.loop-len.invariant.unread answer told).0 in
           let said : answer_in c.loop-len.self.given c.loop-len.self.is_ended c.loop-len.self.held ≡ Some answer =
           ap (λ (r : Reader). answer_in r.given r.is_ended r.held) same ∙ told in
           let clash : None ≡ Some answer = sym none ∙ said in

@@ -13,7 +13,7 @@ loop-done-preserved g c =
     let span : c.loop-done.done + c.min-count.result - c.loop-done.done ≡ c.min-count.result = omega arith in
     record {
       put = put_more _ c.loop-done.self c.make_room.new.self c.hold.new.self _ _ _ c.loop-done.done c.min-count.result _ c.loop-done.invariant.put
-      c.in_ok-make_room.ensures.ok (rw span at (ap (λ (w : Writer). w.held) c.hold.ensures.held));
+          c.in_ok-make_room.ensures.ok (rw span at (ap (λ (w : Writer). w.held) c.hold.ensures.held));
       room = ap (λ (w : Writer). w.room) c.hold.ensures.held ∙ c.in_ok-make_room.ensures.room ∙ c.loop-done.invariant.room;
       bound = c.hold.ensures.bound;
       limit = c.loop-done.invariant.limit ∙ sym (ap (λ (w : Writer). w.room) c.hold.ensures.held ∙ c.in_ok-make_room.ensures.room);
