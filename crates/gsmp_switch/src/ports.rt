@@ -6,8 +6,8 @@ ghost use Rattle.switch_model.specs.Requests.{managed, ports_after};
 ghost use Rattle.gsmp_switch.specs.State.{CanRaise};
 
 use net_types::{Instance, OutOfMemory, PortNo};
-use switch_model::{PortState, Request};
 use std::alloc::Global;
+use switch_model::{PortState, Request};
 
 /// The function of Port Management that brings a port up.
 const BRING_UP: u8 = 1;

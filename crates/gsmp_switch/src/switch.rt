@@ -27,9 +27,9 @@ use gsmp_wire::{Message, decode, encode};
 use link_model::{Cause, Layer, Notes, Record};
 use net_types::{Channel, End, Greeting, Mark, NodeId, Numbers, OutOfMemory, Party, PortNo};
 use refusal_names::gsmp_refusal;
-use switch_model::{Failure, PortState};
 use std::alloc::Global;
 use std::marker::Model;
+use switch_model::{Failure, PortState};
 
 /// The control port.
 const CONTROL_PORT: PortNo = PortNo(0);
@@ -143,7 +143,14 @@ impl Switch {
         let mut octets = [0; MAX_MESSAGE];
         let len = encode(message, &mut octets);
         let payload = &octets[..len];
-        send_frame(&mut self.exchange, CONTROL_PORT, GSMP_CHANNEL, mark, payload, notes)
+        send_frame(
+            &mut self.exchange,
+            CONTROL_PORT,
+            GSMP_CHANNEL,
+            mark,
+            payload,
+            notes,
+        )
     }
 
     /// Sends an adjacency message.

@@ -209,6 +209,23 @@ fn requests_are_answered(rt: HostRuntime) -> Result<(), Fail> {
     Ok(())
 }
 
+/// Add Branch of 1 3/40 to 0 19/40, where labels have one VPI and where they have 16.
+#[test]
+fn labels_have_the_vpis_of_their_switch(rt: HostRuntime) -> Result<(), Fail> {
+    let label = Channel { vpi: 3, vci: 40 };
+    let on_control = Channel { vpi: 19, vci: 40 };
+    for (vpis, want) in [(1, (4, 4, 0)), (16, (3, 0, 1))] {
+        assert!(rt; 1 <= vpis && vpis <= 16);
+        let mut numbers = Numbers::new();
+        let mut notes = Notes::open(rt.alloc())?;
+        let mut switch = Switch::open(rt.alloc(), NodeId(1), &[PortNo(1)], 4, vpis, &mut numbers)?;
+        let add = Ask::Add(1, 1, label, on_control);
+        assert_eq!(rt; outcome(&mut switch, add, &mut notes), want);
+        switch.abandon();
+    }
+    Ok(())
+}
+
 /// A cell of the frame 0.`frame` comes on a port. False for want of memory.
 fn take(
     switch: &mut Switch,
@@ -291,7 +308,7 @@ fn cells_are_switched_or_entered(rt: HostRuntime) -> Result<(), Fail> {
     Ok(())
 }
 
-/// 32 cells of a chain, and a 33rd.
+/// 32 cells of a chain, a 33rd, and a 34th, which ends no frame either.
 #[test]
 fn a_chain_has_32_cells(rt: HostRuntime) -> Result<(), Fail> {
     let mut numbers = Numbers::new();
@@ -301,32 +318,57 @@ fn a_chain_has_32_cells(rt: HostRuntime) -> Result<(), Fail> {
         assert!(rt; take(&mut switch, 0, GSMP, 1, false, &mut notes));
     }
     assert!(rt; are_entries(&notes, &[]));
-    for (frame, last) in [(2, false), (2, true), (3, false)] {
+    for (frame, last) in [(2, false), (3, false), (3, true), (4, false)] {
         assert!(rt; take(&mut switch, 0, GSMP, frame, last, &mut notes));
     }
-    assert!(rt; are_entries(&notes, &[(1, Cause::Broken), (2, Cause::Broken)]));
+    let want = [(1, Cause::Broken), (2, Cause::Broken), (3, Cause::Broken)];
+    assert!(rt; are_entries(&notes, &want));
     assert_eq!(rt; switch.fabric().free(), 63);
     switch.abandon();
     Ok(())
 }
 
-/// The first node's controller, of instance 5, says SYN.
-const SYN: [u8; 40] = [
-    0xaa, 0xaa, 3, 0, 0, 0, 0x88, 0x0c, 1, 10, 0, 1, 2, 0, 0, 0, 0, 1, 0, 0, 0, 0, 0, 0, 0, 0, 0,
-    0, 0, 0, 0, 0, 0, 0, 0, 5, 0, 0, 0, 0,
-];
+/// A party of an adjacency message: its name, as an Ethernet address, and its instance. Its port is 0.
+struct Side {
+    name: [u8; 6],
+    instance: u8,
+}
 
-/// Its switch, of instance 1, answers SYNACK.
-const SYNACK: [u8; 40] = [
-    0xaa, 0xaa, 3, 0, 0, 0, 0x88, 0x0c, 1, 10, 0, 2, 2, 0, 0, 0, 1, 1, 2, 0, 0, 0, 0, 1, 0, 0, 0,
-    0, 0, 0, 0, 0, 0, 0, 0, 1, 0, 0, 0, 5,
-];
+const NOBODY: Side = Side {
+    name: [0; 6],
+    instance: 0,
+};
 
-/// The controller says ACK.
-const ACK: [u8; 40] = [
-    0xaa, 0xaa, 3, 0, 0, 0, 0x88, 0x0c, 1, 10, 0, 3, 2, 0, 0, 0, 0, 1, 2, 0, 0, 0, 1, 1, 0, 0, 0,
-    0, 0, 0, 0, 0, 0, 0, 0, 5, 0, 0, 0, 1,
-];
+/// The first node's controller, of instance 5, and its switch, of instance 1.
+const CONTROLLER: Side = Side {
+    name: [2, 0, 0, 0, 0, 1],
+    instance: 5,
+};
+
+const SWITCH: Side = Side {
+    name: [2, 0, 0, 0, 1, 1],
+    instance: 1,
+};
+
+/// The Codes of adjacency messages.
+const SYN: u8 = 1;
+
+const SYNACK: u8 = 2;
+
+const ACK: u8 = 3;
+
+const RSTACK: u8 = 4;
+
+/// An adjacency message of this Code, behind its SNAP header.
+fn greeting(code: u8, sender: &Side, receiver: &Side) -> [u8; 40] {
+    let mut octets = [0; 40];
+    octets[..12].copy_from_slice(&[0xaa, 0xaa, 3, 0, 0, 0, 0x88, 0x0c, 1, 10, 0, code]);
+    octets[12..18].copy_from_slice(&sender.name);
+    octets[18..24].copy_from_slice(&receiver.name);
+    octets[35] = sender.instance;
+    octets[39] = receiver.instance;
+    octets
+}
 
 /// Add Branch, transaction 5, session 1, from 1 0/40 to 0 16/40.
 const ADD: [u8; 40] = [
@@ -380,11 +422,23 @@ fn a_controller_is_answered(rt: HostRuntime) -> Result<(), Fail> {
     let mut numbers = Numbers::new();
     let mut notes = Notes::open(rt.alloc())?;
     let mut switch = Switch::open(rt.alloc(), NodeId(1), &[PortNo(1)], 4, 1, &mut numbers)?;
-    assert!(rt; hear(&mut switch, &SYN, &mut notes));
-    assert!(rt; says(&mut switch, &SYNACK));
+    assert!(rt;
+        hear(
+            &mut switch,
+            &greeting(SYN, &CONTROLLER, &NOBODY),
+            &mut notes
+        )
+    );
+    assert!(rt; says(&mut switch, &greeting(SYNACK, &SWITCH, &CONTROLLER)));
     assert!(rt; hear(&mut switch, &ADD, &mut notes));
     assert!(rt; switch.pop(PortNo(0)).is_none());
-    assert!(rt; hear(&mut switch, &ACK, &mut notes));
+    assert!(rt;
+        hear(
+            &mut switch,
+            &greeting(ACK, &CONTROLLER, &SWITCH),
+            &mut notes
+        )
+    );
     assert!(rt; switch.pop(PortNo(0)).is_none());
     assert!(rt; hear(&mut switch, &ADD, &mut notes));
     assert!(rt; says(&mut switch, &ADDED));
@@ -402,6 +456,79 @@ fn a_controller_is_answered(rt: HostRuntime) -> Result<(), Fail> {
     assert!(rt; switch.tick(&mut numbers, &mut notes).is_ok());
     assert!(rt; switch.pop(PortNo(0)).is_some());
     assert_eq!(rt; notes.len(), 1);
+    switch.abandon();
+    Ok(())
+}
+
+/// A switch that was never greeted hears a SYNACK that names it rightly.
+#[test]
+fn a_synack_opens(rt: HostRuntime) -> Result<(), Fail> {
+    let mut numbers = Numbers::new();
+    let mut notes = Notes::open(rt.alloc())?;
+    let mut switch = Switch::open(rt.alloc(), NodeId(1), &[PortNo(1)], 4, 1, &mut numbers)?;
+    assert!(rt;
+        hear(
+            &mut switch,
+            &greeting(SYNACK, &CONTROLLER, &SWITCH),
+            &mut notes
+        )
+    );
+    assert!(rt; says(&mut switch, &greeting(ACK, &SWITCH, &CONTROLLER)));
+    assert!(rt; hear(&mut switch, &ADD, &mut notes));
+    assert!(rt; says(&mut switch, &ADDED));
+    switch.abandon();
+    Ok(())
+}
+
+/// An RSTACK with both parties right is answered by nothing; a tick later the switch greets anew.
+#[test]
+fn an_rstack_resets(rt: HostRuntime) -> Result<(), Fail> {
+    let mut numbers = Numbers::new();
+    let mut notes = Notes::open(rt.alloc())?;
+    let mut switch = Switch::open(rt.alloc(), NodeId(1), &[PortNo(1)], 4, 1, &mut numbers)?;
+    assert!(rt;
+        hear(
+            &mut switch,
+            &greeting(SYNACK, &CONTROLLER, &SWITCH),
+            &mut notes
+        )
+    );
+    assert!(rt; switch.pop(PortNo(0)).is_some());
+    assert!(rt;
+        hear(
+            &mut switch,
+            &greeting(RSTACK, &CONTROLLER, &SWITCH),
+            &mut notes
+        )
+    );
+    assert!(rt; switch.pop(PortNo(0)).is_none());
+    assert!(rt; switch.tick(&mut numbers, &mut notes).is_ok());
+    assert!(rt; says(&mut switch, &greeting(SYN, &SWITCH, &NOBODY)));
+    switch.abandon();
+    Ok(())
+}
+
+/// A last cell of zeros is no frame; neither it nor what is forged changes the adjacency.
+#[test]
+fn frames_are_broken_or_forged(rt: HostRuntime) -> Result<(), Fail> {
+    let mut numbers = Numbers::new();
+    let mut notes = Notes::open(rt.alloc())?;
+    let mut switch = Switch::open(rt.alloc(), NodeId(1), &[PortNo(1)], 2, 1, &mut numbers)?;
+    assert!(rt; take(&mut switch, 0, GSMP, 1, true, &mut notes));
+    assert!(rt; are_entries(&notes, &[(1, Cause::Broken)]));
+    for frame in [2, 3] {
+        let mark = Mark { packet: 0, frame };
+        let forged = switch.forge(PortNo(1), LABEL, &[0; 48], mark, &mut notes);
+        assert!(rt; forged.is_ok());
+        assert!(rt; notes.ledger().is_frame(mark, &[0; 48]));
+    }
+    assert!(rt; are_entries(&notes, &[(1, Cause::Broken), (3, Cause::PoolFull)]));
+    for last in [false, true] {
+        let header = switch.pop(PortNo(1)).map(|cell| cell.header);
+        let channel = LABEL;
+        assert_eq!(rt; header, Some(Header { channel, last }));
+    }
+    assert!(rt; switch.pop(PortNo(1)).is_none());
     switch.abandon();
     Ok(())
 }
