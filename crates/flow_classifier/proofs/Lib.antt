@@ -1,0 +1,9 @@
+pub mod Backwards
+pub mod Flows
+pub mod Recency
+pub mod Packets
+pub mod Remembered
+pub mod RetainedRows
+pub mod Ringed
+pub mod Derived
+pub mod Taking

@@ -1,0 +1,4 @@
+pub mod Policies
+pub mod Counting
+pub mod Rows
+pub mod History

@@ -1,0 +1,15 @@
+//! When a flow gets a label of its own: the policies, and the counts of the packets of each flow on
+//! which they go (Newman, Minshall and Lyon, "IP Switching: ATM under IP": the X/Y classifier). How
+//! flows are counted is defined in `port_model`.
+#![tactic(auto)]
+
+mod classifier;
+mod laws;
+mod policy;
+#[cfg(test)]
+mod tests;
+mod window;
+
+pub use classifier::Classifier;
+pub use laws::counts_are_of_the_window;
+pub use policy::{NamedPolicy, Never, Policy, XyPolicy};
