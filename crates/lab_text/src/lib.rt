@@ -11,7 +11,9 @@ mod numeral;
 mod text;
 
 pub use hex_line::read_hex_line;
-pub use line::{INPUT_LIMIT, LINE_LIMIT, LineFault, check_line, is_blank_line, line_text, split_word};
+pub use line::{
+    INPUT_LIMIT, LINE_LIMIT, LineFault, check_line, is_blank_line, line_text, split_word,
+};
 pub use lines::split_line;
 pub use names::{cause_name, drop_name, layer_name, refusal_name};
 pub use numeral::{read_hex, read_number};
