@@ -1,0 +1,11 @@
+//! What a channel makes of the cells that it takes, until a frame is whole, for all who take cells:
+//! a [`Reassembly`] keeps them in a chain of a region of slots, which a [`cell_pool::ChainStore`]
+//! holds. It is the definition of `frame_model`, in code.
+#![tactic(auto)]
+
+mod chain;
+mod reassembly;
+#[cfg(test)]
+mod tests;
+
+pub use reassembly::Reassembly;
