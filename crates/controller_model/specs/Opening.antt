@@ -5,7 +5,7 @@ use Rattle.net_types.specs.declared.prefix.Addr.{Addr}
 use Rattle.net_types.specs.declared.node.NodeId.{NodeId}
 use Rattle.net_types.specs.declared.number.Instance.{Instance}
 use Rattle.net_types.specs.declared.adjacency.Party.{Party}
-use Rattle.net_types.specs.Number.{GivenOut}
+use Rattle.net_types.specs.Number.{GivenOut, next_instance}
 use Rattle.ipv4_forward.specs.declared.table.Route.{Route}
 use Rattle.adjacency_table.specs.declared.State.TheVariants.{SynSent}
 use Rattle.adjacency_table.specs.Side.{fresh}
@@ -56,7 +56,7 @@ opened node address table ranges cells timers policy numbers = record {
   waiting = [];
   is_begun = false;
   changes = 0;
-  adjacency = fresh SynSent (controller_party node (record { 0 = numbers.instances + 1 }));
+  adjacency = fresh SynSent (controller_party node (next_instance numbers));
   desk = empty_desk;
   has_met = false;
   reassembly = nothing_taken;

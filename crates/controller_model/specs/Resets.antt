@@ -1,8 +1,9 @@
 -- *Node reset and restart*: every port begins anew, the desk is emptied, and nothing is sent. The cells that
 -- wait for the switch stay. The resets are this project's own; a new instance is RFC 1987's.
 
-use Rattle.std.specs.Prelude.{ℕ, false, ◌+◌, [], fold, Option, None, Some}
+use Rattle.std.specs.Prelude.{ℕ, false, [], fold, Option, None, Some}
 use Rattle.net_types.specs.declared.node.PortNo.{PortNo}
+use Rattle.net_types.specs.Number.{next_instance, with_instance}
 use Rattle.adjacency_table.specs.declared.State.TheVariants.{SynSent}
 use Rattle.adjacency_table.specs.Side.{fresh}
 use Rattle.frame_model.specs.Reassembly.{cut, nothing_taken}
@@ -66,12 +67,12 @@ port_restarts a port = port_restarts_of a (linked_at a.controller port)
 abbrev pub resets_gsmp : Acted → Acted
 resets_gsmp a = record a {
   controller = record a.controller {
-    adjacency = fresh SynSent (record a.controller.adjacency.own { instance = record { 0 = a.numbers.instances + 1 } });
+    adjacency = fresh SynSent (record a.controller.adjacency.own { instance = next_instance a.numbers });
     desk = emptied a.controller.desk;
     has_met = false;
     is_begun = false;
   };
-  numbers = record a.numbers { instances = a.numbers.instances + 1 };
+  numbers = with_instance a.numbers;
 }
 
 abbrev pub node_resets : Acted → Acted
