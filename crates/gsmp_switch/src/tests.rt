@@ -508,27 +508,42 @@ fn an_rstack_resets(rt: HostRuntime) -> Result<(), Fail> {
     Ok(())
 }
 
-/// A last cell of zeros is no frame; neither it nor what is forged changes the adjacency.
+/// A last cell of zeros is no frame.
 #[test]
-fn frames_are_broken_or_forged(rt: HostRuntime) -> Result<(), Fail> {
+fn a_broken_frame_is_entered(rt: HostRuntime) -> Result<(), Fail> {
     let mut numbers = Numbers::new();
     let mut notes = Notes::open(rt.alloc())?;
-    let mut switch = Switch::open(rt.alloc(), NodeId(1), &[PortNo(1)], 2, 1, &mut numbers)?;
+    let mut switch = Switch::open(rt.alloc(), NodeId(1), &[PortNo(1)], 4, 1, &mut numbers)?;
     assert!(rt; take(&mut switch, 0, GSMP, 1, true, &mut notes));
     assert!(rt; are_entries(&notes, &[(1, Cause::Broken)]));
-    for frame in [2, 3] {
-        let mark = Mark { packet: 0, frame };
+    assert_eq!(rt; switch.fabric().free(), 4);
+    switch.abandon();
+    Ok(())
+}
+
+/// A frame of two cells is queued at port 1 where two slots are free; else it is entered.
+#[test]
+fn a_forged_frame_is_queued_whole(rt: HostRuntime) -> Result<(), Fail> {
+    let mark = Mark {
+        packet: 0,
+        frame: 9,
+    };
+    let first = Header {
+        channel: LABEL,
+        last: false,
+    };
+    for (cells, entries, queued) in [(1, 1, None), (2, 0, Some(first))] {
+        assert!(rt; 1 <= cells && cells <= 2);
+        let mut numbers = Numbers::new();
+        let mut notes = Notes::open(rt.alloc())?;
+        let mut switch = Switch::open(rt.alloc(), NodeId(1), &[PortNo(1)], cells, 1, &mut numbers)?;
         let forged = switch.forge(PortNo(1), LABEL, &[0; 48], mark, &mut notes);
         assert!(rt; forged.is_ok());
         assert!(rt; notes.ledger().is_frame(mark, &[0; 48]));
-    }
-    assert!(rt; are_entries(&notes, &[(1, Cause::Broken), (3, Cause::PoolFull)]));
-    for last in [false, true] {
+        assert_eq!(rt; notes.len(), entries);
         let header = switch.pop(PortNo(1)).map(|cell| cell.header);
-        let channel = LABEL;
-        assert_eq!(rt; header, Some(Header { channel, last }));
+        assert_eq!(rt; header, queued);
+        switch.abandon();
     }
-    assert!(rt; switch.pop(PortNo(1)).is_none());
-    switch.abandon();
     Ok(())
 }
