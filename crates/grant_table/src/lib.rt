@@ -1,0 +1,12 @@
+//! The labels under which a port may send (RFC 1953), in the order in which they were accepted. What
+//! a grant is, and which is used for a packet, is defined in `port_model`.
+#![tactic(auto)]
+
+mod grant;
+mod grants;
+mod held;
+mod table;
+#[cfg(test)]
+mod tests;
+
+pub use table::{AcceptFault, Accepted, GrantState, GrantTable, GrantView};
