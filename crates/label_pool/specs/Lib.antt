@@ -1,0 +1,4 @@
+pub mod Tag
+pub mod Label
+pub mod Marks
+pub mod Pool
