@@ -1,11 +1,11 @@
 -- Done means answered, and the other way round.
 
-use Rattle.std.proofs.Common.{◌≡◌, ◌↔◌, ℕ, zero, suc, ◌+◌, ◌<◌, ◌==◌, ◌&&◌, Bool, true, false, cond, List, [], ◌∷◌, get_or, Option, None, Some, Contains, find, refl, sym, ap, ◌∙◌, arith}
-use Rattle.std.proofs.lemmas.Bool.{eqb-true, eq-eqb}
+use Rattle.std.proofs.Common.{◌≡◌, ◌↔◌, ℕ, zero, suc, ◌==◌, ◌&&◌, Bool, true, false, cond, List, [], ◌∷◌, get_or, Option, None, Some, Contains, find, refl, sym, ap, ◌∙◌, arith}
+use Rattle.std.proofs.lemmas.Bool.{eqb-true}
 use Rattle.gsmp_wire.specs.declared.message.Message.{Message}
 use Rattle.gsmp_wire.specs.declared.message.Message.TheVariants as messages
 use Rattle.desk_model.specs.Desk.{Desk, Standing}
-use Rattle.desk_model.specs.Answers.{Head, head_of, is_of_type, Answered, answered, outcome, succeeded}
+use Rattle.desk_model.specs.Answers.{Head, head_of, is_of_type, answered, outcome, succeeded}
 use Rattle.desk_model.specs.Answers.Answered.{Failed, Unknown}
 use Rattle.branch_desk.specs.declared.answered.Answered.{Answered as Told}
 use Rattle.branch_desk.specs.Answers.{told, done_of, IsDoneBy}

@@ -15,7 +15,7 @@ use Rattle.crossbar_model.specs.Channels.{end_cmp}
 use Rattle.crossbar_model.specs.Crossbar.{same_end}
 use Rattle.desk_model.specs.Desk.{Standing}
 use Rattle.desk_model.specs.Requests.{input_of, is_on}
-use Rattle.branch_desk.specs.Inputs.{IsPlaceOf, IsGapFor, IsEntered, how_often}
+use Rattle.branch_desk.specs.Inputs.{IsPlaceOf, IsGapFor, IsEntered}
 use Rattle.branch_desk.specs.Requests.{AreInputsOf}
 use Rattle.branch_desk.proofs.Ends.{end_cmp_total, end_from_same, same_itself}
 

@@ -1,11 +1,18 @@
 -- The requests that stand, as a list in order of their numbers.
 
-use Rattle.std.specs.Prelude.{◌≡◌, ℕ, ◌<◌, List, length, slice_index_or, cond, is_some}
+use Rattle.std.specs.Prelude.{◌≡◌, ℕ, ◌<◌, ◌==◌, ◌||◌, Bool, true, List, length, slice_index_or, cond, is_some}
 use Rattle.std.specs.List.{AllPairs, sum_by}
 use Rattle.net_types.specs.declared.channel.End.{End}
+use Rattle.gsmp_wire.specs.declared.request.Request.{Request}
+use Rattle.gsmp_wire.specs.declared.request.Request.TheVariants.{PortManagement}
 use Rattle.desk_model.specs.Desk.{Standing}
 use Rattle.desk_model.specs.Requests.{input_of, is_on}
 use Rattle.branch_desk.specs.Inputs.{how_often}
+
+-- Port Management brings the port up or takes it down
+abbrev pub has_function : Request → Bool
+has_function (PortManagement port function) = function == 1 || function == 2
+has_function request = true
 
 abbrev pub AreRising : List Standing → Type 0
 AreRising standing = AllPairs (λ a b. a.number < b.number) standing

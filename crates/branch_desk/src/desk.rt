@@ -1,12 +1,15 @@
 //! The desk.
 
-ghost use Rattle.std.specs.Prelude.{◌≡◌, ◌<◌, ◌≤◌, ◌==◌, ◌+◌, ◌↔◌, [], length, slice_get, false, List, IsErr, IfOk, OnOk, OnErr, IsSome, Some, Contains};
+ghost use Rattle.std.specs.Prelude.{◌≡◌, ◌<◌, ◌≤◌, ◌==◌, ◌+◌, ◌↔◌, [], length, slice_get, false, true, None, IsErr, IfOk, IfSome, OnOk, OnErr, Some, List, Contains};
 ghost use Rattle.std.specs.Option.{option_map};
 ghost use Rattle.std.specs.List.{list_any};
+ghost use Rattle.gsmp_wire.specs.Layout.{octets_of};
+ghost use Rattle.gsmp_wire.specs.Refusal.{refusal};
 ghost use Rattle.desk_model.specs.Answers.{answered, after_answer, without_request};
 ghost use Rattle.desk_model.specs.Desk.{Standing, all_on, asked, empty_desk, last_transaction, message_at, on_input};
 ghost use Rattle.desk_model.specs.Requests.{withdraws};
 ghost use Rattle.branch_desk.specs.Answers.{IsDoneBy, done_of, told};
+ghost use Rattle.branch_desk.specs.Requests.{has_function};
 ghost use Rattle.branch_desk.specs.Later.{Call, after_calls, stands_under};
 
 use crate::answered::{Answered, Ports, copied};
@@ -61,12 +64,13 @@ impl Desk {
         })
     }
 
-    /// Asks a request under the next number, where no request stands that it would withdraw; that
-    /// number is below 4,294,967,295. `DeskFull` comes exactly where at least 1,024 requests stand,
-    /// and then nothing changes.
+    /// Asks a request under the next number, where no request stands that it would withdraw. That
+    /// number is below 4,294,967,295, and the function of a Port Management 1 or 2. `DeskFull` comes
+    /// exactly where at least 1,024 requests stand, and then nothing changes.
     pub fn ask(&mut self, request: Request) -> Result<Ticket, DeskFull>
         requires free { list_any (λ s. withdraws request s.request) self.old.standing ≡ false }
         requires number { self.old.next < last_transaction }
+        requires function { has_function request ≡ true }
         ensures full { IsErr result ↔ (1024 ≤ length self.old.standing) }
         ensures ticket { IfOk result (λ t. t ≡ record { number = self.old.next; request = request }) }
         ensures asked { OnOk result (self.new ≡ asked self.old request) }
@@ -82,6 +86,7 @@ impl Desk {
     pub fn ask_needed(&mut self, request: Request) -> Ticket
         requires free { list_any (λ s. withdraws request s.request) self.old.standing ≡ false }
         requires number { self.old.next < last_transaction }
+        requires function { has_function request ≡ true }
         requires room { length self.old.standing < 4096 }
         ensures ticket { result ≡ record { number = self.old.next; request = request } }
         ensures asked { self.new ≡ asked self.old request }
@@ -140,9 +145,10 @@ impl Desk {
     }
 
     /// The message of the request at this place in order of numbers, counted from 0; none exactly
-    /// where the place is at or above [`Desk::standing`].
+    /// where the place is at or above [`Desk::standing`]. No receiver refuses its octets.
     pub fn resend(&self, place: usize) -> Option<Message>
-        ensures { result ≡ option_map (message_at self.now) (slice_get self.now.standing place) }
+        ensures message { result ≡ option_map (message_at self.now) (slice_get self.now.standing place) }
+        ensures accepted { IfSome result (λ message. refusal (octets_of message) ≡ None) }
     {
         let entry = self.requests.at(place)?;
         Some(message_of(&self.rows, entry.number(), &entry.request()))

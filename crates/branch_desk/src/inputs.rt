@@ -11,8 +11,8 @@ use std::alloc::Global;
 use std::cmp::Ordering;
 use std::marker::Model;
 
-/// The most inputs on which requests stand.
-const MOST: usize = 4096;
+/// The most requests that stand.
+pub(crate) const MOST_REQUESTS: usize = 4096;
 
 /// The order of ends: by port, then by VPI, then by VCI.
 fn order(a: &End, b: &End) -> Ordering
@@ -75,7 +75,7 @@ impl Inputs {
         ensures { IfOk result (λ inputs. inputs ≡ []) }
     {
         Ok(Inputs {
-            ends: Vec::with_capacity(alloc, MOST)?,
+            ends: Vec::with_capacity(alloc, MOST_REQUESTS)?,
         })
     }
 

@@ -1,21 +1,18 @@
 //! The requests that stand.
 
-ghost use Rattle.std.specs.Prelude.{◌≡◌, ◌<◌, ◌≤◌, ◌==◌, ◌&&◌, ◌++◌, ◌∷◌, [], not, All, find, filter, length, slice_get, false, IfOk, IfSome, IfNone};
+ghost use Rattle.std.specs.Prelude.{◌≡◌, ◌<◌, ◌≤◌, ◌==◌, ◌&&◌, ◌++◌, ◌∷◌, [], not, All, find, filter, length, slice_get, false, true, IfOk, IfSome, IfNone};
 ghost use Rattle.std.specs.List.{list_any};
 ghost use Rattle.desk_model.specs.Answers.{is_of_type};
 ghost use Rattle.desk_model.specs.Requests.{is_on, is_delete_all};
-ghost use Rattle.branch_desk.specs.Requests.{AreRising, IsUnder};
+ghost use Rattle.branch_desk.specs.Requests.{AreRising, IsUnder, has_function};
 
 use crate::entry::Entry;
-use crate::inputs::Inputs;
+use crate::inputs::{Inputs, MOST_REQUESTS};
 use crate::message::is_of_type;
 use gsmp_wire::{Message, Request};
 use net_types::{End, OutOfMemory, PortNo};
 use std::alloc::Global;
 use std::marker::Model;
-
-/// The most requests that stand.
-const MOST: usize = 4096;
 
 /// The place of the request with this number.
 fn place_of(entries: &[Entry], number: u32) -> Option<usize>
@@ -37,10 +34,10 @@ pub(crate) struct Requests {
 }
 
 impl Model for Requests {
-    ghost use Rattle.std.specs.Prelude.{◌≤◌, List, length};
+    ghost use Rattle.std.specs.Prelude.{◌≡◌, ◌≤◌, true, List, All, length};
     ghost use Rattle.std.specs.Vec.{vec_capacity};
     ghost use Rattle.desk_model.specs.Desk.{Standing};
-    ghost use Rattle.branch_desk.specs.Requests.{AreRising, AreInputsOf};
+    ghost use Rattle.branch_desk.specs.Requests.{AreRising, AreInputsOf, has_function};
 
     ghost Value = { List Standing };
 
@@ -49,6 +46,7 @@ impl Model for Requests {
     ghost invariant = { λ r. record {
       rising : AreRising r.entries.items;
       inputs : AreInputsOf r.entries.items r.inputs;
+      functions : All (λ (s : Standing). has_function s.request ≡ true) r.entries.items;
       most : length r.entries.items ≤ 4096;
       room : 4096 ≤ vec_capacity r.entries;
     } };
@@ -60,7 +58,7 @@ impl Requests {
         ensures { IfOk result (λ requests. requests ≡ []) }
     {
         Ok(Requests {
-            entries: Vec::with_capacity(alloc, MOST)?,
+            entries: Vec::with_capacity(alloc, MOST_REQUESTS)?,
             inputs: Inputs::open(alloc)?,
         })
     }
@@ -74,7 +72,8 @@ impl Requests {
 
     /// The one at this place in order of numbers.
     pub(crate) fn at(&self, place: usize) -> Option<Entry>
-        ensures { result ≡ slice_get self.now place }
+        ensures at { result ≡ slice_get self.now place }
+        ensures function { IfSome result (λ s. has_function s.request ≡ true) }
     {
         self.entries.get(place).copied()
     }
@@ -110,6 +109,7 @@ impl Requests {
     pub(crate) fn push(&mut self, entry: Entry)
         requires room { length self.old < 4096 }
         requires last { All (λ s. s.number < entry.number) self.old }
+        requires function { has_function entry.request ≡ true }
         ensures { self.new ≡ self.old ++ entry ∷ [] }
     {
         self.inputs.insert(entry.input());

@@ -1,13 +1,13 @@
-use Rattle.std.proofs.Common.{◌≡◌, ◌∙◌, ◌<◌, ◌==◌, not, filter, sym, ap, None, Some}
+use Rattle.std.proofs.Common.{◌≡◌, ◌∙◌, ◌<◌, ◌==◌, not, filter, sym, ap, Some}
 use Rattle.std.proofs.lemmas.List.Elements.{All-filter}
 use Rattle.gsmp_wire.specs.declared.message.Message.{Message}
 use Rattle.desk_model.specs.Desk.{Desk, Standing}
 use Rattle.desk_model.specs.Answers.{Head, head_of, succeeded, answered, after_answer}
 use Rattle.desk_model.specs.Answers as meaning
 use Rattle.branch_desk.specs.Answers.{told}
-use Rattle.branch_desk.specs.declared.answered.Answered.TheVariants.{Unknown, Done, Ports, Failed}
+use Rattle.branch_desk.specs.declared.answered.Answered.TheVariants.{Unknown, Done, Ports}
 use Rattle.branch_desk.proofs.Answering.{unknown_is, succeeded_is, failed_is, done_is}
-use Rattle.branch_desk.proofs.Done.{done_exactly, none_done}
+use Rattle.branch_desk.proofs.Done.{done_exactly}
 use Rattle.branch_desk.proofs.desk.Desk.answer.Goals as goal
 
 pub returns-in_default-answered_by-clause-answer : goal.returns-in_default-answered_by-clause-answer

@@ -1,7 +1,9 @@
-use Rattle.std.proofs.Common.{◌<◌, ◌+◌, ◌∙◌, length, ap, sym, arith}
+use Rattle.std.proofs.Common.{◌≡◌, true, ◌<◌, ◌∙◌, sym, arith}
 use Rattle.std.proofs.lemmas.List.Quantifiers.{all_pairs_remove}
+use Rattle.std.proofs.lemmas.List.Elements.{All-tail}
+use Rattle.std.proofs.lemmas.List.Sorted.{All-permutation, IsPermutation-remove}
 use Rattle.desk_model.specs.Desk.{Standing}
-use Rattle.branch_desk.specs.Requests.{IsUnder}
+use Rattle.branch_desk.specs.Requests.{IsUnder, has_function}
 use Rattle.branch_desk.proofs.Numbers.{has, none_left, left_at}
 use Rattle.branch_desk.proofs.OnInputs.{inputs_remove, input_there}
 use Rattle.branch_desk.proofs.requests.Requests.remove.Goals as goal
@@ -20,6 +22,10 @@ invariant_of-self c =
     record {
       rising = rw c.remove-entry.ensures.items (all_pairs_remove (λ (a b : Standing). a.number < b.number) _ c.in-Some.place under.within c.self.invariant.rising);
       inputs = rw c.remove-entry.ensures.items (inputs_remove _ c.in-Some.place c.remove-entry.result _ _ under.within c.remove-entry.ensures.value c.self.invariant.inputs (rw (← c.input.ensures) c.remove.ensures));
+      functions =
+          rw c.remove-entry.ensures.items
+          (All-tail (λ (s : Standing). has_function s.request ≡ true) c.remove-entry.result _
+          (All-permutation (λ (s : Standing). has_function s.request ≡ true) _ _ (IsPermutation-remove _ c.in-Some.place c.remove-entry.result under.within c.remove-entry.ensures.value) c.self.invariant.functions));
       most = omega (arith, c.remove-entry.ensures.len, c.self.invariant.most);
       room = omega (arith, c.remove-entry.ensures.capacity, c.self.invariant.room);
     }
