@@ -1,10 +1,9 @@
 -- the order of channels, and the channels that are left between two narrower ones
 
-use Rattle.std.proofs.Common.{◌≡◌, ℕ, ◌<◌, ◌≤◌, ◌⊎◌, Bool, true, false, refl, sym, ◌∙◌, arith, inl, inr}
-use Rattle.std.specs.Prelude.{◌&&◌, ◌||◌, ◌==◌, nat_lt, nat_le}
-use Rattle.std.proofs.lemmas.Bool.{cases_Bool, cases_order, cases_lt, true≢false, or_cases, and_parts, and_from, and_left, and_right, and_cases, ltb-true, leb-true, eqb-true, lt-ltb, le-ltb, le-leb, eq-eqb}
+use Rattle.std.proofs.Common.{◌≡◌, ◌<◌, ◌≤◌, ◌⊎◌, true, false, refl, sym, ◌∙◌, arith, inl, inr}
+use Rattle.std.specs.Prelude.{◌&&◌, ◌==◌, nat_lt, nat_le}
+use Rattle.std.proofs.lemmas.Bool.{cases_Bool, cases_order, cases_lt, true≢false, or_cases, and_parts, and_from, ltb-true, leb-true, eqb-true, lt-ltb, le-leb, eq-eqb}
 use Rattle.net_types.specs.declared.channel.Channel.{Channel}
-use Rattle.net_types.specs.Label.{is_label_number}
 use Rattle.port_model.specs.Setup.{channel_le, is_between}
 use Rattle.port_model.specs.Reclaiming.{greater_of, lesser_of}
 

@@ -1,7 +1,7 @@
 -- what a change of a pool's marks makes of them
 
-use Rattle.std.proofs.Common.{◌≡◌, ◌≢◌, ℕ, ◌+◌, ◌-◌, ◌<◌, ◌≤◌, Bool, true, false, List, length, Option, None, Some, refl, sym, ap, ◌∙◌, arith, inl, inr}
-use Rattle.std.specs.Prelude.{slice_index_or, slice_set, find, IsTrue, ◌&&◌, nat_eq, nat_le, map}
+use Rattle.std.proofs.Common.{◌≡◌, ◌≢◌, ℕ, ◌+◌, ◌-◌, ◌<◌, ◌≤◌, Bool, true, false, List, length, None, Some, refl, sym, ◌∙◌, arith, inl, inr}
+use Rattle.std.specs.Prelude.{slice_index_or, slice_set, find, IsTrue, nat_eq, nat_le, map}
 use Rattle.std.specs.List.{list_any, range_with_len}
 use Rattle.std.proofs.lemmas.Bool.{cases_lt, cases_eq, cases_Bool, and_left, and_right, and_cases, and_parts, true≢false}
 use Rattle.std.proofs.lemmas.List.FromFn.{length-map-range_with_len}

@@ -1,6 +1,6 @@
 -- What labels, and the evidence that one was quit, are seen as
 
-use Rattle.std.specs.Prelude.{ℕ, Bool}
+use Rattle.std.specs.Prelude.{ℕ}
 use Rattle.net_types.specs.declared.number.Instance.{Instance}
 
 -- the instance of the adjacency for which its pool was opened, its number, and what its state keeps: an

@@ -5,10 +5,12 @@
 
 mod between;
 mod label;
+mod laws;
 mod marks;
 mod pool;
 #[cfg(test)]
 mod tests;
 
 pub use label::{Label, Offered, Quit, Recalled, Spare, Wired};
+pub use laws::pools_are_the_ports;
 pub use pool::LabelPool;

@@ -1,4 +1,4 @@
-use Rattle.std.proofs.Common.{◌≡◌, ◌≤◌, ◌+◌, sym, ◌∙◌, arith}
+use Rattle.std.proofs.Common.{◌≡◌, ◌≤◌, ◌+◌, arith}
 use Rattle.std.specs.Prelude.{if◌then◌else◌}
 use Rattle.net_types.specs.Label.{is_label_number}
 use Rattle.label_pool.proofs.Marked.{more_marks, marked_push}

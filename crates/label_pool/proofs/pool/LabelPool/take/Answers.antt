@@ -1,4 +1,4 @@
-use Rattle.std.proofs.Common.{◌≡◌, ℕ, ◌+◌, ◌<◌, ◌≤◌, false, length, sym, ◌∙◌, refl, arith}
+use Rattle.std.proofs.Common.{◌≡◌, ℕ, ◌+◌, ◌<◌, ◌≤◌, false, length, sym, refl, arith}
 use Rattle.label_pool.specs.Marks.{marked, is_open}
 use Rattle.label_pool.proofs.Marked.{length_off, marked_off, absent_without}
 use Rattle.label_pool.proofs.Pools.{closed_up_to, first_place, lowest_found, lowest_none, marks_taken}
