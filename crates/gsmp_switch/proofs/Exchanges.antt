@@ -1,32 +1,31 @@
 -- A fabric and its chain, against what they are seen as
 
-use Rattle.std.proofs.Common.{◌≡◌, ◌∙◌, Bool, true, false, cond, Result, Ok, Err, ℕ, ◌+◌, List, [], ◌∷◌, length, map, replicate, take, slice_set, ◌++◌, ◌<◌, ap, refl, arith}
-use Rattle.std.proofs.lemmas.Grind.{common_steps}
-use Rattle.std.proofs.lemmas.List.{take_more_set}
+use Rattle.std.proofs.Common.{◌≡◌, ◌∙◌, Bool, true, false, cond, Result, Ok, Err, ℕ, List, [], length, map, replicate, ap, refl, arith}
 use Rattle.std.specs.Prelude.{nat_le, OnOk, OnErr}
 use Rattle.net_types.specs.declared.node.PortNo.{PortNo}
 use Rattle.net_types.specs.declared.channel.Channel.{Channel}
 use Rattle.net_types.specs.declared.number.Mark.{Mark}
 use Rattle.net_types.specs.declared.memory.OutOfMemory.{OutOfMemory}
-use Rattle.atm_cells.specs.declared.cell.Cell.{Cell}
 use Rattle.link_model.specs.Notes.{Journal}
 use Rattle.frame_model.specs.Frame.{frame_cells}
 use Rattle.frame_model.specs.Sending.{Sent, sent_frame}
 use Rattle.std.specs.List.{sum_by}
 use Rattle.cell_pool.specs.Region.{Line, Region, size, cells_of, len_of, IsLine}
-use Rattle.cell_pool.specs.Shares.{len_of_all}
+use Rattle.cell_pool.specs.Shares.{ChangesBeside, len_of_all}
 use Rattle.cell_pool.proofs.Lines.{apart_empty, length-cells_of, len_of_all-cells}
 use Rattle.crossbar_model.specs.Crossbar.{Branches, Crossbar, sent}
-use Rattle.fabric.specs.Fabric.{FabricView, ChainChanges, crossbar, free_slots}
+use Rattle.fabric.specs.Fabric.{Besides, FabricView, besides, crossbar, free_slots}
+use Rattle.frame_model.specs.Reassembly.{Reassembly}
+use Rattle.reassembly.specs.Receipt.{Gathering, reassembly_in}
 use Rattle.gsmp_switch.specs.Exchange.{AreOneRegion, Store, free_in, store_of}
 
 pub chain_length : (r : Region) (l : Line) → length (cells_of r l) ≡ len_of l
 chain_length r l = length-cells_of r l
 
 -- the free slots are those that hold no cell
-pub free_is : (f : FabricView) (q : Line) → AreOneRegion f q → free_slots f ≡ free_in (store_of f q)
-free_is f q is =
-    let chain = length-cells_of f.region q in
+pub free_is : (f : FabricView) (g : Gathering) → AreOneRegion f g.chain → free_slots f ≡ free_in (store_of f g)
+free_is f g is =
+    let chain = length-cells_of f.region g.chain in
     let queues = len_of_all-cells f.region f.lines in
     let counted = is.counted in
     omega (arith, chain, queues, counted)
@@ -42,36 +41,23 @@ opened_region f q b n same free all none line =
       counted = omega (arith, queues, empty, free, all, none);
     }
 
--- a cell was taken off the chain
-pub chain_shorter : (f g : FabricView) (q r : Line) (c : Cell) → AreOneRegion f q → ChainChanges f g q r → cells_of f.region q ≡ c ∷ cells_of g.region r → AreOneRegion g r
-chain_shorter f g q r c is changed popped =
+-- *What the reassembly does beside the queues*
+
+pub one_region : (f g : FabricView) (q r : Line) → AreOneRegion f q → ChangesBeside f.region g.region f.lines q r → g.lines ≡ f.lines → AreOneRegion g r
+one_region f g q r is changed same =
     let counted = changed.chain.counted in
     let before = is.counted in
     let same_size = changed.chain.same_size in
-    let lines = ap (λ (ls : List Line). len_of_all ls) changed.queues.same_lines in
+    let lines = ap (λ (ls : List Line). len_of_all ls) same in
     record {
       threaded = changed.chain.threaded;
-      apart = changed.apart;
+      apart = rw same changed.apart;
       counted = omega (arith, counted, before, same_size, lines);
     }
 
--- and it was the first of the cells; the rest of what is seen stayed
-pub one_less : (f g : FabricView) (q r : Line) (c : Cell) → cells_of f.region q ≡ c ∷ cells_of g.region r → len_of q ≡ len_of r + 1
-one_less f g q r c popped =
-    let before = length-cells_of f.region q in
-    let after = length-cells_of g.region r in
-    let lengths = ap (λ (cs : List Cell). length cs) popped in
-    omega (arith, before, after, lengths)
-
-pub rest_stays : (f g : FabricView) (q r : Line) → ChainChanges f g q r → ◌≡◌ {A = Store} (record (store_of g r) { chain = [] }) (record (store_of f q) { chain = [] })
-rest_stays f g q r changed = rw (changed.queues.same_ports, changed.queues.same_vpis, changed.queues.same_crossbar, changed.chain.same_size) refl
-
--- the cells that are out already, with one more
-pub taken_more : (out : List Cell) (i : ℕ) (c : Cell) (rest all : List Cell) → i < length out → take i out ++ c ∷ rest ≡ all → take (i + 1) (slice_set out i c) ++ rest ≡ all
-taken_more out i c rest all within h = grind (arith, common_steps, take_more_set)
-
-pub length_set : (out : List Cell) (i : ℕ) (c : Cell) → length (slice_set out i c) ≡ length out
-length_set out i c = grind (arith, common_steps)
+pub store_after : (f g : FabricView) (p q : Gathering) (after : Reassembly) → ChangesBeside f.region g.region f.lines p.chain q.chain → besides g ≡ besides f → reassembly_in g.region q ≡ after → store_of g q ≡ record (store_of f p) { reassembly = after }
+store_after f g p q after changed same is =
+    rw (ap (λ (b : Besides). b.ports) same, ap (λ (b : Besides). b.vpis) same, ap (λ (b : Besides). b.crossbar) same, changed.chain.same_size, is) refl
 
 -- *Sending a frame keeps the ports*
 
@@ -85,3 +71,7 @@ pub ports_after_frame : (r : Result Unit OutOfMemory) (port : PortNo) (channel :
 ports_after_frame (Ok done) port channel mark payload old new before after is fails =
     ap (λ (s : Sent Store). s.queues.ports) is ∙ sent_by (nat_le (length (frame_cells channel mark payload)) (free_in old)) old.ports _ _ refl refl
 ports_after_frame (Err error) port channel mark payload old new before after is fails = ap (λ (x : Store). x.ports) fails
+
+pub on_ok : {T E : Type 0} (r : Result T E) (P Q : Type 0) → (P → Q) → OnOk r P → OnOk r Q
+on_ok (Ok value) P Q then is = then is
+on_ok (Err error) P Q then is = tt

@@ -1,35 +1,36 @@
--- A fabric and the chain that shares its region of slots, as plain data
+-- A fabric and the reassembly that shares its region of slots, as plain data
 
 use Rattle.std.specs.Prelude.{◌≡◌, ℕ, ◌+◌, ◌-◌, List, length}
 use Rattle.std.specs.List.{sum_by}
 use Rattle.net_types.specs.declared.node.PortNo.{PortNo}
-use Rattle.atm_cells.specs.declared.cell.Cell.{Cell}
-use Rattle.cell_pool.specs.Region.{Line, size, cells_of, len_of, IsLine}
+use Rattle.frame_model.specs.Reassembly.{Reassembly}
+use Rattle.reassembly.specs.Receipt.{Gathering, reassembly_in}
+use Rattle.cell_pool.specs.Region.{Line, size, len_of, IsLine}
 use Rattle.cell_pool.specs.Shares.{IsApartFromEach, len_of_all}
 use Rattle.crossbar_model.specs.Crossbar.{Crossbar}
 use Rattle.fabric.specs.Fabric.{FabricView, crossbar, free_slots}
 use Rattle.link_model.specs.Notes.{Journal}
 use Rattle.switch_model.specs.Requests.{Changed}
 
--- the ports besides port 0, how many VPIs labels may have, the crossbar, the cells of the chain, and how
--- many slots there are
+-- the ports besides port 0, how many VPIs labels may have, the crossbar, what is made of the cells of the
+-- GSMP channel, and how many slots there are
 pub record Store : Type 0 where
   pub ports : List PortNo
   pub vpis : ℕ
   pub crossbar : Crossbar
-  pub chain : List Cell
+  pub reassembly : Reassembly
   pub cells : ℕ
 
 -- each slot that isn't free holds a cell of a queue or of the chain
 abbrev pub free_in : Store → ℕ
-free_in x = x.cells - (sum_by length x.crossbar.queues + length x.chain)
+free_in x = x.cells - (sum_by length x.crossbar.queues + length x.reassembly.chain)
 
-abbrev pub store_of : FabricView → Line → Store
-store_of f chain = record {
+abbrev pub store_of : FabricView → Gathering → Store
+store_of f g = record {
   ports = f.ports;
   vpis = f.vpis;
   crossbar = crossbar f;
-  chain = cells_of f.region chain;
+  reassembly = reassembly_in f.region g;
   cells = size f.region;
 }
 

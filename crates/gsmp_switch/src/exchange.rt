@@ -1,29 +1,33 @@
-//! The fabric, and the chain of the GSMP channel that shares its slots.
+//! The fabric, and the reassembly of the GSMP channel that shares its slots.
 
-ghost use Rattle.std.specs.Prelude.{◌≡◌, [], ◌∷◌, ◌++◌, ◌<◌, ◌≤◌, ◌↔◌, None, length, take, drop, replicate, slice_get, IsTrue, IsSome, IfSome, IfOk, true, nat_le};
+ghost use Rattle.std.specs.Prelude.{◌≡◌, [], ◌∷◌, ◌++◌, ◌<◌, ◌≤◌, ◌↔◌, None, length, take, replicate, nat_lt, OnOk, slice_get, IsTrue, IsSome, IfSome, IfOk, true, nat_le};
 ghost use Rattle.std.specs.List.{list_all};
 ghost use Rattle.std.specs.Bool.{OnTrue, OnFalse};
 ghost use Rattle.std.specs.FinMap as map;
-ghost use Rattle.cell_pool.specs.Region.{cells_of};
+ghost use Rattle.std.specs.Option.{option_map};
+ghost use Rattle.frame_model.specs.Reassembly.{cut, nothing_taken};
+ghost use Rattle.reassembly.specs.Receipt.{received};
 ghost use Rattle.crossbar_model.specs.Channels.{ArePorts, is_connectable};
 ghost use Rattle.crossbar_model.specs.Crossbar.{new_branch, moved, cut_by_move, output_of, unfinished_on, first_on, sent, popped, queue_of, routed, switched};
 ghost use Rattle.fabric.specs.Fabric.{crossbar, free_slots};
 ghost use Rattle.gsmp_switch.specs.Exchange.{AreOneRegion, free_in, store_of};
 
 use atm_cells::Cell;
-use cell_pool::Chain;
 use fabric::{Fabric, Routed};
 use frame_model::Queues;
+use link_model::Notes;
 use net_types::{End, Mark, OutOfMemory, PortNo};
+use reassembly::Reassembly;
 use std::alloc::Global;
 use std::marker::Model;
 
-/// The branches and queues of a switch, and the chain of its GSMP channel, in one region of slots.
+/// The branches and queues of a switch, and the reassembly of its GSMP channel, in one region of
+/// slots.
 #[must_use]
 #[derive(Debug)]
 pub(crate) struct Exchange {
     fabric: Fabric,
-    chain: Chain,
+    reassembly: Reassembly,
 }
 
 impl Model for Exchange {
@@ -38,29 +42,9 @@ impl Model for Exchange {
 
     ghost coded = { Prim.hlevel (codes, map.code {R = end_cmp} end_contract.the_row.coded branch_contract.the_row.coded) };
 
-    ghost view = { λ x. store_of x.fabric x.chain };
+    ghost view = { λ x. store_of x.fabric x.reassembly };
 
-    ghost invariant = { λ x. AreOneRegion x.fabric x.chain };
-}
-
-/// Takes all cells of a chain, the first one first, to the front of `out`.
-fn take_all(fabric: &mut Fabric, chain: &mut Chain, out: &mut [Cell]) -> usize
-    requires region { AreOneRegion fabric.old chain.old }
-    requires room { 32 ≤ length out.old }
-    ensures region { AreOneRegion fabric.new chain.new }
-    ensures taken { take result out.new ≡ cells_of fabric.old.region chain.old }
-    ensures len { result ≤ 32 }
-    ensures room { length out.new ≡ length out.old }
-    ensures left { store_of fabric.new chain.new ≡ record (store_of fabric.old chain.old) { chain = [] } }
-{
-    let len = chain.len();
-    for place in 0..len {
-        let Some(cell) = fabric.chain_pop(chain) else {
-            unreachable!()
-        };
-        out[place] = cell;
-    }
-    len
+    ghost invariant = { λ x. AreOneRegion x.fabric x.reassembly.chain };
 }
 
 impl Exchange {
@@ -73,11 +57,11 @@ impl Exchange {
     ) -> Result<Exchange, OutOfMemory>
         requires ports { ArePorts ports.now }
         requires vpis { (1 ≤ vpis) × (vpis ≤ 16) }
-        ensures { IfOk result (λ x. x ≡ record { ports = ports.now; vpis = vpis; crossbar = record { branches = map.empty; queues = replicate 9 [] }; chain = []; cells = cells }) }
+        ensures { IfOk result (λ x. x ≡ record { ports = ports.now; vpis = vpis; crossbar = record { branches = map.empty; queues = replicate 9 [] }; reassembly = nothing_taken; cells = cells }) }
     {
         Ok(Exchange {
             fabric: Fabric::open(alloc, ports, cells, vpis)?,
-            chain: Chain::new(),
+            reassembly: Reassembly::new(),
         })
     }
 
@@ -151,42 +135,31 @@ impl Exchange {
         self.fabric.pop(port)
     }
 
-    /// How many slots are free.
-    #[tactic(auto, using(crate::proofs::Exchanges::free_is, crate::proofs::Exchanges::chain_length))]
-    pub(crate) fn free(&self) -> usize
-        ensures { result ≡ free_in self.now }
+    /// Takes a cell of the GSMP channel. Where it ends a frame that passes its test, the answer is the
+    /// length in octets of the frame's payload, which stands at the front of `octets`.
+    pub(crate) fn receive(
+        &mut self,
+        cell: &Cell,
+        notes: &mut Notes,
+        octets: &mut [u8],
+    ) -> Result<Option<usize>, OutOfMemory>
+        requires { 1536 ≤ length octets.old }
+        ensures linked { self.new.ports ≡ self.old.ports }
+        ensures store { OnOk result (self.new ≡ record self.old { reassembly = (received notes.old (nat_lt 0 (free_in self.old)) self.old.reassembly cell.now).reassembly }) }
+        ensures notes { OnOk result (notes.new ≡ (received notes.old (nat_lt 0 (free_in self.old)) self.old.reassembly cell.now).notes) }
+        ensures payload { IfOk result (λ len. option_map (λ n. take n octets.new) len ≡ (received notes.old (nat_lt 0 (free_in self.old)) self.old.reassembly cell.now).payload) }
+        ensures len { IfOk result (λ len. IfSome len (λ n. n ≤ 1528)) }
     {
-        self.fabric.free()
+        self.reassembly
+            .receive(&mut self.fabric, cell, notes, octets)
     }
 
-    /// How many cells the chain has.
-    #[tactic(auto, using(crate::proofs::Exchanges::free_is, crate::proofs::Exchanges::chain_length))]
-    pub(crate) fn chain_len(&self) -> usize
-        ensures len { result ≡ length self.now.chain }
-        ensures most { result ≤ 32 }
+    /// Cuts the GSMP channel.
+    pub(crate) fn cut(&mut self, notes: &mut Notes) -> Result<(), OutOfMemory>
+        ensures store { self.new ≡ record self.old { reassembly = nothing_taken } }
+        ensures notes { OnOk result (notes.new ≡ cut notes.old self.old.reassembly) }
     {
-        self.chain.len()
-    }
-
-    /// Puts a cell at the end of the chain.
-    #[tactic(auto, using(crate::proofs::Exchanges::free_is, crate::proofs::Exchanges::chain_length))]
-    pub(crate) fn chain_push(&mut self, cell: &Cell)
-        requires room { length self.old.chain < 32 }
-        requires slot { 0 < free_in self.old }
-        ensures { self.new ≡ record self.old { chain = self.old.chain ++ cell.now ∷ [] } }
-    {
-        self.fabric.chain_push(&mut self.chain, cell);
-    }
-
-    /// Takes all cells of the chain, the first one first, to the front of `out`.
-    pub(crate) fn take_chain(&mut self, out: &mut [Cell]) -> usize
-        requires { 32 ≤ length out.old }
-        ensures taken { take result out.new ≡ self.old.chain }
-        ensures len { result ≤ 32 }
-        ensures room { length out.new ≡ length out.old }
-        ensures left { self.new ≡ record self.old { chain = [] } }
-    {
-        take_all(&mut self.fabric, &mut self.chain, out)
+        self.reassembly.cut(&mut self.fabric, notes)
     }
 
     /// The fabric.
@@ -202,8 +175,11 @@ impl Exchange {
 
     /// Gives up all cells.
     pub(crate) fn abandon(self) {
-        let Exchange { mut fabric, chain } = self;
-        fabric.chain_drain(chain);
+        let Exchange {
+            mut fabric,
+            reassembly,
+        } = self;
+        reassembly.abandon(&mut fabric);
         fabric.abandon();
     }
 }

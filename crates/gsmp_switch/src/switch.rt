@@ -9,7 +9,7 @@ ghost use Rattle.gsmp_wire.specs.Range.{Bits, IsInRange};
 ghost use Rattle.switch_model.specs.Switch.{control_port, free_slots, has_port, numbers_of, opened, switch_party};
 ghost use Rattle.switch_model.specs.Requests.{is_request};
 ghost use Rattle.switch_model.specs.Answers.{handled};
-ghost use Rattle.switch_model.specs.Conduct.{answers, cell_comes, ends_frame, forged, greeted, gsmp_cell, one_more, opened_frame, read, requested, reset, restarted, says, switched_cell, tick_comes, told};
+ghost use Rattle.switch_model.specs.Conduct.{answers, cell_comes, forged, greeted, gsmp_cell, one_more, read, requested, reset, restarted, says, switched_cell, tick_comes, told};
 ghost use Rattle.adjacency_table.specs.Side.{fresh, is_estab};
 ghost use Rattle.gsmp_switch.specs.State.{acted};
 
@@ -19,11 +19,11 @@ use crate::exchange::Exchange;
 use crate::ports::{begin, change_ports, opened_ports};
 use crate::request::{asked_in, failure_of, is_request};
 use aal5_frames::MAX_FRAME;
-use atm_cells::{BLANK_CELL, Cell};
+use atm_cells::Cell;
 use fabric::{Fabric, Routed};
-use frame_model::{note_broken, note_cut_chain, send_frame, test_frame};
+use frame_model::send_frame;
 use gsmp_adjacency::{Adjacency, Answer, State};
-use gsmp_wire::{Message, decode, encode};
+use gsmp_wire::{Fault, Message, decode, encode};
 use link_model::{Cause, Layer, Notes, Record};
 use net_types::{Channel, End, Greeting, Mark, NodeId, Numbers, OutOfMemory, Party, PortNo};
 use refusal_names::gsmp_refusal;
@@ -36,9 +36,6 @@ const CONTROL_PORT: PortNo = PortNo(0);
 
 /// The channel of GSMP on the control port.
 const GSMP_CHANNEL: Channel = Channel { vpi: 0, vci: 15 };
-
-/// The most cells of a frame.
-const MOST_CELLS: usize = 32;
 
 /// The greatest message, in octets: an All Ports answer with nine records.
 const MAX_MESSAGE: usize = 164;
@@ -57,8 +54,8 @@ pub struct Switch {
     /// Port 0 and the linked ports, ascending.
     ports: Vec<PortState>,
     exchange: Exchange,
-    /// Whether the GSMP channel passes over the cells of a frame.
-    is_skipping: bool,
+    /// Where a frame of the GSMP channel is put together.
+    frame: [u8; MAX_FRAME],
     adjacency: Adjacency,
     /// How many cells went from a port of a link to a port of a link.
     switched: u64,
@@ -81,7 +78,7 @@ impl Model for Switch {
       node = s.node;
       ports = s.ports.items;
       crossbar = s.exchange.crossbar;
-      reassembly = record { chain = s.exchange.chain; is_skipping = s.is_skipping };
+      reassembly = s.exchange.reassembly;
       adjacency = s.adjacency;
       switched = s.switched;
       cells = s.exchange.cells;
@@ -121,7 +118,7 @@ impl Switch {
             node,
             ports: states,
             exchange: Exchange::open(alloc, ports, cells, vpis)?,
-            is_skipping: false,
+            frame: [0; MAX_FRAME],
             adjacency: Adjacency::start(party),
             switched: 0,
         })
@@ -306,23 +303,19 @@ impl Switch {
         }
     }
 
-    /// Tests the cells that a last one ended, and takes what their frame holds.
-    fn take_frame(
+    /// Takes the message that a frame of the GSMP channel holds, or notes why it holds none.
+    fn read(
         &mut self,
-        cells: &[Cell],
+        message: Result<Message, Fault>,
         numbers: &mut Numbers,
         notes: &mut Notes,
     ) -> Result<(), OutOfMemory>
-        requires cells { (1 ≤ length cells.now) × (length cells.now ≤ 32) }
+        requires range { IfOk message IsInRange }
         requires numbers { HasNumbersLeft numbers.old }
-        ensures acted { OnOk result (acted self.new notes.new numbers.new ≡ ends_frame (acted self.old notes.old numbers.old) cells.now) }
+        ensures acted { OnOk result (acted self.new notes.new numbers.new ≡ read (acted self.old notes.old numbers.old) message) }
         ensures drawn { AreDrawn numbers.old numbers.new }
     {
-        let mut octets = [0; MAX_FRAME];
-        let Some(len) = test_frame(notes, cells, &mut octets)? else {
-            return Ok(());
-        };
-        match decode(&octets[..len]) {
+        match message {
             Ok(message) => self.tell(&message, numbers, notes),
             Err(fault) => notes.push(Record::Bad {
                 node: self.node,
@@ -343,32 +336,11 @@ impl Switch {
         ensures acted { OnOk result (acted self.new notes.new numbers.new ≡ gsmp_cell (acted self.old notes.old numbers.old) cell.now) }
         ensures drawn { AreDrawn numbers.old numbers.new }
     {
-        let mut cells = [BLANK_CELL; MOST_CELLS + 1];
-        if self.is_skipping {
-            cells[0] = *cell;
-            note_broken(notes, &cells[..1])?;
-            self.is_skipping = !cell.header.last;
-        } else if self.exchange.free() == 0 {
-            notes.push(Record::Loss {
-                mark: cell.mark,
-                cause: Cause::PoolFull,
-            })?;
-            let count = self.exchange.take_chain(&mut cells);
-            note_broken(notes, &cells[..count])?;
-            self.is_skipping = !cell.header.last;
-        } else if self.exchange.chain_len() == MOST_CELLS {
-            let count = self.exchange.take_chain(&mut cells);
-            cells[count] = *cell;
-            note_broken(notes, &cells[..count + 1])?;
-            self.is_skipping = !cell.header.last;
-        } else {
-            self.exchange.chain_push(cell);
-            if cell.header.last {
-                let count = self.exchange.take_chain(&mut cells);
-                self.take_frame(&cells[..count], numbers, notes)?;
-            }
-        }
-        Ok(())
+        let Some(len) = self.exchange.receive(cell, notes, &mut self.frame)? else {
+            return Ok(());
+        };
+        let message = decode(&self.frame[..len]);
+        self.read(message, numbers, notes)
     }
 
     /// Takes a cell of another channel: to where its branch leads.
@@ -424,10 +396,7 @@ impl Switch {
     {
         let own = numbers.instance();
         clear_all(&mut self.exchange, notes)?;
-        let mut cells = [BLANK_CELL; MOST_CELLS];
-        let held = self.exchange.take_chain(&mut cells);
-        note_cut_chain(notes, &cells[..held])?;
-        self.is_skipping = false;
+        self.exchange.cut(notes)?;
         self.adjacency.reset(own);
         begin(&mut self.ports, own);
         Ok(())
@@ -491,7 +460,7 @@ impl Switch {
             node: _,
             ports: _,
             exchange,
-            is_skipping: _,
+            frame: _,
             adjacency: _,
             switched: _,
         } = self;
