@@ -30,6 +30,21 @@ fn cell(vci: u16, frame: u64) -> Cell {
     }
 }
 
+/// A queue takes as many cells as there are slots, and one more finds none.
+#[test]
+fn a_queue_grows_to_the_region(rt: HostRuntime) -> Result<(), Fail> {
+    let mut fabric = Fabric::open(rt.alloc(), &[PortNo(1)], 1100, 1)?;
+    fabric.connect(LABEL, ON_CONTROL);
+    for frame in 0..1100 {
+        let routed = fabric.switch_cell(PortNo(1), &cell(40, frame));
+        assert_eq!(rt; routed, Routed::Out(ON_CONTROL));
+    }
+    let routed = fabric.switch_cell(PortNo(1), &cell(40, 1100));
+    assert_eq!(rt; routed, Routed::PoolFull);
+    fabric.abandon();
+    Ok(())
+}
+
 /// One slot, and a branch from port 1 to port 0.
 #[test]
 fn a_cell_goes_out_where_it_is_connected_and_a_slot_is_free(rt: HostRuntime) -> Result<(), Fail> {
