@@ -6,8 +6,6 @@ mod network;
 mod port;
 mod reassembly;
 mod refused;
-#[cfg(test)]
-mod tests;
 mod topology;
 
 pub use network::Network;
