@@ -103,6 +103,13 @@ impl Adjacency {
         self.side.heard();
     }
 
+    /// The own instance and address.
+    pub fn own(&self) -> Peer
+        ensures { result ≡ self.now.own }
+    {
+        self.side.own()
+    }
+
     /// The peer's instance and address, none where nothing is stored.
     pub fn peer(&self) -> Option<(Instance, Addr)>
         ensures stored { result ≡ option_map (λ peer. (peer.instance, peer.address)) self.now.stored }

@@ -6,7 +6,7 @@ use Rattle.gsmp_wire.specs.declared.request.Request.TheVariants.{AddBranch, Dele
 use Rattle.ifmp_wire.specs.declared.message.Message.TheVariants.{Redirect, ReclaimAck}
 use Rattle.link_model.specs.declared.record.Record.TheVariants.{Bind, Free, Closed}
 use Rattle.gsmp_wire.specs.declared.request.Request.TheVariants.{DeleteAll}
-use Rattle.port_model.specs.declared.action.Action.TheVariants.{Say, Ask, Note, CutChain, Withdraw}
+use Rattle.port_model.specs.declared.action.Action.TheVariants.{Say, Ask, Note, CutChain}
 use Rattle.desk_model.specs.Desk.{empty_desk}
 use Rattle.port_model.specs.Setup.{label_end, control_end}
 use Rattle.port_model.specs.Labels.{Label, LabelState, Wiring, Offered, Recalled, Wired, lowest_spare}
@@ -122,6 +122,5 @@ begun = resets setup (at_work spent.port)
 begun_is : (begun.port.session ≡ None) × (begun.port.adjacency.own.instance.0 ≡ 21) × (begun.instances ≡ 21)
 begun_is = (refl, refl, refl)
 
-asked_is : begun.actions ≡ Note (Closed setup.node setup.port) ∷ CutChain 32 ∷ CutChain 33
-    ∷ Withdraw (control_end setup.port 32) ∷ Withdraw (control_end setup.port 33) ∷ Ask (DeleteAll setup.port) true ∷ []
+asked_is : begun.actions ≡ Note (Closed setup.node setup.port) ∷ CutChain 32 ∷ CutChain 33 ∷ Ask (DeleteAll setup.port) true ∷ []
 asked_is = refl

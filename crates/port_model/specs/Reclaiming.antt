@@ -1,7 +1,7 @@
 -- *Reclaim*, *Reclaim Ack*, *Label Range* and *Error* (RFC 1953). That a join is taken back first, and
 -- which errors recall a label, are this project's own.
 
-use Rattle.std.specs.Prelude.{ℕ, Bool, true, false, not, ◌==◌, map, fold, Option, None, Some, if◌then◌else◌}
+use Rattle.std.specs.Prelude.{ℕ, Bool, true, false, not, ◌==◌, min, map, fold, Option, None, Some, if◌then◌else◌}
 use Rattle.net_types.specs.declared.channel.Channel.{Channel}
 use Rattle.net_types.specs.declared.channel.End.{End}
 use Rattle.net_types.specs.Label.{label_channel_of}
@@ -13,16 +13,16 @@ use Rattle.port_model.specs.Setup.{Setup, label_end, channel_le, is_between}
 use Rattle.port_model.specs.Labels.{Label, LabelState, Offered, Recalled, label_number}
 use Rattle.port_model.specs.Grants.{Grant, GrantState, Idle, ByController, ByInput, Leaving}
 use Rattle.port_model.specs.Port.{Session, Work, acts, with_session, with_label, with_grant, without_grant, label_at, labels_of}
-use Rattle.port_model.specs.Saying.{says, reclaim, reclaim_ack, error}
+use Rattle.port_model.specs.Saying.{last_number, says, reclaim, reclaim_ack, error}
 use Rattle.port_model.specs.Adjacency.{quits}
 
 -- *The downstream end recalls a label*: it says RECLAIM, keeps its number, and takes the label's join
--- back
+-- back. Where the numbers are spent it says nothing more and is reset; the last number stands for its own
 
 abbrev pub reclaims_in : Work → Label → Option Session → Work
 reclaims_in w label None = w
 reclaims_in w label (Some s) =
-    says (with_label w (record label { state = Recalled s.number false })) (reclaim label)
+    says (with_label w (record label { state = Recalled (min last_number s.number) false })) (reclaim label)
 
 abbrev pub reclaims : Work → Label → Work
 reclaims w label = reclaims_in w label w.port.session

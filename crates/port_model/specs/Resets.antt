@@ -9,7 +9,7 @@ use Rattle.link_model.specs.declared.record.Record.TheVariants.{Closed}
 use Rattle.net_types.specs.declared.adjacency.Peer.{Peer}
 use Rattle.port_model.specs.declared.action.Action.{Action}
 use Rattle.port_model.specs.declared.action.Action.TheVariants.{Ask, Note, CutChain, TakeBack, Withdraw}
-use Rattle.port_model.specs.Setup.{Setup, label_numbers, label_end, control_end}
+use Rattle.port_model.specs.Setup.{Setup, label_end, control_end}
 use Rattle.port_model.specs.Grants.{Grant, GrantState, Idle, ByController, ByInput, Leaving}
 use Rattle.port_model.specs.Port.{Port, Session, Work}
 
@@ -41,9 +41,18 @@ taking_back_in setup grant state = []
 abbrev pub taking_back : Setup → Grant → List Action
 taking_back setup grant = taking_back_in setup grant grant.state
 
--- the requests for branches of grants are withdrawn, also those that an ended grant has left standing
-abbrev pub withdrawing : Setup → List Action
-withdrawing setup = map (λ number. Withdraw (control_end setup.port number)) (label_numbers setup)
+-- the requests for branches of the grants that end are withdrawn; one that an ended grant has left standing
+-- stays
+abbrev pub withdrawing_in : Setup → (label : ℕ) → GrantState → List Action
+withdrawing_in setup label Idle = Withdraw (control_end setup.port label) ∷ []
+withdrawing_in setup label ByController = Withdraw (control_end setup.port label) ∷ []
+withdrawing_in setup label state = []
+
+abbrev pub withdrawing_of : Setup → Grant → List Action
+withdrawing_of setup grant = withdrawing_in setup grant.label grant.state
+
+abbrev pub withdrawing : Setup → List Grant → List Action
+withdrawing setup grants = flat_map (withdrawing_of setup) grants
 
 -- then Delete All of the port is asked
 abbrev pub resets : Setup → Work → Work
@@ -53,7 +62,7 @@ resets setup w = record {
     session = None;
     grants = flat_map left_of w.port.grants;
   };
-  actions = w.actions ++ (closing setup w.port.session ++ (withdrawing setup
+  actions = w.actions ++ (closing setup w.port.session ++ (withdrawing setup w.port.grants
       ++ (flat_map (taking_back setup) w.port.grants ++ Ask (DeleteAll setup.port) true ∷ [])));
   halted = w.halted;
   instances = w.instances + 1;

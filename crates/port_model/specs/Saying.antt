@@ -34,14 +34,20 @@ peer_of side = option_map_or (λ peer. peer.instance) side.stored (record { 0 = 
 abbrev pub Unnumbered : Type 0
 Unnumbered = Instance → Instance → ℕ → Message
 
+-- where the numbers are spent, the next one is this
+abbrev pub spent_number : ℕ
+spent_number = 4294967296
+
+abbrev pub numbered : (number : ℕ) → Work → Work
+numbered number w = with_session w (λ session. record session { number = number })
+
 -- it has the next number; where that is the last one, it isn't said, and the numbers are spent
 abbrev pub tells_in : Work → Unnumbered → Option Session → Work
 tells_in w message None = w
 tells_in w message (Some s) =
-    let next = with_session w (λ session. record session { number = session.number + 1 }) in
     if nat_lt s.number last_number
-    then acts next (Say (message (own_of w.port.adjacency) (peer_of w.port.adjacency) s.number))
-    else next
+    then acts (numbered (s.number + 1) w) (Say (message (own_of w.port.adjacency) (peer_of w.port.adjacency) s.number))
+    else numbered spent_number w
 
 abbrev pub tells : Work → Unnumbered → Work
 tells w message = tells_in w message w.port.session

@@ -1,7 +1,7 @@
 -- *Tick*: what a tick makes of a port. The order, the counts and the refresh are this project's own;
 -- redirections are soft state (RFC 1953).
 
-use Rattle.std.specs.Prelude.{ℕ, Bool, true, false, ◌+◌, ◌-◌, nat_le, is_none, min, map, fold, Option, None, Some, if◌then◌else◌}
+use Rattle.std.specs.Prelude.{ℕ, Bool, true, false, ◌+◌, ◌-◌, ◌==◌, nat_le, is_none, min, map, fold, Option, None, Some, if◌then◌else◌}
 use Rattle.std.specs.List.{list_any}
 use Rattle.adjacency_table.specs.Side.{ticked}
 use Rattle.desk_model.specs.Desk.{Desk, on_input}
@@ -27,7 +27,7 @@ expires setup w grant state = without_grant w grant.label
 abbrev pub ages_in : Setup → Work → Grant → GrantState → Work
 ages_in setup w grant (Leaving input owed) = w
 ages_in setup w grant state =
-    if nat_le grant.lifetime 1
+    if grant.lifetime == 1
     then expires setup w grant state
     else with_grant w (record grant { lifetime = grant.lifetime - 1 })
 
@@ -46,7 +46,7 @@ refreshes setup w label =
     else with_label w label
 
 abbrev pub one_older : Label → Label
-one_older label = record label { ticks = label.ticks + 1 }
+one_older label = record label { ticks = min greatest_count (label.ticks + 1) }
 
 -- one that isn't joined is idle one tick more, and is recalled where the policy doesn't keep it
 abbrev pub one_idler : Label → Label
