@@ -1,6 +1,6 @@
 -- A change of one route of a table
 
-use Rattle.std.specs.Prelude.{Bool, not, nat_lt, List, [], ◌∷◌, ◌++◌, length, map, filter, Option, None, Some, if◌then◌else◌}
+use Rattle.std.specs.Prelude.{not, nat_lt, List, [], ◌∷◌, ◌++◌, length, map, filter, Option, None, Some, if◌then◌else◌}
 use Rattle.net_types.specs.Prefix.{Network}
 use Rattle.ipv4_forward.specs.declared.table.Next.{Next}
 use Rattle.ipv4_forward.specs.declared.table.Route.{Route}

@@ -1,7 +1,8 @@
 //! A table of routes, one for each of its prefixes.
 
-ghost use Rattle.std.specs.Prelude.{◌≡◌, ◌++◌, ◌∷◌, [], List, false, IfOk, OnOk, OnErr, find};
+ghost use Rattle.std.specs.Prelude.{◌≡◌, ◌++◌, ◌∷◌, [], List, false, None, Some, IfOk, OnOk, OnErr, find};
 
+use crate::change::{ChangeFault, RouteChange, best_with, best_without, place_of};
 use net_types::{Addr, OutOfMemory, PortNo, Prefix};
 use std::alloc::Global;
 use std::marker::Model;
@@ -60,6 +61,7 @@ pub const ROUTES: usize = 256;
 
 impl Table {
     ghost use Rattle.ipv4_forward.specs.Best.{best, add_fault};
+    ghost use Rattle.ipv4_forward.specs.Change.{changed, changed_by, change_fault, change_fault_by};
     ghost use Rattle.std.specs.Result.{result_err};
 
     /// An empty table, with the room that it ever takes.
@@ -95,17 +97,82 @@ impl Table {
             None => None,
         }
     }
+
+    /// Makes a change of one route: a prefix that is there gets the new next. Refuses `TableFull`
+    /// where the prefix isn't there and 256 are, and `NoPrefix` where it is to go and isn't there.
+    pub fn apply(&mut self, change: &RouteChange) -> Result<(), ChangeFault>
+        ensures ok { OnOk result (self.new ≡ changed self.old change.now) }
+        ensures fault { result_err result ≡ change_fault self.old change.now }
+        ensures err { OnErr result (self.new ≡ self.old) }
+    {
+        match change.next {
+            Some(next) => self.route(change.prefix, next),
+            None => self.unroute(change.prefix),
+        }
+    }
+
+    /// A prefix gets this next. Refuses `TableFull`.
+    fn route(&mut self, prefix: Prefix, next: Next) -> Result<(), ChangeFault>
+        ensures ok { OnOk result (self.new ≡ changed_by self.old prefix (Some next)) }
+        ensures fault { result_err result ≡ change_fault_by self.old prefix (Some next) }
+        ensures err { OnErr result (self.new ≡ self.old) }
+    {
+        let Some(place) = place_of(self.routes.as_slice(), prefix) else {
+            return match self.add(prefix, next) {
+                Ok(()) => Ok(()),
+                Err(_full) => Err(ChangeFault::TableFull),
+            };
+        };
+        self.routes[place].next = next;
+        Ok(())
+    }
+
+    /// A prefix goes. Refuses `NoPrefix`.
+    fn unroute(&mut self, prefix: Prefix) -> Result<(), ChangeFault>
+        ensures ok { OnOk result (self.new ≡ changed_by self.old prefix None) }
+        ensures fault { result_err result ≡ change_fault_by self.old prefix None }
+        ensures err { OnErr result (self.new ≡ self.old) }
+    {
+        let Some(place) = place_of(self.routes.as_slice(), prefix) else {
+            return Err(ChangeFault::NoPrefix);
+        };
+        self.routes.remove(place);
+        Ok(())
+    }
+
+    /// What [`Table::lookup`] would answer after a change that [`Table::apply`] makes.
+    pub fn lookup_after(&self, change: &RouteChange, addr: Addr) -> Option<Next>
+        ensures { result ≡ best (changed self.now change.now) addr }
+    {
+        let routes = self.routes.as_slice();
+        let prefix = change.prefix;
+        let found = match change.next {
+            Some(next) => best_with(routes, &Route { prefix, next }, addr),
+            None => best_without(routes, prefix, addr),
+        };
+        match found {
+            Some(route) => Some(route.next),
+            None => None,
+        }
+    }
 }
 
-ghost use Rattle.ipv4_forward.specs.Best.{is_best, has_prefix};
+ghost use Rattle.ipv4_forward.specs.Best.{is_best, is_same, has_prefix};
 ghost use Rattle.ipv4_forward.specs.Room.{AreDistinct};
 ghost use Rattle.ipv4_forward.specs.Longest.{IsLongest};
 
-fn holds(routes: &[Route], prefix: Prefix) -> bool
+/// Whether a route is of this prefix.
+pub(crate) fn is_of(route: &Route, prefix: Prefix) -> bool
+    ensures { result ≡ is_same route.now.prefix prefix }
+{
+    route.prefix.addr() == prefix.addr() && route.prefix.len() == prefix.len()
+}
+
+/// Whether one of the routes is of this prefix.
+pub(crate) fn holds(routes: &[Route], prefix: Prefix) -> bool
     ensures { result ≡ has_prefix routes.now prefix }
 {
-    routes.iter().any(|route| route.prefix.addr() == prefix.addr()
-        && route.prefix.len() == prefix.len())
+    routes.iter().any(|route| is_of(route, prefix))
 }
 
 fn longest(routes: &[Route], addr: Addr) -> Option<Route>
@@ -120,7 +187,7 @@ fn longest(routes: &[Route], addr: Addr) -> Option<Route>
 }
 
 // The longest of the routes so far and this one that covers the address.
-fn longer(found: Option<Route>, route: Route, addr: Addr) -> Option<Route>
+pub(crate) fn longer(found: Option<Route>, route: Route, addr: Addr) -> Option<Route>
     ensures { (routes : List Route) → IsLongest routes addr found → has_prefix routes route.prefix ≡ false → IsLongest (routes ++ route ∷ []) addr result }
 {
     if !route.prefix.covers(addr) {
