@@ -1,7 +1,8 @@
 pub mod Ordered
 pub mod Ends
-pub mod OnInputs
 pub mod Numbers
+pub mod Apart
+pub mod Keys
 pub mod Gone
 pub mod Answering
 pub mod Done

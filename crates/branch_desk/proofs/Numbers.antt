@@ -13,7 +13,8 @@ use Rattle.std.proofs.lemmas.Bool.{eqb-true, eq-eqb, cases_lt}
 use Rattle.std.proofs.lemmas.List.Sorted.{searchable_from_sorted}
 use Rattle.std.proofs.lemmas.List.Folds.{list_any_none}
 use Rattle.desk_model.specs.Desk.{Standing}
-use Rattle.branch_desk.specs.Requests.{AreRising, IsUnder}
+use Rattle.branch_desk.specs.Requests.{AreRising}
+use Rattle.branch_desk.specs.ByEnd.{IsUnder}
 
 abbrev pub has : ℕ → Standing → Bool
 has n s = s.number == n
@@ -98,6 +99,20 @@ searched xs n (Err i) rising within result =
 pub found_of : (n : ℕ) (p : Standing → Bool) (xs : List Standing) (i : ℕ) (s : Standing) (b : Bool) → AreRising xs → IsUnder n xs i → s ≡ get_or xs i s → p s ≡ b → find (λ x. has n x && p x) xs ≡ cond b (Some s) None
 found_of n p xs i s b rising under here e =
     rw (sym here, e) at (found_at n p xs i s rising under.within (under.here s))
+
+-- the first one that passes
+pub found_first : {X : Type 0} (p : X → Bool) (xs : List X) (k : ℕ) (d : X) → k < length xs → p (get_or xs k d) ≡ true → ((j : ℕ) → j < k → p (get_or xs j d) ≡ false) → find p xs ≡ Some (get_or xs k d)
+found_first p [] k d within here before = absurd (omega (arith, within))
+found_first p (x ∷ xs) zero d within here before = rw here refl
+found_first p (x ∷ xs) (suc k) d within here before =
+    rw (before zero (omega arith)) (found_first p xs k d (omega (arith, within)) here (λ j lt. before (suc j) (omega (arith, lt))))
+
+-- the only request with the number
+pub found_number : (n : ℕ) (xs : List Standing) (k : ℕ) (d : Standing) → AreRising xs → k < length xs → (get_or xs k d).number ≡ n → find (has n) xs ≡ Some (get_or xs k d)
+found_number n xs k d rising within here =
+    found_first (has n) xs k d within (eq-eqb (get_or xs k d).number n here) (λ j lt.
+    let below : (get_or xs j d).number < (get_or xs k d).number = rising j k d lt within in
+    not_true (has n (get_or xs j d)) (λ h. absurd (omega (arith, below, here, eqb-true (get_or xs j d).number n h))))
 
 -- what is found passes, and is there
 pub find_passes : {X : Type 0} (p : X → Bool) (xs : List X) (x : X) → find p xs ≡ Some x → p x ≡ true

@@ -53,14 +53,14 @@ module _ {K : Type 0} {R : K → K → Ordering} (o : IsTotalOrder R) where
         | inr ge ↦ let same : a ≡ b = omega (arith, le, ge) in rw same (omega arith)
       ])
 
-  -- y goes to a place where it stands already, or would stand
-  pub sorted-insert_tied : (xs : List K) (i : ℕ) (y : K) → i < length xs → ((d : K) → get_or xs i d ≡ y) → IsSorted R xs → IsSorted R (insert xs i y)
+  -- y goes to a place where one that ties with it stands, or where it would stand
+  pub sorted-insert_tied : (xs : List K) (i : ℕ) (y : K) → i < length xs → ((d k : K) → R (get_or xs i d) k ≡ R y k) → IsSorted R xs → IsSorted R (insert xs i y)
   sorted-insert_tied xs i y within here sorted =
       sorted_from_seen (insert xs i y) (λ k.
       let n = λ (e : K). ordering_index (R e k) in
       IsNonDecreasingBy-insert n xs i y (seen xs sorted k) (omega (arith, within))
-      (λ j d lt. rw (← here d) (seen xs sorted k j i d (omega (arith, lt)) within))
-      (λ j d le w. rw (← here d) (seen xs sorted k i j d le w)))
+      (λ j d lt. rw (← here d k) (seen xs sorted k j i d (omega (arith, lt)) within))
+      (λ j d le w. rw (← here d k) (seen xs sorted k i j d le w)))
 
   pub sorted-insert_gap : (xs : List K) (i : ℕ) (y : K) → i ≤ length xs → ((j : ℕ) (d : K) → j < i → R (get_or xs j d) y ≡ Less) → ((j : ℕ) (d : K) → i ≤ j → j < length xs → R (get_or xs j d) y ≡ Greater) → IsSorted R xs → IsSorted R (insert xs i y)
   sorted-insert_gap xs i y within before after sorted =

@@ -1,4 +1,4 @@
-pub mod Inputs
+pub mod ByEnd
 pub mod Requests
 pub mod Answers
 pub mod Later

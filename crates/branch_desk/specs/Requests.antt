@@ -1,13 +1,13 @@
--- The requests that stand, as a list in order of their numbers.
+-- What a desk is told of requests: which can be asked, and which stand together.
 
-use Rattle.std.specs.Prelude.{◌≡◌, ℕ, ◌<◌, ◌==◌, ◌||◌, Bool, true, List, length, slice_index_or, cond, is_some}
-use Rattle.std.specs.List.{AllPairs, sum_by}
+use Rattle.std.specs.Prelude.{◌≡◌, ◌<◌, ◌==◌, ◌||◌, Bool, true, false, List, Option, None, Some}
+use Rattle.std.specs.List.{AllPairs}
 use Rattle.net_types.specs.declared.channel.End.{End}
 use Rattle.gsmp_wire.specs.declared.request.Request.{Request}
-use Rattle.gsmp_wire.specs.declared.request.Request.TheVariants.{PortManagement}
+use Rattle.gsmp_wire.specs.declared.request.Request.TheVariants.{DeleteAll, PortManagement}
 use Rattle.desk_model.specs.Desk.{Standing}
-use Rattle.desk_model.specs.Requests.{input_of, is_on}
-use Rattle.branch_desk.specs.Inputs.{how_often}
+use Rattle.desk_model.specs.Messages.{all_of}
+use Rattle.desk_model.specs.Requests.{withdraws}
 
 -- Port Management brings the port up or takes it down
 abbrev pub has_function : Request → Bool
@@ -17,12 +17,12 @@ has_function request = true
 abbrev pub AreRising : List Standing → Type 0
 AreRising standing = AllPairs (λ a b. a.number < b.number) standing
 
--- the request at place i has the number
-pub record IsUnder (number : ℕ) (standing : List Standing) (i : ℕ) : Type 0 where
-  pub within : i < length standing
-  pub here : (d : Standing) → (slice_index_or standing i d).number ≡ number
+-- no request withdraws one that was asked before it and stands: so at most one is on an input, at most
+-- one is Delete All of a port, and none on an input of a port stands from before a Delete All of it
+abbrev pub AreApart : List Standing → Type 0
+AreApart standing = AllPairs (λ earlier later. withdraws later.request earlier.request ≡ false) standing
 
--- an end stands among the inputs as often as requests are on it
-pub record AreInputsOf (standing : List Standing) (inputs : List End) : Type 0 where
-  pub many : length inputs ≡ sum_by (λ s. cond (is_some (input_of s.request)) 1 0) standing
-  pub often : (end : End) → how_often end inputs ≡ sum_by (λ s. cond (is_on end s.request) 1 0) standing
+-- Delete All of a port, as a request on that port's end
+abbrev pub deleted_of : Request → Option End
+deleted_of (DeleteAll port) = Some (all_of port)
+deleted_of request = None

@@ -1,20 +1,20 @@
 //! The desk.
 
-ghost use Rattle.std.specs.Prelude.{◌≡◌, ◌<◌, ◌≤◌, ◌==◌, ◌+◌, ◌↔◌, [], length, slice_get, false, true, None, IsErr, IfOk, IfSome, OnOk, OnErr, Some, List, Contains};
-ghost use Rattle.std.specs.Option.{option_map};
+ghost use Rattle.std.specs.Prelude.{◌≡◌, ◌<◌, ◌≤◌, ◌==◌, ◌+◌, ◌↔◌, [], length, slice_get, false, true, None, IsErr, IfOk, IfSome, OnOk, OnErr, Some, is_some, List, Contains, find};
+ghost use Rattle.std.specs.Option.{option_map, option_and_then};
 ghost use Rattle.std.specs.List.{list_any};
-ghost use Rattle.gsmp_wire.specs.Layout.{octets_of};
-ghost use Rattle.gsmp_wire.specs.Refusal.{refusal};
+ghost use Rattle.gsmp_wire.specs.Range.{IsInRange};
 ghost use Rattle.desk_model.specs.Answers.{answered, after_answer, without_request};
-ghost use Rattle.desk_model.specs.Desk.{Standing, all_on, asked, empty_desk, last_transaction, message_at, on_input};
-ghost use Rattle.desk_model.specs.Requests.{withdraws};
+ghost use Rattle.desk_model.specs.Desk.{Standing, all_on, asked, empty_desk, is_led_home, last_transaction, message_at, on_input};
+ghost use Rattle.desk_model.specs.Messages.{is_up};
+ghost use Rattle.desk_model.specs.Requests.{input_of, is_delete_all, is_on, withdraws};
 ghost use Rattle.branch_desk.specs.Answers.{IsDoneBy, done_of, told};
-ghost use Rattle.branch_desk.specs.Requests.{has_function};
+ghost use Rattle.branch_desk.specs.Requests.{AreApart, AreRising, deleted_of, has_function};
 ghost use Rattle.branch_desk.specs.Later.{Call, after_calls, stands_under};
 
 use crate::answered::{Answered, Ports, copied};
 use crate::entry::Entry;
-use crate::message::{FAILURE, SUCCESS, head_of, message_of};
+use crate::message::{FAILURE, SUCCESS, head_of, is_up, message_of};
 use crate::requests::Requests;
 use crate::ticket::{BranchDone, Ticket};
 use gsmp_wire::{Message, PortRows, Request};
@@ -145,10 +145,10 @@ impl Desk {
     }
 
     /// The message of the request at this place in order of numbers, counted from 0; none exactly
-    /// where the place is at or above [`Desk::standing`]. No receiver refuses its octets.
+    /// where the place is at or above [`Desk::standing`]. It is in range: no receiver refuses its octets.
     pub fn resend(&self, place: usize) -> Option<Message>
         ensures message { result ≡ option_map (message_at self.now) (slice_get self.now.standing place) }
-        ensures accepted { IfSome result (λ message. refusal (octets_of message) ≡ None) }
+        ensures range { IfSome result IsInRange }
     {
         let entry = self.requests.at(place)?;
         Some(message_of(&self.rows, entry.number(), &entry.request()))
@@ -161,25 +161,78 @@ impl Desk {
         self.next
     }
 
-    /// How many requests stand.
+    /// How many requests stand, 4,096 at most. They stand in order of their numbers, and none stands
+    /// beside an earlier one that it withdraws.
     pub fn standing(&self) -> usize
-        ensures { result ≡ length self.now.standing }
+        ensures len { result ≡ length self.now.standing }
+        ensures most { result ≤ 4096 }
+        ensures rising { AreRising self.now.standing }
+        ensures apart { AreApart self.now.standing }
     {
         self.requests.len()
     }
 
+    /// The input of the request at this place in order of numbers, counted from 0; none where it is on
+    /// no input, or where the place is at or above [`Desk::standing`].
+    pub fn input_at(&self, place: usize) -> Option<End>
+        ensures { result ≡ option_and_then (λ s. input_of s.request) (slice_get self.now.standing place) }
+    {
+        self.requests.at(place)?.input()
+    }
+
+    /// The number of the request on this input; none exactly where none stands. At most one does.
+    pub fn on(&self, input: End) -> Option<u32>
+        ensures { result ≡ option_map (λ s. s.number) (find (λ s. is_on input s.request) self.now.standing) }
+    {
+        match self.requests.on(input) {
+            Some(entry) => Some(entry.number()),
+            None => None,
+        }
+    }
+
     /// Whether a request on this input stands.
+    #[tactic(auto, using(crate::proofs::Apart::found_any))]
     pub fn on_input(&self, input: End) -> bool
         ensures { result ≡ on_input self.now input }
     {
-        self.requests.on_input(input)
+        self.requests.on(input).is_some()
+    }
+
+    /// The number of the Delete All of this port; none exactly where none stands. At most one does.
+    pub fn delete_all_on(&self, port: PortNo) -> Option<u32>
+        ensures { result ≡ option_map (λ s. s.number) (find (λ s. is_delete_all port s.request) self.now.standing) }
+    {
+        self.requests.all_on(port)
     }
 
     /// Whether a Delete All of this port stands.
+    #[tactic(auto, using(crate::proofs::Apart::found_any_mapped))]
     pub fn all_on(&self, port: PortNo) -> bool
         ensures { result ≡ all_on self.now port }
     {
-        self.requests.all_on(port)
+        self.requests.all_on(port).is_some()
+    }
+
+    /// Whether a Delete All of some port stands.
+    pub fn is_deleting(&self) -> bool
+        ensures { result ≡ list_any (λ s. is_some (deleted_of s.request)) self.now.standing }
+    {
+        self.requests.is_deleting()
+    }
+
+    /// Whether the last answer to All Ports calls this port up; not where none tells of it.
+    pub fn is_up(&self, port: PortNo) -> bool
+        ensures { result ≡ is_up self.now.rows port }
+    {
+        is_up(&self.rows, port)
+    }
+
+    /// Whether a request stands that leads this input to the control link, where `home` is its channel
+    /// there: a Move Branch to it, a Delete Tree, a Delete All of the port.
+    pub fn is_led_home(&self, input: End, home: End) -> bool
+        ensures { result ≡ is_led_home self.now input home }
+    {
+        self.requests.is_led_home(input, home)
     }
 
     /// On meeting a switch: the next number is 1, and no session is known. Nothing may stand.

@@ -1,8 +1,10 @@
 //! A request under its number.
 
-ghost use Rattle.std.specs.Prelude.{◌≡◌};
-ghost use Rattle.desk_model.specs.Requests.{input_of};
+ghost use Rattle.std.specs.Prelude.{◌≡◌, IfSome};
+ghost use Rattle.desk_model.specs.Requests.{input_of, leads_home};
+ghost use Rattle.branch_desk.specs.Requests.{deleted_of};
 
+use crate::message::all_of;
 use gsmp_wire::Request;
 use net_types::End;
 use std::marker::Model;
@@ -56,6 +58,28 @@ impl Entry {
             | Request::DeleteTree { input }
             | Request::VerifyTree { input } => Some(input),
             Request::DeleteAll { .. } | Request::PortManagement { .. } | Request::AllPorts => None,
+        }
+    }
+
+    /// The end of the port whose inputs the request deletes; of Delete All alone.
+    pub(crate) fn deleted(&self) -> Option<End>
+        ensures { result ≡ deleted_of self.now.request }
+    {
+        match self.request {
+            Request::DeleteAll { port } => Some(all_of(port)),
+            _ => None,
+        }
+    }
+
+    /// Whether the request, which is on an input, leads it to the control link, where `home` is its
+    /// channel there.
+    pub(crate) fn leads_home(&self, home: End) -> bool
+        ensures { IfSome (input_of self.now.request) (λ input. result ≡ leads_home input home self.now.request) }
+    {
+        match self.request {
+            Request::MoveBranch { to, .. } => to == home,
+            Request::DeleteTree { .. } => true,
+            _ => false,
         }
     }
 }

@@ -4,9 +4,9 @@
 #![tactic(auto)]
 
 mod answered;
+mod by_end;
 mod desk;
 mod entry;
-mod inputs;
 mod message;
 mod requests;
 #[cfg(test)]

@@ -2,7 +2,7 @@
 
 ghost use Rattle.std.specs.Prelude.{◌≡◌};
 ghost use Rattle.desk_model.specs.Answers.{head_of, is_branch_of, is_of_type};
-ghost use Rattle.desk_model.specs.Messages.{all_of, branch_message, message_of, row_of, session_of};
+ghost use Rattle.desk_model.specs.Messages.{all_of, branch_message, is_up, message_of, row_of, session_of};
 
 use gsmp_wire::{BranchKind, Message, PortRow, PortRows, Request};
 use net_types::{Channel, End, PortNo};
@@ -119,8 +119,18 @@ fn session_of(rows: &PortRows, port: PortNo) -> u32
     }
 }
 
+/// Whether a port is up; not where no record tells it.
+pub(crate) fn is_up(rows: &PortRows, port: PortNo) -> bool
+    ensures { result ≡ is_up rows.now port }
+{
+    match row_of(rows, port) {
+        Some(row) => row.up,
+        None => false,
+    }
+}
+
 /// How a request writes an input that is a whole port, and an end of which it doesn't speak.
-fn all_of(port: PortNo) -> End
+pub(crate) fn all_of(port: PortNo) -> End
     ensures { result ≡ all_of port }
 {
     End {

@@ -1,15 +1,17 @@
 //! The requests that stand.
 
-ghost use Rattle.std.specs.Prelude.{◌≡◌, ◌<◌, ◌≤◌, ◌==◌, ◌&&◌, ◌++◌, ◌∷◌, [], not, All, find, filter, length, slice_get, false, true, IfOk, IfSome, IfNone};
+ghost use Rattle.std.specs.Prelude.{◌≡◌, ◌<◌, ◌≤◌, ◌==◌, ◌&&◌, ◌++◌, ◌∷◌, [], not, All, find, filter, length, slice_get, false, true, Some, is_some, IfOk, IfSome, IfNone};
+ghost use Rattle.std.specs.Option.{option_map};
 ghost use Rattle.std.specs.List.{list_any};
 ghost use Rattle.desk_model.specs.Answers.{is_of_type};
-ghost use Rattle.desk_model.specs.Requests.{is_on, is_delete_all};
-ghost use Rattle.branch_desk.specs.Requests.{AreRising, IsUnder, has_function};
+ghost use Rattle.desk_model.specs.Requests.{is_on, is_delete_all, leads_home, withdraws};
+ghost use Rattle.branch_desk.specs.Requests.{AreApart, AreRising, deleted_of, has_function};
+ghost use Rattle.branch_desk.specs.ByEnd.{IsUnder};
 
+use crate::by_end::{ByEnd, MOST_REQUESTS};
 use crate::entry::Entry;
-use crate::inputs::{Inputs, MOST_REQUESTS};
-use crate::message::is_of_type;
-use gsmp_wire::{Message, Request};
+use crate::message::{all_of, is_of_type};
+use gsmp_wire::Message;
 use net_types::{End, OutOfMemory, PortNo};
 use std::alloc::Global;
 use std::marker::Model;
@@ -29,15 +31,19 @@ fn place_of(entries: &[Entry], number: u32) -> Option<usize>
 #[derive(Debug, Drop)]
 pub(crate) struct Requests {
     entries: Vec<Entry>,
-    /// The inputs that they are on.
-    inputs: Inputs,
+    /// Those on an input, by it.
+    inputs: ByEnd,
+    /// Delete All, by the end of its port.
+    deletes: ByEnd,
 }
 
 impl Model for Requests {
     ghost use Rattle.std.specs.Prelude.{◌≡◌, ◌≤◌, true, List, All, length};
     ghost use Rattle.std.specs.Vec.{vec_capacity};
     ghost use Rattle.desk_model.specs.Desk.{Standing};
-    ghost use Rattle.branch_desk.specs.Requests.{AreRising, AreInputsOf, has_function};
+    ghost use Rattle.desk_model.specs.Requests.{input_of};
+    ghost use Rattle.branch_desk.specs.Requests.{AreApart, AreRising, deleted_of, has_function};
+    ghost use Rattle.branch_desk.specs.ByEnd.{AreKeysOf};
 
     ghost Value = { List Standing };
 
@@ -45,7 +51,9 @@ impl Model for Requests {
 
     ghost invariant = { λ r. record {
       rising : AreRising r.entries.items;
-      inputs : AreInputsOf r.entries.items r.inputs;
+      apart : AreApart r.entries.items;
+      inputs : AreKeysOf input_of r.entries.items r.inputs;
+      deletes : AreKeysOf deleted_of r.entries.items r.deletes;
       functions : All (λ (s : Standing). has_function s.request ≡ true) r.entries.items;
       most : length r.entries.items ≤ 4096;
       room : 4096 ≤ vec_capacity r.entries;
@@ -59,13 +67,17 @@ impl Requests {
     {
         Ok(Requests {
             entries: Vec::with_capacity(alloc, MOST_REQUESTS)?,
-            inputs: Inputs::open(alloc)?,
+            inputs: ByEnd::open(alloc)?,
+            deletes: ByEnd::open(alloc)?,
         })
     }
 
     /// How many stand.
     pub(crate) fn len(&self) -> usize
-        ensures { result ≡ length self.now }
+        ensures len { result ≡ length self.now }
+        ensures apart { AreApart self.now }
+        ensures rising { AreRising self.now }
+        ensures most { result ≤ 4096 }
     {
         self.entries.len()
     }
@@ -78,18 +90,51 @@ impl Requests {
         self.entries.get(place).copied()
     }
 
-    /// Whether one is on this input.
-    pub(crate) fn on_input(&self, input: End) -> bool
-        ensures { result ≡ list_any (λ s. is_on input s.request) self.now }
+    /// The one with this number, which stands.
+    fn numbered(&self, number: u32) -> Entry
+        requires { list_any (λ s. s.number == number) self.now ≡ true }
+        ensures { Some result ≡ find (λ s. s.number == number) self.now }
     {
-        self.inputs.contains(input)
+        let Some(place) = place_of(&self.entries, number) else {
+            unreachable!()
+        };
+        self.entries[place]
     }
 
-    /// Whether one is Delete All of this port.
-    pub(crate) fn all_on(&self, port: PortNo) -> bool
-        ensures { result ≡ list_any (λ s. is_delete_all port s.request) self.now }
+    /// The one on this input.
+    pub(crate) fn on(&self, input: End) -> Option<Entry>
+        ensures found { result ≡ find (λ s. is_on input s.request) self.now }
+        ensures apart { AreApart self.now }
     {
-        self.entries.iter().any(|entry| is_delete_all(port, entry))
+        let number = self.inputs.get(input)?;
+        Some(self.numbered(number))
+    }
+
+    /// The number of Delete All of this port.
+    pub(crate) fn all_on(&self, port: PortNo) -> Option<u32>
+        ensures { result ≡ option_map (λ s. s.number) (find (λ s. is_delete_all port s.request) self.now) }
+    {
+        self.deletes.get(all_of(port))
+    }
+
+    /// Whether one leads this input to the control link, where `home` is its channel there.
+    pub(crate) fn is_led_home(&self, input: End, home: End) -> bool
+        ensures { result ≡ list_any (λ s. leads_home input home s.request) self.now }
+    {
+        if self.all_on(input.port).is_some() {
+            return true;
+        }
+        match self.on(input) {
+            Some(entry) => entry.leads_home(home),
+            None => false,
+        }
+    }
+
+    /// Whether one is Delete All of a port.
+    pub(crate) fn is_deleting(&self) -> bool
+        ensures { result ≡ list_any (λ s. is_some (deleted_of s.request)) self.now }
+    {
+        !self.deletes.is_empty()
     }
 
     /// The one with this number, where it is of the message's type.
@@ -108,11 +153,13 @@ impl Requests {
     /// Puts one at the end.
     pub(crate) fn push(&mut self, entry: Entry)
         requires room { length self.old < 4096 }
+        requires free { list_any (λ s. withdraws entry.request s.request) self.old ≡ false }
         requires last { All (λ s. s.number < entry.number) self.old }
         requires function { has_function entry.request ≡ true }
         ensures { self.new ≡ self.old ++ entry ∷ [] }
     {
-        self.inputs.insert(entry.input());
+        self.inputs.insert(entry.input(), entry.number());
+        self.deletes.insert(entry.deleted(), entry.number());
         let Ok(()) = self.entries.push(entry) else {
             unreachable!()
         };
@@ -126,16 +173,7 @@ impl Requests {
             return;
         };
         let entry = self.entries.remove(place);
-        self.inputs.remove(entry.input());
-    }
-}
-
-/// Whether a request is Delete All of the port.
-fn is_delete_all(port: PortNo, entry: &Entry) -> bool
-    ensures { result ≡ is_delete_all port entry.now.request }
-{
-    match entry.request() {
-        Request::DeleteAll { port: deleted } => deleted == port,
-        _ => false,
+        self.inputs.remove(entry.input(), number);
+        self.deletes.remove(entry.deleted(), number);
     }
 }
