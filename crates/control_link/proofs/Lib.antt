@@ -1,0 +1,4 @@
+pub mod Chains
+pub mod Ports
+pub mod Regions
+pub mod Blocks
