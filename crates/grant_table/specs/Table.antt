@@ -1,6 +1,7 @@
 -- What a table of grants is seen as, and what its calls make of it
 
-use Rattle.std.specs.Prelude.{◌≡◌, ℕ, Bool, true, false, not, ◌-◌, ◌==◌, ◌&&◌, nat_lt, nat_le, List, [], ◌∷◌, ◌++◌, Option, None, Some, Result, Ok, Err, option_map, if◌then◌else◌}
+use Rattle.std.specs.Prelude.{◌≡◌, ℕ, Bool, true, false, not, ◌-◌, ◌==◌, ◌&&◌, nat_lt, nat_le, List, [], ◌∷◌, ◌++◌, Option, None, Some, Result, Ok, Err, option_map, IsTrue, if◌then◌else◌}
+use Rattle.std.specs.List.{AllByRecursion}
 use Rattle.std.specs.Option.{option_map_or}
 use Rattle.net_types.specs.declared.channel.End.{End}
 use Rattle.net_types.specs.Label.{is_label_number, label_number_of}
@@ -30,6 +31,10 @@ pub record Table : Type 0 where
 abbrev pub AreApart : List Grant → Type 0
 AreApart [] = Unit {0}
 AreApart (grant ∷ grants) = (at grant_label grant.label grants ≡ None) × AreApart grants
+
+-- each grant is of a label
+abbrev pub AreOfLabels : List Grant → Type 0
+AreOfLabels grants = AllByRecursion (λ grant. IsTrue (is_label_number grant.label)) grants
 
 abbrev pub grant_of : Table → (label : ℕ) → Option Grant
 grant_of table label = at grant_label label table.grants

@@ -88,20 +88,23 @@ pub struct GrantTable {
 }
 
 impl Model for GrantTable {
-    ghost use Rattle.grant_table.specs.Table.{Table, AreApart};
+    ghost use Rattle.grant_table.specs.Table.{Table, AreApart, AreOfLabels};
 
     ghost Value = { Table };
 
     ghost view = { λ t. record { least = t.least; greatest = t.greatest; grants = t.grants } };
 
-    ghost invariant = { λ t. AreApart t.grants };
+    ghost invariant = { λ t. record {
+      apart : AreApart t.grants;
+      labels : AreOfLabels t.grants;
+    } };
 }
 
 impl GrantTable {
     ghost use Rattle.std.specs.List.{insert};
     ghost use Rattle.grant_table.specs.Held.{shown};
     ghost use Rattle.grant_table.specs.Places.{IsGapOf};
-    ghost use Rattle.grant_table.specs.Table.{AreApart, is_in_range, acceptance_in, grant_of, state_of, lent_to, with_grant, in_state, ended, makes_branch, can_go_back, can_end, is_owed, told, accepted, aged, runs_out, view_of};
+    ghost use Rattle.grant_table.specs.Table.{AreApart, AreOfLabels, is_in_range, acceptance_in, grant_of, state_of, lent_to, with_grant, in_state, ended, makes_branch, can_go_back, can_end, is_owed, told, accepted, aged, runs_out, view_of};
 
     /// A table of a port that takes the labels from `least` to `greatest`, by their numbers, with
     /// room for 256 grants. No other call takes memory.
@@ -214,7 +217,8 @@ impl GrantTable {
     /// else of the first one of its flow of type 2. None exactly where there is none.
     pub fn find(&self, packet: &[u8]) -> Option<u16>
         requires { IsPacket packet.now }
-        ensures { result ≡ option_map grant_label (grant_matching self.now.grants packet.now) }
+        ensures found { result ≡ option_map grant_label (grant_matching self.now.grants packet.now) }
+        ensures label { IfSome result (λ label. IsTrue (is_label_number label)) }
     {
         match self.find_by(FlowKind::One, packet) {
             Some(label) => Some(label),
@@ -225,7 +229,8 @@ impl GrantTable {
     /// The label under which the controller sends a packet by its flow of this kind.
     fn find_by(&self, kind: FlowKind, packet: &[u8]) -> Option<u16>
         requires { IsPacket packet.now }
-        ensures { result ≡ option_map grant_label (grant_of_kind self.now.grants kind packet.now) }
+        ensures found { result ≡ option_map grant_label (grant_of_kind self.now.grants kind packet.now) }
+        ensures label { IfSome result (λ label. IsTrue (is_label_number label)) }
     {
         let flow = of_packet(kind, packet)?;
         self.by_flow(&flow)
@@ -234,7 +239,8 @@ impl GrantTable {
     /// The label of the first grant under which the controller sends a flow. None exactly where there
     /// is none.
     pub fn by_flow(&self, flow: &FlowId) -> Option<u16>
-        ensures { result ≡ option_map grant_label (grant_for self.now.grants flow.now) }
+        ensures found { result ≡ option_map grant_label (grant_for self.now.grants flow.now) }
+        ensures label { IfSome result (λ label. IsTrue (is_label_number label)) }
     {
         self.grants.first_of(flow)
     }
@@ -254,6 +260,7 @@ impl GrantTable {
         // What a caller that doesn't open the table needs besides.
         ensures few { result ≤ 256 }
         ensures apart { AreApart self.now.grants }
+        ensures labels { AreOfLabels self.now.grants }
     {
         self.grants.len()
     }
@@ -270,6 +277,7 @@ impl GrantTable {
     pub fn at(&self, place: usize) -> Option<u16>
         ensures label { result ≡ option_map grant_label (slice_get self.now.grants place) }
         ensures found { IfSome result (λ label. grant_of self.now label ≡ slice_get self.now.grants place) }
+        ensures number { IfSome result (λ label. IsTrue (is_label_number label)) }
     {
         if place >= self.grants.len() {
             return None;
@@ -317,6 +325,7 @@ impl GrantTable {
         requires { IsSome (grant_of self.old vci) }
         ensures grant { grant_of self.old vci ≡ Some (shown result.1) }
         ensures label { (shown result.1).label ≡ vci }
+        ensures number { IsTrue (is_label_number vci) }
         ensures rest { self.new ≡ ended self.old vci }
         ensures place { IsGapOf self.old.grants self.new.grants vci result.0 }
     {
@@ -331,6 +340,7 @@ impl GrantTable {
         requires gap { place ≤ length self.old.grants }
         requires room { length self.old.grants < 256 }
         requires absent { grant_of self.old (shown grant).label ≡ None }
+        requires label { IsTrue (is_label_number (shown grant).label) }
         ensures { self.new ≡ record self.old { grants = insert self.old.grants place (shown grant) } }
     {
         self.grants.put_back(place, grant);

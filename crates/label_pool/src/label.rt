@@ -181,6 +181,13 @@ impl Label<Recalled> {
         self.state.flow
     }
 
+    /// The number of the last RECLAIM.
+    pub fn last(&self) -> u32
+        ensures { result ≡ self.now.state.last }
+    {
+        self.state.last
+    }
+
     /// Whether the peer acknowledged that it was reclaimed.
     pub fn acknowledged(&self) -> bool
         ensures { result ≡ self.now.state.acknowledged }

@@ -3,6 +3,7 @@
 ghost use Rattle.std.specs.Prelude.{◌≡◌, ◌≤◌, nat_eq, length, option_map, false, IsTrue, IfOk, IfErr, IfSome, IfNone};
 ghost use Rattle.std.specs.List.{list_any};
 ghost use Rattle.net_types.specs.Label.{is_label_number};
+ghost use Rattle.port_model.specs.Setup.{is_between};
 ghost use Rattle.port_model.specs.Reclaiming.{greater_of, lesser_of};
 
 use crate::between::Between;
@@ -124,6 +125,13 @@ impl LabelPool {
         ensures { self.new ≡ record self.old { from = greater_of self.old.from from; to = lesser_of self.old.to to } }
     {
         self.between.narrow(from, to);
+    }
+
+    /// Whether the channel lies between the two to which the pool was narrowed.
+    pub fn is_within(&self, channel: Channel) -> bool
+        ensures { result ≡ is_between self.now.from self.now.to channel }
+    {
+        self.between.contains(channel)
     }
 
     /// How many labels are spare, also those that aren't handed out any more.

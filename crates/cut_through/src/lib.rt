@@ -1,0 +1,12 @@
+//! Where the input of a label is led straight on, past the controller (Newman, Minshall and Lyon): to a
+//! label of the next hop's flow, at the port of the flow's route. The rule *Joins* of a controller is
+//! defined in `controller_model`.
+#![tactic(auto)]
+
+mod joins;
+mod laws;
+#[cfg(test)]
+mod tests;
+
+pub use joins::{Join, plan, route_of, undo};
+pub use laws::plans_are_the_controllers;

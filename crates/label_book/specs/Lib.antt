@@ -1,0 +1,4 @@
+pub mod Read
+pub mod Book
+pub mod Held
+pub mod Index

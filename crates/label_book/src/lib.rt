@@ -1,0 +1,15 @@
+//! The labels that a port holds (RFC 1953), the lowest first, each in its state as a type: it is found
+//! by its number, by its place among the others, and by the flow that it serves. What a label is is
+//! defined in `port_model`.
+#![tactic(auto)]
+
+mod book;
+mod held;
+mod index;
+mod places;
+#[cfg(test)]
+mod tests;
+mod view;
+
+pub use book::LabelBook;
+pub use view::{HeldLabel, HeldState, LabelState, LabelView};
