@@ -1,0 +1,5 @@
+pub mod Standing
+pub mod Entries
+pub mod Told
+pub mod Cleared
+pub mod Clearing

@@ -1,0 +1,4 @@
+pub mod Keyed
+pub mod Changed
+pub mod Spares
+pub mod Passing

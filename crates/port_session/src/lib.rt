@@ -1,0 +1,7 @@
+//! What a port has exactly in Estab (RFC 1953): its labels, those that are spare and those that are held,
+//! the flows that it counts, and the numbers of both ends. What a session is is defined in `port_model`.
+#![tactic(auto)]
+
+mod session;
+
+pub use session::{LAST_NUMBER, Session};

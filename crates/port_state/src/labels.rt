@@ -1,0 +1,281 @@
+//! The labels of a port's session.
+
+ghost use Rattle.std.specs.Prelude.{◌≡◌, ◌≢◌, ℕ, false, not, option_map, IsTrue, IsSome, IfOk, IfSome, OnOk, OnErr, None, Some, length, slice_get, if◌then◌else◌};
+ghost use Rattle.std.specs.Option.{option_map_or};
+ghost use Rattle.net_types.specs.Label.{is_label_number};
+ghost use Rattle.keyed_lists.specs.Keyed.{without};
+ghost use Rattle.label_book.specs.Book.{acknowledged, is_passed, is_recalled, reclaimed};
+ghost use Rattle.label_book.specs.Read.{label_of};
+ghost use Rattle.label_pool.specs.Label.{unwires, wires};
+ghost use Rattle.port_model.specs.Counts.{counted_once, packets_in};
+ghost use Rattle.port_model.specs.Labels as labels;
+ghost use Rattle.port_model.specs.Labels.{label_for, label_number, lowest_spare};
+ghost use Rattle.port_model.specs.Port.{Session as SessionValue, known_of, label_at, labels_of};
+ghost use Rattle.port_model.specs.Reclaiming.{is_outside, narrowed};
+ghost use Rattle.port_model.specs.Counts.{moved};
+ghost use Rattle.port_model.specs.Ticks.{asks_for_ack};
+ghost use Rattle.port_session.specs.Session.{reclaim_number};
+ghost use Rattle.port_state.specs.Engine.{flow_at, setup_of};
+ghost use Rattle.port_state.specs.Parts.{changed_session, numbers_of, with_label, with_labels, with_taken};
+
+use crate::state::PortState;
+use branch_desk::BranchDone;
+use flow_classifier::Policy;
+use flow_ids::FlowId;
+use label_book::{HeldLabel, HeldState};
+use net_types::{Channel, End, OutOfMemory, label_channel};
+use std::mem;
+
+impl<P: Policy> PortState<P> {
+    /// How many labels are held.
+    pub fn held(&self) -> usize
+        ensures { result ≡ length (numbers_of self.now.port) }
+    {
+        match &self.session {
+            Some(session) => session.held(),
+            None => 0,
+        }
+    }
+
+    /// The number of the label at this place among those that are held.
+    pub fn number_at(&self, place: usize) -> Option<u16>
+        ensures { result ≡ slice_get (numbers_of self.now.port) place }
+    {
+        match &self.session {
+            Some(session) => session.number_at(place),
+            None => None,
+        }
+    }
+
+    /// The label of this number, if it is held.
+    pub fn label_at(&self, number: u16) -> Option<HeldLabel>
+        ensures label { option_map label_of result ≡ label_at self.now.port number }
+        ensures range { IfSome result (λ label. IsTrue (is_label_number label.number)) }
+        ensures number { IfSome result (λ label. label.number ≡ number) }
+    {
+        match &self.session {
+            Some(session) => session.label_at(number),
+            None => None,
+        }
+    }
+
+    /// The flow that the label of this number is bound to. None exactly where it isn't bound.
+    pub fn flow_of(&self, vci: u16) -> Option<FlowId>
+        ensures { result ≡ flow_at self.now.port vci }
+    {
+        let label = self.label_at(vci)?;
+        match label.state {
+            HeldState::Offered | HeldState::Recalled { .. } => Some(label.flow),
+            HeldState::Wiring | HeldState::Wired => None,
+        }
+    }
+
+    /// The number of the label that serves the flow.
+    pub fn serving(&self, flow: &FlowId) -> Option<u16>
+        ensures { result ≡ option_map label_number (label_for (labels_of self.now.port) flow.now) }
+    {
+        match &self.session {
+            Some(session) => session.serving(flow),
+            None => None,
+        }
+    }
+
+    /// Counts a packet of a flow, and answers how many of its packets are in the window. A session is
+    /// open.
+    pub fn count(&mut self, flow: FlowId) -> Result<u32, OutOfMemory>
+        requires { IsSome self.old.port.session }
+        ensures fixed { self.new.fixed ≡ self.old.fixed }
+        ensures port { OnOk result (self.new.port ≡ changed_session self.old.port (λ s. record s { counted = counted_once s.counted flow })) }
+        ensures packets { IfOk result (λ packets. IfSome self.new.port.session (λ s. packets ≡ packets_in s.counted flow)) }
+    {
+        match &mut self.session {
+            Some(session) => session.count(flow),
+            None => unreachable!(),
+        }
+    }
+
+    /// The windows of the flows that are counted move.
+    pub fn move_windows(&mut self)
+        ensures fixed { self.new.fixed ≡ self.old.fixed }
+        ensures port { self.new.port ≡ changed_session self.old.port (λ s. record s { counted = moved self.old.fixed.timers.window s.counted }) }
+    {
+        match &mut self.session {
+            Some(session) => session.move_windows(),
+            None => {}
+        }
+    }
+
+    /// The lowest spare label is taken for a flow that none serves; none where none can be handed out.
+    /// Where memory is wanting the session is given up.
+    pub fn take_label(&mut self, flow: FlowId) -> Result<Option<u16>, OutOfMemory>
+        requires { label_for (labels_of self.old.port) flow ≡ None }
+        ensures fixed { self.new.fixed ≡ self.old.fixed }
+        ensures range { IfOk result (λ number. IfSome number (λ n. IsTrue (is_label_number n))) }
+        ensures number { (s : SessionValue) → self.old.port.session ≡ Some s → IfOk result (λ number. number ≡ lowest_spare (setup_of P.meaning self.old.fixed) s.least s.greatest s.labels) }
+        ensures port { IfOk result (λ number. self.new.port ≡ with_taken self.old.port flow number) }
+    {
+        let Some(session) = mem::replace(&mut self.session, None) else {
+            return Ok(None);
+        };
+        let (session, number) = session.wire(flow)?;
+        if let Some(before) = mem::replace(&mut self.session, Some(session)) {
+            before.abandon();
+        }
+        Ok(number)
+    }
+
+    /// No packet used a label for so many ticks.
+    pub fn set_idle(&mut self, number: u16, idle: u32)
+        requires { IsSome (label_at self.old.port number) }
+        ensures fixed { self.new.fixed ≡ self.old.fixed }
+        ensures port { IfSome (label_at self.old.port number) (λ label. self.new.port ≡ with_label self.old.port (record label { idle = idle })) }
+    {
+        match &mut self.session {
+            Some(session) => session.set_idle(number, idle),
+            None => {}
+        }
+    }
+
+    /// The last REDIRECT of a label was sent so many ticks ago.
+    pub fn set_ticks(&mut self, number: u16, ticks: u32)
+        requires { IsSome (label_at self.old.port number) }
+        ensures fixed { self.new.fixed ≡ self.old.fixed }
+        ensures port { IfSome (label_at self.old.port number) (λ label. self.new.port ≡ with_label self.old.port (record label { ticks = ticks })) }
+    {
+        match &mut self.session {
+            Some(session) => session.set_ticks(number, ticks),
+            None => {}
+        }
+    }
+
+    /// The input of a label is joined to an output.
+    pub fn join(&mut self, number: u16, output: End)
+        requires { IsSome (label_at self.old.port number) }
+        ensures fixed { self.new.fixed ≡ self.old.fixed }
+        ensures port { IfSome (label_at self.old.port number) (λ label. self.new.port ≡ with_label self.old.port (record label { join = Some output })) }
+    {
+        match &mut self.session {
+            Some(session) => session.join(number, output),
+            None => {}
+        }
+    }
+
+    /// The input of a label isn't joined any more.
+    pub fn part(&mut self, number: u16)
+        requires { IsSome (label_at self.old.port number) }
+        ensures fixed { self.new.fixed ≡ self.old.fixed }
+        ensures port { IfSome (label_at self.old.port number) (λ label. self.new.port ≡ with_label self.old.port (record label { join = None })) }
+    {
+        match &mut self.session {
+            Some(session) => session.part(number),
+            None => {}
+        }
+    }
+
+    /// The branch of a label that is being wired is made: it is offered.
+    pub fn offer(&mut self, number: u16, done: &BranchDone)
+        requires state { option_map (λ label. label.state) (label_at self.old.port number) ≡ Some labels.Wiring }
+        requires wires { IsTrue (wires number done.now.request) }
+        ensures fixed { self.new.fixed ≡ self.old.fixed }
+        ensures port { IfSome (label_at self.old.port number) (λ label. self.new.port ≡ with_label self.old.port (record label { state = labels.Offered })) }
+    {
+        match &mut self.session {
+            Some(session) => session.offer(number, done),
+            None => {}
+        }
+    }
+
+    /// An offered label is reclaimed by the next RECLAIM.
+    pub fn recall(&mut self, number: u16)
+        requires { option_map (λ label. label.state) (label_at self.old.port number) ≡ Some labels.Offered }
+        ensures fixed { self.new.fixed ≡ self.old.fixed }
+        ensures port { IfSome (label_at self.old.port number) (λ label. IfSome self.old.port.session (λ s. self.new.port ≡ with_label self.old.port (record label { state = labels.Recalled (reclaim_number s) false }))) }
+    {
+        match &mut self.session {
+            Some(session) => session.recall(number),
+            None => {}
+        }
+    }
+
+    /// A recalled label is reclaimed by the next RECLAIM.
+    pub fn reclaim_again(&mut self, number: u16)
+        requires { IsTrue (option_map_or is_recalled (option_map (λ label. label.state) (label_at self.old.port number)) false) }
+        ensures fixed { self.new.fixed ≡ self.old.fixed }
+        ensures port { IfSome (label_at self.old.port number) (λ label. IfSome self.old.port.session (λ s. self.new.port ≡ with_label self.old.port (record label { state = reclaimed (reclaim_number s) label.state }))) }
+    {
+        match &mut self.session {
+            Some(session) => session.reclaim_again(number),
+            None => {}
+        }
+    }
+
+    /// The peer acknowledged that a label was reclaimed.
+    pub fn acknowledge(&mut self, number: u16)
+        requires { IsTrue (option_map_or is_recalled (option_map (λ label. label.state) (label_at self.old.port number)) false) }
+        ensures fixed { self.new.fixed ≡ self.old.fixed }
+        ensures port { IfSome (label_at self.old.port number) (λ label. self.new.port ≡ with_label self.old.port (record label { state = acknowledged label.state })) }
+    {
+        match &mut self.session {
+            Some(session) => session.acknowledge(number),
+            None => {}
+        }
+    }
+
+    /// Where the peer can't use a recalled label any more it is wired, and the answer is true.
+    pub fn quit(&mut self, number: u16) -> bool
+        requires { IsTrue (option_map_or is_recalled (option_map (λ label. label.state) (label_at self.old.port number)) false) }
+        ensures fixed { self.new.fixed ≡ self.old.fixed }
+        ensures passed { IfSome (label_at self.old.port number) (λ label. result ≡ is_passed (known_of self.old.port) label.state) }
+        ensures port { IfSome (label_at self.old.port number) (λ label. self.new.port ≡ (if result then with_label self.old.port (record label { state = labels.Wired }) else self.old.port)) }
+    {
+        match &mut self.session {
+            Some(session) => session.quit(number),
+            None => false,
+        }
+    }
+
+    /// The branch of a wired label is deleted: it is spare again.
+    pub fn free(&mut self, number: u16, done: &BranchDone)
+        requires state { option_map (λ label. label.state) (label_at self.old.port number) ≡ Some labels.Wired }
+        requires unwires { IsTrue (unwires number done.now.request) }
+        ensures fixed { self.new.fixed ≡ self.old.fixed }
+        ensures port { self.new.port ≡ with_labels self.old.port (without label_number number) }
+    {
+        match &mut self.session {
+            Some(session) => session.free(number, done),
+            None => {}
+        }
+    }
+
+    /// The range of the session is narrowed.
+    pub fn narrow(&mut self, least: Channel, greatest: Channel)
+        ensures fixed { self.new.fixed ≡ self.old.fixed }
+        ensures port { self.new.port ≡ changed_session self.old.port (narrowed least greatest) }
+    {
+        match &mut self.session {
+            Some(session) => session.narrow(least, greatest),
+            None => {}
+        }
+    }
+
+    /// Whether a label lies outside the narrowed range.
+    pub fn is_outside(&self, number: u16) -> bool
+        requires { IsTrue (is_label_number number) }
+        ensures { result ≡ is_outside self.now.port.session number }
+    {
+        match &self.session {
+            Some(session) => !session.pool().is_within(label_channel(number)),
+            None => false,
+        }
+    }
+
+    /// Whether a label is acknowledged and its last RECLAIM isn't known to be passed.
+    pub fn wants_ack(&self) -> bool
+        ensures { result ≡ asks_for_ack self.now.port.session }
+    {
+        match &self.session {
+            Some(session) => session.wants_ack(),
+            None => false,
+        }
+    }
+}

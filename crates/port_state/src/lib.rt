@@ -1,0 +1,10 @@
+//! A port of a controller as its rules find and leave it (RFC 1953): what stays the same of it with its
+//! policy, its adjacency, its session and its grants. What each part is is defined in `port_model`.
+#![tactic(auto)]
+
+mod grants;
+mod labels;
+mod side;
+mod state;
+
+pub use state::PortState;
