@@ -1,1 +1,8 @@
-mod Lives
+pub mod Lists
+pub mod Queues
+pub mod Made
+pub mod Kept
+pub mod Opening
+pub mod Lives
+mod LineLives
+mod SwitchLives

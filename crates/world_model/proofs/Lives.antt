@@ -13,7 +13,7 @@ use Rattle.world_model.specs.World.{World, opened}
 use Rattle.world_model.specs.Run.{next, world_after, round}
 use Rattle.world_model.specs.Journey.{journey, IsDropped}
 
-abbrev node : ℕ → NodeId
+abbrev pub node : ℕ → NodeId
 node n = record { 0 = n }
 
 abbrev route : Route
@@ -30,7 +30,7 @@ abbrev one : Topology
 one = record empty_topology { nodes = named 97 167772417 (route ∷ []) ∷ [] }
 
 -- two nodes and the link between them
-abbrev two : Topology
+abbrev pub two : Topology
 two = record empty_topology {
   nodes = named 97 167772417 (onward ∷ []) ∷ named 98 167772929 (route ∷ []) ∷ [];
   links = record { first = record { node = node 1; port = record { 0 = 1 } }; second = record { node = node 2; port = record { 0 = 1 } } } ∷ [];

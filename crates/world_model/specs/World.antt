@@ -1,6 +1,6 @@
 -- A network in a run: at each node a controller and its switch
 
-use Rattle.std.specs.Prelude.{ℕ, suc, min, ◌+◌, List, [], ◌∷◌, ◌++◌, Option, None, Some}
+use Rattle.std.specs.Prelude.{ℕ, suc, min, ◌+◌, List, [], ◌∷◌, ◌++◌, Option, None, Some, option_map}
 use Rattle.std.specs.List.{sum_by}
 use Rattle.net_types.specs.declared.node.NodeId.{NodeId}
 use Rattle.net_types.specs.Number.{GivenOut, next_instance, with_instance}
@@ -48,6 +48,9 @@ site_key site = site.controller.node.0
 
 abbrev pub site_at : World → NodeId → Option Site
 site_at w node = at site_key node.0 w.sites
+
+abbrev pub controller_at : World → NodeId → Option Controller
+controller_at w node = option_map (λ site. site.controller) (site_at w node)
 
 abbrev pub with_site : World → Site → World
 with_site w site = record w { sites = put site_key site w.sites }

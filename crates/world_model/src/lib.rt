@@ -6,7 +6,9 @@
 mod event;
 mod line;
 mod link;
+mod refusal;
 
 pub use event::Event;
 pub use line::TopologyLine;
 pub use link::LinkEnd;
+pub use refusal::{EventRefusal, TopologyRefusal};

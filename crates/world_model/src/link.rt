@@ -3,7 +3,7 @@
 use net_types::{NodeId, PortNo};
 
 /// One end of a link: a port of a node.
-#[derive(Clone, Copy, Debug, PartialEq, Eq)]
+#[derive(Clone, Copy, Debug, PartialEq, Eq, Hash)]
 pub struct LinkEnd {
     /// The node.
     pub node: NodeId,

@@ -1,0 +1,98 @@
+-- Facts on order, of the cells and messages between the two ends of a link
+
+use Rattle.std.specs.Prelude.{◌≡◌, ℕ, ◌<◌, ◌≤◌, List, [], ◌∷◌, map, flat_map, slice_get, Contains, Option, None, Some}
+use Rattle.std.specs.Option.{option_and_then}
+use Rattle.net_types.specs.declared.node.NodeId.{NodeId}
+use Rattle.net_types.specs.declared.number.Instance.{Instance}
+use Rattle.net_types.specs.declared.adjacency.Hello.{Hello}
+use Rattle.net_types.specs.declared.adjacency.HelloKind.TheVariants.{Ack}
+use Rattle.net_types.specs.declared.adjacency.Peer.{Peer}
+use Rattle.adjacency_table.specs.declared.State.TheVariants.{Estab}
+use Rattle.adjacency_table.specs.Side.{Side}
+use Rattle.atm_cells.specs.declared.cell.Cell.{Cell}
+use Rattle.ifmp_wire.specs.declared.message.Message.{Message}
+use Rattle.ifmp_wire.specs.declared.message.Message.TheVariants.{Adjacency, Redirect, Reclaim, ReclaimAck, LabelRange, Error}
+use Rattle.link_model.specs.declared.frames.Frame.{Frame}
+use Rattle.frame_model.specs.Frame.{frame_cells}
+use Rattle.port_model.specs.Port.{Session}
+use Rattle.controller_model.specs.Controller.{default_channel}
+use Rattle.world_model.specs.declared.link.LinkEnd.{LinkEnd}
+use Rattle.world_model.specs.World.{World}
+use Rattle.world_model.specs.Ways.{session_at, side_at, on_the_way, on_default_channel, gsmp_to_switch, gsmp_to_controller, ifmp_of, ifmp_under}
+
+-- *The first list is the second one with some elements left out*
+pub data IsLeftOf {A : Type 0} : List A → List A → Type 0 where
+  none : IsLeftOf [] []
+  stays : (x : A) (xs ys : List A) → IsLeftOf xs ys → IsLeftOf (x ∷ xs) (x ∷ ys)
+  is_gone : (y : A) (xs ys : List A) → IsLeftOf xs ys → IsLeftOf xs (y ∷ ys)
+
+-- *As they were cut*: all cells of all frames in the order of their making, and a list of cells, whatever their channel
+abbrev pub without_channel : Cell → Cell
+without_channel cell = record cell { header = record cell.header { channel = default_channel } }
+
+abbrev pub cells_of_frame : Frame → List Cell
+cells_of_frame frame = frame_cells default_channel frame.mark frame.payload
+
+abbrev pub AreAsCut : World → List Cell → Type 0
+AreAsCut w cells = IsLeftOf (map without_channel cells) (flat_map cells_of_frame w.notes.frames)
+
+-- the cells of one default channel, and of GSMP in one direction, stand on the way in the order in which they were cut
+abbrev pub IsCutInOrder : World → (from to : LinkEnd) → Type 0
+IsCutInOrder w from to = AreAsCut w (on_default_channel w from to)
+
+pub record AreGsmpCutInOrder (w : World) (node : NodeId) : Type 0 where
+  pub down : AreAsCut w (gsmp_to_switch w node)
+  pub up : AreAsCut w (gsmp_to_controller w node)
+
+-- *Redirection messages*: by their two instances and their number
+pub record Numbered : Type 0 where
+  pub sender : Instance
+  pub peer : Instance
+  pub number : ℕ
+
+abbrev pub numbered : Message → Option Numbered
+numbered (Adjacency hello) = None
+numbered (Redirect sender peer number lifetime label flow) = Some (record { sender = sender; peer = peer; number = number })
+numbered (Reclaim sender peer number label flow) = Some (record { sender = sender; peer = peer; number = number })
+numbered (ReclaimAck sender peer number label flow) = Some (record { sender = sender; peer = peer; number = number })
+numbered (LabelRange sender peer number least greatest) = Some (record { sender = sender; peer = peer; number = number })
+numbered (Error sender peer number code label) = Some (record { sender = sender; peer = peer; number = number })
+
+abbrev pub number_of : Frame → Option Numbered
+number_of frame = option_and_then numbered (ifmp_of frame.payload)
+
+-- those of one instance, which is one port's, were made with rising numbers
+abbrev pub AreRising : World → Type 0
+AreRising w =
+    (place later : ℕ) (one other : Frame) (first second : Numbered)
+    → slice_get w.notes.frames place ≡ Some one → slice_get w.notes.frames later ≡ Some other → place < later
+    → number_of one ≡ Some first → number_of other ≡ Some second → first.sender.0 ≡ second.sender.0
+    → first.number < second.number
+
+-- none with these two instances and a number below this one is on the way
+abbrev pub HasNoneBelow : World → (from to : LinkEnd) → (sender peer : Instance) → (least : ℕ) → Type 0
+HasNoneBelow w from to sender peer least =
+    (cell : Cell) (m : Message) (n : Numbered) → Contains (on_the_way w from to) cell
+    → ifmp_under w.notes.frames cell.mark ≡ Some m → numbered m ≡ Some n
+    → n.sender.0 ≡ sender.0 → n.peer.0 ≡ peer.0 → least ≤ n.number
+
+-- *What an end in Estab expects*: nothing of its peer that is below the expected number comes any more
+abbrev pub IsNotOverdue : World → (from to : LinkEnd) → Type 0
+IsNotOverdue w from to =
+    (side : Side Peer) (peer : Peer) (session : Session) → side_at w to ≡ Some side → side.state ≡ Estab
+    → side.stored ≡ Some peer → session_at w to ≡ Some session
+    → HasNoneBelow w from to peer.instance side.own.instance session.expected
+
+-- *What an end in Estab knows*: nothing of its own that is below the number that its peer is known to expect next, or
+-- that an ACK on the way from its peer says, is on the way there
+pub record HasArrived (w : World) (from to : LinkEnd) (side : Side Peer) (peer : Peer) (session : Session) : Type 0 where
+  pub known : HasNoneBelow w from to side.own.instance peer.instance session.known
+  pub said : (cell : Cell) (hello : Hello) → Contains (on_the_way w to from) cell
+      → ifmp_under w.notes.frames cell.mark ≡ Some (Adjacency hello) → hello.kind ≡ Ack
+      → hello.sender.0 ≡ peer.instance.0 → hello.peer.0 ≡ side.own.instance.0
+      → HasNoneBelow w from to side.own.instance peer.instance hello.next
+
+abbrev pub IsKnownRightly : World → (from to : LinkEnd) → Type 0
+IsKnownRightly w from to =
+    (side : Side Peer) (peer : Peer) (session : Session) → side_at w from ≡ Some side → side.state ≡ Estab
+    → side.stored ≡ Some peer → session_at w from ≡ Some session → HasArrived w from to side peer session

@@ -1,0 +1,111 @@
+-- The stretches of every channel that takes cells: a channel of a controller's control link, and the GSMP channel of a
+-- switch
+
+use Rattle.std.specs.Prelude.{◌≡◌, ℕ, ◌==◌, Bool, true, false, not, ◌&&◌, nat_lt, List, [], ◌∷◌, ◌++◌, length, Option, None, Some, option_map, if◌then◌else◌}
+use Rattle.std.specs.Option.{option_map_or, option_and_then}
+use Rattle.net_types.specs.declared.node.NodeId.{NodeId}
+use Rattle.net_types.specs.declared.node.Place.TheVariants.{Down, Up}
+use Rattle.net_types.specs.declared.channel.Channel.{Channel}
+use Rattle.atm_cells.specs.declared.cell.Cell.{Cell}
+use Rattle.frame_model.specs.Reassembly.{Reassembly, Taken, taken}
+use Rattle.frame_model.specs.Stretch.{Turn, Takes, IsCut}
+use Rattle.frame_model.specs.Frame.{payload_in, octets_of, last_mark}
+use Rattle.link_model.specs.Ledger.{payload_of}
+use Rattle.switch_model.specs.Switch as switch
+use Rattle.switch_model.specs.Switch.{gsmp_channel}
+use Rattle.controller_model.specs.Controller.{free_slots}
+use Rattle.controller_model.specs.Cells.{same_channel, taker_of, reassembly_of}
+use Rattle.world_model.specs.declared.event.Event.{Event}
+use Rattle.world_model.specs.declared.event.Event.TheVariants.{Carry}
+use Rattle.world_model.specs.Topology.{Topology}
+use Rattle.world_model.specs.World.{World, site_at, controller_at}
+use Rattle.world_model.specs.Places.{queue_at}
+use Rattle.world_model.specs.Run.{next}
+
+pub data Taker : Type 0 where
+  OfController : NodeId → Channel → Taker
+  OfSwitch : NodeId → Taker
+
+abbrev pub same_taker : Taker → Taker → Bool
+same_taker (OfController node channel) (OfController other far) = (node.0 == other.0) && same_channel channel far
+same_taker (OfSwitch node) (OfSwitch other) = node.0 == other.0
+same_taker taker other = false
+
+-- what a channel has made of its cells; none where nobody takes its cells
+abbrev pub reassembly_at : World → Taker → Option Reassembly
+reassembly_at w (OfController node channel) =
+    option_and_then (λ c. option_map (reassembly_of c) (taker_of c channel)) (controller_at w node)
+reassembly_at w (OfSwitch node) = option_map (λ site. site.switch.reassembly) (site_at w node)
+
+-- whether a slot is free for a cell
+abbrev pub has_slot : World → Taker → Bool
+has_slot w (OfController node channel) = option_map_or (λ c. nat_lt 0 (free_slots c)) (controller_at w node) false
+has_slot w (OfSwitch node) = option_map_or (λ site. nat_lt 0 (switch.free_slots site.switch)) (site_at w node) false
+
+-- *The cell that comes to a channel* at an event
+pub record Arrival : Type 0 where
+  pub taker : Taker
+  pub cell : Cell
+
+abbrev pub at_controller : NodeId → List Cell → Option Arrival
+at_controller node [] = None
+at_controller node (cell ∷ cells) = Some (record { taker = OfController node cell.header.channel; cell = cell })
+
+abbrev pub at_switch : NodeId → List Cell → Option Arrival
+at_switch node [] = None
+at_switch node (cell ∷ cells) =
+    if same_channel cell.header.channel gsmp_channel then Some (record { taker = OfSwitch node; cell = cell }) else None
+
+abbrev pub arrival : World → Event → Option Arrival
+arrival w (Carry (Up node)) = at_controller node (queue_at w (Up node))
+arrival w (Carry (Down node)) = at_switch node (queue_at w (Down node))
+arrival w event = None
+
+abbrev pub cell_for : Taker → Option Arrival → Option Cell
+cell_for taker None = None
+cell_for taker (Some a) = if same_taker a.taker taker then Some a.cell else None
+
+-- *What the cell leaves there*, before anything else happens in the event
+abbrev pub taken_at : World → Taker → Option Reassembly → Option Cell → Option Taken
+taken_at w taker None cell = None
+taken_at w taker (Some r) None = None
+taken_at w taker (Some r) (Some cell) = Some (taken w.notes (has_slot w taker) r cell)
+
+abbrev pub takes : World → Event → Taker → Option Taken
+takes w event taker = taken_at w taker (reassembly_at w taker) (cell_for taker (arrival w event))
+
+abbrev pub left_by : Option Reassembly → Option Taken → Option Reassembly
+left_by r None = r
+left_by r (Some t) = Some t.reassembly
+
+-- *A cut* leaves a channel with nothing that had something
+abbrev pub is_nothing : Option Reassembly → Bool
+is_nothing None = true
+is_nothing (Some r) = (length r.chain == 0) && not r.is_skipping
+
+abbrev pub cut_turn : (left after : Option Reassembly) → List Turn
+cut_turn left after = if is_nothing after && not (is_nothing left) then IsCut ∷ [] else []
+
+abbrev pub cell_turn : Option Reassembly → Option Cell → List Turn
+cell_turn (Some r) (Some cell) = Takes cell ∷ []
+cell_turn r cell = []
+
+-- what happens to a channel at an event, and in a run from a world on
+abbrev pub turns_at : (before : World) → Event → (after : World) → Taker → List Turn
+turns_at before event after taker =
+    cell_turn (reassembly_at before taker) (cell_for taker (arrival before event))
+    ++ cut_turn (left_by (reassembly_at before taker) (takes before event taker)) (reassembly_at after taker)
+
+abbrev pub turns_of : Topology → World → List Event → Taker → List Turn
+turns_of topology w [] taker = []
+turns_of topology w (event ∷ events) taker =
+    turns_at w event (next topology w event) taker ++ turns_of topology (next topology w event) events taker
+
+-- *A chain that passed its test* has the payload of its last cell's frame, so it counts as that frame alone
+abbrev pub ended_at : World → Event → Taker → List Cell
+ended_at w event taker = option_map_or (λ t. t.ended) (takes w event taker) []
+
+abbrev pub CountsAsItsFrame : World → Event → Type 0
+CountsAsItsFrame w event =
+    (taker : Taker) (payload : List ℕ) → payload_in (octets_of (ended_at w event taker)) ≡ Some payload
+    → payload_of w.notes.frames (last_mark (ended_at w event taker)) ≡ Some payload

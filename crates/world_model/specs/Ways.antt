@@ -1,0 +1,128 @@
+-- The ways between two actors: which cells stand on them, the earlier place first, and what their frames say
+
+use Rattle.std.specs.Prelude.{ℕ, ◌==◌, List, [], ◌++◌, filter, drop, Option, None, Some, Result, Ok, Err, option_map, if◌then◌else◌}
+use Rattle.std.specs.Option.{option_map_or, option_and_then}
+use Rattle.net_types.specs.declared.node.NodeId.{NodeId}
+use Rattle.net_types.specs.declared.node.Place.TheVariants.{Down, Up, Out}
+use Rattle.net_types.specs.declared.channel.Channel.{Channel}
+use Rattle.net_types.specs.declared.channel.End.{End}
+use Rattle.net_types.specs.declared.number.Mark.{Mark}
+use Rattle.net_types.specs.declared.adjacency.Peer.{Peer}
+use Rattle.net_types.specs.declared.adjacency.Party.{Party}
+use Rattle.adjacency_table.specs.Side.{Side}
+use Rattle.ipv4_packet.specs.Packet.{protocol_of}
+use Rattle.atm_cells.specs.declared.cell.Cell.{Cell}
+use Rattle.flow_encaps.specs.Unwrapped.{default_unwrapped}
+use Rattle.ifmp_wire.specs.declared.message.Message.{Message as IfmpMessage}
+use Rattle.ifmp_wire.specs.Fields.{decoded as ifmp_decoded}
+use Rattle.gsmp_wire.specs.declared.message.Message.{Message as GsmpMessage}
+use Rattle.gsmp_wire.specs.Fields.{decoded as gsmp_decoded}
+use Rattle.link_model.specs.declared.frames.Frame.{Frame}
+use Rattle.link_model.specs.Ledger.{payload_of}
+use Rattle.crossbar_model.specs.Crossbar.{output_of}
+use Rattle.desk_model.specs.Desk.{Standing}
+use Rattle.desk_model.specs.Answers.{Head, head_of}
+use Rattle.switch_model.specs.Requests.{asked_in, is_request}
+use Rattle.switch_model.specs.declared.request.Asked.{Asked}
+use Rattle.port_model.specs.Grants.{Grant}
+use Rattle.port_model.specs.Port.{Session}
+use Rattle.controller_model.specs.Controller.{Linked, linked_at, default_channel, default_home}
+use Rattle.controller_model.specs.Cells.{same_channel}
+use Rattle.controller_model.specs.Packets.{control_protocol}
+use Rattle.world_model.specs.declared.link.LinkEnd.{LinkEnd}
+use Rattle.world_model.specs.World.{World, site_at, controller_at}
+use Rattle.world_model.specs.Places.{queue_at}
+
+-- *What stands at the end of a link*: the port with its session, its grants and its side of the adjacency
+abbrev pub linked_end : World → LinkEnd → Option Linked
+linked_end w end = option_and_then (λ c. linked_at c end.port) (controller_at w end.node)
+
+abbrev pub session_at : World → LinkEnd → Option Session
+session_at w end = option_and_then (λ linked. linked.port.session) (linked_end w end)
+
+abbrev pub grants_at : World → LinkEnd → List Grant
+grants_at w end = option_map_or (λ linked. linked.port.grants) (linked_end w end) []
+
+abbrev pub side_at : World → LinkEnd → Option (Side Peer)
+side_at w end = option_map (λ linked. linked.port.adjacency) (linked_end w end)
+
+-- *What stands at a node*: the requests in the desk, the side of GSMP's adjacency, where an input leads
+abbrev pub standing_at : World → NodeId → List Standing
+standing_at w node = option_map_or (λ c. c.desk.standing) (controller_at w node) []
+
+abbrev pub gsmp_side_at : World → NodeId → Option (Side Party)
+gsmp_side_at w node = option_map (λ c. c.adjacency) (controller_at w node)
+
+abbrev pub output_at : World → NodeId → (input : End) → Option End
+output_at w node input = option_and_then (λ site. output_of site.switch.crossbar.branches input) (site_at w node)
+
+-- *The chains* of a port's default channel, of a controller's GSMP channel and of a switch's
+abbrev pub chain_at : World → LinkEnd → List Cell
+chain_at w end = option_map_or (λ linked. linked.reassembly.chain) (linked_end w end) []
+
+abbrev pub answers_chain_at : World → NodeId → List Cell
+answers_chain_at w node = option_map_or (λ c. c.reassembly.chain) (controller_at w node) []
+
+abbrev pub requests_chain_at : World → NodeId → List Cell
+requests_chain_at w node = option_map_or (λ site. site.switch.reassembly.chain) (site_at w node) []
+
+-- *On the way* from one end of a link to the other; from a controller to its switch, and back
+abbrev pub on_the_way : World → (from to : LinkEnd) → List Cell
+on_the_way w from to =
+    chain_at w to
+    ++ (queue_at w (Up to.node) ++ (queue_at w (Out from.node from.port) ++ queue_at w (Down from.node)))
+
+abbrev pub to_switch : World → NodeId → List Cell
+to_switch w node = requests_chain_at w node ++ queue_at w (Down node)
+
+abbrev pub to_controller : World → NodeId → List Cell
+to_controller w node = answers_chain_at w node ++ queue_at w (Up node)
+
+-- those of them on a channel
+abbrev pub on_channel : Channel → List Cell → List Cell
+on_channel channel cells = filter (λ cell. same_channel cell.header.channel channel) cells
+
+abbrev pub on_default_channel : World → (from to : LinkEnd) → List Cell
+on_default_channel w from to =
+    chain_at w to
+    ++ (on_channel (default_home to.port).channel (queue_at w (Up to.node))
+    ++ (on_channel default_channel (queue_at w (Out from.node from.port))
+    ++ on_channel (default_home from.port).channel (queue_at w (Down from.node))))
+
+abbrev pub gsmp_to_switch : World → NodeId → List Cell
+gsmp_to_switch w node = requests_chain_at w node ++ on_channel default_channel (queue_at w (Down node))
+
+abbrev pub gsmp_to_controller : World → NodeId → List Cell
+gsmp_to_controller w node = answers_chain_at w node ++ on_channel default_channel (queue_at w (Up node))
+
+-- *What the frame of a mark says*: a message of IFMP, which comes in a packet of its own; a message of GSMP; a
+-- request under its number
+abbrev pub told : {A F : Type 0} → Result A F → Option A
+told (Ok message) = Some message
+told (Err fault) = None
+
+abbrev pub ifmp_in : (packet : List ℕ) → Option IfmpMessage
+ifmp_in packet = if protocol_of packet == control_protocol then told (ifmp_decoded (drop 20 packet)) else None
+
+abbrev pub ifmp_of : (payload : List ℕ) → Option IfmpMessage
+ifmp_of payload = option_and_then ifmp_in (told (default_unwrapped payload))
+
+abbrev pub gsmp_of : (payload : List ℕ) → Option GsmpMessage
+gsmp_of payload = told (gsmp_decoded payload)
+
+abbrev pub ifmp_under : List Frame → Mark → Option IfmpMessage
+ifmp_under frames mark = option_and_then ifmp_of (payload_of frames mark)
+
+abbrev pub gsmp_under : List Frame → Mark → Option GsmpMessage
+gsmp_under frames mark = option_and_then gsmp_of (payload_of frames mark)
+
+abbrev pub copy_by : Option Head → Option Asked → Option Standing
+copy_by None asked = None
+copy_by (Some head) None = None
+copy_by (Some head) (Some asked) = Some (record { number = head.number; request = asked.request })
+
+abbrev pub copy_of : GsmpMessage → Option Standing
+copy_of message = if is_request message then copy_by (head_of message) (asked_in message) else None
+
+abbrev pub copy_under : List Frame → Mark → Option Standing
+copy_under frames mark = option_and_then copy_of (gsmp_under frames mark)
