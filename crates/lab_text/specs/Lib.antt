@@ -1,5 +1,6 @@
 pub mod Words
 pub mod Numeral
+pub mod Forms
 pub mod Lines
 pub mod Line
 pub mod Text

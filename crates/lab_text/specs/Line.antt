@@ -26,13 +26,16 @@ abbrev pub is_want_of_memory : LineFault → Bool
 is_want_of_memory (OutOfMemory error) = true
 is_want_of_memory fault = false
 
--- the tests that each line meets, in their order: which fails first
-abbrev pub line_fault : (before : ℕ) → List ℕ → Option LineFault
-line_fault before line =
-    if holds_octet before line input_limit then Some ScriptTooLong
-    else if nat_lt line_limit (length (line_text line)) then Some LineTooLong
-    else if not (list_all is_script_octet (line_text line)) then Some BadByte
+-- the tests that the octets of each line meet, its end not among them, in their order: which fails first
+abbrev pub text_fault : List ℕ → Option LineFault
+text_fault text =
+    if nat_lt line_limit (length text) then Some LineTooLong
+    else if not (list_all is_script_octet text) then Some BadByte
     else None
+
+-- the tests of a line of an input
+abbrev pub line_fault : (before : ℕ) → List ℕ → Option LineFault
+line_fault before line = if holds_octet before line input_limit then Some ScriptTooLong else text_fault (line_text line)
 
 -- the octets of a line's one word, where it spells some
 abbrev pub hex_word : Option (List ℕ) → Result (Option (List ℕ)) LineFault

@@ -1,0 +1,16 @@
+pub mod Limits
+pub mod Names
+pub mod Forms
+pub mod Grammar
+pub mod State
+pub mod Meaning
+pub mod Reading
+pub mod Script
+pub mod Documents
+pub mod Texts
+pub mod Writing
+pub mod Records
+pub mod Reports
+pub mod Ideal
+pub mod Drill
+pub mod Sayable

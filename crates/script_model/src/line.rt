@@ -1,0 +1,18 @@
+//! What a line of a script says.
+
+use world_model::{Event, TopologyLine};
+
+/// A line, with the nodes of an event by their numbers.
+#[derive(Debug, Drop)]
+pub enum Line {
+    /// Nothing.
+    Blank,
+    /// Something of the topology.
+    Topology(TopologyLine),
+    /// One event.
+    Event(Event),
+    /// A tick of each controller, and then of each switch.
+    TickAll,
+    /// So many rounds, each a carry of each queue.
+    Run(u32),
+}
