@@ -1,0 +1,5 @@
+pub mod Peers
+pub mod Places
+pub mod Keys
+pub mod Routing
+pub mod Making

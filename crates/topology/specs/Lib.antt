@@ -1,0 +1,6 @@
+pub mod Taking
+pub mod Indexes
+pub mod Settings
+pub mod Made
+pub mod Readers
+pub mod Plans

@@ -1,0 +1,224 @@
+//! The routes of a node, in the order of their lines, each found by its prefix.
+
+ghost use Rattle.std.specs.Prelude.{◌≡◌, ◌<◌, ◌≤◌, [], ◌∷◌, ◌++◌, length, None, Some, slice_get, IfOk, IfSome, OnOk, OnErr, position};
+ghost use Rattle.ipv4_forward.specs.Best.{has_prefix, is_same};
+ghost use Rattle.ipv4_forward.specs.Change.{changed, changed_by, change_fault, change_fault_by};
+ghost use Rattle.ipv4_forward.specs.Room.{AreDistinct};
+ghost use Rattle.world_model.specs.Events.{change_refusal};
+ghost use Rattle.world_model.specs.Limits.{greatest_routes};
+ghost use Rattle.world_model.specs.Lines.{first_of, route_refusal};
+ghost use Rattle.topology.specs.Indexes.{key_of};
+
+use indexmap::IndexSet;
+use ipv4_forward::{Next, Route, RouteChange, Table};
+use net_types::{Addr, OutOfMemory, Prefix};
+use std::alloc::Global;
+use std::marker::Model;
+use world_model::{EventRefusal, TopologyRefusal};
+
+/// The most routes of a node.
+const ROUTES: usize = 256;
+
+/// What tells two prefixes apart.
+#[derive(Clone, Copy, Debug, PartialEq, Eq, Hash)]
+pub struct PrefixKey {
+    addr: Addr,
+    len: u8,
+}
+
+fn key_of(prefix: Prefix) -> PrefixKey
+    ensures { result ≡ key_of prefix }
+{
+    PrefixKey {
+        addr: prefix.addr(),
+        len: prefix.len(),
+    }
+}
+
+/// At most 256 routes; no two have the same prefix.
+#[derive(Drop)]
+pub struct RouteList {
+    list: Vec<Route>,
+    prefixes: IndexSet<PrefixKey>,
+}
+
+impl Model for RouteList {
+    ghost use Rattle.std.specs.Prelude.{List};
+    ghost use Rattle.ipv4_forward.specs.declared.table.Route.{Route as Way};
+    ghost use Rattle.topology.specs.Indexes.{AreIndexed};
+
+    ghost Value = { List Way };
+
+    ghost view = { λ r. r.list.items };
+
+    ghost invariant = { λ r. AreIndexed r.prefixes.keys r.list.items };
+}
+
+impl RouteList {
+    /// No routes.
+    pub fn new(alloc: Global) -> RouteList
+        ensures { result ≡ [] }
+    {
+        RouteList {
+            list: Vec::new(alloc),
+            prefixes: IndexSet::new(alloc),
+        }
+    }
+
+    /// How many there are.
+    pub fn len(&self) -> usize
+        ensures len { result ≡ length self.now }
+        ensures room { result ≤ greatest_routes }
+        ensures distinct { AreDistinct self.now }
+    {
+        self.list.len()
+    }
+
+    /// The route at `place`, from 0.
+    pub fn at(&self, place: usize) -> Route
+        requires { place < length self.now }
+        ensures { slice_get self.now place ≡ Some result }
+    {
+        self.list[place]
+    }
+
+    fn place_of(&self, prefix: Prefix) -> Option<usize>
+        ensures place { result ≡ position (λ route. is_same route.prefix prefix) self.now }
+        ensures within { IfSome result (λ place. place < length self.now) }
+    {
+        self.prefixes.get_index_of(&key_of(prefix))
+    }
+
+    fn has(&self, prefix: Prefix) -> bool
+        ensures { result ≡ has_prefix self.now prefix }
+    {
+        self.prefixes.contains(&key_of(prefix))
+    }
+
+    /// Why a route for this prefix can't be added, if it can't: `Duplicate`, then `TableFull`.
+    pub fn refusal(&self, prefix: Prefix) -> Option<TopologyRefusal>
+        ensures { result ≡ first_of (route_refusal self.now prefix) }
+    {
+        if self.has(prefix) {
+            Some(TopologyRefusal::Duplicate)
+        } else if ROUTES <= self.list.len() {
+            Some(TopologyRefusal::TableFull)
+        } else {
+            None
+        }
+    }
+
+    /// Adds a route that isn't refused. Want of memory changes nothing.
+    pub fn add(&mut self, prefix: Prefix, next: Next) -> Result<(), OutOfMemory>
+        requires { first_of (route_refusal self.old prefix) ≡ None }
+        ensures ok { OnOk result (self.new ≡ self.old ++ record { prefix = prefix; next = next } ∷ []) }
+        ensures err { OnErr result (self.new ≡ self.old) }
+    {
+        self.list.reserve(1)?;
+        self.prefixes.insert(key_of(prefix))?;
+        self.list.push_reserved(Route { prefix, next });
+        Ok(())
+    }
+
+    /// Why a change can't be made, if it can't: `TableFull` where a prefix that isn't there is to get
+    /// a route and 256 are there, `NoPrefix` where one that isn't there is to go.
+    pub fn change_refusal(&self, change: &RouteChange) -> Option<EventRefusal>
+        ensures { result ≡ change_refusal (change_fault self.now change.now) }
+    {
+        match change.next {
+            None => {
+                if self.has(change.prefix) {
+                    None
+                } else {
+                    Some(EventRefusal::NoPrefix)
+                }
+            }
+            Some(_) => {
+                if self.has(change.prefix) || self.list.len() < ROUTES {
+                    None
+                } else {
+                    Some(EventRefusal::TableFull)
+                }
+            }
+        }
+    }
+
+    /// Makes a change that isn't refused: a prefix that is there gets the new next, another is added
+    /// at the end; without a next the prefix goes. Want of memory changes nothing.
+    pub fn change(&mut self, change: &RouteChange) -> Result<(), OutOfMemory>
+        requires { change_fault self.old change.now ≡ None }
+        ensures ok { OnOk result (self.new ≡ changed self.old change.now) }
+        ensures err { OnErr result (self.new ≡ self.old) }
+    {
+        match change.next {
+            Some(next) => self.route(change.prefix, next),
+            None => {
+                self.unroute(change.prefix);
+                Ok(())
+            }
+        }
+    }
+
+    /// A prefix gets this next.
+    fn route(&mut self, prefix: Prefix, next: Next) -> Result<(), OutOfMemory>
+        requires { change_fault_by self.old prefix (Some next) ≡ None }
+        ensures ok { OnOk result (self.new ≡ changed_by self.old prefix (Some next)) }
+        ensures err { OnErr result (self.new ≡ self.old) }
+    {
+        let Some(place) = self.place_of(prefix) else {
+            return self.add(prefix, next);
+        };
+        self.list[place].next = next;
+        Ok(())
+    }
+
+    /// A prefix goes.
+    fn unroute(&mut self, prefix: Prefix)
+        requires { change_fault_by self.old prefix None ≡ None }
+        ensures { self.new ≡ changed_by self.old prefix None }
+    {
+        let Some(place) = self.place_of(prefix) else {
+            return;
+        };
+        self.list.remove(place);
+        self.prefixes.shift_remove_index(place);
+    }
+
+    /// The same routes again.
+    pub fn copied(&self) -> Result<RouteList, OutOfMemory>
+        ensures { IfOk result (λ list. list ≡ self.now) }
+    {
+        copy(*self.list.allocator(), self.list.as_slice())
+    }
+
+    /// A table of these routes.
+    pub fn table(&self) -> Result<Table, OutOfMemory>
+        ensures { IfOk result (λ table. table ≡ self.now) }
+    {
+        table_of(*self.list.allocator(), self.list.as_slice())
+    }
+}
+
+fn copy(alloc: Global, routes: &[Route]) -> Result<RouteList, OutOfMemory>
+    requires distinct { AreDistinct routes.now }
+    requires room { length routes.now ≤ greatest_routes }
+    ensures { IfOk result (λ list. list ≡ routes.now) }
+{
+    let mut list = RouteList::new(alloc);
+    for route in routes {
+        list.add(route.prefix, route.next)?;
+    }
+    Ok(list)
+}
+
+fn table_of(alloc: Global, routes: &[Route]) -> Result<Table, OutOfMemory>
+    requires distinct { AreDistinct routes.now }
+    requires room { length routes.now ≤ greatest_routes }
+    ensures { IfOk result (λ table. table ≡ routes.now) }
+{
+    let mut table = Table::open(alloc)?;
+    for route in routes {
+        table.add(route.prefix, route.next).unwrap();
+    }
+    Ok(table)
+}
