@@ -1,0 +1,135 @@
+-- joins are tried, and entered, by the moves of a controller
+
+use Rattle.std.proofs.Common.{◌≡◌, ℕ, true, List, [], ◌∷◌, Option, None, Some, refl, sym, ◌∙◌, ap, subst, map}
+use Rattle.std.specs.Prelude.{not, nat_lt, ◌&&◌, is_none, flat_map, length}
+use Rattle.std.specs.Option.{option_map, option_and_then}
+use Rattle.net_types.specs.declared.node.PortNo.{PortNo}
+use Rattle.net_types.specs.declared.channel.End.{End}
+use Rattle.net_types.specs.Label.{number_of_channel}
+use Rattle.ipv4_forward.specs.Best.{best}
+use Rattle.flow_ids.specs.declared.flow.FlowId.{FlowId}
+use Rattle.flow_ids.specs.Flow.{next_hop_of}
+use Rattle.flow_ids.specs.Parts.{same_flow, flow_destination}
+use Rattle.gsmp_wire.specs.declared.request.Request.TheVariants.{MoveBranch}
+use Rattle.ordered_lists.specs.Ordered.{Every}
+use Rattle.keyed_lists.specs.Keyed.{at}
+use Rattle.desk_model.specs.Desk.{on_input, most_asked}
+use Rattle.port_model.specs.Setup.{Setup, home_of, label_end}
+use Rattle.port_model.specs.Labels.{Label, LabelState, Wiring, Offered, Recalled, Wired, label_number}
+use Rattle.port_model.specs.Grants.{Grant, GrantState, Idle, ByController, ByInput, Leaving, grant_label, grant_for, is_by_controller}
+use Rattle.port_model.specs.Port.{label_at, labels_of}
+use Rattle.port_model.specs.Joins as port_joins
+use Rattle.port_facts.specs.Port.{IsLabelEnd, IsLabel, IsGrant, IsPort, joins_label}
+use Rattle.port_facts.proofs.Keyed.{on_each, at_every, apart_at}
+use Rattle.port_facts.proofs.Found.{find_passes}
+use Rattle.port_facts.proofs.Rules.{and_first}
+use Rattle.controller_model.specs.Controller.{Controller, Acted, Linked, linked_at}
+use Rattle.controller_model.specs.Resets.{begins}
+use Rattle.controller_model.specs.Performing.{works}
+use Rattle.controller_model.specs.Routes.{route_stays}
+use Rattle.controller_model.specs.Joins.{Join, port_by, join_through, join_by, join_for, is_offered, may_join, enters_grant, output_of, enters_label, joins, tries_label, label_on, tries_join, inputs_at, tries_joins}
+use Rattle.controller_facts.proofs.Moves.{by_joining, by_lending, Found, stays, HasPorts, found_setup, found_at_own, found_port, moves_fold, goes_on}
+use Rattle.controller_facts.proofs.Performing.{To, asks_goes, at_port_goes}
+use Rattle.controller_facts.proofs.Joining.{every_flat_map, labels_at, same_image, image_is, each_there}
+
+is_offered_by : (state : LabelState) → is_offered state ≡ true → state ≡ Offered
+is_offered_by Wiring e = absurd (cc e)
+is_offered_by Offered e = refl
+is_offered_by (Recalled last acknowledged) e = absurd (cc e)
+is_offered_by Wired e = absurd (cc e)
+
+by_controller : (state : GrantState) → is_by_controller state ≡ true → state ≡ ByController
+by_controller Idle e = absurd (cc e)
+by_controller ByController e = refl
+by_controller (ByInput input) e = absurd (cc e)
+by_controller (Leaving input owed) e = absurd (cc e)
+
+-- a label on an input, by the labels of its port
+record OnPort (ports : List Linked) (input : End) (label : Label) : Type 0 where
+  labels : List Label
+  there : labels_at ports input.port.0 ≡ Some labels
+  found : at label_number (number_of_channel input.channel) labels ≡ Some label
+
+on_port : (c : Controller) (input : End) (label : Label) → label_on c input ≡ Some label → OnPort c.ports input label
+on_port c input label e = by_found (linked_at c input.port) refl e
+  where
+    by_found : (o : Option Linked) → linked_at c input.port ≡ o → option_and_then (λ (linked : Linked). label_at linked.port (number_of_channel input.channel)) o ≡ Some label → OnPort c.ports input label
+    by_found None found e = absurd (cc e)
+    by_found (Some linked) found e = record { labels = labels_of linked.port; there = ap (option_map (λ (x : Linked). labels_of x.port)) found; found = e }
+
+module _ (setups : List Setup) where
+  -- a grant is lent, and every port has the labels that it had
+  lends_labels : (a : Acted) (join : Join) (k : ℕ) → labels_at (enters_grant a join).controller.ports k ≡ labels_at a.controller.ports k
+  lends_labels a join k = by_found (linked_at a.controller join.port) refl
+    where
+      by_found : (o : Option Linked) → linked_at a.controller join.port ≡ o → labels_at (works a (λ setup desk w. port_joins.lent w join.grant join.input) o).controller.ports k ≡ labels_at a.controller.ports k
+      by_found None found = refl
+      by_found (Some linked) found = same_image (λ (x : Linked). labels_of x.port) a.controller.ports linked (record linked { port = (port_joins.lent (begins a linked) join.grant join.input).port }) k
+          (found_at_own setups a linked join.port found) refl refl
+
+  -- a join of an offered label to a grant under which the controller sends
+  joins_goes : (a : Acted) (input : End) (label : Label) (linked : Linked) (grant : Grant) → HasPorts setups a → IsLabelEnd setups input → label_on a.controller input ≡ Some label → label.state ≡ Offered
+      → Found setups a linked → at grant_label grant.label linked.port.grants ≡ Some grant → grant.state ≡ ByController
+      → To setups a (joins a (Some (record { input = input; port = linked.setup.port; grant = grant })))
+  joins_goes a input label linked grant h end on offered found granted sending =
+      let join : Join = record { input = input; port = linked.setup.port; grant = grant } in
+      let output : IsLabelEnd setups (output_of join) = record {
+        setup = linked.setup;
+        number = grant.label;
+        linked = found_setup setups a linked linked.setup.port h found;
+        in_range = (at_every grant_label (IsGrant setups linked.setup) grant.label linked.port.grants grant (found_port setups a linked linked.setup.port h found).grants granted).in_range;
+        is = refl;
+      } in
+      let lends : Acted = enters_grant a join in
+      let before : OnPort a.controller.ports input label = on_port a.controller input label on in
+      goes_on setups h (at_port_goes setups a linked.setup.port (λ setup desk w. port_joins.lent w grant input) h
+      (λ other there. (let both : Some other ≡ Some linked = sym there ∙ found in let same : other ≡ linked = cc in
+      by_lending grant input (subst (λ (x : Linked). at grant_label grant.label x.port.grants ≡ Some grant) (sym same) granted) sending end)))
+      (λ k. goes_on setups k (at_port_goes setups lends input.port (λ setup desk w. port_joins.joined w (number_of_channel input.channel) (output_of join)) k
+      (λ other there. by_joining (number_of_channel input.channel) (output_of join) output
+      (λ held held_is. (let labels : labels_of other.port ≡ before.labels = image_is (λ (x : Linked). labels_of x.port) (linked_at lends.controller input.port) other before.labels (lends_labels a join input.port.0 ∙ before.there) there in
+      let both : Some held ≡ Some label = sym held_is ∙ ap (at label_number (number_of_channel input.channel)) labels ∙ before.found in
+      let same : held ≡ label = cc in
+      subst (λ (x : Label). x.state ≡ Offered) (sym same) offered))))
+      (λ l. asks_goes setups (enters_label lends join) (MoveBranch input (home_of input) (output_of join)) l (joins_label input (output_of join) end output)))
+
+  joins_for_goes : (a : Acted) (input : End) (label : Label) → HasPorts setups a → IsLabelEnd setups input → label_on a.controller input ≡ Some label → label.state ≡ Offered
+      → (o : Option PortNo) (next : Option FlowId) → To setups a (joins a (join_by a.controller input o next))
+  joins_for_goes a input label h end on offered None next = stays a
+  joins_for_goes a input label h end on offered (Some port) None = stays a
+  joins_for_goes a input label h end on offered (Some port) (Some next) = by_found (linked_at a.controller port) refl
+    where
+      by_grant : (linked : Linked) → linked_at a.controller port ≡ Some linked → (o : Option Grant) → grant_for linked.port.grants next ≡ o
+          → To setups a (joins a (option_map (λ grant. record { input = input; port = linked.setup.port; grant = grant }) o))
+      by_grant linked found None is = stays a
+      by_grant linked found (Some grant) is =
+          let passes = find_passes (λ (g : Grant). is_by_controller g.state && same_flow g.flow next) linked.port.grants grant is in
+          joins_goes a input label linked grant h end on offered (found_at_own setups a linked port found)
+          (apart_at grant_label (λ (g : Grant). is_by_controller g.state && same_flow g.flow next) linked.port.grants grant (found_port setups a linked port h found).apart is)
+          (by_controller grant.state (and_first (is_by_controller grant.state) (same_flow grant.flow next) passes))
+
+      by_found : (o : Option Linked) → linked_at a.controller port ≡ o → To setups a (joins a (join_through input next o))
+      by_found None found = stays a
+      by_found (Some linked) found = by_grant linked found (grant_for linked.port.grants next) refl
+
+  tries_label_goes : (a : Acted) (input : End) (o : Option Label) → HasPorts setups a → IsLabelEnd setups input → label_on a.controller input ≡ o → To setups a (tries_label a input o)
+  tries_label_goes a input None h end on = stays a
+  tries_label_goes a input (Some label) h end on = on_each (To setups a) (may_join a.controller input label) (joins a (join_for a.controller input label.flow)) a
+      (λ may. joins_for_goes a input label h end on (is_offered_by label.state (and_first (is_offered label.state) (is_none label.join) (and_first (is_offered label.state && is_none label.join)
+      (not (on_input a.controller.desk input) && (nat_lt (length a.controller.desk.standing) most_asked && route_stays a.controller (flow_destination label.flow))) may)))
+      (port_by (best a.controller.table (flow_destination label.flow))) (next_hop_of label.flow))
+      (λ t. stays a)
+
+  pub tries_join_goes : (a : Acted) (input : End) → HasPorts setups a → IsLabelEnd setups input → To setups a (tries_join a input)
+  tries_join_goes a input h end = tries_label_goes a input (label_on a.controller input) h end refl
+
+  inputs_of_port : (a : Acted) (linked : Linked) → HasPorts setups a → Found setups a linked → IsPort setups linked.setup linked.port → Every (IsLabelEnd setups) (inputs_at linked)
+  inputs_of_port a linked h found fits = by_labels (labels_of linked.port) fits.labels
+    where
+      by_labels : (labels : List Label) → Every (IsLabel setups linked.setup) labels → Every (IsLabelEnd setups) (map (λ (label : Label). label_end linked.setup.port label.number) labels)
+      by_labels [] e = tt
+      by_labels (label ∷ labels) e = (record { setup = linked.setup; number = label.number; linked = found_setup setups a linked linked.setup.port h found; in_range = e.0.in_range; is = refl }, by_labels labels e.1)
+
+  pub tries_joins_goes : (a : Acted) → HasPorts setups a → To setups a (tries_joins a)
+  tries_joins_goes a h = moves_fold setups (IsLabelEnd setups) tries_join (λ b input k end. tries_join_goes b input k end) (flat_map inputs_at a.controller.ports)
+      (every_flat_map (λ (linked : Linked). Found setups a linked × IsPort setups linked.setup linked.port) (IsLabelEnd setups) inputs_at (λ linked p. inputs_of_port a linked h p.0 p.1) a.controller.ports (each_there setups a h)) a h

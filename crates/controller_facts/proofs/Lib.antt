@@ -1,0 +1,17 @@
+pub mod Moves
+pub mod Performing
+pub mod Joining
+pub mod Entering
+pub mod Lifetimes
+pub mod Events
+pub mod Desks
+pub mod Unmet
+pub mod Numbers
+pub mod Draws
+pub mod Drawn
+pub mod Marks
+pub mod Marked
+pub mod MarkedInputs
+pub mod Refusals
+pub mod Laws
+pub mod Each

@@ -1,0 +1,54 @@
+-- a REDIRECT that octets tell has a lifetime
+
+use Rattle.std.proofs.Common.{◌≡◌, ℕ, ◌≤◌, Bool, true, false, List, Option, None, Some, refl, subst, arith, if◌then◌else◌}
+use Rattle.std.specs.Prelude.{nat_le, ◌&&◌, ◌==◌, Ok}
+use Rattle.std.specs.Option.{option_or}
+use Rattle.std.proofs.lemmas.Bool.Decides.{nat_tests}
+use Rattle.octet_fields.specs.Fields.{u16_at}
+use Rattle.ifmp_wire.specs.declared.message.Message.{Message}
+use Rattle.ifmp_wire.specs.declared.reader.Fault.{Fault}
+use Rattle.ifmp_wire.specs.declared.reader.Fault.TheVariants.{ZeroLifetime}
+use Rattle.ifmp_wire.specs.Tests.{op_at, head_fault, kind_fault, lifetime_fault, flow_fault, body_fault, first_fault}
+use Rattle.ifmp_wire.specs.Fields.{decoded, decoded_by, message_at}
+use Rattle.port_facts.specs.Port.{Lives}
+use Rattle.port_facts.proofs.Keyed.{on_both, on_each}
+
+behind : (a b : Option Fault) → option_or a b ≡ None → b ≡ None
+behind None b e = e
+behind (Some fault) b e = absurd (cc e)
+
+first : (a b : Option Fault) → option_or a b ≡ None → a ≡ None
+first None b e = refl
+first (Some fault) b e = absurd (cc e)
+
+second_of : (a b : Bool) (x y z : Option Fault) → a ≡ false → b ≡ true → (if a then z else (if b then x else y)) ≡ None → x ≡ None
+second_of false true x y z p q e = e
+second_of true b x y z p q e = absurd (cc p)
+second_of false false x y z p q e = absurd (cc q)
+
+not_both : (a b : Bool) (rest : Option Fault) → a ≡ true → (if a && b then Some ZeroLifetime else rest) ≡ None → b ≡ false
+not_both true true rest p e = absurd (cc e)
+not_both true false rest p e = refl
+not_both false b rest p e = absurd (cc p)
+
+four_is_below : (op : ℕ) → (op == 4) ≡ true → nat_le op 6 ≡ true
+four_is_below op e = grind (arith, nat_tests)
+
+above_zero : (n : ℕ) → (n == 0) ≡ false → 1 ≤ n
+above_zero n e = grind (arith, nat_tests)
+
+lives_at : (octets : List ℕ) → first_fault octets ≡ None → Lives (message_at octets)
+lives_at octets none = on_each Lives (nat_le (op_at octets) 3) _ _ (λ t. tt)
+    (λ above. on_each Lives (op_at octets == 4) _ _
+    (λ four. (let flow : flow_fault octets ≡ None = second_of (nat_le (op_at octets) 3) (nat_le (op_at octets) 6) (flow_fault octets) _ None above (four_is_below (op_at octets) four) (behind (head_fault octets) (body_fault octets) none) in
+    let lifetime : lifetime_fault octets ≡ None = first (lifetime_fault octets) _ (behind (kind_fault octets) _ flow) in
+    above_zero (u16_at octets 18) (not_both (op_at octets == 4) (u16_at octets 18 == 0) _ four lifetime)))
+    (λ t. on_both Lives (op_at octets == 5) _ _ tt (on_both Lives (op_at octets == 6) _ _ tt (on_both Lives (op_at octets == 7) _ _ tt tt))))
+
+pub decoded_lives : (octets : List ℕ) (message : Message) → decoded octets ≡ Ok message → Lives message
+unfolding decoded
+decoded_lives octets message e = by_fault (first_fault octets) refl e
+  where
+    by_fault : (o : Option Fault) → first_fault octets ≡ o → decoded_by o octets ≡ Ok message → Lives message
+    by_fault (Some fault) is e = absurd (cc e)
+    by_fault None is e = (let same : message_at octets ≡ message = cc in subst Lives same (lives_at octets is))

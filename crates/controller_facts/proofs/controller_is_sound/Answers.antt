@@ -1,0 +1,18 @@
+-- the laws are proved over definitions alone
+
+use Rattle.controller_facts.proofs.Laws.{always_side, always_ports, always_requests, always_desk, always_shut, numbers_never_fall, draws_few_instances, draws_few_marks}
+use Rattle.controller_facts.proofs.Refusals.{refused_is_recorded}
+use Rattle.controller_facts.proofs.controller_is_sound.Goals as goal
+
+pub returns : goal.returns
+returns c = record {
+  side = always_side;
+  ports = always_ports;
+  requests = always_requests;
+  desk = always_desk;
+  unmet = always_shut;
+  numbers = numbers_never_fall;
+  instances = draws_few_instances;
+  marks = draws_few_marks;
+  refused = refused_is_recorded;
+}

@@ -1,0 +1,13 @@
+pub mod Keyed
+pub mod Steps
+pub mod Found
+pub mod Rules
+pub mod Hearings
+pub mod Turns
+pub mod Kept
+pub mod Joins
+pub mod Instances
+pub mod Halting
+pub mod Weights
+pub mod Weighed
+pub mod Shut

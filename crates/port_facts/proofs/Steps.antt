@@ -1,0 +1,109 @@
+-- The smallest steps of which every rule of a port is made, each with what holds where it is taken. What
+-- each of them keeps, every rule keeps.
+
+use Rattle.std.proofs.Common.{◌≡◌, ℕ, ◌≤◌, ◌<◌, true, false, length, None, Some}
+use Rattle.net_types.specs.declared.prefix.Addr.{Addr}
+use Rattle.net_types.specs.declared.channel.End.{End}
+use Rattle.net_types.specs.Label.{number_of_channel}
+use Rattle.net_types.specs.declared.adjacency.Hello.{Hello}
+use Rattle.net_types.specs.declared.adjacency.Peer.{Peer}
+use Rattle.adjacency_table.specs.Side as sides
+use Rattle.adjacency_table.specs.Side.{Side, ticked}
+use Rattle.adjacency_table.specs.Hello.{ifmp_received}
+use Rattle.flow_ids.specs.declared.flow.FlowId.{FlowId}
+use Rattle.link_model.specs.declared.record.Record.TheVariants.{Bind, Free, Join}
+use Rattle.keyed_lists.specs.Keyed.{at}
+use Rattle.desk_model.specs.Desk.{Desk}
+use Rattle.port_model.specs.declared.action.Action.TheVariants.{Note, CutChain, TakeBack}
+use Rattle.port_model.specs.Setup.{Setup, is_in_range, label_end}
+use Rattle.port_model.specs.Labels.{Label, Wiring, Offered, Recalled, Wired, is_bound, is_spare}
+use Rattle.port_model.specs.Grants.{Grant, Idle, ByController, grant_label, input_of, is_leaving, most_grants}
+use Rattle.port_model.specs.Port.{Session, Port, Work, acts, with_session, with_label, without_label, with_grant, without_grant, label_at, has_room}
+use Rattle.port_model.specs.Saying.{Unnumbered, greets, tells, closes}
+use Rattle.port_model.specs.Adjacency.{steps, unwires}
+use Rattle.port_model.specs.Counting.{wires}
+use Rattle.port_model.specs.Redirection.{accepts, grants_label}
+
+-- what a message or a tick makes of the port's side
+pub data IsTurn (side : Side Peer) : sides.Step Peer → Type 0 where
+  hears : (source : Addr) (hello : Hello) → IsTurn side (ifmp_received side source hello)
+  ages : IsTurn side (ticked side)
+
+-- a session keeps its labels and its number
+pub record KeepsSession (before after : Session) : Type 0 where
+  pub labels : after.labels ≡ before.labels
+  pub number : after.number ≡ before.number
+
+-- a label that is held stays as it is, but for its counts and for what its peer is told
+pub record KeepsLabel (before after : Label) : Type 0 where
+  pub number : after.number ≡ before.number
+  pub flow : after.flow ≡ before.flow
+  pub join : after.join ≡ before.join
+  pub bound : is_bound after.state ≡ is_bound before.state
+  pub wiring : after.state ≡ Wiring → before.state ≡ Wiring
+  pub wired : after.state ≡ Wired → before.state ≡ Wired
+
+-- a grant stays the same's, and an input that it is lent to stays
+pub record KeepsGrant (before after : Grant) : Type 0 where
+  pub label : after.label ≡ before.label
+  pub flow : after.flow ≡ before.flow
+  pub input : input_of after.state ≡ input_of before.state
+  pub lives : is_leaving after.state ≡ false → (is_leaving before.state ≡ false) × (1 ≤ before.lifetime → 1 ≤ after.lifetime)
+
+-- a join of the port's: of a label that is joined, or under a grant that is lent
+pub data IsJoined (setup : Setup) (port : Port) : (input output : End) → Type 0 where
+  of_label : (number : ℕ) (label : Label) (output : End) → label_at port number ≡ Some label → label.join ≡ Some output
+      → IsJoined setup port (label_end setup.port number) output
+  of_grant : (label : ℕ) (grant : Grant) (input : End) → at grant_label label port.grants ≡ Some grant → input_of grant.state ≡ Some input
+      → IsJoined setup port input (label_end setup.port label)
+
+-- an acknowledgement is owed only while there is a session
+pub data MayOwe (port : Port) (before : Grant) : Type 0 where
+  in_session : (s : Session) → port.session ≡ Some s → MayOwe port before
+  was_live : is_leaving before.state ≡ false → MayOwe port before
+
+module _ (setup : Setup) (desk : Desk) where
+  pub data Step : Work → Work → Type 0 where
+    -- *What is said*
+    greeting : (w : Work) (hello : Hello) → Step w (greets w hello)
+    telling : (w : Work) (message : Unnumbered) → Step w (tells w message)
+    closing : (w : Work) → Step w (closes w)
+    noting : (w : Work) (input output : End) → Step w (acts w (Note (Join setup.node setup.port (number_of_channel input.channel) output.port (number_of_channel output.channel))))
+    -- *The adjacency and the session*
+    turning : (w : Work) (step : sides.Step Peer) → w.halted ≡ false → IsTurn w.port.adjacency step → Step w (steps setup w step)
+    heard : (w : Work) → Step w (record w { port = record w.port { adjacency = record w.port.adjacency { silence = 0 } } })
+    minding : (w : Work) (change : Session → Session) → ((s : Session) → w.port.session ≡ Some s → KeepsSession s (change s)) → Step w (with_session w change)
+    -- *Labels*
+    relabelling : (w : Work) (before after : Label) → label_at w.port after.number ≡ Some before → KeepsLabel before after → Step w (with_label w after)
+    wiring : (w : Work) (s : Session) (flow : FlowId) (number : ℕ) → w.port.session ≡ Some s → is_spare s.labels number ≡ true → is_in_range setup number ≡ true
+        → has_room desk w ≡ true → Step w (wires setup w flow (Some number))
+    binding : (w : Work) (label : Label) → label_at w.port label.number ≡ Some label → label.state ≡ Wiring
+        → Step w (acts (with_label w (record label { state = Offered })) (Note (Bind setup.node setup.port label.number label.flow)))
+    quitting : (w : Work) (label : Label) (last : ℕ) → label_at w.port label.number ≡ Some label → label.state ≡ Recalled last true
+        → Step w (acts (with_label w (record label { state = Wired })) (CutChain label.number))
+    unwiring : (w : Work) (number : ℕ) (label : Label) → label_at w.port number ≡ Some label → Step w (unwires setup desk w number)
+    freeing : (w : Work) (label : Label) → label_at w.port label.number ≡ Some label → label.state ≡ Wired
+        → Step w (acts (without_label w label.number) (Note (Free setup.node setup.port label.number)))
+    -- *Grants*
+    accepting : (w : Work) → Step w (accepts w)
+    granting : (w : Work) (s : Session) (label : ℕ) (flow : FlowId) (lifetime : ℕ) → w.port.session ≡ Some s → is_in_range setup label ≡ true
+        → at grant_label label w.port.grants ≡ None → length w.port.grants < most_grants → 1 ≤ lifetime → has_room desk w ≡ true
+        → Step w (grants_label setup w label flow lifetime)
+    regranting : (w : Work) (before after : Grant) → at grant_label after.label w.port.grants ≡ Some before → KeepsGrant before after → MayOwe w.port before
+        → Step w (with_grant w after)
+    starting : (w : Work) (grant : Grant) → at grant_label grant.label w.port.grants ≡ Some grant → grant.state ≡ Idle → Step w (with_grant w (record grant { state = ByController }))
+    ending : (w : Work) (grant : Grant) → at grant_label grant.label w.port.grants ≡ Some grant → input_of grant.state ≡ None → Step w (without_grant w grant.label)
+    -- *Joins*
+    taking_back : (w : Work) (input output : End) → IsJoined setup w.port input output → Step w (acts w (TakeBack input output))
+
+  -- any number of steps
+  pub data Goes : Work → Work → Type 0 where
+    stays : (w : Work) → Goes w w
+    steps_to : {v w : Work} → Step v w → Goes v w
+    further : {u v w : Work} → Goes u v → Goes v w → Goes u w
+
+  -- what each step keeps
+  pub goes_keeps : (P : Work → Type 0) → ((v w : Work) → Step v w → P v → P w) → {v w : Work} → Goes v w → P v → P w
+  goes_keeps P each (stays w) p = p
+  goes_keeps P each (steps_to {v = a} {w = b} s) p = each a b s p
+  goes_keeps P each (further g h) p = goes_keeps P each h (goes_keeps P each g p)
