@@ -15,7 +15,7 @@ use Rattle.link_model.proofs.Marks.{same_mark-Decides}
 use Rattle.frame_model.specs.Reassembly.{broken, marks_of}
 use Rattle.ordered_lists.specs.Ordered.{Every}
 use Rattle.ordered_lists.proofs.Every.{every_join, every_map, every_mapped}
-use Rattle.cell_laws.specs.Causes.{has_mark, is_broken, StandsBesideCause}
+use Rattle.run_model.specs.Causes.{has_mark, is_broken, StandsBesideCause}
 use Rattle.plain_laws.proofs.Lists.{if_cases, any_back, every_get}
 use Rattle.cell_laws.proofs.Pieces.{is_cause_of, has_cause, is_caused}
 

@@ -10,7 +10,7 @@ use Rattle.frame_model.specs.Frame.{frame_cells}
 use Rattle.plain_model.specs.Network.{default_channel}
 use Rattle.ordered_lists.specs.Ordered.{Every}
 use Rattle.ordered_lists.proofs.Every.{every_join, every_left, every_right, every_map}
-use Rattle.cell_laws.specs.Causes.{is_broken}
+use Rattle.run_model.specs.Causes.{is_broken}
 use Rattle.plain_laws.proofs.Lists.{any_front, any_back}
 use Rattle.plain_laws.proofs.Frames.{IsCut, IsEarly, frame_is_cut}
 

@@ -23,7 +23,8 @@ use Rattle.plain_model.specs.Topology.{IsPlainNetwork, IsNode, IsEnd}
 use Rattle.plain_model.specs.Network.{World, Port, counted, injected_by, refusal_of, port_at, queue_at, with_queue, received, carried_from, lost_from, step, run, opening, is_for}
 use Rattle.ordered_lists.proofs.Every.{every_map}
 use Rattle.plain_laws.specs.Fates.{world_after}
-use Rattle.cell_laws.specs.Causes.{HasCause, HasCauses, StandsBesideCause, leads_to, head_taken, turn_at, turns_at}
+use Rattle.run_model.specs.Causes.{StandsBesideCause}
+use Rattle.cell_laws.specs.Causes.{HasCause, HasCauses, leads_to, head_taken, turn_at, turns_at}
 use Rattle.plain_model.proofs.Lists.{and_left, and_right}
 use Rattle.plain_laws.proofs.Lists.{any_back, every_get, all_front, all_back}
 use Rattle.plain_laws.proofs.Ports.{shaped_idle, port_idle}

@@ -17,7 +17,8 @@ use Rattle.plain_model.specs.Topology.{IsPlainNetwork, IsEnd}
 use Rattle.plain_model.specs.Network.{World, Traffic, Port, port_at, queue_at, with_queue, with_reassembly, frame_taken, chain_taken, cell_taken}
 use Rattle.ordered_lists.specs.Ordered.{Every}
 use Rattle.ordered_lists.proofs.Every.{every_map}
-use Rattle.cell_laws.specs.Causes.{leads_to, has_mark}
+use Rattle.run_model.specs.Causes.{has_mark}
+use Rattle.cell_laws.specs.Causes.{leads_to}
 use Rattle.plain_laws.proofs.Lists.{if_cases, any_back}
 use Rattle.plain_laws.proofs.Growth.{taken_cases}
 use Rattle.plain_model.proofs.Networks.{far_inside}

@@ -1,18 +1,15 @@
 -- What every run of a plain network over cells has: each frame that is reported as broken stands
 -- beside a cause
 
-use Rattle.std.specs.Prelude.{◌≡◌, ℕ, ◌<◌, ◌≤◌, Bool, true, false, List, [], ◌∷◌, ◌++◌, length, slice_get, Option, None, Some, if◌then◌else◌}
-use Rattle.std.specs.List.{list_any}
-use Rattle.net_types.specs.declared.number.Mark.{Mark}
+use Rattle.std.specs.Prelude.{◌≡◌, ℕ, ◌≤◌, Bool, false, List, [], ◌∷◌, ◌++◌, length, slice_get, Option, None, Some, if◌then◌else◌}
 use Rattle.atm_cells.specs.declared.cell.Cell.{Cell}
 use Rattle.link_model.specs.declared.entries.Entry.{Entry}
-use Rattle.link_model.specs.declared.record.Cause.{Cause}
-use Rattle.link_model.specs.declared.record.Cause.TheVariants.{Lost, Unconnected, PoolFull, Cut, Unbound, Broken}
-use Rattle.link_model.specs.Ledger.{same_mark}
+use Rattle.link_model.specs.declared.record.Cause.TheVariants.{Broken}
 use Rattle.frame_model.specs.Stretch.{Turn, Takes, open_stretch}
 use Rattle.run_model.specs.declared.LinkEnd.{LinkEnd}
 use Rattle.run_model.specs.declared.Node.{Node}
 use Rattle.run_model.specs.Topology.{peer_of}
+use Rattle.run_model.specs.Causes.{StandsBesideCause}
 use Rattle.plain_model.specs.declared.event.Event.{Event}
 use Rattle.plain_model.specs.declared.event.Event.TheVariants.{Inject, Carry, Lose}
 use Rattle.plain_model.specs.Topology.{same_end}
@@ -39,29 +36,6 @@ turn_at nodes world (Lose end) far = []
 abbrev pub turns_at : List Node → World → List Event → (far : LinkEnd) → List Turn
 turns_at nodes world [] far = []
 turns_at nodes world (event ∷ events) far = turn_at nodes world event far ++ turns_at nodes (step nodes world event) events far
-
-abbrev pub is_broken : Cause → Bool
-is_broken Broken = true
-is_broken Lost = false
-is_broken Unconnected = false
-is_broken PoolFull = false
-is_broken Cut = false
-is_broken Unbound = false
-
--- a cell has the mark
-abbrev pub has_mark : List Cell → Mark → Bool
-has_mark cells mark = list_any (λ cell. same_mark cell.mark mark) cells
-
--- the mark of the entry at a place of the ledger stands in a stretch beside that of an earlier entry
--- of another cause than Broken
-pub record StandsBesideCause (stretch : List Cell) (entries : List Entry) (place : ℕ) (entry : Entry) : Type 0 where
-  pub own : has_mark stretch entry.mark ≡ true
-  pub cause : Entry
-  pub cause_place : ℕ
-  pub stands : slice_get entries cause_place ≡ Some cause
-  pub is_earlier : cause_place < place
-  pub is_other : is_broken cause.cause ≡ false
-  pub beside : has_mark stretch cause.mark ≡ true
 
 -- behind these events one more makes a port take a cell, and the entry stands beside its cause in the
 -- stretch that the cell belongs to

@@ -18,7 +18,8 @@ use Rattle.plain_model.specs.declared.event.Event.TheVariants.{Inject, Carry, Lo
 use Rattle.plain_model.specs.Topology.{IsPlainNetwork, IsNode, IsEnd}
 use Rattle.plain_model.specs.Network.{World, counted, injected_by, refusal_of, port_at, queue_at, with_queue, received, carried_from, lost_from, note, step, run, is_for}
 use Rattle.ordered_lists.specs.Ordered.{Every}
-use Rattle.plain_laws.specs.Fates.{Sent, sent_by, is_chance, has_entry_of}
+use Rattle.run_model.specs.Fates.{has_loss_of}
+use Rattle.plain_laws.specs.Fates.{Sent, sent_by, is_chance}
 use Rattle.plain_model.proofs.Lists.{and_left, and_right}
 use Rattle.plain_laws.proofs.Lists.{any_back, none_front, count_by-cons}
 use Rattle.plain_laws.proofs.Ports.{one, ends, count_of, far_at, far_is}
@@ -175,7 +176,7 @@ module _ (nodes : List Node) (events : List Event) (network : IsPlainNetwork nod
   good_lost world end [] is inside good = good
   good_lost world end (cell ∷ cells) is inside good =
       let left : World = record world { traffic = with_queue world.traffic end cells } in
-      let entered : has_entry_of cell.mark.packet (world.notes.entries ++ record { mark = cell.mark; cause = Lost } ∷ []) ≡ true =
+      let entered : has_loss_of cell.mark.packet (world.notes.entries ++ record { mark = cell.mark; cause = Lost } ∷ []) ≡ true =
       any_back (λ (other : Entry). other.mark.packet == cell.mark.packet) world.notes.entries (record { mark = cell.mark; cause = Lost } ∷ []) (rw (own_entry cell.mark) refl) in
       good_without nodes events world.traffic.sent cell.mark.packet (in_hand cell) (note left (Loss cell.mark Lost)) (few_in_hand cell) entered
       (good_loss nodes events world.traffic.sent (in_hand cell) left cell.mark Lost (good_left world end cell cells is inside good))

@@ -27,7 +27,8 @@ use Rattle.plain_model.specs.Topology.{IsEnd}
 use Rattle.plain_model.specs.Network.{World, Traffic, Port, refusal_of, port_at, with_port, note}
 use Rattle.ordered_lists.specs.Ordered.{Every}
 use Rattle.ordered_lists.proofs.Every.{every_join, every_map2}
-use Rattle.plain_laws.specs.Fates.{Sent, sent_by, is_fate_of, IsTrueFate, is_bad, has_entry_of}
+use Rattle.run_model.specs.Fates.{is_fate_of, has_loss_of}
+use Rattle.plain_laws.specs.Fates.{Sent, sent_by, IsTrueFate, is_bad}
 use Rattle.plain_laws.proofs.Lists.{if_cases, count_by-append, none_passes, none_front, none_join}
 use Rattle.plain_laws.proofs.Ports.{port_in, with_in, each_port, IsShaped, shaped_set, one, ends, count_in, weight, weight_set, none_in, far_at}
 
@@ -66,7 +67,7 @@ pub record IsGood (nodes : List Node) (events : List Event) (sent : ℕ) (hand :
   pub once : (k : ℕ) → places k world + hand k ≤ 1
   pub later : (k : ℕ) → sent < k → places k world + hand k ≡ 0
   pub kept : (place : ℕ) (item : Sent) → place < sent → slice_get (sent_by events) place ≡ Some item → refusal_of item.octets ≡ None
-      → has_entry_of (place + 1) world.notes.entries ≡ false → 1 ≤ places (place + 1) world + hand (place + 1)
+      → has_loss_of (place + 1) world.notes.entries ≡ false → 1 ≤ places (place + 1) world + hand (place + 1)
 
 -- no packet is in no place
 abbrev pub nothing : ℕ → ℕ
@@ -153,15 +154,15 @@ module _ (nodes : List Node) (events : List Event) (sent : ℕ) where
       (λ e. good_broken hand traffic (noted notes (Loss mark Broken)) marks (good_loss hand (record { traffic = traffic; notes = notes }) mark Broken good))
 
   -- a packet in no place goes nowhere, where the ledger has an entry of it
-  pub good_without : (number : ℕ) (hand : ℕ → ℕ) (world : World) → ((k : ℕ) → hand k ≤ one number k) → has_entry_of number world.notes.entries ≡ true
+  pub good_without : (number : ℕ) (hand : ℕ → ℕ) (world : World) → ((k : ℕ) → hand k ≤ one number k) → has_loss_of number world.notes.entries ≡ true
       → IsGood nodes events sent hand world → IsGood nodes events sent nothing world
   good_without number hand world few entered good =
-      let other : (k : ℕ) → has_entry_of k world.notes.entries ≡ false → hand k ≡ 0 = λ k none.
+      let other : (k : ℕ) → has_loss_of k world.notes.entries ≡ false → hand k ≡ 0 = λ k none.
       let by : (b : Bool) → (number == k) ≡ b → hand k ≡ 0 = λ b eb.
       elim b as (λ v. (number == k) ≡ v → hand k ≡ 0) [
         | true ↦ λ e. (
             let same : number ≡ k = grind (arith, nat_tests) in
-            let clash : false ≡ true = sym none ∙ ap (λ n. has_entry_of n world.notes.entries) (sym same) ∙ entered in
+            let clash : false ≡ true = sym none ∙ ap (λ n. has_loss_of n world.notes.entries) (sym same) ∙ entered in
             absurd (cc clash))
         | false ↦ λ e. (let zero_one : ◌≡◌ {A = ℕ} (one number k) 0 = rw e refl in omega (arith, few k, zero_one))
       ] eb in

@@ -14,7 +14,8 @@ use Rattle.link_model.specs.declared.record.DropCause.TheVariants.{NoRoute as No
 use Rattle.run_model.specs.declared.LinkEnd.{LinkEnd}
 use Rattle.run_model.specs.declared.Node.{Node}
 use Rattle.run_model.specs.Topology.{peer_of, routes_of}
-use Rattle.run_model.specs.Journey.{Fate, IsDelivered, IsDropped, journey, journey_within, by_route, at_peer, next_packet, route_at}
+use Rattle.run_model.specs.Fates.{Fate, IsDelivered, IsDropped, by_route}
+use Rattle.run_model.specs.Journey.{journey, journey_within, at_peer, next_packet, route_at}
 
 -- the fate of a packet by its node's hop
 abbrev pub fate_by : List Node → NodeId → List ℕ → Hop → Fate

@@ -26,13 +26,14 @@ use Rattle.frame_model.specs.Frame.{tested, tested_by, passed, made, next_mark, 
 use Rattle.run_model.specs.declared.LinkEnd.{LinkEnd}
 use Rattle.run_model.specs.declared.Node.{Node}
 use Rattle.run_model.specs.Topology.{node_at, peer_of, routes_of}
-use Rattle.run_model.specs.Journey.{Fate, IsDelivered, IsDropped, journey, fate_record, at_peer}
+use Rattle.run_model.specs.Fates.{Fate, IsDelivered, IsDropped, fate_record, is_fate_of, has_loss_of}
+use Rattle.run_model.specs.Journey.{journey, at_peer}
 use Rattle.plain_model.specs.declared.event.Event.{Event}
 use Rattle.plain_model.specs.Topology.{IsPlainNetwork, IsNode, IsEnd, IsLinkedHop, is_port}
 use Rattle.plain_model.specs.Network.{World, Traffic, Port, port_at, queue_at, with_reassembly, note, default_channel, sent_on, forwarded, arrived, frame_by, chain_taken, frame_taken, cell_taken}
 use Rattle.ordered_lists.specs.Ordered.{Every}
 use Rattle.ordered_lists.proofs.Every.{every_join, every_map}
-use Rattle.plain_laws.specs.Fates.{is_fate_of, IsTrueFate, is_chance, is_bad, has_entry_of}
+use Rattle.plain_laws.specs.Fates.{IsTrueFate, is_chance, is_bad}
 use Rattle.plain_model.proofs.Lists.{and_left, and_right}
 use Rattle.plain_laws.proofs.Lists.{any_back, none_front, count_by-append}
 use Rattle.plain_laws.proofs.Journeys.{fate_by, journey_is}
@@ -44,11 +45,11 @@ use Rattle.plain_laws.proofs.Packets.{accepted_parts, sound, accepted_onward, pa
 use Rattle.plain_laws.proofs.Good.{Stands, Flies, FliesIfLast, IsGood, nothing, good_hand, good_port, good_noted, good_broken, good_without, good_made}
 
 -- where a test finds the mark, the ledger has an entry of its packet
-entry_of_mark : (entries : List Entry) (mark : Mark) → has_entry entries mark ≡ true → has_entry_of mark.packet entries ≡ true
+entry_of_mark : (entries : List Entry) (mark : Mark) → has_entry entries mark ≡ true → has_loss_of mark.packet entries ≡ true
 entry_of_mark [] mark e = absurd (cc e)
 entry_of_mark (entry ∷ entries) mark e =
-    let by : (b : Bool) → same_mark entry.mark mark ≡ b → has_entry (entry ∷ entries) mark ≡ true → has_entry_of mark.packet (entry ∷ entries) ≡ true = λ b eb.
-    elim b as (λ v. same_mark entry.mark mark ≡ v → has_entry (entry ∷ entries) mark ≡ true → has_entry_of mark.packet (entry ∷ entries) ≡ true) [
+    let by : (b : Bool) → same_mark entry.mark mark ≡ b → has_entry (entry ∷ entries) mark ≡ true → has_loss_of mark.packet (entry ∷ entries) ≡ true = λ b eb.
+    elim b as (λ v. same_mark entry.mark mark ≡ v → has_entry (entry ∷ entries) mark ≡ true → has_loss_of mark.packet (entry ∷ entries) ≡ true) [
       | true ↦ λ t h. (let same : (entry.mark.packet == mark.packet) ≡ true = and_left (entry.mark.packet == mark.packet) (entry.mark.frame == mark.frame) t in rw same refl)
       | false ↦ λ f h. (let rest : has_entry entries mark ≡ true = rw f at h in any_back (λ (other : Entry). other.mark.packet == mark.packet) (entry ∷ []) entries (entry_of_mark entries mark rest))
     ] eb in
@@ -58,10 +59,10 @@ entry_of_mark (entry ∷ entries) mark e =
 pub own_entry : (mark : Mark) → (mark.packet == mark.packet) ≡ true
 own_entry mark = grind (arith, nat_tests)
 
-broken_last : (marks : List Mark) (notes : Journal) (mark : Mark) → has_entry_of mark.packet (broken notes (marks ++ mark ∷ [])).entries ≡ true
+broken_last : (marks : List Mark) (notes : Journal) (mark : Mark) → has_loss_of mark.packet (broken notes (marks ++ mark ∷ [])).entries ≡ true
 broken_last [] notes mark =
-    let by : (b : Bool) → has_entry notes.entries mark ≡ b → has_entry_of mark.packet (broken notes (mark ∷ [])).entries ≡ true = λ b eb.
-    elim b as (λ v. has_entry notes.entries mark ≡ v → has_entry_of mark.packet (broken notes (mark ∷ [])).entries ≡ true) [
+    let by : (b : Bool) → has_entry notes.entries mark ≡ b → has_loss_of mark.packet (broken notes (mark ∷ [])).entries ≡ true = λ b eb.
+    elim b as (λ v. has_entry notes.entries mark ≡ v → has_loss_of mark.packet (broken notes (mark ∷ [])).entries ≡ true) [
       | true ↦ λ e. rw e (entry_of_mark notes.entries mark e)
       | false ↦ λ e. rw e (any_back (λ (other : Entry). other.mark.packet == mark.packet) notes.entries (record { mark = mark; cause = Broken } ∷ []) (rw (own_entry mark) refl))
     ] eb in
@@ -72,7 +73,7 @@ marks_of-push : (cells : List Cell) (cell : Cell) → marks_of (cells ++ cell �
 marks_of-push [] cell = refl
 marks_of-push (first ∷ cells) cell = ap (λ marks. first.mark ∷ marks) (marks_of-push cells cell)
 
-broken_cells : (notes : Journal) (cells : List Cell) (cell : Cell) → has_entry_of cell.mark.packet (broken notes (marks_of (cells ++ cell ∷ []))).entries ≡ true
+broken_cells : (notes : Journal) (cells : List Cell) (cell : Cell) → has_loss_of cell.mark.packet (broken notes (marks_of (cells ++ cell ∷ []))).entries ≡ true
 broken_cells notes cells cell = rw (marks_of-push cells cell) (broken_last (marks_of cells) notes cell.mark)
 
 last_mark-push : (cells : List Cell) (cell : Cell) → last_mark (cells ++ cell ∷ []) ≡ cell.mark

@@ -1,14 +1,14 @@
 -- What every run of a plain network over cells has: each packet's fate is its journey's
 
-use Rattle.std.specs.Prelude.{◌≡◌, ℕ, ◌+◌, ◌==◌, ◌≤◌, Bool, true, false, List, [], ◌∷◌, ◌++◌, count_by, slice_get, None, Some}
+use Rattle.std.specs.Prelude.{◌≡◌, ℕ, ◌+◌, ◌≤◌, Bool, true, false, List, [], ◌∷◌, ◌++◌, count_by, slice_get, None, Some}
 use Rattle.std.specs.List.{list_all, list_any}
 use Rattle.net_types.specs.declared.node.NodeId.{NodeId}
 use Rattle.atm_cells.specs.declared.cell.Cell.{Cell}
-use Rattle.link_model.specs.declared.entries.Entry.{Entry}
 use Rattle.link_model.specs.declared.record.Record.{Record}
 use Rattle.link_model.specs.declared.record.Record.TheVariants.{Delivered, Dropped, Chance, Bad}
 use Rattle.run_model.specs.declared.Node.{Node}
-use Rattle.run_model.specs.Journey.{journey, fate_record}
+use Rattle.run_model.specs.Fates.{fate_record, is_fate_of, has_loss_of}
+use Rattle.run_model.specs.Journey.{journey}
 use Rattle.plain_model.specs.declared.event.Event.{Event}
 use Rattle.plain_model.specs.declared.event.Event.TheVariants.{Inject, Carry, Lose}
 use Rattle.plain_model.specs.Network.{World, Traffic, run, opening, refusal_of}
@@ -28,12 +28,6 @@ sent_by (Lose end ∷ events) = sent_by events
 -- the world behind these events
 abbrev pub world_after : List Node → List Event → World
 world_after nodes events = run nodes (opening nodes) events
-
--- whether a record is the fate of the packet of this number
-abbrev pub is_fate_of : ℕ → Record → Bool
-is_fate_of number (Delivered node packet octets) = packet == number
-is_fate_of number (Dropped node packet cause) = packet == number
-is_fate_of number item = false
 
 -- a record is the fate, by its journey, of an accepted packet of this number
 pub record IsJourneyOf (nodes : List Node) (events : List Event) (number : ℕ) (item : Record) : Type 0 where
@@ -61,10 +55,6 @@ is_bad item = false
 abbrev pub HasNoChance : List Node → List Event → Type 0
 HasNoChance nodes events = list_any is_chance (world_after nodes events).notes.records ≡ false
 
--- whether the ledger has an entry of any frame of the packet of this number
-abbrev pub has_entry_of : ℕ → List Entry → Bool
-has_entry_of number entries = list_any (λ entry. entry.mark.packet == number) entries
-
 -- no cell is on a link
 abbrev pub is_nothing : List Cell → Bool
 is_nothing [] = true
@@ -82,7 +72,7 @@ pub record HasTrueFates (nodes : List Node) (events : List Event) : Type 0 where
   -- once the links are empty, each accepted packet of whose frames the ledger has no entry has one
   pub whole : is_idle (world_after nodes events).traffic ≡ true → (place : ℕ) (sent : Sent)
       → slice_get (sent_by events) place ≡ Some sent → refusal_of sent.octets ≡ None
-      → has_entry_of (place + 1) (world_after nodes events).notes.entries ≡ false
+      → has_loss_of (place + 1) (world_after nodes events).notes.entries ≡ false
       → count_by (is_fate_of (place + 1)) (world_after nodes events).notes.records ≡ 1
   -- no good frame is refused
   pub none_bad : list_any is_bad (world_after nodes events).notes.records ≡ false

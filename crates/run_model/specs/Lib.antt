@@ -1,2 +1,4 @@
 pub mod Topology
+pub mod Fates
+pub mod Causes
 pub mod Journey

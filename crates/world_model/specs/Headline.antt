@@ -8,12 +8,12 @@ use Rattle.net_types.specs.Label.{is_label_number}
 use Rattle.flow_ids.specs.declared.flow.FlowId.{FlowId}
 use Rattle.ifmp_wire.specs.declared.message.Message.{Message}
 use Rattle.ifmp_wire.specs.declared.message.Message.TheVariants.{Error}
-use Rattle.link_model.specs.declared.entries.Entry.{Entry}
 use Rattle.link_model.specs.declared.frames.Frame.{Frame}
 use Rattle.link_model.specs.declared.record.DropCause.{DropCause}
 use Rattle.link_model.specs.declared.record.Record.{Record}
 use Rattle.link_model.specs.declared.record.Record.TheVariants.{Delivered, Dropped, Chance, Forged, Bad, Bind}
 use Rattle.port_model.specs.Setup.{Policy}
+use Rattle.run_model.specs.Fates.{Fate, IsDelivered, IsDropped, is_fate_of, has_loss_of}
 use Rattle.controller_model.specs.Packets.{inject_refusal}
 use Rattle.world_model.specs.declared.event.Event.{Event}
 use Rattle.world_model.specs.Topology.{Topology}
@@ -21,7 +21,6 @@ use Rattle.world_model.specs.World.{World, opened}
 use Rattle.world_model.specs.Conditions.{IsTopology, CanCome}
 use Rattle.world_model.specs.Places.{places, queue_at}
 use Rattle.world_model.specs.Run.{world_after}
-use Rattle.world_model.specs.Journey.{Fate, IsDelivered, IsDropped}
 use Rattle.world_model.specs.Reached.{Sent, IsFateAt}
 use Rattle.world_model.specs.Ways.{ifmp_of}
 use Rattle.world_model.specs.Past.{Past, past_of}
@@ -52,17 +51,8 @@ pub record WasAccepted (past : Past) (number : ℕ) : Type 0 where
   pub accepted : inject_refusal sent.packet ≡ None
 
 -- *The records of a packet's fate*
-abbrev pub is_fate_of : (number : ℕ) → Record → Bool
-is_fate_of number (Delivered node packet octets) = packet == number
-is_fate_of number (Dropped node packet cause) = packet == number
-is_fate_of number item = false
-
 abbrev pub fates_of : Past → (number : ℕ) → ℕ
 fates_of past number = count_by (is_fate_of number) past.records
-
--- an entry of any frame of the packet stands in the ledger
-abbrev pub has_loss_of : (number : ℕ) → List Entry → Bool
-has_loss_of number entries = list_any (λ entry. entry.mark.packet == number) entries
 
 -- *Links are empty* when no queue of any node holds a cell
 abbrev pub is_empty : World → Bool

@@ -3,36 +3,14 @@
 
 use Rattle.std.specs.Prelude.{ℕ, zero, suc, List, Option, None, Some}
 use Rattle.net_types.specs.declared.node.NodeId.{NodeId}
-use Rattle.net_types.specs.declared.node.PortNo.{PortNo}
 use Rattle.ipv4_packet.specs.Packet.{ttl_of, destination_of}
 use Rattle.ipv4_forward.specs.Best.{best}
 use Rattle.ipv4_forward.specs.Hop.{onward}
-use Rattle.ipv4_forward.specs.declared.table.Next.{Next}
-use Rattle.ipv4_forward.specs.declared.table.Next.TheVariants.{Local, Via}
 use Rattle.ipv4_forward.specs.declared.table.Route.{Route}
-use Rattle.link_model.specs.declared.record.DropCause.{DropCause}
 use Rattle.link_model.specs.declared.record.DropCause.TheVariants.{NoRoute, Expired}
-use Rattle.link_model.specs.declared.record.Record.{Record}
-use Rattle.link_model.specs.declared.record.Record.TheVariants.{Delivered, Dropped}
+use Rattle.run_model.specs.Fates.{Fate, IsDropped, by_route}
 use Rattle.world_model.specs.declared.link.LinkEnd.{LinkEnd}
 use Rattle.world_model.specs.Topology.{Topology, peer_of}
-
--- where a packet ends, and as which octets
-pub data Fate : Type 0 where
-  IsDelivered : NodeId → (packet : List ℕ) → Fate
-  IsDropped : NodeId → DropCause → Fate
-
--- the record of a packet's fate
-abbrev pub fate_record : (number : ℕ) → Fate → Record
-fate_record number (IsDelivered node packet) = Delivered node number packet
-fate_record number (IsDropped node cause) = Dropped node number cause
-
--- what becomes of a packet at a node, by the node's best route for it; `passed` is what becomes of it behind
--- the port that the route names
-abbrev pub by_route : NodeId → (packet : List ℕ) → (passed : PortNo → Fate) → Option Next → Fate
-by_route node packet passed None = IsDropped node NoRoute
-by_route node packet passed (Some Local) = IsDelivered node packet
-by_route node packet passed (Some (Via port)) = passed port
 
 -- at the other end of a link; a port that a route names is linked
 abbrev pub at_peer : NodeId → (arrived : NodeId → Fate) → Option LinkEnd → Fate
