@@ -1,0 +1,85 @@
+//! *IFMP adjacency*: labels are quit that the peer can't use any more. That it does so by what the peer is
+//! known to expect is this project's own.
+
+ghost use Rattle.std.specs.Prelude.{◌≡◌, ℕ, false, IsTrue, OnOk};
+ghost use Rattle.net_types.specs.Label.{is_label_number};
+ghost use Rattle.label_book.specs.Book.{is_recalled};
+ghost use Rattle.label_book.specs.Read.{state_from};
+ghost use Rattle.port_actions.specs.Outlook.{Foresees};
+ghost use Rattle.port_model.specs.Adjacency.{quits, unwires};
+ghost use Rattle.port_state.specs.Engine.{setup_of};
+ghost use Rattle.port_state.specs.Parts.{numbers_of};
+ghost use Rattle.port_saying.specs.Rules.{begun};
+
+use branch_desk::Desk;
+use flow_classifier::Policy;
+use gsmp_wire::Request;
+use label_book::HeldState;
+use net_types::OutOfMemory;
+use port_actions::{Actions, Outlook};
+use port_model::Action;
+use port_state::PortState;
+
+/// Whether a label was reclaimed.
+pub fn is_recalled(state: HeldState) -> bool
+    ensures { result ≡ is_recalled (state_from state) }
+{
+    match state {
+        HeldState::Recalled { .. } => true,
+        HeldState::Wiring | HeldState::Offered | HeldState::Wired => false,
+    }
+}
+
+/// A label is quit where it is acknowledged and the peer expects a number above that of its last RECLAIM:
+/// its chain is cut, and its branch is to be deleted.
+pub fn quit<P: Policy>(
+    state: &mut PortState<P>,
+    number: u16,
+    desk: &Desk,
+    outlook: &mut Outlook,
+    out: &mut Actions,
+) -> Result<(), OutOfMemory>
+    requires outlook { Foresees outlook.old desk.now out.old }
+    ensures fixed { state.new.fixed ≡ state.old.fixed }
+    ensures work { (n : ℕ) → OnOk result (quits (setup_of P.meaning state.old.fixed) desk.now (begun state.old.port out.old n) number ≡ begun state.new.port out.new n) }
+    ensures numbers { numbers_of state.new.port ≡ numbers_of state.old.port }
+    ensures outlook { OnOk result (Foresees outlook.new desk.now out.new) }
+{
+    let Some(label) = state.label_at(number) else {
+        return Ok(());
+    };
+    if !is_recalled(label.state) {
+        return Ok(());
+    }
+    if !state.quit(number) {
+        return Ok(());
+    }
+    out.push(Action::CutChain { vci: number })?;
+    unwire(state, number, desk, outlook, out)
+}
+
+/// Delete Tree of a label is asked where fewer than 1,024 requests will stand, or in the place of one that
+/// stands on its input.
+pub fn unwire<P: Policy>(
+    state: &PortState<P>,
+    number: u16,
+    desk: &Desk,
+    outlook: &mut Outlook,
+    out: &mut Actions,
+) -> Result<(), OutOfMemory>
+    requires number { IsTrue (is_label_number number) }
+    requires outlook { Foresees outlook.old desk.now out.old }
+    ensures work { (n : ℕ) → OnOk result (unwires (setup_of P.meaning state.now.fixed) desk.now (begun state.now.port out.old n) number ≡ begun state.now.port out.new n) }
+    ensures outlook { OnOk result (Foresees outlook.new desk.now out.new) }
+{
+    let input = state.label_end(number);
+    let takes_place = outlook.on_input(desk, input);
+    if !takes_place && !outlook.has_room() {
+        return Ok(());
+    }
+    outlook.ask(desk, input)?;
+    out.push(Action::Ask {
+        request: Request::DeleteTree { input },
+        needed: takes_place,
+    })
+}
