@@ -1,0 +1,15 @@
+use Rattle.std.proofs.Common.{◌≡◌, ℕ, drop}
+use Rattle.std.specs.Prelude.{fold}
+use Rattle.port_model.specs.Reclaiming.{recalls_outside}
+use Rattle.port_state.specs.Engine.{setup_of}
+use Rattle.port_state.specs.Parts.{numbers_of}
+use Rattle.port_saying.specs.Rules.{begun}
+use Rattle.port_hearing.proofs.reclaiming.ranged.Given as goal
+
+abbrev pub invariant-loop-place : goal.invariant-loop-place
+invariant-loop-place g l = record {
+  fixed : l.state.fixed ≡ l.initial.state.fixed;
+  numbers : numbers_of l.state.port ≡ numbers_of l.initial.state.port;
+  work : (n : ℕ) → fold (recalls_outside (setup_of g.P.Policy.meaning l.initial.state.fixed)) (begun l.initial.state.port l.initial.out n) (numbers_of l.initial.state.port)
+      ≡ fold (recalls_outside (setup_of g.P.Policy.meaning l.initial.state.fixed)) (begun l.state.port l.out n) (drop l.place (numbers_of l.initial.state.port));
+}

@@ -1,0 +1,148 @@
+//! A message of IFMP comes (RFC 1953).
+
+ghost use Rattle.std.specs.Prelude.{◌≡◌, ◌<◌, ℕ, option_map, List, Some, IsTrue, IfSome};
+ghost use Rattle.net_types.specs.Label.{is_label_number, label_number_of};
+ghost use Rattle.ifmp_wire.specs.Message.{InRange};
+ghost use Rattle.label_book.specs.Read.{label_of};
+ghost use Rattle.port_model.specs.declared.action.Action.{Action as ActionValue};
+ghost use Rattle.port_model.specs.Hearing.{hears, label_by};
+ghost use Rattle.port_model.specs.Port.{label_at, labels_of};
+ghost use Rattle.port_model.specs.Redirection.{expects, takes};
+ghost use Rattle.port_state.specs.Engine.{setup_of};
+ghost use Rattle.port_saying.specs.Rules.{begun};
+ghost use Rattle.port_saying.specs.Rules.{Ends};
+
+use crate::greeting::greeted;
+use crate::reclaiming::{acknowledged, error_comes, ranged, reclaimed};
+use crate::redirection::redirected;
+use branch_desk::Desk;
+use flow_classifier::Policy;
+use ifmp_wire::Message;
+use label_book::HeldLabel;
+use net_types::{Addr, Channel, Instance, label_number};
+use port_actions::Actions;
+use port_saying::Stop;
+use port_state::PortState;
+
+/// A message is heard.
+pub fn hear<P: Policy>(
+    state: &mut PortState<P>,
+    source: Addr,
+    message: &Message,
+    desk: &Desk,
+    out: &mut Actions,
+) -> Result<(), Stop>
+    requires { InRange message.now }
+    ensures fixed { state.new.fixed ≡ state.old.fixed }
+    ensures work { (n : ℕ) → Ends result state.new.port out.new n (hears (setup_of P.meaning state.old.fixed) desk.now (begun state.old.port out.old n) source message.now) }
+{
+    match *message {
+        Message::Adjacency(hello) => greeted(state, source, &hello, desk, out),
+        Message::Redirect {
+            sender,
+            peer,
+            number,
+            lifetime,
+            label,
+            flow,
+        } => {
+            if !takes(state, source, sender, peer, number) {
+                return Ok(());
+            }
+            expect(state, number);
+            redirected(state, label, flow, lifetime, desk, out)
+        }
+        Message::Reclaim {
+            sender,
+            peer,
+            number,
+            label,
+            flow,
+        } => {
+            if !takes(state, source, sender, peer, number) {
+                return Ok(());
+            }
+            expect(state, number);
+            reclaimed(state, label, flow, out)
+        }
+        Message::ReclaimAck {
+            sender,
+            peer,
+            number,
+            label,
+            flow,
+        } => {
+            if !takes(state, source, sender, peer, number) {
+                return Ok(());
+            }
+            expect(state, number);
+            acknowledged(state, label, flow, desk, out)
+        }
+        Message::LabelRange {
+            sender,
+            peer,
+            number,
+            least,
+            greatest,
+        } => {
+            if !takes(state, source, sender, peer, number) {
+                return Ok(());
+            }
+            expect(state, number);
+            ranged(state, least, greatest, out)
+        }
+        Message::Error {
+            sender,
+            peer,
+            number,
+            code,
+            label,
+        } => {
+            if !takes(state, source, sender, peer, number) {
+                return Ok(());
+            }
+            expect(state, number);
+            error_comes(state, code, label, out)
+        }
+    }
+}
+
+/// Whether a redirection message is taken: in Estab alone, from the stored peer and for the own instance,
+/// and under a number that isn't below the expected one and isn't the last.
+fn takes<P: Policy>(
+    state: &PortState<P>,
+    source: Addr,
+    sender: Instance,
+    peer: Instance,
+    number: u32,
+) -> bool
+    ensures takes { result ≡ takes state.now.port source sender peer number }
+    ensures number { IsTrue result → number < 4294967295 }
+{
+    state.is_from_peer(source, sender, peer) && state.is_due(number)
+}
+
+/// The peer was heard, and the next number is expected.
+fn expect<P: Policy>(state: &mut PortState<P>, number: u32)
+    requires { number < 4294967295 }
+    ensures fixed { state.new.fixed ≡ state.old.fixed }
+    ensures work { (n : ℕ) (actions : List ActionValue) → expects (begun state.old.port actions n) number ≡ begun state.new.port actions n }
+    ensures grants { state.new.port.grants ≡ state.old.port.grants }
+    ensures labels { labels_of state.new.port ≡ labels_of state.old.port }
+{
+    state.expect_after(number);
+    state.heard();
+}
+
+/// The label that a message names by its channel, if it is held.
+pub fn label_by<P: Policy>(state: &PortState<P>, channel: Channel) -> Option<HeldLabel>
+    ensures label { option_map label_of result ≡ label_by state.now.port (label_number_of channel) }
+    ensures range { IfSome result (λ label. IsTrue (is_label_number label.number)) }
+    ensures number { IfSome result (λ label. label_at state.now.port label.number ≡ label_by state.now.port (label_number_of channel)) }
+    ensures channel { IfSome result (λ label. label_number_of channel ≡ Some label.number) }
+{
+    match label_number(channel) {
+        Some(number) => state.label_at(number),
+        None => None,
+    }
+}
