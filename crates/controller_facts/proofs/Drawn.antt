@@ -126,7 +126,7 @@ ends_meeting_draws a =
     none_then 0 a met (ends_meeting a) (calm a met (record { size = refl; side = refl; same = refl })) (none_fold asks asks_draws (flat_map default_branches (up_ports a.controller)) met)
 
 tells_draws : (a : Acted) (request : Request) (port : PortNo) → Draws 1 a (tells_port a request (Some port))
-tells_draws a request port = at_port_draws 1 a port (λ setup desk w. port_answers.done setup w request) (λ linked found. by_goes a linked _ (done_goes linked.setup a.controller.desk (begins a linked) request))
+tells_draws a request port = at_port_draws 1 a port (λ setup desk w. port_answers.done setup w request) (λ linked found. by_goes a linked _ (done_goes linked.setup a.controller.desk (begins a linked) request (λ t. tt)))
 
 behind_draws : (a : Acted) (port : PortNo) → Draws 1 a (behind_delete_all a port)
 behind_draws a port = more 0 1 a (behind_delete_all a port) (omega arith) (on_both (Draws 0 a) a.controller.has_met (asks a (AddBranch (default_end port) (default_home port))) (if has_emptied a.controller then ends_meeting a else a)

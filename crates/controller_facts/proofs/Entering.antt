@@ -32,25 +32,25 @@ use Rattle.controller_facts.proofs.Moves.{by_joining, by_lending, Found, stays, 
 use Rattle.controller_facts.proofs.Performing.{To, asks_goes, at_port_goes}
 use Rattle.controller_facts.proofs.Joining.{every_flat_map, labels_at, same_image, image_is, each_there}
 
-is_offered_by : (state : LabelState) → is_offered state ≡ true → state ≡ Offered
+pub is_offered_by : (state : LabelState) → is_offered state ≡ true → state ≡ Offered
 is_offered_by Wiring e = absurd (cc e)
 is_offered_by Offered e = refl
 is_offered_by (Recalled last acknowledged) e = absurd (cc e)
 is_offered_by Wired e = absurd (cc e)
 
-by_controller : (state : GrantState) → is_by_controller state ≡ true → state ≡ ByController
+pub by_controller : (state : GrantState) → is_by_controller state ≡ true → state ≡ ByController
 by_controller Idle e = absurd (cc e)
 by_controller ByController e = refl
 by_controller (ByInput input) e = absurd (cc e)
 by_controller (Leaving input owed) e = absurd (cc e)
 
 -- a label on an input, by the labels of its port
-record OnPort (ports : List Linked) (input : End) (label : Label) : Type 0 where
-  labels : List Label
-  there : labels_at ports input.port.0 ≡ Some labels
-  found : at label_number (number_of_channel input.channel) labels ≡ Some label
+pub record OnPort (ports : List Linked) (input : End) (label : Label) : Type 0 where
+  pub labels : List Label
+  pub there : labels_at ports input.port.0 ≡ Some labels
+  pub found : at label_number (number_of_channel input.channel) labels ≡ Some label
 
-on_port : (c : Controller) (input : End) (label : Label) → label_on c input ≡ Some label → OnPort c.ports input label
+pub on_port : (c : Controller) (input : End) (label : Label) → label_on c input ≡ Some label → OnPort c.ports input label
 on_port c input label e = by_found (linked_at c input.port) refl e
   where
     by_found : (o : Option Linked) → linked_at c input.port ≡ o → option_and_then (λ (linked : Linked). label_at linked.port (number_of_channel input.channel)) o ≡ Some label → OnPort c.ports input label
@@ -59,7 +59,7 @@ on_port c input label e = by_found (linked_at c input.port) refl e
 
 module _ (setups : List Setup) where
   -- a grant is lent, and every port has the labels that it had
-  lends_labels : (a : Acted) (join : Join) (k : ℕ) → labels_at (enters_grant a join).controller.ports k ≡ labels_at a.controller.ports k
+  pub lends_labels : (a : Acted) (join : Join) (k : ℕ) → labels_at (enters_grant a join).controller.ports k ≡ labels_at a.controller.ports k
   lends_labels a join k = by_found (linked_at a.controller join.port) refl
     where
       by_found : (o : Option Linked) → linked_at a.controller join.port ≡ o → labels_at (works a (λ setup desk w. port_joins.lent w join.grant join.input) o).controller.ports k ≡ labels_at a.controller.ports k
@@ -123,7 +123,7 @@ module _ (setups : List Setup) where
   pub tries_join_goes : (a : Acted) (input : End) → HasPorts setups a → IsLabelEnd setups input → To setups a (tries_join a input)
   tries_join_goes a input h end = tries_label_goes a input (label_on a.controller input) h end refl
 
-  inputs_of_port : (a : Acted) (linked : Linked) → HasPorts setups a → Found setups a linked → IsPort setups linked.setup linked.port → Every (IsLabelEnd setups) (inputs_at linked)
+  pub inputs_of_port : (a : Acted) (linked : Linked) → HasPorts setups a → Found setups a linked → IsPort setups linked.setup linked.port → Every (IsLabelEnd setups) (inputs_at linked)
   inputs_of_port a linked h found fits = by_labels (labels_of linked.port) fits.labels
     where
       by_labels : (labels : List Label) → Every (IsLabel setups linked.setup) labels → Every (IsLabelEnd setups) (map (λ (label : Label). label_end linked.setup.port label.number) labels)

@@ -122,7 +122,7 @@ module _ (setups : List Setup) where
   -- *What an answer causes*
   tells_goes : (a : Acted) (request : Request) (port : PortNo) → HasPorts setups a → To setups a (tells_port a request (Some port))
   tells_goes a request port h = at_port_goes setups a port (λ setup desk w. port_answers.done setup w request) h
-      (λ linked found. by_rule _ (done_goes linked.setup a.controller.desk _ request))
+      (λ linked found. by_rule _ (done_goes linked.setup a.controller.desk _ request (λ t. tt)))
 
   emptied_port : (port : PortNo) → IsShaped setups (DeleteAll port) → IsDefaultEnd setups (default_end port)
   emptied_port port (empties_control other none) = record { port = inl none; vpi = refl; vci = refl }

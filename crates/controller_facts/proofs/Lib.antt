@@ -15,3 +15,5 @@ pub mod MarkedInputs
 pub mod Refusals
 pub mod Laws
 pub mod Each
+pub mod Conditions
+pub mod Flows

@@ -1,15 +1,19 @@
 -- a REDIRECT that octets tell has a lifetime
 
-use Rattle.std.proofs.Common.{◌≡◌, ℕ, ◌≤◌, Bool, true, false, List, Option, None, Some, refl, subst, arith, if◌then◌else◌}
-use Rattle.std.specs.Prelude.{nat_le, ◌&&◌, ◌==◌, Ok}
+use Rattle.std.proofs.Common.{◌≡◌, ℕ, ◌≤◌, ◌<◌, Bool, true, false, List, Option, None, Some, refl, subst, arith, if◌then◌else◌}
+use Rattle.std.specs.Prelude.{nat_le, nat_lt, not, drop, slice_index, ◌&&◌, ◌==◌, Ok}
 use Rattle.std.specs.Option.{option_or}
 use Rattle.std.proofs.lemmas.Bool.Decides.{nat_tests}
 use Rattle.octet_fields.specs.Fields.{u16_at}
 use Rattle.ifmp_wire.specs.declared.message.Message.{Message}
 use Rattle.ifmp_wire.specs.declared.reader.Fault.{Fault}
-use Rattle.ifmp_wire.specs.declared.reader.Fault.TheVariants.{ZeroLifetime}
-use Rattle.ifmp_wire.specs.Tests.{op_at, head_fault, kind_fault, lifetime_fault, flow_fault, body_fault, first_fault}
-use Rattle.ifmp_wire.specs.Fields.{decoded, decoded_by, message_at}
+use Rattle.ifmp_wire.specs.declared.reader.Fault.TheVariants.{ZeroLifetime, Reserved, FlowFields}
+use Rattle.ifmp_wire.specs.Tests.{op_at, head_fault, kind_fault, kind_at, lifetime_fault, identifier_fault, flow_fault, body_fault, first_fault}
+use Rattle.ifmp_wire.specs.Fields.{decoded, decoded_by, message_at, flow_in, flow_at}
+use Rattle.flow_ids.specs.declared.flow.FlowKind.{FlowKind}
+use Rattle.flow_ids.specs.declared.flow.FlowKind.TheVariants.{One as ConnectionKind, Two as HostsKind}
+use Rattle.flow_ids.specs.Flow.{IsFlow, has_ports}
+use Rattle.flow_ids.specs.Identifier.{has_zeros, has_fields}
 use Rattle.port_facts.specs.Port.{Lives}
 use Rattle.port_facts.proofs.Keyed.{on_both, on_each}
 
@@ -37,13 +41,46 @@ four_is_below op e = grind (arith, nat_tests)
 above_zero : (n : ℕ) → (n == 0) ≡ false → 1 ≤ n
 above_zero n e = grind (arith, nat_tests)
 
+five_is_below : (op : ℕ) → (op == 5) ≡ true → nat_le op 6 ≡ true
+five_is_below op e = grind (arith, nat_tests)
+
+has_fields_of : (kind : FlowKind) (octets : List ℕ) → identifier_fault kind octets ≡ None → has_fields kind octets ≡ true
+has_fields_of kind octets e = by_tests (has_zeros kind octets) (has_fields kind octets) e
+  where
+    by_tests : (zeros fields : Bool) → (if not zeros then Some Reserved else (if not fields then Some FlowFields else None)) ≡ None → fields ≡ true
+    by_tests true true e = refl
+    by_tests true false e = absurd (cc e)
+    by_tests false fields e = absurd (cc e)
+
+second : (a b : Bool) → (a && b) ≡ true → b ≡ true
+second true b e = e
+second false b e = absurd (cc e)
+
+first_of_two : (a b : Bool) → (a && b) ≡ true → a ≡ true
+first_of_two true b e = refl
+first_of_two false b e = absurd (cc e)
+
+less : (n : ℕ) → nat_lt 0 n ≡ true → 0 < n
+less n e = grind (arith, nat_tests)
+
+-- the flow that octets tell is one that packets can have
+alive_in : (kind : FlowKind) (octets : List ℕ) → has_fields kind octets ≡ true → IsFlow (flow_in kind octets)
+alive_in ConnectionKind octets e =
+    let rest = second (slice_index octets 0 == 69) (nat_lt 0 (slice_index octets 2) && has_ports (slice_index octets 3)) e in
+    (less (slice_index octets 2) (first_of_two (nat_lt 0 (slice_index octets 2)) (has_ports (slice_index octets 3)) rest), second (nat_lt 0 (slice_index octets 2)) (has_ports (slice_index octets 3)) rest)
+alive_in HostsKind octets e = less (slice_index octets 2) (second (slice_index octets 0 == 69) (nat_lt 0 (slice_index octets 2)) e)
+
+alive_at : (octets : List ℕ) → flow_fault octets ≡ None → IsFlow (flow_at octets)
+alive_at octets none = alive_in (kind_at octets) (drop 24 octets) (has_fields_of (kind_at octets) (drop 24 octets) (behind (lifetime_fault octets) (identifier_fault (kind_at octets) (drop 24 octets)) (behind (kind_fault octets) _ none)))
+
 lives_at : (octets : List ℕ) → first_fault octets ≡ None → Lives (message_at octets)
 lives_at octets none = on_each Lives (nat_le (op_at octets) 3) _ _ (λ t. tt)
     (λ above. on_each Lives (op_at octets == 4) _ _
     (λ four. (let flow : flow_fault octets ≡ None = second_of (nat_le (op_at octets) 3) (nat_le (op_at octets) 6) (flow_fault octets) _ None above (four_is_below (op_at octets) four) (behind (head_fault octets) (body_fault octets) none) in
     let lifetime : lifetime_fault octets ≡ None = first (lifetime_fault octets) _ (behind (kind_fault octets) _ flow) in
-    above_zero (u16_at octets 18) (not_both (op_at octets == 4) (u16_at octets 18 == 0) _ four lifetime)))
-    (λ t. on_both Lives (op_at octets == 5) _ _ tt (on_both Lives (op_at octets == 6) _ _ tt (on_both Lives (op_at octets == 7) _ _ tt tt))))
+    (above_zero (u16_at octets 18) (not_both (op_at octets == 4) (u16_at octets 18 == 0) _ four lifetime), tt, alive_at octets flow)))
+    (λ t. on_each Lives (op_at octets == 5) _ _ (λ five. (tt, alive_at octets (second_of (nat_le (op_at octets) 3) (nat_le (op_at octets) 6) (flow_fault octets) _ None above (five_is_below (op_at octets) five) (behind (head_fault octets) (body_fault octets) none))))
+    (λ other. on_both Lives (op_at octets == 6) _ _ tt (on_both Lives (op_at octets == 7) _ _ tt tt))))
 
 pub decoded_lives : (octets : List ℕ) (message : Message) → decoded octets ≡ Ok message → Lives message
 unfolding decoded

@@ -195,7 +195,7 @@ module _ (setups : List Setup) where
   tells_marks : (a : Acted) (request : Request) (port : PortNo) → HasPorts setups a → Marks (258 + 2 * length setups) a (tells_port a request (Some port))
   tells_marks a request port h = mark_more 258 (258 + 2 * length setups) a (tells_port a request (Some port)) (omega arith)
       (at_port_marks setups 258 a port (λ setup desk w. port_answers.done setup w request) h
-      (λ linked found. by_rule (port_answers.done linked.setup (begins a linked) request) (done_goes linked.setup a.controller.desk (begins a linked) request))
+      (λ linked found. by_rule (port_answers.done linked.setup (begins a linked) request) (done_goes linked.setup a.controller.desk (begins a linked) request (λ t. tt)))
       (λ linked found. light_of 1 a linked (port_answers.done linked.setup (begins a linked) request) (done_cost linked.setup a.controller.desk (begins a linked) request)))
 
   behind_marks : (a : Acted) (port : PortNo) → HasPorts setups a → Marks (258 + 2 * length setups) a (behind_delete_all a port)

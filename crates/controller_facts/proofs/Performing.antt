@@ -135,14 +135,14 @@ module _ (setups : List Setup) where
   -- *One action*
   does_goes : (port : PortNo) (a : Acted) (action : Action) → HasPorts setups a → IsAction setups action → To a (does port a action)
   does_goes port a (Say message) h fits = says_ifmp_goes port a message
-  does_goes port a (Ask request needed) h fits = asks_goes a request h fits
+  does_goes port a (Ask request needed) h fits = asks_goes a request h fits.0
   does_goes port a (Note item) h fits = moves_to (noting a item)
   does_goes port a (CutChain label) h fits = cuts_label_goes port a label
   does_goes port a (TakeBack input output) h fits = takes_back_goes a input output h (parts_label input output fits.0 fits.1)
   does_goes port a (Withdraw input) h fits = moves_to (withdrawing a input)
   does_goes port a Reset h fits = stays a
 
-  does_in_estab_goes : (port : PortNo) (a : Acted) (action : Action) → HasPorts setups a → IsAction setups action → To a (does_in_estab port a action)
+  pub does_in_estab_goes : (port : PortNo) (a : Acted) (action : Action) → HasPorts setups a → IsAction setups action → To a (does_in_estab port a action)
   does_in_estab_goes port a action h fits = on_both (To a) (is_estab a.controller.adjacency.state) (does port a action) a (does_goes port a action h fits) (stays a)
 
   -- *Port reset*

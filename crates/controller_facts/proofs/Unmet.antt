@@ -61,7 +61,7 @@ clear_is_met : (c : Controller) (linked : Linked) → may_clear c linked ≡ tru
 clear_is_met c linked may = met_part (is_clearing linked.port.adjacency.state) (length linked.port.grants == 0) c.has_met (is_up c.desk.rows linked.setup.port) (awaits_nothing c linked.setup.port) may
 
 -- one is put in the place of the one with its key, and no other has that key
-put_each : {A : Type 0} (key : A → ℕ) (P Q : A → Type 0) (y : A) → Q y → ((x : A) → key x ≢ key y → P x → Q x) → (xs : List A) → InOrder (λ a b. key a ≢ key b) xs → Every P xs
+pub put_each : {A : Type 0} (key : A → ℕ) (P Q : A → Type 0) (y : A) → Q y → ((x : A) → key x ≢ key y → P x → Q x) → (xs : List A) → InOrder (λ a b. key a ≢ key b) xs → Every P xs
     → Every Q (put key y xs)
 put_each key P Q y q each [] order all = tt
 put_each {A} key P Q y q each (x ∷ xs) order all = by_eq (key x) (key y)
@@ -73,7 +73,7 @@ put_each {A} key P Q y q each (x ∷ xs) order all = by_eq (key x) (key y)
     behind same (z ∷ zs) apart all = (each z (λ e. apart.0 (same ∙ sym e)) all.0, behind same zs apart.1 all.1)
 
 -- none has a key that isn't found
-none_with : {A : Type 0} (key : A → ℕ) (k : ℕ) (xs : List A) → at key k xs ≡ None → Every (λ x. key x ≢ k) xs
+pub none_with : {A : Type 0} (key : A → ℕ) (k : ℕ) (xs : List A) → at key k xs ≡ None → Every (λ x. key x ≢ k) xs
 none_with key k [] e = tt
 none_with {A} key k (x ∷ xs) e = by_eq (key x) k
     (λ same t. absurd (no_some (sym (ap (λ (b : Bool). if b then Some x else at key k xs) t) ∙ e)))
@@ -95,7 +95,7 @@ behind_one port rest linked other (inl among) = (let differs : nat_eq port.0 (po
 behind_one port rest linked other (inr shut) = inr shut
 
 module _ (setups : List Setup) where
-  ports_apart : (a : Acted) → HasPorts setups a → InOrder (λ (x : Linked) (y : Linked). port_key x ≢ port_key y) a.controller.ports
+  pub ports_apart : (a : Acted) → HasPorts setups a → InOrder (λ (x : Linked) (y : Linked). port_key x ≢ port_key y) a.controller.ports
   ports_apart a h = order_unmapped linked_setup AreApart a.controller.ports (subst (InOrder AreApart) (sym h.ports.same) h.ports.apart)
 
   -- a chain that is cut leaves the ports as they are

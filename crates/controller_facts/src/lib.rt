@@ -8,6 +8,8 @@
 
 ghost use Rattle.controller_facts.specs.Sound.{Always, HasSoundSide, HasSoundPorts, HasShapedRequests, HasSoundDesk, HasShutPorts, NumbersNeverFall, DrawsFewInstances, DrawsFewMarks};
 ghost use Rattle.controller_facts.specs.Refused.{RefusedIsRecorded};
+ghost use Rattle.controller_facts.specs.Conditions.{HasMovingRequests, HasGrantedJoins};
+ghost use Rattle.controller_facts.specs.Said.{HasFlowingPorts, SaysInRange};
 
 /// What holds of one controller after every list of inputs from its opening. It does nothing, and its
 /// contract is the statement.
@@ -21,4 +23,8 @@ pub fn controller_is_sound()
     ensures instances { DrawsFewInstances }
     ensures marks { DrawsFewMarks }
     ensures refused { RefusedIsRecorded }
+    ensures moves { Always HasMovingRequests }
+    ensures joins { Always HasGrantedJoins }
+    ensures flows { Always HasFlowingPorts }
+    ensures says { SaysInRange }
 {}

@@ -12,6 +12,7 @@ use Rattle.port_model.specs.Labels.{Label, label_number}
 use Rattle.port_model.specs.Grants.{Grant, grant_label, input_of}
 use Rattle.port_model.specs.Port.{Session, Port, Work, acts, halts, with_session, with_label, with_grant, label_at, labels_of}
 use Rattle.port_model.specs.Saying.{Unnumbered, last_number, own_of, peer_of, tells_in, tells, closes, is_spent, says, spent_number}
+use Rattle.port_facts.proofs.Steps.{HeldFlow}
 use Rattle.port_facts.proofs.Keyed.{on_both, at_key, at_put_same}
 
 -- the first that passes a test does, and is in the list
@@ -55,6 +56,18 @@ still_held w before after e same = on_both (λ (v : Work). Held v.port after.num
     (record w { port = record w.port { session = option_map (λ (s : Session). record s { labels = put label_number after s.labels }) w.port.session } })
     (record { label = before; found = e; same = same })
     (record { label = after; found = placed w.port.session e; same = refl })
+  where
+    placed : (o : Option Session) → label_at (record w.port { session = o }) after.number ≡ Some before
+        → label_at (record w.port { session = option_map (λ (s : Session). record s { labels = put label_number after s.labels }) o }) after.number ≡ Some after
+    placed None e = absurd (cc e)
+    placed (Some s) e = at_put_same label_number after s.labels before e
+
+-- and one with its flow
+pub still_flow : (w : Work) (before after : Label) → label_at w.port after.number ≡ Some before → before.flow ≡ after.flow → HeldFlow (with_label w after).port after.number after.flow
+still_flow w before after e same = on_both (λ (v : Work). HeldFlow v.port after.number after.flow) w.halted w
+    (record w { port = record w.port { session = option_map (λ (s : Session). record s { labels = put label_number after s.labels }) w.port.session } })
+    (record { held = before; found = e; same = same })
+    (record { held = after; found = placed w.port.session e; same = refl })
   where
     placed : (o : Option Session) → label_at (record w.port { session = o }) after.number ≡ Some before
         → label_at (record w.port { session = option_map (λ (s : Session). record s { labels = put label_number after s.labels }) o }) after.number ≡ Some after

@@ -112,7 +112,7 @@ answers_once setup w next Reset h = halts_once w h
 
 step_once : (setup : Setup) (desk : Desk) (v w : Work) → Step setup desk v w → EndsOnce v → EndsOnce w
 step_once setup desk v w (greeting u hello) h = acts_once u (Say (Adjacency hello)) refl h
-step_once setup desk v w (telling u message) h = tells_once u message h
+step_once setup desk v w (telling u message told) h = tells_once u message h
 step_once setup desk v w (closing u) h = closes_once u h
 step_once setup desk v w (noting u input output) h = acts_once u (Note (Join setup.node setup.port (number_of_channel input.channel) output.port (number_of_channel output.channel))) refl h
 step_once setup desk v w (turning u step live turn) h =
@@ -120,7 +120,7 @@ step_once setup desk v w (turning u step live turn) h =
 step_once setup desk v w (heard u) h = alike u (record u { port = record u.port { adjacency = record u.port.adjacency { silence = 0 } } }) refl refl h
 step_once setup desk v w (minding u change keeps) h = session_once u change h
 step_once setup desk v w (relabelling u before after found keeps) h = label_once u after h
-step_once setup desk v w (wiring u s flow number session spare inside room) h =
+step_once setup desk v w (wiring u s flow number session spare inside room alive) h =
     let label : Label = record { number = number; state = Wiring; flow = flow; idle = 0; ticks = 0; join = None } in
     acts_once (with_new_label u label) (Ask (AddBranch (label_end setup.port number) (control_end setup.port number)) false) refl
     (session_once u (λ s. record s { labels = entered (key_le label_number) label s.labels }) h)
@@ -130,9 +130,9 @@ step_once setup desk v w (unwiring u number label found) h =
     let input : End = label_end setup.port number in
     on_both EndsOnce (on_input (desk_after desk u) input || has_room desk u) (acts u (Ask (DeleteTree input) (on_input (desk_after desk u) input))) u
     (acts_once u (Ask (DeleteTree input) (on_input (desk_after desk u) input)) refl h) h
-step_once setup desk v w (freeing u label found is) h = acts_once (without_label u label.number) (Note (Free setup.node setup.port label.number)) refl (session_once u (λ s. record s { labels = without label_number label.number s.labels }) h)
+step_once setup desk v w (freeing u label found is frees) h = acts_once (without_label u label.number) (Note (Free setup.node setup.port label.number)) refl (session_once u (λ s. record s { labels = without label_number label.number s.labels }) h)
 step_once setup desk v w (accepting u) h = alike u (accepts u) refl refl h
-step_once setup desk v w (granting u s label flow lifetime session inside none few lives room) h =
+step_once setup desk v w (granting u s label flow lifetime session inside none few lives room alive) h =
     let grants : List Grant = u.port.grants ++ record { label = label; flow = flow; lifetime = lifetime; state = Idle } ∷ [] in
     acts_once (with_grants (accepts u) grants) (Ask (AddBranch (control_end setup.port label) (label_end setup.port label)) false) refl (grants_once (accepts u) grants (alike u (accepts u) refl refl h))
 step_once setup desk v w (regranting u before after found keeps owes) h = grant_once u after h

@@ -75,7 +75,7 @@ module _ (n : ℕ) where
 
   step_gave : (setup : Setup) (desk : Desk) (v w : Work) → Step setup desk v w → Gave v → Gave w
   step_gave setup desk v w (greeting u hello) h = acts_gave u (Say (Adjacency hello)) h
-  step_gave setup desk v w (telling u message) h = tells_gave u message h
+  step_gave setup desk v w (telling u message told) h = tells_gave u message h
   step_gave setup desk v w (closing u) h = closes_gave u h
   step_gave setup desk v w (noting u input output) h = acts_gave u (Note (Join setup.node setup.port (number_of_channel input.channel) output.port (number_of_channel output.channel))) h
   step_gave setup desk v w (turning u step live turn) h =
@@ -83,7 +83,7 @@ module _ (n : ℕ) where
   step_gave setup desk v w (heard u) h = h
   step_gave setup desk v w (minding u change keeps) h = session_gave u change h
   step_gave setup desk v w (relabelling u before after found keeps) h = label_gave u after h
-  step_gave setup desk v w (wiring u s flow number session spare inside room) h =
+  step_gave setup desk v w (wiring u s flow number session spare inside room alive) h =
       let label : Label = record { number = number; state = Wiring; flow = flow; idle = 0; ticks = 0; join = None } in
       acts_gave (with_new_label u label) (Ask (AddBranch (label_end setup.port number) (control_end setup.port number)) false)
       (session_gave u (λ s. record s { labels = entered (key_le label_number) label s.labels }) h)
@@ -93,9 +93,9 @@ module _ (n : ℕ) where
       let input : End = label_end setup.port number in
       on_both Gave (on_input (desk_after desk u) input || has_room desk u) (acts u (Ask (DeleteTree input) (on_input (desk_after desk u) input))) u
       (acts_gave u (Ask (DeleteTree input) (on_input (desk_after desk u) input)) h) h
-  step_gave setup desk v w (freeing u label found is) h = acts_gave (without_label u label.number) (Note (Free setup.node setup.port label.number)) (session_gave u (λ s. record s { labels = without label_number label.number s.labels }) h)
+  step_gave setup desk v w (freeing u label found is frees) h = acts_gave (without_label u label.number) (Note (Free setup.node setup.port label.number)) (session_gave u (λ s. record s { labels = without label_number label.number s.labels }) h)
   step_gave setup desk v w (accepting u) h = h
-  step_gave setup desk v w (granting u s label flow lifetime session inside none few lives room) h =
+  step_gave setup desk v w (granting u s label flow lifetime session inside none few lives room alive) h =
       let grants : List Grant = u.port.grants ++ record { label = label; flow = flow; lifetime = lifetime; state = Idle } ∷ [] in
       acts_gave (with_grants (accepts u) grants) (Ask (AddBranch (control_end setup.port label) (label_end setup.port label)) false) (grants_gave (accepts u) grants h)
   step_gave setup desk v w (regranting u before after found keeps owes) h = grant_gave u after h

@@ -9,8 +9,8 @@ use Rattle.net_types.specs.Label.{label_channel_of}
 use Rattle.ordered_lists.specs.Ordered.{Every, InOrder}
 use Rattle.ordered_lists.proofs.Every.{every_join}
 use Rattle.keyed_lists.specs.Keyed.{at}
-use Rattle.port_model.specs.declared.action.Action.TheVariants.{CutChain, Withdraw}
-use Rattle.port_model.specs.Setup.{Setup, label_numbers, control_end}
+use Rattle.port_model.specs.declared.action.Action.TheVariants.{CutChain}
+use Rattle.port_model.specs.Setup.{Setup}
 use Rattle.port_model.specs.Labels.{Label, Wiring, Offered}
 use Rattle.port_model.specs.Grants.{Grant, GrantState, Idle, ByController, ByInput, Leaving, grant_label, input_of, is_leaving}
 use Rattle.port_model.specs.Port.{Session, Port, Work, without_grant, label_at}
@@ -150,7 +150,7 @@ module _ (setups : List Setup) (setup : Setup) (linked : at setup_port setup.por
         port = port;
         actions = every_join (IsAction setups) w.actions _ h.actions (every_join (IsAction setups) (closing setup w.port.session) _ (closing_kept w.port.session)
             (every_join (IsAction setups) (withdrawing setup w.port.grants) _ (withdrawing_kept w.port.grants) (every_join (IsAction setups) (flat_map (taking_back setup) w.port.grants) _ (taking_kept w.port.grants h.port.grants)
-            (empties_port setup.port (ap is_some linked), tt))));
+            ((empties_port setup.port (ap is_some linked), tt), tt))));
       }
 
   pub restarts_kept : (w : Work) → IsWork setups setup w → IsWork setups setup (restarts setup w)

@@ -269,16 +269,16 @@ module _ (setups : List Setup) (setup : Setup) (linked : at setup_port setup.por
   -- *Each step*
   pub step_kept : (desk : Desk) (v w : Work) → Step setup desk v w → IsWork setups setup v → IsWork setups setup w
   step_kept desk v w (greeting u hello) h = acts_kept u (Say (Adjacency hello)) tt h
-  step_kept desk v w (telling u message) h = tells_kept u message h
+  step_kept desk v w (telling u message told) h = tells_kept u message h
   step_kept desk v w (closing u) h = closes_kept u h
   step_kept desk v w (noting u input output) h = acts_kept u (Note _) tt h
   step_kept desk v w (turning u step live turn) h = steps_kept u step (turned u.port.adjacency step h.port.side turn) h
   step_kept desk v w (heard u) h = side_kept u (record u.port.adjacency { silence = 0 }) (record { peer = h.port.side.peer; silence = omega arith }) refl (λ e. e) h
   step_kept desk v w (minding u change keeps) h = session_kept u change (λ s e held. subst IsHeld (sym (keeps s e).labels) held) h
   step_kept desk v w (relabelling u before after found keeps) h = label_kept u after (relabelled before after keeps.number keeps.join keeps.wiring (found_label u after.number before found h)) h
-  step_kept desk v w (wiring u s flow number session spare inside room) h =
+  step_kept desk v w (wiring u s flow number session spare inside room alive) h =
       let label : Label = record { number = number; state = Wiring; flow = flow; idle = 0; ticks = 0; join = None } in
-      acts_kept (with_new_label u label) (Ask (AddBranch (label_end setup.port number) (control_end setup.port number)) false) (leads_label (label_end setup.port number) (own_end number inside))
+      acts_kept (with_new_label u label) (Ask (AddBranch (label_end setup.port number) (control_end setup.port number)) false) (leads_label (label_end setup.port number) (own_end number inside), tt)
       (new_label_kept u s label session spare (record { in_range = inside; output = λ output e. absurd (cc e); unjoined = λ e. refl }) h)
   step_kept desk v w (binding u label found is) h =
       let after : Label = record label { state = Offered } in
@@ -292,15 +292,15 @@ module _ (setups : List Setup) (setup : Setup) (linked : at setup_port setup.por
       let input : End = label_end setup.port number in
       let same : label.number ≡ number = at_key label_number number (labels_of u.port) label found in
       on_both (IsWork setups setup) (on_input (desk_after desk u) input || has_room desk u) (acts u (Ask (DeleteTree input) (on_input (desk_after desk u) input))) u
-      (acts_kept u (Ask (DeleteTree input) (on_input (desk_after desk u) input)) (frees_label input (own_end number (ap (is_in_range setup) (sym same) ∙ (found_label u number label found h).in_range))) h) h
-  step_kept desk v w (freeing u label found is) h = acts_kept (without_label u label.number) (Note (Free setup.node setup.port label.number)) tt (gone_label_kept u label.number h)
+      (acts_kept u (Ask (DeleteTree input) (on_input (desk_after desk u) input)) (frees_label input (own_end number (ap (is_in_range setup) (sym same) ∙ (found_label u number label found h).in_range)), tt) h) h
+  step_kept desk v w (freeing u label found is frees) h = acts_kept (without_label u label.number) (Note (Free setup.node setup.port label.number)) tt (gone_label_kept u label.number h)
   step_kept desk v w (accepting u) h = accepts_kept u h
-  step_kept desk v w (granting u s label flow lifetime session inside none few lives room) h =
+  step_kept desk v w (granting u s label flow lifetime session inside none few lives room alive) h =
       let grant : Grant = record { label = label; flow = flow; lifetime = lifetime; state = Idle } in
       let fits : IsGrant setups setup grant = record { in_range = inside; input = λ input e. absurd (cc e); lives = λ e. lives } in
       let estab : is_estab u.port.adjacency.state ≡ true = session_estab u s session h in
       acts_kept (with_grants (accepts u) (u.port.grants ++ grant ∷ [])) (Ask (AddBranch (control_end setup.port label) (label_end setup.port label)) false)
-      (leads_grant (label_end setup.port label) (own_end label inside))
+      (leads_grant (label_end setup.port label) (own_end label inside), tt)
       (grants_kept (accepts u) (u.port.grants ++ grant ∷ []) (every_more (IsGrant setups setup) u.port.grants grant h.port.grants fits) (apart_more grant_label u.port.grants grant none h.port.apart)
       (omega (arith, length-append u.port.grants (grant ∷ []), few)) (λ e. absurd (not_both _ estab e)) (λ e. absurd (not_both _ estab e)) (accepts_kept u h))
   step_kept desk v w (regranting u before after found keeps owes) h =

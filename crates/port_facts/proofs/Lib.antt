@@ -11,3 +11,4 @@ pub mod Halting
 pub mod Weights
 pub mod Weighed
 pub mod Shut
+pub mod Said

@@ -69,9 +69,9 @@ tells_shut : (w : Work) (message : Unnumbered) → IsShut w.port → IsShut (tel
 tells_shut w message h = subst (λ (o : Option Session). IsShut (tells_in w message o).port) (sym h.session) h
 
 -- *The adjacency*: it stays in Clearing, and answers nothing
-record IsQuiet (step : sides.Step Peer) : Type 0 where
-  state : step.side.state ≡ Clearing
-  answer : step.answer ≡ Quiet
+pub record IsQuiet (step : sides.Step Peer) : Type 0 where
+  pub state : step.side.state ≡ Clearing
+  pub answer : step.answer ≡ Quiet
 
 quiet_hears : (own : Peer) (stored : Option Peer) (silence : ℕ) (state : State) (m : Heard Peer) → state ≡ Clearing → IsQuiet (received same_peer (record { state = state; own = own; stored = stored; silence = silence }) m)
 quiet_hears own stored silence Clearing m e = record { state = refl; answer = refl }
@@ -85,7 +85,7 @@ quiet_ages own stored silence SynSent e = absurd (cc e)
 quiet_ages own stored silence SynRcvd e = absurd (cc e)
 quiet_ages own stored silence Estab e = absurd (cc e)
 
-quiet_turn : (side : Side Peer) (step : sides.Step Peer) → IsTurn side step → side.state ≡ Clearing → IsQuiet step
+pub quiet_turn : (side : Side Peer) (step : sides.Step Peer) → IsTurn side step → side.state ≡ Clearing → IsQuiet step
 quiet_turn side step (hears source hello) e = quiet_hears side.own side.stored side.silence side.state (heard_from source hello) e
 quiet_turn side step ages e = quiet_ages side.own side.stored side.silence side.state e
 
@@ -98,20 +98,20 @@ steps_shut setup w step q h =
 -- *Each step*
 step_shut : (setup : Setup) (desk : Desk) (v w : Work) → Step setup desk v w → IsShut v.port → IsShut w.port
 step_shut setup desk v w (greeting u hello) h = acts_shut u (Say (Adjacency hello)) h
-step_shut setup desk v w (telling u message) h = tells_shut u message h
+step_shut setup desk v w (telling u message told) h = tells_shut u message h
 step_shut setup desk v w (closing u) h = same_shut u.port (closes u).port (closes_port u) h
 step_shut setup desk v w (noting u input output) h = acts_shut u (Note (Join setup.node setup.port (number_of_channel input.channel) output.port (number_of_channel output.channel))) h
 step_shut setup desk v w (turning u step live turn) h = steps_shut setup u step (quiet_turn u.port.adjacency step turn h.clearing) h
 step_shut setup desk v w (heard u) h = record { clearing = h.clearing; session = h.session; grants = h.grants }
 step_shut setup desk v w (minding u change keeps) h = session_shut u change h
 step_shut setup desk v w (relabelling u before after found keeps) h = absurd (no_label u.port after.number before h found)
-step_shut setup desk v w (wiring u s flow number session spare inside room) h = absurd (no_session u.port s h session)
+step_shut setup desk v w (wiring u s flow number session spare inside room alive) h = absurd (no_session u.port s h session)
 step_shut setup desk v w (binding u label found is) h = absurd (no_label u.port label.number label h found)
 step_shut setup desk v w (quitting u label last found is) h = absurd (no_label u.port label.number label h found)
 step_shut setup desk v w (unwiring u number label found) h = absurd (no_label u.port number label h found)
-step_shut setup desk v w (freeing u label found is) h = absurd (no_label u.port label.number label h found)
+step_shut setup desk v w (freeing u label found is frees) h = absurd (no_label u.port label.number label h found)
 step_shut setup desk v w (accepting u) h = record { clearing = h.clearing; session = h.session; grants = h.grants }
-step_shut setup desk v w (granting u s label flow lifetime session inside none few lives room) h = absurd (no_session u.port s h session)
+step_shut setup desk v w (granting u s label flow lifetime session inside none few lives room alive) h = absurd (no_session u.port s h session)
 step_shut setup desk v w (regranting u before after found keeps owes) h = absurd (no_grant u.port after.label before h found)
 step_shut setup desk v w (starting u grant found is) h = absurd (no_grant u.port grant.label grant h found)
 step_shut setup desk v w (ending u grant found none) h = absurd (no_grant u.port grant.label grant h found)

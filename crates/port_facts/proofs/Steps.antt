@@ -3,7 +3,10 @@
 
 use Rattle.std.proofs.Common.{◌≡◌, ℕ, ◌≤◌, ◌<◌, true, false, length, None, Some}
 use Rattle.net_types.specs.declared.prefix.Addr.{Addr}
+use Rattle.net_types.specs.declared.channel.Channel.{Channel}
 use Rattle.net_types.specs.declared.channel.End.{End}
+use Rattle.flow_ids.specs.Flow.{IsFlow}
+use Rattle.port_facts.specs.Port.{AnyChannel}
 use Rattle.net_types.specs.Label.{number_of_channel}
 use Rattle.net_types.specs.declared.adjacency.Hello.{Hello}
 use Rattle.net_types.specs.declared.adjacency.Peer.{Peer}
@@ -19,7 +22,7 @@ use Rattle.port_model.specs.Setup.{Setup, is_in_range, label_end}
 use Rattle.port_model.specs.Labels.{Label, Wiring, Offered, Recalled, Wired, is_bound, is_spare}
 use Rattle.port_model.specs.Grants.{Grant, Idle, ByController, grant_label, input_of, is_leaving, most_grants}
 use Rattle.port_model.specs.Port.{Session, Port, Work, acts, with_session, with_label, without_label, with_grant, without_grant, label_at, has_room}
-use Rattle.port_model.specs.Saying.{Unnumbered, greets, tells, closes}
+use Rattle.port_model.specs.Saying.{Unnumbered, greets, tells, closes, redirect, reclaim, reclaim_ack, label_range, error}
 use Rattle.port_model.specs.Adjacency.{steps, unwires}
 use Rattle.port_model.specs.Counting.{wires}
 use Rattle.port_model.specs.Redirection.{accepts, grants_label}
@@ -62,48 +65,73 @@ pub data MayOwe (port : Port) (before : Grant) : Type 0 where
   in_session : (s : Session) → port.session ≡ Some s → MayOwe port before
   was_live : is_leaving before.state ≡ false → MayOwe port before
 
-module _ (setup : Setup) (desk : Desk) where
-  pub data Step : Work → Work → Type 0 where
+-- a label that is held for a flow
+pub record HeldFlow (port : Port) (number : ℕ) (flow : FlowId) : Type 0 where
+  pub held : Label
+  pub found : label_at port number ≡ Some held
+  pub same : held.flow ≡ flow
+
+-- what a port says of its own accord, or names of what it heard
+pub data IsTold (Heard : Channel → Type 0) (setup : Setup) (port : Port) : Unnumbered → Type 0 where
+  offering : (label : Label) → HeldFlow port label.number label.flow → IsTold Heard setup port (redirect setup label)
+  recalling : (label : Label) → HeldFlow port label.number label.flow → IsTold Heard setup port (reclaim label)
+  acknowledging : (channel : Channel) (flow : FlowId) → Heard channel → IsFlow flow → IsTold Heard setup port (reclaim_ack channel flow)
+  narrowing : IsTold Heard setup port (label_range setup)
+  refusing : (code : ℕ) (channel : Channel) → 1 ≤ code → code ≤ 4 → Heard channel → IsTold Heard setup port (error code channel)
+
+-- the steps of a port that heard of these channels; a label is freed where this is so
+module _ (Heard : Channel → Type 0) (Frees : Type 0) (setup : Setup) (desk : Desk) where
+  pub data StepOn : Work → Work → Type 0 where
     -- *What is said*
-    greeting : (w : Work) (hello : Hello) → Step w (greets w hello)
-    telling : (w : Work) (message : Unnumbered) → Step w (tells w message)
-    closing : (w : Work) → Step w (closes w)
-    noting : (w : Work) (input output : End) → Step w (acts w (Note (Join setup.node setup.port (number_of_channel input.channel) output.port (number_of_channel output.channel))))
+    greeting : (w : Work) (hello : Hello) → StepOn w (greets w hello)
+    telling : (w : Work) (message : Unnumbered) → IsTold Heard setup w.port message → StepOn w (tells w message)
+    closing : (w : Work) → StepOn w (closes w)
+    noting : (w : Work) (input output : End) → StepOn w (acts w (Note (Join setup.node setup.port (number_of_channel input.channel) output.port (number_of_channel output.channel))))
     -- *The adjacency and the session*
-    turning : (w : Work) (step : sides.Step Peer) → w.halted ≡ false → IsTurn w.port.adjacency step → Step w (steps setup w step)
-    heard : (w : Work) → Step w (record w { port = record w.port { adjacency = record w.port.adjacency { silence = 0 } } })
-    minding : (w : Work) (change : Session → Session) → ((s : Session) → w.port.session ≡ Some s → KeepsSession s (change s)) → Step w (with_session w change)
+    turning : (w : Work) (step : sides.Step Peer) → w.halted ≡ false → IsTurn w.port.adjacency step → StepOn w (steps setup w step)
+    heard : (w : Work) → StepOn w (record w { port = record w.port { adjacency = record w.port.adjacency { silence = 0 } } })
+    minding : (w : Work) (change : Session → Session) → ((s : Session) → w.port.session ≡ Some s → KeepsSession s (change s)) → StepOn w (with_session w change)
     -- *Labels*
-    relabelling : (w : Work) (before after : Label) → label_at w.port after.number ≡ Some before → KeepsLabel before after → Step w (with_label w after)
+    relabelling : (w : Work) (before after : Label) → label_at w.port after.number ≡ Some before → KeepsLabel before after → StepOn w (with_label w after)
     wiring : (w : Work) (s : Session) (flow : FlowId) (number : ℕ) → w.port.session ≡ Some s → is_spare s.labels number ≡ true → is_in_range setup number ≡ true
-        → has_room desk w ≡ true → Step w (wires setup w flow (Some number))
+        → has_room desk w ≡ true → IsFlow flow → StepOn w (wires setup w flow (Some number))
     binding : (w : Work) (label : Label) → label_at w.port label.number ≡ Some label → label.state ≡ Wiring
-        → Step w (acts (with_label w (record label { state = Offered })) (Note (Bind setup.node setup.port label.number label.flow)))
+        → StepOn w (acts (with_label w (record label { state = Offered })) (Note (Bind setup.node setup.port label.number label.flow)))
     quitting : (w : Work) (label : Label) (last : ℕ) → label_at w.port label.number ≡ Some label → label.state ≡ Recalled last true
-        → Step w (acts (with_label w (record label { state = Wired })) (CutChain label.number))
-    unwiring : (w : Work) (number : ℕ) (label : Label) → label_at w.port number ≡ Some label → Step w (unwires setup desk w number)
-    freeing : (w : Work) (label : Label) → label_at w.port label.number ≡ Some label → label.state ≡ Wired
-        → Step w (acts (without_label w label.number) (Note (Free setup.node setup.port label.number)))
+        → StepOn w (acts (with_label w (record label { state = Wired })) (CutChain label.number))
+    unwiring : (w : Work) (number : ℕ) (label : Label) → label_at w.port number ≡ Some label → StepOn w (unwires setup desk w number)
+    freeing : (w : Work) (label : Label) → label_at w.port label.number ≡ Some label → label.state ≡ Wired → Frees
+        → StepOn w (acts (without_label w label.number) (Note (Free setup.node setup.port label.number)))
     -- *Grants*
-    accepting : (w : Work) → Step w (accepts w)
+    accepting : (w : Work) → StepOn w (accepts w)
     granting : (w : Work) (s : Session) (label : ℕ) (flow : FlowId) (lifetime : ℕ) → w.port.session ≡ Some s → is_in_range setup label ≡ true
-        → at grant_label label w.port.grants ≡ None → length w.port.grants < most_grants → 1 ≤ lifetime → has_room desk w ≡ true
-        → Step w (grants_label setup w label flow lifetime)
+        → at grant_label label w.port.grants ≡ None → length w.port.grants < most_grants → 1 ≤ lifetime → has_room desk w ≡ true → IsFlow flow
+        → StepOn w (grants_label setup w label flow lifetime)
     regranting : (w : Work) (before after : Grant) → at grant_label after.label w.port.grants ≡ Some before → KeepsGrant before after → MayOwe w.port before
-        → Step w (with_grant w after)
-    starting : (w : Work) (grant : Grant) → at grant_label grant.label w.port.grants ≡ Some grant → grant.state ≡ Idle → Step w (with_grant w (record grant { state = ByController }))
-    ending : (w : Work) (grant : Grant) → at grant_label grant.label w.port.grants ≡ Some grant → input_of grant.state ≡ None → Step w (without_grant w grant.label)
+        → StepOn w (with_grant w after)
+    starting : (w : Work) (grant : Grant) → at grant_label grant.label w.port.grants ≡ Some grant → grant.state ≡ Idle → StepOn w (with_grant w (record grant { state = ByController }))
+    ending : (w : Work) (grant : Grant) → at grant_label grant.label w.port.grants ≡ Some grant → input_of grant.state ≡ None → StepOn w (without_grant w grant.label)
     -- *Joins*
-    taking_back : (w : Work) (input output : End) → IsJoined setup w.port input output → Step w (acts w (TakeBack input output))
+    taking_back : (w : Work) (input output : End) → IsJoined setup w.port input output → StepOn w (acts w (TakeBack input output))
 
   -- any number of steps
-  pub data Goes : Work → Work → Type 0 where
-    stays : (w : Work) → Goes w w
-    steps_to : {v w : Work} → Step v w → Goes v w
-    further : {u v w : Work} → Goes u v → Goes v w → Goes u w
+  pub data GoesOn : Work → Work → Type 0 where
+    stays : (w : Work) → GoesOn w w
+    steps_to : {v w : Work} → StepOn v w → GoesOn v w
+    further : {u v w : Work} → GoesOn u v → GoesOn v w → GoesOn u w
 
   -- what each step keeps
-  pub goes_keeps : (P : Work → Type 0) → ((v w : Work) → Step v w → P v → P w) → {v w : Work} → Goes v w → P v → P w
-  goes_keeps P each (stays w) p = p
-  goes_keeps P each (steps_to {v = a} {w = b} s) p = each a b s p
-  goes_keeps P each (further g h) p = goes_keeps P each h (goes_keeps P each g p)
+  pub goes_on_keeps : (P : Work → Type 0) → ((v w : Work) → StepOn v w → P v → P w) → {v w : Work} → GoesOn v w → P v → P w
+  goes_on_keeps P each (stays w) p = p
+  goes_on_keeps P each (steps_to {v = a} {w = b} s) p = each a b s p
+  goes_on_keeps P each (further g h) p = goes_on_keeps P each h (goes_on_keeps P each g p)
+
+-- of a port that heard of any channel, and may free a label
+abbrev pub Step : Setup → Desk → Work → Work → Type 0
+Step setup desk = StepOn AnyChannel (Unit {0}) setup desk
+
+abbrev pub Goes : Setup → Desk → Work → Work → Type 0
+Goes setup desk = GoesOn AnyChannel (Unit {0}) setup desk
+
+pub goes_keeps : (setup : Setup) (desk : Desk) (P : Work → Type 0) → ((v w : Work) → Step setup desk v w → P v → P w) → {v w : Work} → Goes setup desk v w → P v → P w
+goes_keeps setup desk P each goes p = goes_on_keeps AnyChannel (Unit {0}) setup desk P each goes p

@@ -21,6 +21,7 @@ pub record IsTurned {P : Type 0} (before : Side P) (step : Step P) : Type 0 wher
   pub before_entry : is_open step.answer ≡ true → is_estab before.state ≡ false
   pub stayed : is_open step.answer ≡ false → is_estab step.side.state ≡ is_estab before.state
   pub clearing : before.state ≡ Clearing → step.side.state ≡ Clearing
+  pub again : step.side.state ≡ Clearing → before.state ≡ Clearing
 
 module _ {P : Type 0} (a : Side P) (m : Heard P) where
   abbrev in_state : State → Side P
@@ -30,34 +31,34 @@ module _ {P : Type 0} (a : Side P) (m : Heard P) where
   Follows state kind meant known r = IsSide (in_state state) → IsTurned (in_state state) (followed (in_state state) m r)
 
   quiet : (state : State) (kind : HelloKind) (meant known : Bool) → Follows state kind meant known (stays state Silent)
-  quiet Clearing kind meant known h = record { side = record { peer = h.peer; silence = h.silence }; entered = λ e. absurd (cc e); before_entry = λ e. refl; stayed = λ e. refl; clearing = λ e. refl }
-  quiet SynSent kind meant known h = record { side = record { peer = h.peer; silence = h.silence }; entered = λ e. absurd (cc e); before_entry = λ e. refl; stayed = λ e. refl; clearing = λ e. absurd (cc e) }
-  quiet SynRcvd kind meant known h = record { side = record { peer = h.peer; silence = h.silence }; entered = λ e. absurd (cc e); before_entry = λ e. refl; stayed = λ e. refl; clearing = λ e. absurd (cc e) }
-  quiet Estab kind meant known h = record { side = record { peer = h.peer; silence = h.silence }; entered = λ e. absurd (cc e); before_entry = λ e. absurd (cc e); stayed = λ e. refl; clearing = λ e. absurd (cc e) }
+  quiet Clearing kind meant known h = record { side = record { peer = h.peer; silence = h.silence }; entered = λ e. absurd (cc e); before_entry = λ e. refl; stayed = λ e. refl; clearing = λ e. refl; again = λ e. refl }
+  quiet SynSent kind meant known h = record { side = record { peer = h.peer; silence = h.silence }; entered = λ e. absurd (cc e); before_entry = λ e. refl; stayed = λ e. refl; clearing = λ e. absurd (cc e); again = λ e. absurd (cc e) }
+  quiet SynRcvd kind meant known h = record { side = record { peer = h.peer; silence = h.silence }; entered = λ e. absurd (cc e); before_entry = λ e. refl; stayed = λ e. refl; clearing = λ e. absurd (cc e); again = λ e. absurd (cc e) }
+  quiet Estab kind meant known h = record { side = record { peer = h.peer; silence = h.silence }; entered = λ e. absurd (cc e); before_entry = λ e. absurd (cc e); stayed = λ e. refl; clearing = λ e. absurd (cc e); again = λ e. absurd (cc e) }
 
   says_stays : (state : State) (kind answer : HelloKind) (meant known : Bool) → Follows state kind meant known (stays state (Says answer))
-  says_stays Clearing kind answer meant known h = record { side = record { peer = h.peer; silence = h.silence }; entered = λ e. absurd (cc e); before_entry = λ e. refl; stayed = λ e. refl; clearing = λ e. refl }
-  says_stays SynSent kind answer meant known h = record { side = record { peer = h.peer; silence = h.silence }; entered = λ e. absurd (cc e); before_entry = λ e. refl; stayed = λ e. refl; clearing = λ e. absurd (cc e) }
-  says_stays SynRcvd kind answer meant known h = record { side = record { peer = h.peer; silence = h.silence }; entered = λ e. absurd (cc e); before_entry = λ e. refl; stayed = λ e. refl; clearing = λ e. absurd (cc e) }
-  says_stays Estab kind answer meant known h = record { side = record { peer = h.peer; silence = h.silence }; entered = λ e. absurd (cc e); before_entry = λ e. absurd (cc e); stayed = λ e. refl; clearing = λ e. absurd (cc e) }
+  says_stays Clearing kind answer meant known h = record { side = record { peer = h.peer; silence = h.silence }; entered = λ e. absurd (cc e); before_entry = λ e. refl; stayed = λ e. refl; clearing = λ e. refl; again = λ e. refl }
+  says_stays SynSent kind answer meant known h = record { side = record { peer = h.peer; silence = h.silence }; entered = λ e. absurd (cc e); before_entry = λ e. refl; stayed = λ e. refl; clearing = λ e. absurd (cc e); again = λ e. absurd (cc e) }
+  says_stays SynRcvd kind answer meant known h = record { side = record { peer = h.peer; silence = h.silence }; entered = λ e. absurd (cc e); before_entry = λ e. refl; stayed = λ e. refl; clearing = λ e. absurd (cc e); again = λ e. absurd (cc e) }
+  says_stays Estab kind answer meant known h = record { side = record { peer = h.peer; silence = h.silence }; entered = λ e. absurd (cc e); before_entry = λ e. absurd (cc e); stayed = λ e. refl; clearing = λ e. absurd (cc e); again = λ e. absurd (cc e) }
 
   resets_stays : (state : State) (kind : HelloKind) (meant known : Bool) → Follows state kind meant known (stays state Resets)
-  resets_stays Clearing kind meant known h = record { side = record { peer = h.peer; silence = h.silence }; entered = λ e. absurd (cc e); before_entry = λ e. refl; stayed = λ e. refl; clearing = λ e. refl }
-  resets_stays SynSent kind meant known h = record { side = record { peer = h.peer; silence = h.silence }; entered = λ e. absurd (cc e); before_entry = λ e. refl; stayed = λ e. refl; clearing = λ e. absurd (cc e) }
-  resets_stays SynRcvd kind meant known h = record { side = record { peer = h.peer; silence = h.silence }; entered = λ e. absurd (cc e); before_entry = λ e. refl; stayed = λ e. refl; clearing = λ e. absurd (cc e) }
-  resets_stays Estab kind meant known h = record { side = record { peer = h.peer; silence = h.silence }; entered = λ e. absurd (cc e); before_entry = λ e. absurd (cc e); stayed = λ e. refl; clearing = λ e. absurd (cc e) }
+  resets_stays Clearing kind meant known h = record { side = record { peer = h.peer; silence = h.silence }; entered = λ e. absurd (cc e); before_entry = λ e. refl; stayed = λ e. refl; clearing = λ e. refl; again = λ e. refl }
+  resets_stays SynSent kind meant known h = record { side = record { peer = h.peer; silence = h.silence }; entered = λ e. absurd (cc e); before_entry = λ e. refl; stayed = λ e. refl; clearing = λ e. absurd (cc e); again = λ e. absurd (cc e) }
+  resets_stays SynRcvd kind meant known h = record { side = record { peer = h.peer; silence = h.silence }; entered = λ e. absurd (cc e); before_entry = λ e. refl; stayed = λ e. refl; clearing = λ e. absurd (cc e); again = λ e. absurd (cc e) }
+  resets_stays Estab kind meant known h = record { side = record { peer = h.peer; silence = h.silence }; entered = λ e. absurd (cc e); before_entry = λ e. absurd (cc e); stayed = λ e. refl; clearing = λ e. absurd (cc e); again = λ e. absurd (cc e) }
 
   rows : Rows Follows
   rows = record {
     quiet = quiet;
     denies = λ state kind meant known. says_stays state kind Rstack meant known;
     confirms = λ kind meant known. says_stays Estab kind Ack meant known;
-    stores_first = λ meant known h. record { side = record { peer = refl; silence = h.silence }; entered = λ e. absurd (cc e); before_entry = λ e. refl; stayed = λ e. refl; clearing = λ e. absurd (cc e) };
-    stores_next = λ meant known h. record { side = record { peer = refl; silence = h.silence }; entered = λ e. absurd (cc e); before_entry = λ e. refl; stayed = λ e. refl; clearing = λ e. absurd (cc e) };
-    enters_first = λ known h. record { side = record { peer = refl; silence = omega arith }; entered = λ e. refl; before_entry = λ e. refl; stayed = λ e. absurd (cc e); clearing = λ e. absurd (cc e) };
-    enters_next = λ known h. record { side = record { peer = refl; silence = omega arith }; entered = λ e. refl; before_entry = λ e. refl; stayed = λ e. absurd (cc e); clearing = λ e. absurd (cc e) };
-    enters_confirmed = λ h. record { side = record { peer = h.peer; silence = omega arith }; entered = λ e. refl; before_entry = λ e. refl; stayed = λ e. absurd (cc e); clearing = λ e. absurd (cc e) };
-    hears_good = λ h. record { side = record { peer = h.peer; silence = omega arith }; entered = λ e. refl; before_entry = λ e. absurd (cc e); stayed = λ e. refl; clearing = λ e. absurd (cc e) };
+    stores_first = λ meant known h. record { side = record { peer = refl; silence = h.silence }; entered = λ e. absurd (cc e); before_entry = λ e. refl; stayed = λ e. refl; clearing = λ e. absurd (cc e); again = λ e. absurd (cc e) };
+    stores_next = λ meant known h. record { side = record { peer = refl; silence = h.silence }; entered = λ e. absurd (cc e); before_entry = λ e. refl; stayed = λ e. refl; clearing = λ e. absurd (cc e); again = λ e. absurd (cc e) };
+    enters_first = λ known h. record { side = record { peer = refl; silence = omega arith }; entered = λ e. refl; before_entry = λ e. refl; stayed = λ e. absurd (cc e); clearing = λ e. absurd (cc e); again = λ e. absurd (cc e) };
+    enters_next = λ known h. record { side = record { peer = refl; silence = omega arith }; entered = λ e. refl; before_entry = λ e. refl; stayed = λ e. absurd (cc e); clearing = λ e. absurd (cc e); again = λ e. absurd (cc e) };
+    enters_confirmed = λ h. record { side = record { peer = h.peer; silence = omega arith }; entered = λ e. refl; before_entry = λ e. refl; stayed = λ e. absurd (cc e); clearing = λ e. absurd (cc e); again = λ e. absurd (cc e) };
+    hears_good = λ h. record { side = record { peer = h.peer; silence = omega arith }; entered = λ e. refl; before_entry = λ e. absurd (cc e); stayed = λ e. refl; clearing = λ e. absurd (cc e); again = λ e. absurd (cc e) };
     resets = resets_stays;
   }
 
@@ -68,13 +69,13 @@ module _ {P : Type 0} (a : Side P) (m : Heard P) where
 module _ {P : Type 0} where
   aged : (own : P) (stored : Option P) (silence : ℕ) (state : State) → IsSide (record { state = state; own = own; stored = stored; silence = silence })
       → IsTurned (record { state = state; own = own; stored = stored; silence = silence }) (ticked (record { state = state; own = own; stored = stored; silence = silence }))
-  aged own stored silence Clearing h = record { side = record { peer = h.peer; silence = h.silence }; entered = λ e. absurd (cc e); before_entry = λ e. refl; stayed = λ e. refl; clearing = λ e. refl }
-  aged own stored silence SynSent h = record { side = record { peer = h.peer; silence = h.silence }; entered = λ e. absurd (cc e); before_entry = λ e. refl; stayed = λ e. refl; clearing = λ e. absurd (cc e) }
-  aged own stored silence SynRcvd h = record { side = record { peer = h.peer; silence = h.silence }; entered = λ e. absurd (cc e); before_entry = λ e. refl; stayed = λ e. refl; clearing = λ e. absurd (cc e) }
+  aged own stored silence Clearing h = record { side = record { peer = h.peer; silence = h.silence }; entered = λ e. absurd (cc e); before_entry = λ e. refl; stayed = λ e. refl; clearing = λ e. refl; again = λ e. refl }
+  aged own stored silence SynSent h = record { side = record { peer = h.peer; silence = h.silence }; entered = λ e. absurd (cc e); before_entry = λ e. refl; stayed = λ e. refl; clearing = λ e. absurd (cc e); again = λ e. absurd (cc e) }
+  aged own stored silence SynRcvd h = record { side = record { peer = h.peer; silence = h.silence }; entered = λ e. absurd (cc e); before_entry = λ e. refl; stayed = λ e. refl; clearing = λ e. absurd (cc e); again = λ e. absurd (cc e) }
   aged own stored silence Estab h = elim (nat_lt silence_limit (silence + 1)) as (λ t. nat_lt silence_limit (silence + 1) ≡ t
       → IsTurned (record { state = Estab; own = own; stored = stored; silence = silence }) (followed_tick (record { state = Estab; own = own; stored = stored; silence = silence }) (if t then Resets else Says Ack))) [
-        | true ↦ λ t. record { side = record { peer = h.peer; silence = h.silence }; entered = λ e. absurd (cc e); before_entry = λ e. absurd (cc e); stayed = λ e. refl; clearing = λ e. absurd (cc e) }
-        | false ↦ λ t. record { side = record { peer = h.peer; silence = grind (arith, nat_tests) }; entered = λ e. absurd (cc e); before_entry = λ e. absurd (cc e); stayed = λ e. refl; clearing = λ e. absurd (cc e) }
+        | true ↦ λ t. record { side = record { peer = h.peer; silence = h.silence }; entered = λ e. absurd (cc e); before_entry = λ e. absurd (cc e); stayed = λ e. refl; clearing = λ e. absurd (cc e); again = λ e. absurd (cc e) }
+        | false ↦ λ t. record { side = record { peer = h.peer; silence = grind (arith, nat_tests) }; entered = λ e. absurd (cc e); before_entry = λ e. absurd (cc e); stayed = λ e. refl; clearing = λ e. absurd (cc e); again = λ e. absurd (cc e) }
       ] refl
 
   pub ticked_turns : (a : Side P) → IsSide a → IsTurned a (ticked a)

@@ -21,8 +21,8 @@ use Rattle.keyed_lists.specs.Keyed.{at}
 use Rattle.desk_model.specs.Desk.{Desk}
 use Rattle.gsmp_wire.specs.declared.request.Request.TheVariants.{DeleteAll}
 use Rattle.port_model.specs.declared.action.Action.{Action}
-use Rattle.port_model.specs.declared.action.Action.TheVariants.{Ask, CutChain, Withdraw}
-use Rattle.port_model.specs.Setup.{Setup, is_in_range, label_numbers, control_end}
+use Rattle.port_model.specs.declared.action.Action.TheVariants.{Ask, CutChain}
+use Rattle.port_model.specs.Setup.{Setup, is_in_range}
 use Rattle.port_model.specs.Labels.{Label, label_number}
 use Rattle.port_model.specs.Grants.{Grant, GrantState, Idle, ByController, ByInput, Leaving, grant_label, grant_on, acceptance}
 use Rattle.port_model.specs.Counts.{moved}

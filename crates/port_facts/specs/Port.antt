@@ -2,17 +2,21 @@
 
 use Rattle.std.specs.Prelude.{◌≡◌, ◌≢◌, ℕ, ◌≤◌, ◌<◌, true, false, List, [], length, None, Some, is_some, ◌⊎◌}
 use Rattle.net_types.specs.declared.node.PortNo.{PortNo}
+use Rattle.net_types.specs.declared.channel.Channel.{Channel}
 use Rattle.net_types.specs.declared.channel.End.{End}
+use Rattle.net_types.specs.Label.{is_label_number}
+use Rattle.flow_ids.specs.Flow.{IsFlow}
+use Rattle.ifmp_wire.specs.Message.{InRange}
 use Rattle.gsmp_wire.specs.declared.request.Request.{Request}
 use Rattle.gsmp_wire.specs.declared.request.Request.TheVariants.{AddBranch, MoveBranch, DeleteTree, DeleteAll, AllPorts}
 use Rattle.adjacency_table.specs.declared.State.TheVariants.{Clearing}
 use Rattle.adjacency_table.specs.Side.{IsSide, is_estab}
 use Rattle.ifmp_wire.specs.declared.message.Message.{Message}
-use Rattle.ifmp_wire.specs.declared.message.Message.TheVariants.{Redirect}
+use Rattle.ifmp_wire.specs.declared.message.Message.TheVariants.{Redirect, Reclaim}
 use Rattle.ordered_lists.specs.Ordered.{Every, InOrder}
 use Rattle.keyed_lists.specs.Keyed.{at}
 use Rattle.port_model.specs.declared.action.Action.{Action}
-use Rattle.port_model.specs.declared.action.Action.TheVariants.{Ask, TakeBack}
+use Rattle.port_model.specs.declared.action.Action.TheVariants.{Say, Ask, TakeBack}
 use Rattle.port_model.specs.Setup.{Setup, is_in_range, label_end, home_of}
 use Rattle.port_model.specs.Labels.{Label, Wiring, label_number}
 use Rattle.port_model.specs.Grants.{Grant, GrantState, Leaving, input_of, is_leaving, most_grants}
@@ -98,16 +102,45 @@ pub data IsShaped (setups : List Setup) : Request → Type 0 where
       → IsShaped setups (MoveBranch input output (home_of input))
   frees_label : (end : End) → IsLabelEnd setups end → IsShaped setups (DeleteTree end)
 
--- what a port asks
+-- what a port asks: it moves no branch, but by a join that it takes back
+abbrev pub MovesNone : Request → Type 0
+MovesNone (MoveBranch input from to) = ⊥
+MovesNone request = Unit {0}
+
 abbrev pub IsAction : List Setup → Action → Type 0
-IsAction setups (Ask request needed) = IsShaped setups request
+IsAction setups (Ask request needed) = IsShaped setups request × MovesNone request
 IsAction setups (TakeBack input output) = IsLabelEnd setups input × IsLabelEnd setups output
 IsAction setups action = Unit {0}
 
--- *A message* that is heard: a REDIRECT has a lifetime
+-- *A message* that is heard, and may name these channels: a REDIRECT has a lifetime, and a flow is one that
+-- packets can have
+abbrev pub IsHeard : (Channel → Type 0) → Message → Type 0
+IsHeard Heard (Redirect sender peer number lifetime channel flow) = (1 ≤ lifetime) × Heard channel × IsFlow flow
+IsHeard Heard (Reclaim sender peer number channel flow) = Heard channel × IsFlow flow
+IsHeard Heard message = Unit {0}
+
+abbrev pub AnyChannel : Channel → Type 0
+AnyChannel channel = Unit {0}
+
 abbrev pub Lives : Message → Type 0
-Lives (Redirect sender peer number lifetime channel flow) = 1 ≤ lifetime
-Lives message = Unit {0}
+Lives message = IsHeard AnyChannel message
+
+-- *Flows*: those of labels and grants are flows that packets can have
+pub record HasFlows (port : Port) : Type 0 where
+  pub labels : Every (λ (label : Label). IsFlow label.flow) (labels_of port)
+  pub grants : Every (λ (grant : Grant). IsFlow grant.flow) port.grants
+
+-- *What is said* is in the range of IFMP's messages
+abbrev pub IsSayable : Action → Type 0
+IsSayable (Say message) = InRange message
+IsSayable action = Unit {0}
+
+-- what a port is opened with: a lifetime, and a range of labels that isn't empty
+pub record IsRanged (setup : Setup) : Type 0 where
+  pub lifetime : 1 ≤ setup.timers.lifetime
+  pub least : is_label_number setup.least ≡ true
+  pub greatest : is_label_number setup.greatest ≡ true
+  pub order : setup.least ≤ setup.greatest
 
 -- *A port at work*
 pub record IsWork (setups : List Setup) (setup : Setup) (w : Work) : Type 0 where

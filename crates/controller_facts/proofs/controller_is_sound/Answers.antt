@@ -2,6 +2,8 @@
 
 use Rattle.controller_facts.proofs.Laws.{always_side, always_ports, always_requests, always_desk, always_shut, numbers_never_fall, draws_few_instances, draws_few_marks}
 use Rattle.controller_facts.proofs.Refusals.{refused_is_recorded}
+use Rattle.controller_facts.proofs.Conditions.{always_moves, always_granted}
+use Rattle.controller_facts.proofs.Flows.{always_flowing, says_in_range}
 use Rattle.controller_facts.proofs.controller_is_sound.Goals as goal
 
 pub returns : goal.returns
@@ -15,4 +17,8 @@ returns c = record {
   instances = draws_few_instances;
   marks = draws_few_marks;
   refused = refused_is_recorded;
+  moves = always_moves;
+  joins = always_granted;
+  flows = always_flowing;
+  says = says_in_range;
 }
