@@ -1,0 +1,68 @@
+-- what is said alone keeps requests and joins in order, and the desk
+
+use Rattle.std.proofs.Common.{◌≡◌, ℕ, List, [], ◌∷◌, length, refl, ◌∙◌, fold}
+use Rattle.std.specs.Prelude.{nat_le}
+use Rattle.net_types.specs.declared.node.PortNo.{PortNo}
+use Rattle.net_types.specs.declared.channel.Channel.{Channel}
+use Rattle.net_types.specs.declared.number.Mark.{Mark}
+use Rattle.net_types.specs.Number.{next_control, with_control}
+use Rattle.ifmp_wire.specs.Message.{octets_of as ifmp_octets}
+use Rattle.ipv4_packet.specs.Packet.{ifmp_packet_of}
+use Rattle.flow_encaps.specs.Default.{default_payload}
+use Rattle.link_model.specs.declared.record.Record.TheVariants.{Loss}
+use Rattle.link_model.specs.declared.record.Cause.TheVariants.{PoolFull}
+use Rattle.link_model.specs.Notes.{noted}
+use Rattle.frame_model.specs.Sending.{Sent}
+use Rattle.frame_model.specs.Frame.{frame_cells, made}
+use Rattle.adjacency_table.specs.Side.{is_estab}
+use Rattle.ordered_lists.specs.Ordered.{Every}
+use Rattle.port_model.specs.declared.action.Action.{Action}
+use Rattle.port_model.specs.declared.action.Action.TheVariants as actions
+use Rattle.port_model.specs.declared.action.Action.TheVariants.{Say, Ask, Note, CutChain, TakeBack, Withdraw}
+use Rattle.port_model.specs.Setup.{Setup}
+use Rattle.port_facts.proofs.Keyed.{on_both}
+use Rattle.controller_model.specs.Controller.{Controller, Acted, free_slots, default_home}
+use Rattle.controller_model.specs.Sending.{with_cells, sends}
+use Rattle.controller_model.specs.Performing.{performs, performs_in_estab}
+use Rattle.controller_law.proofs.Holding.{Holds, sends_control_holds}
+
+-- *Saying* alone
+abbrev pub IsSay : Action → Type 0
+IsSay (Say message) = Unit {0}
+IsSay action = ⊥
+
+module _ (setups : List Setup) where
+  say_holds : (port : PortNo) (b : Acted) (x : Action) → IsSay x → Holds setups b → Holds setups (performs port b x)
+  say_holds port b (Say message) is h = sends_control_holds setups b (default_home port).channel (default_payload (ifmp_packet_of b.controller.address (ifmp_octets message))) h
+  say_holds port b (Ask request needed) is h = absurd is
+  say_holds port b (Note item) is h = absurd is
+  say_holds port b (CutChain label) is h = absurd is
+  say_holds port b (TakeBack input output) is h = absurd is
+  say_holds port b (Withdraw input) is h = absurd is
+  say_holds port b actions.Reset is h = absurd is
+
+  pub says_hold : (port : PortNo) (xs : List Action) (b : Acted) → Every IsSay xs → Holds setups b → Holds setups (fold (performs_in_estab port) b xs)
+  says_hold port [] b all h = h
+  says_hold port (x ∷ xs) b all h = says_hold port xs (performs_in_estab port b x) all.1 (on_both (Holds setups) (is_estab b.controller.adjacency.state) (performs port b x) b (say_holds port b x all.0 h) h)
+
+  -- *The desk stays*
+  abbrev pub SameDesk : Acted → Acted → Type 0
+  SameDesk a b = b.controller.desk ≡ a.controller.desk
+
+  pub sent_desk : (b : Acted) (channel : Channel) (mark : Mark) (payload : List ℕ) → SameDesk b (sends b channel mark payload)
+  sent_desk b channel mark payload = on_both (λ (x : Sent Controller). x.queues.desk ≡ b.controller.desk) (nat_le (length (frame_cells channel mark payload)) (free_slots b.controller))
+      (record { queues = with_cells b.controller (frame_cells channel mark payload); notes = made b.notes mark payload })
+      (record { queues = b.controller; notes = noted (made b.notes mark payload) (Loss mark PoolFull) }) refl refl
+
+  say_desk : (port : PortNo) (b : Acted) (x : Action) → IsSay x → SameDesk b (performs port b x)
+  say_desk port b (Say message) is = sent_desk (record b { numbers = with_control b.numbers }) (default_home port).channel (next_control b.numbers) (default_payload (ifmp_packet_of b.controller.address (ifmp_octets message)))
+  say_desk port b (Ask request needed) is = absurd is
+  say_desk port b (Note item) is = absurd is
+  say_desk port b (CutChain label) is = absurd is
+  say_desk port b (TakeBack input output) is = absurd is
+  say_desk port b (Withdraw input) is = absurd is
+  say_desk port b actions.Reset is = absurd is
+
+  pub says_desk : (port : PortNo) (xs : List Action) (b : Acted) → Every IsSay xs → SameDesk b (fold (performs_in_estab port) b xs)
+  says_desk port [] b all = refl
+  says_desk port (x ∷ xs) b all = says_desk port xs (performs_in_estab port b x) all.1 ∙ on_both (SameDesk b) (is_estab b.controller.adjacency.state) (performs port b x) b (say_desk port b x all.0) refl

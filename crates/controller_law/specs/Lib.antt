@@ -1,0 +1,4 @@
+pub mod Order
+pub mod Match
+pub mod Law
+pub mod Actions
