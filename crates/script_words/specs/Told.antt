@@ -1,0 +1,50 @@
+-- What is read, as the definitions of the language say it
+
+use Rattle.std.specs.Prelude.{ℕ, List, [], ◌∷◌, Option, None, Some, Result, Ok, if◌then◌else◌}
+use Rattle.lab_text.specs.Words.{words, is_blank_text}
+use Rattle.script_model.specs.declared.keyword.Keyword.{Keyword}
+use Rattle.script_model.specs.declared.refusal.LineRefusal.{LineRefusal}
+use Rattle.script_model.specs.Forms as forms
+use Rattle.script_model.specs.Forms.{after}
+use Rattle.script_model.specs.Grammar as grammar
+use Rattle.script_model.specs.Grammar.{said, said_of}
+use Rattle.world_model.specs.Conditions.{HasItsNumbers}
+use Rattle.script_words.specs.declared.said.Side.{Side}
+use Rattle.script_words.specs.declared.said.Side.TheVariants.{FromController, FromPort}
+use Rattle.script_words.specs.declared.said.Said.{Said}
+use Rattle.script_words.specs.declared.said.Said.TheVariants.{Describes, Sends, Carries, Loses, Ticks, TicksAll, TicksSwitch, Restarts, RestartsSwitch, Runs, Forges, Routes}
+
+abbrev pub side_told : Side → forms.Side
+side_told FromController = forms.FromController
+side_told (FromPort port) = forms.FromPort port.0
+
+abbrev pub told : Said → grammar.Said
+told (Describes line) = grammar.Describes line
+told (Sends name octets) = grammar.Sends name.now octets
+told (Carries name side) = grammar.Carries name.now (side_told side)
+told (Loses name side) = grammar.Loses name.now (side_told side)
+told (Ticks name) = grammar.Ticks name.now
+told TicksAll = grammar.TicksAll
+told (TicksSwitch name) = grammar.TicksSwitch name.now
+told (Restarts name) = grammar.Restarts name.now
+told (RestartsSwitch name) = grammar.RestartsSwitch name.now
+told (Runs rounds) = grammar.Runs rounds
+told (Forges name side channel payload) = grammar.Forges name.now (side_told side) channel payload
+told (Routes name prefix next) = grammar.Routes name.now prefix next
+
+-- the numbers of a line of the topology are within their limits
+abbrev pub HasNumbers : Said → Type 0
+HasNumbers (Describes line) = HasItsNumbers line
+HasNumbers said = Unit {0}
+
+-- what is said behind a first word whose lines are the same in every version
+abbrev pub said_alike : Keyword → (words : List (List ℕ)) → Result grammar.Said LineRefusal
+said_alike keyword words = said 1 keyword words
+
+-- what the words of a line say, or none where it is blank
+abbrev pub words_said : (version : ℕ) → List (List ℕ) → Result (Option grammar.Said) LineRefusal
+words_said version [] = Ok None
+words_said version (first ∷ others) = after (λ said. Ok (Some said)) (said_of version first others)
+
+abbrev pub text_said : (version : ℕ) → (text : List ℕ) → Result (Option grammar.Said) LineRefusal
+text_said version text = if is_blank_text (words text) then Ok None else words_said version (words text)

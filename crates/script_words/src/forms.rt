@@ -1,0 +1,208 @@
+//! The forms of words that say one value.
+
+ghost use Rattle.std.specs.Prelude.{◌≡◌, ◌≤◌, ◌<◌, ◌^◌, ◌==◌, length, position, IfSome, IfOk, Ok};
+ghost use Rattle.std.specs.List.{list_all};
+ghost use Rattle.std.specs.Option.{option_map};
+ghost use Rattle.lab_text.specs.Forms.{is_name, is_letter, is_name_octet, number_in, parts, address_of, prefix_of};
+ghost use Rattle.script_model.specs.Forms.{NameWord, NameOrAll, AddressWord, PrefixWord, NumberWord, HexWord, PayloadWord, read};
+ghost use Rattle.world_model.specs.Conditions.{IsPort, IsWithin};
+ghost use Rattle.script_words.specs.Faults.{Reads, ok_as};
+
+use crate::fault::ReadFault;
+use lab_text::{read_hex, read_number};
+use net_types::{Addr, Octets, PortNo, Prefix};
+use script_model::LineRefusal;
+use std::alloc::Global;
+
+/// The most octets of a forged frame's payload.
+const PAYLOAD: usize = 1528;
+
+fn is_letter(octet: u8) -> bool
+    ensures { result ≡ is_letter octet }
+{
+    octet.is_ascii_lowercase()
+}
+
+fn is_name_octet(octet: u8) -> bool
+    ensures { result ≡ is_name_octet octet }
+{
+    is_letter(octet) || octet.is_ascii_digit()
+}
+
+fn are_name_octets(word: &[u8]) -> bool
+    ensures { result ≡ list_all is_name_octet word.now }
+{
+    word.iter().all(|octet| is_name_octet(*octet))
+}
+
+/// Whether `word` is a name: 1 to 16 lower-case letters and digits, a letter first.
+pub fn is_name(word: &[u8]) -> bool
+    ensures { result ≡ is_name word.now }
+{
+    1 <= word.len() && word.len() <= 16 && is_letter(word[0]) && are_name_octets(word)
+}
+
+/// The number that `word` spells in decimal, where it is within these bounds.
+pub fn number_in(word: &[u8], least: u32, greatest: u32) -> Option<u32>
+    ensures number { result ≡ number_in least greatest word.now }
+    ensures within { IfSome result (λ n. IsWithin least greatest n) }
+{
+    match read_number(word) {
+        Some(number) if least <= number && number <= greatest => Some(number),
+        _ => None,
+    }
+}
+
+fn place_of(word: &[u8], sign: u8) -> Option<usize>
+    ensures place { result ≡ position (λ octet. octet == sign) word.now }
+    ensures within { IfSome result (λ place. place < length word.now) }
+{
+    word.iter().position(|octet| *octet == sign)
+}
+
+/// What stands before and behind the first such sign of `word`; `None` where it has none.
+pub fn split_at_sign(word: &[u8], sign: u8) -> Option<(&[u8], &[u8])>
+    ensures { option_map (λ halves. (halves.0.now, halves.1.now)) result ≡ parts sign word.now }
+{
+    match place_of(word, sign) {
+        Some(place) => Some((&word[..place], &word[place + 1..])),
+        None => None,
+    }
+}
+
+fn octet_of(word: &[u8]) -> Option<u8>
+    ensures { result ≡ number_in 0 255 word.now }
+{
+    match number_in(word, 0, 255) {
+        Some(number) => Some(number as u8),
+        None => None,
+    }
+}
+
+/// An address: four numbers 0 to 255 with dots.
+fn address_of(word: &[u8]) -> Option<Addr>
+    ensures { result ≡ address_of word.now }
+{
+    let (first, others) = split_at_sign(word, b'.')?;
+    let first = octet_of(first)?;
+    let (second, others) = split_at_sign(others, b'.')?;
+    let second = octet_of(second)?;
+    let (third, fourth) = split_at_sign(others, b'.')?;
+    let third = octet_of(third)?;
+    let fourth = octet_of(fourth)?;
+    Some(Addr(u32::from_be_bytes([first, second, third, fourth])))
+}
+
+/// A prefix: an address without host bits, a slash and a length of 0 to 32 bits.
+fn prefix_of(word: &[u8]) -> Option<Prefix>
+    ensures { result ≡ prefix_of word.now }
+{
+    let (addr, len) = split_at_sign(word, b'/')?;
+    let addr = address_of(addr)?;
+    let len = number_in(len, 0, 32)?;
+    match Prefix::new(addr, len as u8) {
+        Ok(prefix) => Some(prefix),
+        Err(_) => None,
+    }
+}
+
+/// A name. Refuses `BadName`.
+pub fn read_name(word: &[u8]) -> Result<&[u8], LineRefusal>
+    ensures { ok_as (λ name. name.now) result ≡ read NameWord word.now }
+{
+    if is_name(word) {
+        Ok(word)
+    } else {
+        Err(LineRefusal::BadName)
+    }
+}
+
+/// A name, or `None` of `*`. Refuses `BadName`.
+pub fn read_name_or_all(word: &[u8]) -> Result<Option<&[u8]>, LineRefusal>
+    ensures { ok_as (λ name. option_map (λ found. found.now) name) result ≡ read NameOrAll word.now }
+{
+    if word == "*".as_bytes() {
+        Ok(None)
+    } else if is_name(word) {
+        Ok(Some(word))
+    } else {
+        Err(LineRefusal::BadName)
+    }
+}
+
+/// An IPv4 address. Refuses `BadAddress`.
+pub fn read_address(word: &[u8]) -> Result<Addr, LineRefusal>
+    ensures { result ≡ read AddressWord word.now }
+{
+    match address_of(word) {
+        Some(address) => Ok(address),
+        None => Err(LineRefusal::BadAddress),
+    }
+}
+
+/// An IPv4 prefix. Refuses `BadPrefix`.
+pub fn read_prefix(word: &[u8]) -> Result<Prefix, LineRefusal>
+    ensures { result ≡ read PrefixWord word.now }
+{
+    match prefix_of(word) {
+        Some(prefix) => Ok(prefix),
+        None => Err(LineRefusal::BadPrefix),
+    }
+}
+
+/// A decimal number within these bounds. Refuses `BadNumber`.
+pub fn read_number_in(word: &[u8], least: u32, greatest: u32) -> Result<u32, LineRefusal>
+    ensures number { result ≡ read (NumberWord least greatest) word.now }
+    ensures within { IfOk result (λ n. IsWithin least greatest n) }
+{
+    match number_in(word, least, greatest) {
+        Some(number) => Ok(number),
+        None => Err(LineRefusal::BadNumber),
+    }
+}
+
+/// A port, 1 to 8. Refuses `BadNumber`.
+pub fn read_port(word: &[u8]) -> Result<PortNo, LineRefusal>
+    ensures port { ok_as (λ port. port.0) result ≡ read (NumberWord 1 8) word.now }
+    ensures within { IfOk result (λ port. IsPort port) }
+{
+    let port = read_number_in(word, 1, 8)?;
+    Ok(PortNo(port as u8))
+}
+
+/// A time in ticks, 1 to 65,535. Refuses `BadNumber`.
+pub fn read_time(word: &[u8]) -> Result<u16, LineRefusal>
+    ensures ticks { result ≡ read (NumberWord 1 65535) word.now }
+    ensures within { IfOk result (λ ticks. IsWithin 1 65535 ticks) }
+{
+    let ticks = read_number_in(word, 1, 65_535)?;
+    Ok(ticks as u16)
+}
+
+/// Octets in hexadecimal. Refuses `BadHex`.
+pub fn read_octets(alloc: Global, word: &[u8]) -> Result<Octets, ReadFault>
+    ensures { Reads (λ octets. octets) (read HexWord word.now) result }
+{
+    match read_hex(alloc, word) {
+        Ok(Some(octets)) => Ok(Octets::new(octets)),
+        Ok(None) => Err(ReadFault::Refused(LineRefusal::BadHex)),
+        Err(error) => Err(ReadFault::OutOfMemory(error)),
+    }
+}
+
+/// The payload of a forged frame in hexadecimal, at most 1,528 octets. Refuses `BadHex` and then
+/// `BadLength`.
+pub fn read_payload(alloc: Global, word: &[u8]) -> Result<Octets, ReadFault>
+    ensures { Reads (λ octets. octets) (read PayloadWord word.now) result }
+{
+    match read_hex(alloc, word) {
+        Ok(Some(octets)) => {
+            if octets.len() > PAYLOAD {
+                return Err(ReadFault::Refused(LineRefusal::BadLength));
+            }
+            Ok(Octets::new(octets))
+        }
+        Ok(None) => Err(ReadFault::Refused(LineRefusal::BadHex)),
+        Err(error) => Err(ReadFault::OutOfMemory(error)),
+    }
+}
