@@ -1,0 +1,2 @@
+pub mod OpeningTables
+pub mod Sayings
