@@ -1,0 +1,12 @@
+//! The lines of scripts as they are written.
+#![tactic(auto)]
+
+mod events;
+mod line;
+mod parts;
+mod routes;
+#[cfg(test)]
+mod tests;
+mod topology_lines;
+
+pub use line::write_line;

@@ -1,0 +1,18 @@
+//! The lines of records, both ways: each record that has a line is written as that line and read back
+//! from it, and octets that are no record's line are read as none.
+#![tactic(auto)]
+
+mod conditions;
+mod forms;
+mod kind;
+mod names;
+mod numbers;
+mod read;
+#[cfg(test)]
+mod tests;
+mod words;
+mod write;
+
+pub use conditions::has_line;
+pub use read::read_record;
+pub use write::write_record;
