@@ -1,0 +1,13 @@
+//! The script of a drill, line by line: a row of nodes, packets of four flows from the first to the
+//! last, losses and two restarts. No more than the line that is next is kept.
+#![tactic(auto)]
+
+mod lines;
+mod packet;
+mod place;
+mod steps;
+#[cfg(test)]
+mod tests;
+mod write;
+
+pub use lines::DrillLines;
