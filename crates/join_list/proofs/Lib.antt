@@ -1,0 +1,4 @@
+pub mod Found
+pub mod Ends
+pub mod Standing
+pub mod OnPort
