@@ -1,0 +1,4 @@
+pub mod Sums
+pub mod Sent
+pub mod Zipped
+pub mod Cuts

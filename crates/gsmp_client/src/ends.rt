@@ -1,0 +1,47 @@
+//! The channels of a port, and those of the control link that stand for them.
+
+ghost use Rattle.std.specs.Prelude.{◌≡◌, ◌≤◌, ◌<◌, IsTrue};
+ghost use Rattle.net_types.specs.Label.{is_label_number};
+ghost use Rattle.port_model.specs.Setup.{home_of, label_end};
+ghost use Rattle.controller_model.specs.Controller.{default_end};
+
+use net_types::{Channel, End, PortNo, label_channel, on_control};
+
+/// GSMP's channel on the control link, and the default channel of each link.
+pub const DEFAULT_CHANNEL: Channel = Channel { vpi: 0, vci: 15 };
+
+/// The control port.
+pub const CONTROL_PORT: PortNo = PortNo(0);
+
+/// The default channel of a port.
+pub fn default_end(port: PortNo) -> End
+    ensures { result ≡ default_end port }
+{
+    End {
+        port,
+        channel: DEFAULT_CHANNEL,
+    }
+}
+
+/// The channel of a label of a port.
+pub fn label_end(port: PortNo, number: u16) -> End
+    requires { IsTrue (is_label_number number) }
+    ensures { result ≡ label_end port number }
+{
+    End {
+        port,
+        channel: label_channel(number),
+    }
+}
+
+/// The channel of the control link that stands for a channel of a port.
+pub fn home_of(end: End) -> End
+    requires port { (1 ≤ end.port.0) × (end.port.0 ≤ 8) }
+    requires vpi { end.channel.vpi < 16 }
+    ensures { result ≡ home_of end }
+{
+    End {
+        port: CONTROL_PORT,
+        channel: on_control(end.port, end.channel),
+    }
+}
