@@ -1,0 +1,27 @@
+-- What a call makes of a port's engine
+
+use Rattle.std.specs.Prelude.{◌≡◌, ◌==◌, ℕ, false, List, IsTrue}
+use Rattle.net_types.specs.Label.{is_label_channel}
+use Rattle.gsmp_wire.specs.declared.request.Request.{Request}
+use Rattle.gsmp_wire.specs.declared.request.Request.TheVariants.{MoveBranch}
+use Rattle.port_model.specs.declared.action.Action.{Action}
+use Rattle.port_model.specs.Port.{Port, Work}
+use Rattle.gsmp_client.specs.Client.{PortEnd}
+
+-- a port at work that hasn't asked to be reset
+abbrev pub begun : Port → List Action → (instances : ℕ) → Work
+begun port actions instances = record { port = port; actions = actions; halted = false; instances = instances }
+
+-- a call has done a rule of the port: the engine is at the rule's port, the list is that of the rule's
+-- actions, and so many instances are given out
+pub record HasDone (old new : PortEnd) (list : List Action) (given : ℕ) (w : Work) : Type 0 where
+  pub port : new.port ≡ w.port
+  pub actions : list ≡ w.actions
+  pub instances : given ≡ w.instances
+
+-- a request that is answered moves no branch but those of labels, and moves them to labels alone, or to the
+-- control link
+abbrev pub CanBeDone : Request → Type 0
+CanBeDone (MoveBranch input from to) =
+    IsTrue (is_label_channel input.channel) × ((to.port.0 == 0) ≡ false → IsTrue (is_label_channel to.channel))
+CanBeDone request = Unit {0}

@@ -1,0 +1,5 @@
+pub mod Engine
+pub mod Node
+pub mod Conditions
+pub mod Meeting
+pub mod Packets

@@ -1,0 +1,114 @@
+//! What a router asks of the engine of a port.
+
+use branch_desk::{BranchDone, Desk};
+use flow_ids::FlowId;
+use grant_table::GrantTable;
+use ifmp_wire::Message;
+use net_types::{Addr, Instance, OutOfMemory, PortNo};
+use port_actions::Actions;
+
+/// The engine of a port (RFC 1953): it takes what comes and answers what it asks for in turn. Each call
+/// is a rule of `port_model`.
+pub trait PortEngine {
+    ghost use Rattle.std.specs.Prelude.{◌≡◌, ◌≢◌, ◌+◌, ◌==◌, ℕ, [], length, true, None, OnOk};
+    ghost use Rattle.ifmp_wire.specs.Message.{InRange};
+    ghost use Rattle.ipv4_packet.specs.Packet.{IsPacket};
+    ghost use Rattle.port_model.specs.Answers.{done as answer_done};
+    ghost use Rattle.port_model.specs.Counting.{counts, used};
+    ghost use Rattle.port_model.specs.Hearing.{hears};
+    ghost use Rattle.port_model.specs.Resets.{cleared, resets, restarts};
+    ghost use Rattle.port_model.specs.Saying.{is_spent};
+    ghost use Rattle.port_model.specs.Ticks.{ticks};
+    ghost use Rattle.controller_model.specs.Meeting.{is_clearing};
+    ghost use Rattle.port_state.specs.Engine.{flow_at};
+    ghost use Rattle.gsmp_client.specs.Client.{PortEnd};
+    ghost use Rattle.router.specs.Engine.{CanBeDone, HasDone, begun};
+
+    // What stays the same of the port, and the port.
+    ghost seen: { Self → PortEnd };
+
+    /// Its number.
+    fn port(&self) -> PortNo
+        ensures { result ≡ (seen self.now).setup.port };
+
+    /// A packet has come on the default channel: it is counted, and a long flow gets a label.
+    fn on_packet(
+        &mut self,
+        packet: &[u8],
+        desk: &Desk,
+        out: &mut Actions,
+    ) -> Result<(), OutOfMemory>
+        requires { IsPacket packet.now }
+        ensures setup { (seen self.new).setup ≡ (seen self.old).setup }
+        ensures work { (n : ℕ) → OnOk result (HasDone (seen self.old) (seen self.new) out.new n (counts (seen self.old).setup desk.now (begun (seen self.old).port out.old n) packet.now)) };
+
+    /// A message has come in a packet from `source`.
+    fn on_message(
+        &mut self,
+        source: Addr,
+        message: &Message,
+        desk: &Desk,
+        out: &mut Actions,
+    ) -> Result<(), OutOfMemory>
+        requires { InRange message.now }
+        ensures setup { (seen self.new).setup ≡ (seen self.old).setup }
+        ensures work { (n : ℕ) → OnOk result (HasDone (seen self.old) (seen self.new) out.new n (hears (seen self.old).setup desk.now (begun (seen self.old).port out.old n) source message.now)) };
+
+    /// A tick goes by.
+    fn on_tick(&mut self, desk: &Desk, out: &mut Actions) -> Result<(), OutOfMemory>
+        ensures setup { (seen self.new).setup ≡ (seen self.old).setup }
+        ensures work { (n : ℕ) → OnOk result (HasDone (seen self.old) (seen self.new) out.new n (ticks (seen self.old).setup desk.now (begun (seen self.old).port out.old n))) };
+
+    /// A request on an input of the port is done, or one on the control link whose output is at the port.
+    fn on_done(&mut self, done: &BranchDone, out: &mut Actions) -> Result<(), OutOfMemory>
+        requires { CanBeDone done.now.request }
+        ensures setup { (seen self.new).setup ≡ (seen self.old).setup }
+        ensures work { (n : ℕ) → OnOk result (HasDone (seen self.old) (seen self.new) out.new n (answer_done (seen self.old).setup (begun (seen self.old).port out.old n) done.now.request)) };
+
+    /// The port begins anew in Clearing, under the instance `own`, and asks what follows from it.
+    fn reset(&mut self, own: Instance, out: &mut Actions) -> Result<(), OutOfMemory>
+        ensures setup { (seen self.new).setup ≡ (seen self.old).setup }
+        ensures work { (n : ℕ) → own ≡ record { 0 = n + 1 } → OnOk result (HasDone (seen self.old) (seen self.new) out.new (n + 1) (resets (seen self.old).setup (begun (seen self.old).port out.old n))) };
+
+    /// The port begins anew in Clearing, under the instance `own`, with its controller: its session and
+    /// its grants end, and nothing is asked.
+    fn restart(&mut self, own: Instance, out: &mut Actions) -> Result<(), OutOfMemory>
+        ensures setup { (seen self.new).setup ≡ (seen self.old).setup }
+        ensures work { (n : ℕ) → own ≡ record { 0 = n + 1 } → OnOk result (HasDone (seen self.old) (seen self.new) out.new (n + 1) (restarts (seen self.old).setup (begun (seen self.old).port out.old n))) };
+
+    /// The flow that the label of this number is bound to. None exactly where it isn't bound.
+    fn flow_of(&self, vci: u16) -> Option<FlowId>
+        ensures { result ≡ flow_at (seen self.now).port vci };
+
+    /// A packet has come on the channel of a label that is bound.
+    fn used(&mut self, vci: u16)
+        requires { flow_at (seen self.old).port vci ≢ None }
+        ensures setup { (seen self.new).setup ≡ (seen self.old).setup }
+        ensures port { (n : ℕ) → (seen self.new).port ≡ (used (begun (seen self.old).port [] n) vci).port };
+
+    /// Whether its adjacency is in Clearing.
+    fn is_clearing(&self) -> bool
+        ensures { result ≡ is_clearing (seen self.now).port.adjacency.state };
+
+    /// Whether the numbers of its session are spent.
+    fn is_spent(&self) -> bool
+        ensures { result ≡ is_spent (seen self.now).port.session };
+
+    /// The labels under which it may send.
+    fn grants(&self) -> &GrantTable
+        ensures { result.now.grants ≡ (seen self.now).port.grants };
+
+    /// Whether it has no grant.
+    fn has_no_grant(&self) -> bool
+        ensures { result ≡ (length (seen self.now).port.grants == 0) };
+
+    /// No branch of the switch is left of what its peer knew, and it may greet its peer. It is in
+    /// Clearing.
+    fn cleared(&mut self)
+        requires { is_clearing (seen self.old).port.adjacency.state ≡ true }
+        ensures setup { (seen self.new).setup ≡ (seen self.old).setup }
+        ensures port { (seen self.new).port ≡ cleared (seen self.old).port };
+
+    /// Gives the port up.
+    fn abandon(self);
+}

@@ -1,0 +1,21 @@
+//! A router whose links are the ports of an ATM switch: its routes, its client of GSMP, and an engine of
+//! IFMP for each linked port. What a port at work asks is done here, and a node reset begins all ports
+//! anew. Each call is proved to be a rule of `controller_model`, whatever the engines are that keep the
+//! rules of `port_model`.
+#![tactic(auto)]
+
+mod asking;
+mod clearing;
+mod engine;
+mod greeting;
+mod meeting;
+mod opening;
+mod packets;
+mod performing;
+mod resets;
+mod router;
+mod saying;
+mod working;
+
+pub use engine::PortEngine;
+pub use router::Router;
