@@ -1,10 +1,11 @@
 //! All joins of a controller.
 
-ghost use Rattle.std.specs.Prelude.{◌≡◌, ◌==◌, [], not, false, filter, find, slice_get, OnOk, OnErr};
+ghost use Rattle.std.specs.Prelude.{◌≡◌, ◌==◌, ◌↔◌, [], not, false, filter, find, length, slice_get, IsTrue, OnOk, OnErr};
 ghost use Rattle.std.specs.List.{list_any};
 ghost use Rattle.crossbar_model.specs.Crossbar.{same_end};
 ghost use Rattle.keyed_lists.specs.Keyed.{entered};
 ghost use Rattle.controller_model.specs.Joins.{end_le};
+ghost use Rattle.join_list.specs.Joined.{AreInOrder};
 
 use crate::places::{Joined, first_from, place_of};
 use net_types::{Channel, End, OutOfMemory, PortNo};
@@ -39,6 +40,21 @@ impl Joins {
         }
     }
 
+    /// How many there are.
+    pub fn len(&self) -> usize
+        ensures { result ≡ length self.now }
+    {
+        self.list.len()
+    }
+
+    /// Whether there is none.
+    pub fn is_empty(&self) -> bool
+        ensures empty { IsTrue result ↔ (self.now ≡ []) }
+        ensures order { AreInOrder self.now }
+    {
+        self.list.len() == 0
+    }
+
     /// The one at a place, counted from 0; `None` exactly where there are no more.
     pub fn at(&self, place: usize) -> Option<Joined>
         ensures { result ≡ slice_get self.now place }
@@ -48,7 +64,8 @@ impl Joins {
 
     /// The join of an input; `None` exactly where it isn't joined.
     pub fn of(&self, input: End) -> Option<Joined>
-        ensures { result ≡ find (λ j. same_end j.input input) self.now }
+        ensures found { result ≡ find (λ j. same_end j.input input) self.now }
+        ensures order { AreInOrder self.now }
     {
         match place_of(&self.list, input) {
             Ok(place) => Some(self.list[place]),
@@ -58,7 +75,8 @@ impl Joins {
 
     /// The first join of an input of a port; `None` exactly where none of its inputs is joined.
     pub fn first_on(&self, port: PortNo) -> Option<Joined>
-        ensures { result ≡ find (λ j. j.input.port.0 == port.0) self.now }
+        ensures found { result ≡ find (λ j. j.input.port.0 == port.0) self.now }
+        ensures order { AreInOrder self.now }
     {
         let least = End {
             port,
@@ -96,6 +114,13 @@ impl Joins {
         if let Ok(place) = place_of(&self.list, input) {
             self.list.remove(place);
         }
+    }
+
+    /// Ends all joins.
+    pub fn clear(&mut self)
+        ensures { self.new ≡ [] }
+    {
+        self.list.clear();
     }
 
     /// Ends all joins to the labels of a port.

@@ -6,3 +6,4 @@ pub mod Turns
 pub mod Asked
 pub mod Permits
 pub mod Forwards
+pub mod Joined

@@ -1,11 +1,16 @@
 -- What a call makes of a port's engine
 
-use Rattle.std.specs.Prelude.{◌≡◌, ◌==◌, ℕ, false, List, IsTrue}
+use Rattle.std.specs.Prelude.{◌≡◌, ◌==◌, ℕ, Bool, false, List, None, Some, IsTrue}
+use Rattle.std.specs.Option.{option_map_or}
 use Rattle.net_types.specs.Label.{is_label_channel}
+use Rattle.keyed_lists.specs.Keyed.{at}
+use Rattle.grant_table.specs.Table.{releases}
 use Rattle.gsmp_wire.specs.declared.request.Request.{Request}
 use Rattle.gsmp_wire.specs.declared.request.Request.TheVariants.{MoveBranch}
 use Rattle.port_model.specs.declared.action.Action.{Action}
-use Rattle.port_model.specs.Port.{Port, Work}
+use Rattle.port_model.specs.Labels.{Label, Offered}
+use Rattle.port_model.specs.Grants.{Grant, GrantState, ByController, grant_label, input_of}
+use Rattle.port_model.specs.Port.{Port, Work, label_at}
 use Rattle.gsmp_client.specs.Client.{PortEnd}
 
 -- a port at work that hasn't asked to be reset
@@ -25,3 +30,24 @@ abbrev pub CanBeDone : Request → Type 0
 CanBeDone (MoveBranch input from to) =
     IsTrue (is_label_channel input.channel) × ((to.port.0 == 0) ≡ false → IsTrue (is_label_channel to.channel))
 CanBeDone request = Unit {0}
+
+-- *Joins*: a label that is offered and isn't joined; a grant under which the router sends; one whose input a request
+-- that is answered releases
+pub record IsFree (port : Port) (number : ℕ) : Type 0 where
+  pub label : Label
+  pub held : label_at port number ≡ Some label
+  pub offered : label.state ≡ Offered
+  pub unjoined : label.join ≡ None
+
+pub record IsSentUnder (port : Port) (number : ℕ) : Type 0 where
+  pub grant : Grant
+  pub granted : at grant_label number port.grants ≡ Some grant
+  pub sent : grant.state ≡ ByController
+
+abbrev pub is_released_by : Request → GrantState → Bool
+is_released_by request state = option_map_or (releases request) (input_of state) false
+
+pub record IsReleased (request : Request) (port : Port) (number : ℕ) : Type 0 where
+  pub grant : Grant
+  pub granted : at grant_label number port.grants ≡ Some grant
+  pub released : IsTrue (is_released_by request grant.state)

@@ -1,7 +1,8 @@
 -- What is asked for each port while the switch is met, where the port is up
 
-use Rattle.std.specs.Prelude.{◌≡◌, ◌≤◌, true, false, List, [], ◌∷◌, map, flat_map, Option, None, Some, if◌then◌else◌}
+use Rattle.std.specs.Prelude.{◌≡◌, ◌≤◌, true, false, List, [], ◌∷◌, ◌++◌, map, flat_map, Option, None, Some, if◌then◌else◌}
 use Rattle.net_types.specs.declared.node.PortNo.{PortNo}
+use Rattle.ipv4_forward.specs.declared.change.RouteChange.{RouteChange}
 use Rattle.gsmp_wire.specs.declared.request.Request.{Request}
 use Rattle.gsmp_wire.specs.declared.request.Request.TheVariants.{AddBranch, DeleteAll}
 use Rattle.gsmp_wire.specs.declared.rows.PortRow.{PortRow}
@@ -54,3 +55,10 @@ CanResetSpent a port = (linked : Linked) → linked_at a.controller port ≡ Som
 abbrev pub EachCanResetSpent : Acted → List PortNo → Type 0
 EachCanResetSpent a [] = Unit {0}
 EachCanResetSpent a (port ∷ ports) = CanResetSpent a port × EachCanResetSpent (resets_spent a port) ports
+
+-- *Changes of routes*: the first is begun; one comes
+abbrev pub with_begun : Acted → Acted
+with_begun a = record a { controller = record a.controller { is_begun = true } }
+
+abbrev pub with_change : Acted → RouteChange → Acted
+with_change a change = record a { controller = record a.controller { waiting = a.controller.waiting ++ change ∷ [] } }

@@ -1,9 +1,10 @@
 //! *Asking*: a request is asked under the next transaction number, in Estab alone. Where that would be
 //! the last number, the node is reset.
 
-ghost use Rattle.std.specs.Prelude.{◌≡◌, OnOk};
+ghost use Rattle.std.specs.Prelude.{◌≡◌, ◌<◌, ◌+◌, ◌^◌, true, OnOk};
 ghost use Rattle.adjacency_table.specs.Side.{is_estab};
 ghost use Rattle.controller_model.specs.Asking.{asks, takes_back};
+ghost use Rattle.controller_model.specs.Ticks.{sends_again};
 ghost use Rattle.router.specs.Conditions.{CanAsk, CanTakeBack};
 ghost use Rattle.router.specs.Node.{acted, ports_in};
 
@@ -56,5 +57,21 @@ impl<E: PortEngine> Router<E> {
             to: home_of(input),
         };
         self.ask(request, numbers, notes)
+    }
+
+    /// Sends the first standing requests again, in Estab.
+    pub fn send_again(
+        &mut self,
+        numbers: &mut Numbers,
+        notes: &mut Notes,
+    ) -> Result<(), OutOfMemory>
+        requires { is_estab self.old.client.adjacency.state ≡ true → numbers.old.controls + 32 < 2 ^ 64 }
+        ensures acted { OnOk result (acted E.seen self.new notes.new numbers.new ≡ sends_again (acted E.seen self.old notes.old numbers.old)) }
+        ensures links { self.new.links ≡ self.old.links }
+    {
+        if !self.client.is_estab() {
+            return Ok(());
+        }
+        self.client.send_again(numbers, notes)
     }
 }

@@ -1,13 +1,14 @@
 //! A port is cleared when the switch is met, calls it up and owes no answer, and it has no grant. And a
 //! port whose numbers are spent is reset.
 
-ghost use Rattle.std.specs.Prelude.{◌≡◌, ◌≤◌, ◌&&◌, ◌==◌, length, OnOk};
+ghost use Rattle.std.specs.Prelude.{◌≡◌, ◌≤◌, ◌&&◌, ◌==◌, fold, length, OnOk};
 ghost use Rattle.net_types.specs.Number.{GivenOut};
 ghost use Rattle.link_model.specs.Notes.{Journal};
 ghost use Rattle.desk_model.specs.Messages.{is_up};
+ghost use Rattle.controller_model.specs.Controller.{ports_of};
 ghost use Rattle.controller_model.specs.Joins.{resets_spent};
-ghost use Rattle.controller_model.specs.Meeting.{awaits_nothing, clears_port, is_clearing};
-ghost use Rattle.router.specs.Meeting.{CanResetSpent};
+ghost use Rattle.controller_model.specs.Meeting.{awaits_nothing, clears, clears_port, is_clearing};
+ghost use Rattle.router.specs.Meeting.{CanResetSpent, EachCanResetSpent};
 ghost use Rattle.router.specs.Node.{acted, controller_of, ports_in};
 
 use crate::engine::PortEngine;
@@ -50,6 +51,17 @@ impl<E: PortEngine> Router<E> {
         }
     }
 
+    /// Clears each port that is to be cleared.
+    pub fn clear_ports(&mut self)
+        ensures acted { (notes : Journal) (numbers : GivenOut) → acted E.seen self.new notes numbers ≡ clears (acted E.seen self.old notes numbers) }
+        ensures ports { ports_in E.seen self.new ≡ ports_in E.seen self.old }
+    {
+        for place in 0..self.ports() {
+            let port = self.port_at(place);
+            self.clear_port(port);
+        }
+    }
+
     /// Resets a port whose numbers are spent.
     pub fn reset_spent(
         &mut self,
@@ -71,5 +83,22 @@ impl<E: PortEngine> Router<E> {
             return Ok(());
         }
         self.reset_port(port, numbers, notes)
+    }
+
+    /// Resets each port whose numbers are spent.
+    pub fn reset_all_spent(
+        &mut self,
+        numbers: &mut Numbers,
+        notes: &mut Notes,
+    ) -> Result<(), OutOfMemory>
+        requires { EachCanResetSpent (acted E.seen self.old notes.old numbers.old) (ports_in E.seen self.old) }
+        ensures acted { OnOk result (acted E.seen self.new notes.new numbers.new ≡ fold resets_spent (acted E.seen self.old notes.old numbers.old) (ports_of (controller_of E.seen self.old))) }
+        ensures ports { ports_in E.seen self.new ≡ ports_in E.seen self.old }
+    {
+        for place in 0..self.ports() {
+            let port = self.port_at(place);
+            self.reset_spent(port, numbers, notes)?;
+        }
+        Ok(())
     }
 }

@@ -4,25 +4,32 @@ use branch_desk::{BranchDone, Desk};
 use flow_ids::FlowId;
 use grant_table::GrantTable;
 use ifmp_wire::Message;
-use net_types::{Addr, Instance, OutOfMemory, PortNo};
+use label_book::HeldLabel;
+use net_types::{Addr, End, Instance, OutOfMemory, PortNo};
 use port_actions::Actions;
 
 /// The engine of a port (RFC 1953): it takes what comes and answers what it asks for in turn. Each call
 /// is a rule of `port_model`.
 pub trait PortEngine {
-    ghost use Rattle.std.specs.Prelude.{◌≡◌, ◌≢◌, ◌+◌, ◌==◌, ℕ, [], length, true, None, OnOk};
+    ghost use Rattle.std.specs.Prelude.{◌≡◌, ◌≢◌, ◌+◌, ◌==◌, ℕ, [], length, option_map, slice_get, true, None, Some, IfSome, IsTrue, OnOk};
+    ghost use Rattle.net_types.specs.Label.{is_label_number};
+    ghost use Rattle.keyed_lists.specs.Keyed.{at};
+    ghost use Rattle.label_book.specs.Read.{label_of};
     ghost use Rattle.ifmp_wire.specs.Message.{InRange};
     ghost use Rattle.ipv4_packet.specs.Packet.{IsPacket};
     ghost use Rattle.port_model.specs.Answers.{done as answer_done};
     ghost use Rattle.port_model.specs.Counting.{counts, used};
+    ghost use Rattle.port_model.specs.Grants.{Grant, grant_label};
     ghost use Rattle.port_model.specs.Hearing.{hears};
+    ghost use Rattle.port_model.specs.Joins.{given_back, joined, lent, parted};
+    ghost use Rattle.port_model.specs.Port.{labels_of};
     ghost use Rattle.port_model.specs.Resets.{cleared, resets, restarts};
     ghost use Rattle.port_model.specs.Saying.{is_spent};
     ghost use Rattle.port_model.specs.Ticks.{ticks};
     ghost use Rattle.controller_model.specs.Meeting.{is_clearing};
     ghost use Rattle.port_state.specs.Engine.{flow_at};
     ghost use Rattle.gsmp_client.specs.Client.{PortEnd};
-    ghost use Rattle.router.specs.Engine.{CanBeDone, HasDone, begun};
+    ghost use Rattle.router.specs.Engine.{CanBeDone, HasDone, IsFree, IsReleased, IsSentUnder, begun};
 
     // What stays the same of the port, and the port.
     ghost seen: { Self → PortEnd };
@@ -85,6 +92,40 @@ pub trait PortEngine {
         requires { flow_at (seen self.old).port vci ≢ None }
         ensures setup { (seen self.new).setup ≡ (seen self.old).setup }
         ensures port { (n : ℕ) → (seen self.new).port ≡ (used (begun (seen self.old).port [] n) vci).port };
+
+    /// A label that is offered and isn't joined is joined to an output.
+    fn joined(&mut self, vci: u16, output: End)
+        requires { IsFree (seen self.old).port vci }
+        ensures setup { (seen self.new).setup ≡ (seen self.old).setup }
+        ensures port { (n : ℕ) → (seen self.new).port ≡ (joined (begun (seen self.old).port [] n) vci output).port };
+
+    /// A label, if it is held, isn't joined any more.
+    fn parted(&mut self, vci: u16)
+        ensures setup { (seen self.new).setup ≡ (seen self.old).setup }
+        ensures port { (n : ℕ) → (seen self.new).port ≡ (parted (begun (seen self.old).port [] n) vci).port };
+
+    /// A grant under which the router sends is lent to an input.
+    fn lend(&mut self, vci: u16, input: End)
+        requires { IsSentUnder (seen self.old).port vci }
+        ensures setup { (seen self.new).setup ≡ (seen self.old).setup }
+        ensures port { (n : ℕ) (grant : Grant) → at grant_label vci (seen self.old).port.grants ≡ Some grant → (seen self.new).port ≡ (lent (begun (seen self.old).port [] n) grant input).port };
+
+    /// The input of a lent grant is released: the grant is the router's again, or where it is leaving it
+    /// ends, and its acknowledgement is said if it is owed.
+    fn back(&mut self, vci: u16, done: &BranchDone, out: &mut Actions) -> Result<(), OutOfMemory>
+        requires { IsReleased done.now.request (seen self.old).port vci }
+        ensures setup { (seen self.new).setup ≡ (seen self.old).setup }
+        ensures work { (n : ℕ) (grant : Grant) → at grant_label vci (seen self.old).port.grants ≡ Some grant → OnOk result (HasDone (seen self.old) (seen self.new) out.new n (given_back (begun (seen self.old).port out.old n) grant)) };
+
+    /// The label at a place among those that it holds, the lowest first, counted from 0. None exactly
+    /// where the place is at or above their count.
+    fn held_at(&self, place: usize) -> Option<HeldLabel>
+        ensures label { option_map label_of result ≡ slice_get (labels_of (seen self.now).port) place }
+        ensures number { IfSome result (λ label. IsTrue (is_label_number label.number)) };
+
+    /// How many REDIRECTs it has accepted since its opening, 18,446,744,073,709,551,615 at most.
+    fn redirects(&self) -> u64
+        ensures { result ≡ (seen self.now).port.redirects };
 
     /// Whether its adjacency is in Clearing.
     fn is_clearing(&self) -> bool

@@ -84,6 +84,15 @@ impl<E: PortEngine> Router<E> {
         self.follow(answer, numbers, notes)
     }
 
+    /// A message of the adjacency comes, whose answer is to be followed.
+    pub fn take_greeting(&mut self, greeting: &Greeting) -> Answer
+        ensures acted { (notes : Journal) (numbers : GivenOut) → acted E.seen self.new notes numbers ≡ turned_to (acted E.seen self.old notes numbers) (gsmp_received self.old.client.adjacency greeting.now) }
+        ensures answer { result ≡ gsmp_answer (gsmp_received self.old.client.adjacency greeting.now).answer }
+        ensures links { self.new.links ≡ self.old.links }
+    {
+        self.client.hear(greeting)
+    }
+
     /// A tick goes by for the adjacency.
     pub fn tick_adjacency(&mut self) -> Answer
         ensures acted { (notes : Journal) (numbers : GivenOut) → acted E.seen self.new notes numbers ≡ turned_to (acted E.seen self.old notes numbers) (ticked self.old.client.adjacency) }

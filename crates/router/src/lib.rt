@@ -5,13 +5,16 @@
 #![tactic(auto)]
 
 mod asking;
+mod changing;
 mod clearing;
 mod engine;
 mod greeting;
+mod joining;
 mod meeting;
 mod opening;
 mod packets;
 mod performing;
+mod reading;
 mod resets;
 mod router;
 mod saying;

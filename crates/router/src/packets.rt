@@ -32,6 +32,9 @@ use ipv4_forward::{Hop, hop};
 use link_model::{DropCause, Notes, Record};
 use net_types::{Mark, Numbers, Octets, OutOfMemory, PortNo};
 
+/// The greatest packet, in octets.
+const MAX_PACKET: usize = 1500;
+
 /// A grant under which a packet is sent.
 #[derive(Clone, Copy, Debug)]
 struct Permit {
@@ -240,5 +243,23 @@ impl<E: PortEngine> Router<E> {
                 self.stop(came, hop, packet, notes)
             }
         }
+    }
+
+    /// Forwards a packet that enters here, as it was given, under this number.
+    pub fn enter_packet(
+        &mut self,
+        number: u32,
+        packet: &[u8],
+        notes: &mut Notes,
+    ) -> Result<(), OutOfMemory>
+        requires packet { IsPacket packet.now }
+        requires port { (port : PortNoValue) → hop_of self.old.routes.table packet.now ≡ On port → IsLinkPort port }
+        ensures acted { (numbers : GivenOut) → OnOk result (acted E.seen self.new notes.new numbers ≡ injected (acted E.seen self.old notes.old numbers) number packet.now) }
+        ensures links { self.new.links ≡ self.old.links }
+    {
+        let mut octets = [0; MAX_PACKET];
+        let octets = &mut octets[..packet.len()];
+        octets.copy_from_slice(packet);
+        self.enter(number, octets, notes)
     }
 }

@@ -3,6 +3,7 @@
 ghost use Rattle.std.specs.Prelude.{◌≡◌, ◌<◌, ◌≤◌, [], length, slice_index_or, IfSome, IfNone, None};
 ghost use Rattle.net_types.specs.declared.node.PortNo.{PortNo as PortValue};
 ghost use Rattle.controller_model.specs.Controller.{ports_of};
+ghost use Rattle.crossbar_model.specs.Channels.{ArePorts};
 ghost use Rattle.router.specs.Node.{IsPlaceOf, controller_of, end_at, ports_in};
 
 use crate::engine::PortEngine;
@@ -89,6 +90,7 @@ impl<E: PortEngine> Router<E> {
 
         // What a caller that doesn't open the router needs besides.
         ensures linked { ports_of (controller_of E.seen self.now) ≡ ports_in E.seen self.now }
+        ensures are { ArePorts (ports_in E.seen self.now) }
     {
         self.links.as_slice().len()
     }

@@ -1,5 +1,6 @@
-use Rattle.std.proofs.Common.{length, ap, sym, ◌∙◌}
-use Rattle.router.specs.Node.{Node}
+use Rattle.std.proofs.Common.{length, ap, sym, subst, ◌∙◌}
+use Rattle.crossbar_model.specs.Channels.{ArePorts}
+use Rattle.router.specs.Node.{Node, ports_in}
 use Rattle.router.proofs.AtWork.{length-ports_in, ports_are}
 use Rattle.router.proofs.router.Router.ports.Goals as goal
 
@@ -12,3 +13,8 @@ pub returns-clause-linked : goal.returns-clause-linked
 returns-clause-linked g c =
     let n0 : Node _ = record { node = c.self.inside.node; address = c.self.inside.address; routes = c.self.inside.routes; links = c.self.inside.links.items; client = c.self.inside.client } in
     rw (← c.self.view_is) (ports_are g.E.PortEngine.seen n0 c.self.invariant.linked)
+
+pub returns-clause-are : goal.returns-clause-are
+returns-clause-are g c =
+    let n0 : Node _ = record { node = c.self.inside.node; address = c.self.inside.address; routes = c.self.inside.routes; links = c.self.inside.links.items; client = c.self.inside.client } in
+    subst (λ (n : Node _). ArePorts (ports_in g.E.PortEngine.seen n)) c.self.view_is c.self.invariant.linked.ports

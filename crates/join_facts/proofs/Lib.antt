@@ -1,0 +1,10 @@
+pub mod Ordered
+pub mod Ends
+pub mod Comes
+pub mod Splits
+pub mod Lents
+pub mod Flat
+pub mod Lasts
+pub mod Releases
+pub mod Spent
+pub mod Changing
