@@ -1,0 +1,15 @@
+pub mod Ready
+pub mod Channels
+pub mod Restarting
+pub mod Asking
+pub mod Doing
+pub mod Working
+pub mod Rules
+pub mod Meeting
+pub mod Kept
+pub mod Calls
+pub mod Opening
+pub mod Receiving
+pub mod Cells
+pub mod Leaving
+pub mod Leading

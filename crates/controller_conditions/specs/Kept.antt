@@ -1,0 +1,42 @@
+-- What holds of one controller, in the midst of an event and between events, and that numbers are left
+
+use Rattle.std.specs.Prelude.{◌≤◌, ◌<◌, ◌^◌, List, length}
+use Rattle.net_types.specs.Number.{GivenOut}
+use Rattle.crossbar_model.specs.Channels.{IsLinkPort}
+use Rattle.ordered_lists.specs.Ordered.{Every}
+use Rattle.port_model.specs.Setup.{Setup}
+use Rattle.port_facts.specs.Port.{IsRanged}
+use Rattle.controller_model.specs.Controller.{Controller}
+use Rattle.controller_facts.specs.Sound.{IsSound}
+use Rattle.controller_facts.specs.Said.{HasFlowingPorts}
+use Rattle.controller_law.specs.Order.{IsOrderly}
+use Rattle.controller_law.specs.Match.{IsMatched}
+
+-- *The ports of a node*: at most 8, of links, each opened with a lifetime and a range of labels
+pub record AreLinks (setups : List Setup) : Type 0 where
+  pub few : length setups ≤ 8
+  pub links : Every (λ (setup : Setup). IsLinkPort setup.port) setups
+  pub ranged : Every IsRanged setups
+
+-- *In the midst of an event* a controller is sound, its requests are in order, and its flows are flows that packets
+-- can have
+pub record IsHeld (c : Controller) : Type 0 where
+  pub setups : List Setup
+  pub links : AreLinks setups
+  pub sound : IsSound setups c
+  pub order : IsOrderly c
+  pub flows : HasFlowingPorts setups c
+
+-- *Between events* its joins and the grants that are lent match, too
+pub record IsKept (c : Controller) : Type 0 where
+  pub setups : List Setup
+  pub links : AreLinks setups
+  pub sound : IsSound setups c
+  pub order : IsOrderly c
+  pub flows : HasFlowingPorts setups c
+  pub matched : IsMatched c.ports c.desk
+
+-- *Numbers* that a run can give out
+pub record AreIn (numbers : GivenOut) : Type 0 where
+  pub instances : numbers.instances < 2 ^ 32
+  pub controls : numbers.controls < 2 ^ 64

@@ -1,0 +1,49 @@
+-- What the calls ask where a cell ends a frame that passes its test: between events, with numbers left
+
+use Rattle.std.specs.Prelude.{◌≡◌, ℕ, ◌==◌, true, false, List, drop, None, Some, Ok}
+use Rattle.net_types.specs.declared.node.PortNo.{PortNo}
+use Rattle.net_types.specs.declared.number.Mark.{Mark}
+use Rattle.net_types.specs.Number.{HasNumbersLeft}
+use Rattle.ipv4_packet.specs.Packet.{protocol_of, source_of, first_fault}
+use Rattle.atm_cells.specs.declared.cell.Cell.{Cell}
+use Rattle.flow_encaps.specs.Unwrapped.{default_unwrapped}
+use Rattle.gsmp_wire.specs.declared.message.Message.{Message}
+use Rattle.gsmp_wire.specs.Fields.{decoded as gsmp_decoded}
+use Rattle.ifmp_wire.specs.declared.message.Message.{Message as IfmpMessage}
+use Rattle.ifmp_wire.specs.Message.{InRange}
+use Rattle.ifmp_wire.specs.Fields.{decoded as ifmp_decoded}
+use Rattle.reassembly.specs.Receipt.{Received}
+use Rattle.controller_model.specs.Controller.{Acted}
+use Rattle.controller_model.specs.Packets.{routes, control_protocol}
+use Rattle.controller_model.specs.Cells.{Taker, ForGsmp, ForDefault, ForLabel, taker_of, with_reassembly}
+use Rattle.router.specs.Conditions.{HasMark}
+use Rattle.joining_router.specs.Conditions.{CanWorkOn}
+use Rattle.joining_router.specs.Answers.{CanBeTold}
+use Rattle.controller_conditions.specs.Kept.{IsKept}
+use Rattle.controller_conditions.specs.Calls.{hearing, counting}
+use Rattle.controller_conditions.specs.Cells.{receipt}
+
+-- *A packet of a default channel*: a message of IFMP is heard; any other packet is sent on, and then counted
+pub record CanHoldPacket (a : Acted) (port : PortNo) (mark : Mark) (packet : List ℕ) : Type 0 where
+  pub hears : (protocol_of packet == control_protocol) ≡ true → (message : IfmpMessage) → ifmp_decoded (drop 20 packet) ≡ Ok message → InRange message
+      → CanWorkOn a port (hearing (source_of packet) message)
+  pub counts : (protocol_of packet == control_protocol) ≡ false → CanWorkOn (routes a mark packet) port (counting packet)
+
+-- *A frame* by the channel on which it came; one of a label's channel is only sent on
+abbrev pub CanHold : Acted → Taker → Mark → (payload : List ℕ) → Type 0
+CanHold a ForGsmp mark payload = (message : Message) → gsmp_decoded payload ≡ Ok message → CanBeTold a message
+CanHold a (ForDefault linked) mark payload = (packet : List ℕ) → default_unwrapped payload ≡ Ok packet → first_fault packet ≡ None → CanHoldPacket a linked.setup.port mark packet
+CanHold a (ForLabel linked label) mark payload = Unit {0}
+
+-- *Where the cell is taken*: all of it still holds, a mark is left to send a packet on, and the frame can act
+abbrev pub gathered : Acted → Taker → Received → Acted
+gathered a taker r = with_reassembly (record a { notes = r.notes }) taker r.reassembly
+
+pub record CanTakeFrame (a : Acted) (taker : Taker) (cell : Cell) (payload : List ℕ) : Type 0 where
+  pub kept : IsKept (gathered a taker (receipt a taker cell)).controller
+  pub mark : HasMark (gathered a taker (receipt a taker cell))
+  pub holds : CanHold (gathered a taker (receipt a taker cell)) taker cell.mark payload
+
+abbrev pub FramesCanBeTaken : Type 0
+FramesCanBeTaken = (a : Acted) (taker : Taker) (cell : Cell) (payload : List ℕ) → IsKept a.controller → HasNumbersLeft a.numbers → taker_of a.controller cell.header.channel ≡ Some taker
+    → (receipt a taker cell).payload ≡ Some payload → CanTakeFrame a taker cell payload
