@@ -1,0 +1,4 @@
+pub mod Cells
+pub mod Paces
+pub mod Controllers
+pub mod Switches

@@ -1,0 +1,177 @@
+-- the lines of some events and those behind them, and the queues of a round
+
+use Rattle.std.proofs.Common.{◌≡◌, ℕ, zero, suc, ◌+◌, ◌≤◌, Bool, true, List, [], ◌∷◌, ◌++◌, append_assoc, drop, length, map, flat_map, filter, slice_get, take, Some, refl, sym, ◌∙◌, ap, subst, arith, cond, false}
+use Rattle.std.specs.List.{range_with_len}
+use Rattle.std.specs.Option.{is_some}
+use Rattle.std.proofs.lemmas.List.Concat.{flat_map-cons}
+use Rattle.net_types.specs.declared.node.NodeId.{NodeId}
+use Rattle.net_types.specs.declared.node.PortNo.{PortNo}
+use Rattle.net_types.specs.declared.node.Place.{Place}
+use Rattle.net_types.specs.declared.node.Place.TheVariants.{Down, Up, Out}
+use Rattle.world_model.specs.declared.event.Event.{Event}
+use Rattle.world_model.specs.Conditions.{IsNode, IsPlace}
+use Rattle.world_model.specs.Places.{places_of}
+use Rattle.world_model.specs.Run.{next, world_after}
+use Rattle.world_model.specs.Topology as topologies
+use Rattle.world_model.specs.Topology.{Topology, peer_of}
+use Rattle.world_model.specs.World.{World, Site}
+use Rattle.script_model.specs.Reports.{record_lines}
+use Rattle.world.specs.Running.{AreRunning, IsRunningSite, numbered}
+use Rattle.network_run.specs.Telling.{told, IsReadingIn}
+use Rattle.std.specs.Prelude.{◌⊎◌, ◌<◌}
+use Rattle.std.proofs.Common.{inl, inr}
+use Rattle.std.proofs.lemmas.Option.{slice_get_within}
+use Rattle.world_model.specs.declared.event.Event.TheVariants.{Carry}
+use Rattle.world_model.specs.Conditions.{CanCome, IsEvent}
+use Rattle.world_model.specs.Limits.{event_limit}
+use Rattle.world_model.specs.Places.{places}
+use Rattle.world_model.specs.Run.{put_away, round}
+use Rattle.world.specs.declared.counts.Meter.{Meter}
+use Rattle.world.specs.Counted.{reading_of}
+
+-- *Events*, some and those behind them
+pub after_append : (t : Topology) (w : World) (some others : List Event) → world_after t w (some ++ others) ≡ world_after t (world_after t w some) others
+after_append t w [] others = refl
+after_append t w (event ∷ some) others = after_append t (next t w event) some others
+
+pub told_append : (t : Topology) (w : World) (some others : List Event) → told t w (some ++ others) ≡ told t w some ++ told t (world_after t w some) others
+told_append t w [] others = refl
+told_append t w (event ∷ some) others =
+    ap (λ xs. record_lines t (next t w event).notes.records ++ xs) (told_append t (next t w event) some others)
+    ∙ sym (append_assoc (record_lines t (next t w event).notes.records) (told t (next t w event) some) (told t (world_after t (next t w event) some) others))
+
+append_nil : (xs : List ℕ) → xs ++ [] ≡ xs
+append_nil [] = refl
+append_nil (x ∷ xs) = ap (λ ys. x ∷ ys) (append_nil xs)
+
+take_push : (events : List Event) (i : ℕ) (event : Event) → slice_get events i ≡ Some event → take (suc i) events ≡ take i events ++ event ∷ []
+take_push [] i event e = absurd (cc e)
+take_push (x ∷ events) zero event e = (let same : x ≡ event = cc in ap (λ y. y ∷ []) same)
+take_push (x ∷ events) (suc i) event e = ap (λ ys. x ∷ ys) (take_push events i event e)
+
+drop_pull : (events : List Event) (i : ℕ) (event : Event) → slice_get events i ≡ Some event → take i events ++ (event ∷ drop (suc i) events) ≡ events
+drop_pull [] i event e = absurd (cc e)
+drop_pull (x ∷ events) zero event e = (let same : event ≡ x = cc in ap (λ y. y ∷ events) same)
+drop_pull (x ∷ events) (suc i) event e = ap (λ ys. x ∷ ys) (drop_pull events i event e)
+
+pub all_taken : (events : List Event) → take (length events) events ≡ events
+all_taken [] = refl
+all_taken (event ∷ events) = ap (λ ys. event ∷ ys) (all_taken events)
+
+pub after_next : (t : Topology) (w : World) (events : List Event) (i : ℕ) (event : Event) → slice_get events i ≡ Some event
+    → next t (world_after t w (take i events)) event ≡ world_after t w (take (i + 1) events)
+after_next t w events i event e =
+    let up : suc i ≡ i + 1 = omega arith in
+    sym (after_append t w (take i events) (event ∷ [])) ∙ ap (world_after t w) (sym (take_push events i event e)) ∙ ap (λ k. world_after t w (take k events)) up
+
+pub told_next : (t : Topology) (w : World) (events : List Event) (i : ℕ) (event : Event) → slice_get events i ≡ Some event
+    → told t w (take i events) ++ record_lines t (next t (world_after t w (take i events)) event).notes.records ≡ told t w (take (i + 1) events)
+told_next t w events i event e =
+    let up : suc i ≡ i + 1 = omega arith in
+    ap (λ xs. told t w (take i events) ++ xs) (sym (append_nil (record_lines t (next t (world_after t w (take i events)) event).notes.records)))
+    ∙ sym (told_append t w (take i events) (event ∷ [])) ∙ ap (told t w) (sym (take_push events i event e)) ∙ ap (λ k. told t w (take k events)) up
+
+pub told_behind : (t : Topology) (w : World) (events : List Event) (i : ℕ) (event : Event) → slice_get events i ≡ Some event
+    → told t w (take i events) ++ (record_lines t (next t (world_after t w (take i events)) event).notes.records ++ told t (next t (world_after t w (take i events)) event) (drop (suc i) events)) ≡ told t w events
+told_behind t w events i event e = sym (told_append t w (take i events) (event ∷ drop (suc i) events)) ∙ ap (told t w) (drop_pull events i event e)
+
+-- *The queues* are the topology's, and stay
+abbrev places_with : NodeId → List PortNo → List Place
+places_with node ports = Down node ∷ Up node ∷ map (λ port. Out node port) ports
+
+site_places : (t : Topology) (events number : ℕ) (site : Site) → IsRunningSite t events number site → places_of site ≡ places_with (numbered number) (topologies.ports_of t (numbered number))
+site_places t events number site h =
+    (let node : site.controller.node ≡ numbered number = ap (λ (n : ℕ). numbered n) h.node in λ i. places_with (node i) (h.ports i))
+
+pub same_places : (t : Topology) (events later number : ℕ) (sites after : List Site) → AreRunning t events number sites → AreRunning t later number after → length sites ≡ length after
+    → flat_map places_of sites ≡ flat_map places_of after
+same_places t events later number [] [] h k e = refl
+same_places t events later number [] (y ∷ after) h k e = absurd (cc e)
+same_places t events later number (x ∷ sites) [] h k e = absurd (cc e)
+same_places t events later number (x ∷ sites) (y ∷ after) h k e =
+    flat_map-cons places_of x sites
+    ∙ (let one : places_of x ≡ places_of y = site_places t events number x h.0 ∙ sym (site_places t later number y k.0) in
+    let rest : flat_map places_of sites ≡ flat_map places_of after = same_places t events later (suc number) sites after h.1 k.1 (omega (arith, e)) in λ i. one i ++ rest i)
+    ∙ sym (flat_map-cons places_of y after)
+
+pub get_append : {A : Type 0} (P : A → Type 0) (xs ys : List A) → ((i : ℕ) (x : A) → slice_get xs i ≡ Some x → P x) → ((i : ℕ) (x : A) → slice_get ys i ≡ Some x → P x)
+    → (i : ℕ) (x : A) → slice_get (xs ++ ys) i ≡ Some x → P x
+get_append P [] ys f g i x e = g i x e
+get_append P (z ∷ xs) ys f g zero x e = f 0 x e
+get_append P (z ∷ xs) ys f g (suc i) x e = get_append P xs ys (λ j y d. f (suc j) y d) g i x e
+
+pub get_map : {A B : Type 0} (P : B → Type 0) (f : A → B) (xs : List A) → ((i : ℕ) (x : A) → slice_get xs i ≡ Some x → P (f x)) → (i : ℕ) (y : B) → slice_get (map f xs) i ≡ Some y → P y
+get_map P f [] h i y e = absurd (cc e)
+get_map P f (x ∷ xs) h zero y e = (let same : f x ≡ y = cc in subst P same (h 0 x refl))
+get_map P f (x ∷ xs) h (suc i) y e = get_map P f xs (λ j z d. h (suc j) z d) i y e
+
+filter_at : {A : Type 0} (test : A → Bool) (z : A) (xs : List A) (x : A) → test z ≡ true → ((j : ℕ) → slice_get xs j ≡ Some x → test x ≡ true) → (i : ℕ) → slice_get (z ∷ xs) i ≡ Some x → test x ≡ true
+filter_at test z xs x t h zero e = (let same : z ≡ x = cc in subst (λ y. test y ≡ true) same t)
+filter_at test z xs x t h (suc i) e = h i e
+
+get_filter : {A : Type 0} (test : A → Bool) (xs : List A) (i : ℕ) (x : A) → slice_get (filter test xs) i ≡ Some x → test x ≡ true
+get_filter test [] i x e = absurd (cc e)
+get_filter test (z ∷ xs) i x e = on (test z) refl (λ j h. get_filter test xs j x h) e
+  where
+    on : (b : Bool) → test z ≡ b → ((j : ℕ) → slice_get (filter test xs) j ≡ Some x → test x ≡ true) → slice_get (cond b (z ∷ filter test xs) (filter test xs)) i ≡ Some x → test x ≡ true
+    on true t h d = filter_at test z (filter test xs) x t h i d
+    on false t h d = h i d
+
+pub place_is : (t : Topology) (events number : ℕ) (sites : List Site) → AreRunning t events number sites → 1 ≤ number → number + length sites ≤ suc (length t.nodes)
+    → (i : ℕ) (place : Place) → slice_get (flat_map places_of sites) i ≡ Some place → IsPlace t place
+place_is t events number [] h low high i place e = absurd (cc e)
+place_is t events number (site ∷ sites) h low high i place e =
+    get_append (IsPlace t) (places_of site) (flat_map places_of sites)
+    (subst (λ (ps : List Place). (k : ℕ) (p : Place) → slice_get ps k ≡ Some p → IsPlace t p) (sym (site_places t events number site h.0)) own)
+    (place_is t events (suc number) sites h.1 (omega (arith, low)) (omega (arith, high)))
+    i place (ap (λ (ps : List Place). slice_get ps i) (sym (flat_map-cons places_of site sites)) ∙ e)
+  where
+    is_node : IsNode t (numbered number)
+    is_node = (low, omega (arith, high))
+
+    outs : (k : ℕ) (p : Place) → slice_get (map (λ port. Out (numbered number) port) (topologies.ports_of t (numbered number))) k ≡ Some p → IsPlace t p
+    outs = get_map (IsPlace t) (λ port. Out (numbered number) port) (topologies.ports_of t (numbered number))
+        (λ k port d. (is_node, get_filter (λ q. is_some (peer_of t (numbered number) q)) (map (λ n. record { 0 = n }) (range_with_len 1 8)) k port d))
+
+    own : (k : ℕ) (p : Place) → slice_get (places_with (numbered number) (topologies.ports_of t (numbered number))) k ≡ Some p → IsPlace t p
+    own zero p d = (let same : Down (numbered number) ≡ p = cc in subst (IsPlace t) same is_node)
+    own (suc zero) p d = (let same : Up (numbered number) ≡ p = cc in subst (IsPlace t) same is_node)
+    own (suc (suc k)) p d = outs k p d
+
+-- *The event of a place*
+pub map_length : {A B : Type 0} (f : A → B) (xs : List A) → length (map f xs) ≡ length xs
+map_length f [] = refl
+map_length f (x ∷ xs) = ap suc (map_length f xs)
+
+map_get : {A B : Type 0} (f : A → B) (xs : List A) (k : ℕ) (x : A) → slice_get xs k ≡ Some x → slice_get (map f xs) k ≡ Some (f x)
+map_get f [] k x e = absurd (cc e)
+map_get f (y ∷ xs) zero x e = (let same : y ≡ x = cc in ap (λ z. Some (f z)) same)
+map_get f (y ∷ xs) (suc k) x e = map_get f xs k x e
+
+pub turn_is : (w : World) (i : ℕ) (place : Place) → slice_get (places w) i ≡ Some place → slice_get (round w) i ≡ Some (Carry place)
+turn_is w i place e = map_get Carry (places w) i place e
+
+pub round_length : (w : World) → length (round w) ≡ length (places w)
+round_length w = map_length Carry (places w)
+
+pub can_come : (t : Topology) (first w : World) (i : ℕ) (place : Place) → w.events ≡ first.events + i → i < length (round first) → first.events + length (round first) ≤ event_limit → IsPlace t place
+    → CanCome t w (Carry place)
+can_come t first w i place events low few is = record { few = omega (arith, events, low, few); meant = is }
+
+-- *A meter* behind some of the events
+pub reading_in : (t : Topology) (first w : World) (events : List Event) (i : ℕ) (event : Event) (meter before : Meter) → slice_get events i ≡ Some event
+    → w ≡ put_away (world_after t first (take i events)) → before ≡ reading_of w → (meter ≡ before) ⊎ (meter ≡ reading_of (next t w event)) → IsReadingIn t first events meter
+reading_in t first w events i event meter before e same was (inl p) =
+    (let low : i < length events = slice_get_within events i event e in
+    record { count = i; within = omega (arith, low); reading = p ∙ was ∙ ap reading_of same })
+reading_in t first w events i event meter before e same was (inr p) =
+    (let low : i < length events = slice_get_within events i event e in
+    record { count = i + 1; within = omega (arith, low); reading = p ∙ ap (λ (v : World). reading_of (next t v event)) same ∙ ap reading_of (after_next t first events i event e) })
+
+pub all_at : (events : List Event) (i : ℕ) → i ≡ length events → take i events ≡ events
+all_at events i e = ap (λ k. take k events) e ∙ all_taken events
+
+pub can_come_in : (t : Topology) (first w : World) (events : List Event) (i : ℕ) (event : Event) → slice_get events i ≡ Some event → w.events ≡ first.events + i → first.events + length events ≤ event_limit → IsEvent t w event
+    → CanCome t w event
+can_come_in t first w events i event e count few is =
+    (let low : i < length events = slice_get_within events i event e in record { few = omega (arith, count, low, few); meant = is })

@@ -1,0 +1,54 @@
+//! The events of a round.
+
+ghost use Rattle.std.specs.Prelude.{◌≡◌, ◌≤◌, ◌+◌, [], length, OnOk, OnErr};
+ghost use Rattle.lab_io.specs.Report.{IsPut};
+ghost use Rattle.lab_io.specs.Fault.{count_after};
+ghost use Rattle.world_model.specs.Limits.{event_limit};
+ghost use Rattle.world_model.specs.Run.{round as round_of, world_after, put_away};
+ghost use Rattle.world_model.specs.Topology.{Topology as Described};
+ghost use Rattle.world.specs.Counted.{reading_of};
+ghost use Rattle.world.specs.Network.{world_of};
+ghost use Rattle.world.specs.Running.{Runs};
+ghost use Rattle.network_run.specs.Telling.{IsFrontPut, IsReadingIn, is_failed, told};
+
+use crate::engine::step;
+use crate::stop::Stop;
+use lab_io::{ReportWriter, Sink};
+use link_model::Notes;
+use std::alloc::Global;
+use topology::Topology;
+use world::{Meter, NodeController, World};
+use world_model::Event;
+
+/// Carries a cell of each queue once, in the order of a round. Where it ends early, a front of the lines
+/// was put, and the network can only be given up.
+pub fn round<C: NodeController, K: Sink>(
+    alloc: Global,
+    world: &mut World<C>,
+    notes: &mut Notes,
+    names: &Topology,
+    writer: &mut ReportWriter,
+    sink: &mut K,
+    meter: &mut Meter,
+) -> Result<(), Stop>
+    ghost topology: { Described }
+    requires names { names.now ≡ topology }
+    requires empty { notes.old.records ≡ [] }
+    requires runs { Runs C.seen topology world.old }
+    requires few { (world_of C.seen world.old notes.old).events + length (round_of (world_of C.seen world.old notes.old)) ≤ event_limit }
+    requires reading { meter.old ≡ reading_of (world_of C.seen world.old notes.old) }
+    ensures world { OnOk result (world_of C.seen world.new notes.new ≡ put_away (world_after topology (world_of C.seen world.old notes.old) (round_of (world_of C.seen world.old notes.old)))) }
+    ensures empty { OnOk result (notes.new.records ≡ []) }
+    ensures runs { OnOk result (Runs C.seen topology world.new) }
+    ensures put { OnOk result (IsPut writer.old writer.new (K.written sink.old) (K.written sink.new) (told topology (world_of C.seen world.old notes.old) (round_of (world_of C.seen world.old notes.old)))) }
+    ensures front { OnErr result (IsFrontPut writer.old writer.new (K.written sink.old) (K.written sink.new) (told topology (world_of C.seen world.old notes.old) (round_of (world_of C.seen world.old notes.old)))) }
+    ensures faults { K.faults sink.new ≡ count_after (is_failed result) (K.faults sink.old) }
+    ensures meter { OnOk result (meter.new ≡ reading_of (world_of C.seen world.new notes.new)) }
+    ensures kept { OnErr result (IsReadingIn topology (world_of C.seen world.old notes.old) (round_of (world_of C.seen world.old notes.old)) meter.new) }
+{
+    for index in 0..world.places() {
+        let event = Event::Carry(world.place(index));
+        step(alloc, world, notes, &event, names, writer, sink, meter)?;
+    }
+    Ok(())
+}

@@ -1,0 +1,35 @@
+//! Why a run ends early.
+
+use lab_io::Failed;
+use net_types::OutOfMemory;
+
+/// What ends a run before its script does.
+#[derive(Clone, Copy, Debug, PartialEq, Eq)]
+pub enum Stop {
+    /// A write of the report failed.
+    Failed,
+    /// No memory was left.
+    OutOfMemory(OutOfMemory),
+}
+
+impl From<Failed> for Stop {
+    ghost use Rattle.std.specs.Prelude.{◌≡◌};
+    ghost use Rattle.network_run.specs.declared.stop.Stop.TheVariants.{Failed as WriteFailed};
+
+    ghost from_gives = { λ error stop. stop ≡ WriteFailed };
+
+    fn from(_failed: Failed) -> Stop {
+        Stop::Failed
+    }
+}
+
+impl From<OutOfMemory> for Stop {
+    ghost use Rattle.std.specs.Prelude.{◌≡◌};
+    ghost use Rattle.network_run.specs.declared.stop.Stop.TheVariants.{OutOfMemory as NoMemory};
+
+    ghost from_gives = { λ error stop. stop ≡ NoMemory error };
+
+    fn from(error: OutOfMemory) -> Stop {
+        Stop::OutOfMemory(error)
+    }
+}

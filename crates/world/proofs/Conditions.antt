@@ -1,0 +1,196 @@
+-- what a network in a run of a topology has for the parts of an event
+
+use Rattle.std.proofs.Common.{◌≡◌, ℕ, zero, suc, ◌+◌, ◌-◌, ◌^◌, ◌≤◌, ◌<◌, ◌==◌, ◌||◌, Bool, true, false, true≢false, cond, List, [], ◌∷◌, length, map, filter, find, slice_get, slice_index_or, is_some, Option, None, Some, refl, sym, ◌∙◌, ap, subst, arith, if◌then◌else◌}
+use Rattle.std.specs.List.{list_any, range_with_len}
+use Rattle.std.specs.Option.{option_map, option_or}
+use Rattle.std.proofs.lemmas.Bool.Decides.{nat_tests}
+use Rattle.std.proofs.lemmas.Option.{slice_get-get_or}
+use Rattle.net_types.specs.declared.node.NodeId.{NodeId}
+use Rattle.net_types.specs.declared.node.PortNo.{PortNo}
+use Rattle.net_types.specs.declared.node.Place.{Place}
+use Rattle.net_types.specs.declared.node.Place.TheVariants.{Down, Up, Out}
+use Rattle.net_types.specs.Number.{HasNumbersLeft}
+use Rattle.atm_cells.specs.declared.cell.Cell.{Cell}
+use Rattle.ipv4_forward.specs.declared.change.RouteChange.{RouteChange}
+use Rattle.ipv4_forward.specs.declared.table.Next.{Next}
+use Rattle.ipv4_forward.specs.declared.table.Next.TheVariants.{Local, Via}
+use Rattle.link_model.specs.Notes.{Journal}
+use Rattle.switch_model.specs.declared.port.PortState.{PortState}
+use Rattle.switch_model.specs.Switch.{control_port, has_port, numbers_of}
+use Rattle.controller_model.specs.Controller.{Controller, ports_of}
+use Rattle.world_model.specs.declared.link.LinkEnd.{LinkEnd}
+use Rattle.world_model.specs.Conditions.{IsAccepted, IsChange, IsLink, IsLinkedChange, IsNode, IsPlace, IsPort, IsTopology}
+use Rattle.world_model.specs.Lines.{is_linked}
+use Rattle.world_model.specs.Places.{place_node, queue_at, queue_number}
+use Rattle.world_model.specs.Topology as topologies
+use Rattle.world_model.specs.Topology.{Topology, Link, peer_among, peer_of, peer_on, same_link_end}
+use Rattle.world_model.specs.World.{Site, site_at}
+use Rattle.world_model.proofs.Lists.{by_eq}
+use Rattle.world.specs.declared.site.Site.{Site as Node}
+use Rattle.world.specs.declared.world.World.{World as Network}
+use Rattle.world.specs.Coming.{CanChange, HasQueue, HasWay, IsPeerIn, IsSteady}
+use Rattle.world.specs.Network.{IsNodeIn, no_notes, peers_in, site_of, sites_of, world_of}
+use Rattle.world.specs.Nodes.{NamesLinkedNext}
+use Rattle.world.specs.Running.{ArePeersOf, HavePeers, IsRunningSite, Runs, most_frame}
+use Rattle.world.proofs.Acting.{a_head, found, map_length}
+use Rattle.world.proofs.Running.{are_numbered, queue_up, site_runs}
+
+-- *A port of a link* is one of a node's ports, and the other end is of another node
+same_port : (a b : LinkEnd) → same_link_end a b ≡ true → a.port.0 ≡ b.port.0
+same_port a b e = grind (arith, nat_tests, e)
+
+pub record Reaches (t : Topology) (end far : LinkEnd) : Type 0 where
+  pub port : IsPort end.port
+  pub node : IsNode t far.node
+
+reaches_on : (t : Topology) (end far : LinkEnd) (link : Link) (others : Option LinkEnd) → IsLink t link → (others ≡ Some far → Reaches t end far)
+    → option_or (if same_link_end link.first end then Some link.second else (if same_link_end link.second end then Some link.first else None)) others ≡ Some far → Reaches t end far
+reaches_on t end far link others l later e = on_first (same_link_end link.first end) refl e
+  where
+    on_second : (b : Bool) → same_link_end link.second end ≡ b → option_or (if b then Some link.first else None) others ≡ Some far → Reaches t end far
+    on_second true is h = (let one : link.first ≡ far = cc in
+        record { port = subst (λ (p : ℕ). (1 ≤ p) × (p ≤ 8)) (same_port link.second end is) l.second.1; node = subst (λ (x : LinkEnd). IsNode t x.node) one l.first.0 })
+    on_second false is h = later h
+
+    on_first : (b : Bool) → same_link_end link.first end ≡ b → option_or (if b then Some link.second else (if same_link_end link.second end then Some link.first else None)) others ≡ Some far → Reaches t end far
+    on_first true is h = (let one : link.second ≡ far = cc in
+        record { port = subst (λ (p : ℕ). (1 ≤ p) × (p ≤ 8)) (same_port link.first end is) l.first.1; node = subst (λ (x : LinkEnd). IsNode t x.node) one l.second.0 })
+    on_first false is h = on_second (same_link_end link.second end) refl h
+
+reaches : (t : Topology) (end far : LinkEnd) (links : List Link) → ((k : ℕ) (d : Link) → k < length links → IsLink t (slice_index_or links k d)) → peer_among end links ≡ Some far → Reaches t end far
+reaches t end far [] each e = absurd (cc e)
+reaches t end far (link ∷ links) each e =
+    reaches_on t end far link (peer_among end links) (each 0 link (omega arith)) (λ h. reaches t end far links (λ k d low. each (suc k) d (omega (arith, low))) h) e
+
+pub far_node : (t : Topology) (node : NodeId) (port : PortNo) (far : LinkEnd) → IsTopology t → peer_of t node port ≡ Some far → IsNode t far.node
+far_node t node port far is e = (reaches t (record { node = node; port = port }) far t.links is.links e).node
+
+pub linked_port : (t : Topology) (node : NodeId) (port : PortNo) → IsTopology t → is_linked t node port ≡ true → IsPort port
+linked_port t node port is e = by_peer (peer_of t node port) refl e
+  where
+    by_peer : (o : Option LinkEnd) → peer_of t node port ≡ o → is_some o ≡ true → IsPort port
+    by_peer None found h = absurd (true≢false (sym h))
+    by_peer (Some far) found h = (reaches t (record { node = node; port = port }) far t.links is.links found).port
+
+any_filter : (test : PortNo → Bool) (port : PortNo) → test port ≡ true → (ps : List PortNo) → list_any (λ p. p.0 == port.0) ps ≡ true → list_any (λ p. p.0 == port.0) (filter test ps) ≡ true
+any_filter test port passes [] e = absurd (cc e)
+any_filter test port passes (p ∷ ps) e = by_eq p.0 port.0
+    (λ same is. (let tests : test p ≡ true = subst (λ (k : ℕ). test (record { 0 = k }) ≡ true) (sym same) passes in
+    ap (λ (b : Bool). list_any (λ (q : PortNo). q.0 == port.0) (cond b (p ∷ filter test ps) (filter test ps))) tests ∙ ap (λ (b : Bool). b || list_any (λ (q : PortNo). q.0 == port.0) (filter test ps)) is))
+    (λ n is. (let later : list_any (λ (q : PortNo). q.0 == port.0) (filter test ps) ≡ true =
+    any_filter test port passes ps (subst (λ (b : Bool). (b || list_any (λ (q : PortNo). q.0 == port.0) ps) ≡ true) is e) in
+    elim (test p) as (λ b. list_any (λ (q : PortNo). q.0 == port.0) (cond b (p ∷ filter test ps) (filter test ps)) ≡ true) [
+      | true ↦ ap (λ (b : Bool). b || list_any (λ (q : PortNo). q.0 == port.0) (filter test ps)) is ∙ later
+      | false ↦ later
+    ]))
+
+one_of_eight : (n : ℕ) → 1 ≤ n → n ≤ 8 → ((1 == n) || ((2 == n) || ((3 == n) || ((4 == n) || ((5 == n) || ((6 == n) || ((7 == n) || ((8 == n) || false)))))))) ≡ true
+one_of_eight n least most = grind (arith, nat_tests, least, most)
+
+pub is_port_of : (t : Topology) (node : NodeId) (port : PortNo) → IsTopology t → is_linked t node port ≡ true → list_any (λ p. p.0 == port.0) (topologies.ports_of t node) ≡ true
+is_port_of t node port is e =
+    let low = linked_port t node port is e in
+    any_filter (λ p. is_some (peer_of t node p)) port e (map (λ n. record { 0 = n }) (range_with_len 1 8)) (one_of_eight port.0 low.0 low.1)
+
+pub switch_has : (port : PortNo) (states : List PortState) → list_any (λ p. p.0 == port.0) (numbers_of states) ≡ true → has_port states port ≡ true
+switch_has port [] e = absurd (cc e)
+switch_has port (state ∷ states) e = elim (state.number.0 == port.0) as (λ b. (b || list_any (λ (p : PortNo). p.0 == port.0) (numbers_of states)) ≡ true
+    → is_some (cond b (Some state) (find (λ (s : PortState). s.number.0 == port.0) states)) ≡ true) [
+      | true ↦ λ h. refl
+      | false ↦ λ h. switch_has port states h
+    ] e
+
+-- *The other ends that are kept*
+peers_at : (t : Topology) (number k key : ℕ) (ps : List (List (Option LinkEnd))) → key ≡ number + k → HavePeers t number ps → k < length ps → ArePeersOf t key (slice_index_or ps k [])
+peers_at t number k key [] is h low = absurd (omega (arith, low))
+peers_at t number zero key (p ∷ ps) is h low = subst (λ n. ArePeersOf t n p) (omega (arith, is)) h.0
+peers_at t number (suc k) key (p ∷ ps) is h low = peers_at t (suc number) k key ps (omega (arith, is)) h.1 (omega (arith, low))
+
+module _ {C : Type 0} where
+  peer_kept : (items : List (Node C)) (k : ℕ) (port : ℕ) (far : Option LinkEnd) → k < length items → ((d : Node C) → slice_index_or (slice_index_or items k d).peers port None ≡ far)
+      → slice_index_or (slice_index_or (map peers_in items) k []) port None ≡ far
+  peer_kept [] k port far low h = absurd (omega (arith, low))
+  peer_kept (x ∷ items) zero port far low h = h x
+  peer_kept (x ∷ items) (suc k) port far low h = peer_kept items k port far (omega (arith, low)) h
+
+  pub peer_is : (t : Topology) (n : Network C) (node : NodeId) (port : PortNo) (far : Option LinkEnd) → HasWay t n (Out node port) → IsPeerIn n node port far → peer_of t node port ≡ far
+  peer_is t n node port far way kept =
+      let low = linked_port t node port way.topology_is way.place_is.1 in
+      let within : node.0 - 1 < length n.sites.items = omega (arith, way.place_is.0.0, way.place_is.0.1, way.nodes) in
+      sym (peers_at t 1 (node.0 - 1) node.0 (map peers_in n.sites.items) (omega (arith, way.place_is.0.0)) way.peers (omega (arith, within, map_length peers_in n.sites.items)) port low.0 low.1)
+      ∙ peer_kept n.sites.items (node.0 - 1) port.0 far within kept
+
+  pub far_in : (t : Topology) (n : Network C) (node : NodeId) (port : PortNo) (far : LinkEnd) → HasWay t n (Out node port) → IsPeerIn n node port (Some far) → IsNodeIn n far.node
+  far_in t n node port far way kept = (let is = far_node t node port far way.topology_is (peer_is t n node port (Some far) way kept) in (is.0, omega (arith, is.1, way.nodes)))
+
+module _ {C : Type 0} (seen : C → Controller) (t : Topology) (n : Network C) (r : Runs seen t n) where
+  nodes : length n.sites.items ≡ length t.nodes
+  nodes = sym (map_length (site_of seen) n.sites.items) ∙ r.world.nodes
+
+  pub steady : n.events ≤ 100000000 → IsSteady seen n
+  steady few = record {
+    nodes = are_numbered t n.events 1 (sites_of seen n.sites.items) r.world.sites;
+    redirects = r.redirects;
+    switched = r.switched;
+    few_redirects = omega (arith, r.few_redirects, few);
+    few_switched = omega (arith, r.few_switched, few);
+  }
+
+  pub left : n.events < 100000000 → HasNumbersLeft n.numbers
+  left few = record { instances = omega (arith, r.world.instances, few); controls = omega (arith, r.world.controls, few) }
+
+  pub node_in : (node : NodeId) → IsNode t node → IsNodeIn n node
+  node_in node is = (is.0, omega (arith, is.1, nodes))
+
+  pub place_in : (place : Place) → IsPlace t place → IsNodeIn n (place_node place)
+  place_in (Down node) is = node_in node is
+  place_in (Up node) is = node_in node is
+  place_in (Out node port) is = node_in node is.0
+
+  pub queue_low : (place : Place) → IsPlace t place → queue_number place ≤ 9
+  queue_low (Down node) is = omega arith
+  queue_low (Up node) is = omega arith
+  queue_low (Out node port) is = omega (arith, (linked_port t node port r.world.topology_is is.1).1)
+
+  pub way : (place : Place) → IsPlace t place → HasWay t n place
+  way place is = record { topology_is = r.world.topology_is; nodes = nodes; peers = r.peers; place_is = is }
+
+  pub way_behind : (behind : Network C) (place : Place) → length behind.sites.items ≡ length n.sites.items → map peers_in behind.sites.items ≡ map peers_in n.sites.items → IsPlace t place → HasWay t behind place
+  way_behind behind place size peers is = record { topology_is = r.world.topology_is; nodes = size ∙ nodes; peers = subst (HavePeers t 1) (sym peers) r.peers; place_is = is }
+
+  -- the node that the code reads
+  found_here : (notes : Journal) (node : NodeId) (d : Node C) → IsNode t node → site_at (world_of seen n notes) node ≡ Some (site_of seen (slice_index_or n.sites.items (node.0 - 1) d))
+  found_here notes node d is = found seen n notes node (slice_index_or n.sites.items (node.0 - 1) d) (are_numbered t n.events 1 (sites_of seen n.sites.items) r.world.sites) (node_in node is)
+      (slice_get-get_or n.sites.items (node.0 - 1) d (omega (arith, is.0, is.1, nodes)))
+
+  running_here : (node : NodeId) (d : Node C) → IsNode t node → IsRunningSite t n.events node.0 (site_of seen (slice_index_or n.sites.items (node.0 - 1) d))
+  running_here node d is = site_runs t n.events 1 node.0 (sites_of seen n.sites.items) (site_of seen (slice_index_or n.sites.items (node.0 - 1) d)) r.world.sites (found_here no_notes node d is)
+
+  pub has_queue : (place : Place) → IsPlace t place → HasQueue n place
+  has_queue (Down node) is = tt
+  has_queue (Up node) is = λ d. switch_has control_port (slice_index_or n.sites.items (node.0 - 1) d).switch.ports
+      (ap (list_any (λ (p : PortNo). p.0 == 0)) (running_here node d is).switch_ports)
+  has_queue (Out node port) is = λ d. switch_has port (slice_index_or n.sites.items (node.0 - 1) d).switch.ports
+      (ap (list_any (λ (p : PortNo). p.0 == port.0)) (running_here node d is.0).switch_ports ∙ either (0 == port.0) (is_port_of t node port r.world.topology_is is.1))
+    where
+      either : (b : Bool) → list_any (λ (p : PortNo). p.0 == port.0) (topologies.ports_of t node) ≡ true → (b || list_any (λ (p : PortNo). p.0 == port.0) (topologies.ports_of t node)) ≡ true
+      either true h = refl
+      either false h = h
+
+  names_linked : (node : NodeId) (c : Controller) (next : Option Next) → ports_of c ≡ topologies.ports_of t node → IsLinkedChange t node next → NamesLinkedNext c next
+  names_linked node c None same h = tt
+  names_linked node c (Some Local) same h = tt
+  names_linked node c (Some (Via port)) same h = ap (list_any (λ (p : PortNo). p.0 == port.0)) same ∙ is_port_of t node port r.world.topology_is h
+
+  pub can_change : (notes : Journal) (node : NodeId) (change : RouteChange) → n.events < 100000000 → IsChange t (world_of seen n notes) node change → CanChange seen n node change
+  can_change notes node change few is = record {
+    accepted = λ d. subst (IsAccepted change) (ap (option_map (λ (s : Site). s.controller)) (found_here notes node d is.there)) is.accepted;
+    port = λ d. names_linked node (seen (slice_index_or n.sites.items (node.0 - 1) d).controller) change.next (running_here node d is.there).ports is.linked;
+    count = λ d. omega (arith, (running_here node d is.there).changes, few);
+  }
+
+  -- the head of a queue
+  pub head_low : (place : Place) (cell : Cell) → n.events < 100000000 → slice_get (queue_at (world_of seen n no_notes) place) 0 ≡ Some cell → cell.mark.frame < 2 ^ 63
+  head_low place cell few first =
+      let up = subst (Rattle.actor_pace.specs.Pace.AreUpTo (most_frame n.events)) (a_head seen (queue_at (world_of seen n no_notes) place) cell first) (queue_up t n.events (world_of seen n no_notes) place r.world.sites) in
+      omega (arith, up.0, few)

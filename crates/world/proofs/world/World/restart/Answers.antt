@@ -1,0 +1,14 @@
+use Rattle.std.proofs.Common.{arith, refl}
+use Rattle.controller_model.specs.Resets.{node_restarts}
+use Rattle.actor_pace.proofs.Controllers.{restarts_paces}
+use Rattle.world.proofs.Acting.{controller_came, summand_redirects}
+use Rattle.world.proofs.world.World.restart.Goals as goal
+
+pub replace-requires-clause-summand : goal.replace-requires-clause-summand
+replace-requires-clause-summand g c =
+    omega (arith, c.redirects-before.ensures, summand_redirects g.C.NodeController.seen c.args.self.now c.args.node c.index_mut-site.result.now c.requires.steady c.requires.node c.index_mut-site.ensures.value)
+
+pub returns : goal.returns
+returns g c = controller_came g.C.NodeController.seen node_restarts c.args.self.now _ c.args.notes.now c.restart.new.notes c.args.node c.index_mut-site.result.now
+    (record { controller = c.restart.new.self; switch = c.index_mut-site.result.now.switch; peers = c.index_mut-site.result.now.peers }) c.redirects-before.result c.redirects.result (λ a. (restarts_paces 0 a).node)
+    c.requires.steady c.requires.node c.index_mut-site.ensures.value refl refl refl c.in_ok-restart.ensures.acted c.in_ok-restart.ensures.drawn c.redirects-before.ensures c.redirects.ensures c.replace.ensures refl refl refl refl refl

@@ -1,0 +1,16 @@
+//! A network of IP switches in a run: at each node a controller and its switch, joined by a control
+//! link, and between the nodes the links of a topology. What each event makes of it is defined in
+//! `world_model`; [`World`] is proved to be that definition, over any [`NodeController`].
+#![tactic(auto)]
+
+mod counts;
+mod node;
+mod opening;
+mod site;
+mod step;
+mod tally;
+mod world;
+
+pub use counts::{Counts, Meter};
+pub use node::{InjectFault, NodeController};
+pub use world::World;

@@ -1,0 +1,145 @@
+//! What a network asks of the controllers of its nodes.
+
+use atm_cells::Cell;
+use controller_model::PortRange;
+use ipv4_forward::{RouteChange, Table};
+use ipv4_packet::PacketFault;
+use link_model::Notes;
+use net_types::{Addr, Channel, Mark, NodeId, Numbers, OutOfMemory};
+use port_model::Timers;
+use std::alloc::Global;
+
+/// Why a packet doesn't enter the network.
+#[derive(Clone, Copy, Debug, PartialEq, Eq)]
+pub enum InjectFault {
+    /// It is no packet.
+    Packet(PacketFault),
+    /// Its protocol is that of IFMP, which no sender may use.
+    ControlProtocol,
+    /// No memory was there.
+    OutOfMemory(OutOfMemory),
+}
+
+/// The controller of a node: a router that drives the node's switch. Each call is a rule of
+/// `controller_model`. After want of memory it can only be given up.
+pub trait NodeController {
+    ghost use Rattle.std.specs.Prelude.{◌≡◌, ◌≤◌, ◌<◌, ◌+◌, ◌^◌, ◌↔◌, ℕ, drop, length, map, slice_get, All, IfOk, IsSome, OnOk, None, Some};
+    ghost use Rattle.std.specs.Option.{option_map_or};
+    ghost use Rattle.std.specs.Result.{result_err};
+    ghost use Rattle.net_types.specs.Number.{AreDrawn, GivenOut, HasNumbersLeft};
+    ghost use Rattle.link_model.specs.declared.record.Refusal.{Refusal as RefusalValue};
+    ghost use Rattle.crossbar_model.specs.Channels.{ArePorts};
+    ghost use Rattle.port_model.specs.Setup.{Policy as Rule};
+    ghost use Rattle.controller_model.specs.Controller.{Controller, redirects_of};
+    ghost use Rattle.controller_model.specs.Opening.{after_opening, opened};
+    ghost use Rattle.controller_model.specs.Cells.{cell_comes};
+    ghost use Rattle.controller_model.specs.Packets.{inject_refusal, injected};
+    ghost use Rattle.controller_model.specs.Ticks.{ticks};
+    ghost use Rattle.controller_model.specs.Resets.{node_restarts};
+    ghost use Rattle.controller_model.specs.Changes.{change_comes};
+    ghost use Rattle.controller_model.specs.Sending.{sends};
+    ghost use Rattle.world.specs.Nodes.{AreRoutesOf, AreTimes, IsLabelRange, NamesLinked, acted, changes_of, popped, refusal_of, table_to_be};
+    ghost use Rattle.ipv4_forward.specs.Change.{change_fault};
+
+    /// The policy of the node: which flows are offered a label, and which keep it.
+    type Policy: Copy;
+
+    // The controller as plain data, and what a policy does.
+    ghost seen: { Self → Controller };
+
+    ghost meaning: { Self.Policy → Rule };
+
+    /// A controller before its first input. `ports` are the linked ports, ascending, with the ranges of
+    /// their labels; `cells` is the number of its slots, 1 to 16,384. Each port that `table` names is one
+    /// of `ports`.
+    fn open(
+        alloc: Global,
+        node: NodeId,
+        address: Addr,
+        table: Table,
+        ports: &[PortRange],
+        cells: usize,
+        timers: Timers,
+        policy: Self::Policy,
+        numbers: &mut Numbers,
+    ) -> Result<Self, OutOfMemory>
+        requires ports { ArePorts (map (λ range. range.port) ports.now) }
+        requires ranges { All IsLabelRange ports.now }
+        requires cells { (1 ≤ cells) × (cells ≤ 16384) }
+        requires timers { AreTimes timers }
+        requires table { AreRoutesOf table ports.now }
+        requires numbers { HasNumbersLeft numbers.old }
+        ensures controller { IfOk result (λ c. seen c ≡ opened node address table ports.now cells timers (meaning policy) numbers.old) }
+        ensures numbers { OnOk result (numbers.new ≡ after_opening ports.now numbers.old) };
+
+    /// Takes a cell that comes from the switch.
+    fn receive(
+        &mut self,
+        cell: &Cell,
+        numbers: &mut Numbers,
+        notes: &mut Notes,
+    ) -> Result<(), OutOfMemory>
+        requires frame { cell.now.mark.frame < 2 ^ 63 }
+        requires numbers { HasNumbersLeft numbers.old }
+        ensures acted { OnOk result (acted (seen self.new) notes.new numbers.new ≡ cell_comes (acted (seen self.old) notes.old numbers.old) cell.now) }
+        ensures drawn { OnOk result (AreDrawn numbers.old numbers.new) };
+
+    /// A packet enters the network here, under this number. Refuses what is no packet, and then IFMP's
+    /// protocol; neither refusal changes anything.
+    fn inject(&mut self, number: u32, packet: &[u8], notes: &mut Notes) -> Result<(), InjectFault>
+        ensures acted { (numbers : GivenOut) → OnOk result (acted (seen self.new) notes.new numbers ≡ injected (acted (seen self.old) notes.old numbers) number packet.now) }
+        ensures refused { (name : RefusalValue) → inject_refusal packet.now ≡ Some name ↔ (option_map_or refusal_of (result_err result) None ≡ Some name) }
+        ensures same { IsSome (inject_refusal packet.now) → (self.new ≡ self.old) × (notes.new ≡ notes.old) };
+
+    /// A tick goes by.
+    fn tick(&mut self, numbers: &mut Numbers, notes: &mut Notes) -> Result<(), OutOfMemory>
+        requires numbers { HasNumbersLeft numbers.old }
+        ensures acted { OnOk result (acted (seen self.new) notes.new numbers.new ≡ ticks (acted (seen self.old) notes.old numbers.old)) }
+        ensures drawn { OnOk result (AreDrawn numbers.old numbers.new) };
+
+    /// Starts anew. The cells that wait for the switch stay.
+    fn restart(&mut self, numbers: &mut Numbers, notes: &mut Notes) -> Result<(), OutOfMemory>
+        requires numbers { HasNumbersLeft numbers.old }
+        ensures acted { OnOk result (acted (seen self.new) notes.new numbers.new ≡ node_restarts (acted (seen self.old) notes.old numbers.old)) }
+        ensures drawn { OnOk result (AreDrawn numbers.old numbers.new) };
+
+    /// A change of a route comes, which the table accepts after all that wait. A port that it names is
+    /// linked.
+    fn change(
+        &mut self,
+        change: &RouteChange,
+        numbers: &mut Numbers,
+        notes: &mut Notes,
+    ) -> Result<(), OutOfMemory>
+        requires accepted { change_fault (table_to_be (seen self.old)) change.now ≡ None }
+        requires port { NamesLinked (seen self.old) change.now }
+        requires count { changes_of (seen self.old) + 1 < 2 ^ 32 }
+        requires numbers { HasNumbersLeft numbers.old }
+        ensures acted { OnOk result (acted (seen self.new) notes.new numbers.new ≡ change_comes (acted (seen self.old) notes.old numbers.old) change.now) }
+        ensures drawn { OnOk result (AreDrawn numbers.old numbers.new) };
+
+    /// Puts the cells of a frame of 1 to 1528 octets at the end of the queue to the switch: whole, or not
+    /// at all with the entry PoolFull.
+    fn forge(
+        &mut self,
+        channel: Channel,
+        payload: &[u8],
+        mark: Mark,
+        notes: &mut Notes,
+    ) -> Result<(), OutOfMemory>
+        requires channel { channel.vpi ≤ 255 }
+        requires payload { (1 ≤ length payload.now) × (length payload.now ≤ 1528) }
+        ensures { (numbers : GivenOut) → OnOk result (acted (seen self.new) notes.new numbers ≡ sends (acted (seen self.old) notes.old numbers) channel mark payload.now) };
+
+    /// Takes the first cell that waits for the switch. None exactly where none waits.
+    fn pop(&mut self) -> Option<Cell>
+        ensures first { result ≡ slice_get (seen self.old).queue 0 }
+        ensures popped { seen self.new ≡ popped (seen self.old) };
+
+    /// How many REDIRECTs its ports accepted since the opening; once at its type's end it stays there.
+    fn redirects(&self) -> u64
+        ensures { result ≡ redirects_of (seen self.now) };
+
+    /// Gives up all cells, labels, grants and requests.
+    fn abandon(self);
+}

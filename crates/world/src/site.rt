@@ -1,0 +1,29 @@
+//! A node of a network.
+
+use crate::node::NodeController;
+use gsmp_switch::Switch;
+use world_model::LinkEnd;
+
+/// The most ports of a node, port 0 among them.
+pub(crate) const PORTS: usize = 9;
+
+/// A node in a run: its two actors, and the other ends of its links by the numbers of its ports.
+#[must_use]
+pub(crate) struct Site<C> {
+    pub(crate) controller: C,
+    pub(crate) switch: Switch,
+    pub(crate) peers: [Option<LinkEnd>; PORTS],
+}
+
+impl<C: NodeController> Site<C> {
+    /// Gives both actors up.
+    pub(crate) fn abandon(self) {
+        let Site {
+            controller,
+            switch,
+            peers: _,
+        } = self;
+        controller.abandon();
+        switch.abandon();
+    }
+}
