@@ -1,0 +1,10 @@
+pub mod Lasts
+pub mod Working
+pub mod Anew
+pub mod Tied
+pub mod Performing
+pub mod Flows
+pub mod Joining
+pub mod Answering
+pub mod Events
+pub mod Laws
