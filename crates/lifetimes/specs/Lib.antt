@@ -1,0 +1,4 @@
+pub mod Setting
+pub mod Aging
+pub mod Law
+pub mod Run
