@@ -1,0 +1,26 @@
+-- which entries are causes, which marks and cells have one, and a cell without its channel
+
+use Rattle.std.specs.Prelude.{Bool, not, ◌&&◌, List}
+use Rattle.std.specs.List.{list_any}
+use Rattle.net_types.specs.declared.channel.Channel.{Channel}
+use Rattle.net_types.specs.declared.number.Mark.{Mark}
+use Rattle.atm_cells.specs.declared.cell.Cell.{Cell}
+use Rattle.link_model.specs.declared.entries.Entry.{Entry}
+use Rattle.link_model.specs.Ledger.{same_mark}
+use Rattle.run_model.specs.Causes.{is_broken}
+
+abbrev pub is_cause_of : Mark → Entry → Bool
+is_cause_of mark entry = same_mark entry.mark mark && not (is_broken entry.cause)
+
+abbrev pub has_cause : List Entry → Mark → Bool
+has_cause entries mark = list_any (is_cause_of mark) entries
+
+abbrev pub is_caused : List Entry → List Cell → Bool
+is_caused entries cells = list_any (λ cell. has_cause entries cell.mark) cells
+
+-- the channel in place of each other
+abbrev pub plain : Channel
+plain = record { vpi = 0; vci = 15 }
+
+abbrev pub bare : Cell → Cell
+bare c = record c { header = record { channel = plain; last = c.header.last } }
