@@ -1,0 +1,52 @@
+-- What a rule of a port has to be for its controller to lead the line: the lift from a port to its controller
+
+use Rattle.std.specs.Prelude.{◌≡◌, ℕ, ◌<◌, ◌≤◌, true, List, Some}
+use Rattle.net_types.specs.declared.node.PortNo.{PortNo}
+use Rattle.net_types.specs.declared.prefix.Addr.{Addr}
+use Rattle.net_types.specs.Label.{is_label_number}
+use Rattle.ipv4_packet.specs.Packet.{ifmp_packet_of}
+use Rattle.flow_encaps.specs.Default.{default_payload}
+use Rattle.ifmp_wire.specs.declared.message.Message.{Message}
+use Rattle.ifmp_wire.specs.Message.{octets_of as ifmp_octets}
+use Rattle.ordered_lists.specs.Ordered.{Every}
+use Rattle.label_line.specs.Cells as lines
+use Rattle.label_line.specs.Cells.{Role}
+use Rattle.port_model.specs.declared.action.Action.{Action}
+use Rattle.port_model.specs.declared.action.Action.TheVariants.{Say}
+use Rattle.controller_model.specs.Controller.{Acted, Linked, linked_at}
+use Rattle.controller_model.specs.Resets.{begins}
+use Rattle.controller_model.specs.Performing.{Rule}
+use Rattle.port_views.specs.Link.{LinkLabel}
+use Rattle.port_views.specs.Reaching.{Leads}
+use Rattle.shown_cells.specs.Seen.{IsUnmade}
+use Rattle.shown_cells.specs.Label.{told_of}
+use Rattle.controller_views.specs.Ends.{Grows}
+
+-- the ports of a link are above 0, and a label's number is one
+pub record IsProper (link : LinkLabel) : Type 0 where
+  pub above : (role : Role) → 0 < (link.port role).0
+  pub label : is_label_number link.label ≡ true
+
+-- *A port's message*, as its frame's payload carries it: what a receiver reads in it is what was said
+abbrev pub payload_by : (address : Addr) → Message → List ℕ
+payload_by address message = default_payload (ifmp_packet_of address (ifmp_octets message))
+
+abbrev pub IsReadable : (address : Addr) → Message → Type 0
+IsReadable address message = told_of (payload_by address message) ≡ Some (record { source = address; message = message })
+
+abbrev pub IsReadableAction : (address : Addr) → Action → Type 0
+IsReadableAction address (Say message) = IsReadable address message
+IsReadableAction address action = Unit {0}
+
+-- *A rule* draws instances and gives none back, says what can be read, and leads the line at the link's port
+pub record IsLifted (link : LinkLabel) (like : Type 0) (role : Role) (a : Acted) (port : PortNo) (rule : Rule) : Type 0 where
+  pub drawn : (linked : Linked) → linked_at a.controller port ≡ Some linked
+      → a.numbers.instances ≤ (rule linked.setup a.controller.desk (begins a linked)).instances
+  pub reads : (linked : Linked) → linked_at a.controller port ≡ Some linked → port ≡ link.port role
+      → Every (IsReadableAction (link.address role)) (rule linked.setup a.controller.desk (begins a linked)).actions
+  pub leads : (linked : Linked) → linked_at a.controller port ≡ Some linked → port ≡ link.port role → (queued : List lines.Cell)
+      → Leads role link like queued (begins a linked) (rule linked.setup a.controller.desk (begins a linked))
+
+-- *Elsewhere* frames are made and numbers given out
+abbrev pub Growing : (a b : Acted) → Type 0
+Growing a b = IsUnmade a.numbers.controls a.notes.frames → Grows a b

@@ -1,0 +1,32 @@
+//! What a controller, its switch and the control link between them show of the line of one input of the
+//! switch.
+//!
+//! `specs/Words` says what a request, an answer and a greeting of GSMP are to the input's line, and what
+//! a cell of the control link is; `specs/Shown` has the relation; `specs/Reaching` says that moves of
+//! the line lead from one site to the next, and `specs/Quiet` what is nothing to the line. There is no
+//! code that runs.
+#![tactic(auto)]
+
+ghost use Rattle.std.specs.Prelude.{◌≡◌, ◌+◌, List, replicate, ℕ};
+ghost use Rattle.net_types.specs.declared.channel.End.{End};
+ghost use Rattle.net_types.specs.declared.node.NodeId.{NodeId};
+ghost use Rattle.link_model.specs.declared.frames.Frame.{Frame};
+ghost use Rattle.branch_line.specs.Line.{Line};
+ghost use Rattle.branch_line.specs.Moves.{DrawElsewhere, run};
+ghost use Rattle.world_model.specs.World.{Site};
+ghost use Rattle.input_views.specs.Shown.{InputShows};
+ghost use Rattle.input_views.specs.Reaching.{Follows, ReachedAs, Anything};
+ghost use Rattle.input_views.specs.Quiet.{IsQuietAt};
+
+/// Where moves lead from each line that a site shows to one that the next shows, a line is reached and
+/// shows there too; what a site does elsewhere leaves the line, but for instances that are drawn. It does
+/// nothing, and its contract is the statement.
+pub fn inputs_lead_lines()
+    ensures reached { (node : NodeId) (input : End) (v w : Site) (old new : List Frame) (m n : ℕ)
+        → ReachedAs node input v old m Anything
+        → ((line : Line) → InputShows node input v old m line → Follows node input w new n Anything line)
+        → ReachedAs node input w new n Anything }
+    ensures quiet { (node : NodeId) (input : End) (before after : Site) (old new : List Frame) (m n : ℕ) (line : Line)
+        → IsQuietAt node input before after old new m n → InputShows node input before old m line → InputShows node input after new n line }
+    ensures draws { (line : Line) (k : ℕ) → run line (replicate k DrawElsewhere) ≡ record line { fresh = line.fresh + k } }
+{}

@@ -1,0 +1,5 @@
+pub mod Follow
+pub mod Quiet
+pub mod Counting
+pub mod Joins
+pub mod Unspent

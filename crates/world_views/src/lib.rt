@@ -1,0 +1,36 @@
+//! What a network shows of the line of each label of each link and of each input of each switch, and
+//! what is so of every network in a run as far as the law of its lines needs it.
+//!
+//! `specs/Shown` has the relation of a network and the line of a label, `specs/Pairs` the joins that a
+//! switch has or may be asked to make, `specs/Marks` what cells mean, and `specs/Between` all that
+//! holds between controllers, switches and links, as one record. There is no code that runs.
+#![tactic(auto)]
+
+ghost use Rattle.std.specs.Prelude.{◌≡◌, [], Some};
+ghost use Rattle.net_types.specs.declared.node.NodeId.{NodeId};
+ghost use Rattle.label_line.specs.Cells.{Role};
+ghost use Rattle.label_line.specs.Line.{Line};
+ghost use Rattle.controller_model.specs.Controller.{Acted};
+ghost use Rattle.world_model.specs.World.{World, Site, site_at, at_controller};
+ghost use Rattle.port_views.specs.Link.{LinkLabel};
+ghost use Rattle.controller_views.specs.Ends.{EndLeads};
+ghost use Rattle.controller_views.specs.Lifted.{Growing};
+ghost use Rattle.world_views.specs.Shown.{WorldShows, WorldGoes, AreApart, acting};
+
+/// The controller of any node acts: at an end of a link what leads the line of a label there leads the
+/// network, and at any other node frames are made and numbers given out. It does nothing, and its
+/// contract is the statement.
+pub fn controllers_lead_worlds<Like>()
+    ensures { (link : LinkLabel) (w : World) (line : Line) (node : NodeId) (act : Acted → Acted) → AreApart link
+        → ((site : Site) → site_at w node ≡ Some site → (act (acting w site)).controller.node ≡ site.controller.node)
+        → ((site : Site) → site_at w node ≡ Some site → Growing (acting w site) (act (acting w site)))
+        → ((role : Role) (site : Site) → site_at w node ≡ Some site → node.0 ≡ (link.node role).0
+        → EndLeads link Like role (acting w site) [] (act (acting w site)) [])
+        → WorldShows link Like w line → WorldGoes link Like (at_controller w node act) line }
+{}
+
+/// Less may be joined than before: the network shows the same line. It does nothing, and its contract is
+/// the statement.
+pub fn less_is_joined<Less, Like>()
+    ensures { (link : LinkLabel) (w : World) (line : Line) → (Less → Like) → WorldShows link Like w line → WorldShows link Less w line }
+{}
