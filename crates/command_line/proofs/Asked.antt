@@ -1,0 +1,149 @@
+-- what is read of words is the command that they ask for
+
+use Rattle.std.proofs.Common.{◌≡◌, ◌∙◌, ℕ, Bool, true, false, List, [], ◌∷◌, IfOk, Result, Ok, Err, Option, Some, None, codes, decimal, inl, inr, refl, sym, ap, subst}
+use Rattle.std.specs.Prelude.{bytes_eq, if◌then◌else◌}
+use Rattle.std.specs.List.{list_any}
+use Rattle.std.specs.Option.{option_map}
+use Rattle.std.proofs.lemmas.Slice.Eq.{bytes_eq-Decides}
+use Rattle.net_types.specs.declared.memory.OutOfMemory.{OutOfMemory as NoMemory}
+use Rattle.clap.specs.Walk.{Text}
+use Rattle.clap.specs.Simple.{subcommand_of}
+use Rattle.clap.specs.Faults.{fault_of}
+use Rattle.clap.specs.Kinds.{HasKind}
+use Rattle.clap.specs.Values.{kind_of}
+use Rattle.clap.specs.declared.error.Error.{Error}
+use Rattle.lab_text.specs.Forms.{number_in}
+use Rattle.command_line.specs.declared.command.Command.{Command}
+use Rattle.command_line.specs.declared.command.Command.TheVariants.{Replay, ReplayToml, Ideal, DecodeIfmp, DecodeGsmp, Drill}
+use Rattle.command_line.specs.Commands.{words_of, HasItsNumber, AskFor, IsReading}
+use Rattle.command_line.specs.Grammar.{grammar_app}
+use Rattle.command_line.specs.Reading.{drill, behind_replay, behind_decode, worded, alone, asked, command_in, is_barred, RefusedBy}
+use Rattle.command_line.proofs.Numbers.{drill_told, drill_read, drill_passes}
+use Rattle.command_line.proofs.Parting.{spelled, taken_of, IsGiven, replay_given, ideal_given, replay_word_given, decode_given, drill_given}
+
+is_text : (xs ys : Text) → bytes_eq xs ys ≡ true → xs ≡ ys
+is_text xs ys test = (bytes_eq-Decides xs ys).0 test
+
+-- *A name alone*
+alone_asked : (name : Text) (command : Command) → alone name ≡ Some command → AskFor (name ∷ []) command
+alone_asked name command e = by (bytes_eq name (codes "replay")) refl (bytes_eq name (codes "ideal")) refl e
+  where
+    by : (a : Bool) → bytes_eq name (codes "replay") ≡ a → (b : Bool) → bytes_eq name (codes "ideal") ≡ b
+        → (if a then Some Replay else (if b then Some Ideal else None)) ≡ Some command → AskFor (name ∷ []) command
+    by true ea b eb e =
+        let same : Replay ≡ command = cc in
+        subst (AskFor (name ∷ [])) same (record { words_are = ap (λ x. x ∷ []) (is_text name (codes "replay") ea); number = tt })
+    by false ea true eb e =
+        let same : Ideal ≡ command = cc in
+        subst (AskFor (name ∷ [])) same (record { words_are = ap (λ x. x ∷ []) (is_text name (codes "ideal") eb); number = tt })
+    by false ea false eb e = absurd (cc)
+
+-- *A word behind a name*
+record IsWordOf (name word : Text) (command : Command) : Type 0 where
+  words_are : name ∷ word ∷ [] ≡ words_of command
+  number : HasItsNumber command
+
+replay_asked : (word : Text) (command : Command) → behind_replay word ≡ Some command → IsWordOf (codes "replay") word command
+replay_asked word command e = by (bytes_eq word (codes "toml")) refl e
+  where
+    by : (a : Bool) → bytes_eq word (codes "toml") ≡ a → (if a then Some ReplayToml else None) ≡ Some command
+        → IsWordOf (codes "replay") word command
+    by true ea e =
+        let same : ReplayToml ≡ command = cc in
+        subst (IsWordOf (codes "replay") word) same
+        (record { words_are = ap (λ x. codes "replay" ∷ x ∷ []) (is_text word (codes "toml") ea); number = tt })
+    by false ea e = absurd (cc)
+
+decode_asked : (word : Text) (command : Command) → behind_decode word ≡ Some command → IsWordOf (codes "decode") word command
+decode_asked word command e = by (bytes_eq word (codes "ifmp")) refl (bytes_eq word (codes "gsmp")) refl e
+  where
+    by : (a : Bool) → bytes_eq word (codes "ifmp") ≡ a → (b : Bool) → bytes_eq word (codes "gsmp") ≡ b
+        → (if a then Some DecodeIfmp else (if b then Some DecodeGsmp else None)) ≡ Some command → IsWordOf (codes "decode") word command
+    by true ea b eb e =
+        let same : DecodeIfmp ≡ command = cc in
+        subst (IsWordOf (codes "decode") word) same
+        (record { words_are = ap (λ x. codes "decode" ∷ x ∷ []) (is_text word (codes "ifmp") ea); number = tt })
+    by false ea true eb e =
+        let same : DecodeGsmp ≡ command = cc in
+        subst (IsWordOf (codes "decode") word) same
+        (record { words_are = ap (λ x. codes "decode" ∷ x ∷ []) (is_text word (codes "gsmp") eb); number = tt })
+    by false ea false eb e = absurd (cc)
+
+drill_asked : (word : Text) (command : Command) → drill word ≡ Some command → IsWordOf (codes "drill") word command
+drill_asked word command e = by (number_in 1 9999 word) refl e
+  where
+    by : (found : Option ℕ) → number_in 1 9999 word ≡ found → option_map (λ number. Drill number) found ≡ Some command
+        → IsWordOf (codes "drill") word command
+    by None is e = absurd (cc)
+    by (Some n) is e =
+        let same : Drill n ≡ command = cc in
+        let told = drill_told word n is in
+        subst (IsWordOf (codes "drill") word) same
+        (record { words_are = ap (λ x. codes "drill" ∷ x ∷ []) told.text; number = (told.above, told.below) })
+
+named : (name known word : Text) (command : Command) → bytes_eq name known ≡ true → IsWordOf known word command
+    → AskFor (name ∷ word ∷ []) command
+named name known word command test is =
+    record { words_are = ap (λ x. x ∷ word ∷ []) (is_text name known test) ∙ is.words_are; number = is.number }
+
+worded_asked : (name word : Text) (command : Command) → worded name word ≡ Some command → AskFor (name ∷ word ∷ []) command
+worded_asked name word command e =
+    by (bytes_eq name (codes "replay")) refl (bytes_eq name (codes "decode")) refl (bytes_eq name (codes "drill")) refl e
+  where
+    by : (a : Bool) → bytes_eq name (codes "replay") ≡ a → (b : Bool) → bytes_eq name (codes "decode") ≡ b
+        → (c : Bool) → bytes_eq name (codes "drill") ≡ c
+        → (if a then behind_replay word else (if b then behind_decode word else (if c then drill word else None))) ≡ Some command
+        → AskFor (name ∷ word ∷ []) command
+    by true ea b eb c ec e = named name (codes "replay") word command ea (replay_asked word command e)
+    by false ea true eb c ec e = named name (codes "decode") word command eb (decode_asked word command e)
+    by false ea false eb true ec e = named name (codes "drill") word command ec (drill_asked word command e)
+    by false ea false eb false ec e = absurd (cc)
+
+asked_for : (name : Text) (word : Option Text) (command : Command) → asked name word ≡ Some command → AskFor (spelled name word) command
+asked_for name None command e = alone_asked name command e
+asked_for name (Some word) command e = worded_asked name word command e
+
+-- *The words of a command* are taken, and read as it
+given_words : (command : Command) → HasItsNumber command → IsGiven (words_of command) (Some command)
+given_words Replay has = replay_given
+given_words ReplayToml has = replay_word_given (codes "toml") refl
+given_words Ideal has = ideal_given
+given_words DecodeIfmp has = decode_given (codes "ifmp") refl
+given_words DecodeGsmp has = decode_given (codes "gsmp") refl
+given_words (Drill number) has =
+    let given = drill_given (decimal number) (drill_passes number has.1) in
+    record { none = given.none; free = given.free; read_as = given.read_as ∙ ap (option_map (λ n. Drill n)) (drill_read number has.0 has.1) }
+
+given : (words : List Text) (command : Command) → AskFor words command → IsGiven words (Some command)
+given words command asks =
+    subst (λ (ws : List Text). IsGiven ws (Some command)) (sym asks.words_are) (given_words command asks.number)
+
+-- *The three answers*
+pub barred_read : (words : List Text) → list_any is_barred words ≡ true → IsReading words None
+barred_read words barred = record {
+  asked = λ command e. absurd (cc);
+  all = λ command asks. let passes : list_any is_barred words ≡ false = (given words command asks).none in absurd (cc);
+}
+
+pub found_read : (words : List Text) (found : Option Command) → list_any is_barred words ≡ false → fault_of grammar_app words ≡ []
+    → found ≡ command_in (subcommand_of grammar_app words) → IsReading words found
+found_read words found none free is =
+    let taken = taken_of words none free in
+    record {
+      asked = λ command e.
+          subst (λ (ws : List Text). AskFor ws command) (sym taken.words_are)
+          (asked_for taken.name taken.word command (sym taken.read_as ∙ (sym is ∙ e)));
+      all = λ command asks. is ∙ (given words command asks).read_as;
+    }
+
+pub refused_read : (words : List Text) (error : Error) (result : Result (Option Command) NoMemory) → HasKind (fault_of grammar_app words) error
+    → RefusedBy (kind_of error) result → IfOk result (IsReading words)
+refused_read words error (Err memory) has refused = tt
+refused_read words error (Ok found) has refused = record {
+  asked = λ command e. let none : found ≡ None = refused.0 in absurd (cc);
+  all = λ command asks. absurd (only (subst (λ kinds. HasKind kinds error) (given words command asks).free has));
+}
+  where
+    only : HasKind [] error → ⊥
+    only (inl memory) = refused.1 memory
+    only (inr none) = none

@@ -1,0 +1,105 @@
+-- a word spells the number of a drill exactly where it is that number's text
+
+use Rattle.std.proofs.Common.{◌≡◌, ◌∙◌, ℕ, zero, suc, ◌^◌, ◌<◌, ◌≤◌, ◌==◌, ◌&&◌, ◌||◌, Bool, true, false, not, List, [], ◌∷◌, length, nat_lt, nat_le, slice_index, get_or, None, Some, decimal, refl, sym, ap, arith}
+use Rattle.std.specs.Prelude.{if◌then◌else◌}
+use Rattle.std.specs.List.{list_all}
+use Rattle.std.specs.Char.{is_ascii_digit}
+use Rattle.std.specs.Str.{all_ascii_digits}
+use Rattle.std.specs.Str.Parse.{digits_value}
+use Rattle.std.proofs.lemmas.Bool.Decides.{nat_tests}
+use Rattle.std.proofs.lemmas.Fmt.{digits_decimal, digits_value-decimal, decimal-digits_value, decimal_nonempty, first_decimal, decimal_digit}
+use Rattle.std.proofs.lemmas.Str.Parse.{IsNumeralModel, numerals_by_value, tells_all_ascii_digits}
+use Rattle.lab_text.specs.Numeral.{is_number, number}
+use Rattle.lab_text.specs.Forms.{number_in, within}
+use Rattle.command_line.specs.Reading.{is_barred}
+
+own : IsNumeralModel (λ ds. all_ascii_digits ds ≡ true) (digits_value 10)
+own = numerals_by_value (λ ds. all_ascii_digits ds ≡ true) tells_all_ascii_digits
+
+all_is : (ds : List ℕ) → list_all is_ascii_digit ds ≡ all_ascii_digits ds
+all_is [] = refl
+all_is (c ∷ cs) = ap (λ b. is_ascii_digit c && b) (all_is cs)
+
+-- *From a number to its text and back*
+decimal_digits : (n : ℕ) → n < 2 ^ 64 → list_all is_ascii_digit (decimal n) ≡ true
+decimal_digits n few = all_is (decimal n) ∙ digits_decimal own n few
+
+or_true : (b : Bool) → (b || true) ≡ true
+or_true true = refl
+or_true false = refl
+
+decimal_is_number : (n : ℕ) → n < 2 ^ 64 → is_number (decimal n) ≡ true
+decimal_is_number zero few = rw (decimal_digit 0 (omega arith)) refl
+decimal_is_number (suc m) few =
+    let some : nat_lt 0 (length (decimal (suc m))) ≡ true = grind (arith, nat_tests, decimal_nonempty (suc m) few) in
+    let first : slice_index (decimal (suc m)) 0 == 48 ≡ false =
+    grind (arith, nat_tests, first_decimal (suc m) (omega arith) few) in
+    rw (some, decimal_digits (suc m) few, first) (or_true (length (decimal (suc m)) == 1))
+
+number_back : (n : ℕ) → n < 2 ^ 64 → number (decimal n) ≡ Some n
+number_back n few = rw (decimal_is_number n few) (ap Some (digits_value-decimal own n few))
+
+pub drill_read : (n : ℕ) → 1 ≤ n → n ≤ 9999 → number_in 1 9999 (decimal n) ≡ Some n
+drill_read n above below =
+    let low : nat_le 1 n ≡ true = grind (arith, nat_tests) in
+    let high : nat_le n 9999 ≡ true = grind (arith, nat_tests) in
+    rw (number_back n (omega arith), low, high) refl
+
+-- *From a text to its number and back*
+both : (a b : Bool) → (a && b) ≡ true → (a ≡ true) × (b ≡ true)
+both true b e = (refl, e)
+both false b e = absurd (cc)
+
+text_back : (word : List ℕ) → is_number word ≡ true → digits_value 10 word < 2 ^ 64 → decimal (digits_value 10 word) ≡ word
+text_back word is few =
+    let outer = both (nat_lt 0 (length word) && list_all is_ascii_digit word) (length word == 1 || not (slice_index word 0 == 48)) is in
+    let inner = both (nat_lt 0 (length word)) (list_all is_ascii_digit word) outer.0 in
+    let some : 0 < length word = grind (arith, nat_tests) in
+    decimal-digits_value own word (sym (all_is word) ∙ inner.1) some (leading outer.1) few
+  where
+    by : (one : Bool) → length word == 1 ≡ one → (one || false) ≡ true → length word ≡ 1
+    by true is_one e = grind (arith, nat_tests)
+    by false is_one e = absurd (cc)
+
+    leading : (length word == 1 || not (slice_index word 0 == 48)) ≡ true → get_or word 0 0 ≡ 48 → length word ≡ 1
+    leading e zero_first =
+        let test : slice_index word 0 == 48 ≡ true = grind (arith, nat_tests) in
+        by (length word == 1) refl (rw test at e)
+
+pub record IsDrill (word : List ℕ) (n : ℕ) : Type 0 where
+  pub text : word ≡ decimal n
+  pub above : 1 ≤ n
+  pub below : n ≤ 9999
+
+pub drill_told : (word : List ℕ) (n : ℕ) → number_in 1 9999 word ≡ Some n → IsDrill word n
+drill_told word n e = by (is_number word) refl e
+  where
+    value : ℕ
+    value = digits_value 10 word
+
+    on : (a : Bool) → nat_le 1 value ≡ a → (b : Bool) → nat_le value 9999 ≡ b → is_number word ≡ true
+        → (if a && b then Some value else None) ≡ Some n → IsDrill word n
+    on false ea b eb is e = absurd (cc)
+    on true ea false eb is e = absurd (cc)
+    on true ea true eb is e =
+        let same : value ≡ n = cc in
+        let above : 1 ≤ value = grind (arith, nat_tests) in
+        let below : value ≤ 9999 = grind (arith, nat_tests) in
+        let text : decimal value ≡ word = text_back word is (omega arith) in
+        record { text = cc; above = omega arith; below = omega arith }
+
+    by : (is : Bool) → is_number word ≡ is → within 1 9999 (if is then Some value else None) ≡ Some n → IsDrill word n
+    by false is e = absurd (cc)
+    by true is e = on (nat_le 1 value) refl (nat_le value 9999) refl is e
+
+-- *A number's text* isn't barred
+digits_pass : (ds : List ℕ) → list_all is_ascii_digit ds ≡ true → is_barred ds ≡ false
+digits_pass [] all = refl
+digits_pass (c ∷ cs) all =
+    let digit : is_ascii_digit c ≡ true = (both (is_ascii_digit c) (list_all is_ascii_digit cs) all).0 in
+    let dash : 45 == c ≡ false = grind (arith, nat_tests) in
+    let letter : c == 104 ≡ false = grind (arith, nat_tests) in
+    rw (dash, letter) refl
+
+pub drill_passes : (n : ℕ) → n ≤ 9999 → is_barred (decimal n) ≡ false
+drill_passes n below = digits_pass (decimal n) (decimal_digits n (omega arith))

@@ -1,0 +1,14 @@
+//! The words of the command line: the command whose words they are, or none. `clap` parts them into a
+//! subcommand and its word.
+#![tactic(auto)]
+
+mod command;
+mod grammar;
+mod reading;
+#[cfg(test)]
+mod tests;
+mod word;
+
+pub use command::Command;
+pub use reading::read_command;
+pub use word::Word;
