@@ -271,7 +271,7 @@ taker_takes notes has_slot begun r s c next p k =
       adds = adds_nothing all entries entries refl;
     })))))
 
--- C3: the test of a chain that a last cell ended
+-- the test of a chain that a last cell ended
 pub taker_tests : (notes : Journal) (begun : List Cell) (s : List Cell) (c : Cell) (next : List Cell) → c.header.last ≡ true → Stretch notes.entries begun s → Step notes.entries s c next
     → Adds (begun ++ c ∷ []) notes.entries (tested notes (begun ++ c ∷ [])).notes.entries
 taker_tests notes begun s c next last h k =
