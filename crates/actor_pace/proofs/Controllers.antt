@@ -1,7 +1,8 @@
 -- a controller keeps pace with each input
 
-use Rattle.std.proofs.Common.{◌≡◌, ℕ, ◌≤◌, ◌+◌, true, List, [], ◌∷◌, ◌++◌, length, length-append, Option, None, Some, refl, ◌∙◌, ap, arith, if◌then◌else◌, map, fold}
+use Rattle.std.proofs.Common.{◌≡◌, ℕ, ◌≤◌, ◌+◌, true, List, [], ◌∷◌, ◌++◌, length, length-append, Option, None, Some, refl, sym, ◌∙◌, ap, arith, if◌then◌else◌, map, fold}
 use Rattle.std.specs.Prelude.{◌==◌, nat_lt, drop, flat_map, Result, Ok, Err}
+use Rattle.std.proofs.lemmas.List.Sums.{fold-append}
 use Rattle.net_types.specs.declared.node.PortNo.{PortNo}
 use Rattle.net_types.specs.declared.channel.Channel.{Channel}
 use Rattle.net_types.specs.declared.channel.End.{End}
@@ -13,6 +14,7 @@ use Rattle.ipv4_packet.specs.declared.validate.PacketFault.{PacketFault}
 use Rattle.ipv4_forward.specs.Hop.{hop_of, onward}
 use Rattle.ipv4_forward.specs.declared.outcome.Hop.{Hop}
 use Rattle.ipv4_forward.specs.declared.outcome.Hop.TheVariants.{Here, On, NoRoute, Expired}
+use Rattle.ipv4_forward.specs.Change.{changed}
 use Rattle.ipv4_forward.specs.declared.change.RouteChange.{RouteChange}
 use Rattle.atm_cells.specs.declared.cell.Cell.{Cell}
 use Rattle.flow_ids.specs.Flow.{kind_of}
@@ -75,7 +77,7 @@ module _ (floor : ℕ) where
   releases_join_paces a (Some join) =
       let noted : Acted = note a (Part a.controller.node join.input.port (number_of_channel join.input.channel)) in
       paces_then floor a (parts a join.input) (gives_back (parts a join.input) join)
-      (paces_then floor a noted (parts a join.input) (same floor a noted refl refl refl refl refl refl)
+      (paces_then floor a noted (parts a join.input) (same floor a noted refl refl refl refl refl refl refl)
       (at_port_paces floor noted join.input.port (λ setup desk w. port_joins.parted w (number_of_channel join.input.channel))))
       (at_port_paces floor (parts a join.input) join.port (λ setup desk w. port_joins.given_back w join.grant))
 
@@ -90,7 +92,7 @@ module _ (floor : ℕ) where
   ends_meeting_paces : (a : Acted) → To a (ends_meeting a)
   ends_meeting_paces a =
       let met : Acted = record a { controller = record a.controller { has_met = true } } in
-      paces_then floor a met (ends_meeting a) (same floor a met refl refl refl refl refl refl) (paces_fold floor asks (asks_paces floor) (flat_map default_branches (up_ports a.controller)) met)
+      paces_then floor a met (ends_meeting a) (same floor a met refl refl refl refl refl refl refl) (paces_fold floor asks (asks_paces floor) (flat_map default_branches (up_ports a.controller)) met)
 
   tells_paces : (a : Acted) (request : Request) (port : PortNo) → To a (tells_port a request (Some port))
   tells_paces a request port = at_port_paces floor a port (λ setup desk w. port_answers.done setup w request)
@@ -114,21 +116,21 @@ module _ (floor : ℕ) where
   clears_of_paces : (a : Acted) (o : Option Linked) → To a (clears_of a o)
   clears_of_paces a None = itself floor a
   clears_of_paces a (Some linked) = on_both (To a) (may_clear a.controller linked) (with_linked a (record linked { port = cleared linked.port })) a
-      (same floor a (with_linked a (record linked { port = cleared linked.port })) refl refl refl refl refl (ports_put (record linked { port = cleared linked.port }) a.controller.ports)) (itself floor a)
+      (same floor a (with_linked a (record linked { port = cleared linked.port })) refl refl refl refl refl refl (ports_put (record linked { port = cleared linked.port }) a.controller.ports)) (itself floor a)
 
   -- *Changes of routes*: one that is taken waits no more
   begins_change_paces : (a : Acted) (change : RouteChange) → To a (begins_change a change)
   begins_change_paces a change =
       let begun : Acted = record a { controller = record a.controller { is_begun = true } } in
       on_both (To a) a.controller.is_begun a (fold takes_join_back begun (changed_joins a.controller change)) (itself floor a)
-      (paces_then floor a begun (fold takes_join_back begun (changed_joins a.controller change)) (same floor a begun refl refl refl refl refl refl)
+      (paces_then floor a begun (fold takes_join_back begun (changed_joins a.controller change)) (same floor a begun refl refl refl refl refl refl refl)
       (paces_fold floor takes_join_back (λ b join. takes_back_paces floor b join.input (output_of join)) (changed_joins a.controller change) begun))
 
   abbrev Up : Acted → Acted → Type 0
   Up a b = Follows floor a b
 
   taken_follows : (a : Acted) (change : RouteChange) (later : List RouteChange) → a.controller.waiting ≡ change ∷ later → Up a (takes_change a change later)
-  taken_follows a change later is = record { controls = omega arith; queue = λ most from le h. h; changes = omega (arith, ap length is); node = refl; ports = refl }
+  taken_follows a change later is = record { controls = omega arith; queue = λ most from le h. h; changes = omega (arith, ap length is); to_be = ap (fold changed a.controller.table) (sym is); node = refl; ports = refl }
 
   takes_each_follows : (changes : List RouteChange) (a : Acted) → a.controller.waiting ≡ changes → Up a (takes_each a changes)
   takes_each_follows [] a is = follows floor a a (itself floor a)
@@ -159,7 +161,7 @@ module _ (floor : ℕ) where
   answer_comes_follows a message = takes (answered a.controller.desk message)
     where
       at_desk : (answer : Answered) → Up a (with_desk a (after_answer a.controller.desk answer))
-      at_desk answer = follows floor a (with_desk a (after_answer a.controller.desk answer)) (same floor a (with_desk a (after_answer a.controller.desk answer)) refl refl refl refl refl refl)
+      at_desk answer = follows floor a (with_desk a (after_answer a.controller.desk answer)) (same floor a (with_desk a (after_answer a.controller.desk answer)) refl refl refl refl refl refl refl)
 
       takes : (answer : Answered) → Up a (takes_answer a answer)
       takes Unknown = at_desk Unknown
@@ -172,7 +174,7 @@ module _ (floor : ℕ) where
           follows_then floor a b (takes_answer a (Failed s code)) (at_desk (Failed s code)) (follows floor b (node_resets b) (node_resets_paces floor b)))
 
   meets_paces : (a : Acted) → To a (meets a)
-  meets_paces a = paces_then floor a (with_desk a empty_desk) (meets a) (same floor a (with_desk a empty_desk) refl refl refl refl refl refl) (asks_paces floor (with_desk a empty_desk) AllPorts)
+  meets_paces a = paces_then floor a (with_desk a empty_desk) (meets a) (same floor a (with_desk a empty_desk) refl refl refl refl refl refl refl) (asks_paces floor (with_desk a empty_desk) AllPorts)
 
   answers_paces : (a : Acted) (answer : Answer (Said Party) Party) → To a (answers a (gsmp_answer answer))
   answers_paces a Quiet = itself floor a
@@ -186,7 +188,7 @@ module _ (floor : ℕ) where
   steps_paces : (a : Acted) (step : sides.Step Party) → To a (steps a step)
   steps_paces a step =
       let turned : Acted = record a { controller = record a.controller { adjacency = step.side } } in
-      paces_then floor a turned (steps a step) (same floor a turned refl refl refl refl refl refl) (answers_paces turned step.answer)
+      paces_then floor a turned (steps a step) (same floor a turned refl refl refl refl refl refl refl) (answers_paces turned step.answer)
 
   told_follows : (a : Acted) (message : Message) → Up a (told a message)
   told_follows a (messages.Adjacency greeting) =
@@ -200,7 +202,7 @@ module _ (floor : ℕ) where
 
   -- a record alone
   noted_paces : (a b : Acted) → b.controller ≡ a.controller → b.numbers ≡ a.numbers → To a b
-  noted_paces a b c n = same floor a b (λ i. (n i).controls) (λ i. (c i).queue) (λ i. (c i).waiting) (λ i. (c i).changes) (λ i. (c i).node) (λ i. ports_of (c i))
+  noted_paces a b c n = same floor a b (λ i. (n i).controls) (λ i. (c i).queue) (λ i. (c i).waiting) (λ i. (c i).changes) (λ i. (c i).table) (λ i. (c i).node) (λ i. ports_of (c i))
 
   gsmp_follows : (a : Acted) (r : Result Message GsmpFault) → Up a (gsmp_holds a r)
   gsmp_follows a (Ok message) = told_follows a message
@@ -267,9 +269,9 @@ module _ (floor : ℕ) where
 
   -- *Cells*
   with_reassembly_paces : (a : Acted) (taker : Taker) (r : Reassembly) → To a (with_reassembly a taker r)
-  with_reassembly_paces a ForGsmp r = same floor a (with_reassembly a ForGsmp r) refl refl refl refl refl refl
-  with_reassembly_paces a (ForDefault linked) r = same floor a (with_reassembly a (ForDefault linked) r) refl refl refl refl refl (ports_put (record linked { reassembly = r }) a.controller.ports)
-  with_reassembly_paces a (ForLabel linked label) r = same floor a (with_reassembly a (ForLabel linked label) r) refl refl refl refl refl (ports_put (record linked { chains = chains_with linked.chains label.number r }) a.controller.ports)
+  with_reassembly_paces a ForGsmp r = same floor a (with_reassembly a ForGsmp r) refl refl refl refl refl refl refl
+  with_reassembly_paces a (ForDefault linked) r = same floor a (with_reassembly a (ForDefault linked) r) refl refl refl refl refl refl (ports_put (record linked { reassembly = r }) a.controller.ports)
+  with_reassembly_paces a (ForLabel linked label) r = same floor a (with_reassembly a (ForLabel linked label) r) refl refl refl refl refl refl (ports_put (record linked { chains = chains_with linked.chains label.number r }) a.controller.ports)
 
   takes_follows : (a : Acted) (cell : Cell) (o : Option Taker) → cell.mark.frame + 1 ≤ floor → Up a (takes_cell a cell o)
   takes_follows a cell None low = follows floor a (takes_cell a cell None) (noted_paces a (takes_cell a cell None) refl refl)
@@ -331,15 +333,23 @@ module _ (floor : ℕ) where
   restarts_paces a = node_restarts_paces floor a
 
   -- *A change comes*
-  pub record Changed (a b : Acted) : Type 0 where
+  pub record Changed (change : RouteChange) (a b : Acted) : Type 0 where
     pub controls : a.numbers.controls ≤ b.numbers.controls
     pub queue : (most : ℕ) → floor ≤ most → b.numbers.controls ≤ most → AreUpTo most a.controller.queue → AreUpTo most b.controller.queue
     pub changes : changes_of b.controller ≡ changes_of a.controller + 1
+    pub to_be : fold changed b.controller.table b.controller.waiting ≡ changed (fold changed a.controller.table a.controller.waiting) change
     pub node : b.controller.node ≡ a.controller.node
     pub ports : ports_of b.controller ≡ ports_of a.controller
 
-  pub change_changes : (a : Acted) (change : RouteChange) → Changed a (change_comes a change)
+  pub change_changes : (a : Acted) (change : RouteChange) → Changed change a (change_comes a change)
   change_changes a change =
       let waits : Acted = record a { controller = record a.controller { waiting = a.controller.waiting ++ change ∷ [] } } in
       let f : Up waits (change_comes a change) = takes_changes_follows waits in
-      record { controls = f.controls; queue = f.queue; changes = omega (arith, f.changes, length-append a.controller.waiting (change ∷ [])); node = f.node; ports = f.ports }
+      record {
+        controls = f.controls;
+        queue = f.queue;
+        changes = omega (arith, f.changes, length-append a.controller.waiting (change ∷ []));
+        to_be = f.to_be ∙ fold-append changed a.controller.table a.controller.waiting (change ∷ []);
+        node = f.node;
+        ports = f.ports;
+      }

@@ -1,5 +1,5 @@
 -- a controller keeps pace: what its smallest rules do to the frame numbers of what waits for the switch, and to the
--- changes of routes that came, and that its node and its ports stay
+-- changes of routes that came and the table that they lead to, and that its node and its ports stay
 
 use Rattle.std.proofs.Common.{◌≡◌, ℕ, ◌≤◌, true, false, List, [], ◌∷◌, length, Option, None, Some, refl, sym, ◌∙◌, ap, subst, arith, if◌then◌else◌, map, fold}
 use Rattle.std.specs.Prelude.{◌==◌, nat_eq, nat_le}
@@ -17,6 +17,7 @@ use Rattle.gsmp_wire.specs.declared.request.Request.TheVariants.{MoveBranch}
 use Rattle.link_model.specs.declared.record.Record.TheVariants.{Loss}
 use Rattle.link_model.specs.declared.record.Cause.TheVariants.{PoolFull}
 use Rattle.link_model.specs.Notes.{noted}
+use Rattle.ipv4_forward.specs.Change.{changed}
 use Rattle.frame_model.specs.Sending.{Sent}
 use Rattle.frame_model.specs.Frame.{frame_cells, made}
 use Rattle.frame_model.specs.Reassembly.{nothing_taken}
@@ -53,11 +54,12 @@ module _ (floor : ℕ) where
     pub queue : (most : ℕ) → floor ≤ most → b.numbers.controls ≤ most → AreUpTo most a.controller.queue → AreUpTo most b.controller.queue
     pub waiting : b.controller.waiting ≡ a.controller.waiting
     pub taken : b.controller.changes ≡ a.controller.changes
+    pub table : b.controller.table ≡ a.controller.table
     pub node : b.controller.node ≡ a.controller.node
     pub ports : ports_of b.controller ≡ ports_of a.controller
 
   pub itself : (a : Acted) → Paces a a
-  itself a = record { controls = omega arith; queue = λ most from le h. h; waiting = refl; taken = refl; node = refl; ports = refl }
+  itself a = record { controls = omega arith; queue = λ most from le h. h; waiting = refl; taken = refl; table = refl; node = refl; ports = refl }
 
   pub paces_then : (a b c : Acted) → Paces a b → Paces b c → Paces a c
   paces_then a b c p q = record {
@@ -65,26 +67,29 @@ module _ (floor : ℕ) where
     queue = λ most from le h. q.queue most from le (p.queue most from (omega (arith, le, q.controls)) h);
     waiting = q.waiting ∙ p.waiting;
     taken = q.taken ∙ p.taken;
+    table = q.table ∙ p.table;
     node = q.node ∙ p.node;
     ports = q.ports ∙ p.ports;
   }
 
-  -- and where changes of routes are taken, as many came
+  -- and where changes of routes are taken, as many came, and the table that they lead to is the same
   pub record Follows (a b : Acted) : Type 0 where
     pub controls : a.numbers.controls ≤ b.numbers.controls
     pub queue : (most : ℕ) → floor ≤ most → b.numbers.controls ≤ most → AreUpTo most a.controller.queue → AreUpTo most b.controller.queue
     pub changes : changes_of b.controller ≡ changes_of a.controller
+    pub to_be : fold changed b.controller.table b.controller.waiting ≡ fold changed a.controller.table a.controller.waiting
     pub node : b.controller.node ≡ a.controller.node
     pub ports : ports_of b.controller ≡ ports_of a.controller
 
   pub follows : (a b : Acted) → Paces a b → Follows a b
-  follows a b p = record { controls = p.controls; queue = p.queue; changes = omega (arith, p.taken, ap length p.waiting); node = p.node; ports = p.ports }
+  follows a b p = record { controls = p.controls; queue = p.queue; changes = omega (arith, p.taken, ap length p.waiting); to_be = λ i. fold changed (p.table i) (p.waiting i); node = p.node; ports = p.ports }
 
   pub follows_then : (a b c : Acted) → Follows a b → Follows b c → Follows a c
   follows_then a b c p q = record {
     controls = omega (arith, p.controls, q.controls);
     queue = λ most from le h. q.queue most from le (p.queue most from (omega (arith, le, q.controls)) h);
     changes = q.changes ∙ p.changes;
+    to_be = q.to_be ∙ p.to_be;
     node = q.node ∙ p.node;
     ports = q.ports ∙ p.ports;
   }
@@ -104,15 +109,16 @@ module _ (floor : ℕ) where
         queue = λ most from le h. every_join (IsUpTo most) a.controller.queue (frame_cells channel mark payload) h (frame_up_to most channel mark payload (low most from le));
         waiting = refl;
         taken = refl;
+        table = refl;
         node = refl;
         ports = refl;
       })
-      (record { controls = omega arith; queue = λ most from le h. h; waiting = refl; taken = refl; node = refl; ports = refl })
+      (record { controls = omega arith; queue = λ most from le h. h; waiting = refl; taken = refl; table = refl; node = refl; ports = refl })
 
   pub sends_control_paces : (a : Acted) (channel : Channel) (payload : List ℕ) → Paces a (sends_control a channel payload)
   sends_control_paces a channel payload =
       let given : Acted = record a { numbers = with_control a.numbers } in
-      paces_then a given (sends_control a channel payload) (record { controls = omega arith; queue = λ most from le h. h; waiting = refl; taken = refl; node = refl; ports = refl })
+      paces_then a given (sends_control a channel payload) (record { controls = omega arith; queue = λ most from le h. h; waiting = refl; taken = refl; table = refl; node = refl; ports = refl })
       (sends_paces given channel (next_control a.numbers) payload (λ most from le. le))
 
   pub says_gsmp_paces : (a : Acted) (message : GsmpMessage) → Paces a (says_gsmp a message)
@@ -120,32 +126,33 @@ module _ (floor : ℕ) where
 
   -- *Nothing that is looked at changes*
   pub same : (a b : Acted) → b.numbers.controls ≡ a.numbers.controls → b.controller.queue ≡ a.controller.queue → b.controller.waiting ≡ a.controller.waiting
-      → b.controller.changes ≡ a.controller.changes → b.controller.node ≡ a.controller.node → ports_of b.controller ≡ ports_of a.controller → Paces a b
-  same a b controls queue waiting taken node ports = record {
+      → b.controller.changes ≡ a.controller.changes → b.controller.table ≡ a.controller.table → b.controller.node ≡ a.controller.node → ports_of b.controller ≡ ports_of a.controller → Paces a b
+  same a b controls queue waiting taken table node ports = record {
     controls = omega (arith, controls);
     queue = λ most from le h. subst (AreUpTo most) (sym queue) h;
     waiting = waiting;
     taken = taken;
+    table = table;
     node = node;
     ports = ports;
   }
 
   cuts_of_paces : (a : Acted) (label : ℕ) (o : Option Linked) → Paces a (cuts_of a label o)
   cuts_of_paces a label None = itself a
-  cuts_of_paces a label (Some linked) = same a (cuts_of a label (Some linked)) refl refl refl refl refl (ports_put (record linked { chains = chains_with linked.chains label nothing_taken }) a.controller.ports)
+  cuts_of_paces a label (Some linked) = same a (cuts_of a label (Some linked)) refl refl refl refl refl refl (ports_put (record linked { chains = chains_with linked.chains label nothing_taken }) a.controller.ports)
 
   cuts_label_paces : (port : PortNo) (a : Acted) (label : ℕ) → Paces a (cuts_label port a label)
   cuts_label_paces port a label = cuts_of_paces a label (linked_at a.controller port)
 
   cuts_default_of_paces : (a : Acted) (o : Option Linked) → Paces a (cuts_default_of a o)
   cuts_default_of_paces a None = itself a
-  cuts_default_of_paces a (Some linked) = same a (cuts_default_of a (Some linked)) refl refl refl refl refl (ports_put (record linked { reassembly = nothing_taken }) a.controller.ports)
+  cuts_default_of_paces a (Some linked) = same a (cuts_default_of a (Some linked)) refl refl refl refl refl refl (ports_put (record linked { reassembly = nothing_taken }) a.controller.ports)
 
   -- *Node reset*
   closes_by_paces : (port : PortNo) (a : Acted) (action : Action) → Paces a (closes_by port a action)
   closes_by_paces port a (Say message) = itself a
   closes_by_paces port a (Ask request needed) = itself a
-  closes_by_paces port a (Note item) = same a (note a item) refl refl refl refl refl refl
+  closes_by_paces port a (Note item) = same a (note a item) refl refl refl refl refl refl refl
   closes_by_paces port a (CutChain label) = cuts_label_paces port a label
   closes_by_paces port a (TakeBack input output) = itself a
   closes_by_paces port a (Withdraw input) = itself a
@@ -155,18 +162,18 @@ module _ (floor : ℕ) where
   port_restarts_of_paces a None = itself a
   port_restarts_of_paces a (Some linked) =
       let w : Work = restarts linked.setup (begins a linked) in
-      paces_then a (with_work a linked w) (port_restarts_as a linked w) (same a (with_work a linked w) refl refl refl refl refl (ports_put (record linked { port = w.port }) a.controller.ports))
+      paces_then a (with_work a linked w) (port_restarts_as a linked w) (same a (with_work a linked w) refl refl refl refl refl refl (ports_put (record linked { port = w.port }) a.controller.ports))
       (paces_fold (closes_by linked.setup.port) (closes_by_paces linked.setup.port) w.actions (with_work a linked w))
 
   pub node_resets_paces : (a : Acted) → Paces a (node_resets a)
-  node_resets_paces a = paces_then a (resets_gsmp a) (node_resets a) (same a (resets_gsmp a) refl refl refl refl refl refl)
+  node_resets_paces a = paces_then a (resets_gsmp a) (node_resets a) (same a (resets_gsmp a) refl refl refl refl refl refl refl)
       (paces_fold port_restarts (λ b port. port_restarts_of_paces b (linked_at b.controller port)) (ports_of a.controller) (resets_gsmp a))
 
   -- *Asking*
   next_paces : (a : Acted) (request : Request) → Paces a (asks_next a request)
   next_paces a request =
       let entered : Acted = with_desk a (asked a.controller.desk request) in
-      paces_then a entered (asks_next a request) (same a entered refl refl refl refl refl refl)
+      paces_then a entered (asks_next a request) (same a entered refl refl refl refl refl refl refl)
       (says_gsmp_paces entered (message_at entered.controller.desk (record { number = a.controller.desk.next; request = request })))
 
   pub asks_paces : (a : Acted) (request : Request) → Paces a (asks a request)
@@ -182,10 +189,10 @@ module _ (floor : ℕ) where
   does_paces : (port : PortNo) (a : Acted) (action : Action) → Paces a (does port a action)
   does_paces port a (Say message) = sends_control_paces a (default_home port).channel _
   does_paces port a (Ask request needed) = asks_paces a request
-  does_paces port a (Note item) = same a (note a item) refl refl refl refl refl refl
+  does_paces port a (Note item) = same a (note a item) refl refl refl refl refl refl refl
   does_paces port a (CutChain label) = cuts_label_paces port a label
   does_paces port a (TakeBack input output) = takes_back_paces a input output
-  does_paces port a (Withdraw input) = same a (does port a (Withdraw input)) refl refl refl refl refl refl
+  does_paces port a (Withdraw input) = same a (does port a (Withdraw input)) refl refl refl refl refl refl refl
   does_paces port a Reset = itself a
 
   does_in_estab_paces : (port : PortNo) (a : Acted) (action : Action) → Paces a (does_in_estab port a action)
@@ -195,7 +202,7 @@ module _ (floor : ℕ) where
   resets_of_paces a None = itself a
   resets_of_paces a (Some linked) =
       let w : Work = resets linked.setup (begins a linked) in
-      paces_then a (with_work a linked w) (fold (does_in_estab linked.setup.port) (with_work a linked w) w.actions) (same a (with_work a linked w) refl refl refl refl refl (ports_put (record linked { port = w.port }) a.controller.ports))
+      paces_then a (with_work a linked w) (fold (does_in_estab linked.setup.port) (with_work a linked w) w.actions) (same a (with_work a linked w) refl refl refl refl refl refl (ports_put (record linked { port = w.port }) a.controller.ports))
       (paces_fold (does_in_estab linked.setup.port) (does_in_estab_paces linked.setup.port) w.actions (with_work a linked w))
 
   performs_paces : (port : PortNo) (a : Acted) (action : Action) → Paces a (performs port a action)
@@ -215,7 +222,7 @@ module _ (floor : ℕ) where
   works_paces a rule None = itself a
   works_paces a rule (Some linked) =
       let w : Work = rule linked.setup a.controller.desk (begins a linked) in
-      paces_then a (with_work a linked w) (works_as a linked w) (same a (with_work a linked w) refl refl refl refl refl (ports_put (record linked { port = w.port }) a.controller.ports))
+      paces_then a (with_work a linked w) (works_as a linked w) (same a (with_work a linked w) refl refl refl refl refl refl (ports_put (record linked { port = w.port }) a.controller.ports))
       (paces_fold (performs_in_estab linked.setup.port) (performs_in_estab_paces linked.setup.port) w.actions (with_work a linked w))
 
   pub at_port_paces : (a : Acted) (port : PortNo) (rule : Rule) → Paces a (at_port a port rule)
@@ -226,5 +233,5 @@ module _ (floor : ℕ) where
   node_restarts_paces a =
       let fresh : Acted = node_resets a in
       paces_then a fresh (node_restarts a) (node_resets_paces a)
-      (paces_then fresh (cuts_gsmp fresh) (node_restarts a) (same fresh (cuts_gsmp fresh) refl refl refl refl refl refl)
+      (paces_then fresh (cuts_gsmp fresh) (node_restarts a) (same fresh (cuts_gsmp fresh) refl refl refl refl refl refl refl)
       (paces_fold cuts_default (λ b port. cuts_default_of_paces b (linked_at b.controller port)) (ports_of a.controller) (cuts_gsmp fresh)))

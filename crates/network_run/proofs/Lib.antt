@@ -1,3 +1,4 @@
 pub mod Telling
 pub mod Turns
 pub mod AllTicks
+pub mod Repeated

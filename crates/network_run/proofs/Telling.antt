@@ -2,6 +2,7 @@
 
 use Rattle.std.proofs.Common.{◌≡◌, ℕ, zero, suc, ◌+◌, ◌<◌, List, [], ◌∷◌, ◌++◌, append_assoc, drop, length, slice_get, slice_index_or, take, Option, None, Some, refl, sym, ◌∙◌, ap, subst, arith}
 use Rattle.std.specs.Prelude.{OnErr, Result, Ok, Err}
+use Rattle.std.specs.Result.{IsErrAnd}
 use Rattle.std.specs.Io.KnownBytes.{Appends}
 use Rattle.std.proofs.lemmas.Grind.{flat_map-append}
 use Rattle.std.proofs.lemmas.List.Concat.{flat_map-cons}
@@ -15,7 +16,9 @@ use Rattle.world_model.specs.World.{World}
 use Rattle.script_model.specs.Records.{record_line}
 use Rattle.script_model.specs.Reports.{record_lines}
 use Rattle.lab_io.specs.Report.{IsPut, IsStuck, Writer}
-use Rattle.network_run.specs.Telling.{IsFrontPut, stuck, ends}
+use Rattle.network_run.specs.declared.stop.Stop.{Stop}
+use Rattle.network_run.specs.declared.stop.Stop.TheVariants.{Failed, OutOfMemory}
+use Rattle.network_run.specs.Telling.{HasFrontPut, IsLeft, Puts, StaysWithin}
 
 append_nil : (xs : List ℕ) → xs ++ [] ≡ xs
 append_nil [] = refl
@@ -52,10 +55,13 @@ stuck_then a b c x y z one other p q = record {
       ∙ sym (append_assoc p.written b.held other) ∙ ap (λ xs. xs ++ other) p.all ∙ append_assoc a.held one other;
 }
 
-pub front_then : (a b c : Writer) (x y z : Option (List ℕ)) (one other : List ℕ) → IsPut a b x y one → IsFrontPut b c y z other → IsFrontPut a c x z (one ++ other)
-front_then a b c x y z one other p (stuck s) = stuck (stuck_then a b c x y z one other p s)
-front_then a b c x y z one other p (ends front rest all q) =
-    ends (one ++ front) rest (append_assoc one front rest ∙ ap (λ xs. one ++ xs) all) (put_then a b c x y z one front p q)
+front_then : (a b c : Writer) (x y z : Option (List ℕ)) (one other : List ℕ) → IsPut a b x y one → HasFrontPut b c y z other → HasFrontPut a c x z (one ++ other)
+front_then a b c x y z one other p q = record {
+  front = one ++ q.front;
+  rest = q.rest;
+  all = append_assoc one q.front q.rest ∙ ap (λ xs. one ++ xs) q.all;
+  put = put_then a b c x y z one q.front p q.put;
+}
 
 -- more was to come
 stuck_before : (a b : Writer) (x y : Option (List ℕ)) (octets others : List ℕ) → IsStuck a b x y octets → IsStuck a b x y (octets ++ others)
@@ -68,16 +74,42 @@ stuck_before a b x y octets others s = record {
   all = sym (append_assoc (s.written ++ b.held) s.rest others) ∙ ap (λ xs. xs ++ others) s.all ∙ append_assoc a.held octets others;
 }
 
-pub front_before : (a b : Writer) (x y : Option (List ℕ)) (octets others : List ℕ) → IsFrontPut a b x y octets → IsFrontPut a b x y (octets ++ others)
-front_before a b x y octets others (stuck s) = stuck (stuck_before a b x y octets others s)
-front_before a b x y octets others (ends front rest all p) = ends front (rest ++ others) (sym (append_assoc front rest others) ∙ ap (λ xs. xs ++ others) all) p
+front_before : (a b : Writer) (x y : Option (List ℕ)) (octets others : List ℕ) → HasFrontPut a b x y octets → HasFrontPut a b x y (octets ++ others)
+front_before a b x y octets others h = record {
+  front = h.front;
+  rest = h.rest ++ others;
+  all = sym (append_assoc h.front h.rest others) ∙ ap (λ xs. xs ++ others) h.all;
+  put = h.put;
+}
 
 -- none of it was put
-pub none_of : (w : Writer) (s : Option (List ℕ)) (octets : List ℕ) → IsFrontPut w w s s octets
-none_of w s octets = ends [] octets refl (nothing_put w s)
+pub none_of : (w : Writer) (s : Option (List ℕ)) (octets : List ℕ) → HasFrontPut w w s s octets
+none_of w s octets = record { front = []; rest = octets; all = refl; put = nothing_put w s }
 
-pub all_of : (a b : Writer) (x y : Option (List ℕ)) (octets others : List ℕ) → IsPut a b x y octets → IsFrontPut a b x y (octets ++ others)
-all_of a b x y octets others p = ends octets others refl p
+-- *An early end* behind some octets that were put, and before some that were not
+pub stops_by : (stop : Stop) (a b c : Writer) (x y z : Option (List ℕ)) (one octets others : List ℕ) → IsPut a b x y one → IsLeft stop b c y z octets
+    → IsLeft stop a c x z (one ++ (octets ++ others))
+stops_by Failed a b c x y z one octets others p s = stuck_then a b c x y z one (octets ++ others) p (stuck_before b c y z octets others s)
+stops_by (OutOfMemory error) a b c x y z one octets others p h = front_then a b c x y z one (octets ++ others) p (front_before b c y z octets others h)
+
+pub stops_at : {B : Type 0} (r : Result B Stop) (stop : Stop) (a b c : Writer) (x y z : Option (List ℕ)) (one octets others : List ℕ) → IsErrAnd r (λ s. s ≡ stop) → IsPut a b x y one
+    → IsLeft stop b c y z octets → Puts r a c x z (one ++ (octets ++ others))
+stops_at (Ok v) stop a b c x y z one octets others is p h = absurd is
+stops_at (Err s) stop a b c x y z one octets others is p h =
+    subst (λ (t : Stop). IsLeft t a c x z (one ++ (octets ++ others))) (sym is) (stops_by stop a b c x y z one octets others p h)
+
+-- alone
+pub passes_on : {B : Type 0} (r : Result B Stop) (stop : Stop) (a b : Writer) (x y : Option (List ℕ)) (octets : List ℕ) → IsErrAnd r (λ s. s ≡ stop) → IsLeft stop a b x y octets
+    → Puts r a b x y octets
+passes_on r stop a b x y octets is h =
+    subst (Puts r a b x y) (append_nil octets) (stops_at r stop a a b x x y [] octets [] is (nothing_put a x) h)
+
+-- *What a writer holds*
+pub stays : (a : Writer) → StaysWithin a a
+stays a = record { room = refl; bound = λ h. h }
+
+pub stays_then : (a b c : Writer) → StaysWithin a b → StaysWithin b c → StaysWithin a c
+stays_then a b c p q = record { room = q.room ∙ p.room; bound = λ h. q.bound (p.bound h) }
 
 -- *The lines of records*, up to one, of it, and behind it
 lines_append : (t : Topology) (xs ys : List Record) → record_lines t (xs ++ ys) ≡ record_lines t xs ++ record_lines t ys

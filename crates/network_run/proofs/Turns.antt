@@ -17,7 +17,12 @@ use Rattle.world_model.specs.Topology.{Topology, peer_of}
 use Rattle.world_model.specs.World.{World, Site}
 use Rattle.script_model.specs.Reports.{record_lines}
 use Rattle.world.specs.Running.{AreRunning, IsRunningSite, numbered}
-use Rattle.network_run.specs.Telling.{told, IsReadingIn}
+use Rattle.std.specs.Prelude.{Option, Result, Err}
+use Rattle.std.specs.Result.{IsErrAnd}
+use Rattle.lab_io.specs.Report.{IsPut, Writer}
+use Rattle.network_run.specs.declared.stop.Stop.{Stop}
+use Rattle.network_run.specs.Telling.{IsLeft, IsMeterIn, Puts, meter_behind, told}
+use Rattle.network_run.proofs.Telling.{put_then, stops_at}
 use Rattle.std.specs.Prelude.{◌⊎◌, ◌<◌}
 use Rattle.std.proofs.Common.{inl, inr}
 use Rattle.std.proofs.lemmas.Option.{slice_get_within}
@@ -79,7 +84,7 @@ told_behind t w events i event e = sym (told_append t w (take i events) (event �
 abbrev places_with : NodeId → List PortNo → List Place
 places_with node ports = Down node ∷ Up node ∷ map (λ port. Out node port) ports
 
-site_places : (t : Topology) (events number : ℕ) (site : Site) → IsRunningSite t events number site → places_of site ≡ places_with (numbered number) (topologies.ports_of t (numbered number))
+pub site_places : (t : Topology) (events number : ℕ) (site : Site) → IsRunningSite t events number site → places_of site ≡ places_with (numbered number) (topologies.ports_of t (numbered number))
 site_places t events number site h =
     (let node : site.controller.node ≡ numbered number = ap (λ (n : ℕ). numbered n) h.node in λ i. places_with (node i) (h.ports i))
 
@@ -158,15 +163,48 @@ pub can_come : (t : Topology) (first w : World) (i : ℕ) (place : Place) → w.
     → CanCome t w (Carry place)
 can_come t first w i place events low few is = record { few = omega (arith, events, low, few); meant = is }
 
+-- *A turn*: an event among others, its lines behind those before it
+pub turn_puts : (t : Topology) (first w : World) (events : List Event) (i : ℕ) (event : Event) (a b c : Writer) (x y z : Option (List ℕ)) → slice_get events i ≡ Some event
+    → w ≡ put_away (world_after t first (take i events)) → IsPut a b x y (told t first (take i events)) → IsPut b c y z (record_lines t (next t w event).notes.records)
+    → IsPut a c x z (told t first (take (i + 1) events))
+turn_puts t first w events i event a b c x y z e same p q =
+    subst (IsPut a c x z) (told_next t first events i event e)
+    (put_then a b c x y z (told t first (take i events)) (record_lines t (next t (world_after t first (take i events)) event).notes.records) p
+    (subst (λ (v : World). IsPut b c y z (record_lines t (next t v event).notes.records)) same q))
+
+pub turn_stops : {B : Type 0} (r : Result B Stop) (stop : Stop) (t : Topology) (first w : World) (events : List Event) (i : ℕ) (event : Event) (a b c : Writer) (x y z : Option (List ℕ))
+    → IsErrAnd r (λ s. s ≡ stop) → slice_get events i ≡ Some event → w ≡ put_away (world_after t first (take i events)) → IsPut a b x y (told t first (take i events))
+    → IsLeft stop b c y z (record_lines t (next t w event).notes.records) → Puts r a c x z (told t first events)
+turn_stops r stop t first w events i event a b c x y z is e same p h =
+    let reached : World = world_after t first (take i events) in
+    subst (Puts r a c x z) (told_behind t first events i event e)
+    (stops_at r stop a b c x y z (told t first (take i events)) (record_lines t (next t reached event).notes.records) (told t (next t reached event) (drop (suc i) events)) is p
+    (subst (λ (v : World). IsLeft stop b c y z (record_lines t (next t v event).notes.records)) same h))
+
 -- *A meter* behind some of the events
-pub reading_in : (t : Topology) (first w : World) (events : List Event) (i : ℕ) (event : Event) (meter before : Meter) → slice_get events i ≡ Some event
-    → w ≡ put_away (world_after t first (take i events)) → before ≡ reading_of w → (meter ≡ before) ⊎ (meter ≡ reading_of (next t w event)) → IsReadingIn t first events meter
-reading_in t first w events i event meter before e same was (inl p) =
+pub behind_some : (before : Meter) (t : Topology) (w : World) (events : List Event) → 0 < length events → meter_behind before t w events ≡ reading_of (world_after t w events)
+behind_some before t w [] some = absurd (omega (arith, some))
+behind_some before t w (event ∷ events) some = refl
+
+some_taken : (events : List Event) (i : ℕ) (event : Event) → slice_get events i ≡ Some event → 0 < length (take (suc i) events)
+some_taken [] i event e = absurd (cc e)
+some_taken (x ∷ events) i event e = omega arith
+
+pub meter_next : (before : Meter) (t : Topology) (first w : World) (events : List Event) (i : ℕ) (event : Event) (meter : Meter) → slice_get events i ≡ Some event
+    → w ≡ put_away (world_after t first (take i events)) → meter ≡ reading_of (next t w event) → meter ≡ meter_behind before t first (take (i + 1) events)
+meter_next before t first w events i event meter e same is =
+    let up : suc i ≡ i + 1 = omega arith in
+    is ∙ ap (λ (v : World). reading_of (next t v event)) same ∙ ap reading_of (after_next t first events i event e)
+    ∙ sym (behind_some before t first (take (i + 1) events) (subst (λ k. 0 < length (take k events)) up (some_taken events i event e)))
+
+pub meter_in : (before : Meter) (t : Topology) (first w : World) (events : List Event) (i : ℕ) (event : Event) (meter held : Meter) → slice_get events i ≡ Some event
+    → w ≡ put_away (world_after t first (take i events)) → held ≡ meter_behind before t first (take i events) → (meter ≡ held) ⊎ (meter ≡ reading_of (next t w event)) → IsMeterIn before t first events meter
+meter_in before t first w events i event meter held e same was (inl p) =
     (let low : i < length events = slice_get_within events i event e in
-    record { count = i; within = omega (arith, low); reading = p ∙ was ∙ ap reading_of same })
-reading_in t first w events i event meter before e same was (inr p) =
+    record { count = i; within = omega (arith, low); reading = p ∙ was })
+meter_in before t first w events i event meter held e same was (inr p) =
     (let low : i < length events = slice_get_within events i event e in
-    record { count = i + 1; within = omega (arith, low); reading = p ∙ ap (λ (v : World). reading_of (next t v event)) same ∙ ap reading_of (after_next t first events i event e) })
+    record { count = i + 1; within = omega (arith, low); reading = meter_next before t first w events i event meter e same p })
 
 pub all_at : (events : List Event) (i : ℕ) → i ≡ length events → take i events ≡ events
 all_at events i e = ap (λ k. take k events) e ∙ all_taken events

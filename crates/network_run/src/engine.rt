@@ -1,7 +1,6 @@
 //! One event of a run.
 
 ghost use Rattle.std.specs.Prelude.{◌≡◌, ◌⊎◌, [], OnOk, OnErr};
-ghost use Rattle.lab_io.specs.Report.{IsPut};
 ghost use Rattle.lab_io.specs.Fault.{count_after};
 ghost use Rattle.script_model.specs.Reports.{record_lines};
 ghost use Rattle.world_model.specs.Conditions.{CanCome};
@@ -10,7 +9,7 @@ ghost use Rattle.world_model.specs.Topology.{Topology as Described};
 ghost use Rattle.world.specs.Counted.{reading_of};
 ghost use Rattle.world.specs.Network.{world_of};
 ghost use Rattle.world.specs.Running.{Runs};
-ghost use Rattle.network_run.specs.Telling.{IsFrontPut, is_failed};
+ghost use Rattle.network_run.specs.Telling.{Puts, StaysWithin, is_failed};
 
 use crate::lines::put_records;
 use crate::stop::Stop;
@@ -41,8 +40,8 @@ pub fn step<C: NodeController, K: Sink>(
     ensures world { OnOk result (world_of C.seen world.new notes.new ≡ put_away (next topology (world_of C.seen world.old notes.old) event.now)) }
     ensures empty { OnOk result (notes.new.records ≡ []) }
     ensures runs { OnOk result (Runs C.seen topology world.new) }
-    ensures put { OnOk result (IsPut writer.old writer.new (K.written sink.old) (K.written sink.new) (record_lines topology (next topology (world_of C.seen world.old notes.old) event.now).notes.records)) }
-    ensures front { OnErr result (IsFrontPut writer.old writer.new (K.written sink.old) (K.written sink.new) (record_lines topology (next topology (world_of C.seen world.old notes.old) event.now).notes.records)) }
+    ensures put { Puts result writer.old writer.new (K.written sink.old) (K.written sink.new) (record_lines topology (next topology (world_of C.seen world.old notes.old) event.now).notes.records) }
+    ensures room { StaysWithin writer.old writer.new }
     ensures faults { K.faults sink.new ≡ count_after (is_failed result) (K.faults sink.old) }
     ensures meter { OnOk result (meter.new ≡ reading_of (next topology (world_of C.seen world.old notes.old) event.now)) }
     ensures kept { OnErr result ((meter.new ≡ meter.old) ⊎ (meter.new ≡ reading_of (next topology (world_of C.seen world.old notes.old) event.now))) }

@@ -2,13 +2,13 @@
 //! report, and its records are put away.
 #![tactic(auto)]
 
+mod carries;
 mod engine;
 mod lines;
-mod rounds;
 mod stop;
 mod ticks;
 
+pub use carries::{round, rounds};
 pub use engine::step;
-pub use rounds::round;
 pub use stop::Stop;
 pub use ticks::tick_all;

@@ -1,11 +1,10 @@
 //! The lines of records, put to a report.
 
-ghost use Rattle.std.specs.Prelude.{◌≡◌, ◌++◌, OnOk, OnErr};
-ghost use Rattle.lab_io.specs.Report.{IsPut};
+ghost use Rattle.std.specs.Prelude.{◌≡◌};
 ghost use Rattle.lab_io.specs.Fault.{count_after};
 ghost use Rattle.script_model.specs.Records.{record_line};
 ghost use Rattle.script_model.specs.Reports.{record_lines};
-ghost use Rattle.network_run.specs.Telling.{IsFrontPut, is_failed};
+ghost use Rattle.network_run.specs.Telling.{Puts, StaysWithin, is_failed};
 
 use crate::stop::Stop;
 use lab_io::{ReportWriter, Sink};
@@ -23,8 +22,8 @@ fn put_record<K: Sink>(
     writer: &mut ReportWriter,
     sink: &mut K,
 ) -> Result<(), Stop>
-    ensures ok { OnOk result (IsPut writer.old writer.new (K.written sink.old) (K.written sink.new) (record_line names.now item.now)) }
-    ensures err { OnErr result (IsFrontPut writer.old writer.new (K.written sink.old) (K.written sink.new) (record_line names.now item.now)) }
+    ensures put { Puts result writer.old writer.new (K.written sink.old) (K.written sink.new) (record_line names.now item.now) }
+    ensures room { StaysWithin writer.old writer.new }
     ensures faults { K.faults sink.new ≡ count_after (is_failed result) (K.faults sink.old) }
 {
     let mut line = Text::new(alloc);
@@ -41,8 +40,8 @@ pub fn put_records<K: Sink>(
     writer: &mut ReportWriter,
     sink: &mut K,
 ) -> Result<(), Stop>
-    ensures ok { OnOk result (IsPut writer.old writer.new (K.written sink.old) (K.written sink.new) (record_lines names.now records.now)) }
-    ensures err { OnErr result (IsFrontPut writer.old writer.new (K.written sink.old) (K.written sink.new) (record_lines names.now records.now)) }
+    ensures put { Puts result writer.old writer.new (K.written sink.old) (K.written sink.new) (record_lines names.now records.now) }
+    ensures room { StaysWithin writer.old writer.new }
     ensures faults { K.faults sink.new ≡ count_after (is_failed result) (K.faults sink.old) }
 {
     for item in records {

@@ -1,16 +1,14 @@
 //! The ticks of all actors.
 
 ghost use Rattle.std.specs.Prelude.{◌≡◌, ◌≤◌, ◌<◌, ◌+◌, ◌-◌, [], length, OnOk, OnErr};
-ghost use Rattle.lab_io.specs.Report.{IsPut};
 ghost use Rattle.lab_io.specs.Fault.{count_after};
 ghost use Rattle.world_model.specs.Limits.{event_limit};
 ghost use Rattle.world_model.specs.Run.{tick_of_all, world_after, put_away};
 ghost use Rattle.world_model.specs.Topology.{Topology as Described};
-ghost use Rattle.world.specs.Counted.{reading_of};
 ghost use Rattle.world.specs.Network.{world_of};
 ghost use Rattle.world.specs.Running.{Runs, numbered};
 ghost use Rattle.world_model.specs.declared.event.Event.TheVariants.{Tick, TickSwitch};
-ghost use Rattle.network_run.specs.Telling.{IsFrontPut, IsReadingIn, is_failed, told};
+ghost use Rattle.network_run.specs.Telling.{IsMeterIn, Puts, StaysWithin, is_failed, meter_behind, told};
 
 use crate::engine::step;
 use crate::stop::Stop;
@@ -52,15 +50,14 @@ pub fn tick_all<C: NodeController, K: Sink>(
     requires empty { notes.old.records ≡ [] }
     requires runs { Runs C.seen topology world.old }
     requires few { (world_of C.seen world.old notes.old).events + length (tick_of_all (world_of C.seen world.old notes.old)) ≤ event_limit }
-    requires reading { meter.old ≡ reading_of (world_of C.seen world.old notes.old) }
     ensures world { OnOk result (world_of C.seen world.new notes.new ≡ put_away (world_after topology (world_of C.seen world.old notes.old) (tick_of_all (world_of C.seen world.old notes.old)))) }
     ensures empty { OnOk result (notes.new.records ≡ []) }
     ensures runs { OnOk result (Runs C.seen topology world.new) }
-    ensures put { OnOk result (IsPut writer.old writer.new (K.written sink.old) (K.written sink.new) (told topology (world_of C.seen world.old notes.old) (tick_of_all (world_of C.seen world.old notes.old)))) }
-    ensures front { OnErr result (IsFrontPut writer.old writer.new (K.written sink.old) (K.written sink.new) (told topology (world_of C.seen world.old notes.old) (tick_of_all (world_of C.seen world.old notes.old)))) }
+    ensures put { Puts result writer.old writer.new (K.written sink.old) (K.written sink.new) (told topology (world_of C.seen world.old notes.old) (tick_of_all (world_of C.seen world.old notes.old))) }
+    ensures room { StaysWithin writer.old writer.new }
     ensures faults { K.faults sink.new ≡ count_after (is_failed result) (K.faults sink.old) }
-    ensures meter { OnOk result (meter.new ≡ reading_of (world_of C.seen world.new notes.new)) }
-    ensures kept { OnErr result (IsReadingIn topology (world_of C.seen world.old notes.old) (tick_of_all (world_of C.seen world.old notes.old)) meter.new) }
+    ensures meter { OnOk result (meter.new ≡ meter_behind meter.old topology (world_of C.seen world.old notes.old) (tick_of_all (world_of C.seen world.old notes.old))) }
+    ensures kept { OnErr result (IsMeterIn meter.old topology (world_of C.seen world.old notes.old) (tick_of_all (world_of C.seen world.old notes.old)) meter.new) }
 {
     let nodes = names.nodes();
     for index in 0..nodes + nodes {

@@ -17,7 +17,6 @@ use Rattle.world_model.specs.Topology.{Topology, Node, node_at, node_in, ranges_
 use Rattle.world_model.specs.World.{Site, no_tally, numbers_after, opened, opened_site, opens_each, redirects_at, switched_at}
 use Rattle.world.specs.declared.site.Site.{Site as Held}
 use Rattle.world.specs.declared.world.World.{World as Network}
-use Rattle.world.specs.Counted.{IsUpTo}
 use Rattle.world.specs.Network.{no_notes, peers_in, site_of, sites_of, world_of}
 use Rattle.world.specs.Opening.{HasOpened, IsNew, IsNext, IsOpening, places_of}
 use Rattle.world.specs.Running.{ArePeersOf, AreRunning, HavePeers, Runs, numbered}
@@ -193,5 +192,4 @@ module _ {C : Type 0} (seen : C → Controller) (policy : Policy) (t : Topology)
         switched = a.switched ∙ sym a.no_switched;
         few_redirects = omega (arith, a.redirects);
         few_switched = omega (arith, a.switched);
-        tally = subst (IsUpTo (2 ^ 64 * n.events)) (sym a.tally) (record { delivered = omega arith; dropped = omega arith; refused = omega arith; losses = omega arith; chance = omega arith });
       }

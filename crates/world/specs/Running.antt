@@ -15,7 +15,6 @@ use Rattle.world_model.specs.Topology.{Topology, peer_of}
 use Rattle.world_model.specs.World.{World, Site, redirects_at, switched_at}
 use Rattle.actor_pace.specs.Pace.{AreUpTo, AreAllUpTo, changes_of}
 use Rattle.world.specs.declared.world.World.{World as Network}
-use Rattle.world.specs.Counted.{IsUpTo}
 use Rattle.world.specs.Network.{no_notes, peers_in, sites_of, world_of}
 
 abbrev pub numbered : ℕ → NodeId
@@ -67,4 +66,3 @@ pub record Runs {C : Type 0} (seen : C → Controller) (topology : Topology) (n 
   pub switched : n.switched ≡ sum_by switched_at (sites_of seen n.sites.items)
   pub few_redirects : n.redirects ≤ 2 ^ 64 * n.events
   pub few_switched : n.switched ≤ 2 ^ 64 * n.events
-  pub tally : IsUpTo (2 ^ 64 * n.events) n.tally

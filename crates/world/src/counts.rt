@@ -3,6 +3,8 @@
 ghost use Rattle.std.specs.Prelude.{◌≡◌};
 ghost use Rattle.world.specs.Counted.{nothing_counted};
 
+use std::marker::Model;
+
 /// The numbers of a report's last line, but that of its events. Each stays at its type's end.
 #[derive(Clone, Copy, Debug, PartialEq, Eq)]
 pub struct Counts {
@@ -22,6 +24,16 @@ pub struct Counts {
     pub switched: u64,
     /// How many frames of wrong octets passed their test.
     pub chance: u64,
+}
+
+impl Model for Counts {
+    ghost use Rattle.world_model.specs.World.{Counts as Counted};
+
+    ghost Value = { Counted };
+
+    ghost view = { λ c. record { sent = c.sent; delivered = c.delivered; dropped = c.dropped; refused = c.refused; losses = c.losses; redirects = c.redirects; switched = c.switched; chance = c.chance } };
+
+    ghost inverse = { λ c. record { sent = c.sent; delivered = c.delivered; dropped = c.dropped; refused = c.refused; losses = c.losses; redirects = c.redirects; switched = c.switched; chance = c.chance } };
 }
 
 /// How far a world has come: the events that it has stepped since its opening, and its counts then.

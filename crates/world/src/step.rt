@@ -404,8 +404,7 @@ impl<C: NodeController> World<C> {
 
 /// The records behind the first so many.
 fn new_records(notes: &Notes, before: usize) -> &[Record]
-    ensures records { result.now ≡ drop before notes.now.records }
-    ensures few { length result.now < 2 ^ 64 }
+    ensures { result.now ≡ drop before notes.now.records }
 {
     let records = notes.records();
     if before <= records.len() {

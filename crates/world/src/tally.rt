@@ -1,8 +1,8 @@
-//! What is counted in a run, without a limit that a run could reach.
+//! What is counted in a run. A number that is at its type's end stays there.
 
-ghost use Rattle.std.specs.Prelude.{◌≡◌, ◌≤◌, ◌<◌, ◌+◌, ◌^◌, fold, length};
+ghost use Rattle.std.specs.Prelude.{◌≡◌, ◌≤◌, ◌+◌, ◌^◌, fold, min};
+ghost use Rattle.port_model.specs.Redirection.{greatest_tally};
 ghost use Rattle.world_model.specs.World.{no_tally, one_tallied};
-ghost use Rattle.world.specs.Counted.{IsUpTo};
 
 use link_model::Record;
 use std::marker::Model;
@@ -10,11 +10,11 @@ use std::marker::Model;
 /// How many records of each counted kind there were.
 #[derive(Debug, Drop)]
 pub struct Tally {
-    delivered: u128,
-    dropped: u128,
-    refused: u128,
-    losses: u128,
-    chance: u128,
+    pub(crate) delivered: u64,
+    pub(crate) dropped: u64,
+    pub(crate) refused: u64,
+    pub(crate) losses: u64,
+    pub(crate) chance: u64,
 }
 
 impl Model for Tally {
@@ -41,15 +41,14 @@ impl Tally {
 
     /// Counts a record, where its kind is counted.
     fn add(&mut self, item: &Record)
-        requires { IsUpTo (2 ^ 127) self.old }
         ensures { self.new ≡ one_tallied self.old item.now }
     {
         match item {
-            Record::Delivered { .. } => self.delivered += 1,
-            Record::Dropped { .. } => self.dropped += 1,
-            Record::Refused { .. } => self.refused += 1,
-            Record::Loss { .. } => self.losses += 1,
-            Record::Chance { .. } => self.chance += 1,
+            Record::Delivered { .. } => self.delivered = self.delivered.saturating_add(1),
+            Record::Dropped { .. } => self.dropped = self.dropped.saturating_add(1),
+            Record::Refused { .. } => self.refused = self.refused.saturating_add(1),
+            Record::Loss { .. } => self.losses = self.losses.saturating_add(1),
+            Record::Chance { .. } => self.chance = self.chance.saturating_add(1),
             Record::Opened { .. }
             | Record::Closed { .. }
             | Record::Bind { .. }
@@ -64,59 +63,11 @@ impl Tally {
 
     /// Counts records.
     pub fn count(&mut self, records: &[Record])
-        requires { IsUpTo (2 ^ 126) self.old }
         ensures { self.new ≡ fold one_tallied self.old records.now }
     {
         for item in records {
             self.add(item);
         }
-    }
-
-    /// How many packets were delivered; at its type's end it stays there. So do the other counts.
-    pub fn delivered(&self) -> u64
-        ensures { result ≡ capped self.now.delivered }
-    {
-        cap(self.delivered)
-    }
-
-    /// How many were dropped.
-    pub fn dropped(&self) -> u64
-        ensures { result ≡ capped self.now.dropped }
-    {
-        cap(self.dropped)
-    }
-
-    /// How many were refused where they were to be sent.
-    pub fn refused(&self) -> u64
-        ensures { result ≡ capped self.now.refused }
-    {
-        cap(self.refused)
-    }
-
-    /// How many entries the ledger of losses got.
-    pub fn losses(&self) -> u64
-        ensures { result ≡ capped self.now.losses }
-    {
-        cap(self.losses)
-    }
-
-    /// How many frames of wrong octets passed their test.
-    pub fn chance(&self) -> u64
-        ensures { result ≡ capped self.now.chance }
-    {
-        cap(self.chance)
-    }
-}
-
-ghost use Rattle.world.specs.Counted.{capped};
-
-fn cap(count: u128) -> u64
-    ensures { result ≡ capped count }
-{
-    if count < 18_446_744_073_709_551_615 {
-        count as u64
-    } else {
-        18_446_744_073_709_551_615
     }
 }
 
@@ -151,10 +102,10 @@ impl Total {
         self.sum = self.sum - u128::from(before) + u128::from(after);
     }
 
-    /// The sum; at its type's end it stays there.
+    /// The sum, or the greatest number of its type.
     pub fn sum(&self) -> u64
-        ensures { result ≡ capped self.now }
+        ensures { result ≡ min greatest_tally self.now }
     {
-        cap(self.sum)
+        self.sum.min(u128::from(u64::MAX)) as u64
     }
 }

@@ -3,7 +3,6 @@
 ghost use Rattle.std.specs.Prelude.{◌≡◌, ◌≤◌, ◌<◌, ◌-◌, length, option_map, slice_get, Some};
 ghost use Rattle.world_model.specs.Topology.{Topology as Described};
 ghost use Rattle.world_model.specs.World.{controller_at, counts_of, site_at};
-ghost use Rattle.world.specs.Counted.{shown};
 ghost use Rattle.world.specs.Network.{IsNodeIn, no_notes, world_of};
 ghost use Rattle.world.specs.Running.{Runs};
 
@@ -53,17 +52,17 @@ impl<C: NodeController> World<C> {
 
     /// The counts so far.
     pub fn counts(&self) -> Counts
-        ensures { (topology : Described) → Runs C.seen topology self.now → result ≡ shown (counts_of (world_of C.seen self.now no_notes)) }
+        ensures { (topology : Described) → Runs C.seen topology self.now → result ≡ counts_of (world_of C.seen self.now no_notes) }
     {
         Counts {
             sent: u64::from(self.sent),
-            delivered: self.tally.delivered(),
-            dropped: self.tally.dropped(),
-            refused: self.tally.refused(),
-            losses: self.tally.losses(),
+            delivered: self.tally.delivered,
+            dropped: self.tally.dropped,
+            refused: self.tally.refused,
+            losses: self.tally.losses,
             redirects: self.redirects.sum(),
             switched: self.switched.sum(),
-            chance: self.tally.chance(),
+            chance: self.tally.chance,
         }
     }
 

@@ -21,7 +21,7 @@ pub record Site : Type 0 where
   pub controller : Controller
   pub switch : Switch
 
--- how many records of these five kinds there were
+-- how many records of these five kinds there were; each stays at the greatest number of its type
 pub record Tally : Type 0 where
   pub delivered : ℕ
   pub dropped : ℕ
@@ -144,10 +144,13 @@ counts_of w = record {
   chance = w.tally.chance;
 }
 
+abbrev pub one_more : ℕ → ℕ
+one_more n = min greatest_tally (n + 1)
+
 abbrev pub one_tallied : Tally → Record → Tally
-one_tallied t (Delivered node packet octets) = record t { delivered = t.delivered + 1 }
-one_tallied t (Dropped node packet cause) = record t { dropped = t.dropped + 1 }
-one_tallied t (Refused node packet name) = record t { refused = t.refused + 1 }
-one_tallied t (Loss mark cause) = record t { losses = t.losses + 1 }
-one_tallied t (Chance mark) = record t { chance = t.chance + 1 }
+one_tallied t (Delivered node packet octets) = record t { delivered = one_more t.delivered }
+one_tallied t (Dropped node packet cause) = record t { dropped = one_more t.dropped }
+one_tallied t (Refused node packet name) = record t { refused = one_more t.refused }
+one_tallied t (Loss mark cause) = record t { losses = one_more t.losses }
+one_tallied t (Chance mark) = record t { chance = one_more t.chance }
 one_tallied t item = t

@@ -1,5 +1,6 @@
-use Rattle.network_run.proofs.Telling.{none_of, on_err}
+use Rattle.network_run.proofs.Telling.{none_of, passes_on, stays}
 use Rattle.network_run.proofs.lines.put_record.Goals as goal
 
-pub returns-in_err-write_record-clause-err : goal.returns-in_err-write_record-clause-err
-returns-in_err-write_record-clause-err g c = on_err c.from_residual.result (none_of _ _ _)
+pub returns-in_err-write_record-clause-put : goal.returns-in_err-write_record-clause-put
+returns-in_err-write_record-clause-put g c =
+    passes_on c.from_residual.result _ _ _ _ _ _ c.from_residual.ensures.1 (none_of _ _ _)

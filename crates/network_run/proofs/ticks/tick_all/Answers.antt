@@ -1,15 +1,13 @@
 use Rattle.std.proofs.Common.{◌≡◌, ◌∙◌, ◌+◌, ℕ, List, ap, drop, length, refl, slice_get, Some, suc, subst, sym, take, arith}
 use Rattle.link_model.specs.declared.record.Record.{Record}
 use Rattle.lab_io.specs.Report.{IsPut}
-use Rattle.script_model.specs.Reports.{record_lines}
 use Rattle.world_model.specs.declared.event.Event.{Event}
 use Rattle.world_model.specs.Run.{next, put_away, tick_of_all, world_after}
 use Rattle.world_model.specs.World.{World}
-use Rattle.world.specs.Counted.{reading_of}
 use Rattle.world.specs.Network.{world_of}
-use Rattle.network_run.specs.Telling.{IsFrontPut, told}
-use Rattle.network_run.proofs.Telling.{front_before, front_then, nothing_put, on_err, put_then}
-use Rattle.network_run.proofs.Turns.{after_next, all_at, can_come_in, reading_in, told_behind, told_next}
+use Rattle.network_run.specs.Telling.{meter_behind, told}
+use Rattle.network_run.proofs.Telling.{nothing_put, on_err, stays, stays_then}
+use Rattle.network_run.proofs.Turns.{after_next, all_at, can_come_in, meter_in, meter_next, turn_puts, turn_stops}
 use Rattle.network_run.proofs.AllTicks.{at_notes, tick_is, tick_meant, ticks_length}
 use Rattle.world_model.specs.Topology.{Topology}
 use Rattle.network_run.proofs.ticks.tick_all.Goals as goal
@@ -21,23 +19,21 @@ step-requires g c =
     let i : ℕ = c.loop-index.index in
     let event : Event = c.tick_at-event.result in
     let turn : slice_get (tick_of_all first) i ≡ Some event = tick_is g.topology first i c.nodes-nodes.result event (at_notes g.topology _ c.args.notes.now c.requires.1.1.1.1.1.0.world) (c.nodes-nodes.ensures.len ∙ ap (λ (t : Topology). length t.nodes) c.requires.1.1.1.0) c.loop-index-test.true c.tick_at-event.ensures.controllers c.tick_at-event.ensures.switches in
-    let come = can_come_in g.topology first w (tick_of_all first) i event turn c.loop-index.invariant.events c.requires.1.1.1.1.1.1.0 (tick_meant g.topology first w i event (at_notes g.topology _ c.args.notes.now c.requires.1.1.1.1.1.0.world) turn) in
+    let come = can_come_in g.topology first w (tick_of_all first) i event turn c.loop-index.invariant.events c.requires.1.1.1.1.1.1 (tick_meant g.topology first w i event (at_notes g.topology _ c.args.notes.now c.requires.1.1.1.1.1.0.world) turn) in
     λ κs fits. (fits.0, (fits.1.0, (fits.1.1, (c.requires.1.1.1.0, (c.loop-index.invariant.empty, (c.loop-index.invariant.runs, come))))))
 
-pub returns-in_err-step-clause-front : goal.returns-in_err-step-clause-front
-returns-in_err-step-clause-front g c =
+pub returns-in_err-step-clause-put : goal.returns-in_err-step-clause-put
+returns-in_err-step-clause-put g c =
     let first : World = world_of g.C.NodeController.seen c.args.world.now c.args.notes.now in
+    let w : World = world_of g.C.NodeController.seen c.loop-index.world c.loop-index.notes in
     let i : ℕ = c.loop-index.index in
     let event : Event = c.tick_at-event.result in
     let turn : slice_get (tick_of_all first) i ≡ Some event = tick_is g.topology first i c.nodes-nodes.result event (at_notes g.topology _ c.args.notes.now c.requires.1.1.1.1.1.0.world) (c.nodes-nodes.ensures.len ∙ ap (λ (t : Topology). length t.nodes) c.requires.1.1.1.0) c.loop-index-test.true c.tick_at-event.ensures.controllers c.tick_at-event.ensures.switches in
-    on_err c.from_residual.result
-    (subst (IsFrontPut c.args.writer.now c.step.new.writer (g.K.Sink.written c.args.sink.now) (g.K.Sink.written c.step.new.sink)) (told_behind g.topology first (tick_of_all first) i event turn)
-    (front_then c.args.writer.now c.loop-index.writer c.step.new.writer (g.K.Sink.written c.args.sink.now) (g.K.Sink.written c.loop-index.sink) (g.K.Sink.written c.step.new.sink)
-    (told g.topology first (take i (tick_of_all first))) _ c.loop-index.invariant.put
-    (front_before c.loop-index.writer c.step.new.writer _ _ (record_lines g.topology (next g.topology (world_after g.topology first (take i (tick_of_all first))) event).notes.records)
-    (told g.topology (next g.topology (world_after g.topology first (take i (tick_of_all first))) event) (drop (suc i) (tick_of_all first)))
-    (subst (λ (v : World). IsFrontPut c.loop-index.writer c.step.new.writer (g.K.Sink.written c.loop-index.sink) (g.K.Sink.written c.step.new.sink) (record_lines g.topology (next g.topology v event).notes.records)) c.loop-index.invariant.world
-    c.in_err-step.ensures.front))))
+    turn_stops c.from_residual.result _ g.topology first w (tick_of_all first) i event c.args.writer.now c.loop-index.writer c.step.new.writer (g.K.Sink.written c.args.sink.now) (g.K.Sink.written c.loop-index.sink) (g.K.Sink.written c.step.new.sink)
+    c.from_residual.ensures.1 turn c.loop-index.invariant.world c.loop-index.invariant.put c.in_err-step.ensures.put
+
+pub returns-in_err-step-clause-room : goal.returns-in_err-step-clause-room
+returns-in_err-step-clause-room g c = stays_then _ _ _ c.loop-index.invariant.room c.in_err-step.ensures.room
 
 pub returns-in_err-step-clause-kept : goal.returns-in_err-step-clause-kept
 returns-in_err-step-clause-kept g c =
@@ -47,11 +43,12 @@ returns-in_err-step-clause-kept g c =
     let event : Event = c.tick_at-event.result in
     let turn : slice_get (tick_of_all first) i ≡ Some event = tick_is g.topology first i c.nodes-nodes.result event (at_notes g.topology _ c.args.notes.now c.requires.1.1.1.1.1.0.world) (c.nodes-nodes.ensures.len ∙ ap (λ (t : Topology). length t.nodes) c.requires.1.1.1.0) c.loop-index-test.true c.tick_at-event.ensures.controllers c.tick_at-event.ensures.switches in
     on_err c.from_residual.result
-    (reading_in g.topology first w (tick_of_all first) i event c.step.new.meter c.loop-index.meter turn c.loop-index.invariant.world c.loop-index.invariant.meter c.in_err-step.ensures.kept)
+    (meter_in c.args.meter.now g.topology first w (tick_of_all first) i event c.step.new.meter c.loop-index.meter turn c.loop-index.invariant.world c.loop-index.invariant.meter c.in_err-step.ensures.kept)
 
 pub loop-index-preserved : goal.loop-index-preserved
 loop-index-preserved g c =
     let first : World = world_of g.C.NodeController.seen c.args.world.now c.args.notes.now in
+    let w : World = world_of g.C.NodeController.seen c.loop-index.world c.loop-index.notes in
     let i : ℕ = c.loop-index.index in
     let event : Event = c.tick_at-event.result in
     let runs = c.requires.1.1.1.1.1.0 in
@@ -62,13 +59,11 @@ loop-index-preserved g c =
       empty = c.in_ok-step.ensures.empty;
       runs = c.in_ok-step.ensures.runs;
       events = omega (arith, more, c.loop-index.invariant.events);
-      put = subst (IsPut c.args.writer.now c.step.new.writer (g.K.Sink.written c.args.sink.now) (g.K.Sink.written c.step.new.sink)) (told_next g.topology first (tick_of_all first) i event turn)
-          (put_then c.args.writer.now c.loop-index.writer c.step.new.writer (g.K.Sink.written c.args.sink.now) (g.K.Sink.written c.loop-index.sink) (g.K.Sink.written c.step.new.sink)
-          (told g.topology first (take i (tick_of_all first))) _ c.loop-index.invariant.put
-          (subst (λ (v : World). IsPut c.loop-index.writer c.step.new.writer (g.K.Sink.written c.loop-index.sink) (g.K.Sink.written c.step.new.sink) (record_lines g.topology (next g.topology v event).notes.records)) c.loop-index.invariant.world
-          c.in_ok-step.ensures.put));
+      put = turn_puts g.topology first w (tick_of_all first) i event c.args.writer.now c.loop-index.writer c.step.new.writer (g.K.Sink.written c.args.sink.now) (g.K.Sink.written c.loop-index.sink) (g.K.Sink.written c.step.new.sink)
+          turn c.loop-index.invariant.world c.loop-index.invariant.put c.in_ok-step.ensures.put;
+      room = stays_then _ _ _ c.loop-index.invariant.room c.in_ok-step.ensures.room;
       faults = c.in_ok-step.ensures.faults ∙ c.loop-index.invariant.faults;
-      meter = c.in_ok-step.ensures.meter ∙ ap reading_of (sym c.in_ok-step.ensures.world);
+      meter = meter_next c.args.meter.now g.topology first w (tick_of_all first) i event c.step.new.meter turn c.loop-index.invariant.world c.in_ok-step.ensures.meter;
     }
 
 pub loop-index-init : goal.loop-index-init
@@ -80,8 +75,9 @@ loop-index-init g c =
       runs = c.requires.1.1.1.1.1.0;
       events = omega arith;
       put = nothing_put _ _;
+      room = stays _;
       faults = refl;
-      meter = c.requires.1.1.1.1.1.1.1;
+      meter = refl;
     }
 
 pub returns-clause-world : goal.returns-clause-world
@@ -97,3 +93,10 @@ returns-clause-put g c =
     let end : c.loop-index.index ≡ c.nodes-nodes.result + c.nodes-nodes.result = omega (arith, c.loop-index-test.false, c.loop-index.auto.index-end) in
     let all : take c.loop-index.index (tick_of_all first) ≡ tick_of_all first = all_at (tick_of_all first) c.loop-index.index (end ∙ sym (ticks_length g.topology first c.nodes-nodes.result (at_notes g.topology _ c.args.notes.now c.requires.1.1.1.1.1.0.world) (c.nodes-nodes.ensures.len ∙ ap (λ (t : Topology). length t.nodes) c.requires.1.1.1.0))) in
     subst (λ (events : List Event). IsPut c.args.writer.now c.loop-index.writer (g.K.Sink.written c.args.sink.now) (g.K.Sink.written c.loop-index.sink) (told g.topology first events)) all c.loop-index.invariant.put
+
+pub returns-clause-meter : goal.returns-clause-meter
+returns-clause-meter g c =
+    let first : World = world_of g.C.NodeController.seen c.args.world.now c.args.notes.now in
+    let end : c.loop-index.index ≡ c.nodes-nodes.result + c.nodes-nodes.result = omega (arith, c.loop-index-test.false, c.loop-index.auto.index-end) in
+    let all : take c.loop-index.index (tick_of_all first) ≡ tick_of_all first = all_at (tick_of_all first) c.loop-index.index (end ∙ sym (ticks_length g.topology first c.nodes-nodes.result (at_notes g.topology _ c.args.notes.now c.requires.1.1.1.1.1.0.world) (c.nodes-nodes.ensures.len ∙ ap (λ (t : Topology). length t.nodes) c.requires.1.1.1.0))) in
+    c.loop-index.invariant.meter ∙ ap (meter_behind c.args.meter.now g.topology first) all

@@ -1,10 +1,9 @@
 use Rattle.std.proofs.Common.{◌≡◌, ◌+◌, [], take}
 use Rattle.lab_io.specs.Report.{IsPut}
 use Rattle.world_model.specs.Run.{tick_of_all, put_away, world_after}
-use Rattle.world.specs.Counted.{reading_of}
 use Rattle.world.specs.Network.{world_of}
 use Rattle.world.specs.Running.{Runs}
-use Rattle.network_run.specs.Telling.{told}
+use Rattle.network_run.specs.Telling.{StaysWithin, meter_behind, told}
 use Rattle.network_run.proofs.ticks.tick_all.Given as goal
 
 abbrev pub ghost-step : goal.ghost-step
@@ -18,5 +17,6 @@ invariant-loop-index g l = record {
   events : (world_of g.C.NodeController.seen l.world l.notes).events ≡ (world_of g.C.NodeController.seen l.fn.world l.fn.notes).events + l.index;
   put : IsPut l.fn.writer l.writer (g.K.Sink.written l.fn.sink) (g.K.Sink.written l.sink) (told g.topology (world_of g.C.NodeController.seen l.fn.world l.fn.notes) (take l.index (tick_of_all (world_of g.C.NodeController.seen l.fn.world l.fn.notes))));
   faults : g.K.Sink.faults l.sink ≡ g.K.Sink.faults l.fn.sink;
-  meter : l.meter ≡ reading_of (world_of g.C.NodeController.seen l.world l.notes);
+  room : StaysWithin l.fn.writer l.writer;
+  meter : l.meter ≡ meter_behind l.fn.meter g.topology (world_of g.C.NodeController.seen l.fn.world l.fn.notes) (take l.index (tick_of_all (world_of g.C.NodeController.seen l.fn.world l.fn.notes)));
 }

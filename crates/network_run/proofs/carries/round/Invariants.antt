@@ -2,11 +2,10 @@ use Rattle.std.proofs.Common.{◌≡◌, ◌+◌, [], take}
 use Rattle.lab_io.specs.Report.{IsPut}
 use Rattle.world_model.specs.Places.{places}
 use Rattle.world_model.specs.Run.{round, put_away, world_after}
-use Rattle.world.specs.Counted.{reading_of}
 use Rattle.world.specs.Network.{world_of}
 use Rattle.world.specs.Running.{Runs}
-use Rattle.network_run.specs.Telling.{told}
-use Rattle.network_run.proofs.rounds.round.Given as goal
+use Rattle.network_run.specs.Telling.{StaysWithin, meter_behind, told}
+use Rattle.network_run.proofs.carries.round.Given as goal
 
 abbrev pub ghost-step : goal.ghost-step
 ghost-step g a = g.topology
@@ -20,5 +19,6 @@ invariant-loop-index g l = record {
   queues : l.world.round.items ≡ places (world_of g.C.NodeController.seen l.fn.world l.fn.notes);
   put : IsPut l.fn.writer l.writer (g.K.Sink.written l.fn.sink) (g.K.Sink.written l.sink) (told g.topology (world_of g.C.NodeController.seen l.fn.world l.fn.notes) (take l.index (round (world_of g.C.NodeController.seen l.fn.world l.fn.notes))));
   faults : g.K.Sink.faults l.sink ≡ g.K.Sink.faults l.fn.sink;
-  meter : l.meter ≡ reading_of (world_of g.C.NodeController.seen l.world l.notes);
+  room : StaysWithin l.fn.writer l.writer;
+  meter : l.meter ≡ meter_behind l.fn.meter g.topology (world_of g.C.NodeController.seen l.fn.world l.fn.notes) (take l.index (round (world_of g.C.NodeController.seen l.fn.world l.fn.notes)));
 }

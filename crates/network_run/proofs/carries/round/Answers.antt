@@ -2,18 +2,16 @@ use Rattle.std.proofs.Common.{◌≡◌, ◌∙◌, ◌<◌, ◌+◌, ℕ, List,
 use Rattle.net_types.specs.declared.node.Place.{Place}
 use Rattle.link_model.specs.declared.record.Record.{Record}
 use Rattle.lab_io.specs.Report.{IsPut}
-use Rattle.script_model.specs.Reports.{record_lines}
 use Rattle.world_model.specs.declared.event.Event.{Event}
 use Rattle.world_model.specs.declared.event.Event.TheVariants.{Carry}
 use Rattle.world_model.specs.Places.{places}
 use Rattle.world_model.specs.Run.{next, put_away, round, world_after}
 use Rattle.world_model.specs.World.{World}
-use Rattle.world.specs.Counted.{reading_of}
 use Rattle.world.specs.Network.{world_of}
-use Rattle.network_run.specs.Telling.{IsFrontPut, told}
-use Rattle.network_run.proofs.Telling.{front_before, front_then, nothing_put, on_err, put_then}
-use Rattle.network_run.proofs.Turns.{after_next, all_at, can_come, place_is, reading_in, round_length, same_places, told_behind, told_next, turn_is}
-use Rattle.network_run.proofs.rounds.round.Goals as goal
+use Rattle.network_run.specs.Telling.{meter_behind, told}
+use Rattle.network_run.proofs.Telling.{nothing_put, on_err, stays, stays_then}
+use Rattle.network_run.proofs.Turns.{after_next, all_at, can_come, place_is, meter_in, meter_next, round_length, same_places, turn_is, turn_puts, turn_stops}
+use Rattle.network_run.proofs.carries.round.Goals as goal
 
 pub place-requires : goal.place-requires
 place-requires g c =
@@ -27,24 +25,22 @@ step-requires g c =
     let runs = c.requires.1.1.1.1.1.0 in
     let found : slice_get (places first) c.loop-index.index ≡ Some c.place.result = ap (λ (ps : List Place). slice_get ps c.loop-index.index) (sym c.loop-index.invariant.queues) ∙ c.place.ensures in
     let low : c.loop-index.index < length (round first) = subst (λ (k : ℕ). c.loop-index.index < k) (c.places-index-end.ensures ∙ ap length runs.round ∙ sym (round_length first)) c.loop-index-test.true in
-    let come = can_come g.topology first w c.loop-index.index c.place.result c.loop-index.invariant.events low c.requires.1.1.1.1.1.1.0
+    let come = can_come g.topology first w c.loop-index.index c.place.result c.loop-index.invariant.events low c.requires.1.1.1.1.1.1
     (place_is g.topology _ 1 _ runs.world.sites (omega arith) (omega (arith, runs.world.nodes)) c.loop-index.index c.place.result found) in
     λ κs fits. (fits.0, (fits.1.0, (fits.1.1, (c.requires.1.1.1.0, (c.loop-index.invariant.empty, (c.loop-index.invariant.runs, come))))))
 
-pub returns-in_err-step-clause-front : goal.returns-in_err-step-clause-front
-returns-in_err-step-clause-front g c =
+pub returns-in_err-step-clause-put : goal.returns-in_err-step-clause-put
+returns-in_err-step-clause-put g c =
     let first : World = world_of g.C.NodeController.seen c.args.world.now c.args.notes.now in
+    let w : World = world_of g.C.NodeController.seen c.loop-index.world c.loop-index.notes in
     let i : ℕ = c.loop-index.index in
     let event : Event = Carry c.place.result in
     let turn : slice_get (round first) i ≡ Some event = turn_is first i c.place.result (ap (λ (ps : List Place). slice_get ps i) (sym c.loop-index.invariant.queues) ∙ c.place.ensures) in
-    on_err c.from_residual.result
-    (subst (IsFrontPut c.args.writer.now c.step.new.writer (g.K.Sink.written c.args.sink.now) (g.K.Sink.written c.step.new.sink)) (told_behind g.topology first (round first) i event turn)
-    (front_then c.args.writer.now c.loop-index.writer c.step.new.writer (g.K.Sink.written c.args.sink.now) (g.K.Sink.written c.loop-index.sink) (g.K.Sink.written c.step.new.sink)
-    (told g.topology first (take i (round first))) _ c.loop-index.invariant.put
-    (front_before c.loop-index.writer c.step.new.writer _ _ (record_lines g.topology (next g.topology (world_after g.topology first (take i (round first))) event).notes.records)
-    (told g.topology (next g.topology (world_after g.topology first (take i (round first))) event) (drop (suc i) (round first)))
-    (subst (λ (v : World). IsFrontPut c.loop-index.writer c.step.new.writer (g.K.Sink.written c.loop-index.sink) (g.K.Sink.written c.step.new.sink) (record_lines g.topology (next g.topology v event).notes.records)) c.loop-index.invariant.world
-    c.in_err-step.ensures.front))))
+    turn_stops c.from_residual.result _ g.topology first w (round first) i event c.args.writer.now c.loop-index.writer c.step.new.writer (g.K.Sink.written c.args.sink.now) (g.K.Sink.written c.loop-index.sink) (g.K.Sink.written c.step.new.sink)
+    c.from_residual.ensures.1 turn c.loop-index.invariant.world c.loop-index.invariant.put c.in_err-step.ensures.put
+
+pub returns-in_err-step-clause-room : goal.returns-in_err-step-clause-room
+returns-in_err-step-clause-room g c = stays_then _ _ _ c.loop-index.invariant.room c.in_err-step.ensures.room
 
 pub returns-in_err-step-clause-kept : goal.returns-in_err-step-clause-kept
 returns-in_err-step-clause-kept g c =
@@ -54,11 +50,12 @@ returns-in_err-step-clause-kept g c =
     let event : Event = Carry c.place.result in
     let turn : slice_get (round first) i ≡ Some event = turn_is first i c.place.result (ap (λ (ps : List Place). slice_get ps i) (sym c.loop-index.invariant.queues) ∙ c.place.ensures) in
     on_err c.from_residual.result
-    (reading_in g.topology first w (round first) i event c.step.new.meter c.loop-index.meter turn c.loop-index.invariant.world c.loop-index.invariant.meter c.in_err-step.ensures.kept)
+    (meter_in c.args.meter.now g.topology first w (round first) i event c.step.new.meter c.loop-index.meter turn c.loop-index.invariant.world c.loop-index.invariant.meter c.in_err-step.ensures.kept)
 
 pub loop-index-preserved : goal.loop-index-preserved
 loop-index-preserved g c =
     let first : World = world_of g.C.NodeController.seen c.args.world.now c.args.notes.now in
+    let w : World = world_of g.C.NodeController.seen c.loop-index.world c.loop-index.notes in
     let i : ℕ = c.loop-index.index in
     let event : Event = Carry c.place.result in
     let runs = c.requires.1.1.1.1.1.0 in
@@ -71,13 +68,11 @@ loop-index-preserved g c =
       events = omega (arith, more, c.loop-index.invariant.events);
       queues = c.in_ok-step.ensures.runs.round
           ∙ same_places g.topology _ _ 1 _ _ c.in_ok-step.ensures.runs.world.sites runs.world.sites (c.in_ok-step.ensures.runs.world.nodes ∙ sym runs.world.nodes);
-      put = subst (IsPut c.args.writer.now c.step.new.writer (g.K.Sink.written c.args.sink.now) (g.K.Sink.written c.step.new.sink)) (told_next g.topology first (round first) i event turn)
-          (put_then c.args.writer.now c.loop-index.writer c.step.new.writer (g.K.Sink.written c.args.sink.now) (g.K.Sink.written c.loop-index.sink) (g.K.Sink.written c.step.new.sink)
-          (told g.topology first (take i (round first))) _ c.loop-index.invariant.put
-          (subst (λ (v : World). IsPut c.loop-index.writer c.step.new.writer (g.K.Sink.written c.loop-index.sink) (g.K.Sink.written c.step.new.sink) (record_lines g.topology (next g.topology v event).notes.records)) c.loop-index.invariant.world
-          c.in_ok-step.ensures.put));
+      put = turn_puts g.topology first w (round first) i event c.args.writer.now c.loop-index.writer c.step.new.writer (g.K.Sink.written c.args.sink.now) (g.K.Sink.written c.loop-index.sink) (g.K.Sink.written c.step.new.sink)
+          turn c.loop-index.invariant.world c.loop-index.invariant.put c.in_ok-step.ensures.put;
+      room = stays_then _ _ _ c.loop-index.invariant.room c.in_ok-step.ensures.room;
       faults = c.in_ok-step.ensures.faults ∙ c.loop-index.invariant.faults;
-      meter = c.in_ok-step.ensures.meter ∙ ap reading_of (sym c.in_ok-step.ensures.world);
+      meter = meter_next c.args.meter.now g.topology first w (round first) i event c.step.new.meter turn c.loop-index.invariant.world c.in_ok-step.ensures.meter;
     }
 
 pub loop-index-init : goal.loop-index-init
@@ -90,8 +85,9 @@ loop-index-init g c =
       events = omega arith;
       queues = c.requires.1.1.1.1.1.0.round;
       put = nothing_put _ _;
+      room = stays _;
       faults = refl;
-      meter = c.requires.1.1.1.1.1.1.1;
+      meter = refl;
     }
 
 pub returns-clause-world : goal.returns-clause-world
@@ -107,3 +103,10 @@ returns-clause-put g c =
     let end : c.loop-index.index ≡ c.places-index-end.result = omega (arith, c.loop-index-test.false, c.loop-index.auto.index-end) in
     let all : take c.loop-index.index (round first) ≡ round first = all_at (round first) c.loop-index.index (end ∙ c.places-index-end.ensures ∙ ap length c.requires.1.1.1.1.1.0.round ∙ sym (round_length first)) in
     subst (λ (events : List Event). IsPut c.args.writer.now c.loop-index.writer (g.K.Sink.written c.args.sink.now) (g.K.Sink.written c.loop-index.sink) (told g.topology first events)) all c.loop-index.invariant.put
+
+pub returns-clause-meter : goal.returns-clause-meter
+returns-clause-meter g c =
+    let first : World = world_of g.C.NodeController.seen c.args.world.now c.args.notes.now in
+    let end : c.loop-index.index ≡ c.places-index-end.result = omega (arith, c.loop-index-test.false, c.loop-index.auto.index-end) in
+    let all : take c.loop-index.index (round first) ≡ round first = all_at (round first) c.loop-index.index (end ∙ c.places-index-end.ensures ∙ ap length c.requires.1.1.1.1.1.0.round ∙ sym (round_length first)) in
+    c.loop-index.invariant.meter ∙ ap (meter_behind c.args.meter.now g.topology first) all

@@ -1,0 +1,130 @@
+-- several rounds, one after the other
+
+use Rattle.std.proofs.Common.{◌≡◌, ℕ, zero, suc, ◌+◌, ◌≤◌, ◌<◌, List, [], ◌∷◌, ◌++◌, append_assoc, append-nil, length, length-append, refl, sym, ◌∙◌, ap, subst, arith}
+use Rattle.std.specs.Prelude.{map, Option, Result}
+use Rattle.std.specs.List.{repeat}
+use Rattle.std.specs.Result.{IsErrAnd}
+use Rattle.lab_io.specs.Report.{IsPut, Writer}
+use Rattle.net_types.specs.declared.node.Place.{Place}
+use Rattle.world_model.specs.declared.event.Event.{Event}
+use Rattle.world_model.specs.declared.event.Event.TheVariants.{Carry}
+use Rattle.world_model.specs.Limits.{event_limit}
+use Rattle.world_model.specs.Run.{next, put_away, round, world_after}
+use Rattle.world_model.specs.Topology.{Topology}
+use Rattle.world_model.specs.World.{World}
+use Rattle.world.specs.declared.counts.Meter.{Meter}
+use Rattle.world.specs.Counted.{reading_of}
+use Rattle.world.specs.Running.{IsRunning}
+use Rattle.network_run.specs.declared.stop.Stop.{Stop}
+use Rattle.network_run.specs.Telling.{IsLeft, Puts, meter_behind, told}
+use Rattle.network_run.proofs.Telling.{put_then, stops_at}
+use Rattle.network_run.proofs.Turns.{after_append, behind_some, same_places, told_append}
+
+-- *Records that were put away* have no part in what follows
+away_after : (t : Topology) (w : World) (events : List Event) → put_away (world_after t (put_away w) events) ≡ put_away (world_after t w events)
+away_after t w [] = refl
+away_after t w (event ∷ events) = refl
+
+away_told : (t : Topology) (w : World) (events : List Event) → told t (put_away w) events ≡ told t w events
+away_told t w [] = refl
+away_told t w (event ∷ events) = refl
+
+away_meter : (m : Meter) (t : Topology) (w : World) (events : List Event) → meter_behind m t (put_away w) events ≡ meter_behind m t w events
+away_meter m t w [] = refl
+away_meter m t w (event ∷ events) = refl
+
+-- *A meter* behind some events and others
+some_behind : (xs : List Event) (y : Event) (ys : List Event) → 0 < length (xs ++ y ∷ ys)
+some_behind [] y ys = omega arith
+some_behind (x ∷ xs) y ys = omega arith
+
+pub meter_append : (m : Meter) (t : Topology) (w : World) (some others : List Event) → meter_behind (meter_behind m t w some) t (world_after t w some) others ≡ meter_behind m t w (some ++ others)
+meter_append m t w some [] = ap (meter_behind m t w) (sym (append-nil some))
+meter_append m t w some (event ∷ others) =
+    ap reading_of (sym (after_append t w some (event ∷ others))) ∙ sym (behind_some m t w (some ++ event ∷ others) (some_behind some event others))
+
+-- *Events count*
+pub events_after : (t : Topology) (w : World) (events : List Event) → (world_after t w events).events ≡ w.events + length events
+events_after t w [] = omega arith
+events_after t w (event ∷ events) = (let later : (world_after t (next t w event) events).events ≡ (w.events + 1) + length events = events_after t (next t w event) events in omega (arith, later))
+
+-- *Events behind events*, where the records of those before are put away
+pub world_then : (t : Topology) (first w after : World) (some others : List Event) → w ≡ put_away (world_after t first some) → after ≡ put_away (world_after t w others) → after ≡ put_away (world_after t first (some ++ others))
+world_then t first w after some others same is =
+    is ∙ ap (λ (v : World). put_away (world_after t v others)) same ∙ away_after t (world_after t first some) others ∙ ap put_away (sym (after_append t first some others))
+
+pub told_then : (t : Topology) (first w : World) (some others : List Event) → w ≡ put_away (world_after t first some) → told t w others ≡ told t (world_after t first some) others
+told_then t first w some others same = ap (λ (v : World). told t v others) same ∙ away_told t (world_after t first some) others
+
+pub meter_then : (m : Meter) (t : Topology) (first w : World) (some others : List Event) → w ≡ put_away (world_after t first some) → meter_behind m t w others ≡ meter_behind m t (world_after t first some) others
+meter_then m t first w some others same = ap (λ (v : World). meter_behind m t v others) same ∙ away_meter m t (world_after t first some) others
+
+-- *Repeated*
+one_up : (k : ℕ) → suc k ≡ k + 1
+one_up k = omega arith
+
+repeat_more : (k : ℕ) (xs : List Event) → repeat k xs ++ xs ≡ repeat (suc k) xs
+repeat_more zero xs = sym (append-nil xs)
+repeat_more (suc k) xs = append_assoc xs (repeat k xs) xs ∙ ap (λ ys. xs ++ ys) (repeat_more k xs)
+
+repeat_next : (k : ℕ) (xs : List Event) → repeat k xs ++ xs ≡ repeat (k + 1) xs
+repeat_next k xs = repeat_more k xs ∙ ap (λ n. repeat n xs) (one_up k)
+
+-- so many, one more, and those behind
+record HasRest (k n : ℕ) (xs : List Event) : Type 0 where
+  rest : List Event
+  is : repeat k xs ++ (xs ++ rest) ≡ repeat n xs
+
+rest_of : (k n : ℕ) (xs : List Event) → k < n → HasRest k n xs
+rest_of k zero xs low = absurd (omega (arith, low))
+rest_of zero (suc n) xs low = record { rest = repeat n xs; is = refl }
+rest_of (suc k) (suc n) xs low =
+    (let r : HasRest k n xs = rest_of k n xs (omega (arith, low)) in
+    record { rest = r.rest; is = append_assoc xs (repeat k xs) (xs ++ r.rest) ∙ ap (λ ys. xs ++ ys) r.is })
+
+-- *The queues of a round* stay
+pub same_round : (t : Topology) (first w : World) → IsRunning t first → IsRunning t w → round w ≡ round first
+same_round t first w one other =
+    ap (λ (ps : List Place). map Carry ps) (same_places t w.events first.events 1 w.sites first.sites other.sites one.sites (other.nodes ∙ sym one.nodes))
+
+module _ (t : Topology) (first w : World) (k : ℕ) (same : w ≡ put_away (world_after t first (repeat k (round first)))) (turns : round w ≡ round first) where
+  abbrev reached : World
+  reached = world_after t first (repeat k (round first))
+
+  -- what another round makes of what is behind so many
+  pub rounds_world : (after : World) → after ≡ put_away (world_after t w (round w)) → after ≡ put_away (world_after t first (repeat (k + 1) (round first)))
+  rounds_world after is =
+      world_then t first w after (repeat k (round first)) (round first) same (is ∙ ap (λ events. put_away (world_after t w events)) turns)
+      ∙ ap (λ events. put_away (world_after t first events)) (repeat_next k (round first))
+
+  lines_of_it : told t w (round w) ≡ told t reached (round first)
+  lines_of_it = ap (told t w) turns ∙ told_then t first w (repeat k (round first)) (round first) same
+
+  pub rounds_put : (a b c : Writer) (x y z : Option (List ℕ)) → IsPut a b x y (told t first (repeat k (round first))) → IsPut b c y z (told t w (round w)) → IsPut a c x z (told t first (repeat (k + 1) (round first)))
+  rounds_put a b c x y z p q =
+      subst (IsPut a c x z) (sym (told_append t first (repeat k (round first)) (round first)) ∙ ap (told t first) (repeat_next k (round first)))
+      (put_then a b c x y z (told t first (repeat k (round first))) (told t reached (round first)) p (subst (IsPut b c y z) lines_of_it q))
+
+  pub rounds_stop : {B : Type 0} (r : Result B Stop) (stop : Stop) (n : ℕ) (a b c : Writer) (x y z : Option (List ℕ)) → k < n → IsErrAnd r (λ s. s ≡ stop) → IsPut a b x y (told t first (repeat k (round first)))
+      → IsLeft stop b c y z (told t w (round w)) → Puts r a c x z (told t first (repeat n (round first)))
+  rounds_stop r stop n a b c x y z low is p h =
+      let r2 : HasRest k n (round first) = rest_of k n (round first) low in
+      let behind : List ℕ = told t (world_after t reached (round first)) r2.rest in
+      subst (Puts r a c x z)
+      (ap (λ xs. told t first (repeat k (round first)) ++ xs) (sym (told_append t reached (round first) r2.rest)) ∙ sym (told_append t first (repeat k (round first)) (round first ++ r2.rest)) ∙ ap (told t first) r2.is)
+      (stops_at r stop a b c x y z (told t first (repeat k (round first))) (told t reached (round first)) behind is p (subst (IsLeft stop b c y z) lines_of_it h))
+
+  pub rounds_few : (n : ℕ) → k < n → first.events + length (repeat n (round first)) ≤ event_limit → w.events + length (round w) ≤ event_limit
+  rounds_few n low few =
+      let r2 : HasRest k n (round first) = rest_of k n (round first) low in
+      let now : w.events ≡ first.events + length (repeat k (round first)) = ap (λ (v : World). v.events) same ∙ events_after t first (repeat k (round first)) in
+      let size : length (round w) ≡ length (round first) = ap length turns in
+      let all : length (repeat k (round first) ++ (round first ++ r2.rest)) ≡ length (repeat n (round first)) = ap length r2.is in
+      let one : length (repeat k (round first) ++ (round first ++ r2.rest)) ≡ length (repeat k (round first)) + length (round first ++ r2.rest) = length-append (repeat k (round first)) (round first ++ r2.rest) in
+      let two : length (round first ++ r2.rest) ≡ length (round first) + length r2.rest = length-append (round first) r2.rest in
+      omega (arith, now, size, all, one, two, few)
+
+  pub rounds_meter : (before held meter : Meter) → held ≡ meter_behind before t first (repeat k (round first)) → meter ≡ meter_behind held t w (round w) → meter ≡ meter_behind before t first (repeat (k + 1) (round first))
+  rounds_meter before held meter was is =
+      is ∙ (λ i. meter_behind (was i) t w (turns i)) ∙ meter_then _ t first w (repeat k (round first)) (round first) same
+      ∙ meter_append before t first (repeat k (round first)) (round first) ∙ ap (meter_behind before t first) (repeat_next k (round first))
