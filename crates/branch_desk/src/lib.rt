@@ -9,8 +9,6 @@ mod desk;
 mod entry;
 mod message;
 mod requests;
-#[cfg(test)]
-mod tests;
 mod ticket;
 
 pub use answered::{Answered, Ports};

@@ -10,8 +10,6 @@ mod chain;
 mod pool;
 mod queue;
 mod store;
-#[cfg(test)]
-mod tests;
 
 pub use chain::{CHAIN_CELLS, Chain};
 pub use pool::{Pool, Slot};

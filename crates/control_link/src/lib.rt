@@ -7,8 +7,6 @@ mod layout;
 mod link;
 mod store;
 mod taker;
-#[cfg(test)]
-mod tests;
 
 pub use link::ControlLink;
 pub use taker::Taker;

@@ -5,8 +5,6 @@
 
 mod joins;
 mod laws;
-#[cfg(test)]
-mod tests;
 
 pub use joins::{Join, plan, route_of, undo};
 pub use laws::plans_are_the_controllers;

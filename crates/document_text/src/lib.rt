@@ -6,8 +6,6 @@ mod document;
 mod fault;
 mod lines;
 mod table;
-#[cfg(test)]
-mod tests;
 
 pub use document::read_document;
 pub use fault::DocumentFault;

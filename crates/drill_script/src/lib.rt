@@ -6,8 +6,6 @@ mod lines;
 mod packet;
 mod place;
 mod steps;
-#[cfg(test)]
-mod tests;
 mod write;
 
 pub use lines::DrillLines;

@@ -10,8 +10,6 @@ mod fabric;
 mod place;
 mod row;
 mod store;
-#[cfg(test)]
-mod tests;
 
 pub use crossbar_model::{Branch, Routed};
 pub use fabric::Fabric;

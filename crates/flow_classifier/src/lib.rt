@@ -6,8 +6,6 @@
 mod classifier;
 mod laws;
 mod policy;
-#[cfg(test)]
-mod tests;
 mod window;
 
 pub use classifier::Classifier;

@@ -248,6 +248,3 @@ fn write_packet(head: &[u8], rest: &[u8], out: &mut [u8]) -> usize
     put_octets(out, head.len(), rest);
     head.len() + rest.len()
 }
-
-#[cfg(test)]
-mod tests;

@@ -4,8 +4,6 @@
 mod flow;
 mod identifier;
 mod laws;
-#[cfg(test)]
-mod tests;
 
 pub use flow::{FlowId, FlowKind, matches, next_hop, of_packet};
 pub use identifier::{FlowFault, read, write};

@@ -6,8 +6,6 @@
 mod cut;
 mod frame;
 mod send;
-#[cfg(test)]
-mod tests;
 
 pub use cut::note_cut_chain;
 pub use frame::{note_broken, test_frame};

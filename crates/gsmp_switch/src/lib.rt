@@ -10,7 +10,5 @@ mod exchange;
 mod ports;
 mod request;
 mod switch;
-#[cfg(test)]
-mod tests;
 
 pub use switch::Switch;

@@ -10,8 +10,6 @@ mod message;
 mod read;
 mod request;
 mod rows;
-#[cfg(test)]
-mod tests;
 mod write;
 
 pub use fault::Fault;

@@ -19,8 +19,6 @@
 mod laws;
 mod message;
 mod reader;
-#[cfg(test)]
-mod tests;
 mod writer;
 
 pub use laws::{octets_are_accepted, octets_tell_one_message};

@@ -17,8 +17,6 @@
 
 mod checksum;
 mod read;
-#[cfg(test)]
-mod tests;
 mod validate;
 mod write;
 

@@ -9,8 +9,6 @@ mod memory;
 mod report_writer;
 mod standard;
 mod sure;
-#[cfg(test)]
-mod tests;
 mod transfer;
 
 pub use edge::{Failed, Sink, Source};

@@ -7,8 +7,6 @@ mod book;
 mod held;
 mod index;
 mod places;
-#[cfg(test)]
-mod tests;
 mod view;
 
 pub use book::LabelBook;

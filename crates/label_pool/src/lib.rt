@@ -8,8 +8,6 @@ mod label;
 mod laws;
 mod marks;
 mod pool;
-#[cfg(test)]
-mod tests;
 
 pub use label::{Label, Offered, Quit, Recalled, Spare, Wired};
 pub use laws::pools_are_the_ports;

@@ -5,8 +5,6 @@ mod events;
 mod line;
 mod parts;
 mod routes;
-#[cfg(test)]
-mod tests;
 mod topology_lines;
 
 pub use line::write_line;

@@ -6,8 +6,6 @@ mod reader;
 mod report;
 mod run;
 mod script;
-#[cfg(test)]
-mod tests;
 
 pub use reader::read_script;
 pub use run::{Reported, replay};

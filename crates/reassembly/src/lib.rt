@@ -5,7 +5,5 @@
 
 mod chain;
 mod reassembly;
-#[cfg(test)]
-mod tests;
 
 pub use reassembly::Reassembly;

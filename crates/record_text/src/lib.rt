@@ -8,8 +8,6 @@ mod kind;
 mod names;
 mod numbers;
 mod read;
-#[cfg(test)]
-mod tests;
 mod words;
 mod write;
 

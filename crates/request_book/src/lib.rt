@@ -4,8 +4,6 @@
 
 mod answer;
 mod book;
-#[cfg(test)]
-mod tests;
 mod tickets;
 
 pub use answer::{Answer, Redeemable};

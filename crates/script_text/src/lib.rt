@@ -7,8 +7,6 @@ mod names;
 mod reading;
 mod state;
 mod tables;
-#[cfg(test)]
-mod tests;
 mod text;
 
 pub use reading::{read_line, read_string};

@@ -1,0 +1,229 @@
+//! Each message and its octets, made by Python's struct, and each refusal.
+
+ghost use Rattle.std.specs.Prelude.{◌≡◌, ◌<◌, ◌≤◌, length};
+
+use flow_ids::FlowId;
+use ifmp_wire::*;
+use ipv4_packet::internet_sum;
+use net_types::{Addr, Channel, Hello, HelloKind, Instance};
+use octet_fields::put_u16;
+
+const SENDER: Instance = Instance(1);
+
+const PEER: Instance = Instance(2);
+
+const LABEL: Channel = Channel { vpi: 0, vci: 32 };
+
+/// From 10.0.1.1, port 5001, to 10.0.3.1, port 5002, by UDP.
+const CONNECTION: FlowId = FlowId::One {
+    tos: 0,
+    ttl: 3,
+    protocol: 17,
+    source: Addr(0x0a00_0101),
+    destination: Addr(0x0a00_0301),
+    source_port: 5001,
+    destination_port: 5002,
+};
+
+const HOSTS: FlowId = FlowId::Two {
+    ttl: 3,
+    source: Addr(0x0a00_0101),
+    destination: Addr(0x0a00_0301),
+};
+
+const SYN: [u8; 20] = [
+    0x01, 0x00, 0xba, 0x98, 0x11, 0x22, 0x33, 0x44, 0x00, 0x00, 0x00, 0x00, 0x00, 0x00, 0x00, 0x00,
+    0x00, 0x00, 0x00, 0x01,
+];
+
+const ACK: [u8; 20] = [
+    0x01, 0x03, 0xf2, 0xf2, 0x00, 0x00, 0x00, 0x01, 0x00, 0x00, 0x00, 0x02, 0x0a, 0x00, 0x02, 0x01,
+    0x00, 0x00, 0x00, 0x06,
+];
+
+const REDIRECT: [u8; 40] = [
+    0x01, 0x04, 0x76, 0x6b, 0x00, 0x00, 0x00, 0x01, 0x00, 0x00, 0x00, 0x02, 0x00, 0x00, 0x00, 0x07,
+    0x01, 0x04, 0x00, 0x3c, 0x00, 0x00, 0x00, 0x20, 0x45, 0x00, 0x03, 0x11, 0x0a, 0x00, 0x01, 0x01,
+    0x0a, 0x00, 0x03, 0x01, 0x13, 0x89, 0x13, 0x8a,
+];
+
+const RECLAIM: [u8; 36] = [
+    0x01, 0x05, 0x9c, 0xcb, 0x00, 0x00, 0x00, 0x01, 0x00, 0x00, 0x00, 0x02, 0x00, 0x00, 0x00, 0x07,
+    0x02, 0x03, 0x00, 0x00, 0x00, 0x00, 0x00, 0x20, 0x45, 0x00, 0x03, 0x00, 0x0a, 0x00, 0x01, 0x01,
+    0x0a, 0x00, 0x03, 0x01,
+];
+
+const RECLAIM_ACK: [u8; 40] = [
+    0x01, 0x06, 0x76, 0xa5, 0x00, 0x00, 0x00, 0x01, 0x00, 0x00, 0x00, 0x02, 0x00, 0x00, 0x00, 0x07,
+    0x01, 0x04, 0x00, 0x00, 0x00, 0x00, 0x00, 0x20, 0x45, 0x00, 0x03, 0x11, 0x0a, 0x00, 0x01, 0x01,
+    0x0a, 0x00, 0x03, 0x01, 0x13, 0x89, 0x13, 0x8a,
+];
+
+const LABEL_RANGE: [u8; 24] = [
+    0x01, 0x07, 0xfa, 0xcf, 0x00, 0x00, 0x00, 0x01, 0x00, 0x00, 0x00, 0x02, 0x00, 0x00, 0x00, 0x07,
+    0x00, 0x00, 0x00, 0x20, 0x00, 0x00, 0x03, 0xff,
+];
+
+const ERROR: [u8; 24] = [
+    0x01, 0x08, 0xfb, 0xce, 0x00, 0x00, 0x00, 0x01, 0x00, 0x00, 0x00, 0x02, 0x00, 0x00, 0x00, 0x07,
+    0x02, 0x00, 0x00, 0x00, 0x00, 0xff, 0x00, 0x20,
+];
+
+#[test]
+fn messages_both_ways(rt: HostRuntime) {
+    let messages: [(Message, &[u8]); 7] = [
+        (
+            Message::Adjacency(Hello {
+                kind: HelloKind::Syn,
+                sender: Instance(0x1122_3344),
+                peer: Instance(0),
+                identity: Addr(0),
+                next: 1,
+            }),
+            &SYN,
+        ),
+        (
+            Message::Adjacency(Hello {
+                kind: HelloKind::Ack,
+                sender: SENDER,
+                peer: PEER,
+                identity: Addr(0x0a00_0201),
+                next: 6,
+            }),
+            &ACK,
+        ),
+        (
+            Message::Redirect {
+                sender: SENDER,
+                peer: PEER,
+                number: 7,
+                lifetime: 60,
+                label: LABEL,
+                flow: CONNECTION,
+            },
+            &REDIRECT,
+        ),
+        (
+            Message::Reclaim {
+                sender: SENDER,
+                peer: PEER,
+                number: 7,
+                label: LABEL,
+                flow: HOSTS,
+            },
+            &RECLAIM,
+        ),
+        (
+            Message::ReclaimAck {
+                sender: SENDER,
+                peer: PEER,
+                number: 7,
+                label: LABEL,
+                flow: CONNECTION,
+            },
+            &RECLAIM_ACK,
+        ),
+        (
+            Message::LabelRange {
+                sender: SENDER,
+                peer: PEER,
+                number: 7,
+                least: LABEL,
+                greatest: Channel { vpi: 0, vci: 1023 },
+            },
+            &LABEL_RANGE,
+        ),
+        (
+            Message::Error {
+                sender: SENDER,
+                peer: PEER,
+                number: 7,
+                code: 2,
+                label: Channel { vpi: 255, vci: 32 },
+            },
+            &ERROR,
+        ),
+    ];
+    for (message, octets) in messages {
+        assert_eq!(rt; decode(octets), Ok(message));
+    }
+}
+
+#[test]
+fn messages_are_written(rt: HostRuntime) {
+    let mut out = [7; 41];
+    let redirect = Message::Redirect {
+        sender: SENDER,
+        peer: PEER,
+        number: 7,
+        lifetime: 60,
+        label: LABEL,
+        flow: CONNECTION,
+    };
+    assert_eq!(rt; encode(&redirect, &mut out), 40);
+    assert_eq!(rt; &out[..40], REDIRECT.as_slice());
+    assert_eq!(rt; out[40], 7);
+    let reclaim = Message::Reclaim {
+        sender: SENDER,
+        peer: PEER,
+        number: 7,
+        label: LABEL,
+        flow: HOSTS,
+    };
+    assert_eq!(rt; encode(&reclaim, &mut out), 36);
+    assert_eq!(rt; &out[..36], RECLAIM.as_slice());
+}
+
+/// Each refusal, by octets that pass the tests before it.
+#[test]
+fn octets_are_refused_by_cause(rt: HostRuntime) {
+    assert_eq!(rt; decode(&REDIRECT[..3]), Err(Fault::Short));
+    assert_eq!(rt; decode(&REDIRECT[..39]), Err(Fault::Size));
+    let unsealed = [
+        (0, 2, Fault::Version),
+        (1, 9, Fault::OpCode),
+        (3, 0x6c, Fault::Checksum),
+    ];
+    for (place, octet, fault) in unsealed {
+        let mut changed = REDIRECT;
+        changed[place] = octet;
+        assert_eq!(rt; decode(&changed), Err(fault));
+    }
+    let sealed: [(&[u8], usize, u8, Fault); 12] = [
+        (&REDIRECT, 16, 3, Fault::FlowType),
+        (&REDIRECT, 17, 3, Fault::FlowLength),
+        (&RECLAIM, 16, 1, Fault::FlowLength),
+        (&REDIRECT, 19, 0, Fault::ZeroLifetime),
+        (&REDIRECT, 20, 1, Fault::LabelReserved),
+        (&LABEL_RANGE, 16, 1, Fault::LabelReserved),
+        (&LABEL_RANGE, 17, 1, Fault::RangeOrder),
+        (&ERROR, 16, 5, Fault::ErrorCode),
+        (&ERROR, 18, 1, Fault::Reserved),
+        (&RECLAIM, 18, 1, Fault::Reserved),
+        (&RECLAIM, 27, 17, Fault::Reserved),
+        (&REDIRECT, 27, 1, Fault::FlowFields),
+    ];
+    for (octets, place, octet, fault) in sealed {
+        let mut space = [0; 40];
+        let size = octets.len();
+        assert!(rt; 4 <= size && size <= 40 && place < size);
+        let message = &mut space[..size];
+        write_changed(octets, place, octet, message);
+        assert_eq!(rt; decode(message), Err(fault), "{fault:?} at {place}");
+    }
+}
+
+/// The message with this octet changed, and with the checksum that it then should have.
+fn write_changed(octets: &[u8], place: usize, octet: u8, out: &mut [u8])
+    requires size { length octets.now ≡ length out.old }
+    requires head { 4 ≤ length octets.now }
+    requires small { length octets.now ≤ 40 }
+    requires place { place < length octets.now }
+{
+    out.copy_from_slice(octets);
+    out[place] = octet;
+    out[2] = 0;
+    out[3] = 0;
+    let checksum = 0xffff - internet_sum(out);
+    put_u16(out, 2, checksum);
+}

@@ -1,0 +1,114 @@
+//! What a fabric does with cells.
+
+use atm_cells::{Cell, Header};
+use cell_pool::Chain;
+use fabric::{Fabric, Routed};
+use net_types::{Channel, End, Mark, PortNo};
+use std::test::Fail;
+
+/// Label 40 of port 1.
+const LABEL: End = End {
+    port: PortNo(1),
+    channel: Channel { vpi: 0, vci: 40 },
+};
+
+/// The channel of the control port that stands for it.
+const ON_CONTROL: End = End {
+    port: PortNo(0),
+    channel: Channel { vpi: 16, vci: 40 },
+};
+
+/// The last cell of a frame on VCI `vci`.
+fn cell(vci: u16, frame: u64) -> Cell {
+    Cell {
+        header: Header {
+            channel: Channel { vpi: 0, vci },
+            last: true,
+        },
+        payload: [9; 48],
+        mark: Mark { packet: 1, frame },
+    }
+}
+
+/// A queue takes as many cells as there are slots, and one more finds none.
+#[test]
+fn a_queue_grows_to_the_region(rt: HostRuntime) -> Result<(), Fail> {
+    let mut fabric = Fabric::open(rt.alloc(), &[PortNo(1)], 1100, 1)?;
+    fabric.connect(LABEL, ON_CONTROL);
+    for frame in 0..1100 {
+        let routed = fabric.switch_cell(PortNo(1), &cell(40, frame));
+        assert_eq!(rt; routed, Routed::Out(ON_CONTROL));
+    }
+    let routed = fabric.switch_cell(PortNo(1), &cell(40, 1100));
+    assert_eq!(rt; routed, Routed::PoolFull);
+    fabric.abandon();
+    Ok(())
+}
+
+/// One slot, and a branch from port 1 to port 0.
+#[test]
+fn a_cell_goes_out_where_it_is_connected_and_a_slot_is_free(rt: HostRuntime) -> Result<(), Fail> {
+    let mut fabric = Fabric::open(rt.alloc(), &[PortNo(1)], 1, 1)?;
+    fabric.connect(LABEL, ON_CONTROL);
+    let out = Routed::Out(ON_CONTROL);
+    assert_eq!(rt; fabric.switch_cell(PortNo(1), &cell(40, 1)), out);
+    assert_eq!(rt;
+        fabric.switch_cell(PortNo(1), &cell(40, 2)),
+        Routed::PoolFull
+    );
+    let Some(first) = fabric.pop(PortNo(0)) else {
+        panic!(rt; "no cell waits at port 0")
+    };
+    assert_eq!(rt; first.mark.frame, 1);
+    assert_eq!(rt; first.header.channel, ON_CONTROL.channel);
+    assert_eq!(rt; fabric.switch_cell(PortNo(1), &cell(40, 3)), out);
+    assert_eq!(rt;
+        fabric.switch_cell(PortNo(1), &cell(41, 4)),
+        Routed::Unconnected
+    );
+    assert_eq!(rt; fabric.branch(LABEL), Some(ON_CONTROL));
+    assert_eq!(rt; fabric.first_of(PortNo(1)), Some(LABEL));
+    assert_eq!(rt; fabric.first_of(PortNo(0)), None);
+    fabric.abandon();
+    Ok(())
+}
+
+/// Two slots, of which a chain takes one.
+#[test]
+fn a_frame_is_sent_whole_or_not_at_all(rt: HostRuntime) -> Result<(), Fail> {
+    let mut fabric = Fabric::open(rt.alloc(), &[PortNo(1)], 2, 1)?;
+    let mut chain = Chain::new();
+    assert!(rt; fabric.chain_push(&mut chain, &cell(15, 1)));
+    assert!(rt; !fabric.send(PortNo(1), &[cell(40, 2), cell(40, 2)]));
+    assert_eq!(rt; fabric.free(), 1);
+    assert!(rt; fabric.send(PortNo(1), &[cell(40, 3)]));
+    fabric.chain_drain(chain);
+    assert_eq!(rt; fabric.region().free(), 1);
+    fabric.abandon();
+    Ok(())
+}
+
+/// Label 3/40 of port 1 and the channel of the control port that stands for it.
+#[test]
+fn a_fabric_connects_its_paths_alone(rt: HostRuntime) -> Result<(), Fail> {
+    let label = End {
+        port: PortNo(1),
+        channel: Channel { vpi: 3, vci: 40 },
+    };
+    let on_control = End {
+        port: PortNo(0),
+        channel: Channel { vpi: 19, vci: 40 },
+    };
+    let of_one_path = Fabric::open(rt.alloc(), &[PortNo(1)], 1, 1)?;
+    assert!(rt; !of_one_path.is_connectable(label));
+    assert!(rt; !of_one_path.is_connectable(on_control));
+    of_one_path.abandon();
+    let mut fabric = Fabric::open(rt.alloc(), &[PortNo(1)], 1, 16)?;
+    assert!(rt; fabric.is_connectable(label) && fabric.is_connectable(on_control));
+    fabric.connect(label, on_control);
+    assert_eq!(rt; fabric.branch(label), Some(on_control));
+    assert_eq!(rt; fabric.first_of(PortNo(1)), Some(label));
+    assert_eq!(rt; fabric.branch(LABEL), None);
+    fabric.abandon();
+    Ok(())
+}

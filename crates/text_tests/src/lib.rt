@@ -1,0 +1,19 @@
+//! Tests of lines, scripts, documents and reports, by their public calls.
+#![tactic(auto)]
+
+#[cfg(test)]
+mod document_text_tests;
+#[cfg(test)]
+mod drill_script_tests;
+#[cfg(test)]
+mod lab_io_tests;
+#[cfg(test)]
+mod lab_io_transfer_tests;
+#[cfg(test)]
+mod line_text_tests;
+#[cfg(test)]
+mod plain_replay_tests;
+#[cfg(test)]
+mod record_text_tests;
+#[cfg(test)]
+mod script_text_tests;

@@ -1,0 +1,70 @@
+//! Lines of scripts, read and written back.
+
+use lab_text::Text;
+use line_text::write_line;
+use script_text::{ScriptState, read_line};
+use std::alloc::Global;
+use std::test::Fail;
+
+/// A flow of four nodes in a row that is cut through, and then a line of each other kind.
+const SCRIPT: &str = "node n1 10.0.1.1
+node n2 10.0.2.1
+node n3 10.0.3.1
+node n4 10.0.4.1
+link n1:2 n2:1
+link n2:2 n3:1
+link n3:2 n4:1
+route n1 10.0.0.0/8 via 2
+route n2 10.0.0.0/8 via 2
+route n3 10.0.0.0/8 via 2
+route n4 10.0.0.0/8 local
+cells n1 16384
+labels n2 1 40 1023
+policy never
+policy xy 4 10
+timers 60 20 40
+tick *
+run 200
+send n1 4500001c00010000201182cf0a0001010a0004011389138a00080000
+run 100
+
+carry n1:c
+carry n1:0
+lose n2:2
+tick n1
+tickswitch n2
+restart n3
+restartswitch n4
+forge n1:c 255/65535 00ff
+setroute n1 10.0.4.0/24 via 2
+setroute n1 10.0.5.0/24 local
+unroute n1 10.0.4.0/24
+";
+
+/// Labels with a VPI.
+const WITH_PATHS: &str = "version 2
+node n1 10.0.1.1
+labels n1 8 0/32 15/1023
+";
+
+/// The first of these lines that isn't written as it was read, if there is one.
+fn one_changed(alloc: Global, lines: &str) -> Result<Option<&str>, Fail> {
+    let mut state = ScriptState::new(alloc)?;
+    for line in lines.lines() {
+        let whole = format!(in alloc; "{line}\n")?;
+        let said = read_line(&mut state, whole.as_bytes())?;
+        let mut text = Text::new(alloc);
+        write_line(&said, state.topology(), &mut text)?;
+        if text.as_slice() != whole.as_bytes() {
+            return Ok(Some(line));
+        }
+    }
+    Ok(None)
+}
+
+#[test]
+fn each_line_is_written_as_it_was_read(rt: HostRuntime) -> Result<(), Fail> {
+    assert_eq!(rt; one_changed(rt.alloc(), SCRIPT)?, None);
+    assert_eq!(rt; one_changed(rt.alloc(), WITH_PATHS)?, None);
+    Ok(())
+}
