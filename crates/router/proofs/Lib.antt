@@ -7,3 +7,6 @@ pub mod Asked
 pub mod Permits
 pub mod Forwards
 pub mod Joined
+pub mod Receipts
+pub mod Totals
+pub mod Takers

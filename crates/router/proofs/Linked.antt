@@ -180,7 +180,7 @@ found r x port k end linked place here = by (at_both port.0 r.ports x.control.po
       record { part = part; holds = holds; is = is ∙ ap (λ (e : PortEnd). Some (linked_of e part)) same; own = λ i. record { 0 = own i } })
 
 -- a controller with other ports
-abbrev with_all : Router → Client → Journal → GivenOut → List Linked → Acted
+abbrev pub with_all : Router → Client → Journal → GivenOut → List Linked → Acted
 with_all r x notes numbers ports = let a = acted r x notes numbers in record a { controller = record a.controller { ports = ports } }
 
 pub worked : (r : Router) (x : Client) (notes : Journal) (numbers : GivenOut) (port : PortNo) (k : ℕ) (end after : PortEnd) (w : Work) → AreLinked r.ports x.control → IsPlaceOf (ports_of r.ports) port k → end ≡ get_or r.ports k end

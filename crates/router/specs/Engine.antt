@@ -11,6 +11,8 @@ use Rattle.port_model.specs.declared.action.Action.{Action}
 use Rattle.port_model.specs.Labels.{Label, Offered}
 use Rattle.port_model.specs.Grants.{Grant, GrantState, ByController, grant_label, input_of}
 use Rattle.port_model.specs.Port.{Port, Work, label_at}
+use Rattle.port_model.specs.Setup.{Setup}
+use Rattle.controller_model.specs.Opening.{opens_port}
 use Rattle.gsmp_client.specs.Client.{PortEnd}
 
 -- a port at work that hasn't asked to be reset
@@ -51,3 +53,7 @@ pub record IsReleased (request : Request) (port : Port) (number : ℕ) : Type 0 
   pub grant : Grant
   pub granted : at grant_label number port.grants ≡ Some grant
   pub released : IsTrue (is_released_by request grant.state)
+
+-- *An engine that is opened*, where so many instances are given out before
+abbrev pub opened_end : Setup → (instances : ℕ) → PortEnd
+opened_end setup instances = record { setup = setup; port = (opens_port setup instances).port }

@@ -3,3 +3,4 @@ pub mod Node
 pub mod Conditions
 pub mod Meeting
 pub mod Packets
+pub mod Cells

@@ -69,6 +69,9 @@ ranges_in seen n = map linked_range (controller_of seen n).ports
 abbrev pub end_at : {E : Type 0} → (E → PortEnd) → Node E → PortNo → Option PortEnd
 end_at seen n port = at end_key port.0 (map seen n.links)
 
+abbrev pub end_of : Linked → PortEnd
+end_of linked = record { setup = linked.setup; port = linked.port }
+
 -- *How the code finds a port*: it stands at place k
 pub record IsPlaceOf (ports : List PortNo) (port : PortNo) (k : ℕ) : Type 0 where
   pub within : k < length ports

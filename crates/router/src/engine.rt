@@ -1,12 +1,15 @@
-//! What a router asks of the engine of a port.
+//! What a router asks of the engine of a port, and what opens one.
 
 use branch_desk::{BranchDone, Desk};
+use controller_model::PortRange;
 use flow_ids::FlowId;
 use grant_table::GrantTable;
 use ifmp_wire::Message;
 use label_book::HeldLabel;
-use net_types::{Addr, End, Instance, OutOfMemory, PortNo};
+use net_types::{Addr, End, Instance, NodeId, OutOfMemory, PortNo};
 use port_actions::Actions;
+use port_model::Timers;
+use std::alloc::Global;
 
 /// The engine of a port (RFC 1953): it takes what comes and answers what it asks for in turn. Each call
 /// is a rule of `port_model`.
@@ -22,7 +25,7 @@ pub trait PortEngine {
     ghost use Rattle.port_model.specs.Grants.{Grant, grant_label};
     ghost use Rattle.port_model.specs.Hearing.{hears};
     ghost use Rattle.port_model.specs.Joins.{given_back, joined, lent, parted};
-    ghost use Rattle.port_model.specs.Port.{labels_of};
+    ghost use Rattle.port_model.specs.Port.{label_at, labels_of};
     ghost use Rattle.port_model.specs.Resets.{cleared, resets, restarts};
     ghost use Rattle.port_model.specs.Saying.{is_spent};
     ghost use Rattle.port_model.specs.Ticks.{ticks};
@@ -121,7 +124,8 @@ pub trait PortEngine {
     /// where the place is at or above their count.
     fn held_at(&self, place: usize) -> Option<HeldLabel>
         ensures label { option_map label_of result ≡ slice_get (labels_of (seen self.now).port) place }
-        ensures number { IfSome result (λ label. IsTrue (is_label_number label.number)) };
+        ensures number { IfSome result (λ label. IsTrue (is_label_number label.number)) }
+        ensures held { IfSome result (λ label. label_at (seen self.now).port label.number ≡ Some (label_of label)) };
 
     /// How many REDIRECTs it has accepted since its opening, 18,446,744,073,709,551,615 at most.
     fn redirects(&self) -> u64
@@ -152,4 +156,38 @@ pub trait PortEngine {
 
     /// Gives the port up.
     fn abandon(self);
+}
+
+/// An engine that can be opened for a port.
+pub trait OpenEngine: PortEngine {
+    ghost use Rattle.std.specs.Prelude.{◌≡◌, ◌≤◌, ◌+◌, ℕ, IfOk, IsTrue};
+    ghost use Rattle.net_types.specs.Label.{is_label_number};
+    ghost use Rattle.port_model.specs.Setup.{Policy as Rule};
+    ghost use Rattle.port_state.specs.Engine.{AreTimes};
+    ghost use Rattle.controller_model.specs.Opening.{setup_of};
+    ghost use Rattle.router.specs.Engine.{opened_end};
+
+    /// The policy of a port: which flows are offered a label, and which keep it.
+    type Policy: Copy;
+
+    // What a policy does.
+    ghost meaning: { Self.Policy → Rule };
+
+    /// A port of a node in Clearing, under the instance `own`: no session, and no grant. Its labels are
+    /// those of the range.
+    fn open(
+        alloc: Global,
+        node: NodeId,
+        address: Addr,
+        range: PortRange,
+        timers: Timers,
+        policy: Self::Policy,
+        own: Instance,
+    ) -> Result<Self, OutOfMemory>
+        requires port { (1 ≤ range.port.0) × (range.port.0 ≤ 8) }
+        requires least { IsTrue (is_label_number range.lo) }
+        requires greatest { IsTrue (is_label_number range.hi) }
+        requires order { range.lo ≤ range.hi }
+        requires times { AreTimes timers }
+        ensures { (n : ℕ) → own ≡ record { 0 = n + 1 } → IfOk result (λ engine. Self.seen engine ≡ opened_end (setup_of node address timers (meaning policy) range) n) };
 }

@@ -5,6 +5,7 @@
 #![tactic(auto)]
 
 mod asking;
+mod cells;
 mod changing;
 mod clearing;
 mod engine;
@@ -20,5 +21,5 @@ mod router;
 mod saying;
 mod working;
 
-pub use engine::PortEngine;
+pub use engine::{OpenEngine, PortEngine};
 pub use router::Router;

@@ -1,0 +1,9 @@
+pub mod Ages
+pub mod Backs
+pub mod Grown
+pub mod Lefts
+pub mod Older
+pub mod Places
+pub mod Served
+pub mod Spends
+pub mod Stops

@@ -1,0 +1,6 @@
+//! The engine of a port (`redirect_state`) as what a router asks of one.
+#![tactic(auto)]
+
+mod port;
+
+pub use port::RouterPort;
