@@ -38,34 +38,26 @@ use Rattle.controller_facts.proofs.Laws.{has_ports, moves_sound}
 use Rattle.controller_law.proofs.Whole.{Whole, chained_whole, numbered_whole}
 use Rattle.controller_law.proofs.Events.{routes_holds}
 use Rattle.router.specs.Node.{linked_range}
+use Rattle.router.specs.Cells.{IsFound, channel_of}
 use Rattle.controller_conditions.specs.Kept.{IsKept}
-use Rattle.controller_conditions.specs.Cells.{channel_of, CellsCanCome}
+use Rattle.controller_conditions.specs.Cells.{CellsCanCome}
 use Rattle.controller_conditions.proofs.Channels.{label_channel, default_is_channel}
 use Rattle.controller_conditions.proofs.Kept.{whole_kept, kept_whole}
 use Rattle.controller_conditions.proofs.Receiving.{cell_acts}
 
 -- *Who takes a cell*
-record IsLabelTaker (c : Controller) (linked : Linked) (label : Label) : Type 0 where
-  found : linked_at c linked.setup.port ≡ Some linked
-  held : label_at linked.port label.number ≡ Some label
-
-abbrev IsFound : Controller → Taker → Type 0
-IsFound c ForGsmp = Unit {0}
-IsFound c (ForDefault linked) = linked_at c linked.setup.port ≡ Some linked
-IsFound c (ForLabel linked label) = IsLabelTaker c linked label
-
 some_taker : (t u : Taker) → Some t ≡ Some u → t ≡ u
 some_taker t u e = cc
 
 module _ (setups : List Setup) (a : Acted) (h : HasPorts setups a) where
   by_label : (linked : Linked) → linked_at a.controller linked.setup.port ≡ Some linked → (n : ℕ) (o : Option Label) → label_at linked.port n ≡ o → (taker : Taker) → label_taker linked o ≡ Some taker → IsFound a.controller taker
   by_label linked own n None held taker e = absurd (cc e)
-  by_label linked own n (Some label) held taker e = by_bound (is_bound label.state) e
+  by_label linked own n (Some label) held taker e = by_bound (is_bound label.state) refl e
     where
-      by_bound : (b : Bool) → (if b then Some (ForLabel linked label) else None) ≡ Some taker → IsFound a.controller taker
-      by_bound true e = subst (IsFound a.controller) (some_taker (ForLabel linked label) taker e)
-          (record { found = own; held = subst (λ (k : ℕ). label_at linked.port k ≡ Some label) (sym (at_key label_number n (labels_of linked.port) label held)) held })
-      by_bound false e = absurd (cc e)
+      by_bound : (b : Bool) → is_bound label.state ≡ b → (if b then Some (ForLabel linked label) else None) ≡ Some taker → IsFound a.controller taker
+      by_bound true bound e = subst (IsFound a.controller) (some_taker (ForLabel linked label) taker e)
+          (record { found = own; held = subst (λ (k : ℕ). label_at linked.port k ≡ Some label) (sym (at_key label_number n (labels_of linked.port) label held)) held; bound = bound })
+      by_bound false bound e = absurd (cc e)
 
   by_number : (linked : Linked) → linked_at a.controller linked.setup.port ≡ Some linked → (o : Option ℕ) (taker : Taker) → label_taker linked (option_and_then (label_at linked.port) o) ≡ Some taker → IsFound a.controller taker
   by_number linked own None taker e = absurd (cc e)
@@ -142,6 +134,7 @@ routes_kept a came packet h = kept_whole h.setups h.links (routes a came packet)
 
 pub cells_can_come : CellsCanCome
 cells_can_come = record {
+  found = λ a channel taker h. taker_found h.setups a (has_ports h.setups a h.sound) channel taker;
   channels = λ a channel taker h e. taker_channel h.setups a (has_ports h.setups a h.sound) taker (taker_found h.setups a (has_ports h.setups a h.sound) channel taker e);
   gathers = gathers_kept;
   acts = cell_acts;

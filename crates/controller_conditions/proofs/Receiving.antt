@@ -10,7 +10,8 @@ use Rattle.reassembly.specs.Receipt.{ended}
 use Rattle.port_facts.proofs.Keyed.{on_both}
 use Rattle.controller_model.specs.Controller.{Acted, free_slots}
 use Rattle.controller_model.specs.Cells.{Taker, ForGsmp, ForDefault, ForLabel, reassembly_of, with_reassembly, taker_of, opened_frame, ends_frame, takes_cell, cell_comes}
-use Rattle.controller_conditions.specs.Cells.{receipt, after_receipt}
+use Rattle.router.specs.Cells.{receipt}
+use Rattle.controller_conditions.specs.Cells.{after_receipt}
 
 -- *A chain that is ended* ends with its last cell
 last_of : (cells : List Cell) (cell : Cell) → last_mark (cells ++ cell ∷ []) ≡ cell.mark

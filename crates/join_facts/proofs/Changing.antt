@@ -31,7 +31,7 @@ use Rattle.controller_model.specs.Sending.{sends, with_cells}
 use Rattle.join_list.specs.Joined.{joined_of}
 use Rattle.join_list.specs.declared.places.Joined.{Joined}
 use Rattle.join_facts.proofs.Ordered.{on_both}
-use Rattle.join_facts.proofs.Lasts.{AreDifferent, Lasts, differ_after, each, itself, node_reset, onward, stands, still, takes_back_lasts}
+use Rattle.join_facts.proofs.Lasts.{AreDifferent, IsBare, Lasts, differ_after, each, itself, node_reset, onward, stands, still, takes_back_lasts}
 
 -- the routes and what waits stay
 pub record Keeps (a b : Acted) : Type 0 where
@@ -58,6 +58,7 @@ pub record Same (a b : Acted) : Type 0 where
 pub record Unmet (b : Acted) : Type 0 where
   pub estab : stands b ≡ false
   pub met : b.controller.has_met ≡ false
+  pub bare : Every IsBare b.controller.ports
 
 pub record Asked (a b : Acted) : Type 0 where
   pub keeps : Keeps a b
@@ -133,10 +134,10 @@ reset_asked a differ =
     let k = keeps_each port_restarts (λ b port. restart_keeps b (linked_at b.controller port)) (ports_of a.controller) (resets_gsmp a) in
     record {
       keeps = record { table = k.table; waiting = k.waiting; changes = k.changes };
-      either = inr (record { estab = (node_reset a differ).estab; met = met_each port_restarts (λ b port. restart_met b (linked_at b.controller port)) (ports_of a.controller) (resets_gsmp a) });
+      either = inr (record { estab = (node_reset a differ).estab; bare = (node_reset a differ).bare; met = met_each port_restarts (λ b port. restart_met b (linked_at b.controller port)) (ports_of a.controller) (resets_gsmp a) });
     }
 
-asks_asked : (request : Request) (a : Acted) → AreDifferent a → Asked a (asks a request)
+pub asks_asked : (request : Request) (a : Acted) → AreDifferent a → Asked a (asks a request)
 asks_asked request a differ = on_both (Asked a) (stands a) (if a.controller.desk.next == last_transaction then node_resets a else asks_next a request) a
     (on_both (Asked a) (a.controller.desk.next == last_transaction) (node_resets a) (asks_next a request) (reset_asked a differ) (next_asked a request)) (asked_itself a)
 

@@ -22,7 +22,7 @@ use Rattle.keyed_lists.specs.Keyed.{at, put}
 use Rattle.desk_model.specs.Desk.{asked, is_led_home, last_transaction}
 use Rattle.port_model.specs.declared.action.Action.{Action}
 use Rattle.port_model.specs.declared.action.Action.TheVariants.{Say, Ask, Note, CutChain, TakeBack, Withdraw, Reset}
-use Rattle.port_model.specs.Port.{Port, Work}
+use Rattle.port_model.specs.Port.{Port, Work, labels_of}
 use Rattle.port_model.specs.Resets.{left_of, restarts, resets}
 use Rattle.port_model.specs.Setup.{home_of}
 use Rattle.controller_model.specs.Controller.{Acted, Controller, Linked, free_slots, linked_at, port_key, ports_of, with_desk}
@@ -140,15 +140,19 @@ stays_control a channel payload = (let b : Acted = record a { numbers = with_con
 pub sent_control : (a : Acted) (channel : Channel) (payload : List ℕ) → Lasts a (sends (record a { numbers = with_control a.numbers }) channel (next_control a.numbers) payload)
 sent_control a channel payload = lasting a _ (stays_control a channel payload)
 
--- *Each port restarts*: it has no grant, and what else has none still has none
-abbrev NoGrants : Acted → ℕ → Type 0
-NoGrants a k = (linked : Linked) → at port_key k a.controller.ports ≡ Some linked → linked.port.grants ≡ []
+-- *Each port restarts*: it has no grant and no label, and what else has none still has none
+pub record IsBare (linked : Linked) : Type 0 where
+  pub grants : linked.port.grants ≡ []
+  pub labels : labels_of linked.port ≡ []
 
--- ports are put in their places alone, with no grants or with those that they have
+abbrev AreBare : Acted → ℕ → Type 0
+AreBare a k = (linked : Linked) → at port_key k a.controller.ports ≡ Some linked → IsBare linked
+
+-- ports are put in their places alone, with no grants and no labels or with those that they have
 record Restarting (a b : Acted) : Type 0 where
   ports : ports_of b.controller ≡ ports_of a.controller
   estab : stands b ≡ stands a
-  none : (k : ℕ) → NoGrants a k → NoGrants b k
+  none : (k : ℕ) → AreBare a k → AreBare b k
 
 restarting_then : (a b c : Acted) → Restarting a b → Restarting b c → Restarting a c
 restarting_then a b c p q = record { ports = q.ports ∙ p.ports; estab = q.estab ∙ p.estab; none = λ k h. q.none k (p.none k h) }
@@ -163,21 +167,21 @@ some_same x y e = cc
 by_number : {P : Type 0} (a b : ℕ) → (a ≡ b → P) → (a ≢ b → P) → P
 by_number {P} a b same other = elim (cases_eq a b) [ inl e ↦ same e | inr e ↦ other e ]
 
-put_restarts : (a b : Acted) (linked after : Linked) → at port_key (port_key after) a.controller.ports ≡ Some linked → b.controller.ports ≡ put port_key after a.controller.ports → after.setup ≡ linked.setup → stands b ≡ stands a → (NoGrants a (port_key after) → after.port.grants ≡ []) → Restarting a b
+put_restarts : (a b : Acted) (linked after : Linked) → at port_key (port_key after) a.controller.ports ≡ Some linked → b.controller.ports ≡ put port_key after a.controller.ports → after.setup ≡ linked.setup → stands b ≡ stands a → (AreBare a (port_key after) → IsBare after) → Restarting a b
 put_restarts a b linked after found is setup estab none = record {
   ports = ap (map (λ (l : Linked). l.setup.port)) is ∙ map_put port_key (λ (l : Linked). l.setup.port) after a.controller.ports linked found (λ i. (setup i).port);
   estab = estab;
   none = λ k h l at_k. by_number (port_key after) k
       (λ e. (let mine : Some after ≡ Some l = sym (subst (λ (n : ℕ). at port_key n b.controller.ports ≡ Some after) e (ap (at port_key (port_key after)) is ∙ at_put port_key after a.controller.ports linked found)) ∙ at_k in
       let same : after ≡ l = some_same after l mine in
-      subst (λ (x : Linked). x.port.grants ≡ []) same (none (λ m at_m. h m (subst (λ (n : ℕ). at port_key n a.controller.ports ≡ Some m) e at_m)))))
+      subst IsBare same (none (λ m at_m. h m (subst (λ (n : ℕ). at port_key n a.controller.ports ≡ Some m) e at_m)))))
       (λ other. h l (sym (ap (at port_key k) is ∙ at_put_other port_key after k a.controller.ports other) ∙ at_k));
 }
 
 cut_restarts : (port : PortNo) (label : ℕ) (a : Acted) (o : Option Linked) → linked_at a.controller port ≡ o → Restarting a (cuts_of a label o)
 cut_restarts port label a None found = record { ports = refl; estab = refl; none = λ k h. h }
 cut_restarts port label a (Some linked) found =
-    put_restarts a (cuts_of a label (Some linked)) linked _ (own a port linked found) refl refl refl (λ h. h linked (own a port linked found))
+    put_restarts a (cuts_of a label (Some linked)) linked _ (own a port linked found) refl refl refl (λ h. (let bare = h linked (own a port linked found) in record { grants = bare.grants; labels = bare.labels }))
 
 closes_restarts : (port : PortNo) (a : Acted) (action : Action) → Restarting a (closes_by port a action)
 closes_restarts port a (Say message) = record { ports = refl; estab = refl; none = λ k h. h }
@@ -191,41 +195,42 @@ closes_restarts port a Reset = record { ports = refl; estab = refl; none = λ k 
 -- the port itself has none
 record Restarted (a b : Acted) (port : PortNo) : Type 0 where
   all : Restarting a b
-  own : NoGrants b port.0
+  own : AreBare b port.0
 
 restarted_at : (a : Acted) (port : PortNo) (o : Option Linked) → linked_at a.controller port ≡ o → Restarted a (port_restarts_of a o) port
 restarted_at a port None found = record { all = record { ports = refl; estab = refl; none = λ k h. h }; own = λ l at_l. absurd (cc (sym found ∙ at_l)) }
 restarted_at a port (Some linked) found =
     let w : Work = restarts linked.setup (begins a linked) in
     let after : Linked = record linked { port = w.port } in
-    let begun : Restarting a (with_work a linked w) = put_restarts a (with_work a linked w) linked after (own a port linked found) refl refl refl (λ h. refl) in
+    let begun : Restarting a (with_work a linked w) = put_restarts a (with_work a linked w) linked after (own a port linked found) refl refl refl (λ h. record { grants = refl; labels = refl }) in
     let rest : Restarting (with_work a linked w) (fold (closes_by linked.setup.port) (with_work a linked w) w.actions) = restarting_each (closes_by linked.setup.port) (closes_restarts linked.setup.port) w.actions (with_work a linked w) in
     record {
       all = restarting_then a (with_work a linked w) (fold (closes_by linked.setup.port) (with_work a linked w) w.actions) begun rest;
-      own = subst (NoGrants (fold (closes_by linked.setup.port) (with_work a linked w) w.actions)) (key_of port_key port.0 a.controller.ports linked found)
+      own = subst (AreBare (fold (closes_by linked.setup.port) (with_work a linked w) w.actions)) (key_of port_key port.0 a.controller.ports linked found)
           (rest.none (port_key linked) (λ l at_l. (let mine : Some after ≡ Some l = sym (at_put port_key after a.controller.ports linked (own a port linked found)) ∙ at_l in
-          subst (λ (x : Linked). x.port.grants ≡ []) (some_same after l mine) refl)));
+          subst IsBare (some_same after l mine) (record { grants = refl; labels = refl }))));
     }
 
 restarts_all : (ports : List PortNo) (a : Acted) → Restarting a (fold port_restarts a ports)
 restarts_all ports a = restarting_each port_restarts (λ b port. (restarted_at b port (linked_at b.controller port) refl).all) ports a
 
-each_restarted : (ports : List PortNo) (a : Acted) → Every (λ (p : PortNo). NoGrants (fold port_restarts a ports) p.0) ports
+each_restarted : (ports : List PortNo) (a : Acted) → Every (λ (p : PortNo). AreBare (fold port_restarts a ports) p.0) ports
 each_restarted [] a = tt
 each_restarted (port ∷ ports) a =
     let first = restarted_at a port (linked_at a.controller port) refl in
     ((restarts_all ports (port_restarts a port)).none port.0 first.own, each_restarted ports (port_restarts a port))
 
-no_joined : (ports : List Linked) → Every (λ (l : Linked). l.port.grants ≡ []) ports → all_joined ports ≡ []
+no_joined : (ports : List Linked) → Every IsBare ports → all_joined ports ≡ []
 no_joined [] none = refl
-no_joined (l ∷ ports) none = (λ i. (lents_are l.setup.port l.port.grants ∙ ap (lents l.setup.port) none.0) i ++ no_joined ports none.1 i)
+no_joined (l ∷ ports) none = (λ i. (lents_are l.setup.port l.port.grants ∙ ap (lents l.setup.port) none.0.grants) i ++ no_joined ports none.1 i)
 
-owns : (all ports : List Linked) → Every (λ (p : PortNo). (l : Linked) → at port_key p.0 all ≡ Some l → l.port.grants ≡ []) (map (λ (l : Linked). l.setup.port) ports) → Every (λ (l : Linked). at port_key (port_key l) all ≡ Some l) ports → Every (λ (l : Linked). l.port.grants ≡ []) ports
+owns : (all ports : List Linked) → Every (λ (p : PortNo). (l : Linked) → at port_key p.0 all ≡ Some l → IsBare l) (map (λ (l : Linked). l.setup.port) ports) → Every (λ (l : Linked). at port_key (port_key l) all ≡ Some l) ports → Every IsBare ports
 owns all [] none found = tt
 owns all (l ∷ ports) none found = (none.0 l found.0, owns all ports none.1 found.1)
 
--- *Node reset*: no join is left
+-- *Node reset*: no join is left, and no label
 pub record NodeReset (a : Acted) : Type 0 where
+  pub bare : Every IsBare (node_resets a).controller.ports
   pub estab : stands (node_resets a) ≡ false
   pub joined : joined_to (node_resets a) ≡ []
   pub ports : ports_of (node_resets a).controller ≡ ports_of a.controller
@@ -234,10 +239,11 @@ pub node_reset : (a : Acted) → AreDifferent a → NodeReset a
 node_reset a differ =
     let b : Acted = node_resets a in
     let all = restarts_all (ports_of a.controller) (resets_gsmp a) in
-    let none : Every (λ (p : PortNo). NoGrants b p.0) (ports_of b.controller) = subst (Every (λ (p : PortNo). NoGrants b p.0)) (sym all.ports) (each_restarted (ports_of a.controller) (resets_gsmp a)) in
+    let none : Every (λ (p : PortNo). AreBare b p.0) (ports_of b.controller) = subst (Every (λ (p : PortNo). AreBare b p.0)) (sym all.ports) (each_restarted (ports_of a.controller) (resets_gsmp a)) in
     let different : InOrder Differ (ports_of b.controller) = subst (InOrder Differ) (sym all.ports) differ in
     let found : Every (λ (l : Linked). at port_key (port_key l) b.controller.ports ≡ Some l) b.controller.ports = each_found port_key b.controller.ports (order_unmapped (λ (l : Linked). l.setup.port) Differ b.controller.ports different) in
-    record { estab = all.estab; joined = no_joined b.controller.ports (owns b.controller.ports b.controller.ports none found); ports = all.ports }
+    let bare : Every IsBare b.controller.ports = owns b.controller.ports b.controller.ports none found in
+    record { bare = bare; estab = all.estab; joined = no_joined b.controller.ports bare; ports = all.ports }
 
 pub resets_node : (a : Acted) → AreDifferent a → stands a ≡ true → Lasts a (node_resets a)
 resets_node a differ estab = (let r = node_reset a differ in record { ports = r.ports; either = inr (record { was = estab; is = r.estab; joined = r.joined }) })

@@ -8,3 +8,5 @@ pub mod Lasts
 pub mod Releases
 pub mod Spent
 pub mod Changing
+pub mod Enters
+pub mod Tries

@@ -103,7 +103,7 @@ record Gives (linked : Linked) (input : End) (w : Work) : Type 0 where
   says : Every Says w.actions
   fewer : OneOf (joined_at (record linked { port = w.port })) (joined_at linked) input
 
-more_as : (fewer more fewer' more' : List Joined) (join : Joined) → fewer' ≡ fewer → more' ≡ more → OneMore fewer more join → OneMore fewer' more' join
+pub more_as : (fewer more fewer' more' : List Joined) (join : Joined) → fewer' ≡ fewer → more' ≡ more → OneMore fewer more join → OneMore fewer' more' join
 more_as fewer more fewer' more' join p q m = record { front = m.front; back = m.back; fewer_is = p ∙ m.fewer_is; more_is = q ∙ m.more_is }
 
 -- what is told keeps the grants

@@ -1,6 +1,7 @@
 -- A list at the place of an element that is found by its key.
 
-use Rattle.std.proofs.Common.{◌≡◌, ◌≢◌, ℕ, nat_eq, Bool, true, false, List, [], ◌∷◌, ◌++◌, map, Option, Some, None, refl, sym, ap, subst, ◌∙◌, arith, if◌then◌else◌}
+use Rattle.std.proofs.Common.{◌≡◌, ◌≢◌, inl, inr, ℕ, nat_eq, Bool, true, false, List, [], ◌∷◌, ◌++◌, map, Option, Some, None, refl, sym, ap, subst, ◌∙◌, arith, if◌then◌else◌}
+use Rattle.std.proofs.lemmas.Bool.{cases_eq}
 use Rattle.std.proofs.lemmas.Bool.Decides.{nat_tests}
 use Rattle.std.proofs.lemmas.List.{map-append}
 use Rattle.ordered_lists.specs.Ordered.{Every, InOrder}
@@ -98,6 +99,13 @@ module _ {A : Type 0} (key : A → ℕ) where
         (let away : key z ≢ k = λ e. other (sym (number_is (key z) (key y) t) ∙ e) in
         at_first k y xs false (other_number (key y) k other) ∙ sym (at_first k z xs false (other_number (key z) k away)))
     by false f others = ap (λ (o : Option A). if nat_eq (key z) k then Some z else o) others
+
+  -- what is made of it is the same under every key, where it is the same of what is put
+  pub each_put : {B : Type 0} (f : Option A → B) (y : A) (k : ℕ) (xs : List A) (x : A) → at key (key y) xs ≡ Some x → f (Some y) ≡ f (Some x) → f (at key k (put key y xs)) ≡ f (at key k xs)
+  each_put f y k xs x found same = elim (cases_eq (key y) k) [
+    | inl e ↦ subst (λ (n : ℕ). f (at key n (put key y xs)) ≡ f (at key n xs)) e (ap f (at_put y xs x found) ∙ same ∙ ap f (sym found))
+    | inr other ↦ ap f (at_put_other y k xs other)
+  ]
 
   -- each element of a list of different keys is found
   pub each_found : (xs : List A) → InOrder (λ x y. key x ≢ key y) xs → Every (λ x. at key (key x) xs ≡ Some x) xs

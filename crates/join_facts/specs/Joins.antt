@@ -1,10 +1,12 @@
 -- The joins of a controller, as `join_list` keeps them
 
-use Rattle.std.specs.Prelude.{◌≢◌, List, map}
+use Rattle.std.specs.Prelude.{◌≢◌, List, [], map}
+use Rattle.std.specs.Option.{option_map_or}
+use Rattle.net_types.specs.declared.channel.End.{End}
 use Rattle.net_types.specs.declared.node.PortNo.{PortNo}
 use Rattle.ordered_lists.specs.Ordered.{InOrder}
-use Rattle.controller_model.specs.Controller.{Controller, Linked, ports_of}
-use Rattle.controller_model.specs.Joins.{joins_at, joins_of}
+use Rattle.controller_model.specs.Controller.{Controller, Linked, linked_at, ports_of}
+use Rattle.controller_model.specs.Joins.{inputs_at, joins_at, joins_of}
 use Rattle.join_list.specs.Joined.{joined_of}
 use Rattle.join_list.specs.declared.places.Joined.{Joined}
 
@@ -22,3 +24,7 @@ Differ p q = p.0 ≢ q.0
 
 abbrev pub HaveNumbers : Controller → Type 0
 HaveNumbers c = InOrder Differ (ports_of c)
+
+-- the inputs of the labels that a port holds
+abbrev pub inputs_on : Controller → PortNo → List End
+inputs_on c port = option_map_or inputs_at (linked_at c port) []

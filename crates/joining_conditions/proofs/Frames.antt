@@ -21,11 +21,11 @@ use Rattle.controller_model.specs.Gsmp.{gsmp_holds}
 use Rattle.controller_model.specs.Cells.{Taker, ForGsmp, ForDefault, ForLabel, with_reassembly, ifmp_holds, counted_at, packet_holds, default_holds, frame_holds, opened_frame}
 use Rattle.controller_facts.specs.Inputs.{CellComes}
 use Rattle.controller_conditions.specs.Kept.{IsKept, AreIn}
-use Rattle.controller_conditions.specs.Cells.{receipt}
+use Rattle.router.specs.Cells.{gathered, receipt}
 use Rattle.controller_conditions.proofs.Kept.{kept_held, numbers_suffice}
 use Rattle.controller_conditions.proofs.Cells.{routes_kept, cells_can_come}
 use Rattle.controller_conditions.proofs.Receiving.{cell_acts}
-use Rattle.joining_conditions.specs.Cells.{CanHoldPacket, CanHold, gathered, FramesCanBeTaken}
+use Rattle.joining_conditions.specs.Cells.{CanHoldPacket, CanHold, FramesCanBeTaken}
 use Rattle.joining_conditions.proofs.Events.{messages_can_be_told, ports_can_hear, ports_can_count}
 
 gathered_numbers : (a : Acted) (taker : Taker) (notes : Journal) (r : Reassembly) → (with_reassembly (record a { notes = notes }) taker r).numbers ≡ a.numbers

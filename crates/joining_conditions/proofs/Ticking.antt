@@ -36,7 +36,7 @@ use Rattle.controller_facts.proofs.Marks.{Marks, no_marks, mark_more, marks_then
 use Rattle.controller_law.proofs.Whole.{Whole, holds_of}
 use Rattle.controller_law.proofs.Events.{steps_holds, sends_again_holds, ticks_port_holds}
 use Rattle.router.specs.Conditions.{turned_to}
-use Rattle.joining_router.specs.Conditions.{EachCanTickOn, CanSendAgain, CanTickBy, CanTickWith, CanTick}
+use Rattle.joining_router.specs.Conditions.{EachCanTickOn, CanSendAgain, CanTickOn, CanTickWith, CanTick}
 use Rattle.controller_conditions.specs.Kept.{AreLinks, AreIn}
 use Rattle.controller_conditions.proofs.Ready.{in_before, Ready, ready_ports}
 use Rattle.controller_conditions.proofs.Restarting.{can_reset_node}
@@ -89,7 +89,7 @@ module _ (setups : List Setup) (links : AreLinks setups) where
 
   -- *All of it*
   tick_on : (a : Acted) (step : sides.Step Party) → IsGsmpTurn a.controller.adjacency step → Whole setups a → Every HasFlowsAt a.controller.ports → HasNumbersLeft a.numbers
-      → AreIn (tries_joins (ticks_ports (sends_again (steps a step)))).numbers → CanTickBy a step
+      → AreIn (tries_joins (ticks_ports (sends_again (steps a step)))).numbers → CanTickOn (turned_to a step) (gsmp_answer step.answer)
   tick_on a step turn h flows left n =
       let stepped : Acted = steps a step in
       let again : Acted = sends_again stepped in

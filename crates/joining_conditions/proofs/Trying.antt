@@ -1,10 +1,11 @@
 -- joins can be tried: no grant is lent to the label's channel, and Move Branch can be asked
 
-use Rattle.std.proofs.Common.{◌≡◌, Bool, true, false, List, [], ◌∷◌, length, Option, None, Some, refl, sym, ◌∙◌, ap, subst, if◌then◌else◌, fold, arith}
+use Rattle.std.proofs.Common.{◌≡◌, ◌≤◌, Bool, true, false, List, [], ◌∷◌, length, Option, None, Some, refl, sym, ◌∙◌, ap, subst, if◌then◌else◌, fold, arith}
 use Rattle.std.specs.Prelude.{◌&&◌, not, is_none, nat_lt, flat_map}
 use Rattle.std.specs.List.{list_any}
-use Rattle.std.specs.Option.{option_map}
+use Rattle.std.specs.Option.{option_map, option_map_or}
 use Rattle.std.proofs.lemmas.Bool.Decides.{nat_tests}
+use Rattle.std.proofs.lemmas.List.{length-map}
 use Rattle.net_types.specs.declared.node.PortNo.{PortNo}
 use Rattle.net_types.specs.declared.channel.End.{End}
 use Rattle.net_types.specs.Label.{number_of_channel}
@@ -18,7 +19,7 @@ use Rattle.ordered_lists.specs.Ordered.{Every}
 use Rattle.ordered_lists.proofs.Every.{every_map}
 use Rattle.keyed_lists.specs.Keyed.{at}
 use Rattle.desk_model.specs.Desk.{on_input, most_asked}
-use Rattle.port_model.specs.Setup.{Setup, home_of}
+use Rattle.port_model.specs.Setup.{Setup, home_of, label_end}
 use Rattle.port_model.specs.Labels.{Label, Offered, label_number}
 use Rattle.port_model.specs.Grants.{Grant, ByController, grant_label, grant_for, is_by_controller}
 use Rattle.port_model.specs.Port.{label_at, labels_of}
@@ -27,6 +28,7 @@ use Rattle.port_facts.specs.Port.{IsLabelEnd, IsGrant, IsPort, joins_label}
 use Rattle.port_facts.proofs.Keyed.{on_each, at_every, apart_at}
 use Rattle.port_facts.proofs.Found.{find_passes}
 use Rattle.port_facts.proofs.Rules.{and_first, and_second}
+use Rattle.port_facts.proofs.Weighed.{labels_count}
 use Rattle.controller_model.specs.Controller.{Acted, Linked, linked_at}
 use Rattle.controller_model.specs.Joins.{Join, joins_of, output_of, port_by, join_through, join_by, join_for, is_offered, may_join, enters_grant, joins, tries_label, label_on, tries_join, inputs_at, tries_joins}
 use Rattle.controller_model.specs.Routes.{route_stays}
@@ -40,7 +42,7 @@ use Rattle.controller_law.proofs.Holding.{Holds}
 use Rattle.controller_law.proofs.Entering.{IsLentNow, lent_at_port, enters_label_lent}
 use Rattle.controller_law.proofs.Whole.{Whole, holds_of, joins_whole}
 use Rattle.controller_law.proofs.Laws.{held_joins}
-use Rattle.joining_router.specs.Conditions.{entered, CanJoin, CanTryJoin, EachCanBeTried, CanTryJoins}
+use Rattle.joining_router.specs.Conditions.{entered, CanJoin, CanTryJoin, EachCanBeTried, HoldFew, CanTryJoins}
 use Rattle.controller_conditions.specs.Kept.{AreLinks, AreIn}
 use Rattle.controller_conditions.proofs.Ready.{in_before}
 use Rattle.controller_conditions.proofs.Asking.{can_ask}
@@ -200,7 +202,24 @@ module _ (setups : List Setup) (links : AreLinks setups) where
         each_tried inputs next ends.1 k (moves_flow setups a next (tries_join_goes setups a input (has_ports setups a h.sound) ends.0) flows) n,
       )
 
+  -- *Labels* are few
+  hold_few : (a : Acted) → HasPorts setups a → HoldFew a.controller
+  hold_few a h port = by (linked_at a.controller port) refl
+    where
+      by : (o : Option Linked) → linked_at a.controller port ≡ o → length (option_map_or inputs_at o []) ≤ 16384
+      by None found = omega arith
+      by (Some linked) found =
+          let own : Found setups a linked = found_at_own setups a linked port found in
+          omega (
+            arith,
+            length-map (labels_of linked.port) (λ (label : Label). label_end linked.setup.port label.number),
+            labels_count setups linked.setup (found_setup setups a linked linked.setup.port h own) linked.port (found_port setups a linked linked.setup.port h own),
+          )
+
   pub can_try_joins : (a : Acted) → Whole setups a → Every HasFlowsAt a.controller.ports → AreIn (tries_joins a).numbers → CanTryJoins a
   can_try_joins a h flows n = (let has : HasPorts setups a = has_ports setups a h.sound in
-      each_tried (flat_map inputs_at a.controller.ports) a (every_flat_map (λ (linked : Linked). Found setups a linked × IsPort setups linked.setup linked.port) (IsLabelEnd setups) inputs_at
-      (λ linked p. inputs_of_port setups a linked has p.0 p.1) a.controller.ports (each_there setups a has)) h flows n)
+      record {
+        few = hold_few a has;
+        each = each_tried (flat_map inputs_at a.controller.ports) a (every_flat_map (λ (linked : Linked). Found setups a linked × IsPort setups linked.setup linked.port) (IsLabelEnd setups) inputs_at
+            (λ linked p. inputs_of_port setups a linked has p.0 p.1) a.controller.ports (each_there setups a has)) h flows n;
+      })

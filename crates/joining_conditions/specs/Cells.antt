@@ -12,16 +12,15 @@ use Rattle.gsmp_wire.specs.Fields.{decoded as gsmp_decoded}
 use Rattle.ifmp_wire.specs.declared.message.Message.{Message as IfmpMessage}
 use Rattle.ifmp_wire.specs.Message.{InRange}
 use Rattle.ifmp_wire.specs.Fields.{decoded as ifmp_decoded}
-use Rattle.reassembly.specs.Receipt.{Received}
 use Rattle.controller_model.specs.Controller.{Acted}
 use Rattle.controller_model.specs.Packets.{routes, control_protocol}
-use Rattle.controller_model.specs.Cells.{Taker, ForGsmp, ForDefault, ForLabel, taker_of, with_reassembly}
+use Rattle.controller_model.specs.Cells.{Taker, ForGsmp, ForDefault, ForLabel, taker_of}
 use Rattle.router.specs.Conditions.{HasMark}
+use Rattle.router.specs.Cells.{gathered, receipt}
 use Rattle.joining_router.specs.Conditions.{CanWorkOn}
 use Rattle.joining_router.specs.Answers.{CanBeTold}
 use Rattle.controller_conditions.specs.Kept.{IsKept}
 use Rattle.controller_conditions.specs.Calls.{hearing, counting}
-use Rattle.controller_conditions.specs.Cells.{receipt}
 
 -- *A packet of a default channel*: a message of IFMP is heard; any other packet is sent on, and then counted
 pub record CanHoldPacket (a : Acted) (port : PortNo) (mark : Mark) (packet : List ℕ) : Type 0 where
@@ -36,9 +35,6 @@ CanHold a (ForDefault linked) mark payload = (packet : List ℕ) → default_unw
 CanHold a (ForLabel linked label) mark payload = Unit {0}
 
 -- *Where the cell is taken*: all of it still holds, a mark is left to send a packet on, and the frame can act
-abbrev pub gathered : Acted → Taker → Received → Acted
-gathered a taker r = with_reassembly (record a { notes = r.notes }) taker r.reassembly
-
 pub record CanTakeFrame (a : Acted) (taker : Taker) (cell : Cell) (payload : List ℕ) : Type 0 where
   pub kept : IsKept (gathered a taker (receipt a taker cell)).controller
   pub mark : HasMark (gathered a taker (receipt a taker cell))

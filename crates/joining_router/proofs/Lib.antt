@@ -3,3 +3,6 @@ pub mod Released
 pub mod Ticked
 pub mod Changes
 pub mod Told
+pub mod Passed
+pub mod Tried
+pub mod Tries

@@ -1,12 +1,13 @@
 -- What the calls about joins, changes of routes and ticks ask of the controller, beside what a router's calls do. What
 -- holds of one controller gives all of it.
 
-use Rattle.std.specs.Prelude.{◌≡◌, ◌<◌, ◌+◌, ◌^◌, true, false, List, [], ◌∷◌, flat_map, fold, IsTrue, Some}
+use Rattle.std.specs.Prelude.{◌≡◌, ℕ, None, ◌<◌, ◌≤◌, ◌+◌, ◌^◌, true, false, List, [], ◌∷◌, flat_map, fold, length, IsTrue, Some}
 use Rattle.std.specs.List.{list_any}
 use Rattle.net_types.specs.declared.node.PortNo.{PortNo}
 use Rattle.net_types.specs.declared.channel.End.{End}
+use Rattle.net_types.specs.declared.adjacency.Greeting.{Greeting}
 use Rattle.net_types.specs.declared.adjacency.Party.{Party}
-use Rattle.net_types.specs.Label.{is_label_channel}
+use Rattle.net_types.specs.Label.{is_label_channel, number_of_channel}
 use Rattle.ipv4_forward.specs.declared.change.RouteChange.{RouteChange}
 use Rattle.adjacency_table.specs.declared.message.Answer.{Answer}
 use Rattle.adjacency_table.specs.declared.message.Answer.TheVariants as replies
@@ -20,8 +21,8 @@ use Rattle.ordered_lists.specs.Ordered.{Every}
 use Rattle.keyed_lists.specs.Keyed.{at}
 use Rattle.grant_table.specs.Table.{AreApart}
 use Rattle.port_model.specs.Setup.{home_of}
-use Rattle.port_model.specs.Labels.{Label}
-use Rattle.port_model.specs.Grants.{grant_label}
+use Rattle.port_model.specs.Labels.{Label, Offered}
+use Rattle.port_model.specs.Grants.{ByController, grant_label}
 use Rattle.port_model.specs.Joins.{given_back}
 use Rattle.port_model.specs.Ticks as port_ticks
 use Rattle.controller_model.specs.Controller.{Acted, Controller, Linked, linked_at, ports_of}
@@ -29,11 +30,13 @@ use Rattle.controller_model.specs.Performing.{Rule}
 use Rattle.controller_model.specs.Resets.{begins}
 use Rattle.controller_model.specs.Joins.{Join, enters_grant, enters_label, inputs_at, join_for, join_of, joins_of, label_on, may_join, output_of, parts, released_inputs, releases_input, tries_join}
 use Rattle.controller_model.specs.Changes.{begins_change, changed_joins, may_take, takes_change, takes_join_back}
-use Rattle.controller_model.specs.Gsmp.{steps}
+use Rattle.controller_model.specs.Gsmp.{answers}
 use Rattle.controller_model.specs.Ticks.{sends_again, ticks_port, ticks_ports}
 use Rattle.router.specs.Conditions.{CanAsk, CanFollow, CanResetNode, CanTakeBack, CanWork, turned_to}
 use Rattle.router.specs.Meeting.{EachCanResetSpent, with_begun}
-use Rattle.join_facts.specs.Joins.{joined_at}
+use Rattle.join_list.specs.Joined.{joined_of}
+use Rattle.join_list.specs.declared.places.Joined.{Joined}
+use Rattle.join_facts.specs.Joins.{inputs_on, joined_at}
 
 -- *A rule at a port* leaves each grant that is lent with its input, and lends no other
 abbrev pub KeepsJoins : Acted → PortNo → Rule → Type 0
@@ -84,6 +87,18 @@ pub record CanJoin (a : Acted) (join : Join) : Type 0 where
   pub grant : IsGrantOf a.controller join
   pub asks : CanAsk (entered a join) (MoveBranch join.input (home_of join.input) (output_of join))
 
+-- as the code knows it: the label is offered and isn't joined, and the router sends under the grant
+pub record IsPlanned (a : Acted) (number : ℕ) (joined : Joined) : Type 0 where
+  pub join : Join
+  pub is : joined_of join ≡ joined
+  pub can : CanJoin a join
+  pub sent : join.grant.state ≡ ByController
+  pub label : Label
+  pub held : label_on a.controller join.input ≡ Some label
+  pub numbered : number_of_channel join.input.channel ≡ number
+  pub offered : label.state ≡ Offered
+  pub unjoined : label.join ≡ None
+
 abbrev pub CanTryLabel : Acted → (input : End) → Label → Type 0
 CanTryLabel a input label = may_join a.controller input label ≡ true
     → (join : Join) → join_for a.controller input label.flow ≡ Some join → CanJoin a join
@@ -95,8 +110,13 @@ abbrev pub EachCanBeTried : Acted → List End → Type 0
 EachCanBeTried a [] = Unit {0}
 EachCanBeTried a (input ∷ inputs) = CanTryJoin a input × EachCanBeTried (tries_join a input) inputs
 
-abbrev pub CanTryJoins : Acted → Type 0
-CanTryJoins a = EachCanBeTried a (flat_map inputs_at a.controller.ports)
+-- a port holds 16,384 labels at most
+abbrev pub HoldFew : Controller → Type 0
+HoldFew c = (port : PortNo) → length (inputs_on c port) ≤ 16384
+
+pub record CanTryJoins (a : Acted) : Type 0 where
+  pub few : HoldFew a.controller
+  pub each : EachCanBeTried a (flat_map inputs_at a.controller.ports)
 
 -- *A change of routes* is begun: each join can be taken back
 abbrev pub EachCanBeTakenBack : Acted → List Join → Type 0
@@ -126,16 +146,17 @@ EachCanTickOn a (port ∷ ports) = CanWorkOn a port port_ticks.ticks × EachCanT
 abbrev pub CanSendAgain : Acted → Type 0
 CanSendAgain a = is_estab a.controller.adjacency.state ≡ true → a.numbers.controls + 32 < 2 ^ 64
 
-pub record CanTickBy (a : Acted) (step : Step Party) : Type 0 where
-  pub follow : CanFollow (turned_to a step) (gsmp_answer step.answer)
-  pub again : CanSendAgain (steps a step)
-  pub ports : EachCanTickOn (sends_again (steps a step)) (ports_of (sends_again (steps a step)).controller)
-  pub joins : CanTryJoins (ticks_ports (sends_again (steps a step)))
+-- behind the answer of the adjacency with the switch
+pub record CanTickOn (a : Acted) (answer : Answer Greeting Party) : Type 0 where
+  pub follow : CanFollow a answer
+  pub again : CanSendAgain (answers a answer)
+  pub ports : EachCanTickOn (sends_again (answers a answer)) (ports_of (sends_again (answers a answer)).controller)
+  pub joins : CanTryJoins (ticks_ports (sends_again (answers a answer)))
 
--- a reset of the adjacency with the switch ends the tick
+-- whose reset ends the tick
 abbrev pub CanTickWith : Acted → Step Party → Answer (Said Party) Party → Type 0
 CanTickWith a step replies.Reset = CanResetNode a
-CanTickWith a step answer = CanTickBy a step
+CanTickWith a step answer = CanTickOn (turned_to a step) (gsmp_answer step.answer)
 
 abbrev pub CanTick : Acted → Type 0
 CanTick a = CanTickWith a (ticked a.controller.adjacency) (ticked a.controller.adjacency).answer

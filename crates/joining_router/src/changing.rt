@@ -24,7 +24,7 @@ use router::PortEngine;
 const NUMBERS_PER_PATH: u16 = 1024;
 
 /// The output that a join's input is led to.
-fn output_of(joined: &Joined) -> End
+pub(crate) fn output_of(joined: &Joined) -> End
     ensures { result ≡ label_end joined.now.port joined.now.label }
 {
     End {

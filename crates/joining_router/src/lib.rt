@@ -6,7 +6,10 @@
 mod answering;
 mod changing;
 mod joining;
+mod passing;
 mod releasing;
+mod ticking;
+mod trying;
 mod working;
 
 pub use joining::JoiningRouter;

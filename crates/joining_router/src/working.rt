@@ -9,6 +9,7 @@ ghost use Rattle.port_model.specs.Answers.{done as answer_done};
 ghost use Rattle.port_model.specs.Counting.{counts};
 ghost use Rattle.port_model.specs.Hearing.{hears};
 ghost use Rattle.controller_model.specs.Cells.{counted_at};
+ghost use Rattle.controller_model.specs.Controller.{ports_of};
 ghost use Rattle.controller_model.specs.Meeting.{causes, empties, port_of};
 ghost use Rattle.controller_model.specs.Performing.{at_port};
 ghost use Rattle.controller_model.specs.Resets.{node_resets, node_restarts};
@@ -16,9 +17,8 @@ ghost use Rattle.controller_model.specs.Ticks.{ticks_ports};
 ghost use Rattle.router.specs.Conditions.{CanResetNode};
 ghost use Rattle.router.specs.Engine.{CanBeDone};
 ghost use Rattle.router.specs.Meeting.{CanCause, CanEmpty};
-ghost use Rattle.router.specs.Node.{ports_in};
 ghost use Rattle.joining_router.specs.Conditions.{CanWorkOn, EachCanTickOn, KeepsJoins};
-ghost use Rattle.joining_router.specs.Joining.{AreJoined, acted};
+ghost use Rattle.joining_router.specs.Joining.{AreJoined, acted, controller_of};
 
 use crate::joining::JoiningRouter;
 use branch_desk::BranchDone;
@@ -76,7 +76,7 @@ impl<E: PortEngine> JoiningRouter<E> {
         notes: &mut Notes,
     ) -> Result<(), OutOfMemory>
         requires joined { AreJoined E.seen self.old }
-        requires can { EachCanTickOn (acted E.seen self.old notes.old numbers.old) (ports_in E.seen self.old.router) }
+        requires can { EachCanTickOn (acted E.seen self.old notes.old numbers.old) (ports_of (controller_of E.seen self.old)) }
         ensures acted { OnOk result (acted E.seen self.new notes.new numbers.new ≡ ticks_ports (acted E.seen self.old notes.old numbers.old)) }
         ensures joined { OnOk result (AreJoined E.seen self.new) }
     {

@@ -16,7 +16,7 @@ pub tick_ports-requires : goal.tick_ports-requires
 tick_ports-requires g c =
     let seen = g.E.PortEngine.seen in
     subst (λ (j : Joining _). EachCanTick (acted seen j c.args.notes.now c.args.numbers.now) (node.ports_in seen j.router)) (sym c.self.view_is)
-    (each_can (acted seen c.args.self.now c.args.notes.now c.args.numbers.now) (node.ports_in seen c.args.self.now.router) c.requires.can)
+    (each_can (acted seen c.args.self.now c.args.notes.now c.args.numbers.now) (node.ports_in seen c.args.self.now.router) (subst (EachCanTickOn (acted seen c.args.self.now c.args.notes.now c.args.numbers.now)) c.stands-stood.ensures.linked c.requires.can))
 
 pub returns-clause-joined : goal.returns-clause-joined
 returns-clause-joined g c =
@@ -24,6 +24,6 @@ returns-clause-joined g c =
     let a = acted seen c.args.self.now c.args.notes.now c.args.numbers.now in
     let b = acted seen c.settle.new.self c.tick_ports.new.notes c.tick_ports.new.numbers in
     let e = ap (λ (n : Node _). node.acted seen n c.tick_ports.new.notes c.tick_ports.new.numbers) c.settle.ensures.router ∙ c.in_ok-tick_ports.ensures.acted ∙ ap (λ (j : Joining _). ticks_ports (acted seen j c.args.notes.now c.args.numbers.now)) c.self.view_is in
-    let lasts = subst (Lasts a) (sym e) (all_ticked a (ports_of a.controller) (subst (EachCanTickOn a) (sym c.stands-stood.ensures.linked) c.requires.can) c.stands-stood.ensures.numbers) in
+    let lasts = subst (Lasts a) (sym e) (all_ticked a (ports_of a.controller) c.requires.can c.stands-stood.ensures.numbers) in
     settled_by a b c.args.self.now.joins c.self.inside.joins c.settle.new.self.joins c.stands-stood.result (is_estab c.tick_ports.new.self.client.adjacency.state) lasts c.requires.joined (c.stands-stood.ensures.estab)
     (ap (λ (n : Node _). is_estab n.client.adjacency.state) (sym c.settle.ensures.router)) (ap (λ (j : Joining _). j.joins) c.self.view_is) c.settle.ensures.joins
