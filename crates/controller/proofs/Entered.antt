@@ -1,0 +1,16 @@
+-- A packet enters where it isn't refused.
+
+use Rattle.std.proofs.Common.{◌≡◌, ◌≢◌, ℕ, ◌==◌, Bool, false, nat_eq, List, Option, None, Some, ap, sym, ◌∙◌, arith, if◌then◌else◌}
+use Rattle.std.proofs.lemmas.Bool.Decides.{nat_tests}
+use Rattle.ipv4_packet.specs.Packet.{first_fault, protocol_of}
+use Rattle.link_model.specs.declared.record.Refusal.TheVariants.{ControlProtocol}
+use Rattle.controller_model.specs.Controller.{Acted}
+use Rattle.controller_model.specs.Packets.{control_protocol, injected, refused_by}
+use Rattle.controller_facts.specs.Inputs.{PacketEnters, enters_unless, takes_input}
+
+pub not_equal : (m n : ℕ) → m ≢ n → (m == n) ≡ false
+not_equal m n other = grind (arith, nat_tests)
+
+pub enters_is : (a : Acted) (number : ℕ) (octets : List ℕ) → first_fault octets ≡ None → protocol_of octets ≢ control_protocol → injected a number octets ≡ takes_input a (PacketEnters number octets)
+enters_is a number octets whole other =
+    ap (enters_unless a number octets) (sym (ap (refused_by octets) whole ∙ ap (λ (b : Bool). if b then Some ControlProtocol else None) (not_equal (protocol_of octets) control_protocol other)))

@@ -1,0 +1,6 @@
+mod Decoded
+mod Unwrapped
+mod Rights
+mod Frames
+mod Opened
+mod Entered

@@ -1,0 +1,13 @@
+use Rattle.controller_facts.specs.Inputs.{FrameIsForged}
+use Rattle.net_types.specs.Number.{GivenOut}
+use Rattle.controller.proofs.Rights.{right_after, right_before, right_unless}
+use Rattle.controller.proofs.node.ControllerNodeController.forge.Goals as goal
+
+pub invariant_of-self : goal.invariant_of-self
+invariant_of-self g c =
+    let seen = g.E.PortEngine.seen in
+    let numbers : GivenOut = record { instances = 0; controls = 0 } in
+    let old = c.self.inside.router in
+    let right = right_before seen old c.self.inside.failure c.in_default.is c.self.invariant in
+    right_unless seen c.send-result.result c.send-result.new.self c.err-self-inside.result c.err-self-inside.ensures.value
+    (right_after seen c.send-result.result old c.send-result.new.self c.args.notes.now c.send-result.new.notes numbers numbers (FrameIsForged c.args.channel c.args.mark c.args.payload.now) tt right (c.send-result.ensures.acted numbers) c.send-result.ensures.joined)

@@ -1,0 +1,28 @@
+use Rattle.std.proofs.Common.{sym, subst}
+use Rattle.controller_facts.specs.Inputs.{Ticks}
+use Rattle.joining_router.specs.Joining.{acted}
+use Rattle.joining_conditions.proofs.Events.{ticks_can_go_by}
+use Rattle.controller.proofs.Rights.{draws, right_after, right_before, right_unless}
+use Rattle.controller.proofs.node.ControllerNodeController.tick.Goals as goal
+
+pub tick-result-requires-clause-can : goal.tick-result-requires-clause-can
+tick-result-requires-clause-can g c =
+    let seen = g.E.PortEngine.seen in
+    let old = c.self.inside.router in
+    let right = right_before seen old c.self.inside.failure c.in_default.is c.self.invariant in
+    ticks_can_go_by (acted seen old c.args.notes.now c.args.numbers.now) right.kept c.requires.numbers
+
+pub invariant_of-self : goal.invariant_of-self
+invariant_of-self g c =
+    let seen = g.E.PortEngine.seen in
+    let old = c.self.inside.router in
+    let right = right_before seen old c.self.inside.failure c.in_default.is c.self.invariant in
+    right_unless seen c.tick-result.result c.tick-result.new.self c.err-self-inside.result c.err-self-inside.ensures.value
+    (right_after seen c.tick-result.result old c.tick-result.new.self c.args.notes.now c.tick-result.new.notes c.args.numbers.now c.tick-result.new.numbers (Ticks) tt right c.tick-result.ensures.acted c.tick-result.ensures.joined)
+
+pub returns-clause-drawn : goal.returns-clause-drawn
+returns-clause-drawn g c =
+    let seen = g.E.PortEngine.seen in
+    let old = c.self.inside.router in
+    let right = right_before seen old c.self.inside.failure c.in_default.is c.self.invariant in
+    draws seen c.tick-result.result old c.tick-result.new.self c.args.notes.now c.tick-result.new.notes c.args.numbers.now c.tick-result.new.numbers (Ticks) tt right c.tick-result.ensures.acted

@@ -1,0 +1,26 @@
+use Rattle.std.proofs.Common.{map, ap, sym, subst, ◌∙◌}
+use Rattle.net_types.specs.Number.{GivenOut}
+use Rattle.controller_model.specs.Opening.{setup_of}
+use Rattle.gsmp_client.specs.Client.{Client}
+use Rattle.router.specs.Node.{AreLinked}
+use Rattle.joining_router.specs.Joining.{Joining, controller_of}
+use Rattle.controller.specs.Opening.{opened_ends}
+use Rattle.controller.proofs.Opened.{linked_opened, opened_is}
+use Rattle.controller.proofs.opening.open_router.Goals as goal
+
+pub new-router-requires-clause-linked : goal.new-router-requires-clause-linked
+new-router-requires-clause-linked g c =
+    let ends = map g.E.PortEngine.seen c.in-Ok.engines.items in
+    let policy = g.E.OpenEngine.meaning c.args.policy in
+    let are = c.in-Ok.ensures.engines ∙ ap (λ (n : GivenOut). opened_ends (setup_of c.args.node c.args.address c.args.timers policy) n.instances c.args.ports.now) c.instance-own.ensures.given in
+    subst (λ (x : Client). AreLinked ends x.control) (sym c.in_ok-client.ensures)
+    (linked_opened c.args.node c.args.address c.args.table c.args.ports.now c.args.cells c.args.timers policy c.args.numbers.now ends are c.requires.ports)
+
+pub returns-in-Ok-clause-controller : goal.returns-in-Ok-clause-controller
+returns-in-Ok-clause-controller g c =
+    let seen = g.E.PortEngine.seen in
+    let ends = map seen c.in-Ok.engines.items in
+    let policy = g.E.OpenEngine.meaning c.args.policy in
+    let are = c.in-Ok.ensures.engines ∙ ap (λ (n : GivenOut). opened_ends (setup_of c.args.node c.args.address c.args.timers policy) n.instances c.args.ports.now) c.instance-own.ensures.given in
+    ap (λ (j : Joining _). controller_of seen j) c.new-in-Ok-2.ensures ∙ rw (c.new-router.ensures, c.new.ensures, c.in_ok-client.ensures, c.instance-own.ensures.next)
+    (opened_is c.args.node c.args.address c.args.table c.args.ports.now c.args.cells c.args.timers policy c.args.numbers.now ends are)

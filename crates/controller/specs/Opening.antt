@@ -1,0 +1,11 @@
+-- The engines of a controller before its first input. No claim needs this file.
+
+use Rattle.std.specs.Prelude.{ℕ, ◌+◌, List, [], ◌∷◌}
+use Rattle.port_model.specs.Setup.{Setup}
+use Rattle.controller_model.specs.declared.range.PortRange.{PortRange}
+use Rattle.gsmp_client.specs.Client.{PortEnd}
+use Rattle.router.specs.Engine.{opened_end}
+
+abbrev pub opened_ends : (PortRange → Setup) → (instances : ℕ) → List PortRange → List PortEnd
+opened_ends setup instances [] = []
+opened_ends setup instances (range ∷ ranges) = opened_end (setup range) instances ∷ opened_ends setup (instances + 1) ranges

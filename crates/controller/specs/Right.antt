@@ -1,0 +1,17 @@
+-- What holds of a controller between its calls, unless want of memory ended it. No claim needs this file.
+
+use Rattle.std.specs.Prelude.{Option, None, Some}
+use Rattle.net_types.specs.declared.memory.OutOfMemory.{OutOfMemory}
+use Rattle.gsmp_client.specs.Client.{PortEnd}
+use Rattle.joining_router.specs.Joining.{AreJoined, Joining, controller_of}
+use Rattle.controller_conditions.specs.Kept.{IsKept}
+use Rattle.controller_conditions.specs.Routes.{HasLinkRoutes}
+
+pub record IsRight {E : Type 0} (seen : E → PortEnd) (j : Joining E) : Type 0 where
+  pub kept : IsKept (controller_of seen j)
+  pub joined : AreJoined seen j
+  pub routes : HasLinkRoutes (controller_of seen j)
+
+abbrev pub IsRightUnless : {E : Type 0} → (E → PortEnd) → Joining E → Option OutOfMemory → Type 0
+IsRightUnless seen j None = IsRight seen j
+IsRightUnless seen j (Some error) = Unit {0}

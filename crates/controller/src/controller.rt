@@ -1,0 +1,62 @@
+//! The controller.
+
+ghost use Rattle.std.specs.Prelude.{◌≡◌, length, option_map, IsSome, Some};
+ghost use Rattle.cell_pool.specs.Region.{size};
+ghost use Rattle.controller_model.specs.Controller.{free_slots, linked_at};
+ghost use Rattle.router.specs.Node.{end_of};
+ghost use Rattle.joining_router.specs.Joining.{controller_of};
+
+use aal5_frames::MAX_FRAME;
+use branch_desk::Desk;
+use cell_pool::Pool;
+use joining_router::JoiningRouter;
+use net_types::{OutOfMemory, PortNo};
+use router::PortEngine;
+use std::marker::Model;
+
+/// The controller of a node, over an engine for each of its ports. After want of memory, which each
+/// further call answers, it can only be given up.
+#[must_use]
+pub struct Controller<E: PortEngine> {
+    pub(crate) router: JoiningRouter<E>,
+    /// Where a frame is put together.
+    pub(crate) frame: [u8; MAX_FRAME],
+    /// The want of memory that ended it, if any.
+    pub(crate) failure: Option<OutOfMemory>,
+}
+
+impl<E: PortEngine> Model for Controller<E> {
+    ghost use Rattle.joining_router.specs.Joining.{Joining};
+    ghost use Rattle.controller.specs.Right.{IsRightUnless};
+
+    ghost Value = { Joining E };
+
+    ghost view = { λ c. c.router };
+
+    ghost invariant = { λ c. IsRightUnless E.seen c.router c.failure };
+}
+
+impl<E: PortEngine> Controller<E> {
+    /// The engine of a linked port.
+    pub fn link(&self, port: PortNo) -> &E
+        requires { IsSome (linked_at (controller_of E.seen self.now) port) }
+        ensures { option_map end_of (linked_at (controller_of E.seen self.now) port) ≡ Some (E.seen result.now) }
+    {
+        self.router.router().link(port)
+    }
+
+    /// The requests that stand.
+    pub fn desk(&self) -> &Desk
+        ensures { result.now ≡ (controller_of E.seen self.now).desk }
+    {
+        self.router.router().client().requests().desk()
+    }
+
+    /// The region of its slots.
+    pub fn region(&self) -> &Pool
+        ensures free { length result.now.free ≡ free_slots (controller_of E.seen self.now) }
+        ensures cells { size result.now ≡ (controller_of E.seen self.now).cells }
+    {
+        self.router.router().region()
+    }
+}

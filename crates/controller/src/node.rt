@@ -1,0 +1,144 @@
+//! The controller of a node in a network.
+
+use crate::cells::take_cell;
+use crate::controller::Controller;
+use crate::opening::open_router;
+use crate::packets::CONTROL_PROTOCOL;
+use aal5_frames::MAX_FRAME;
+use atm_cells::Cell;
+use controller_model::PortRange;
+use ipv4_forward::{RouteChange, Table};
+use ipv4_packet::{check, protocol};
+use link_model::Notes;
+use net_types::{Addr, Channel, Mark, NodeId, Numbers, OutOfMemory};
+use port_model::Timers;
+use router::OpenEngine;
+use std::alloc::Global;
+use world::{InjectFault, NodeController};
+
+impl<E: OpenEngine> NodeController for Controller<E> {
+    ghost use Rattle.joining_router.specs.Joining.{controller_of};
+
+    type Policy = E::Policy;
+
+    ghost seen = { controller_of E.seen };
+
+    ghost meaning = { E.meaning };
+
+    fn open(
+        alloc: Global,
+        node: NodeId,
+        address: Addr,
+        table: Table,
+        ports: &[PortRange],
+        cells: usize,
+        timers: Timers,
+        policy: E::Policy,
+        numbers: &mut Numbers,
+    ) -> Result<Controller<E>, OutOfMemory> {
+        let router = open_router(
+            alloc, node, address, table, ports, cells, timers, policy, numbers,
+        )?;
+        Ok(Controller {
+            router,
+            frame: [0; MAX_FRAME],
+            failure: None,
+        })
+    }
+
+    fn receive(
+        &mut self,
+        cell: &Cell,
+        numbers: &mut Numbers,
+        notes: &mut Notes,
+    ) -> Result<(), OutOfMemory> {
+        if let Some(error) = self.failure {
+            return Err(error);
+        }
+        let result = take_cell(&mut self.router, cell, &mut self.frame, numbers, notes);
+        self.failure = result.err();
+        result
+    }
+
+    fn inject(&mut self, number: u32, packet: &[u8], notes: &mut Notes) -> Result<(), InjectFault> {
+        if let Err(fault) = check(packet) {
+            return Err(InjectFault::Packet(fault));
+        }
+        if protocol(packet) == CONTROL_PROTOCOL {
+            return Err(InjectFault::ControlProtocol);
+        }
+        if let Some(error) = self.failure {
+            return Err(InjectFault::OutOfMemory(error));
+        }
+        let result = self.router.enter(number, packet, notes);
+        self.failure = result.err();
+        match result {
+            Ok(()) => Ok(()),
+            Err(error) => Err(InjectFault::OutOfMemory(error)),
+        }
+    }
+
+    fn tick(&mut self, numbers: &mut Numbers, notes: &mut Notes) -> Result<(), OutOfMemory> {
+        if let Some(error) = self.failure {
+            return Err(error);
+        }
+        let result = self.router.tick(numbers, notes);
+        self.failure = result.err();
+        result
+    }
+
+    fn restart(&mut self, numbers: &mut Numbers, notes: &mut Notes) -> Result<(), OutOfMemory> {
+        if let Some(error) = self.failure {
+            return Err(error);
+        }
+        let result = self.router.restart_node(numbers, notes);
+        self.failure = result.err();
+        result
+    }
+
+    fn change(
+        &mut self,
+        change: &RouteChange,
+        numbers: &mut Numbers,
+        notes: &mut Notes,
+    ) -> Result<(), OutOfMemory> {
+        if let Some(error) = self.failure {
+            return Err(error);
+        }
+        let result = self.router.change(change, numbers, notes);
+        self.failure = result.err();
+        result
+    }
+
+    fn forge(
+        &mut self,
+        channel: Channel,
+        payload: &[u8],
+        mark: Mark,
+        notes: &mut Notes,
+    ) -> Result<(), OutOfMemory> {
+        if let Some(error) = self.failure {
+            return Err(error);
+        }
+        let result = self.router.send(channel, mark, payload, notes);
+        self.failure = result.err();
+        result
+    }
+
+    fn pop(&mut self) -> Option<Cell> {
+        self.router.pop()
+    }
+
+    fn redirects(&self) -> u64 {
+        self.router.router().redirects()
+    }
+
+    fn abandon(self) {
+        let Controller {
+            router,
+            frame: _,
+            failure: _,
+        } = self;
+        router.abandon();
+    }
+}
