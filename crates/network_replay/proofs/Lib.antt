@@ -1,0 +1,6 @@
+pub mod Tables
+pub mod Opening
+pub mod Taking
+pub mod Events
+pub mod Course
+pub mod LastLine

@@ -1,0 +1,12 @@
+use Rattle.script_model.specs.Reading.{line_says}
+use Rattle.network_replay.proofs.Taking.{has_counted, is_read, lines_are_read}
+use Rattle.network_replay.proofs.replay.Replay.line.Goals as goal
+
+pub returns-clause-along : goal.returns-clause-along
+returns-clause-along g c = λ first start before lines along.
+    c.take.ensures.along line_says c.args.self.now.state first start before lines c.args.line.now lines_are_read along
+    (is_read line_says c.args.self.now.state c.read_line-read.new.state c.args.line.now c.read_line-read.result c.read_line-read.ensures.said (c.read_line-read.ensures.after c.requires.room))
+
+pub returns-clause-counted : goal.returns-clause-counted
+returns-clause-counted g c = λ none.
+    has_counted c.args.self.now.state c.read_line-read.new.state c.take.new.self.state c.args.line.now c.read_line-read.result (c.read_line-read.ensures.after c.requires.room) c.take.ensures.state (c.take.ensures.said none)

@@ -1,0 +1,18 @@
+//! The policy of a replay.
+
+use topology::Topology;
+use world::NodeController;
+
+/// Chooses the policy of the nodes of a network, once its topology is known.
+pub trait PolicyChoice<C: NodeController> {
+    ghost use Rattle.std.specs.Prelude.{◌≡◌};
+    ghost use Rattle.port_model.specs.Setup.{Policy};
+    ghost use Rattle.world_model.specs.Topology.{Topology as Described};
+
+    // What a policy that is chosen for a topology does.
+    ghost chosen: { Self → Described → Policy };
+
+    /// The policy for this topology.
+    fn choose(&self, topology: &Topology) -> C::Policy
+        ensures { C.meaning result ≡ chosen self.now topology.now };
+}

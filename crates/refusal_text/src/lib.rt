@@ -1,0 +1,6 @@
+//! The last line of a report whose script is refused.
+#![tactic(auto)]
+
+mod last_line;
+
+pub use last_line::write_refused;
