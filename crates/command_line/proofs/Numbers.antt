@@ -1,61 +1,38 @@
 -- a word spells the number of a drill exactly where it is that number's text
 
-use Rattle.std.proofs.Common.{◌≡◌, ◌∙◌, ℕ, zero, suc, ◌^◌, ◌<◌, ◌≤◌, ◌==◌, ◌&&◌, ◌||◌, Bool, true, false, not, List, [], ◌∷◌, length, nat_lt, nat_le, slice_index, get_or, None, Some, decimal, refl, sym, ap, arith}
+use Rattle.std.proofs.Common.{◌≡◌, ◌∙◌, ℕ, ◌^◌, ◌<◌, ◌≤◌, ◌==◌, ◌&&◌, ◌||◌, Bool, true, false, not, List, [], ◌∷◌, length, nat_lt, nat_le, slice_index, get_or, None, Some, decimal, refl, sym, ap, arith}
 use Rattle.std.specs.Prelude.{if◌then◌else◌}
 use Rattle.std.specs.List.{list_all}
 use Rattle.std.specs.Char.{is_ascii_digit}
 use Rattle.std.specs.Str.{all_ascii_digits}
 use Rattle.std.specs.Str.Parse.{digits_value}
 use Rattle.std.proofs.lemmas.Bool.Decides.{nat_tests}
-use Rattle.std.proofs.lemmas.Fmt.{digits_decimal, digits_value-decimal, decimal-digits_value, decimal_nonempty, first_decimal, decimal_digit}
-use Rattle.std.proofs.lemmas.Str.Parse.{IsNumeralModel, numerals_by_value, tells_all_ascii_digits}
-use Rattle.lab_text.specs.Numeral.{is_number, number}
+use Rattle.std.proofs.lemmas.Fmt.{decimal-digits_value}
+use Rattle.std.proofs.lemmas.Str.Parse.{numerals_by_value, tells_all_ascii_digits}
+use Rattle.lab_text.specs.Numeral.{is_number}
 use Rattle.lab_text.specs.Forms.{number_in, within}
+use Rattle.script_model.proofs.Numbers.{decimal_digits, number_in_back}
 use Rattle.command_line.specs.Reading.{is_barred}
 
-own : IsNumeralModel (λ ds. all_ascii_digits ds ≡ true) (digits_value 10)
-own = numerals_by_value (λ ds. all_ascii_digits ds ≡ true) tells_all_ascii_digits
-
-all_is : (ds : List ℕ) → list_all is_ascii_digit ds ≡ all_ascii_digits ds
-all_is [] = refl
-all_is (c ∷ cs) = ap (λ b. is_ascii_digit c && b) (all_is cs)
-
 -- *From a number to its text and back*
-decimal_digits : (n : ℕ) → n < 2 ^ 64 → list_all is_ascii_digit (decimal n) ≡ true
-decimal_digits n few = all_is (decimal n) ∙ digits_decimal own n few
-
-or_true : (b : Bool) → (b || true) ≡ true
-or_true true = refl
-or_true false = refl
-
-decimal_is_number : (n : ℕ) → n < 2 ^ 64 → is_number (decimal n) ≡ true
-decimal_is_number zero few = rw (decimal_digit 0 (omega arith)) refl
-decimal_is_number (suc m) few =
-    let some : nat_lt 0 (length (decimal (suc m))) ≡ true = grind (arith, nat_tests, decimal_nonempty (suc m) few) in
-    let first : slice_index (decimal (suc m)) 0 == 48 ≡ false =
-    grind (arith, nat_tests, first_decimal (suc m) (omega arith) few) in
-    rw (some, decimal_digits (suc m) few, first) (or_true (length (decimal (suc m)) == 1))
-
-number_back : (n : ℕ) → n < 2 ^ 64 → number (decimal n) ≡ Some n
-number_back n few = rw (decimal_is_number n few) (ap Some (digits_value-decimal own n few))
-
 pub drill_read : (n : ℕ) → 1 ≤ n → n ≤ 9999 → number_in 1 9999 (decimal n) ≡ Some n
-drill_read n above below =
-    let low : nat_le 1 n ≡ true = grind (arith, nat_tests) in
-    let high : nat_le n 9999 ≡ true = grind (arith, nat_tests) in
-    rw (number_back n (omega arith), low, high) refl
+drill_read n above below = number_in_back 1 9999 n above below (omega arith)
 
 -- *From a text to its number and back*
 both : (a b : Bool) → (a && b) ≡ true → (a ≡ true) × (b ≡ true)
 both true b e = (refl, e)
 both false b e = absurd (cc)
 
+all_is : (ds : List ℕ) → list_all is_ascii_digit ds ≡ all_ascii_digits ds
+all_is [] = refl
+all_is (c ∷ cs) = ap (λ b. is_ascii_digit c && b) (all_is cs)
+
 text_back : (word : List ℕ) → is_number word ≡ true → digits_value 10 word < 2 ^ 64 → decimal (digits_value 10 word) ≡ word
 text_back word is few =
     let outer = both (nat_lt 0 (length word) && list_all is_ascii_digit word) (length word == 1 || not (slice_index word 0 == 48)) is in
     let inner = both (nat_lt 0 (length word)) (list_all is_ascii_digit word) outer.0 in
     let some : 0 < length word = grind (arith, nat_tests) in
-    decimal-digits_value own word (sym (all_is word) ∙ inner.1) some (leading outer.1) few
+    decimal-digits_value (numerals_by_value (λ ds. all_ascii_digits ds ≡ true) tells_all_ascii_digits) word (sym (all_is word) ∙ inner.1) some (leading outer.1) few
   where
     by : (one : Bool) → length word == 1 ≡ one → (one || false) ≡ true → length word ≡ 1
     by true is_one e = grind (arith, nat_tests)

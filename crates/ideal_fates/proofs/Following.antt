@@ -7,6 +7,7 @@ use Rattle.std.proofs.lemmas.Bool.Decides.{nat_tests}
 use Rattle.std.proofs.lemmas.List.{length-map}
 use Rattle.std.proofs.lemmas.List.Quantifiers.{position-Some}
 use Rattle.world_model.proofs.Lists.{length_set}
+use Rattle.world_model.proofs.Kept.{line_keeps, empty_is}
 use Rattle.net_types.specs.declared.node.NodeId.{NodeId}
 use Rattle.ipv4_forward.specs.declared.change.ChangeFault.{ChangeFault}
 use Rattle.ipv4_forward.specs.declared.change.ChangeFault.TheVariants.{TableFull, NoPrefix}
@@ -19,7 +20,7 @@ use Rattle.world_model.specs.declared.event.Event.TheVariants.{Inject, Carry, Lo
 use Rattle.world_model.specs.declared.line.TopologyLine.{TopologyLine}
 use Rattle.world_model.specs.declared.line.TopologyLine.TheVariants as lines
 use Rattle.world_model.specs.declared.refusal.EventRefusal.{EventRefusal}
-use Rattle.world_model.specs.Conditions.{IsNode}
+use Rattle.world_model.specs.Conditions.{IsNode, IsTopology}
 use Rattle.world_model.specs.Events.{or_else, change_refusal, next_refusal}
 use Rattle.world_model.specs.Lines.{is_named, node_named, with_line}
 use Rattle.world_model.specs.Topology.{Topology, Node, new_node}
@@ -124,11 +125,20 @@ has_tables state told line (EventComes event) follows can = ap length follows.sa
 has_tables state told line TickAll follows can = ap length follows.same ∙ follows.each
 has_tables state told line (Run rounds) follows can = ap length follows.same ∙ follows.each
 
+pub is_made : (state : ScriptState) (told : Told) (line : List ℕ) (said : Line) → Follows state told → IsSayable state said
+    → IsTopology (state_after state line (Ok said)).topology
+is_made state told line (TopologyIs topology) follows can = line_keeps state.topology topology follows.made can.0.0 can.2
+is_made state told line Blank follows can = follows.made
+is_made state told line (EventComes event) follows can = follows.made
+is_made state told line TickAll follows can = follows.made
+is_made state told line (Run rounds) follows can = follows.made
+
 -- *Behind a line* they follow again
 event_follows : (state now : ScriptState) (told then : Told) → Follows state told → now.topology ≡ state.topology
     → now.event_lines ≡ state.event_lines + 1 → now.has_line ≡ true → tables_under state.topology then.tables ≡ now.tables
     → length now.tables ≡ length state.tables → then.sent ≤ state.event_lines + 1 → Follows now then
 event_follows state now told then follows stays events line same each few = record {
+  made = subst IsTopology (sym stays) follows.made;
   same = ap (λ (t : Topology). tables_under t then.tables) stays ∙ same;
   each = each ∙ (follows.each ∙ ap (λ (t : Topology). length t.nodes) (sym stays));
   early = λ none. absurd (omega arith);
@@ -144,6 +154,7 @@ quiet_follows state now told follows stays events line same =
 pub follows_next : (state : ScriptState) (told : Told) (line : List ℕ) (said : Line) → Follows state told → IsSayable state said
     → Follows (state_after state line (Ok said)) (after_line (state_after state line (Ok said)).topology told said)
 follows_next state told line Blank follows can = record {
+  made = follows.made;
   same = follows.same;
   each = follows.each;
   early = follows.early;
@@ -154,6 +165,7 @@ follows_next state told line (TopologyIs topology) follows can =
     let now = with_line state.topology topology in
     let none : told.tables ≡ None = follows.early (not_yet state told topology follows can.1) in
     record {
+      made = is_made state told line (TopologyIs topology) follows can;
       same = ap (tables_under now) none;
       each = length-map now.nodes (λ (n : Node). n.routes);
       early = λ zero. none;
@@ -182,6 +194,7 @@ follows_next state told line (Run rounds) follows can = quiet_follows state _ to
 -- at the beginning
 pub nothing_follows : Follows nothing_read nothing_told
 nothing_follows = record {
+  made = empty_is;
   same = refl;
   each = refl;
   early = λ none. refl;

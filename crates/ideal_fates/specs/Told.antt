@@ -11,7 +11,7 @@ use Rattle.link_model.specs.declared.record.Record.TheVariants.{Delivered, Dropp
 use Rattle.controller_model.specs.Packets.{inject_refusal}
 use Rattle.world_model.specs.declared.event.Event.{Event}
 use Rattle.world_model.specs.declared.event.Event.TheVariants.{Inject, Route as RouteComes}
-use Rattle.world_model.specs.Conditions.{IsNode}
+use Rattle.world_model.specs.Conditions.{IsNode, IsTopology}
 use Rattle.world_model.specs.Topology.{Topology}
 use Rattle.script_model.specs.declared.line.Line.{Line}
 use Rattle.script_model.specs.declared.line.Line.TheVariants.{Event as EventComes}
@@ -115,8 +115,9 @@ FitsLine topology told line = Unit {0}
 abbrev pub HasTables : Topology → Told → Type 0
 HasTables topology told = length (tables_under topology told.tables) ≡ length topology.nodes
 
--- the tables and the counts are those of the lines so far
+-- the tables and the counts are those of the lines so far, which make a topology
 pub record Follows (state : ScriptState) (told : Told) : Type 0 where
+  pub made : IsTopology state.topology
   pub same : tables_under state.topology told.tables ≡ state.tables
   pub each : length state.tables ≡ length state.topology.nodes
   pub early : state.event_lines ≡ 0 → told.tables ≡ None

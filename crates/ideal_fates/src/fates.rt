@@ -5,7 +5,7 @@ ghost use Rattle.ipv4_forward.specs.Change.{change_fault};
 ghost use Rattle.script_model.specs.Limits.{greatest_event_lines};
 ghost use Rattle.script_model.specs.Reports.{record_lines};
 ghost use Rattle.script_model.specs.State.{table_in};
-ghost use Rattle.world_model.specs.Conditions.{IsNode};
+ghost use Rattle.world_model.specs.Conditions.{IsNode, IsTopology};
 ghost use Rattle.world_model.specs.declared.event.Event.TheVariants.{Route as RouteComes};
 ghost use Rattle.ideal_fates.specs.Told.{nothing_told, tables_under, opened_for, counted, after_event, after_line, sent_record, records_of, records_at, end_of, HasTables, FitsLine, FitsEvent};
 
@@ -102,6 +102,7 @@ impl Fates {
         octets: Octets,
         out: &mut Text,
     ) -> Result<(), OutOfMemory>
+        requires topology { IsTopology topology.now }
         requires fits { HasTables topology.now self.old }
         requires node { IsNode topology.now node }
         requires room { self.old.sent < greatest_event_lines }
@@ -141,6 +142,7 @@ impl Fates {
         event: Event,
         out: &mut Text,
     ) -> Result<(), OutOfMemory>
+        requires topology { IsTopology topology.now }
         requires fits { HasTables topology.now self.old }
         requires event { FitsEvent topology.now self.old event }
         ensures told { OnOk result (self.new ≡ after_event topology.now self.old event) }
@@ -168,6 +170,7 @@ impl Fates {
         line: Line,
         out: &mut Text,
     ) -> Result<(), OutOfMemory>
+        requires topology { IsTopology topology.now }
         requires fits { HasTables topology.now self.old }
         requires line { FitsLine topology.now self.old line }
         ensures told { OnOk result (self.new ≡ after_line topology.now self.old line) }

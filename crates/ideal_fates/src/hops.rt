@@ -2,7 +2,7 @@
 
 ghost use Rattle.std.specs.Prelude.{◌≡◌, length};
 ghost use Rattle.ipv4_packet.specs.Packet.{IsPacket};
-ghost use Rattle.world_model.specs.Conditions.{IsNode};
+ghost use Rattle.world_model.specs.Conditions.{IsNode, IsTopology};
 ghost use Rattle.world_model.specs.Journey.{journey};
 ghost use Rattle.script_model.specs.State.{table_in};
 ghost use Rattle.ideal_fates.specs.Endings.{ending_told, Hops};
@@ -29,12 +29,12 @@ fn hop_from(
     node: NodeId,
     packet: &mut [u8],
 ) -> Result<NodeId, Ending>
+    requires topology { IsTopology topology.now }
     requires node { IsNode topology.now node }
     requires tables { length tables.now ≡ length topology.now.nodes }
     requires packet { IsPacket packet.old }
     ensures { Hops topology.now (table_in tables.now) node packet.old packet.new result }
 {
-    let _nodes = topology.nodes();
     match hop(tables.of(node), packet) {
         Hop::Here => Err(Ending::Delivered(node)),
         Hop::NoRoute => Err(Ending::Dropped(node, DropCause::NoRoute)),
@@ -51,6 +51,7 @@ fn hop_from(
 /// want of a route, or since its Time To Live ends (RFC 1812 5.2.1, 5.3.1). A packet that is delivered
 /// stands in `packet` as it comes to its destination.
 pub fn journey(topology: &Topology, tables: &Tables, node: NodeId, packet: &mut [u8]) -> Ending
+    requires topology { IsTopology topology.now }
     requires node { IsNode topology.now node }
     requires tables { length tables.now ≡ length topology.now.nodes }
     requires packet { IsPacket packet.old }

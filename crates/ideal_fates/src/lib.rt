@@ -4,7 +4,6 @@
 
 mod fates;
 mod hops;
-mod last_line;
 mod lines;
 mod packet;
 mod tables;
@@ -13,6 +12,5 @@ mod tests;
 
 pub use fates::Fates;
 pub use hops::{Ending, journey};
-pub use last_line::write_refused;
 pub use lines::{Reported, ideal};
 pub use tables::Tables;

@@ -9,9 +9,9 @@ ghost use Rattle.script_model.specs.Script.{script_from, script_of};
 ghost use Rattle.ideal_fates.specs.Told.{rest_of, last_told, Follows};
 
 use crate::fates::Fates;
-use crate::last_line::write_refused;
 use lab_text::{Text, split_line};
 use net_types::{Octets, OutOfMemory};
+use refusal_text::write_refused;
 use script_model::Refused;
 use script_text::{ReadFault, ScriptState, read_line};
 use std::alloc::Global;

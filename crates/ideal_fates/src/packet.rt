@@ -3,7 +3,7 @@
 ghost use Rattle.std.specs.Prelude.{◌≡◌, None, length};
 ghost use Rattle.ipv4_packet.specs.Packet.{IsPacket};
 ghost use Rattle.controller_model.specs.Packets.{inject_refusal};
-ghost use Rattle.world_model.specs.Conditions.{IsNode};
+ghost use Rattle.world_model.specs.Conditions.{IsNode, IsTopology};
 ghost use Rattle.script_model.specs.Ideal.{ideal_record};
 
 use crate::hops::{Ending, journey};
@@ -42,6 +42,7 @@ pub fn packet_record(
     node: NodeId,
     octets: Octets,
 ) -> Record
+    requires topology { IsTopology topology.now }
     requires node { IsNode topology.now node }
     requires tables { length tables.now ≡ length topology.now.nodes }
     ensures { result ≡ ideal_record topology.now tables.now number node octets (inject_refusal octets) }

@@ -1,14 +1,16 @@
--- A source that tells its octets: what was read of them is all that a command needs
+-- A source that tells its octets: what was read of them is all that a task needs
 
 use Rattle.std.proofs.Common.{◌≡◌, ℕ, ◌<◌, ◌≤◌, List, [], ◌∷◌, ◌++◌, Bool, length, take, Option, None, Some, is_some, refl, sym, ap, ◌∙◌, arith, inl, inr, ◌⊎◌, append-nil, zero, suc}
 use Rattle.std.specs.Io.KnownBytes.{Consumes, IsAtEnd}
 use Rattle.std.proofs.lemmas.List.{take-append-le}
 use Rattle.lab_text.specs.Lines.{lines_of}
 use Rattle.message_text.specs.Listing.{fault_from, lines_in}
-use Rattle.plain_replay.specs.Reading.{nothing_read}
-use Rattle.plain_replay.specs.Script.{script_of, script_from}
-use Rattle.ipswitch.specs.declared.command.Command.{Command}
-use Rattle.ipswitch.specs.declared.command.Command.TheVariants.{Replay, Decode}
+use Rattle.script_model.specs.Reading.{line_says}
+use Rattle.script_model.specs.Script.{script_of, script_from}
+use Rattle.script_model.specs.State.{nothing_read}
+use Rattle.ipswitch.specs.declared.task.Task.TheVariants as task
+use Rattle.ipswitch.specs.declared.task.Whole.{Whole}
+use Rattle.ipswitch.specs.declared.task.Whole.TheVariants.{Ideal, Decode}
 use Rattle.ipswitch.specs.Run.{is_refused}
 
 below_or_at : (i n : ℕ) → i ≤ n → (i < n) ⊎ (n ≡ i)
@@ -27,18 +29,18 @@ same_front limit there input (octet ∷ rest) e within whole =
       | inr at ↦ rw e (sym (take-append-le limit input (octet ∷ rest) (omega (arith, at))))
     ]
 
-same_refusal : (command : Command) (there input : List ℕ) → take 16777217 input ≡ take 16777217 there → is_refused command input ≡ is_refused command there
+same_refusal : (whole : Whole) (there input : List ℕ) → take 16777217 input ≡ take 16777217 there → is_refused (task.Whole whole) input ≡ is_refused (task.Whole whole) there
 unfolding script_of lines_in
-same_refusal Replay there input front = ap (λ (octets : List ℕ). is_some (script_from nothing_read (lines_of octets)).refusal) front
+same_refusal Ideal there input front = ap (λ (octets : List ℕ). is_some (script_from line_says nothing_read (lines_of octets)).refused) front
 same_refusal (Decode protocol) there input front = ap (λ (octets : List ℕ). is_some (fault_from 0 (lines_of octets))) front
 
-read_refusal : (command : Command) (there input : List ℕ) (left_new : Option (List ℕ)) → Consumes (Some there) left_new input → length input ≤ 16777217 → (length input < 16777217 → IsAtEnd left_new) → is_refused command input ≡ is_refused command there
-read_refusal command there input None read within whole = absurd read
-read_refusal command there input (Some rest) read within whole =
-    same_refusal command there input (same_front 16777217 there input rest read within whole)
+read_refusal : (whole : Whole) (there input : List ℕ) (left_new : Option (List ℕ)) → Consumes (Some there) left_new input → length input ≤ 16777217 → (length input < 16777217 → IsAtEnd left_new) → is_refused (task.Whole whole) input ≡ is_refused (task.Whole whole) there
+read_refusal whole there input None read within ended = absurd read
+read_refusal whole there input (Some rest) read within ended =
+    same_refusal whole there input (same_front 16777217 there input rest read within ended)
 
 -- what is said of the octets read is said of the octets that were there
-pub complete : (command : Command) (left_old left_new : Option (List ℕ)) (there input seen : List ℕ) (refused : Bool) → left_old ≡ Some there → Consumes left_old left_new input → length input ≤ 16777217 → (length input < 16777217 → IsAtEnd left_new)
-    → seen ≡ input → refused ≡ is_refused command seen → refused ≡ is_refused command there
-complete command left_old left_new there input seen refused told read within whole at said =
-    said ∙ (ap (is_refused command) at ∙ read_refusal command there input left_new (rw told at read) within whole)
+pub complete : (whole : Whole) (left_old left_new : Option (List ℕ)) (there input seen : List ℕ) (refused : Bool) → left_old ≡ Some there → Consumes left_old left_new input → length input ≤ 16777217 → (length input < 16777217 → IsAtEnd left_new)
+    → seen ≡ input → refused ≡ is_refused (task.Whole whole) seen → refused ≡ is_refused (task.Whole whole) there
+complete whole left_old left_new there input seen refused told read within ended at said =
+    said ∙ (ap (is_refused (task.Whole whole)) at ∙ read_refusal whole there input left_new (rw told at read) within ended)

@@ -1,11 +1,13 @@
--- The faults that end a command, and their statuses
+-- The faults that end a task, and their statuses
 
 use Rattle.std.specs.Prelude.{ℕ, Bool, true, false, Result, Err}
 use Rattle.net_types.specs.declared.memory.OutOfMemory.{OutOfMemory}
 use Rattle.lab_io.specs.declared.transfer.InputFault.{InputFault}
 use Rattle.lab_io.specs.declared.transfer.InputFault.TheVariants as input
-use Rattle.ipswitch.specs.declared.run.RunFault.{RunFault}
-use Rattle.ipswitch.specs.declared.run.RunFault.TheVariants as fault
+use Rattle.script_replay.specs.declared.fault.ReplayFault.{ReplayFault}
+use Rattle.script_replay.specs.declared.fault.ReplayFault.TheVariants as replay
+use Rattle.ipswitch.specs.declared.fault.RunFault.{RunFault}
+use Rattle.ipswitch.specs.declared.fault.RunFault.TheVariants as fault
 
 abbrev pub no_memory : OutOfMemory → RunFault
 no_memory error = fault.OutOfMemory error
@@ -14,12 +16,17 @@ abbrev pub fault_of_input : InputFault → RunFault
 fault_of_input input.Failed = fault.Read
 fault_of_input (input.OutOfMemory error) = fault.OutOfMemory error
 
+abbrev pub fault_of_replay : ReplayFault → RunFault
+fault_of_replay replay.Read = fault.Read
+fault_of_replay replay.Write = fault.Write
+fault_of_replay (replay.OutOfMemory error) = fault.OutOfMemory error
+
 abbrev pub fault_status : RunFault → ℕ
 fault_status fault.Read = 3
 fault_status fault.Write = 4
 fault_status (fault.OutOfMemory _) = 5
 
--- a read, or a write, ended the command
+-- a read, or a write, ended the task
 abbrev pub read_failed : Result Bool RunFault → Bool
 read_failed (Err fault.Read) = true
 read_failed _ = false

@@ -1,3 +1,3 @@
-pub mod Command
+pub mod Task
 pub mod Fault
 pub mod Run

@@ -1,39 +1,44 @@
 -- What the commands read and write, and their statuses
 
-use Rattle.std.specs.Prelude.{◌≡◌, ℕ, ◌<◌, ◌≤◌, List, [], length, Bool, true, is_some, Option, None, Some, if◌then◌else◌}
+use Rattle.std.specs.Prelude.{◌≡◌, ℕ, ◌<◌, ◌≤◌, List, [], length, Bool, false, is_some, Option, if◌then◌else◌}
 use Rattle.std.specs.Io.KnownBytes.{Appends, Consumes, IsAtEnd}
 use Rattle.lab_io.specs.Transfer.{AppendsFront, ConsumesSome}
-use Rattle.message_text.specs.Listing.{IsListing, fault_in}
-use Rattle.plain_laws.specs.Fates.{HasTrueFronts}
-use Rattle.cell_laws.specs.Causes.{HasCauses}
 use Rattle.lab_text.specs.Line.{input_limit}
-use Rattle.plain_replay.specs.Script.{Script, script_of}
-use Rattle.plain_replay.specs.Report.{report_of}
-use Rattle.ipswitch.specs.declared.command.Command.{Command}
-use Rattle.ipswitch.specs.declared.command.Command.TheVariants.{Replay, Decode}
-use Rattle.ipswitch.specs.declared.run.RunFault.{RunFault}
-use Rattle.ipswitch.specs.declared.run.RunFault.TheVariants.{Read, Write, OutOfMemory}
-use Rattle.ipswitch.specs.Command.{usage_line}
+use Rattle.message_text.specs.Listing.{IsListing, fault_in}
+use Rattle.world_model.specs.Topology.{policy_of}
+use Rattle.script_model.specs.Script.{script_of}
+use Rattle.script_model.specs.Ideal.{ideal_report}
+use Rattle.world.specs.declared.counts.Meter.{Meter}
+use Rattle.script_replay.specs.Report as replays
+use Rattle.ipswitch.specs.declared.task.Task as tasks
+use Rattle.ipswitch.specs.declared.task.Task.TheVariants.{Replay, Whole}
+use Rattle.ipswitch.specs.declared.task.Whole as wholes
+use Rattle.ipswitch.specs.declared.task.Whole.TheVariants.{Ideal, Decode}
+use Rattle.ipswitch.specs.declared.fault.RunFault.{RunFault}
+use Rattle.ipswitch.specs.declared.fault.RunFault.TheVariants.{Read, Write, OutOfMemory}
+use Rattle.ipswitch.specs.Task.{AskForNone, AskForTask, usage_line}
 
--- what the run of a script has: in each front of it before the first chance each fate is that of a
--- packet's journey, and each frame that is reported as broken stands beside a cause
-pub record HasTrueRun (script : Script) : Type 0 where
-  pub fates : HasTrueFronts script.topology.nodes script.events
-  pub causes : HasCauses script.topology.nodes script.events
-
--- a report is that of an input: of the script that it is, or what its messages are decoded to
-abbrev pub IsReport : Command → (input report : List ℕ) → Type 0
-IsReport Replay input report = (report ≡ report_of (script_of input)) × HasTrueRun (script_of input)
+-- *Read as a whole*: a report is that of an input: what routing alone makes of the packets of a script, or what its
+-- messages are decoded to
+abbrev pub IsReport : wholes.Whole → (input report : List ℕ) → Type 0
+IsReport Ideal input report = report ≡ ideal_report input
 IsReport (Decode protocol) input report = IsListing protocol input report
 
 -- a line of the input is refused
-abbrev pub is_refused : Command → (input : List ℕ) → Bool
-is_refused Replay input = is_some (script_of input).refusal
-is_refused (Decode protocol) input = is_some (fault_in input)
+abbrev pub is_refused : tasks.Task → (input : List ℕ) → Bool
+is_refused Replay input = is_some (script_of input).refused
+is_refused (Whole Ideal) input = is_some (script_of input).refused
+is_refused (Whole (Decode protocol)) input = is_some (fault_in input)
 
 -- 2 where a line of the input is refused, else 0
-abbrev pub status_of : Command → (input : List ℕ) → ℕ
-status_of command input = if is_refused command input then 2 else 0
+abbrev pub status_of : tasks.Task → (input : List ℕ) → ℕ
+status_of task input = if is_refused task input then 2 else 0
+
+-- the words ask for something, and no line of the input is refused
+pub record IsAccepted (words : List (List ℕ)) (input : List ℕ) : Type 0 where
+  pub task : tasks.Task
+  pub asked : AskForTask words task
+  pub accepted : is_refused task input ≡ false
 
 -- the octets read are the input, which ends where the source does, or at the octet past the greatest
 -- input
@@ -42,40 +47,72 @@ pub record IsRead (left_old left_new : Option (List ℕ)) (input : List ℕ) : T
   pub within : length input ≤ input_limit
   pub whole : length input < input_limit → IsAtEnd left_new
 
--- a command is done: what is written is the report of what was read, and the status tells whether a
--- line of it is refused
-pub record IsDone (command : Command) (left_old left_new written_old written_new : Option (List ℕ)) (status : ℕ) : Type 0 where
+-- what is written is the report of what was read
+pub record IsDone (whole : wholes.Whole) (left_old left_new written_old written_new : Option (List ℕ)) (refused : Bool) : Type 0 where
   pub input : List ℕ
   pub report : List ℕ
   pub is_read : IsRead left_old left_new input
-  pub is_report : IsReport command input report
+  pub is_report : IsReport whole input report
   pub written : Appends written_old written_new report
-  pub outcome : status ≡ status_of command input
+  pub outcome : refused ≡ is_refused (Whole whole) input
 
-abbrev pub IsAnswered : Option Command → (left_old left_new written_old written_new : Option (List ℕ)) → (status : ℕ) → Type 0
-IsAnswered None left_old left_new written_old written_new status = ⊥
-IsAnswered (Some command) left_old left_new written_old written_new status = IsDone command left_old left_new written_old written_new status
-
--- what a failed write leaves: a front of the report, or of the usage line
-pub record IsFront (command : Command) (left_old left_new written_old written_new : Option (List ℕ)) : Type 0 where
+-- a front of the report is written
+pub record IsFront (whole : wholes.Whole) (left_old left_new written_old written_new : Option (List ℕ)) : Type 0 where
   pub input : List ℕ
   pub report : List ℕ
   pub is_read : IsRead left_old left_new input
-  pub is_report : IsReport command input report
+  pub is_report : IsReport whole input report
   pub written : AppendsFront written_old written_new report
 
-abbrev pub IsCutShort : Option Command → (left_old left_new written_old written_new : Option (List ℕ)) → Type 0
-IsCutShort None left_old left_new written_old written_new = AppendsFront written_old written_new usage_line
-IsCutShort (Some command) left_old left_new written_old written_new = IsFront command left_old left_new written_old written_new
-
--- what a failed read and want of memory leave: nothing is written yet
-pub record IsSilent (asked : Option Command) (left_old left_new written_old written_new : Option (List ℕ)) : Type 0 where
-  pub asked_for : is_some asked ≡ true
+-- nothing is written yet
+pub record IsSilent (left_old left_new written_old written_new : Option (List ℕ)) : Type 0 where
   pub read : ConsumesSome left_old left_new
   pub written : Appends written_old written_new []
 
--- what a command leaves that wasn't carried out to its end
-abbrev pub IsLeft : RunFault → Command → (left_old left_new written_old written_new : Option (List ℕ)) → Type 0
-IsLeft Write command left_old left_new written_old written_new = IsFront command left_old left_new written_old written_new
-IsLeft Read command left_old left_new written_old written_new = IsSilent (Some command) left_old left_new written_old written_new
-IsLeft (OutOfMemory _) command left_old left_new written_old written_new = IsSilent (Some command) left_old left_new written_old written_new
+-- *A task is done*, with or without a line that is refused. A script is replayed under the policy that it names, and
+-- the meter is at the last of its events; no other task has events
+abbrev pub HasDone : tasks.Task → (left_old left_new written_old written_new : Option (List ℕ)) → (before meter : Meter) → (refused : Bool) → Type 0
+HasDone Replay left_old left_new written_old written_new before meter refused =
+    replays.IsDone policy_of left_old left_new written_old written_new before meter refused
+HasDone (Whole whole) left_old left_new written_old written_new before meter refused =
+    IsDone whole left_old left_new written_old written_new refused × (meter ≡ before)
+
+-- *What a fault leaves* of a task
+abbrev pub LeavesUnread : tasks.Task → (left_old left_new written_old written_new : Option (List ℕ)) → Type 0
+LeavesUnread Replay left_old left_new written_old written_new = replays.IsCutOff policy_of left_old left_new written_old written_new
+LeavesUnread (Whole whole) left_old left_new written_old written_new = IsSilent left_old left_new written_old written_new
+
+abbrev pub LeavesFront : tasks.Task → (left_old left_new written_old written_new : Option (List ℕ)) → Type 0
+LeavesFront Replay left_old left_new written_old written_new = replays.IsFront policy_of left_old left_new written_old written_new
+LeavesFront (Whole whole) left_old left_new written_old written_new = IsFront whole left_old left_new written_old written_new
+
+abbrev pub LeavesAtWant : tasks.Task → (left_old left_new written_old written_new : Option (List ℕ)) → Type 0
+LeavesAtWant Replay left_old left_new written_old written_new = replays.IsFront policy_of left_old left_new written_old written_new
+LeavesAtWant (Whole whole) left_old left_new written_old written_new = IsSilent left_old left_new written_old written_new
+
+abbrev pub Leaves : RunFault → tasks.Task → (left_old left_new written_old written_new : Option (List ℕ)) → Type 0
+Leaves Read task left_old left_new written_old written_new = LeavesUnread task left_old left_new written_old written_new
+Leaves Write task left_old left_new written_old written_new = LeavesFront task left_old left_new written_old written_new
+Leaves (OutOfMemory error) task left_old left_new written_old written_new = LeavesAtWant task left_old left_new written_old written_new
+
+-- *Of a run*: the words ask for a task, and it is done
+pub record IsAnswered (words : List (List ℕ)) (left_old left_new written_old written_new : Option (List ℕ)) (before meter : Meter) (refused : Bool) : Type 0 where
+  pub task : tasks.Task
+  pub asked : AskForTask words task
+  pub done : HasDone task left_old left_new written_old written_new before meter refused
+
+-- a read failed in the task that they ask for
+pub record IsCutOff (words : List (List ℕ)) (left_old left_new written_old written_new : Option (List ℕ)) : Type 0 where
+  pub task : tasks.Task
+  pub asked : AskForTask words task
+  pub left : LeavesUnread task left_old left_new written_old written_new
+
+-- a write failed: in the usage line, or in that task
+pub data IsCutShort (words : List (List ℕ)) (left_old left_new written_old written_new : Option (List ℕ)) : Type 0 where
+  InUsage : AskForNone words → AppendsFront written_old written_new usage_line → IsCutShort words left_old left_new written_old written_new
+  InReport : (task : tasks.Task) → AskForTask words task → LeavesFront task left_old left_new written_old written_new → IsCutShort words left_old left_new written_old written_new
+
+-- memory was wanting: before anything was read or written, or in that task
+pub data IsGivenUp (words : List (List ℕ)) (left_old left_new written_old written_new : Option (List ℕ)) : Type 0 where
+  Unread : IsSilent left_old left_new written_old written_new → IsGivenUp words left_old left_new written_old written_new
+  InTask : (task : tasks.Task) → AskForTask words task → LeavesAtWant task left_old left_new written_old written_new → IsGivenUp words left_old left_new written_old written_new

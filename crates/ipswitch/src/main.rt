@@ -4,20 +4,23 @@
 ghost use Rattle.std.specs.Prelude.{◌≡◌, map, drop, string_bytes, IfOk};
 ghost use Rattle.std.specs.Vec.Iter.{into_iter_items};
 
-mod command;
+mod fault;
 mod run;
+mod sure;
+mod task;
 #[cfg(test)]
 mod tests;
-mod word;
+mod whole;
 
 use crate::run::run;
-use crate::word::Word;
+use command_line::Word;
 use lab_io::{StdSink, StdSource};
 use net_types::OutOfMemory;
 use std::alloc::Global;
 use std::env::{self, Args};
 use std::io::ErrorKind;
 use std::process::ExitCode;
+use world::Meter;
 
 /// The words behind the program's name.
 fn words_of(alloc: Global, arguments: Args) -> Result<Vec<Word>, OutOfMemory>
@@ -37,5 +40,12 @@ fn main(rt: HostRuntime) -> ExitCode {
     };
     let mut source = StdSource::new(rt.stdin());
     let mut sink = StdSink::new(rt.stdout());
-    ExitCode::from(run(rt.alloc(), words.as_slice(), &mut source, &mut sink))
+    let mut meter = Meter::new();
+    ExitCode::from(run(
+        rt.alloc(),
+        words.as_slice(),
+        &mut source,
+        &mut sink,
+        &mut meter,
+    ))
 }

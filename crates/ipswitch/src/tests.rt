@@ -3,11 +3,13 @@
 ghost use Rattle.std.specs.Prelude.{◌<◌};
 
 use crate::run::run;
-use crate::word::Word;
-use lab_io::{MemSink, MemSource};
+use crate::sure::run_surely;
+use command_line::Word;
+use lab_io::{MemSink, MemSource, SureSink, SureSource};
 use net_types::OutOfMemory;
 use std::alloc::Global;
 use std::test::Fail;
+use world::Meter;
 
 fn words_of(alloc: Global, texts: &[&str]) -> Result<Vec<Word>, OutOfMemory> {
     let mut words = Vec::new(alloc);
@@ -36,7 +38,8 @@ fn outcome(
         failing_reads.to_vec(alloc)?,
     );
     let mut sink = MemSink::new(alloc, piece, failing_writes.to_vec(alloc)?)?;
-    let status = run(alloc, words.as_slice(), &mut source, &mut sink);
+    let mut meter = Meter::new();
+    let status = run(alloc, words.as_slice(), &mut source, &mut sink, &mut meter);
     Ok((status, sink))
 }
 
@@ -45,18 +48,23 @@ const ONE_NODE: &str = "node a 10.0.1.1\nroute a 10.0.0.0/8 local\n";
 const TWO_ROUTERS: &str =
     "node a 10.0.1.1\nnode b 10.0.3.1\nlink a:1 b:1\nroute a 10.0.0.0/8 via 1\nroute b 10.0.0.0/8 local\n";
 
+/// Both controllers have met their switches.
+const TWO_MET: &str =
+    "node a 10.0.1.1\nnode b 10.0.3.1\nlink a:1 b:1\nroute a 10.0.0.0/8 via 1\nroute b 10.0.0.0/8 local\ntick *\nrun 200\n";
+
 /// Three packets of two cells each; the last cell of the first is lost.
 const LOSING: &str =
-    "send a 450000280001000004119ec30a0001010a0003011389138a00140000000000000000000000000000\nsend a 450000280002000004119ec20a0001010a0003011389138a00140000000000000000000000000000\nsend a 450000280003000004119ec10a0001010a0003011389138a00140000000000000000000000000000\ncarry a:1\nlose a:1\ncarry a:1\ncarry a:1\ncarry a:1\ncarry a:1\n";
+    "send a 450000280001000004119ec30a0001010a0003011389138a00140000000000000000000000000000\nsend a 450000280002000004119ec20a0001010a0003011389138a00140000000000000000000000000000\nsend a 450000280003000004119ec10a0001010a0003011389138a00140000000000000000000000000000\ncarry a:c\nlose a:c\nrun 20\n";
 
 const LOSING_REPORT: &str =
-    "loss 1.1 Lost\nloss 2.1 Broken\ndeliver b 3 450000280003000003119fc10a0001010a0003011389138a00140000000000000000000000000000\nend events 9 sent 3 delivered 1 dropped 0 refused 0 losses 2 redirects 0 switched 0 chance 0\n";
+    "loss 1.1 Lost\nloss 2.1 Broken\ndeliver b 3 450000280003000003119fc10a0001010a0003011389138a00140000000000000000000000000000\nend events 8 sent 3 delivered 1 dropped 0 refused 0 losses 2 redirects 0 switched 0 chance 0\n";
 
 /// A UDP packet delivered at the node that took it, at TTL 4 and 1; one whose TTL ends at the first
-/// router; one that crosses a link; one whose canonical checksum is 0100 behind a field of FFFF,
-/// and a word that a script doesn't have. Then three packets of two cells each, of which the last cell
-/// of the first is lost, which breaks the second; and two equal packets, of which the last cell of the
-/// first and the first cell of the second are lost, so that what is left is a frame again.
+/// router; two that cross a link, whose canonical checksums are 0100 behind a field of FFFF, and 0000.
+/// Three packets of two cells each, of which the last cell of the first is lost, which breaks the
+/// second; and two equal packets, of which the last cell of the first and the first cell of the second
+/// are lost, so that what is left is a frame again. A frame of three cells where two have room; a cell
+/// of the switch's greeting that is lost, before a line that is refused; and a forged frame.
 #[test]
 fn worked_scripts(rt: HostRuntime) -> Result<(), Fail> {
     for (network, events, report, status) in [
@@ -86,29 +94,65 @@ fn worked_scripts(rt: HostRuntime) -> Result<(), Fail> {
         ),
         (
             TWO_ROUTERS,
-            "send a 4500001c0001000004119ecf0a0001010a0003011389138a00080000\ncarry a:1\n",
-            "deliver b 1 4500001c0001000003119fcf0a0001010a0003011389138a00080000\nend events 2 sent 1 delivered 1 dropped 0 refused 0 losses 0 redirects 0 switched 0 chance 0\n",
+            "tick *\nrun 200\nsend a 4500001c9ed000000411ffff0a0001010a0003011389138a00080000\nsend a 4500001c9fd000000411feff0a0001010a0003011389138a00080000\nrun 20\n",
+            "deliver b 1 4500001c9ed00000031101000a0001010a0003011389138a00080000\ndeliver b 2 4500001c9fd00000031100000a0001010a0003011389138a00080000\nend events 5 sent 2 delivered 2 dropped 0 refused 0 losses 0 redirects 0 switched 0 chance 0\n",
+            0,
+        ),
+        (TWO_MET, LOSING, LOSING_REPORT, 0),
+        (
+            TWO_MET,
+            "send a 450000280001000004119ec30a0001010a0003011389138a00140000000000000000000000000000\nsend a 450000280001000004119ec30a0001010a0003011389138a00140000000000000000000000000000\ncarry a:c\nlose a:c\nlose a:c\nrun 20\n",
+            "loss 1.1 Lost\nloss 2.1 Lost\ndeliver b 2 450000280001000003119fc30a0001010a0003011389138a00140000000000000000000000000000\nend events 8 sent 2 delivered 1 dropped 0 refused 0 losses 2 redirects 0 switched 0 chance 0\n",
             0,
         ),
         (
             TWO_ROUTERS,
-            "send a 4500001c9ed000000411ffff0a0001010a0003011389138a00080000\ncarry a:1\ntick a\n",
-            "deliver b 1 4500001c9ed00000031101000a0001010a0003011389138a00080000\nrefused 8 UnknownWord\n",
+            "cells a 2\nsend a 450000540001000004119e970a0001010a0003011389138a004000000000000000000000000000000000000000000000000000000000000000000000000000000000000000000000000000000000000000000000\n",
+            "loss 1.1 PoolFull\nend events 1 sent 1 delivered 0 dropped 0 refused 0 losses 1 redirects 0 switched 0 chance 0\n",
+            0,
+        ),
+        (
+            ONE_NODE,
+            "send a 4500001c0001000004119ecf0a0001010a0003011389138a00080000\ntick a\ncarry a:c\nlose a:0\ncarry a:0\nrun 1\ntick z\n",
+            "deliver a 1 4500001c0001000004119ecf0a0001010a0003011389138a00080000\nloss 0.2 Lost\nrefused 9 UnknownName\n",
             2,
         ),
-        (TWO_ROUTERS, LOSING, LOSING_REPORT, 0),
         (
-            TWO_ROUTERS,
-            "send a 450000280001000004119ec30a0001010a0003011389138a00140000000000000000000000000000\nsend a 450000280001000004119ec30a0001010a0003011389138a00140000000000000000000000000000\ncarry a:1\nlose a:1\nlose a:1\ncarry a:1\n",
-            "loss 1.1 Lost\nloss 2.1 Lost\ndeliver b 2 450000280001000003119fc30a0001010a0003011389138a00140000000000000000000000000000\nend events 6 sent 2 delivered 1 dropped 0 refused 0 losses 2 redirects 0 switched 0 chance 0\n",
+            TWO_MET,
+            "forge a:1 0/15 00\nrun 20\n",
+            "forged a:1\nbad b encaps Short\nend events 4 sent 0 delivered 0 dropped 0 refused 0 losses 0 redirects 0 switched 0 chance 0\n",
             0,
         ),
     ] {
         let script = format!(in rt.alloc(); "{network}{events}")?;
         let (given, sink) = outcome(rt.alloc(), &["replay"], script.as_str(), 4096, &[], &[])?;
-        assert_eq!(rt; given, status);
-        assert_eq!(rt; sink.written(), report.as_bytes());
+        assert_eq!(rt; given, status, "{script}");
+        assert_eq!(rt; sink.written(), report.as_bytes(), "{script}");
     }
+    Ok(())
+}
+
+/// The meter has the events of a packet's way over two links: ticks of six actors, 300 rounds of ten
+/// queues, and the packet.
+#[test]
+fn the_meter_counts_events(rt: HostRuntime) -> Result<(), Fail> {
+    let script = format!(in rt.alloc();
+        "node a 10.0.1.1\nnode b 10.0.2.1\nnode c 10.0.3.1\nlink a:2 b:1\nlink b:2 c:1\nroute a 10.0.3.0/24 via 2\nroute b 10.0.3.0/24 via 2\nroute c 10.0.3.0/24 local\ntick *\nrun 200\n{ONE_PACKET}run 100\n"
+    )?;
+    let words = words_of(rt.alloc(), &["replay"])?;
+    let mut source = SureSource::new(script.as_bytes().to_vec(rt.alloc())?, 4096);
+    let mut sink = SureSink::new();
+    let mut meter = Meter::new();
+    let given = run_surely(
+        rt.alloc(),
+        words.as_slice(),
+        &mut source,
+        &mut sink,
+        &mut meter,
+    );
+    assert_eq!(rt; given, 0);
+    assert_eq!(rt; meter.events(), 3007);
+    assert_eq!(rt; meter.counts().delivered, 1);
     Ok(())
 }
 
@@ -135,10 +179,10 @@ fn other_words_are_usage(rt: HostRuntime) -> Result<(), Fail> {
     let lists: [&[&str]; 7] = [
         &[],
         &["replay", "x"],
+        &["help"],
+        &["--help"],
         &["decode"],
-        &["ifmp"],
-        &["decode", "ip"],
-        &["replay", "ifmp"],
+        &["ideal", "x"],
         &["decode", "ifmp", "gsmp"],
     ];
     for words in lists {
@@ -210,22 +254,22 @@ fn messages_are_decoded(rt: HostRuntime) -> Result<(), Fail> {
 #[test]
 fn refused_lines(rt: HostRuntime) -> Result<(), Fail> {
     for (line, report) in [
-        ("node a 10.0.1.1", "refused 7 BadLine\n"),
-        ("node 1a 10.0.9.1", "refused 7 BadLine\n"),
-        ("node c 10.0.9.256", "refused 7 BadLine\n"),
-        ("link a:1 b:2", "refused 7 BadLine\n"),
-        ("link a:2 a:3", "refused 7 BadLine\n"),
-        ("link a:2 b:9", "refused 7 BadLine\n"),
-        ("route a 10.0.0.0/8 local", "refused 7 BadLine\n"),
-        ("route a 10.0.0.1/8 local", "refused 7 BadLine\n"),
-        ("route a 11.0.0.0/8 via 2", "refused 7 BadLine\n"),
-        ("send c 00", "refused 7 BadLine\n"),
-        ("send a 000", "refused 7 BadLine\n"),
-        ("carry a:2", "refused 7 BadLine\n"),
-        ("carry a:c", "refused 7 BadLine\n"),
-        ("lose a:2", "refused 7 BadLine\n"),
-        ("lose a:0", "refused 7 BadLine\n"),
-        ("lose a", "refused 7 BadLine\n"),
+        ("node a 10.0.1.1", "refused 7 DuplicateName\n"),
+        ("node 1a 10.0.9.1", "refused 7 BadName\n"),
+        ("node c 10.0.9.256", "refused 7 BadAddress\n"),
+        ("link a:1 b:2", "refused 7 PortTaken\n"),
+        ("link a:2 a:3", "refused 7 SelfLink\n"),
+        ("link a:2 b:9", "refused 7 BadPlace\n"),
+        ("route a 10.0.0.0/8 local", "refused 7 Duplicate\n"),
+        ("route a 10.0.0.1/8 local", "refused 7 BadPrefix\n"),
+        ("route a 11.0.0.0/8 via 2", "refused 7 NoLink\n"),
+        ("send c 00", "refused 7 UnknownName\n"),
+        ("send a 000", "refused 7 BadHex\n"),
+        ("carry a:2", "refused 7 NoLink\n"),
+        ("lose a:9", "refused 7 BadPlace\n"),
+        ("lose a", "refused 7 BadPlace\n"),
+        ("tick", "refused 7 Arity\n"),
+        ("forge a:1 256/15 00", "refused 7 BadChannel\n"),
         ("forward a:1", "refused 7 UnknownWord\n"),
     ] {
         let script = format!(in rt.alloc(); "{TWO_ROUTERS}\n{line}\nnode d 10.0.4.1\n")?;
@@ -238,6 +282,9 @@ fn refused_lines(rt: HostRuntime) -> Result<(), Fail> {
 
 const ONE_PACKET: &str = "send a 4500001c0001000004119ecf0a0001010a0003011389138a00080000\n";
 
+const ONE_FATE: &str =
+    "deliver b 1 4500001c0001000003119fcf0a0001010a0003011389138a00080000\nend sent 1 delivered 1 dropped 0 refused 0\n";
+
 const ONE_REPORT: &str =
     "deliver a 1 4500001c0001000004119ecf0a0001010a0003011389138a00080000\nend events 1 sent 1 delivered 1 dropped 0 refused 0 losses 0 redirects 0 switched 0 chance 0\n";
 
@@ -246,30 +293,29 @@ const ONE_REPORT: &str =
 /// that many reads and writes never comes.
 #[test]
 fn faults_end_the_run(rt: HostRuntime) -> Result<(), Fail> {
-    for (network, events, report, piece, reads, writes) in [
-        (ONE_NODE, ONE_PACKET, ONE_REPORT, 1, 106, 162),
-        (ONE_NODE, ONE_PACKET, ONE_REPORT, 7, 16, 24),
-        (ONE_NODE, ONE_PACKET, ONE_REPORT, 4096, 2, 1),
-        (TWO_ROUTERS, LOSING, LOSING_REPORT, 1, 419, 216),
-        (TWO_ROUTERS, LOSING, LOSING_REPORT, 7, 61, 31),
-        (TWO_ROUTERS, LOSING, LOSING_REPORT, 4096, 2, 1),
+    for (word, network, events, report, piece, reads, writes) in [
+        ("replay", ONE_NODE, ONE_PACKET, ONE_REPORT, 1, 106, 162),
+        ("replay", ONE_NODE, ONE_PACKET, ONE_REPORT, 7, 16, 24),
+        ("replay", ONE_NODE, ONE_PACKET, ONE_REPORT, 4096, 2, 1),
+        ("replay", TWO_MET, LOSING, LOSING_REPORT, 7, 59, 31),
+        ("replay", TWO_MET, LOSING, LOSING_REPORT, 4096, 2, 1),
+        ("ideal", TWO_ROUTERS, ONE_PACKET, ONE_FATE, 7, 24, 16),
     ] {
         let script = format!(in rt.alloc(); "{network}{events}")?;
-        let words = ["replay"];
         for call in 1..reads + 1 {
-            let (given, sink) = outcome(rt.alloc(), &words, script.as_str(), piece, &[call], &[])?;
+            let (given, sink) = outcome(rt.alloc(), &[word], script.as_str(), piece, &[call], &[])?;
             assert_eq!(rt; given, 3);
             assert_eq!(rt; sink.written(), b"".as_slice());
         }
         for call in 1..writes + 1 {
-            let (given, sink) = outcome(rt.alloc(), &words, script.as_str(), piece, &[], &[call])?;
+            let (given, sink) = outcome(rt.alloc(), &[word], script.as_str(), piece, &[], &[call])?;
             assert_eq!(rt; given, 4);
             assert!(rt; report.as_bytes().starts_with(sink.written()));
             assert!(rt; sink.written().len() < report.len());
         }
         let (given, sink) = outcome(
             rt.alloc(),
-            &words,
+            &[word],
             script.as_str(),
             piece,
             &[reads + 1],
@@ -277,6 +323,36 @@ fn faults_end_the_run(rt: HostRuntime) -> Result<(), Fail> {
         )?;
         assert_eq!(rt; given, 0);
         assert_eq!(rt; sink.written(), report.as_bytes());
+    }
+    Ok(())
+}
+
+/// Where nothing fails, the words and the lines of the input give the status. The commands that aren't
+/// built are usage.
+#[test]
+fn sure_runs_end_by_words_and_lines(rt: HostRuntime) -> Result<(), Fail> {
+    let rows: [(&[&str], &str, u8); 6] = [
+        (&["replay"], ONE_NODE, 0),
+        (&["ideal"], ONE_NODE, 0),
+        (&["decode", "gsmp"], "00\n", 0),
+        (&["ideal"], "tick z\n", 2),
+        (&["replay", "toml"], "", 1),
+        (&["drill", "1"], "", 1),
+    ];
+    for (texts, input, status) in rows {
+        let words = words_of(rt.alloc(), texts)?;
+        let octets = input.as_bytes().to_vec(rt.alloc())?;
+        let mut source = SureSource::new(octets, 7);
+        let mut sink = SureSink::new();
+        let mut meter = Meter::new();
+        let given = run_surely(
+            rt.alloc(),
+            words.as_slice(),
+            &mut source,
+            &mut sink,
+            &mut meter,
+        );
+        assert_eq!(rt; given, status);
     }
     Ok(())
 }
@@ -297,7 +373,14 @@ fn statuses_tell_who_failed(rt: HostRuntime) -> Result<(), Fail> {
         let octets = script.as_bytes().to_vec(rt.alloc())?;
         let mut source = MemSource::new(octets, 64, failing_reads.to_vec(rt.alloc())?);
         let mut sink = MemSink::new(rt.alloc(), piece, Vec::new(rt.alloc()))?;
-        let given = run(rt.alloc(), words.as_slice(), &mut source, &mut sink);
+        let mut meter = Meter::new();
+        let given = run(
+            rt.alloc(),
+            words.as_slice(),
+            &mut source,
+            &mut sink,
+            &mut meter,
+        );
         assert_eq!(rt; given, status);
         assert_eq!(rt; sink.written(), written.as_bytes());
     }

@@ -28,7 +28,7 @@ pub returns-in-Some : goal.returns-in-Some
 returns-in-Some c =
     let packet = c.args.packet.now in
     let is = c.in-On.ensures.hop ∙ ap (λ t. hop_of t packet) c.of.ensures in
-    goes_on c.args.topology.now (table_in c.args.tables.now) c.args.node packet c.requires.packet.has_header c.nodes-nodes.ensures.topology
+    goes_on c.args.topology.now (table_in c.args.tables.now) c.args.node packet c.requires.packet.has_header c.requires.topology
     c.in-On.port is c.in-Some.far c.in-Some.field-0-1 c.in-Some.ensures c.hop.new.packet c.in-On.ensures.hopped c.hop.ensures.packet
 
 pub returns-in-None : goal.returns-in-None

@@ -1,11 +1,25 @@
-use Rattle.std.proofs.Common.{◌≡◌, ◌+◌, ◌++◌, ◌∙◌, Ok, length, ap, arith}
+use Rattle.std.proofs.Common.{◌≡◌, ◌+◌, ◌++◌, ◌∙◌, Ok, length, sym, ap, subst, arith}
+use Rattle.world_model.specs.Conditions.{IsTopology}
 use Rattle.world_model.specs.Topology.{Topology}
 use Rattle.script_model.specs.Reading.{state_after}
 use Rattle.script_model.specs.Reports.{record_lines}
 use Rattle.script_model.specs.State.{ScriptState}
 use Rattle.ideal_fates.specs.Told.{after_line, records_of}
+use Rattle.ideal_fates.proofs.Following.{is_made}
 use Rattle.ideal_fates.proofs.Reading.{line_more, refused_more, follows_more, octets_more, lines_more}
 use Rattle.ideal_fates.proofs.lines.read_lines.Goals as goal
+
+pub take-requires-clause-topology : goal.take-requires-clause-topology
+take-requires-clause-topology c =
+    let state = c.loop-rest.state in
+    let line = c.split_line.result.0.now in
+    let said = c.in-Ok.said in
+    let all = c.split_line.ensures.all in
+    let some = c.split_line.ensures.some in
+    let kept = c.loop-rest.invariant in
+    let is : c.read_line.new.state ≡ state_after state line (Ok said) = c.in-Ok.ensures.after (omega (arith, kept.room, kept.lines, all, some), omega (arith, kept.room, kept.lines, all, some)) in
+    subst IsTopology (sym (c.topology.ensures ∙ ap (λ (s : ScriptState). s.topology) is))
+    (is_made state c.loop-rest.fates line said kept.follows c.in-Ok.ensures.sayable)
 
 pub loop-rest-preserved : goal.loop-rest-preserved
 loop-rest-preserved c =

@@ -1,0 +1,38 @@
+-- What the words of the command line ask for
+
+use Rattle.std.specs.Prelude.{◌≡◌, ℕ, List, codes, Option, None, Some}
+use Rattle.message_text.specs.declared.protocol.Protocol.TheVariants.{Ifmp, Gsmp}
+use Rattle.command_line.specs.declared.command.Command.{Command}
+use Rattle.command_line.specs.declared.command.Command.TheVariants as command
+use Rattle.command_line.specs.Commands.{AskFor}
+use Rattle.ipswitch.specs.declared.task.Task.{Task}
+use Rattle.ipswitch.specs.declared.task.Task.TheVariants.{Replay, Whole}
+use Rattle.ipswitch.specs.declared.task.Whole.TheVariants.{Ideal, Decode}
+
+-- what a command does; `replay toml` and `drill` aren't built
+abbrev pub task_of : Command → Option Task
+task_of command.Replay = Some Replay
+task_of command.ReplayToml = None
+task_of command.Ideal = Some (Whole Ideal)
+task_of command.DecodeIfmp = Some (Whole (Decode Ifmp))
+task_of command.DecodeGsmp = Some (Whole (Decode Gsmp))
+task_of (command.Drill number) = None
+
+-- the words are those of a command that does this
+pub record AskForTask (words : List (List ℕ)) (task : Task) : Type 0 where
+  pub command : Command
+  pub asked : AskFor words command
+  pub is_built : task_of command ≡ Some task
+
+-- they are no command's, or those of one that isn't built
+abbrev pub AskForNone : (words : List (List ℕ)) → Type 0
+AskForNone words = (task : Task) → AskForTask words task → ⊥
+
+-- what is written then
+abbrev pub usage_line : List ℕ
+usage_line = codes "usage: ipswitch replay|replay toml|ideal|decode ifmp|decode gsmp|drill N\n"
+
+-- *What is read of words*: the task that they ask for, and none exactly where they ask for none
+pub record IsTaskOf (words : List (List ℕ)) (found : Option Task) : Type 0 where
+  pub asked : (task : Task) → found ≡ Some task → AskForTask words task
+  pub all : (task : Task) → AskForTask words task → found ≡ Some task

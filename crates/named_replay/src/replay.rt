@@ -1,0 +1,35 @@
+//! From a source to a sink.
+
+ghost use Rattle.std.specs.Prelude.{◌≡◌, ℕ, List, Some, is_some, IfOk, IfErr};
+ghost use Rattle.lab_io.specs.Fault.{count_after};
+ghost use Rattle.script_model.specs.Script.{script_of};
+ghost use Rattle.world_model.specs.Topology.{policy_of};
+ghost use Rattle.script_replay.specs.Faults.{is_read_fault, is_write_fault};
+ghost use Rattle.script_replay.specs.Report.{IsDone, IsLeft};
+
+use crate::choice::{ByName, NamedController};
+use lab_io::{Sink, Source};
+use script_replay::{ReplayFault, replay};
+use std::alloc::Global;
+use world::Meter;
+
+/// Replays the script that `source` gives, reading it line by line, and writes its report to `sink` as it
+/// grows. Tells whether a line of it is refused: then nothing behind that line is read. The first fault
+/// ends the replay; after want of memory what is held of the report is still written. The meter counts
+/// the events, and is as it was where there is none.
+pub fn replay_script<S: Source, K: Sink>(
+    alloc: Global,
+    source: &mut S,
+    sink: &mut K,
+    meter: &mut Meter,
+) -> Result<bool, ReplayFault>
+    ensures done { IfOk result (IsDone policy_of (S.left source.old) (S.left source.new) (K.written sink.old) (K.written sink.new) meter.old meter.new) }
+    ensures complete { IfOk result (λ refused. (input : List ℕ) → S.left source.old ≡ Some input → refused ≡ is_some (script_of input).refused) }
+
+    // A fault is told, and what it leaves is a front of the report.
+    ensures left { IfErr result (λ fault. IsLeft fault policy_of (S.left source.old) (S.left source.new) (K.written sink.old) (K.written sink.new)) }
+    ensures read { S.faults source.new ≡ count_after (is_read_fault result) (S.faults source.old) }
+    ensures write { K.faults sink.new ≡ count_after (is_write_fault result) (K.faults sink.old) }
+{
+    replay::<NamedController, ByName, S, K>(alloc, &ByName, source, sink, meter)
+}

@@ -1,0 +1,65 @@
+-- a replay begins
+
+use Rattle.std.proofs.Common.{◌≡◌, ℕ, ◌<◌, ◌≤◌, List, [], Option, None, Some, refl, sym, ◌∙◌, ap, subst, arith, append-nil, length}
+use Rattle.std.specs.Io.KnownBytes.{Appends, Consumes}
+use Rattle.lab_io.specs.Report.{Writer}
+use Rattle.lab_text.specs.Line.{input_limit}
+use Rattle.port_model.specs.Setup.{Policy}
+use Rattle.controller_model.specs.Controller.{Controller}
+use Rattle.world_model.specs.Topology.{Topology}
+use Rattle.script_model.specs.Reading.{line_says}
+use Rattle.script_model.specs.State.{ScriptState}
+use Rattle.world.specs.declared.counts.Meter.{Meter}
+use Rattle.network_run.specs.Telling.{StaysWithin}
+use Rattle.network_replay.specs.Along.{IsGoing}
+use Rattle.network_replay.proofs.Course.{along_first}
+use Rattle.script_replay.specs.declared.script_run.ScriptRun.{ScriptRun}
+use Rattle.script_replay.specs.Report.{IsFront, in_lines}
+use Rattle.script_replay.specs.Reading.{IsAtLine, IsBegun, IsCounted}
+
+none_lost : (left : Option (List ℕ)) → Consumes left left []
+none_lost None = tt
+none_lost (Some xs) = refl
+
+none_put : (written : Option (List ℕ)) → Appends written written []
+none_put None = tt
+none_put (Some xs) = sym (append-nil xs)
+
+-- nothing was read, and nothing written
+pub nothing_told : (choice : Topology → Policy) (left written : Option (List ℕ)) → IsFront choice left left written written
+nothing_told choice left written = in_lines [] [] (record { read = none_lost left; lines = λ others is. refl }) (record { count = 0; within = omega arith; appended = none_put written })
+
+module _ {C : Type 0} (seen : C → Controller) (choice : Topology → Policy) (run : ScriptRun C) (b : IsBegun run) where
+  pub begun_line : (left written : Option (List ℕ)) (meter : Meter) → IsAtLine seen choice run.writer written meter left run left written meter
+  begun_line left written meter = record {
+    lines = [];
+    given = [];
+    read = subst (Consumes left left) (sym b.held) (none_lost left);
+    split = λ others. refl;
+    size = sym b.given;
+    ended = λ is. absurd (b.is_open is);
+    along = along_first seen choice line_says run.writer written meter run.replay b.replay.state b.replay.notes b.replay.world;
+  }
+
+  pub begun_going : Meter → IsGoing seen choice run.replay
+  begun_going meter =
+      let along = along_first seen choice line_says run.writer None meter run.replay b.replay.state b.replay.notes b.replay.world in
+      record { events = along.events; network = along.network }
+
+  pub begun_counted : IsCounted run
+  begun_counted = record {
+    octets = ap (λ (s : ScriptState). s.octets) b.replay.state ∙ sym b.given;
+    lines = (let none : run.replay.state.lines ≡ 0 = ap (λ (s : ScriptState). s.lines) b.replay.state in omega (arith, none));
+    low = subst (λ n. n < input_limit) (sym b.given) (omega arith);
+  }
+
+  pub begun_bare : run.writer.held ≡ []
+  begun_bare = ap (λ (w : Writer). w.held) b.writer
+
+  pub begun_few : (later : Writer) → StaysWithin run.writer later → length later.held ≤ 65536
+  begun_few later s =
+      let held : length run.writer.held ≡ 0 = ap (λ (w : Writer). length w.held) b.writer in
+      let room : run.writer.room ≡ 65536 = ap (λ (w : Writer). w.room) b.writer in
+      let low : length run.writer.held ≤ run.writer.room = omega (arith, held) in
+      let high : length later.held ≤ later.room = s.bound low in
+      omega (arith, high, s.room, room)

@@ -1,0 +1,6 @@
+pub mod InputLines
+pub mod InputScripts
+pub mod Outcomes
+pub mod Beginning
+pub mod Advancing
+pub mod Finishing
