@@ -14,12 +14,12 @@ use Rattle.world_model.specs.Conditions.{IsTopology}
 use Rattle.world_model.specs.World.{World, Site, site_key, site_at, with_site}
 use Rattle.world_model.specs.Places.{queue_at}
 use Rattle.cell_lists.proofs.Real.{AreApart, IsReal, real_alike}
-use Rattle.causes.specs.Feeding.{IsLed}
+use Rattle.causes.specs.Feeding.{IsLed, branch_at}
 use Rattle.causes.proofs.Spots.{Spot, same_spot, yields, home, down, up}
 use Rattle.causes.proofs.Ends.{has_cells, chain_in}
 use Rattle.causes.proofs.Phase.{seen, seen_keeps, down_here, Phase, State, Collides}
 use Rattle.causes.proofs.Shown.{Inlet, inlet_of}
-use Rattle.causes.proofs.Parts.{shown, LedBy, leads_from, shown_quiet, branch_at, parts_of}
+use Rattle.causes.proofs.Parts.{shown, LedBy, leads_from, shown_quiet, parts_of}
 use Rattle.causes.proofs.Sites.{acted_cells, acted_end}
 
 module _ (t : Topology) (is : IsTopology t) (w : World) (n : NodeId) (old : Site) (found : site_at w n ≡ Some old)

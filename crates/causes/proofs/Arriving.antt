@@ -33,13 +33,13 @@ use Rattle.port_facts.proofs.Keyed.{by_eq}
 use Rattle.cell_lists.proofs.Taking.{Adds, adds_then, adds_others, stretch_after}
 use Rattle.cell_lists.proofs.Net.{Takes as TakesEnd}
 use Rattle.cell_lists.proofs.Real.{AreApart, IsReal, TakesReal, real_takes, real_grown, real_alike, chain_is_stretch, no_stretch}
-use Rattle.causes.specs.Feeding.{IsLed}
+use Rattle.causes.specs.Feeding.{IsLed, branch_at}
 use Rattle.causes.proofs.Rules.{IsNamed, opened_frame_kept}
 use Rattle.causes.proofs.Spots.{Spot, same_spot, yields, home, up, channels_apart, channel_self}
 use Rattle.causes.proofs.Ends.{has_cells, chain_in, open_in, end_for, nothing_is, taken_chain}
 use Rattle.causes.proofs.Phase.{Seen, seen, seen_cells, seen_end, up_here, picked, picked_cases, Phase, phase_kept}
 use Rattle.causes.proofs.Branching.{grown_none}
-use Rattle.causes.proofs.Parts.{takers_of, controller_end, shown, shown_apart, branch_at, parts_of}
+use Rattle.causes.proofs.Parts.{takers_of, controller_end, shown, shown_apart, parts_of}
 use Rattle.causes.proofs.Sites.{site_here, site_away, site_like}
 use Rattle.causes.proofs.Turning.{stretch_at, stretches, if_open, reassembly_is, cut_or_not, no_cut, turns_with, turns_without, turns_untaken, same_left, taken_ends}
 use Rattle.causes.proofs.Acting.{acted_world, Leaves, leaves}

@@ -31,11 +31,11 @@ use Rattle.cell_lists.specs.Causes.{is_cause_of}
 use Rattle.cell_lists.proofs.Lists.{any_back}
 use Rattle.cell_lists.proofs.Net.{HasCut}
 use Rattle.cell_lists.proofs.Real.{AreApart, AreQuiet, IsReal, real_grown, real_alike, real_ends, real_leads}
-use Rattle.causes.specs.Feeding.{Found, IsLed}
+use Rattle.causes.specs.Feeding.{Found, IsLed, branch_at}
 use Rattle.causes.proofs.Spots.{Spot, same_spot, yields, home}
 use Rattle.causes.proofs.Phase.{GrownBy, grown_by}
 use Rattle.causes.proofs.Shown.{Inlet, inlet_of, spot_of, spot_is, inlet_is, out_spot, led}
-use Rattle.causes.proofs.Parts.{shown, shown_apart, shown_quiet, branch_at, parts_of}
+use Rattle.causes.proofs.Parts.{shown, shown_apart, shown_quiet, parts_of}
 use Rattle.causes.proofs.Maps.{same_input, insert_here, insert_away, remove_here, remove_away}
 use Rattle.causes.proofs.Switching.{end_by_inlet, world_with, here_with, away_with, look_here, end_like, end_but, cells_like}
 

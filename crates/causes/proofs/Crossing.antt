@@ -33,12 +33,12 @@ use Rattle.world_model.proofs.Lists.{length_set}
 use Rattle.port_facts.proofs.Keyed.{by_eq}
 use Rattle.run_model.specs.Causes.{is_broken}
 use Rattle.cell_lists.proofs.Real.{IsReal, real_over}
-use Rattle.causes.specs.Feeding.{IsLed}
+use Rattle.causes.specs.Feeding.{IsLed, branch_at}
 use Rattle.causes.proofs.Spots.{Spot, same_spot, yields, home, up, out}
 use Rattle.causes.proofs.Phase.{GrownBy}
 use Rattle.causes.proofs.Branching.{grown_none}
 use Rattle.causes.proofs.Shown.{Inlet, far_inlet, inlet_of, spot_is, out_spot, led, peer_back}
-use Rattle.causes.proofs.Parts.{shown, shown_apart, branch_at, parts_of}
+use Rattle.causes.proofs.Parts.{shown, shown_apart, parts_of}
 use Rattle.causes.proofs.Maps.{insert_here, insert_away}
 use Rattle.causes.proofs.Turning.{stretches}
 use Rattle.causes.proofs.Switching.{end_by_inlet, world_with, look_here, end_but, sent_here, sent_away}

@@ -18,9 +18,9 @@ use Rattle.world_model.specs.Ways.{on_channel}
 use Rattle.world_model.proofs.Lists.{at_key}
 use Rattle.port_facts.proofs.Keyed.{by_eq}
 use Rattle.cell_lists.proofs.Real.{IsReal, real_alike}
-use Rattle.causes.specs.Feeding.{IsLed}
+use Rattle.causes.specs.Feeding.{IsLed, branch_at}
 use Rattle.causes.proofs.Spots.{Spot, same_spot, yields, home}
-use Rattle.causes.proofs.Parts.{Takers, takers_of, controller_end, shown, shown_cells, shown_end, branch_at, parts_of}
+use Rattle.causes.proofs.Parts.{Takers, takers_of, controller_end, shown, shown_cells, shown_end, parts_of}
 use Rattle.causes.proofs.Sites.{site_here, site_away, site_like}
 use Rattle.causes.proofs.Switching.{world_with, here_with, away_with}
 use Rattle.causes.proofs.Branching.{led_less}

@@ -32,10 +32,10 @@ use Rattle.world_model.specs.Stretches.{Taker, OfController, OfSwitch, at_switch
 use Rattle.cell_lists.proofs.Taking.{Adds, adds_then, adds_others, stretch_after}
 use Rattle.cell_lists.proofs.Net.{Takes as TakesEnd}
 use Rattle.cell_lists.proofs.Real.{IsReal, TakesReal, real_takes, real_grown, real_alike, chain_is_stretch}
-use Rattle.causes.specs.Feeding.{IsLed}
+use Rattle.causes.specs.Feeding.{IsLed, branch_at}
 use Rattle.causes.proofs.Spots.{Spot, same_spot, yields, home, down, channels_are}
 use Rattle.causes.proofs.Phase.{picked, picked_cases}
-use Rattle.causes.proofs.Parts.{switch_end, shown, branch_at, parts_of}
+use Rattle.causes.proofs.Parts.{switch_end, shown, parts_of}
 use Rattle.causes.proofs.Sites.{site_here}
 use Rattle.causes.proofs.Turning.{stretch_at, stretches, no_cut, turns_with, turns_without, same_left, taken_ends}
 use Rattle.causes.proofs.Switching.{world_with, gsmp_end, end_like, cells_like}

@@ -51,13 +51,13 @@ use Rattle.cell_lists.specs.Causes.{bare}
 use Rattle.cell_lists.proofs.Frames.{IsWhole, whole_frame}
 use Rattle.cell_lists.proofs.Net.{Leads}
 use Rattle.cell_lists.proofs.Real.{real_sends, real_grown}
-use Rattle.causes.specs.Feeding.{IsLed}
+use Rattle.causes.specs.Feeding.{IsLed, branch_at}
 use Rattle.causes.proofs.Sizes.{HasLength, HasName, rows_length, decoded_names}
 use Rattle.causes.proofs.Rules.{IsNamed, AnswersNamed, received_named, saying_length}
 use Rattle.causes.proofs.Spots.{Spot, same_spot, yields, home, up, IsOn, frame_on}
 use Rattle.causes.proofs.Phase.{GrownBy, grown_by}
 use Rattle.causes.proofs.Shown.{out_spot}
-use Rattle.causes.proofs.Parts.{LedBy, leads_from, one_output, shown, branch_at, parts_of}
+use Rattle.causes.proofs.Parts.{LedBy, leads_from, one_output, shown, parts_of}
 use Rattle.causes.proofs.Switching.{world_with, sent_here, sent_away, end_like}
 use Rattle.causes.proofs.Branching.{State, Changes, all_led, grown_more, state_alike, requested_state}
 

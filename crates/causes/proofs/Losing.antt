@@ -32,11 +32,11 @@ use Rattle.run_model.specs.Causes.{is_broken}
 use Rattle.cell_lists.specs.Causes.{has_cause, is_cause_of}
 use Rattle.cell_lists.proofs.Lists.{any_back}
 use Rattle.cell_lists.proofs.Real.{IsReal, real_grown, real_alike, real_loses}
-use Rattle.causes.specs.Feeding.{Found, IsLed}
+use Rattle.causes.specs.Feeding.{Found, IsLed, branch_at}
 use Rattle.causes.proofs.Spots.{Spot, same_spot, yields, home}
 use Rattle.causes.proofs.Ends.{has_cells, chain_in, open_in}
 use Rattle.causes.proofs.Phase.{GrownBy}
-use Rattle.causes.proofs.Parts.{Takers, takers_of, shown, branch_at, parts_of}
+use Rattle.causes.proofs.Parts.{Takers, takers_of, shown, parts_of}
 use Rattle.causes.proofs.Sites.{site_here, site_away, site_like}
 use Rattle.causes.proofs.Turning.{stretch_at, stretches, if_open, reassembly_is, no_cut, turns_without}
 use Rattle.causes.proofs.Following.{Flows, IsKnown, Known, quiet, After, Follows}

@@ -33,13 +33,14 @@ use Rattle.world_model.specs.Places.{AreShaped, queue_in, queue_at}
 use Rattle.world_model.specs.Stretches.{Taker}
 use Rattle.world_model.specs.Ways.{on_channel}
 use Rattle.world_model.proofs.Opening.{opened_is_shaped}
-use Rattle.port_facts.proofs.Keyed.{by_eq}
+use Rattle.port_facts.proofs.Keyed.{by_eq, at_every}
 use Rattle.cell_lists.proofs.Taking.{taker_new}
 use Rattle.cell_lists.proofs.Net.{End, Takes, Leads, Nowhere, Closed, Line, IsEnd}
+use Rattle.causes.specs.Feeding.{branch_at}
 use Rattle.causes.proofs.Spots.{Spot, same_spot}
 use Rattle.causes.proofs.Ends.{chain_in, chain_at, label_chain, open_in, end_for}
 use Rattle.causes.proofs.Shown.{Inlet, led, led_by, inlet_at}
-use Rattle.causes.proofs.Parts.{takers_of, parts_of, shown, shown_at, switch_end, controller_end, branch_at}
+use Rattle.causes.proofs.Parts.{takers_of, parts_of, shown, shown_at, switch_end, controller_end}
 use Rattle.causes.proofs.Turning.{stretches, stretch_at}
 use Rattle.causes.proofs.Following.{Flows, IsKnown, Known}
 use Rattle.causes.proofs.Events.{HasNodes}
@@ -110,14 +111,6 @@ fresh_each policy t w place [] all = all
 fresh_each policy t w place (node ∷ nodes) all =
     fresh_each policy t (with_opened policy t w place node) (suc place) nodes (every_join IsFresh w.sites (opened_site policy t (record { 0 = place }) node w.numbers ∷ []) all (opened_fresh policy t (record { 0 = place }) node w.numbers, tt))
 
-every_at : (P : Site → Type 0) (k : ℕ) (sites : List Site) (site : Site) → Every P sites → at site_key k sites ≡ Some site → P site
-every_at P k [] site all e = absurd (cc e)
-every_at P k (x ∷ sites) site all e = by (nat_eq (site_key x) k) e (every_at P k sites site all.1)
-  where
-    by : (v : Bool) → (if v then Some x else at site_key k sites) ≡ Some site → (at site_key k sites ≡ Some site → P site) → P site
-    by true e later = (let same : x ≡ site = cc in subst P same all.0)
-    by false e later = later e
-
 -- *The nodes*
 count_each : (policy : Policy) (t : Topology) (w : World) (place : ℕ) (nodes : List Node) → length (opens_each policy t w place nodes).sites ≡ length w.sites + length nodes
 count_each policy t w place [] = omega arith
@@ -140,7 +133,7 @@ pub opened_nodes : (policy : Policy) (t : Topology) → HasNodes t (opened polic
 opened_nodes policy t n at = found_shaped 1 (opened policy t).sites n.0 (opened_is_shaped policy t) at.0 (omega (arith, at.1, count_each policy t empty_world 1 t.nodes))
 
 pub opened_known : (policy : Policy) (t : Topology) → Known (opened policy t)
-opened_known policy t n site e = (every_at IsFresh n.0 (opened policy t).sites site (fresh_each policy t empty_world 1 t.nodes tt) e).known
+opened_known policy t n site e = (at_every site_key IsFresh n.0 (opened policy t).sites site (fresh_each policy t empty_world 1 t.nodes tt) e).known
 
 -- *What is shown*
 module _ (policy : Policy) (t : Topology) where
@@ -148,7 +141,7 @@ module _ (policy : Policy) (t : Topology) where
   w = opened policy t
 
   fresh_at : (n : NodeId) (site : Site) → site_at w n ≡ Some site → IsFresh site
-  fresh_at n site e = every_at IsFresh n.0 w.sites site (fresh_each policy t empty_world 1 t.nodes tt) e
+  fresh_at n site e = at_every site_key IsFresh n.0 w.sites site (fresh_each policy t empty_world 1 t.nodes tt) e
 
   -- of what is found of a site
   at_site : (P : Option Site → Type 0) (n : NodeId) → P None → ((site : Site) → IsFresh site → P (Some site)) → P (site_at w n)

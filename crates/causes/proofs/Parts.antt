@@ -2,8 +2,7 @@
 
 use Rattle.std.proofs.Common.{◌≡◌, ◌≢◌, ℕ, Bool, true, false, true≢false, List, [], Option, None, Some, refl, sym, ◌∙◌, ap, ap₂, subst, arith, if◌then◌else◌}
 use Rattle.std.specs.Prelude.{◌==◌, ◌||◌}
-use Rattle.std.specs.Option.{option_map, option_and_then}
-use Rattle.std.specs.FinMap.{get}
+use Rattle.std.specs.Option.{option_map}
 use Rattle.std.proofs.lemmas.Bool.Decides.{nat_tests}
 use Rattle.net_types.specs.declared.node.NodeId.{NodeId}
 use Rattle.net_types.specs.declared.node.PortNo.{PortNo}
@@ -26,7 +25,7 @@ use Rattle.world_model.specs.Places.{queue_at}
 use Rattle.world_model.specs.Ways.{on_channel}
 use Rattle.cell_lists.proofs.Net.{End, Takes, Leads, Nowhere}
 use Rattle.cell_lists.proofs.Real.{AreApart, AreQuiet}
-use Rattle.causes.specs.Feeding.{IsLed}
+use Rattle.causes.specs.Feeding.{IsLed, branch_at}
 use Rattle.causes.proofs.Spots.{Spot, same_spot, yields, home, down, up, out, channels_are}
 use Rattle.causes.proofs.Ends.{end_in, open_in, chain_in, has_cells}
 use Rattle.causes.proofs.Phase.{Seen, end_or}
@@ -241,9 +240,6 @@ module _ (t : Topology) (is : IsTopology t) where
         ∙ across.1
 
 -- *The parts of a world*
-abbrev pub branch_at : World → Look
-branch_at w n e = option_and_then (λ (site : Site). get site.switch.crossbar.branches e) (site_at w n)
-
 abbrev pub takers_of : Controller → Takers
 takers_of c = record { reassembly = c.reassembly; ports = c.ports }
 
@@ -254,6 +250,3 @@ parts_of w = record {
   gsmp = λ n. option_map (λ (site : Site). site.switch.reassembly) (site_at w n);
   takers = λ n. option_map takers_of (controller_at w n);
 }
-
-abbrev pub IsFedOnce : World → Type 0
-IsFedOnce w = (n : NodeId) → IsLed (branch_at w n) (queue_at w (Down n))

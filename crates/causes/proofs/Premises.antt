@@ -2,16 +2,13 @@
 
 use Rattle.std.proofs.Common.{◌≡◌, true, Some}
 use Rattle.net_types.specs.declared.node.NodeId.{NodeId}
-use Rattle.net_types.specs.declared.node.Place.TheVariants.{Down}
 use Rattle.net_types.specs.declared.channel.Channel.{Channel}
 use Rattle.controller_model.specs.Controller.{Controller}
 use Rattle.world_model.specs.World.{World, controller_at}
-use Rattle.world_model.specs.Places.{queue_at}
-use Rattle.causes.specs.Feeding.{IsLed}
+use Rattle.causes.specs.Feeding.{IsFedOnce}
 use Rattle.causes.proofs.Ends.{has_cells, chain_in, open_in}
-use Rattle.causes.proofs.Parts.{branch_at}
 
 -- each list is fed by one other at most, and a channel of a controller that has cells or skips is taken
 pub record IsOrderly (w : World) : Type 0 where
-  pub fed : (n : NodeId) → IsLed (branch_at w n) (queue_at w (Down n))
+  pub fed : IsFedOnce w
   pub taken : (n : NodeId) (c : Controller) → controller_at w n ≡ Some c → (channel : Channel) → has_cells (chain_in c.reassembly c.ports channel) ≡ true → open_in c.ports channel ≡ true

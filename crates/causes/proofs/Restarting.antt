@@ -36,12 +36,12 @@ use Rattle.ordered_lists.proofs.Every.{every_map}
 use Rattle.cell_lists.proofs.Taking.{cut_grows}
 use Rattle.cell_lists.proofs.Net.{Takes}
 use Rattle.cell_lists.proofs.Real.{IsReal, real_cuts, real_alike, no_stretch}
-use Rattle.causes.specs.Feeding.{IsLed}
+use Rattle.causes.specs.Feeding.{IsLed, branch_at}
 use Rattle.causes.proofs.Rules.{ticked_named}
 use Rattle.causes.proofs.Spots.{Spot, same_spot, yields, home, down, channels_are}
 use Rattle.causes.proofs.Ends.{nothing_is}
 use Rattle.causes.proofs.Phase.{picked, picked_cases, GrownBy, grown_by}
-use Rattle.causes.proofs.Parts.{switch_end, shown, branch_at, parts_of}
+use Rattle.causes.proofs.Parts.{switch_end, shown, parts_of}
 use Rattle.causes.proofs.Turning.{stretch_at, stretches, cut_or_not, no_cut, turns_without}
 use Rattle.causes.proofs.Switching.{world_with, gsmp_end, end_like, cells_like}
 use Rattle.causes.proofs.Branching.{Changes, grown_none, ends_all}

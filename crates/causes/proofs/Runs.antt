@@ -42,9 +42,9 @@ use Rattle.world_model.specs.Causes.{HasCause, HasCauses}
 use Rattle.world_model.specs.Headline.{is_wild, IsTame, IsRun}
 use Rattle.cell_lists.specs.Causes.{is_cause_of, has_cause}
 use Rattle.cell_lists.proofs.Law.{AtPlace, adds_at}
-use Rattle.causes.specs.Orderly.{IsInOrder}
+use Rattle.causes.specs.Feeding.{IsFedOnce}
 use Rattle.causes.proofs.Premises.{IsOrderly}
-use Rattle.causes.proofs.Gathered.{in_order}
+use Rattle.causes.proofs.Gathered.{gathers_in_runs, in_order}
 use Rattle.causes.proofs.Following.{Flows, Known, After, AddsAt, quiet, beside, Follows}
 use Rattle.causes.proofs.Events.{HasNodes, IsTrue, event_follows, event_nodes}
 use Rattle.causes.proofs.Opening.{opened_nodes, opened_known, opened_flows}
@@ -241,11 +241,11 @@ any_none test (x ∷ xs) ys e = by (test x) e (any_none test xs ys)
     by true e rest = absurd (cc e)
     by false e rest = rest e
 
-records_then : (w : World) (worlds : List World) → IsTame (records_of (w ∷ worlds)) → IsTame w.notes.records × IsTame (records_of worlds)
+pub records_then : (w : World) (worlds : List World) → IsTame (records_of (w ∷ worlds)) → IsTame w.notes.records × IsTame (records_of worlds)
 records_then w worlds tame =
     any_none is_wild w.notes.records (records_of worlds) (sym (ap (list_any is_wild) (flat_map-cons (λ (x : World). x.notes.records) w worlds)) ∙ tame)
 
-first_tame : (t : Topology) (w : World) (events : List Event) → IsTame (records_of (worlds_from t w events)) → IsTame w.notes.records
+pub first_tame : (t : Topology) (w : World) (events : List Event) → IsTame (records_of (worlds_from t w events)) → IsTame w.notes.records
 first_tame t w [] tame = (records_then w [] tame).0
 first_tame t w (event ∷ events) tame = (records_then w (worlds_from t (next t w event) events) tame).0
 
@@ -255,12 +255,15 @@ after_one t w [] event = refl
 after_one t w (first ∷ before) event = after_one t (next t w first) before event
 
 module _ (policy : Policy) (t : Topology) (events : List Event) (run_is : IsRun policy t events)
-    (ordered : (before after : List Event) → events ≡ before ++ after → IsInOrder (world_after t (opened policy t) before)) where
+    (fed : (before after : List Event) → events ≡ before ++ after → IsFedOnce (world_after t (opened policy t) before)) where
+  orderly : (before after : List Event) → events ≡ before ++ after → IsOrderly (world_after t (opened policy t) before)
+  orderly before after whole = in_order (world_after t (opened policy t) before) (fed before after whole) (λ n c found. gathers_in_runs policy t before n c found)
+
   steady_from : (before after : List Event) → events ≡ before ++ after → (w : World) → world_after t (opened policy t) before ≡ w → IsTame (records_of (worlds_from t w after)) → IsSteady t w after
-  steady_from before [] whole w at tame = subst IsOrderly at (in_order (world_after t (opened policy t) before) (ordered before [] whole))
+  steady_from before [] whole w at tame = subst IsOrderly at (orderly before [] whole)
   steady_from before (event ∷ after) whole w at tame =
       let rest = (records_then w (worlds_from t (next t w event) after) tame).1 in (
-        subst IsOrderly at (in_order (world_after t (opened policy t) before) (ordered before (event ∷ after) whole)),
+        subst IsOrderly at (orderly before (event ∷ after) whole),
         (
           subst (λ (x : World). IsEvent t x event) at (run_is.each before after event whole).meant,
           (
@@ -270,7 +273,7 @@ module _ (policy : Policy) (t : Topology) (events : List Event) (run_is : IsRun 
         ),
       )
 
-  -- *The law*: of every run before the first forged frame, where each of its worlds has its lists in order
+  -- *The law*: of every run before the first forged frame, where each list is fed once in each of its worlds
   pub breaks_have_causes : IsTame (records_of (run policy t events)) → HasCauses policy t events
   breaks_have_causes tame =
       let steady : IsSteady t (opened policy t) events = steady_from [] events refl (opened policy t) refl tame in

@@ -16,11 +16,12 @@ use Rattle.world_model.specs.Places.{place_node, queue_in, queue_at}
 use Rattle.world_model.specs.Ways.{on_channel}
 use Rattle.world_model.proofs.Lists.{at_put_same, at_put_other}
 use Rattle.port_facts.proofs.Keyed.{by_eq}
+use Rattle.causes.specs.Feeding.{branch_at}
 use Rattle.causes.proofs.Spots.{Spot}
 use Rattle.causes.proofs.Ends.{end_in}
 use Rattle.causes.proofs.Phase.{seen, seen_at}
 use Rattle.causes.proofs.Shown.{Inlet}
-use Rattle.causes.proofs.Parts.{shown, shown_at, shown_end, controller_end, branch_at, takers_of, parts_of}
+use Rattle.causes.proofs.Parts.{shown, shown_at, shown_end, controller_end, takers_of, parts_of}
 
 module _ (w : World) (n : NodeId) (old new : Site) (found : site_at w n ≡ Some old) (key : site_key new ≡ n.0) where
   abbrev pub changed : World

@@ -25,9 +25,10 @@ use Rattle.world_model.specs.Ways.{on_channel}
 use Rattle.world_model.proofs.Lists.{at_key, index_set, index_here}
 use Rattle.port_facts.proofs.Keyed.{by_eq}
 use Rattle.cell_lists.proofs.Net.{Takes}
+use Rattle.causes.specs.Feeding.{branch_at}
 use Rattle.causes.proofs.Spots.{Spot, down, up, out, IsOn, on_join, on_all, on_none}
 use Rattle.causes.proofs.Shown.{Inlet, inlet_at, inlet_of, out_spot, led, led_by}
-use Rattle.causes.proofs.Parts.{zero_is, not_zero_is, up_of, out_of, takers_of, controller_end, switch_end, shown, shown_at, shown_end, branch_at, parts_of}
+use Rattle.causes.proofs.Parts.{zero_is, not_zero_is, up_of, out_of, takers_of, controller_end, switch_end, shown, shown_at, shown_end, parts_of}
 use Rattle.causes.proofs.Sites.{site_here, site_away}
 
 -- what takes a list whose cells come in at a switch

@@ -1,10 +1,16 @@
 -- How the branches of a node's switch lead, where each list of cells is fed by one other at most
 
 use Rattle.std.specs.Prelude.{◌≡◌, ◌≢◌, ◌≤◌, List, [], Option, Some}
+use Rattle.std.specs.FinMap.{get}
+use Rattle.std.specs.Option.{option_and_then}
+use Rattle.net_types.specs.declared.node.NodeId.{NodeId}
+use Rattle.net_types.specs.declared.node.Place.TheVariants.{Down}
 use Rattle.net_types.specs.declared.channel.End.{End}
 use Rattle.atm_cells.specs.declared.cell.Cell.{Cell}
 use Rattle.crossbar_model.specs.declared.branch.Branch.{Branch}
 use Rattle.port_model.specs.Setup.{home_of}
+use Rattle.world_model.specs.World.{World, Site, site_at}
+use Rattle.world_model.specs.Places.{queue_at}
 use Rattle.world_model.specs.Ways.{on_channel}
 
 -- what is found on the inputs of a switch
@@ -23,3 +29,10 @@ pub record IsLed (found : Found) (queue : List Cell) : Type 0 where
       → (branch.output.port.0 ≤ 8) × (on_channel (home_of branch.output).channel queue ≡ [])
   pub once : (one other : End) (first second : Branch) → found one ≡ Some first → found other ≡ Some second
       → one.port.0 ≢ 0 → other.port.0 ≢ 0 → first.output ≡ second.output → one ≡ other
+
+-- at each node of a world
+abbrev pub branch_at : World → NodeId → Found
+branch_at w node end = option_and_then (λ (site : Site). get site.switch.crossbar.branches end) (site_at w node)
+
+abbrev pub IsFedOnce : World → Type 0
+IsFedOnce w = (node : NodeId) → IsLed (branch_at w node) (queue_at w (Down node))

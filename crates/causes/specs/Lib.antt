@@ -1,2 +1,2 @@
 pub mod Feeding
-pub mod Orderly
+pub mod Law

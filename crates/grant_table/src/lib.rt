@@ -7,8 +7,6 @@ mod grants;
 mod held;
 mod laws;
 mod table;
-#[cfg(test)]
-mod tests;
 
 pub use laws::tables_are_the_ports;
 pub use table::{AcceptFault, Accepted, GrantState, GrantTable, GrantView};

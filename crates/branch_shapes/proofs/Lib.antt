@@ -1,0 +1,5 @@
+pub mod Asked
+pub mod Kept
+pub mod Chance
+pub mod Sites
+pub mod Runs
