@@ -16,9 +16,9 @@ use Rattle.controller_views.specs.Queues.{carried, crossed, awaited, Outcome, pu
 use Rattle.controller_views.proofs.Parts.{both}
 
 -- *Moves on a way*
-record Moved (line after : Line) : Type 0 where
-  moves : List Move
-  is : run line moves ≡ after
+pub record Moved (line after : Line) : Type 0 where
+  pub moves : List Move
+  pub is : run line moves ≡ after
 
 -- what stands in front of the sender's switch and behind it; on the link and in front of the receiver
 abbrev pub with_out : Role → (switch output : List lines.Cell) → Line → Line
@@ -61,11 +61,11 @@ still_link Upstream line ts e = record { moves = []; is = ap (λ (z : List lines
 abbrev pub with_waiting : Role → List lines.Cell → Line → Line
 with_waiting role waiting line = with_way role line (record (way_to role line) { to_controller = waiting })
 
-lost_waiting : (role : Role) (line : Line) (t : lines.Cell) (ts : List lines.Cell) → (way_to role line).to_controller ≡ t ∷ ts → Moved line (with_waiting role ts line)
+pub lost_waiting : (role : Role) (line : Line) (t : lines.Cell) (ts : List lines.Cell) → (way_to role line).to_controller ≡ t ∷ ts → Moved line (with_waiting role ts line)
 lost_waiting Downstream line t ts e = record { moves = Lose Downstream ToController 0 ∷ []; is = ap (λ (z : List lines.Cell). record line { to_downstream = record (line.to_downstream) { to_controller = remove z 0 } }) e }
 lost_waiting Upstream line t ts e = record { moves = Lose Upstream ToController 0 ∷ []; is = ap (λ (z : List lines.Cell). record line { to_upstream = record (line.to_upstream) { to_controller = remove z 0 } }) e }
 
-still_waiting : (role : Role) (line : Line) (ts : List lines.Cell) → (way_to role line).to_controller ≡ ts → Moved line (with_waiting role ts line)
+pub still_waiting : (role : Role) (line : Line) (ts : List lines.Cell) → (way_to role line).to_controller ≡ ts → Moved line (with_waiting role ts line)
 still_waiting Downstream line ts e = record { moves = []; is = ap (λ (z : List lines.Cell). record line { to_downstream = record (line.to_downstream) { to_controller = z } }) e }
 still_waiting Upstream line ts e = record { moves = []; is = ap (λ (z : List lines.Cell). record line { to_upstream = record (line.to_upstream) { to_controller = z } }) e }
 

@@ -40,7 +40,7 @@ grow_fold f each [] a = grow_self a
 grow_fold f each (x ∷ xs) a = grow_on a (f a x) (fold f (f a x) xs) (each a x) (grow_fold f each xs (f a x))
 
 -- the same frames
-grow_same : (a b : Acted) → b.notes.frames ≡ a.notes.frames → a.numbers.instances ≤ b.numbers.instances → b.numbers.controls ≡ a.numbers.controls → Growing a b
+pub grow_same : (a b : Acted) → b.notes.frames ≡ a.notes.frames → a.numbers.instances ≤ b.numbers.instances → b.numbers.controls ≡ a.numbers.controls → Growing a b
 grow_same a b frames drawn controls u = record {
   extends = same_extends a.notes.frames b.notes.frames frames;
   instances = drawn;
@@ -87,7 +87,7 @@ asks_grow a request = on_both (Growing a) (is_estab a.controller.adjacency.state
     (sends_grow (with_desk a (asked a.controller.desk request)) default_channel
     (gsmp_octets (message_at (asked a.controller.desk request) (record { number = a.controller.desk.next; request = request })))))) (grow_self a)
 
-takes_back_grow : (a : Acted) (input output : ChannelEnd) → Growing a (takes_back a input output)
+pub takes_back_grow : (a : Acted) (input output : ChannelEnd) → Growing a (takes_back a input output)
 takes_back_grow a input output = on_both (Growing a) (is_led_home a.controller.desk input (home_of input)) a (asks a (MoveBranch input output (home_of input)))
     (grow_self a) (asks_grow a (MoveBranch input output (home_of input)))
 

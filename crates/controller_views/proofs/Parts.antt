@@ -145,25 +145,26 @@ module _ (link : LinkLabel) (like : Type 0) where
   own_end Downstream pieces a asked line n = n.end Downstream
   own_end Upstream pieces a asked line n = n.end Upstream
 
-  moved : (role : Role) (pieces : Pieces) (a b : Acted) (before after : List Action) (line : Line) → Net link like (placed role pieces a) (asking role before) line
-      → (g : EndGoes link like role a b after line) → Net link like (placed role pieces b) (asking role after) g.after
-  moved Downstream pieces a b before after line n g = record {
-    end = both (λ r. End link like r b.notes.frames b.numbers.instances ((placed Downstream pieces b).controller r) (asking Downstream after r) g.after) g.end
-        (end_kept Upstream line g.after g.grows.extends (end_drawn Downstream g.after g.end) g.rest (n.end Upstream));
-    waiting = λ r. subst (ShowsCells (OnControl (link.port r)) (other r) link b.notes.frames (pieces.waiting r)) (sym (kept_waiting Downstream r g.after line g.rest))
-        (shows_more (OnControl (link.port r)) (other r) link g.grows.extends (n.waiting r));
-    output = λ r. subst (ShowsCells OnLink r link b.notes.frames (pieces.output r)) (sym (kept_output Downstream (other r) g.after line g.rest))
-        (shows_more OnLink r link g.grows.extends (n.output r));
-    unmade = g.grows.unmade n.unmade;
+  pub moved : (role : Role) (pieces : Pieces) (a b : Acted) (before after : List Action) (line moved_on : Line) → Net link like (placed role pieces a) (asking role before) line
+      → End link like role b.notes.frames b.numbers.instances b.controller after moved_on → rest_of role moved_on ≡ rest_of role line → Grows a b
+      → Net link like (placed role pieces b) (asking role after) moved_on
+  moved Downstream pieces a b before after line moved_on n e rest grows = record {
+    end = both (λ r. End link like r b.notes.frames b.numbers.instances ((placed Downstream pieces b).controller r) (asking Downstream after r) moved_on) e
+        (end_kept Upstream line moved_on grows.extends (end_drawn Downstream moved_on e) rest (n.end Upstream));
+    waiting = λ r. subst (ShowsCells (OnControl (link.port r)) (other r) link b.notes.frames (pieces.waiting r)) (sym (kept_waiting Downstream r moved_on line rest))
+        (shows_more (OnControl (link.port r)) (other r) link grows.extends (n.waiting r));
+    output = λ r. subst (ShowsCells OnLink r link b.notes.frames (pieces.output r)) (sym (kept_output Downstream (other r) moved_on line rest))
+        (shows_more OnLink r link grows.extends (n.output r));
+    unmade = grows.unmade n.unmade;
   }
-  moved Upstream pieces a b before after line n g = record {
-    end = both (λ r. End link like r b.notes.frames b.numbers.instances ((placed Upstream pieces b).controller r) (asking Upstream after r) g.after)
-        (end_kept Downstream line g.after g.grows.extends (end_drawn Upstream g.after g.end) g.rest (n.end Downstream)) g.end;
-    waiting = λ r. subst (ShowsCells (OnControl (link.port r)) (other r) link b.notes.frames (pieces.waiting r)) (sym (kept_waiting Upstream r g.after line g.rest))
-        (shows_more (OnControl (link.port r)) (other r) link g.grows.extends (n.waiting r));
-    output = λ r. subst (ShowsCells OnLink r link b.notes.frames (pieces.output r)) (sym (kept_output Upstream (other r) g.after line g.rest))
-        (shows_more OnLink r link g.grows.extends (n.output r));
-    unmade = g.grows.unmade n.unmade;
+  moved Upstream pieces a b before after line moved_on n e rest grows = record {
+    end = both (λ r. End link like r b.notes.frames b.numbers.instances ((placed Upstream pieces b).controller r) (asking Upstream after r) moved_on)
+        (end_kept Downstream line moved_on grows.extends (end_drawn Upstream moved_on e) rest (n.end Downstream)) e;
+    waiting = λ r. subst (ShowsCells (OnControl (link.port r)) (other r) link b.notes.frames (pieces.waiting r)) (sym (kept_waiting Upstream r moved_on line rest))
+        (shows_more (OnControl (link.port r)) (other r) link grows.extends (n.waiting r));
+    output = λ r. subst (ShowsCells OnLink r link b.notes.frames (pieces.output r)) (sym (kept_output Upstream (other r) moved_on line rest))
+        (shows_more OnLink r link grows.extends (n.output r));
+    unmade = grows.unmade n.unmade;
   }
 
   -- what leads at one end leads the network
@@ -171,7 +172,7 @@ module _ (link : LinkLabel) (like : Type 0) where
       → Net link like (placed role pieces a) (asking role before) line → Goes link like (placed role pieces b) (asking role after) line
   net_goes role pieces a b before after line leads n =
       let g : EndGoes link like role a b after line = leads n.unmade line (own_end role pieces a before line n) in
-      record { moves = g.moves; after = g.after; is = g.is; net = moved role pieces a b before after line n g }
+      record { moves = g.moves; after = g.after; is = g.is; net = moved role pieces a b before after line g.after n g.end g.rest g.grows }
 
   -- *Moves lead on*
   pub end_stays : (role : Role) (a : Acted) (asked : List Action) → EndLeads link like role a asked a asked

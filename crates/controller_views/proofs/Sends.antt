@@ -1,7 +1,7 @@
 -- a controller sends: a frame is made, and stands in the queue or finds no slots; it says something to the line, or
 -- nothing
 
-use Rattle.std.proofs.Common.{◌≡◌, ◌≢◌, ℕ, ◌<◌, ◌+◌, Bool, true, false, List, [], ◌∷◌, ◌++◌, Option, None, Some, refl, sym, ◌∙◌, ap, ap₂, subst, arith, append_assoc, length, replicate, remove, zero, suc, if◌then◌else◌}
+use Rattle.std.proofs.Common.{◌≡◌, ◌≢◌, ℕ, ◌<◌, ◌≤◌, ◌+◌, Bool, true, false, List, [], ◌∷◌, ◌++◌, Option, None, Some, refl, sym, ◌∙◌, ap, ap₂, subst, arith, append_assoc, length, replicate, remove, zero, suc, if◌then◌else◌}
 use Rattle.std.specs.Prelude.{nat_le, ◌==◌, ◌&&◌}
 use Rattle.std.proofs.lemmas.Bool.Decides.{nat_tests}
 use Rattle.net_types.specs.declared.node.PortNo.{PortNo}
@@ -10,7 +10,7 @@ use Rattle.net_types.specs.declared.number.Mark.{Mark}
 use Rattle.net_types.specs.declared.channel.Channel.{Channel}
 use Rattle.net_types.specs.Channel.{channel_on_control}
 use Rattle.net_types.specs.Label.{label_channel_of, is_label_channel}
-use Rattle.net_types.specs.Number.{next_control, with_control}
+use Rattle.net_types.specs.Number.{GivenOut, next_control, with_control}
 use Rattle.atm_cells.specs.declared.cell.Cell.{Cell}
 use Rattle.ifmp_wire.specs.declared.message.Message.{Message}
 use Rattle.link_model.specs.declared.frames.Frame.{Frame}
@@ -120,10 +120,10 @@ apart_vpi a b n e = n (ap (λ (c : Channel). c.vpi) e)
 apart_vci : (a b : Channel) → a.vci ≢ b.vci → a ≢ b
 apart_vci a b n e = n (ap (λ (c : Channel). c.vci) e)
 
-label_vci : (c : Channel) → is_label_channel c ≡ true → c.vci ≢ 15
+pub label_vci : (c : Channel) → is_label_channel c ≡ true → c.vci ≢ 15
 label_vci c h = grind (arith, nat_tests, h)
 
-label_vpi : (c : Channel) → is_label_channel c ≡ true → c.vpi < 16
+pub label_vpi : (c : Channel) → is_label_channel c ≡ true → c.vpi < 16
 label_vpi c h = grind (arith, nat_tests, h)
 
 module _ (link : LinkLabel) (proper : IsProper link) (role : Role) where
@@ -148,32 +148,39 @@ module _ (link : LinkLabel) (proper : IsProper link) (role : Role) where
   port_label q c n low = apart_vpi (channel_on_control q c) (channel_at (OnControl (link.port role)) (label_channel_of link.label))
       (λ e. port_number q (link.port role) n (omega (arith, e, low, label_vpi (label_channel_of link.label) proper.label)))
 
--- *Quietly*: a control frame that shows nothing to the line
-pub sends_quietly : (link : LinkLabel) (role : Role) (a : Acted) (channel : Channel) (payload : List ℕ)
-    → ((frames : List Frame) → payload_of frames (next_control a.numbers) ≡ Some payload
-    → ShowsCells (OnControl (link.port role)) role link frames (frame_cells channel (next_control a.numbers) payload) [])
-    → Quietly link role a (sends_control a channel payload)
-sends_quietly link role a channel payload quiet =
-    sent_cases (Quietly link role a) (record a { numbers = with_control a.numbers }) channel (next_control a.numbers) payload
+-- *Quietly*: a frame that shows nothing to the line, under a mark under which nothing was made; a control frame
+pub sent_quietly : (link : LinkLabel) (role : Role) (a : Acted) (numbers : GivenOut) (channel : Channel) (mark : Mark) (payload : List ℕ)
+    → a.numbers.instances ≤ numbers.instances → (IsUnmade a.numbers.controls a.notes.frames → payload_of a.notes.frames mark ≡ None)
+    → (IsUnmade a.numbers.controls a.notes.frames → IsUnmade numbers.controls (a.notes.frames ++ record { mark = mark; payload = payload } ∷ []))
+    → ((frames : List Frame) → payload_of frames mark ≡ Some payload
+    → ShowsCells (OnControl (link.port role)) role link frames (frame_cells channel mark payload) [])
+    → Quietly link role a (sends (record a { numbers = numbers }) channel mark payload)
+sent_quietly link role a numbers channel mark payload drawn free unmade quiet =
+    sent_cases (Quietly link role a) (record a { numbers = numbers }) channel mark payload
     (record {
-      grows = λ u. record { extends = extended u; instances = omega arith; unmade = λ v. unmade_next a.numbers.controls a.notes.frames payload v };
+      grows = λ u. record { extends = extended u; instances = drawn; unmade = λ v. unmade v };
       found = refl;
       address = refl;
       queue = λ u words s. shows_behind (shows_more (OnControl (link.port role)) role link (extended u) s)
-          (quiet (made a.notes (next_control a.numbers) payload).frames (made_is a.notes.frames (next_control a.numbers) payload));
+          (quiet (made a.notes mark payload).frames (made_is a.notes.frames mark payload));
     })
     (record {
-      grows = λ u. record { extends = extended u; instances = omega arith; unmade = λ v. unmade_next a.numbers.controls a.notes.frames payload v };
+      grows = λ u. record { extends = extended u; instances = drawn; unmade = λ v. unmade v };
       found = refl;
       address = refl;
       queue = λ u words s. shows_more (OnControl (link.port role)) role link (extended u) s;
     })
   where
-    after : List Frame
-    after = a.notes.frames ++ record { mark = next_control a.numbers; payload = payload } ∷ []
+    extended : IsUnmade a.numbers.controls a.notes.frames → Extends a.notes.frames (a.notes.frames ++ record { mark = mark; payload = payload } ∷ [])
+    extended u = extends_made a.notes.frames mark payload (free u)
 
-    extended : IsUnmade a.numbers.controls a.notes.frames → Extends a.notes.frames after
-    extended u = extends_made a.notes.frames (next_control a.numbers) payload (u (a.numbers.controls + 1) (omega arith))
+pub sends_quietly : (link : LinkLabel) (role : Role) (a : Acted) (channel : Channel) (payload : List ℕ)
+    → ((frames : List Frame) → payload_of frames (next_control a.numbers) ≡ Some payload
+    → ShowsCells (OnControl (link.port role)) role link frames (frame_cells channel (next_control a.numbers) payload) [])
+    → Quietly link role a (sends_control a channel payload)
+sends_quietly link role a channel payload quiet =
+    sent_quietly link role a (with_control a.numbers) channel (next_control a.numbers) payload (omega arith) (λ u. u (a.numbers.controls + 1) (omega arith))
+    (λ u. unmade_next a.numbers.controls a.notes.frames payload u) quiet
 
 -- *A port's message* is sent
 module _ (link : LinkLabel) (like : Type 0) (role : Role) where
@@ -193,7 +200,7 @@ module _ (link : LinkLabel) (like : Type 0) (role : Role) where
       ∙ (ap (seen_packet role link last) reads ∙ told_seen address message last same own)
 
   -- what an end has sent, and the end once its queue is another
-  sent_of : (queued : List lines.Cell) (w : Work) (line : Line) (r : Role) → ShownAt r link like queued w (part_of r line)
+  pub sent_of : (queued : List lines.Cell) (w : Work) (line : Line) (r : Role) → ShownAt r link like queued w (part_of r line)
       → (way_to (other r) line).to_switch ≡ queued ++ asked_all r link.label w.actions
   sent_of queued w line Downstream s = s.sent
   sent_of queued w line Upstream s = s.sent
@@ -260,7 +267,7 @@ module _ (link : LinkLabel) (like : Type 0) (role : Role) where
       }
 
   -- by moves on the queue
-  resends_goes : (a b : Acted) (before after : List Action) (line : Line) (new : List lines.Cell) → Grows a b
+  pub resends_goes : (a b : Acted) (before after : List Action) (line : Line) (new : List lines.Cell) → Grows a b
       → linked_at b.controller (link.port role) ≡ linked_at a.controller (link.port role) → b.controller.address ≡ a.controller.address
       → ShowsCells (OnControl (link.port role)) role link b.notes.frames b.controller.queue new
       → Every (IsOwn (link.address (other role))) after → Resends (other role) line (new ++ asked_all role link.label after)
@@ -274,7 +281,7 @@ module _ (link : LinkLabel) (like : Type 0) (role : Role) where
     grows = grows;
   }
 
-  nothing_sent : (line : Line) (xs : List lines.Cell) → (way_to (other role) line).to_switch ≡ xs → Resends (other role) line xs
+  pub nothing_sent : (line : Line) (xs : List lines.Cell) → (way_to (other role) line).to_switch ≡ xs → Resends (other role) line xs
   nothing_sent line xs e = record { moves = []; is = sym (sent_same (other role) xs line e) }
 
   grows_same : (a : Acted) → Grows a a

@@ -149,7 +149,7 @@ module _ (link : LinkLabel) (proper : IsProper link) (like : Type 0) (role : Rol
       (λ k. differ (sym (at_key port_key q.0 a.controller.ports linked found) ∙ (sym (ap (λ (s : Setup). s.port.0) setup) ∙ k)))) unmade line e)
 
   -- *What is nothing to the line*: notes, the desk, numbers given out
-  quiet_same : (a b : Acted) → b.notes.frames ≡ a.notes.frames → a.numbers.instances ≤ b.numbers.instances → b.numbers.controls ≡ a.numbers.controls
+  pub quiet_same : (a b : Acted) → b.notes.frames ≡ a.notes.frames → a.numbers.instances ≤ b.numbers.instances → b.numbers.controls ≡ a.numbers.controls
       → linked_at b.controller (link.port role) ≡ linked_at a.controller (link.port role) → b.controller.address ≡ a.controller.address
       → b.controller.queue ≡ a.controller.queue → Quietly link role a b
   quiet_same a b frames drawn controls found address queue = record {

@@ -1,3 +1,4 @@
 pub mod Shows
 pub mod Made
 pub mod Frames
+pub mod Tested

@@ -13,7 +13,7 @@ use Rattle.port_views.specs.Link.{LinkLabel, other}
 use Rattle.port_views.proofs.Reach.{run_join}
 use Rattle.shown_cells.specs.Label.{OnLink, OnControl}
 use Rattle.shown_cells.proofs.Made.{shows_more}
-use Rattle.controller_views.specs.Ends.{Net, Goes, EndLeads, Grows, idle, put_at, asking, placed}
+use Rattle.controller_views.specs.Ends.{Pieces, Net, Goes, EndLeads, Grows, idle, put_at, asking, placed}
 use Rattle.controller_views.proofs.Parts.{both, end_later, net_goes, net_less}
 use Rattle.controller_views.specs.Lifted.{Growing}
 use Rattle.world_views.specs.Shown.{pieces_of, WorldShows, WorldGoes, AreApart, acting}
@@ -22,7 +22,7 @@ use Rattle.world_views.specs.Shown.{pieces_of, WorldShows, WorldGoes, AreApart, 
 abbrev pub acted : World → Site → Acted → World
 acted w site a = record (with_site w (record site { controller = a.controller })) { notes = a.notes; numbers = a.numbers }
 
-site_is : (x y : Site) → Some x ≡ Some y → x ≡ y
+pub site_is : (x y : Site) → Some x ≡ Some y → x ≡ y
 site_is x y e = cc
 
 -- *One site is another*: that of an end, or of no end
@@ -50,7 +50,7 @@ module _ (link : LinkLabel) (like : Type 0) where
       record { moves = g.moves ++ h.moves; after = h.after; is = run_join line g.moves h.moves ∙ (ap (λ (z : Line). run z h.moves) g.is ∙ h.is); shows = h.shows }
 
   -- *A controller at an end* acts
-  enters : (role : Role) (w : World) (end : Role → Site) (line : Line) → Net link like (pieces_of w link end) idle line
+  pub enters : (role : Role) (w : World) (end : Role → Site) (line : Line) → Net link like (pieces_of w link end) idle line
       → Net link like (placed role (pieces_of w link end) (acting w (end role))) (asking role []) line
   enters Downstream w end line n = record { end = both _ (n.end Downstream) (n.end Upstream); waiting = n.waiting; output = n.output; unmade = n.unmade }
   enters Upstream w end line n = record { end = both _ (n.end Downstream) (n.end Upstream); waiting = n.waiting; output = n.output; unmade = n.unmade }
@@ -73,27 +73,24 @@ module _ (link : LinkLabel) (like : Type 0) where
     unmade = n.unmade;
   }
 
-  -- what leads at the end leads the network
-  acts_at_end : (role : Role) (w : World) (line : Line) (b : Acted) → AreApart link → (s : WorldShows link like w line)
-      → b.controller.node ≡ (s.end role).controller.node → EndLeads link like role (acting w (s.end role)) [] b []
+  -- where the pieces with it go on from the line, so does the network
+  pub net_at_end : (role : Role) (w : World) (line : Line) (b : Acted) → AreApart link → (s : WorldShows link like w line)
+      → b.controller.node ≡ (s.end role).controller.node → Goes link like (placed role (pieces_of w link s.end) b) (asking role []) line
       → WorldGoes link like (acted w (s.end role) b) line
-  acts_at_end role w line b differ s keeps leads =
-      let g : Goes link like (placed role (pieces_of w link s.end) b) (asking role []) line =
-      net_goes link like role (pieces_of w link s.end) (acting w (s.end role)) b [] [] line leads (enters role w s.end line s.net) in
-      record {
-        moves = g.moves;
-        after = g.after;
-        is = g.is;
-        shows = record {
-          end = with_end role s.end b.controller;
-          found = found_after link role w s.end (record (s.end role) { controller = b.controller }) differ s.found
-              (ap (λ (n : NodeId). n.0) keeps ∙ at_key site_key (link.node role).0 w.sites (s.end role) (s.found role));
-          net = leaves role w s.end b g.after g.net;
-        };
-      }
+  net_at_end role w line b differ s keeps g = record {
+    moves = g.moves;
+    after = g.after;
+    is = g.is;
+    shows = record {
+      end = with_end role s.end b.controller;
+      found = found_after link role w s.end (record (s.end role) { controller = b.controller }) differ s.found
+          (ap (λ (n : NodeId). n.0) keeps ∙ at_key site_key (link.node role).0 w.sites (s.end role) (s.found role));
+      net = leaves role w s.end b g.after g.net;
+    };
+  }
 
   -- *Of no end*: frames are made and numbers given out
-  away_net : (w : World) (end : Role → Site) (site : Site) (line : Line) (b : Acted) → Growing (acting w site) b
+  pub away_net : (w : World) (end : Role → Site) (site : Site) (line : Line) (b : Acted) → Growing (acting w site) b
       → Net link like (pieces_of w link end) idle line → Net link like (pieces_of (acted w site b) link end) idle line
   away_net w end site line b grows n =
       let g : Grows (acting w site) b = grows n.unmade in
@@ -104,7 +101,7 @@ module _ (link : LinkLabel) (like : Type 0) where
         unmade = g.unmade n.unmade;
       }
 
-  acts_away : (w : World) (line : Line) (site : Site) (b : Acted) → ((r : Role) → site_key site ≢ (link.node r).0) → b.controller.node ≡ site.controller.node
+  pub acts_away : (w : World) (line : Line) (site : Site) (b : Acted) → ((r : Role) → site_key site ≢ (link.node r).0) → b.controller.node ≡ site.controller.node
       → Growing (acting w site) b → WorldShows link like w line → WorldGoes link like (acted w site b) line
   acts_away w line site b n keeps grows s = goes_self (acted w site b) line (record {
     end = s.end;
@@ -112,16 +109,17 @@ module _ (link : LinkLabel) (like : Type 0) where
     net = away_net w s.end site line b grows s.net;
   })
 
-  site_same : (w : World) (r : Role) (node : NodeId) (site end : Site) → node.0 ≡ (link.node r).0 → site_at w node ≡ Some site → site_at w (link.node r) ≡ Some end → end ≡ site
+  pub site_same : (w : World) (r : Role) (node : NodeId) (site end : Site) → node.0 ≡ (link.node r).0 → site_at w node ≡ Some site → site_at w (link.node r) ≡ Some end → end ≡ site
   site_same w r node site end same e f = site_is end site (sym f ∙ (ap (λ (j : ℕ). at site_key j w.sites) (sym same) ∙ e))
 
-  -- *The controller of any node* acts: at an end by what leads there, elsewhere by what grows
-  pub controller_goes : (w : World) (line : Line) (node : NodeId) (act : Acted → Acted) → AreApart link
+  -- *The controller of any node* acts: at an end by what the pieces go on to, elsewhere by what grows
+  pub controller_goes_by : (w : World) (line : Line) (node : NodeId) (act : Acted → Acted) → AreApart link
       → ((site : Site) → site_at w node ≡ Some site → (act (acting w site)).controller.node ≡ site.controller.node)
       → ((site : Site) → site_at w node ≡ Some site → Growing (acting w site) (act (acting w site)))
-      → ((role : Role) (site : Site) → site_at w node ≡ Some site → node.0 ≡ (link.node role).0 → EndLeads link like role (acting w site) [] (act (acting w site)) [])
+      → ((role : Role) (site : Site) (pieces : Pieces) → site_at w node ≡ Some site → node.0 ≡ (link.node role).0
+      → Net link like (placed role pieces (acting w site)) (asking role []) line → Goes link like (placed role pieces (act (acting w site))) (asking role []) line)
       → WorldShows link like w line → WorldGoes link like (at_controller w node act) line
-  controller_goes w line node act differ keeps grows leads s = by (site_at w node) refl
+  controller_goes_by w line node act differ keeps grows goes s = by (site_at w node) refl
     where
       by : (o : Option Site) → site_at w node ≡ o → WorldGoes link like (controller_acts w o act) line
       by None found = goes_self w line s
@@ -135,9 +133,19 @@ module _ (link : LinkLabel) (like : Type 0) where
           at_end r same =
               let is : s.end r ≡ site = site_same w r node site (s.end r) same found (s.found r) in
               subst (λ (z : Site). WorldGoes link like (acted w z (act (acting w z))) line) is
-              (acts_at_end r w line (act (acting w (s.end r))) differ s
+              (net_at_end r w line (act (acting w (s.end r))) differ s
               (subst (λ (z : Site). (act (acting w z)).controller.node ≡ z.controller.node) (sym is) (keeps site found))
-              (subst (λ (z : Site). EndLeads link like r (acting w z) [] (act (acting w z)) []) (sym is) (leads r site found same)))
+              (subst (λ (z : Site). Net link like (placed r (pieces_of w link s.end) (acting w z)) (asking r []) line → Goes link like (placed r (pieces_of w link s.end) (act (acting w z))) (asking r []) line) (sym is)
+              (goes r site (pieces_of w link s.end) found same) (enters r w s.end line s.net)))
+
+  -- by what leads there
+  pub controller_goes : (w : World) (line : Line) (node : NodeId) (act : Acted → Acted) → AreApart link
+      → ((site : Site) → site_at w node ≡ Some site → (act (acting w site)).controller.node ≡ site.controller.node)
+      → ((site : Site) → site_at w node ≡ Some site → Growing (acting w site) (act (acting w site)))
+      → ((role : Role) (site : Site) → site_at w node ≡ Some site → node.0 ≡ (link.node role).0 → EndLeads link like role (acting w site) [] (act (acting w site)) [])
+      → WorldShows link like w line → WorldGoes link like (at_controller w node act) line
+  controller_goes w line node act differ keeps grows leads s = controller_goes_by w line node act differ keeps grows
+      (λ role site pieces found same n. net_goes link like role pieces (acting w site) (act (acting w site)) [] [] line (leads role site found same) n) s
 
 -- *Less may be joined* than before
 pub world_less : (link : LinkLabel) (less like : Type 0) (w : World) (line : Line) → (less → like) → WorldShows link like w line → WorldShows link less w line

@@ -1,0 +1,5 @@
+pub mod Routes
+pub mod Chains
+pub mod Hears
+pub mod Comes
+pub mod Others

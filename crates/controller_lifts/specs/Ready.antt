@@ -1,0 +1,38 @@
+-- What is so of a controller so that the rules of its ports lead the lines of labels
+
+use Rattle.std.specs.Prelude.{◌≡◌, ◌<◌, ◌^◌, false, List}
+use Rattle.ordered_lists.specs.Ordered.{Every}
+use Rattle.label_line.specs.Cells.{Role}
+use Rattle.port_model.specs.Setup.{Setup}
+use Rattle.port_model.specs.Saying.{is_spent}
+use Rattle.port_facts.specs.Port.{IsRanged}
+use Rattle.adjacency_table.specs.Side.{ticked}
+use Rattle.controller_model.specs.Controller.{Controller, Acted, Linked}
+use Rattle.controller_model.specs.Gsmp.{steps}
+use Rattle.controller_model.specs.Joins.{tries_joins}
+use Rattle.controller_model.specs.Ticks.{sends_again, ticks_ports}
+use Rattle.controller_facts.specs.Sound.{IsSound}
+use Rattle.controller_facts.specs.Said.{HasFlowingPorts}
+use Rattle.port_views.specs.Link.{LinkLabel}
+use Rattle.port_widths.specs.Widths.{FitsPort, FitsSetup}
+
+-- a port has numbers left, and none of them is wider than its field
+pub record IsReadyPort (linked : Linked) : Type 0 where
+  pub unspent : is_spent linked.port.session ≡ false
+  pub setup : FitsSetup linked.setup
+  pub fits : FitsPort linked.port
+
+-- a controller is sound, its flows are flows that packets can have, and its ports are ready
+pub record IsReady (setups : List Setup) (c : Controller) : Type 0 where
+  pub sound : IsSound setups c
+  pub flows : HasFlowingPorts setups c
+  pub ranged : Every IsRanged setups
+  pub ports : Every IsReadyPort c.ports
+
+-- the addresses of both ends of a link
+abbrev pub FitsLink : LinkLabel → Type 0
+FitsLink link = (role : Role) → (link.address role).0 < 2 ^ 32
+
+-- a tick that the adjacency with the switch doesn't end, up to its joins: the instances that it draws fit
+abbrev pub FitsTick : Acted → Type 0
+FitsTick a = (tries_joins (ticks_ports (sends_again (steps a (ticked a.controller.adjacency))))).numbers.instances < 2 ^ 32

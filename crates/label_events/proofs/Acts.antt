@@ -1,0 +1,47 @@
+-- a controller ticks, and a change of routes comes to it
+
+use Rattle.std.proofs.Common.{◌≡◌, [], Some}
+use Rattle.net_types.specs.declared.node.NodeId.{NodeId}
+use Rattle.ipv4_forward.specs.declared.change.RouteChange.{RouteChange}
+use Rattle.label_line.specs.Line.{Line}
+use Rattle.controller_model.specs.Changes.{change_comes}
+use Rattle.controller_model.specs.Ticks.{ticks}
+use Rattle.controller_facts.proofs.Laws.{has_ports}
+use Rattle.world_model.specs.World.{World, Site, site_at, at_controller}
+use Rattle.world_model.specs.Step.{tallied}
+use Rattle.world_model.specs.Run.{put_away}
+use Rattle.port_views.specs.Link.{LinkLabel}
+use Rattle.controller_views.specs.Ends.{EndLeads}
+use Rattle.controller_views.specs.Lifted.{IsProper, Growing}
+use Rattle.controller_lifts.specs.Ready.{FitsLink}
+use Rattle.controller_lifts.proofs.Follow.{change_follows}
+use Rattle.controller_lifts.proofs.Ways.{leads_followed, growing_followed, SameNode, node_followed}
+use Rattle.controller_lifts.proofs.Ticking.{ticks_lead, ticks_grow, ticks_node}
+use Rattle.world_views.specs.Shown.{WorldShows, WorldGoes, AreApart, acting}
+use Rattle.world_views.proofs.Sites.{controller_goes}
+use Rattle.label_events.specs.Acts.{CanTick}
+
+module _ (link : LinkLabel) (proper : IsProper link) (like : Type 0) (apart : AreApart link) (w : World) (line : Line) (s : WorldShows link like w line) where
+  pub tick_goes : (node : NodeId) → FitsLink link → ((site : Site) → site_at w node ≡ Some site → CanTick w site) → WorldGoes link like (at_controller w node ticks) line
+  tick_goes node fit can = controller_goes link like w line node ticks apart
+      (λ site found. ticks_node (can site found).setups (acting w site) (has_ports (can site found).setups (acting w site) (can site found).ready.sound))
+      (λ site found. ticks_grow (can site found).setups (acting w site) (has_ports (can site found).setups (acting w site) (can site found).ready.sound))
+      (λ role site found same. ticks_lead (can site found).setups link proper fit like role (acting w site) (can site found).ready (can site found).fits) s
+
+  pub change_goes : (node : NodeId) (change : RouteChange) → WorldGoes link like (at_controller w node (λ a. change_comes a change)) line
+  change_goes node change = controller_goes link like w line node (λ a. change_comes a change) apart
+      (λ site found. change_follows SameNode node_followed (acting w site) change)
+      (λ site found. change_follows Growing growing_followed (acting w site) change)
+      (λ role site found same. change_follows (λ a b. EndLeads link like role a [] b []) (leads_followed link proper like role) (acting w site) change) s
+
+-- *An event* is tallied, and the records of earlier ones are put away
+pub away_shows : (link : LinkLabel) (like : Type 0) (w : World) (line : Line) → WorldShows link like w line → WorldShows link like (put_away w) line
+away_shows link like w line s = record { end = s.end; found = s.found; net = s.net }
+
+pub tallied_goes : (link : LinkLabel) (like : Type 0) (before after : World) (line : Line) → WorldGoes link like after line → WorldGoes link like (tallied before after) line
+tallied_goes link like before after line g = record {
+  moves = g.moves;
+  after = g.after;
+  is = g.is;
+  shows = record { end = g.shows.end; found = g.shows.found; net = g.shows.net };
+}

@@ -1,0 +1,9 @@
+pub mod Nets
+pub mod Losses
+pub mod Acts
+pub mod Switches
+pub mod SwitchActs
+pub mod Carries
+pub mod Restarts
+pub mod Enters
+pub mod Arrivals

@@ -1,0 +1,257 @@
+-- what a switch does on the channel of GSMP is nothing to the lines of labels: its answers wait for its controller, and
+-- frames are made
+
+use Rattle.std.proofs.Common.{◌≡◌, ℕ, ◌≤◌, ◌<◌, ◌+◌, Bool, List, [], ◌∷◌, ◌++◌, length, Option, None, Some, Result, Ok, Err, refl, sym, ◌∙◌, ap, subst, arith, if◌then◌else◌}
+use Rattle.std.specs.Prelude.{◌==◌, ◌&&◌, not, nat_le, nat_lt}
+use Rattle.net_types.specs.declared.channel.End.{End}
+use Rattle.net_types.specs.declared.number.Mark.{Mark}
+use Rattle.net_types.specs.declared.adjacency.Greeting.{Greeting}
+use Rattle.net_types.specs.declared.adjacency.Party.{Party}
+use Rattle.net_types.specs.Number.{next_control, with_control}
+use Rattle.adjacency_table.specs.declared.message.Answer.{Answer}
+use Rattle.adjacency_table.specs.declared.message.Answer.TheVariants.{Quiet, Send, Open, Reset}
+use Rattle.adjacency_table.specs.Side.{Step, is_estab, ticked}
+use Rattle.adjacency_table.specs.Greeting.{gsmp_answer, gsmp_received}
+use Rattle.atm_cells.specs.declared.cell.Cell.{Cell}
+use Rattle.gsmp_wire.specs.declared.fault.Fault.{Fault}
+use Rattle.gsmp_wire.specs.declared.message.Message.{Message}
+use Rattle.gsmp_wire.specs.declared.message.Message.TheVariants as messages
+use Rattle.gsmp_wire.specs.declared.request.Request.{Request}
+use Rattle.gsmp_wire.specs.declared.request.Request.TheVariants.{AddBranch, MoveBranch, DeleteTree, VerifyTree, DeleteAll, PortManagement, AllPorts}
+use Rattle.gsmp_wire.specs.Layout.{octets_of}
+use Rattle.gsmp_wire.specs.Fields.{decoded}
+use Rattle.link_model.specs.declared.frames.Frame.{Frame}
+use Rattle.link_model.specs.declared.record.Record.TheVariants.{Loss}
+use Rattle.link_model.specs.declared.record.Cause.TheVariants.{PoolFull}
+use Rattle.link_model.specs.Notes.{Journal, noted}
+use Rattle.frame_model.specs.Reassembly.{Reassembly, Taken, marks_of, most_cells, passed_over, without_slot, too_long, joined, taken}
+use Rattle.frame_model.specs.Frame.{Tested, frame_cells, made, octets_of as cell_octets, payload_in, last_mark, tested, tested_by}
+use Rattle.frame_model.specs.Sending.{Sent}
+use Rattle.crossbar_model.specs.declared.branch.Branch.{Branch}
+use Rattle.crossbar_model.specs.Crossbar.{queue_of, cut_by_move}
+use Rattle.port_facts.proofs.Keyed.{on_both}
+use Rattle.label_line.specs.Cells as lines
+use Rattle.label_line.specs.Cells.{Role}
+use Rattle.switch_model.specs.declared.request.Asked.{Asked}
+use Rattle.switch_model.specs.declared.request.Failure.{Failure}
+use Rattle.switch_model.specs.Switch.{Switch, Acted, control_port, gsmp_channel, free_slots}
+use Rattle.switch_model.specs.Requests.{Changed, asked_in, is_request, noted_cut, moved_by, ended_by, ended, all_ended, inputs_on, cleared, branches_after}
+use Rattle.switch_model.specs.Failures.{failure_of}
+use Rattle.switch_model.specs.Answers.{Handled, handled_by, handled_asked, handled}
+use Rattle.switch_model.specs.Conduct.{with_cells, says, reset, answers, steps, replied, requested, told, read, opened_frame, ends_frame, gsmp_cell, tick_comes}
+use Rattle.port_views.specs.Link.{LinkLabel, other}
+use Rattle.shown_cells.specs.Seen.{IsUnmade, Extends}
+use Rattle.shown_cells.specs.Label.{OnControl}
+use Rattle.shown_cells.proofs.Shows.{shows_behind}
+use Rattle.shown_cells.proofs.Made.{extends_self, extends_on, extends_made, unmade_next, shows_more}
+use Rattle.shown_cells.proofs.Frames.{frame_elsewhere}
+use Rattle.shown_cells.proofs.Tested.{broken_frames, passed_frames}
+use Rattle.controller_views.specs.Lifted.{IsProper}
+use Rattle.controller_views.proofs.Sends.{gsmp_default, gsmp_label}
+use Rattle.controller_views.proofs.Works.{same_extends, same_unmade}
+use Rattle.arrival_views.proofs.Chains.{Came}
+use Rattle.world_model.proofs.Lists.{index_set, index_here, length_set}
+
+-- *The notes* keep the frames that were made
+ended_frames : (c : Changed) (input : End) (o : Option Branch) → (ended_by c input o).notes.frames ≡ c.notes.frames
+ended_frames c input None = refl
+ended_frames c input (Some b) = noted_frames c.notes b.unfinished
+  where
+    noted_frames : (notes : Journal) (o : Option Mark) → (noted_cut notes o).frames ≡ notes.frames
+    noted_frames notes None = refl
+    noted_frames notes (Some mark) = refl
+
+pub all_frames : (inputs : List End) (c : Changed) → (all_ended c inputs).notes.frames ≡ c.notes.frames
+all_frames [] c = refl
+all_frames (input ∷ inputs) c = all_frames inputs (ended c input) ∙ ended_frames c input _
+
+moved_frames : (c : Changed) (input to : End) (o : Option Branch) → (moved_by c input to o).notes.frames ≡ c.notes.frames
+moved_frames c input to None = refl
+moved_frames c input to (Some b) = cuts c.notes (cut_by_move b to)
+  where
+    cuts : (notes : Journal) (o : Option Mark) → (noted_cut notes o).frames ≡ notes.frames
+    cuts notes None = refl
+    cuts notes (Some mark) = refl
+
+branches_frames : (c : Changed) (request : Request) → (branches_after c request).notes.frames ≡ c.notes.frames
+branches_frames c (AddBranch input output) = refl
+branches_frames c (MoveBranch input from to) = moved_frames c input to _
+branches_frames c (DeleteTree input) = ended_frames c input _
+branches_frames c (VerifyTree input) = refl
+branches_frames c (DeleteAll port) = all_frames (inputs_on c.branches port) c
+branches_frames c (PortManagement port function) = on_both (λ (d : Changed). d.notes.frames ≡ c.notes.frames) (function == 2) (cleared c port) c (all_frames (inputs_on c.branches port) c) refl
+branches_frames c AllPorts = refl
+
+taken_frames : (notes : Journal) (slot : Bool) (r : Reassembly) (cell : Cell) → (taken notes slot r cell).notes.frames ≡ notes.frames
+taken_frames notes slot r cell = on_both To r.is_skipping (passed_over notes r cell) (if not slot then without_slot notes r cell else (if nat_le most_cells (length r.chain) then too_long notes r cell else joined notes r cell))
+    (broken_frames (cell.mark ∷ []) notes)
+    (on_both To (not slot) (without_slot notes r cell) (if nat_le most_cells (length r.chain) then too_long notes r cell else joined notes r cell)
+    (broken_frames (marks_of r.chain) (noted notes (Loss cell.mark PoolFull)))
+    (on_both To (nat_le most_cells (length r.chain)) (too_long notes r cell) (joined notes r cell) (broken_frames (marks_of (r.chain ++ cell ∷ [])) notes)
+    (on_both To cell.header.last (record { reassembly = record r { chain = [] }; notes = notes; ended = r.chain ++ cell ∷ [] }) (record { reassembly = record r { chain = r.chain ++ cell ∷ [] }; notes = notes; ended = [] }) refl refl)))
+  where
+    To : Taken → Type 0
+    To t = t.notes.frames ≡ notes.frames
+
+tested_frames : (notes : Journal) (cells : List Cell) (o : Option (List ℕ)) → (tested_by notes cells o).notes.frames ≡ notes.frames
+tested_frames notes cells None = broken_frames (marks_of cells) notes
+tested_frames notes cells (Some payload) = passed_frames notes (last_mark cells) payload
+
+-- *Quietly*: the switch at an end of the link makes frames and draws numbers, and what waits at the port of the link and
+-- for its controller shows what it did
+pub record IsQuiet (link : LinkLabel) (role : Role) (a b : Acted) : Type 0 where
+  pub size : length b.switch.crossbar.queues ≡ length a.switch.crossbar.queues
+  pub extends : IsUnmade a.numbers.controls a.notes.frames → Extends a.notes.frames b.notes.frames
+  pub instances : a.numbers.instances ≤ b.numbers.instances
+  pub unmade : IsUnmade a.numbers.controls a.notes.frames → IsUnmade b.numbers.controls b.notes.frames
+  pub output : 0 < length a.switch.crossbar.queues → queue_of b.switch.crossbar (link.port role) ≡ queue_of a.switch.crossbar (link.port role)
+  pub waiting : 0 < length a.switch.crossbar.queues → IsUnmade a.numbers.controls a.notes.frames → (words : List lines.Cell)
+      → Came link role a.notes.frames (queue_of a.switch.crossbar control_port) words → Came link role b.notes.frames (queue_of b.switch.crossbar control_port) words
+
+-- elsewhere that it makes frames and draws numbers is all
+pub record IsMore (a b : Acted) : Type 0 where
+  pub extends : IsUnmade a.numbers.controls a.notes.frames → Extends a.notes.frames b.notes.frames
+  pub instances : a.numbers.instances ≤ b.numbers.instances
+  pub unmade : IsUnmade a.numbers.controls a.notes.frames → IsUnmade b.numbers.controls b.notes.frames
+
+pub quiet_more : (link : LinkLabel) (role : Role) (a b : Acted) → IsQuiet link role a b → IsMore a b
+quiet_more link role a b q = record { extends = q.extends; instances = q.instances; unmade = q.unmade }
+
+module _ (link : LinkLabel) (proper : IsProper link) (role : Role) where
+  abbrev pub To : Acted → Acted → Type 0
+  To a b = IsQuiet link role a b
+
+  pub itself : (a : Acted) → To a a
+  itself a = record { size = refl; extends = λ u. extends_self a.notes.frames; instances = omega arith; unmade = λ u. u; output = λ low. refl; waiting = λ low u words s. s }
+
+  pub quiet_then : (a b c : Acted) → To a b → To b c → To a c
+  quiet_then a b c p q = record {
+    size = q.size ∙ p.size;
+    extends = λ u. extends_on (p.extends u) (q.extends (p.unmade u));
+    instances = omega (arith, p.instances, q.instances);
+    unmade = λ u. q.unmade (p.unmade u);
+    output = λ low. q.output (omega (arith, low, p.size)) ∙ p.output low;
+    waiting = λ low u words s. q.waiting (omega (arith, low, p.size)) (p.unmade u) words (p.waiting low u words s);
+  }
+
+  pub same : (a b : Acted) → b.switch.crossbar.queues ≡ a.switch.crossbar.queues → b.notes.frames ≡ a.notes.frames → a.numbers.instances ≤ b.numbers.instances → b.numbers.controls ≡ a.numbers.controls → To a b
+  same a b queues frames drawn controls = record {
+    size = ap length queues;
+    extends = λ u. same_extends a.notes.frames b.notes.frames frames;
+    instances = drawn;
+    unmade = λ u. subst (λ (n : ℕ). IsUnmade n b.notes.frames) (sym controls) (same_unmade a.numbers.controls a.notes.frames b.notes.frames frames u);
+    output = λ low. ap (λ (qs : List (List Cell)). queue_of (record { branches = b.switch.crossbar.branches; queues = qs }) (link.port role)) queues;
+    waiting = λ low u words s. subst (λ (z : List Frame). Came link role z (queue_of b.switch.crossbar control_port) words) (sym frames)
+        (subst (λ (qs : List (List Cell)). Came link role a.notes.frames (queue_of (record { branches = b.switch.crossbar.branches; queues = qs }) control_port) words) (sym queues) s);
+  }
+
+  -- *A message* to the controller
+  pub says_quiet : (a : Acted) (message : Message) → To a (says a message)
+  says_quiet a message = on_both (λ (s : Sent Switch). To a (record { switch = s.queues; notes = s.notes; numbers = with_control a.numbers }))
+      (nat_le (length cells) (free_slots a.switch))
+      (record { queues = with_cells a.switch control_port cells; notes = made a.notes mark payload })
+      (record { queues = a.switch; notes = noted (made a.notes mark payload) (Loss mark PoolFull) })
+      (record {
+        size = length_set a.switch.crossbar.queues 0 (queue_of a.switch.crossbar control_port ++ cells);
+        extends = extended;
+        instances = omega arith;
+        unmade = λ u. unmade_next a.numbers.controls a.notes.frames payload u;
+        output = λ low. index_set a.switch.crossbar.queues 0 (link.port role).0 (queue_of a.switch.crossbar control_port ++ cells) [] (λ e. absurd (omega (arith, e, proper.above role)));
+        waiting = λ low u words s. subst (λ (z : List Cell). Came link role frames z words)
+            (sym (index_here a.switch.crossbar.queues 0 (queue_of a.switch.crossbar control_port ++ cells) [] low))
+            (shows_behind (shows_more (OnControl (link.port role)) (other role) link (extended u) s)
+            (frame_elsewhere (OnControl (link.port role)) (other role) link frames gsmp_channel mark payload (gsmp_default link proper role) (gsmp_label link proper role)));
+      })
+      (record {
+        size = refl;
+        extends = extended;
+        instances = omega arith;
+        unmade = λ u. unmade_next a.numbers.controls a.notes.frames payload u;
+        output = λ low. refl;
+        waiting = λ low u words s. shows_more (OnControl (link.port role)) (other role) link (extended u) s;
+      })
+    where
+      mark : Mark
+      mark = next_control a.numbers
+
+      payload : List ℕ
+      payload = octets_of message
+
+      cells : List Cell
+      cells = frame_cells gsmp_channel mark payload
+
+      frames : List Frame
+      frames = a.notes.frames ++ record { mark = mark; payload = payload } ∷ []
+
+      extended : IsUnmade a.numbers.controls a.notes.frames → Extends a.notes.frames frames
+      extended u = extends_made a.notes.frames mark payload (u (a.numbers.controls + 1) (omega arith))
+
+  -- *The adjacency*
+  answers_quiet : (a : Acted) (answer : Answer Greeting Party) → To a (answers a answer)
+  answers_quiet a Quiet = itself a
+  answers_quiet a (Send greeting) = says_quiet a (messages.Adjacency greeting)
+  answers_quiet a (Open None key) = itself a
+  answers_quiet a (Open (Some greeting) key) = says_quiet a (messages.Adjacency greeting)
+  answers_quiet a Reset = same a (reset a) refl refl (omega arith) refl
+
+  steps_quiet : (a : Acted) (step : Step Party) → To a (steps a step)
+  steps_quiet a step =
+      let turned : Acted = record a { switch = record a.switch { adjacency = step.side } } in
+      quiet_then a turned (steps a step) (same a turned refl refl (omega arith) refl) (answers_quiet turned (gsmp_answer step.answer))
+
+  pub tick_quiet : (a : Acted) → To a (tick_comes a)
+  tick_quiet a = steps_quiet a (ticked a.switch.adjacency)
+
+  -- *Requests*
+  record IsKept (s : Switch) (notes : Journal) (h : Handled) : Type 0 where
+    queues : h.switch.crossbar.queues ≡ s.crossbar.queues
+    frames : h.notes.frames ≡ notes.frames
+
+  handled_by_kept : (s : Switch) (notes : Journal) (m : Message) (request : Request) (failure : Option Failure) → IsKept s notes (handled_by s notes m request failure)
+  handled_by_kept s notes m request (Some failure) = record { queues = refl; frames = refl }
+  handled_by_kept s notes m request None = record { queues = refl; frames = branches_frames (record { branches = s.crossbar.branches; notes = notes }) request }
+
+  handled_kept : (s : Switch) (notes : Journal) (m : Message) (asked : Option Asked) → IsKept s notes (handled_asked s notes m asked)
+  handled_kept s notes m None = record { queues = refl; frames = refl }
+  handled_kept s notes m (Some asked) = handled_by_kept s notes m asked.request (failure_of s.ports s.vpis s.crossbar.branches asked)
+
+  requested_quiet : (a : Acted) (m : Message) → To a (requested a m)
+  requested_quiet a m = on_both (To a) (is_request m && is_estab a.switch.adjacency.state) (replied a (handled a.switch a.notes m)) a replies (itself a)
+    where
+      replies : To a (replied a (handled a.switch a.notes m))
+      replies =
+          let h : Handled = handled a.switch a.notes m in
+          let k : IsKept a.switch a.notes h = handled_kept a.switch a.notes m (asked_in m) in
+          let b : Acted = record a { switch = h.switch; notes = h.notes } in
+          quiet_then a b (replied a h) (same a b k.queues k.frames (omega arith) refl) (says_quiet b h.answer)
+
+  told_quiet : (a : Acted) (m : Message) → To a (told a m)
+  told_quiet a (messages.Adjacency greeting) = steps_quiet a (gsmp_received a.switch.adjacency greeting)
+  told_quiet a (messages.Branch kind result code number session input_port input output_port output branches priority) =
+      requested_quiet a (messages.Branch kind result code number session input_port input output_port output branches priority)
+  told_quiet a (messages.Move result code number session input_port input output_port output target_port target branches priority) =
+      requested_quiet a (messages.Move result code number session input_port input output_port output target_port target branches priority)
+  told_quiet a (messages.Port result code number port session function) = requested_quiet a (messages.Port result code number port session function)
+  told_quiet a (messages.AllPorts result code number rows) = requested_quiet a (messages.AllPorts result code number rows)
+
+  -- *Frames and cells of the channel*
+  read_quiet : (a : Acted) (r : Result Message Fault) → To a (read a r)
+  read_quiet a (Ok m) = told_quiet a m
+  read_quiet a (Err fault) = same a (read a (Err fault)) refl refl (omega arith) refl
+
+  opened_quiet : (a : Acted) (o : Option (List ℕ)) → To a (opened_frame a o)
+  opened_quiet a None = itself a
+  opened_quiet a (Some payload) = read_quiet a (decoded payload)
+
+  ends_quiet : (a : Acted) (cells : List Cell) → To a (ends_frame a cells)
+  ends_quiet a [] = itself a
+  ends_quiet a (cell ∷ cells) =
+      let test : Tested = tested a.notes (cell ∷ cells) in
+      let b : Acted = record a { notes = test.notes } in
+      quiet_then a b (ends_frame a (cell ∷ cells)) (same a b refl (tested_frames a.notes (cell ∷ cells) (payload_in (cell_octets (cell ∷ cells)))) (omega arith) refl) (opened_quiet b test.payload)
+
+  pub gsmp_quiet : (a : Acted) (cell : Cell) → To a (gsmp_cell a cell)
+  gsmp_quiet a cell =
+      let t : Taken = taken a.notes (nat_lt 0 (free_slots a.switch)) a.switch.reassembly cell in
+      let b : Acted = record a { switch = record a.switch { reassembly = t.reassembly }; notes = t.notes } in
+      quiet_then a b (gsmp_cell a cell) (same a b refl (taken_frames a.notes (nat_lt 0 (free_slots a.switch)) a.switch.reassembly cell) (omega arith) refl) (ends_quiet b t.ended)

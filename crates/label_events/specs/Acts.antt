@@ -1,0 +1,27 @@
+-- What has to be so of the controllers of a network where an event takes place, so that the line of each label of each
+-- link follows it
+
+use Rattle.std.specs.Prelude.{◌≡◌, List}
+use Rattle.net_types.specs.declared.node.NodeId.{NodeId}
+use Rattle.atm_cells.specs.declared.cell.Cell.{Cell}
+use Rattle.label_line.specs.Cells.{Role}
+use Rattle.port_model.specs.Setup.{Setup}
+use Rattle.controller_model.specs.Cells.{cell_comes}
+use Rattle.port_views.specs.Link.{LinkLabel}
+use Rattle.controller_views.specs.Lifted.{Growing}
+use Rattle.arrival_views.specs.Cells.{CanArrive}
+use Rattle.controller_lifts.specs.Ready.{IsReady, FitsTick}
+use Rattle.world_model.specs.World.{World, Site}
+use Rattle.world_views.specs.Shown.{acting}
+
+-- *A tick*: the controller is ready, and the instances that the tick draws fit
+pub record CanTick (w : World) (site : Site) : Type 0 where
+  pub setups : List Setup
+  pub ready : IsReady setups site.controller
+  pub fits : FitsTick (acting w site)
+
+-- *A cell that comes from the switch*: at an end of the link it can arrive there, and elsewhere frames are made and
+-- numbers given out
+pub record Arrives (link : LinkLabel) (like : Type 0) (w : World) (at : NodeId) (site : Site) (cell : Cell) : Type 0 where
+  pub grows : Growing (acting w site) (cell_comes (acting w site) cell)
+  pub can : (role : Role) → at.0 ≡ (link.node role).0 → CanArrive link like role (acting w site) cell

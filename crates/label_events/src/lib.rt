@@ -1,0 +1,74 @@
+//! Events of a network, as moves of the line of each label of each link.
+//!
+//! `specs/Queues` says where a cell may be, `specs/Acts` what has to be so of a controller that acts. What
+//! may be joined to the label stays as it is: where an event leaves less of it, `world_views` says that the
+//! same line is shown. There is no code that runs.
+#![tactic(auto)]
+
+ghost use Rattle.std.specs.Prelude.{◌≡◌, ◌∷◌, ◌+◌, ℕ, List, None, Some};
+ghost use Rattle.net_types.specs.declared.node.NodeId.{NodeId};
+ghost use Rattle.net_types.specs.declared.node.Place.{Place};
+ghost use Rattle.net_types.specs.declared.node.Place.TheVariants.{Down, Up};
+ghost use Rattle.atm_cells.specs.declared.cell.Cell.{Cell};
+ghost use Rattle.link_model.specs.Ledger.{payload_of};
+ghost use Rattle.crossbar_model.specs.Crossbar.{queue_of};
+ghost use Rattle.switch_model.specs.Switch.{control_port};
+ghost use Rattle.ipv4_forward.specs.declared.change.RouteChange.{RouteChange};
+ghost use Rattle.label_line.specs.Line.{Line};
+ghost use Rattle.world_model.specs.declared.event.Event.TheVariants.{Inject, Carry, Lose, Tick, TickSwitch, Restart, RestartSwitch, Route};
+ghost use Rattle.world_model.specs.Topology.{Topology};
+ghost use Rattle.world_model.specs.World.{World, Site, site_at};
+ghost use Rattle.world_model.specs.Places.{place_node};
+ghost use Rattle.world_model.specs.Run.{next, put_away};
+ghost use Rattle.port_views.specs.Link.{LinkLabel};
+ghost use Rattle.controller_views.specs.Lifted.{IsProper};
+ghost use Rattle.arrival_views.specs.Packets.{HasLabelGrants};
+ghost use Rattle.controller_lifts.specs.Ready.{FitsLink};
+ghost use Rattle.world_views.specs.Shown.{WorldShows, WorldGoes, AreApart};
+ghost use Rattle.label_events.specs.Queues.{HasQueues, HasLowPorts, IsLinkPlace, LeadsOut};
+ghost use Rattle.label_events.specs.Acts.{CanTick, Arrives};
+
+/// A cell is lost at the front of any queue of a network: the line of each label of each link follows. It does
+/// nothing, and its contract is the statement.
+pub fn losses_lead_lines<Like>()
+    ensures { (topology : Topology) (link : LinkLabel) (w : World) (line : Line) (place : Place) → IsProper link → HasLowPorts link → AreApart link
+        → ((site : Site) → site_at w (place_node place) ≡ Some site → HasQueues site) → IsLinkPlace place
+        → WorldShows link Like w line → WorldGoes link Like (next topology w (Lose place)) line }
+{}
+
+/// A cell comes to a controller from its switch, a packet enters the network there, the controller restarts or
+/// ticks, or a change of routes comes to it: the line of each label of each link follows. It does nothing, and its
+/// contract is the statement.
+pub fn controllers_lead_lines<Like>()
+    ensures cells { (topology : Topology) (link : LinkLabel) (w : World) (line : Line) (node : NodeId) → IsProper link → AreApart link
+        → ((site : Site) → site_at w node ≡ Some site → HasQueues site)
+        → ((site : Site) (cell : Cell) (cells : List Cell) → site_at w node ≡ Some site → queue_of site.switch.crossbar control_port ≡ cell ∷ cells
+        → Arrives link Like (put_away w) node site cell)
+        → WorldShows link Like w line → WorldGoes link Like (next topology w (Carry (Up node))) line }
+    ensures packets { (topology : Topology) (link : LinkLabel) (w : World) (line : Line) (node : NodeId) (octets : List ℕ) → IsProper link → AreApart link
+        → payload_of w.notes.frames (record { packet = w.sent + 1; frame = 1 }) ≡ None
+        → ((site : Site) → site_at w node ≡ Some site → HasLabelGrants site.controller)
+        → WorldShows link Like w line → WorldGoes link Like (next topology w (Inject node octets)) line }
+    ensures restarts { (topology : Topology) (link : LinkLabel) (w : World) (line : Line) (node : NodeId) → IsProper link → AreApart link
+        → WorldShows link Like w line → WorldGoes link Like (next topology w (Restart node)) line }
+    ensures ticks { (topology : Topology) (link : LinkLabel) (w : World) (line : Line) (node : NodeId) → IsProper link → FitsLink link → AreApart link
+        → ((site : Site) → site_at w node ≡ Some site → CanTick (put_away w) site)
+        → WorldShows link Like w line → WorldGoes link Like (next topology w (Tick node)) line }
+    ensures routes { (topology : Topology) (link : LinkLabel) (w : World) (line : Line) (node : NodeId) (change : RouteChange) → IsProper link → AreApart link
+        → WorldShows link Like w line → WorldGoes link Like (next topology w (Route node change)) line }
+{}
+
+/// A cell comes to a switch from its controller, or the switch ticks or restarts: the line of each label of each
+/// link follows. It does nothing, and its contract is the statement.
+pub fn switches_lead_lines<Like>()
+    ensures cells { (topology : Topology) (link : LinkLabel) (w : World) (line : Line) (node : NodeId) → IsProper link → HasLowPorts link → AreApart link
+        → ((site : Site) → site_at w node ≡ Some site → HasQueues site)
+        → ((site : Site) (cell : Cell) (cells : List Cell) → site_at w node ≡ Some site → site.controller.queue ≡ cell ∷ cells → LeadsOut site cell)
+        → WorldShows link Like w line → WorldGoes link Like (next topology w (Carry (Down node))) line }
+    ensures ticks { (topology : Topology) (link : LinkLabel) (w : World) (line : Line) (node : NodeId) → IsProper link → AreApart link
+        → ((site : Site) → site_at w node ≡ Some site → HasQueues site)
+        → WorldShows link Like w line → WorldGoes link Like (next topology w (TickSwitch node)) line }
+    ensures restarts { (topology : Topology) (link : LinkLabel) (w : World) (line : Line) (node : NodeId) → IsProper link → AreApart link
+        → ((site : Site) → site_at w node ≡ Some site → HasQueues site)
+        → WorldShows link Like w line → WorldGoes link Like (next topology w (RestartSwitch node)) line }
+{}

@@ -1,0 +1,3 @@
+pub mod Ifmp
+pub mod Gsmp
+pub mod Packets
