@@ -10,3 +10,5 @@ pub mod LinkSteps
 pub mod Runs
 pub mod Reached
 pub mod WorkedLives
+pub mod Drawn
+pub mod First

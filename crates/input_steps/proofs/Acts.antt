@@ -32,7 +32,7 @@ use Rattle.controller_model.specs.Performing.{does, does_in_estab, resets_as, re
 use Rattle.input_views.specs.Words.{is_own, own_of, other_of, others_of}
 use Rattle.input_views.specs.Shown.{AskedShows, IsAllPorts, IsDeleteAll, PhaseShows}
 use Rattle.input_steps.specs.Part.{Part, part_at, Stands, Reaches, AnyLine, Leads}
-use Rattle.input_steps.specs.Asking.{CanEach, CanAsk, CanDo, CanDoInEstab, CanReset, CanPerform, CanPerformInEstab, CanWork, CanApply}
+use Rattle.input_steps.specs.Asking.{CanEach, CanAsk, MayAsk, CanDo, CanDoInEstab, CanReset, CanPerform, CanPerformInEstab, CanWork, CanApply}
 use Rattle.input_steps.proofs.Lists.{filter_all, filter_within, filter_part}
 use Rattle.input_steps.proofs.Ends.{is_other, own_test, on_other}
 use Rattle.input_steps.proofs.Goes.{Rise, with_others, withdraw_part}
@@ -57,21 +57,21 @@ module _ (node : NodeId) (input : End) (switch : Switch) where
       (octets_of (message_of a.controller.desk.rows a.controller.desk.next r))
       (λ fits. asks_leads node input (part_at input switch a) r fits estab can.met can.shape can.reads can.away)
 
-  pub asks_acted : (a : Acted) (r : Request) → (is_estab a.controller.adjacency.state ≡ true → CanAsk input a r) → From a (asks a r)
+  pub asks_acted : (a : Acted) (r : Request) → MayAsk input a r → From a (asks a r)
   asks_acted a r can = by (is_estab a.controller.adjacency.state) refl
     where
-      in_estab : (t : Bool) → is_estab a.controller.adjacency.state ≡ true → From a (if t then node_resets a else asks_next a r)
-      in_estab true estab = node_resets_leads node input switch a
-      in_estab false estab = next_leads a r estab (can estab)
+      in_estab : (t : Bool) → (a.controller.desk.next == last_transaction) ≡ t → is_estab a.controller.adjacency.state ≡ true → From a (if t then node_resets a else asks_next a r)
+      in_estab true spent estab = node_resets_leads node input switch a
+      in_estab false room estab = next_leads a r estab (can estab room)
 
       by : (t : Bool) → is_estab a.controller.adjacency.state ≡ t
           → From a (if t then (if a.controller.desk.next == last_transaction then node_resets a else asks_next a r) else a)
-      by true estab = in_estab (a.controller.desk.next == last_transaction) estab
+      by true estab = in_estab (a.controller.desk.next == last_transaction) refl estab
       by false estab = leads_self node input (part_at input switch a)
 
   -- *Taking back*
   pub takes_back_leads : (a : Acted) (i o : End)
-      → (is_led_home a.controller.desk i (home_of i) ≡ false → is_estab a.controller.adjacency.state ≡ true → CanAsk input a (MoveBranch i o (home_of i))) → From a (takes_back a i o)
+      → (is_led_home a.controller.desk i (home_of i) ≡ false → MayAsk input a (MoveBranch i o (home_of i))) → From a (takes_back a i o)
   takes_back_leads a i o can = by (is_led_home a.controller.desk i (home_of i)) refl
     where
       by : (t : Bool) → is_led_home a.controller.desk i (home_of i) ≡ t → From a (if t then a else asks a (MoveBranch i o (home_of i)))

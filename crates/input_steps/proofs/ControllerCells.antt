@@ -173,7 +173,7 @@ module _ (node : NodeId) (input : End) where
         let made : payload_of a.notes.frames cell.mark ≡ Some payload =
         ap (payload_of a.notes.frames) (sym (last_is a.controller.reassembly.chain cell)) ∙ frame_is a.notes.frames (last_mark chain) payload true_frame in
         subst (λ (notes : Journal). Back s (gsmp_holds (record (bare a) { notes = notes }) (decoded payload)) line) (sym kept)
-        (held_line s a cells cell payload line line.to_controller refl pops (k.holds payload is) k.here last made h
+        (held_line s a cells cell payload line line.to_controller refl pops (k.holds payload last is) k.here last made h
         (first_of (subst (λ (z : List Cell). ShowsAnswers node input a.notes.frames z line.to_controller) k.front h.to_controller)))
 
     abbrev joined_as : (last : Bool) → Taken

@@ -29,7 +29,7 @@ use Rattle.switch_model.specs.declared.request.Asked.{Asked}
 use Rattle.switch_model.specs.Requests.{asked_in}
 use Rattle.input_views.specs.Words.{word_of}
 use Rattle.input_views.specs.Shown.{IsAllPorts}
-use Rattle.input_steps.specs.Asking.{CanEach, CanAsk}
+use Rattle.input_steps.specs.Asking.{CanEach, MayAsk}
 use Rattle.input_steps.specs.Meeting.{in_desk, met_after, AfterAnswer, answered_part}
 use Rattle.input_steps.proofs.Taken.{done_line}
 use Rattle.input_steps.specs.Part.{part_at, Stands, Reaches, AnyLine, Leads}
@@ -167,8 +167,8 @@ module _ (node : NodeId) (input : End) (switch : Switch) where
       (λ z k also. done_leads b s.request can z (subst (λ (t : Bool). Stands node input (record (part_at input switch b) { met = t }) z) same k)))
 
   -- *The meeting ends*: the default channels of the ports are asked
-  pub ends_leads : (a : Acted) → CanEach asks (λ b r. is_estab b.controller.adjacency.state ≡ true → CanAsk input b r)
+  pub ends_leads : (a : Acted) → CanEach asks (MayAsk input)
       (record a { controller = record a.controller { has_met = true } }) (flat_map default_branches (up_ports a.controller))
       → Goes (record a { controller = record a.controller { has_met = true } }) (ends_meeting a)
-  ends_leads a can = each_leads node input switch asks (λ b r. is_estab b.controller.adjacency.state ≡ true → CanAsk input b r) (λ b r k. asks_acted node input switch b r k)
+  ends_leads a can = each_leads node input switch asks (MayAsk input) (λ b r k. asks_acted node input switch b r k)
       (flat_map default_branches (up_ports a.controller)) (record a { controller = record a.controller { has_met = true } }) can

@@ -1,25 +1,25 @@
-mod Goes
-mod Lists
-mod Ends
-mod Reach
-mod Queues
-mod Sent
-mod Asks
-mod Again
-mod Resets
-mod Branches
-mod Parties
-mod Switching
-mod Handled
-mod SwitchCells
-mod Greeted
-mod Answered
-mod Sizes
-mod Listed
-mod Taken
-mod Acts
-mod ControllerCells
-mod Held
-mod Ticks
-mod Done
-mod Switched
+pub mod Goes
+pub mod Lists
+pub mod Ends
+pub mod Reach
+pub mod Queues
+pub mod Sent
+pub mod Asks
+pub mod Again
+pub mod Resets
+pub mod Branches
+pub mod Parties
+pub mod Switching
+pub mod Handled
+pub mod SwitchCells
+pub mod Greeted
+pub mod Answered
+pub mod Sizes
+pub mod Listed
+pub mod Taken
+pub mod Acts
+pub mod ControllerCells
+pub mod Held
+pub mod Ticks
+pub mod Done
+pub mod Switched

@@ -130,7 +130,7 @@ closes_still port a (TakeBack from to) = still_self a
 closes_still port a (Withdraw from) = still_self a
 closes_still port a Reset = still_self a
 
-restarts_still : (a : Acted) (o : Option Linked) → IsStill a (port_restarts_of a o)
+pub restarts_still : (a : Acted) (o : Option Linked) → IsStill a (port_restarts_of a o)
 restarts_still a None = still_self a
 restarts_still a (Some linked) =
     let w : Work = restarts linked.setup (begins a linked) in

@@ -199,7 +199,7 @@ module _ (node : NodeId) (input : End) where
       let kept : passed a.notes (last_mark chain) payload ≡ a.notes = ap (λ (t : Bool). if t then a.notes else noted a.notes (Chance (last_mark chain))) true_frame in
       let made : payload_of a.notes.frames cell.mark ≡ Some payload = ap (payload_of a.notes.frames) (sym (last_is a.switch.reassembly.chain cell)) ∙ frame_is a.notes.frames (last_mark chain) payload true_frame in
       subst (λ (notes : Journal). To (popped c cells) (read (record b { notes = notes }) (decoded payload)) line) (sym kept)
-      (ended_line c a cells cell payload line line.to_switch refl (k.hand payload is) k.here last made h
+      (ended_line c a cells cell payload line line.to_switch refl (k.hand payload last is) k.here last made h
       (first_of (subst (λ (z : List Cell). ShowsRequests node input a.notes.frames z line.to_switch) k.front h.to_switch)))
 
   joined_line : (c : Controller) (a : Acted) (cell : Cell) (cells : List Cell) (line : Line) (last : Bool) → Comes c a cell cells → cell.header.last ≡ last → Stands node input (part_beside input c a) line

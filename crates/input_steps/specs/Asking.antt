@@ -10,7 +10,7 @@ use Rattle.gsmp_wire.specs.declared.request.Request.{Request}
 use Rattle.gsmp_wire.specs.declared.request.Request.TheVariants.{AddBranch, MoveBranch, DeleteTree, VerifyTree, DeleteAll, PortManagement, AllPorts}
 use Rattle.ordered_lists.specs.Ordered.{Every}
 use Rattle.crossbar_model.specs.Crossbar.{same_end}
-use Rattle.desk_model.specs.Desk.{Desk, Standing, is_led_home, message_at}
+use Rattle.desk_model.specs.Desk.{Desk, Standing, is_led_home, last_transaction, message_at}
 use Rattle.desk_model.specs.Messages.{message_of}
 use Rattle.port_model.specs.declared.action.Action.{Action}
 use Rattle.port_model.specs.declared.action.Action.TheVariants.{Say, Ask, Note, CutChain, TakeBack, Withdraw, Reset}
@@ -68,6 +68,10 @@ pub record CanAsk (input : End) (a : Acted) (r : Request) : Type 0 where
   pub reads : IsReadable (message_of a.controller.desk.rows a.controller.desk.next r)
   pub away : concerns input r ≡ true → NoDeleteAll input a.controller.desk.standing
 
+-- where it is asked: in Estab, where a number is left
+abbrev pub MayAsk : (input : End) → Acted → Request → Type 0
+MayAsk input a r = is_estab a.controller.adjacency.state ≡ true → (a.controller.desk.next == last_transaction) ≡ false → CanAsk input a r
+
 -- *Each of several*, where each may be done once those before it are
 abbrev pub CanEach : {A : Type 0} → (Acted → A → Acted) → (Acted → A → Type 0) → Acted → List A → Type 0
 CanEach f Can a [] = Unit {0}
@@ -76,10 +80,10 @@ CanEach f Can a (x ∷ xs) = Can a x × CanEach f Can (f a x) xs
 -- *One action* of a port
 abbrev pub CanDo : (input : End) → PortNo → Acted → Action → Type 0
 CanDo input port a (Say message) = 1 ≤ port.0
-CanDo input port a (Ask r needed) = is_estab a.controller.adjacency.state ≡ true → CanAsk input a r
+CanDo input port a (Ask r needed) = MayAsk input a r
 CanDo input port a (Note item) = Unit {0}
 CanDo input port a (CutChain label) = Unit {0}
-CanDo input port a (TakeBack i o) = is_led_home a.controller.desk i (home_of i) ≡ false → is_estab a.controller.adjacency.state ≡ true → CanAsk input a (MoveBranch i o (home_of i))
+CanDo input port a (TakeBack i o) = is_led_home a.controller.desk i (home_of i) ≡ false → MayAsk input a (MoveBranch i o (home_of i))
 CanDo input port a (Withdraw i) = same_end input i ≡ false
 CanDo input port a Reset = Unit {0}
 

@@ -18,7 +18,7 @@ use Rattle.controller_model.specs.Controller.{Acted, linked_at, ports_of, note, 
 use Rattle.controller_model.specs.Joins.{Join, join_of, output_of, parts, releases_input, released_inputs, resets_spent, releases}
 use Rattle.controller_model.specs.Meeting.{port_of, causes, clears}
 use Rattle.controller_model.specs.Changes.{changed_joins, takes_join_back, begins_change, takes_change, may_take}
-use Rattle.input_steps.specs.Asking.{CanEach, CanAsk, CanApply}
+use Rattle.input_steps.specs.Asking.{CanEach, MayAsk, CanApply}
 
 -- *A release*: the label isn't joined any more, and the grant is given back
 pub record CanPart (input : End) (a : Acted) (join : Join) : Type 0 where
@@ -46,7 +46,7 @@ CanTell input a request (Some port) = CanApply input a (λ setup desk w. port_an
 
 pub record CanGiveBranch (input : End) (a : Acted) (port : PortNo) : Type 0 where
   pub met : a.controller.has_met ≡ true
-  pub asks : is_estab a.controller.adjacency.state ≡ true → CanAsk input a (AddBranch (default_end port) (default_home port))
+  pub asks : MayAsk input a (AddBranch (default_end port) (default_home port))
 
 abbrev pub CanCause : (input : End) → Acted → Request → Type 0
 CanCause input a (DeleteAll port) = CanGiveBranch input a port
@@ -59,8 +59,7 @@ CanCause input a AllPorts = Unit {0}
 
 -- *Changes of routes*: the joins whose route changes are taken back
 abbrev pub CanTakeBack : (input : End) → Acted → Join → Type 0
-CanTakeBack input a join = is_led_home a.controller.desk join.input (home_of join.input) ≡ false → is_estab a.controller.adjacency.state ≡ true
-    → CanAsk input a (MoveBranch join.input (output_of join) (home_of join.input))
+CanTakeBack input a join = is_led_home a.controller.desk join.input (home_of join.input) ≡ false → MayAsk input a (MoveBranch join.input (output_of join) (home_of join.input))
 
 abbrev pub begun : Acted → Acted
 begun a = record a { controller = record a.controller { is_begun = true } }

@@ -79,7 +79,7 @@ pub record Comes (c : Controller) (a : Acted) (cell : Cell) (cells : List Cell) 
   pub front : c.queue ≡ cell ∷ cells
   pub here : same_channel cell.header.channel default_channel ≡ true
   pub passes : PassesTrue a.notes.frames (a.switch.reassembly.chain ++ cell ∷ [])
-  pub hand : (payload : List ℕ) → payload_in (cell_octets (a.switch.reassembly.chain ++ cell ∷ [])) ≡ Some payload
+  pub hand : (payload : List ℕ) → cell.header.last ≡ true → payload_in (cell_octets (a.switch.reassembly.chain ++ cell ∷ [])) ≡ Some payload
       → IsInHand (record c { queue = cells }) (record a { switch = record a.switch { reassembly = record a.switch.reassembly { chain = [] } } }) payload
 
 -- *What the controller has in hand*: what it does at a message that shows a word, and at one that shows nothing, is moves
@@ -96,7 +96,7 @@ pub record ComesBack (node : NodeId) (input : End) (switch : Switch) (a : contro
   pub front : queue_of switch.crossbar control_port ≡ cell ∷ cells
   pub here : same_channel cell.header.channel default_channel ≡ true
   pub passes : PassesTrue a.notes.frames (a.controller.reassembly.chain ++ cell ∷ [])
-  pub holds : (payload : List ℕ) → payload_in (cell_octets (a.controller.reassembly.chain ++ cell ∷ [])) ≡ Some payload
+  pub holds : (payload : List ℕ) → cell.header.last ≡ true → payload_in (cell_octets (a.controller.reassembly.chain ++ cell ∷ [])) ≡ Some payload
       → IsHeld node input (record switch { crossbar = popped switch.crossbar control_port })
       (record a { controller = record a.controller { reassembly = record a.controller.reassembly { chain = [] } } }) payload
 

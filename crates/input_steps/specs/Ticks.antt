@@ -4,7 +4,7 @@ use Rattle.std.specs.Prelude.{◌≡◌, true, flat_map, Option, None, Some}
 use Rattle.net_types.specs.declared.channel.End.{End}
 use Rattle.net_types.specs.declared.node.PortNo.{PortNo}
 use Rattle.net_types.specs.Label.{number_of_channel}
-use Rattle.adjacency_table.specs.Side.{is_estab, ticked}
+use Rattle.adjacency_table.specs.Side.{ticked}
 use Rattle.adjacency_table.specs.Greeting.{gsmp_answer}
 use Rattle.gsmp_wire.specs.declared.request.Request.TheVariants.{MoveBranch}
 use Rattle.ordered_lists.specs.Ordered.{Every}
@@ -17,7 +17,7 @@ use Rattle.controller_model.specs.Controller.{Acted, linked_at, ports_of}
 use Rattle.controller_model.specs.Gsmp.{steps}
 use Rattle.controller_model.specs.Joins.{Join, join_for, may_join, output_of, enters_grant, enters_label, label_on, tries_join, inputs_at}
 use Rattle.controller_model.specs.Ticks.{sends_again, ticks_port, ticks_ports}
-use Rattle.input_steps.specs.Asking.{CanEach, CanAsk, CanApply, IsReady}
+use Rattle.input_steps.specs.Asking.{CanEach, MayAsk, CanApply, IsReady}
 use Rattle.input_steps.specs.Hearing.{Reads}
 
 -- a port ticks
@@ -29,8 +29,7 @@ pub record CanEnter (input : End) (a : Acted) (join : Join) : Type 0 where
   pub grant : CanApply input a (λ setup desk w. port_joins.lent w join.grant join.input) (linked_at a.controller join.port)
   pub label : CanApply input (enters_grant a join) (λ setup desk w. port_joins.joined w (number_of_channel join.input.channel) (output_of join))
       (linked_at (enters_grant a join).controller join.input.port)
-  pub asks : is_estab (enters_label (enters_grant a join) join).controller.adjacency.state ≡ true
-      → CanAsk input (enters_label (enters_grant a join) join) (MoveBranch join.input (home_of join.input) (output_of join))
+  pub asks : MayAsk input (enters_label (enters_grant a join) join) (MoveBranch join.input (home_of join.input) (output_of join))
 
 abbrev pub CanJoin : (input : End) → Acted → Option Join → Type 0
 CanJoin input a None = Unit {0}

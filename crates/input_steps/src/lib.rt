@@ -49,7 +49,7 @@ ghost use Rattle.input_views.specs.Words.{is_own_greeting, word_of};
 ghost use Rattle.input_views.specs.Shown.{InputShows, IsAllPorts, controller_of, switch_of};
 ghost use Rattle.input_views.specs.Reaching.{Follows, Anything};
 ghost use Rattle.input_steps.specs.Part.{Part, part_of, part_at, part_beside, IsNumbered, Stands, Reaches, AnyLine, Leads};
-ghost use Rattle.input_steps.specs.Asking.{CanAsk, CanApply, CanEach, IsReadable, IsReady};
+ghost use Rattle.input_steps.specs.Asking.{MayAsk, CanApply, CanEach, IsReadable, IsReady};
 ghost use Rattle.input_steps.specs.Hearing.{Comes, ComesBack, HasQueue, IsHeld, LeadsAway, MayHold, Reads};
 ghost use Rattle.input_steps.specs.Ticks.{CanTick};
 ghost use Rattle.input_steps.specs.Done.{CanFinish, CanTakeEach};
@@ -97,8 +97,7 @@ pub fn switches_are_moves()
 /// sends again what stands, and does what a rule of a port asks.
 pub fn requests_are_moves()
     ensures asks { (node : NodeId) (input : End) (switch : switches.Switch) (a : controllers.Acted) (request : Request)
-        → (is_estab a.controller.adjacency.state ≡ true → CanAsk input a request)
-        → Leads node input (part_at input switch a) (part_at input switch (asks a request)) }
+        → MayAsk input a request → Leads node input (part_at input switch a) (part_at input switch (asks a request)) }
     ensures withdraws { (node : NodeId) (input other : End) (switch : switches.Switch) (a : controllers.Acted) → same_end input other ≡ false
         → Leads node input (part_at input switch a) (part_at input switch (withdraws_input a other)) }
     ensures again { (node : NodeId) (input : End) (switch : switches.Switch) (a : controllers.Acted) → Every (IsReady a.controller.desk) (sent_again a.controller.desk)
@@ -176,7 +175,7 @@ pub fn successes_are_moves()
         → Reaches node input (part_at input switch (answer_comes a message)) AnyLine
         (record line { at_controller = Answer under head.number (word_of input asked.request) Success ∷ [] }) }
     ensures ends { (node : NodeId) (input : End) (switch : switches.Switch) (a : controllers.Acted)
-        → CanEach asks (λ b request. is_estab b.controller.adjacency.state ≡ true → CanAsk input b request)
+        → CanEach asks (MayAsk input)
         (record a { controller = record a.controller { has_met = true } }) (flat_map default_branches (up_ports a.controller))
         → Leads node input (part_at input switch (record a { controller = record a.controller { has_met = true } })) (part_at input switch (ends_meeting a)) }
 {}

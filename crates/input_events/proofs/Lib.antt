@@ -1,0 +1,14 @@
+pub mod Packets
+pub mod Cells
+pub mod Growing
+pub mod Spoken
+pub mod Answering
+pub mod Heard
+pub mod Sites
+pub mod Acting
+pub mod Carrying
+pub mod Returning
+pub mod Ending
+pub mod Listing
+pub mod Back
+pub mod Events

@@ -1,0 +1,131 @@
+-- What is asked of a network and of an event, so that the event is moves of the line of each input
+
+use Rattle.std.specs.Prelude.{◌≡◌, ◌≢◌, ℕ, ◌≤◌, ◌<◌, true, false, List, [], ◌∷◌, ◌++◌, length, map, Contains, Option, None, Some}
+use Rattle.std.specs.FinMap.{get}
+use Rattle.net_types.specs.declared.channel.End.{End}
+use Rattle.net_types.specs.declared.node.NodeId.{NodeId}
+use Rattle.net_types.specs.declared.node.PortNo.{PortNo}
+use Rattle.net_types.specs.declared.number.Mark.{Mark}
+use Rattle.net_types.specs.Number.{HasNumbersLeft}
+use Rattle.atm_cells.specs.declared.cell.Cell.{Cell}
+use Rattle.ipv4_forward.specs.Hop.{hop_of}
+use Rattle.ipv4_forward.specs.declared.outcome.Hop.TheVariants.{On}
+use Rattle.gsmp_wire.specs.Range.{Fits, FitsRows}
+use Rattle.gsmp_wire.specs.declared.message.Message.{Message}
+use Rattle.gsmp_wire.specs.declared.message.Message.TheVariants.{AllPorts}
+use Rattle.ordered_lists.specs.Ordered.{Every, InOrder}
+use Rattle.crossbar_model.specs.Crossbar.{queue_of}
+use Rattle.switch_model.specs.Switch.{control_port, numbers_of}
+use Rattle.gsmp_reading.specs.Said.{IsSaid}
+use Rattle.desk_model.specs.Desk.{Standing}
+use Rattle.desk_model.specs.Messages.{is_up}
+use Rattle.port_model.specs.Setup.{Setup}
+use Rattle.port_facts.specs.Port.{IsShaped}
+use Rattle.switch_model.specs.declared.port.PortState.{PortState}
+use Rattle.switch_model.specs.Answers.{row_of}
+use Rattle.link_model.specs.declared.frames.Frame.{Frame}
+use Rattle.link_model.specs.Ledger.{payload_of}
+use Rattle.frame_model.specs.Frame.{next_mark}
+use Rattle.controller_model.specs.Controller.{Controller, ports_of, default_channel}
+use Rattle.controller_model.specs.Cells.{same_channel}
+use Rattle.controller_model.specs.Packets.{is_control}
+use Rattle.net_types.specs.declared.node.Place.{Place}
+use Rattle.net_types.specs.declared.node.Place.TheVariants.{Down, Up, Out}
+use Rattle.world_model.specs.declared.event.Event.{Event}
+use Rattle.world_model.specs.declared.event.Event.TheVariants.{Carry, Lose, Forge}
+use Rattle.world_model.specs.declared.link.LinkEnd.{LinkEnd}
+use Rattle.world_model.specs.Topology.{Topology, peer_of}
+use Rattle.world_model.specs.World.{Site, World, site_at}
+use Rattle.world_model.specs.Places.{queue_at}
+use Rattle.world_model.specs.Ways.{gsmp_under, copy_of}
+use Rattle.shown_cells.specs.Seen.{IsUnmade}
+use Rattle.input_steps.specs.Hearing.{LeadsAway, PassesTrue}
+use Rattle.input_premises.specs.Steady.{IsSteady}
+use Rattle.world_views.specs.Between.{EachSite, setups_of, IsInput, HasInputLine}
+
+-- a packet's next frame is the first under its mark
+abbrev pub IsNext : List Frame → (came : Mark) → Type 0
+IsNext frames came = is_control came ≡ false → ((next_mark came).packet ≢ 0) × (payload_of frames (next_mark came) ≡ None)
+
+-- routes lead to ports of links
+abbrev pub GoesByLinks : Controller → Type 0
+GoesByLinks c = (packet : List ℕ) (port : PortNo) → hop_of c.table packet ≡ On port → 1 ≤ port.0
+
+-- *What a switch tells of its ports* when it is asked for all, in the order of their numbers
+abbrev pub IsBelow : PortNo → PortNo → Type 0
+IsBelow p q = p.0 < q.0
+
+pub record TellsPorts (ports : List PortState) : Type 0 where
+  pub ascending : InOrder IsBelow (numbers_of ports)
+  pub some : 1 ≤ length ports
+  pub few : length (map row_of ports) ≤ 9
+  pub fits : FitsRows (map row_of ports)
+
+-- *What a controller says* to its switch
+pub record IsToSwitch (setups : List Setup) (m : Message) : Type 0 where
+  pub fits : Fits m
+  pub said : IsSaid m
+  pub shaped : (s : Standing) → copy_of m ≡ Some s → IsShaped setups s.request
+
+abbrev pub HasSaid : List Frame → NodeId → Site → Type 0
+HasSaid frames node site = (cell : Cell) (m : Message) → Contains site.controller.queue cell → same_channel cell.header.channel default_channel ≡ true
+    → gsmp_under frames cell.mark ≡ Some m → IsToSwitch (setups_of site.controller) m
+
+-- *What a switch says* to its controller: all its ports, in numbers that fit, are up
+abbrev pub IsFromSwitch : Controller → Message → Type 0
+IsFromSwitch c (AllPorts result code number rows) = result ≡ 3 → FitsRows rows × Every (λ (port : PortNo). is_up rows port ≡ true) (ports_of c)
+IsFromSwitch c message = Unit {0}
+
+abbrev pub HasAnswered : List Frame → NodeId → Site → Type 0
+HasAnswered frames node site = (cell : Cell) (m : Message) → Contains (queue_of site.switch.crossbar control_port) cell → same_channel cell.header.channel default_channel ≡ true
+    → gsmp_under frames cell.mark ≡ Some m → IsFromSwitch site.controller m
+
+-- *A site* between events: what is so of its controller alone; its switch has a queue at each port, tells its ports, and
+-- leads no cell of another channel to GSMP's
+pub record IsSteadySite (node : NodeId) (site : Site) : Type 0 where
+  pub steady : IsSteady site.controller
+  pub numbered : site.controller.node ≡ node
+  pub small : node.0 < 256
+  pub by_links : GoesByLinks site.controller
+  pub queues : length site.switch.crossbar.queues ≡ 9
+  pub ports : TellsPorts site.switch.ports
+  pub same_ports : numbers_of site.switch.ports ≡ control_port ∷ ports_of site.controller
+  pub away : (input : End) → LeadsAway (get site.switch.crossbar.branches input)
+
+-- *A network* between events, with numbers left; of packets that weren't sent yet nothing is made
+pub record IsRunning (w : World) : Type 0 where
+  pub sites : EachSite w IsSteadySite
+  pub said : EachSite w (HasSaid w.notes.frames)
+  pub answered : EachSite w (HasAnswered w.notes.frames)
+  pub unmade : IsUnmade w.numbers.controls w.notes.frames
+  pub left : HasNumbersLeft w.numbers
+  pub unsent : (k frame : ℕ) → w.sent < k → payload_of w.notes.frames (record { packet = k; frame = frame }) ≡ None
+
+-- *The lines of its inputs*: for each label of a linked port of each node, moves lead to a line that the node shows
+abbrev pub HasLines : World → Type 0
+HasLines w = EachSite w (λ node site. (input : End) → IsInput site.controller input → HasInputLine w node site input)
+
+-- *An event* that forges no frame, and lets none pass by chance on the GSMP channel; what it carries to a controller on
+-- another channel can be sent on, and what it carries on a link goes from a link's port to another
+abbrev pub IsFar : Option LinkEnd → Type 0
+IsFar None = Unit {0}
+IsFar (Some far) = 1 ≤ far.port.0
+
+abbrev pub CanCarry : Topology → World → Place → Type 0
+CanCarry topology w (Down node) = (cell : Cell) (cells : List Cell) (site : Site) → queue_at w (Down node) ≡ cell ∷ cells → site_at w node ≡ Some site
+    → same_channel cell.header.channel default_channel ≡ true → PassesTrue w.notes.frames (site.switch.reassembly.chain ++ cell ∷ [])
+CanCarry topology w (Up node) = (cell : Cell) (cells : List Cell) (site : Site) → queue_at w (Up node) ≡ cell ∷ cells → site_at w node ≡ Some site
+    → (same_channel cell.header.channel default_channel ≡ false → IsNext w.notes.frames cell.mark)
+    × (same_channel cell.header.channel default_channel ≡ true → PassesTrue w.notes.frames (site.controller.reassembly.chain ++ cell ∷ []))
+CanCarry topology w (Out node port) = (1 ≤ port.0) × IsFar (peer_of topology node port)
+
+abbrev pub CanLose : Place → Type 0
+CanLose (Down node) = Unit {0}
+CanLose (Up node) = Unit {0}
+CanLose (Out node port) = 1 ≤ port.0
+
+abbrev pub IsOrdinary : Topology → World → Event → Type 0
+IsOrdinary topology w (Carry place) = CanCarry topology w place
+IsOrdinary topology w (Lose place) = CanLose place
+IsOrdinary topology w (Forge place channel payload) = ⊥
+IsOrdinary topology w event = Unit {0}

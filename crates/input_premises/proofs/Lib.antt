@@ -1,0 +1,13 @@
+pub mod Unhalted
+pub mod Rows
+pub mod Asking
+pub mod Free
+pub mod Resetting
+pub mod Working
+pub mod Releasing
+pub mod Changing
+pub mod Trying
+pub mod Finishing
+pub mod Ticking
+pub mod Reading
+pub mod Steady

@@ -1,0 +1,178 @@
+-- joins may be tried: a join is entered at its grant and at its label, and Move Branch is asked
+
+use Rattle.std.proofs.Common.{◌≡◌, ◌≤◌, ℕ, true, List, [], ◌∷◌, length, Option, None, Some, refl, sym, ◌∙◌, ap, subst, arith}
+use Rattle.std.specs.Prelude.{◌&&◌, not, is_none, nat_lt}
+use Rattle.std.specs.Option.{option_map}
+use Rattle.net_types.specs.declared.node.PortNo.{PortNo}
+use Rattle.net_types.specs.declared.channel.End.{End}
+use Rattle.net_types.specs.Label.{number_of_channel}
+use Rattle.flow_ids.specs.declared.flow.FlowId.{FlowId}
+use Rattle.flow_ids.specs.Flow.{next_hop_of}
+use Rattle.flow_ids.specs.Parts.{flow_destination, same_flow}
+use Rattle.ipv4_forward.specs.Best.{best}
+use Rattle.gsmp_wire.specs.declared.request.Request.TheVariants.{MoveBranch}
+use Rattle.ordered_lists.specs.Ordered.{Every}
+use Rattle.keyed_lists.specs.Keyed.{at}
+use Rattle.desk_model.specs.Desk.{on_input, most_asked}
+use Rattle.port_model.specs.Setup.{Setup, home_of}
+use Rattle.port_model.specs.Labels.{Label, Offered, label_number}
+use Rattle.port_model.specs.Grants.{Grant, ByController, grant_label, grant_for, is_by_controller}
+use Rattle.port_model.specs.Port.{Work, label_at, labels_of}
+use Rattle.port_model.specs.Joins as port_joins
+use Rattle.port_facts.specs.Port.{IsLabelEnd, IsGrant, IsPort, joins_label}
+use Rattle.port_facts.proofs.Keyed.{on_each, at_every, apart_at}
+use Rattle.port_facts.proofs.Found.{find_passes}
+use Rattle.port_facts.proofs.Instances.{joined_gave, lent_gave}
+use Rattle.port_facts.proofs.Rules.{and_first}
+use Rattle.controller_model.specs.Controller.{Acted, Linked, linked_at}
+use Rattle.controller_model.specs.Resets.{begins, with_work}
+use Rattle.controller_model.specs.Performing.{performs_in_estab}
+use Rattle.controller_model.specs.Joins.{Join, output_of, port_by, join_through, join_by, join_for, is_offered, may_join, enters_grant, enters_label, joins, tries_label, label_on, tries_join}
+use Rattle.controller_model.specs.Routes.{route_stays}
+use Rattle.controller_facts.proofs.Moves.{Found, HasPorts, found_setup, found_at_own, found_port}
+use Rattle.controller_facts.proofs.Joining.{image_is}
+use Rattle.controller_facts.proofs.Entering.{is_offered_by, by_controller, OnPort, on_port, lends_labels}
+use Rattle.controller_facts.proofs.Laws.{has_ports}
+use Rattle.controller_law.proofs.Holding.{Holds, lent_met}
+use Rattle.controller_law.proofs.Entering.{IsLentNow, lent_at_port, enters_label_lent, joins_holds}
+use Rattle.input_steps.specs.Asking.{CanEach, CanPerformInEstab, CanApply}
+use Rattle.input_steps.specs.Ticks.{CanEnter, CanJoin, CanJoinLabel, CanTryJoin}
+use Rattle.input_premises.specs.Read.{AreRead}
+use Rattle.input_premises.proofs.Rows.{at_port_rows, tries_join_rows}
+use Rattle.input_premises.proofs.Asking.{asks_can}
+use Rattle.input_premises.proofs.Releasing.{read_on, parted_asks, none_asked}
+
+none_of : (o : Option End) → is_none o ≡ true → o ≡ None
+none_of None e = refl
+none_of (Some x) e = absurd (cc e)
+
+-- *A label that may be joined* is offered
+free_label : (a : Acted) (i : End) (label : Label) → may_join a.controller i label ≡ true → label.state ≡ Offered
+free_label a i label may =
+    let both : (is_offered label.state && is_none label.join) ≡ true = and_first (is_offered label.state && is_none label.join)
+    (not (on_input a.controller.desk i) && (nat_lt (length a.controller.desk.standing) most_asked && route_stays a.controller (flow_destination label.flow))) may in
+    is_offered_by label.state (and_first (is_offered label.state) (is_none label.join) both)
+
+module _ (setups : List Setup) (input : End) (above : 1 ≤ input.port.0) where
+  -- *A join* under a grant that is found for it
+  record IsFor (a : Acted) (i : End) (join : Join) : Type 0 where
+    linked : Linked
+    grant : Grant
+    own : Found setups a linked
+    granted : at grant_label grant.label linked.port.grants ≡ Some grant
+    sending : grant.state ≡ ByController
+    is : join ≡ record { input = i; port = linked.setup.port; grant = grant }
+
+  by_grant : (a : Acted) (i : End) (next : FlowId) (linked : Linked) → Found setups a linked → IsPort setups linked.setup linked.port → (o : Option Grant) → grant_for linked.port.grants next ≡ o
+      → (join : Join) → option_map (λ grant. record { input = i; port = linked.setup.port; grant = grant }) o ≡ Some join → IsFor a i join
+  by_grant a i next linked own port None found join e = absurd (cc e)
+  by_grant a i next linked own port (Some grant) found join e =
+      let passes = find_passes (λ (g : Grant). is_by_controller g.state && same_flow g.flow next) linked.port.grants grant found in
+      record {
+        linked = linked;
+        grant = grant;
+        own = own;
+        granted = apart_at grant_label (λ (g : Grant). is_by_controller g.state && same_flow g.flow next) linked.port.grants grant port.apart found;
+        sending = by_controller grant.state (and_first (is_by_controller grant.state) (same_flow grant.flow next) passes);
+        is = cc;
+      }
+
+  by_port : (a : Acted) (i : End) (o : Option PortNo) (next : Option FlowId) → HasPorts setups a → (join : Join) → join_by a.controller i o next ≡ Some join → IsFor a i join
+  by_port a i None next h join e = absurd (cc e)
+  by_port a i (Some port) None h join e = absurd (cc e)
+  by_port a i (Some port) (Some next) h join e = by_found (linked_at a.controller port) refl e
+    where
+      by_found : (o : Option Linked) → linked_at a.controller port ≡ o → join_through i next o ≡ Some join → IsFor a i join
+      by_found None found e = absurd (cc e)
+      by_found (Some linked) found e = by_grant a i next linked (found_at_own setups a linked port found) (found_port setups a linked port h found) (grant_for linked.port.grants next) refl join e
+
+  -- *It is entered*
+  lent_can : (a : Acted) (join : Join) (o : Option Linked) → CanApply input a (λ setup desk w. port_joins.lent w join.grant join.input) o
+  lent_can a join None = tt
+  lent_can a join (Some linked) = record {
+    instances = subst (λ (n : ℕ). a.numbers.instances ≤ n) (sym (lent_gave a.numbers.instances (begins a linked) join.grant join.input refl)) (omega arith);
+    each = tt;
+  }
+
+  joined_can : (a : Acted) (n : ℕ) (output : End) (o : Option Linked) → CanApply input a (λ setup desk w. port_joins.joined w n output) o
+  joined_can a n output None = tt
+  joined_can a n output (Some linked) = (let w : Work = port_joins.joined (begins a linked) n output in record {
+    instances = subst (λ (k : ℕ). a.numbers.instances ≤ k) (sym (joined_gave a.numbers.instances (begins a linked) n output refl)) (omega arith);
+    each = none_asked (performs_in_estab linked.setup.port) (CanPerformInEstab input linked.setup.port) (with_work a linked w) w.actions (parted_asks (begins a linked) (Some output) (label_at linked.port n));
+  })
+
+  module _ (a : Acted) (i : End) (label : Label) (linked : Linked) (grant : Grant) (end : IsLabelEnd setups i) (on : label_on a.controller i ≡ Some label) (offered : label.state ≡ Offered)
+      (own : Found setups a linked) (granted : at grant_label grant.label linked.port.grants ≡ Some grant) (sending : grant.state ≡ ByController) (h : Holds setups a)
+      (reads : AreRead setups a.controller.desk.rows) where
+    abbrev join : Join
+    join = record { input = i; port = linked.setup.port; grant = grant }
+
+    abbrev last : Acted
+    last = enters_label (enters_grant a join) join
+
+    has : HasPorts setups a
+    has = has_ports setups a h.sound
+
+    out : IsLabelEnd setups (output_of join)
+    out = record {
+      setup = linked.setup;
+      number = grant.label;
+      linked = found_setup setups a linked linked.setup.port has own;
+      in_range = (at_every grant_label (IsGrant setups linked.setup) grant.label linked.port.grants grant (found_port setups a linked linked.setup.port has own).grants granted).in_range;
+      is = refl;
+    }
+
+    before : OnPort a.controller.ports i label
+    before = on_port a.controller i label on
+
+    first : IsLentNow setups a (enters_grant a join) i
+    first = lent_at_port setups a linked grant i end own granted sending h
+
+    second : IsLentNow setups (enters_grant a join) last i
+    second = enters_label_lent setups (enters_grant a join) join end out
+        (λ x found held is. (let labels : labels_of x.port ≡ before.labels = image_is (λ (y : Linked). labels_of y.port) (linked_at (enters_grant a join).controller i.port) x before.labels (lends_labels setups a join i.port.0 ∙ before.there) found in
+        let both : Some held ≡ Some label = sym is ∙ ap (at label_number (number_of_channel i.channel)) labels ∙ before.found in
+        let same : held ≡ label = cc in
+        ap (λ (y : Label). y.state) same ∙ offered)) first.lent first.holds
+
+    can_enter : CanEnter input a join
+    can_enter = record {
+      grant = lent_can a join (linked_at a.controller join.port);
+      label = joined_can (enters_grant a join) (number_of_channel i.channel) (output_of join) (linked_at (enters_grant a join).controller i.port);
+      asks = asks_can setups input above last (MoveBranch i (home_of i) (output_of join)) i refl (joins_label i (output_of join) end out)
+          (read_on setups (enters_grant a join) last (at_port_rows (enters_grant a join) i.port (λ setup desk w. port_joins.joined w (number_of_channel i.channel) (output_of join)))
+          (read_on setups a (enters_grant a join) (at_port_rows a join.port (λ setup desk w. port_joins.lent w grant i)) reads))
+          (λ e. lent_met setups last i second.lent second.holds) second.holds (joins_holds setups a i label linked grant end on offered own granted sending h);
+    }
+
+  -- *It is tried*
+  pub can_try : (a : Acted) (i : End) → IsLabelEnd setups i → Holds setups a → AreRead setups a.controller.desk.rows → CanTryJoin input a i
+  can_try a i end h reads = by_label (label_on a.controller i) refl
+    where
+      by_join : (label : Label) → label_on a.controller i ≡ Some label → label.state ≡ Offered → (o : Option Join) → join_for a.controller i label.flow ≡ o → CanJoin input a o
+      by_join label on offered None found = tt
+      by_join label on offered (Some join) found =
+          let f : IsFor a i join = by_port a i (port_by (best a.controller.table (flow_destination label.flow))) (next_hop_of label.flow) (has_ports setups a h.sound) join found in
+          subst (CanEnter input a) (sym f.is) (can_enter a i label f.linked f.grant end on offered f.own f.granted f.sending h reads)
+
+      by_label : (o : Option Label) → label_on a.controller i ≡ o → CanJoinLabel input a i o
+      by_label None on = tt
+      by_label (Some label) on = λ may. by_join label on (free_label a i label may) (join_for a.controller i label.flow) refl
+
+  tried_holds : (a : Acted) (i : End) → IsLabelEnd setups i → Holds setups a → Holds setups (tries_join a i)
+  tried_holds a i end h = by_label (label_on a.controller i) refl
+    where
+      by_join : (label : Label) → label_on a.controller i ≡ Some label → label.state ≡ Offered → (o : Option Join) → join_for a.controller i label.flow ≡ o → Holds setups (joins a o)
+      by_join label on offered None found = h
+      by_join label on offered (Some join) found =
+          let f : IsFor a i join = by_port a i (port_by (best a.controller.table (flow_destination label.flow))) (next_hop_of label.flow) (has_ports setups a h.sound) join found in
+          subst (λ (x : Join). Holds setups (joins a (Some x))) (sym f.is) (joins_holds setups a i label f.linked f.grant end on offered f.own f.granted f.sending h)
+
+      by_label : (o : Option Label) → label_on a.controller i ≡ o → Holds setups (tries_label a i o)
+      by_label None on = h
+      by_label (Some label) on = on_each (Holds setups) (may_join a.controller i label) (joins a (join_for a.controller i label.flow)) a
+          (λ may. by_join label on (free_label a i label may) (join_for a.controller i label.flow) refl) (λ t. h)
+
+  pub each_tried : (inputs : List End) (a : Acted) → Every (IsLabelEnd setups) inputs → Holds setups a → AreRead setups a.controller.desk.rows → CanEach tries_join (CanTryJoin input) a inputs
+  each_tried [] a ends h reads = tt
+  each_tried (i ∷ inputs) a ends h reads = (can_try a i ends.0 h reads, each_tried inputs (tries_join a i) ends.1 (tried_holds a i ends.0 h) (read_on setups a (tries_join a i) (tries_join_rows a i) reads))

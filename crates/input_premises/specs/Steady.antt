@@ -1,0 +1,21 @@
+-- What is so of a controller between events, as far as the lines of its inputs need it
+
+use Rattle.crossbar_model.specs.Channels.{IsLinkPort}
+use Rattle.gsmp_wire.specs.Range.{FitsRows}
+use Rattle.ordered_lists.specs.Ordered.{Every}
+use Rattle.port_model.specs.Setup.{Setup}
+use Rattle.std.specs.Prelude.{List}
+use Rattle.controller_model.specs.Controller.{Controller}
+use Rattle.controller_facts.specs.Sound.{IsSound}
+use Rattle.controller_law.specs.Order.{IsOrderly}
+use Rattle.controller_law.specs.Match.{IsMatched}
+
+-- its ports are of links; it is sound, its requests are in order, and its joins match; and the numbers of the records that
+-- it keeps of the ports of its switch fit
+pub record IsSteady (c : Controller) : Type 0 where
+  pub setups : List Setup
+  pub links : Every (λ (setup : Setup). IsLinkPort setup.port) setups
+  pub sound : IsSound setups c
+  pub order : IsOrderly c
+  pub matched : IsMatched c.ports c.desk
+  pub rows : FitsRows c.desk.rows
