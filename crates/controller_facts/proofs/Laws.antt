@@ -8,6 +8,7 @@ use Rattle.ordered_lists.specs.Ordered.{Every, InOrder}
 use Rattle.ordered_lists.proofs.InOrder.{order_mapped}
 use Rattle.port_model.specs.Setup.{Setup}
 use Rattle.port_facts.specs.Port.{IsPort}
+use Rattle.port_facts.proofs.Joins.{begun_kept}
 use Rattle.controller_model.specs.declared.range.PortRange.{PortRange}
 use Rattle.controller_model.specs.Controller.{Acted}
 use Rattle.controller_model.specs.Opening.{setup_of, opens_port, opens_ports}
@@ -119,20 +120,7 @@ opened_setups f (range ∷ ranges) instances = ap (λ (rest : List Setup). f ran
 
 opened_each : (setups : List Setup) (f : PortRange → Setup) (ranges : List PortRange) (instances : ℕ) → Every (IsLinkedPort setups) (opens_ports f instances ranges)
 opened_each setups f [] instances = tt
-opened_each setups f (range ∷ ranges) instances = (fresh range, opened_each setups f ranges (instances + 1))
-  where
-    fresh : (range : PortRange) → IsPort setups (f range) (opens_port (f range) instances).port
-    fresh range = record {
-      side = record { peer = refl; silence = omega arith };
-      session = refl;
-      labels = tt;
-      ascend = tt;
-      grants = tt;
-      apart = tt;
-      few = omega arith;
-      closed = λ e. tt;
-      cleared = λ e. inl refl;
-    }
+opened_each setups f (range ∷ ranges) instances = (begun_kept setups (f range) instances 0, opened_each setups f ranges (instances + 1))
 
 opened_shut : (f : PortRange → Setup) (ranges : List PortRange) (instances : ℕ) → Every IsShutLinked (opens_ports f instances ranges)
 opened_shut f [] instances = tt

@@ -20,6 +20,21 @@ use Rattle.port_model.specs.Resets.{next_side, closing, left_in, left_of, taking
 use Rattle.port_facts.specs.Port.{setup_port, IsLabelEnd, IsLabel, IsGrant, IsApart, owes_nothing, GrantOwesNothing, IsPort, empties_port, IsAction, IsWork}
 use Rattle.port_facts.proofs.Kept.{own_end, tells_kept, label_kept, found_label, grant_kept, gone_grant_kept, found_grant, found_owes, leaves}
 
+-- *A port that begins anew* has no session and no grants
+pub begun_kept : (setups : List Setup) (setup : Setup) (instances redirects : ℕ)
+    → IsPort setups setup (record { adjacency = next_side setup instances; session = None; grants = []; redirects = redirects })
+begun_kept setups setup instances redirects = record {
+  side = record { peer = refl; silence = omega arith };
+  session = refl;
+  labels = tt;
+  ascend = tt;
+  grants = tt;
+  apart = tt;
+  few = omega arith;
+  closed = λ e. tt;
+  cleared = λ e. inl refl;
+}
+
 module _ (setups : List Setup) (setup : Setup) (linked : at setup_port setup.port.0 setups ≡ Some setup) where
   -- *A join is entered at its label*, and goes
   joins_label_kept : (w : Work) (join : Option End) (number : ℕ) (o : Option Label) → ((output : End) → join ≡ Some output → IsLabelEnd setups output)
@@ -154,20 +169,10 @@ module _ (setups : List Setup) (setup : Setup) (linked : at setup_port setup.por
       }
 
   pub restarts_kept : (w : Work) → IsWork setups setup w → IsWork setups setup (restarts setup w)
-  restarts_kept w h =
-      let after : Port = record w.port { adjacency = next_side setup w.instances; session = None; grants = [] } in
-      let port : IsPort setups setup after = record {
-        side = record { peer = refl; silence = omega arith };
-        session = refl;
-        labels = tt;
-        ascend = tt;
-        grants = tt;
-        apart = tt;
-        few = omega arith;
-        closed = λ e. tt;
-        cleared = λ e. inl refl;
-      } in
-      record { port = port; actions = every_join (IsAction setups) w.actions (closing setup w.port.session) h.actions (closing_kept w.port.session) }
+  restarts_kept w h = record {
+    port = begun_kept setups setup w.instances w.port.redirects;
+    actions = every_join (IsAction setups) w.actions (closing setup w.port.session) h.actions (closing_kept w.port.session);
+  }
 
   -- one in Clearing without a grant is cleared
   pub cleared_kept : (port : Port) → port.adjacency.state ≡ Clearing → port.grants ≡ [] → IsPort setups setup port → IsPort setups setup (cleared port)
