@@ -41,9 +41,14 @@ use Rattle.controller_views.specs.Lifted.{IsProper}
 use Rattle.controller_views.specs.Queues.{awaited}
 use Rattle.controller_views.proofs.Parts.{net_goes, goes_on, quiet_leads}
 use Rattle.controller_views.proofs.Works.{port_is, quiet_note}
-use Rattle.arrival_views.specs.Cells.{IsDefault, unchained, ended_at, IsTold, CanCome}
+use Rattle.arrival_views.specs.Cells.{EndsFrame, IsDefault, unchained, ended_at, IsTold, CanCome}
 use Rattle.arrival_views.proofs.Chains.{with_taken, moved_then, empties_all, Came, FirstCame, default_seen, GivenUp, gives_up, JoinedIn, joins_in, retaken, noted_net, goes_here, waits, chained}
 use Rattle.arrival_views.proofs.Hears.{known_frame, heard_net}
+
+-- a slot is there that isn't missed
+pub has_slot : (b : Bool) → not b ≡ false → b ≡ true
+has_slot true e = refl
+has_slot false e = absurd (cc e)
 
 -- a chain that isn't empty is tested
 pub ends_is : (a : Acted) (taker : Taker) (cells : List Cell) (c : Cell) → ends_frame a taker (cells ++ c ∷ []) ≡ after_test a taker (last_mark (cells ++ c ∷ [])) (tested a.notes (cells ++ c ∷ []))
@@ -161,12 +166,12 @@ module _ (link : LinkLabel) (proper : IsProper link) (like : Type 0) (role : Rol
       if last then record { reassembly = record linked.reassembly { chain = [] }; notes = a.notes; ended = linked.reassembly.chain ++ c ∷ [] }
       else record { reassembly = record linked.reassembly { chain = linked.reassembly.chain ++ c ∷ [] }; notes = a.notes; ended = [] }
 
-  joined_net : IsDefault link role c → CanCome link like role a linked c → (last : Bool) → c.header.last ≡ last → To (after_cell a (ForDefault linked) (joined_as last))
+  joined_net : IsDefault link role c → (c.header.last ≡ true → CanCome link like role a linked c) → (last : Bool) → c.header.last ≡ last → To (after_cell a (ForDefault linked) (joined_as last))
   joined_net here can false e = kept here (record linked.reassembly { chain = linked.reassembly.chain ++ c ∷ [] }) refl
   joined_net here can true e = subst To (sym (ends_is (ended_at a linked) (ForDefault linked) linked.reassembly.chain c))
-      (tested_net here e can (payload_in (octets_of (linked.reassembly.chain ++ c ∷ []))) refl)
+      (tested_net here e (can e) (payload_in (octets_of (linked.reassembly.chain ++ c ∷ []))) refl)
 
-  pub own_cell : IsDefault link role c → CanCome link like role a linked c → To (takes_cell a c (Some (ForDefault linked)))
+  pub own_cell : IsDefault link role c → (EndsFrame a linked.reassembly c → CanCome link like role a linked c) → To (takes_cell a c (Some (ForDefault linked)))
   own_cell here can =
       let r : Reassembly = linked.reassembly in
       let slot : Bool = nat_lt 0 (free_slots a.controller) in
@@ -177,4 +182,4 @@ module _ (link : LinkLabel) (proper : IsProper link) (like : Type 0) (role : Rol
       (λ f. given_up (without_slot a.notes r c).notes (without_slot a.notes r c).reassembly (broken_frames (marks_of r.chain) (noted a.notes (Loss c.mark PoolFull))) (inr refl))
       (λ f. on_each to (nat_le most_cells (length r.chain)) (too_long a.notes r c) (joined a.notes r c)
       (λ g. given_up (too_long a.notes r c).notes (too_long a.notes r c).reassembly (broken_frames (marks_of (r.chain ++ c ∷ [])) a.notes) (inr refl))
-      (λ g. joined_net here can c.header.last refl)))
+      (λ g. joined_net here (λ last. can (record { last = last; gathers = e; slot = has_slot slot f; short = g })) c.header.last refl)))

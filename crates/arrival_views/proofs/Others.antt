@@ -32,8 +32,8 @@ use Rattle.controller_views.specs.Queues.{awaited}
 use Rattle.controller_views.proofs.Parts.{both, net_goes, goes_on, end_then, quiet_leads}
 use Rattle.controller_views.proofs.Carried.{lost_net}
 use Rattle.controller_views.proofs.Works.{port_is, quiet_same, quiet_put, quiet_note, relinked_leads}
-use Rattle.arrival_views.specs.Cells.{PassesByRight, IsDefault, ended_by, CanArrive}
-use Rattle.arrival_views.proofs.Comes.{ends_is, own_cell}
+use Rattle.arrival_views.specs.Cells.{PassesByRight, EndsFrame, IsDefault, ended_by, CanArrive}
+use Rattle.arrival_views.proofs.Comes.{has_slot, ends_is, own_cell}
 
 -- nothing is asked at either end
 idle_net : (link : LinkLabel) (like : Type 0) (role : Role) (pieces : Pieces) (line : Line) → Net link like pieces (asking role []) line → Net link like pieces idle line
@@ -100,14 +100,14 @@ module _ (link : LinkLabel) (proper : IsProper link) (like : Type 0) (role : Rol
   rechained a (ForLabel linked x) notes r (label y q z found) same = relinked_leads link proper like role a q linked (record linked { chains = chains_with linked.chains x.number r }) notes []
       found refl refl refl same
 
-  module _ (a : Acted) (taker : Taker) (c : Cell) (away : IsAway link role a taker) (passes : PassesByRight a ((reassembly_of a.controller taker).chain ++ c ∷ []))
-      (holds : (payload : List ℕ) → payload_of a.notes.frames c.mark ≡ Some payload → EndLeads link like role (ended_by a taker) [] (frame_holds (ended_by a taker) taker c.mark payload) []) where
+  module _ (a : Acted) (taker : Taker) (c : Cell) (away : IsAway link role a taker) (passes : EndsFrame a (reassembly_of a.controller taker) c → PassesByRight a ((reassembly_of a.controller taker).chain ++ c ∷ []))
+      (holds : EndsFrame a (reassembly_of a.controller taker) c → (payload : List ℕ) → payload_of a.notes.frames c.mark ≡ Some payload → EndLeads link like role (ended_by a taker) [] (frame_holds (ended_by a taker) taker c.mark payload) []) where
     chain_then : (b : Acted) → To (ended_by a taker) b → To a b
     chain_then b leads = end_then link like role a (ended_by a taker) b [] [] [] (rechained a taker a.notes (record (reassembly_of a.controller taker) { chain = [] }) away refl) leads
 
-    tested_leads : (o : Option (List ℕ)) → payload_in (octets_of ((reassembly_of a.controller taker).chain ++ c ∷ [])) ≡ o → (notes : Journal) → notes ≡ a.notes
+    tested_leads : EndsFrame a (reassembly_of a.controller taker) c → (o : Option (List ℕ)) → payload_in (octets_of ((reassembly_of a.controller taker).chain ++ c ∷ [])) ≡ o → (notes : Journal) → notes ≡ a.notes
         → To a (after_test (ended_by a taker) taker (last_mark ((reassembly_of a.controller taker).chain ++ c ∷ [])) (tested_by notes ((reassembly_of a.controller taker).chain ++ c ∷ []) o))
-    tested_leads None e notes same =
+    tested_leads whole None e notes same =
         let marks : List Mark = marks_of ((reassembly_of a.controller taker).chain ++ c ∷ []) in
         subst (λ (j : Journal). To a (record (ended_by a taker) { notes = broken j marks })) (sym same)
         (end_then link like role a (record a { notes = broken a.notes marks }) (record (ended_by a taker) { notes = broken a.notes marks }) [] [] []
@@ -120,16 +120,16 @@ module _ (link : LinkLabel) (proper : IsProper link) (like : Type 0) (role : Rol
             (record (reassembly_of a.controller taker) { chain = [] }) (default_away linked q found n) refl
         moved_notes (ForLabel linked y) ms (label x q z found) = rechained (record a { notes = broken a.notes ms }) (ForLabel linked y) (broken a.notes ms)
             (record (reassembly_of a.controller taker) { chain = [] }) (label linked q y found) refl
-    tested_leads (Some payload) e notes same =
+    tested_leads whole (Some payload) e notes same =
         let chain : List Cell = (reassembly_of a.controller taker).chain ++ c ∷ [] in
-        let right : is_frame a.notes.frames (last_mark chain) payload ≡ true = passes payload e in
+        let right : is_frame a.notes.frames (last_mark chain) payload ≡ true = passes whole payload e in
         let mark : last_mark chain ≡ c.mark = last_is (reassembly_of a.controller taker).chain c in
         let kept : passed notes (last_mark chain) payload ≡ a.notes = ap (λ (j : Journal). passed j (last_mark chain) payload) same
         ∙ ap (λ (t : Bool). if t then a.notes else noted a.notes (Chance (last_mark chain))) right in
         let made : payload_of a.notes.frames c.mark ≡ Some payload = ap (payload_of a.notes.frames) (sym mark) ∙ frame_is a.notes.frames (last_mark chain) payload right in
         subst (λ (j : Journal). To a (frame_holds (record (ended_by a taker) { notes = j }) taker (last_mark chain) payload)) (sym kept)
         (subst (λ (m : Mark). To a (frame_holds (record (ended_by a taker) { notes = a.notes }) taker m payload)) (sym mark)
-        (subst (λ (b : Acted). To a (frame_holds b taker c.mark payload)) (sym (same_notes taker)) (chain_then (frame_holds (ended_by a taker) taker c.mark payload) (holds payload made))))
+        (subst (λ (b : Acted). To a (frame_holds b taker c.mark payload)) (sym (same_notes taker)) (chain_then (frame_holds (ended_by a taker) taker c.mark payload) (holds whole payload made))))
       where
         same_notes : (t : Taker) → record (with_reassembly a t (record (reassembly_of a.controller taker) { chain = [] })) { notes = a.notes }
             ≡ with_reassembly a t (record (reassembly_of a.controller taker) { chain = [] })
@@ -147,10 +147,10 @@ module _ (link : LinkLabel) (proper : IsProper link) (like : Type 0) (role : Rol
         if last then record { reassembly = record (reassembly_of a.controller taker) { chain = [] }; notes = a.notes; ended = (reassembly_of a.controller taker).chain ++ c ∷ [] }
         else record { reassembly = record (reassembly_of a.controller taker) { chain = (reassembly_of a.controller taker).chain ++ c ∷ [] }; notes = a.notes; ended = [] }
 
-    joined_leads : (last : Bool) → To a (after_cell a taker (joined_as last))
-    joined_leads false = rechained a taker a.notes (record (reassembly_of a.controller taker) { chain = (reassembly_of a.controller taker).chain ++ c ∷ [] }) away refl
-    joined_leads true = subst (To a) (sym (ends_is (ended_by a taker) taker (reassembly_of a.controller taker).chain c))
-        (tested_leads (payload_in (octets_of ((reassembly_of a.controller taker).chain ++ c ∷ []))) refl (ended_by a taker).notes
+    joined_leads : (c.header.last ≡ true → EndsFrame a (reassembly_of a.controller taker) c) → (last : Bool) → c.header.last ≡ last → To a (after_cell a taker (joined_as last))
+    joined_leads whole false is = rechained a taker a.notes (record (reassembly_of a.controller taker) { chain = (reassembly_of a.controller taker).chain ++ c ∷ [] }) away refl
+    joined_leads whole true is = subst (To a) (sym (ends_is (ended_by a taker) taker (reassembly_of a.controller taker).chain c))
+        (tested_leads (whole is) (payload_in (octets_of ((reassembly_of a.controller taker).chain ++ c ∷ []))) refl (ended_by a taker).notes
         (notes_are taker (record (reassembly_of a.controller taker) { chain = [] })))
 
     pub other_cell : To a (takes_cell a c (Some taker))
@@ -164,7 +164,7 @@ module _ (link : LinkLabel) (proper : IsProper link) (like : Type 0) (role : Rol
         (λ f. rechained a taker (without_slot a.notes r c).notes (without_slot a.notes r c).reassembly away (broken_frames (marks_of r.chain) (noted a.notes (Loss c.mark PoolFull))))
         (λ f. on_each to (nat_le most_cells (length r.chain)) (too_long a.notes r c) (joined a.notes r c)
         (λ g. rechained a taker (too_long a.notes r c).notes (too_long a.notes r c).reassembly away (broken_frames (marks_of (r.chain ++ c ∷ [])) a.notes))
-        (λ g. joined_leads c.header.last)))
+        (λ g. joined_leads (λ last. record { last = last; gathers = e; slot = has_slot slot f; short = g }) c.header.last refl)))
 
   -- *Any cell*
   module _ (pieces : Pieces) (a : Acted) (c : Cell) (ws : List Cell) (line : Line) (front : pieces.waiting role ≡ c ∷ ws)
@@ -183,7 +183,7 @@ module _ (link : LinkLabel) (proper : IsProper link) (like : Type 0) (role : Rol
 
     taker_comes : (taker : Taker) → taker_of a.controller c.header.channel ≡ Some taker → IsAway link role a taker → (IsDefault link role c → ⊥) → Arrived (takes_cell a c (Some taker))
     taker_comes taker is away not_own = lost_then (takes_cell a c (Some taker))
-        (other_cell a taker c away (can.passes taker is) (λ payload made. can.holds taker payload is not_own made))
+        (other_cell a taker c away (can.passes taker is) (λ whole payload made. can.holds taker payload is not_own whole made))
 
     not_gsmp : same_channel c.header.channel default_channel ≡ true → IsDefault link role c → ⊥
     not_gsmp e is = absurd (omega (arith, proper.above role, port_of_default c.header.channel (link.port role) is, ap (λ (z : Channel). z.vpi) (same_is c.header.channel default_channel e)))

@@ -1,6 +1,6 @@
 -- What a cell that comes to a controller has to be, so that the lines of labels follow it
 
-use Rattle.std.specs.Prelude.{◌≡◌, ℕ, ◌≤◌, ◌==◌, true, false, List, [], ◌∷◌, ◌++◌, drop, None, Some, Ok}
+use Rattle.std.specs.Prelude.{◌≡◌, ℕ, ◌≤◌, ◌==◌, nat_le, nat_lt, true, false, List, [], ◌∷◌, ◌++◌, drop, length, None, Some, Ok}
 use Rattle.net_types.specs.declared.prefix.Addr.{Addr}
 use Rattle.ipv4_packet.specs.Packet.{protocol_of, source_of, first_fault}
 use Rattle.atm_cells.specs.declared.cell.Cell.{Cell}
@@ -9,12 +9,13 @@ use Rattle.ifmp_wire.specs.declared.message.Message.{Message}
 use Rattle.ifmp_wire.specs.Fields.{decoded}
 use Rattle.link_model.specs.Ledger.{payload_of, is_frame}
 use Rattle.frame_model.specs.Frame.{octets_of, last_mark, payload_in}
+use Rattle.frame_model.specs.Reassembly.{Reassembly, most_cells}
 use Rattle.ordered_lists.specs.Ordered.{Every}
 use Rattle.label_line.specs.Cells.{Role}
 use Rattle.port_model.specs.Saying.{is_spent}
 use Rattle.port_model.specs.Port.{Work}
 use Rattle.port_model.specs.Hearing.{hears}
-use Rattle.controller_model.specs.Controller.{Acted, Linked, linked_at, with_linked, default_channel}
+use Rattle.controller_model.specs.Controller.{Acted, Linked, free_slots, linked_at, with_linked, default_channel}
 use Rattle.controller_model.specs.Packets.{routes, control_protocol}
 use Rattle.controller_model.specs.Cells.{Taker, taker_of, reassembly_of, with_reassembly, frame_holds, counted_at}
 use Rattle.controller_model.specs.Resets.{begins}
@@ -27,6 +28,13 @@ use Rattle.controller_views.specs.Lifted.{IsReadableAction}
 -- mark
 abbrev pub PassesByRight : Acted → List Cell → Type 0
 PassesByRight a cells = (payload : List ℕ) → payload_in (octets_of cells) ≡ Some payload → is_frame a.notes.frames (last_mark cells) payload ≡ true
+
+-- *A cell that ends a frame* of its channel: a last one, of a channel that gathers cells, has a slot for it and isn't full
+pub record EndsFrame (a : Acted) (r : Reassembly) (cell : Cell) : Type 0 where
+  pub last : cell.header.last ≡ true
+  pub gathers : r.is_skipping ≡ false
+  pub slot : nat_lt 0 (free_slots a.controller) ≡ true
+  pub short : nat_le most_cells (length r.chain) ≡ false
 
 -- *On the default channel* of the port at an end of the link
 abbrev pub IsDefault : LinkLabel → Role → Cell → Type 0
@@ -68,10 +76,13 @@ pub record CanCome (link : LinkLabel) (like : Type 0) (role : Role) (a : Acted) 
       → (protocol_of packet == control_protocol) ≡ false
       → EndLeads link like role (ended_at a linked) [] (counted_at (routes (ended_at a linked) cell.mark packet) linked.setup.port packet) []
 
--- *Any cell*: that of the default channel of the link's port is as above, and what a whole frame of another channel does
--- leads the line
+-- *Any cell*: where it ends a frame, that passes by right; that of the default channel of the link's port is as above, and
+-- what a whole frame of another channel does leads the line
 pub record CanArrive (link : LinkLabel) (like : Type 0) (role : Role) (a : Acted) (cell : Cell) : Type 0 where
-  pub own : (linked : Linked) → linked_at a.controller (link.port role) ≡ Some linked → IsDefault link role cell → CanCome link like role a linked cell
-  pub passes : (taker : Taker) → taker_of a.controller cell.header.channel ≡ Some taker → PassesByRight a ((reassembly_of a.controller taker).chain ++ cell ∷ [])
+  pub own : (linked : Linked) → linked_at a.controller (link.port role) ≡ Some linked → IsDefault link role cell → EndsFrame a linked.reassembly cell
+      → CanCome link like role a linked cell
+  pub passes : (taker : Taker) → taker_of a.controller cell.header.channel ≡ Some taker → EndsFrame a (reassembly_of a.controller taker) cell
+      → PassesByRight a ((reassembly_of a.controller taker).chain ++ cell ∷ [])
   pub holds : (taker : Taker) (payload : List ℕ) → taker_of a.controller cell.header.channel ≡ Some taker → (IsDefault link role cell → ⊥)
-      → payload_of a.notes.frames cell.mark ≡ Some payload → EndLeads link like role (ended_by a taker) [] (frame_holds (ended_by a taker) taker cell.mark payload) []
+      → EndsFrame a (reassembly_of a.controller taker) cell → payload_of a.notes.frames cell.mark ≡ Some payload
+      → EndLeads link like role (ended_by a taker) [] (frame_holds (ended_by a taker) taker cell.mark payload) []

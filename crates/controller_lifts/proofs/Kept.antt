@@ -24,7 +24,7 @@ use Rattle.controller_model.specs.Controller.{Acted, Linked, port_key, linked_at
 use Rattle.controller_model.specs.Sending.{sends, sends_control}
 use Rattle.controller_model.specs.Resets.{cuts_of, cuts_label, begins, with_work, closes_by, port_restarts_as, port_restarts_of, port_restarts, resets_gsmp, node_resets}
 use Rattle.controller_model.specs.Asking.{asks_next, asks, takes_back, withdraws_input}
-use Rattle.controller_model.specs.Performing.{does, does_in_estab, resets_as, resets_of, resets_port, performs, performs_in_estab}
+use Rattle.controller_model.specs.Performing.{does, does_in_estab, resets_as, resets_of, resets_port, performs, performs_in_estab, Rule, works_as, works, at_port}
 use Rattle.controller_views.proofs.Sends.{sent_cases}
 
 -- *A property of ports*, by what stays the same of them and the port, that a reset and a restart keep, where the next
@@ -163,3 +163,19 @@ module _ (P : Setup → Port → Type 0) (closed : IsClosed P) where
 
   pub performed_goes : (q : PortNo) (a : Acted) (action : Action) → To a (performs_in_estab q a action)
   performed_goes q a action = on_both (To a) (is_estab a.controller.adjacency.state) (performs q a action) a (performs_goes q a action) (stays a)
+
+  -- *A rule of a port*
+  pub rule_goes : (a : Acted) (q : PortNo) (rule : Rule)
+      → ((linked : Linked) → linked_at a.controller q ≡ Some linked → a.numbers.instances ≤ (rule linked.setup a.controller.desk (begins a linked)).instances)
+      → ((linked : Linked) → linked_at a.controller q ≡ Some linked → (rule linked.setup a.controller.desk (begins a linked)).instances < 2 ^ 32 → P linked.setup linked.port
+      → P linked.setup (rule linked.setup a.controller.desk (begins a linked)).port)
+      → To a (at_port a q rule)
+  rule_goes a q rule drawn keeps = by (linked_at a.controller q) refl
+    where
+      by : (o : Option Linked) → linked_at a.controller q ≡ o → To a (works a rule o)
+      by None found = stays a
+      by (Some linked) found =
+          let w : Work = rule linked.setup a.controller.desk (begins a linked) in
+          goes_on a (with_work a linked w) (works_as a linked w)
+          (work_goes a linked w (drawn linked found) (λ f h. keeps linked found f (at_every port_key (Of P) q.0 a.controller.ports linked h found)))
+          (goes_fold (performs_in_estab linked.setup.port) (performed_goes linked.setup.port) w.actions (with_work a linked w))

@@ -3,6 +3,8 @@ pub mod Halted
 pub mod Kept
 pub mod Unspent
 pub mod Ready
+pub mod Releasing
 pub mod Follow
 pub mod Ways
+pub mod Holding
 pub mod Ticking

@@ -56,7 +56,7 @@ use Rattle.port_widths.proofs.Keeping.{found_grant}
 use Rattle.shown_cells.specs.Label.{told_in}
 use Rattle.controller_views.specs.Lifted.{IsProper, IsReadable, IsReadableAction, IsLifted}
 use Rattle.arrival_views.specs.Cells.{heard_work, CanHear}
-use Rattle.controller_lifts.specs.Ready.{IsReadyPort, IsReady, FitsLink}
+use Rattle.controller_views.specs.Ready.{IsReadyPort, IsReady, FitsLink}
 
 -- *What is said can be read*
 pub readable : (address : Addr) (message : Message) → address.0 < 2 ^ 32 → InRange message → FitsMessage message → IsReadable address message

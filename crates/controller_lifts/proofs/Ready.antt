@@ -30,7 +30,7 @@ use Rattle.controller_facts.proofs.Moves.{Worked, by_rule, HasPorts, Moves, foun
 use Rattle.controller_facts.proofs.Performing.{works_as_goes}
 use Rattle.controller_facts.proofs.Laws.{has_ports, moves_sound}
 use Rattle.controller_facts.proofs.Flows.{moves_flow}
-use Rattle.controller_lifts.specs.Ready.{IsReadyPort, IsReady}
+use Rattle.controller_views.specs.Ready.{IsReadyPort, IsReady}
 use Rattle.controller_lifts.proofs.Lifts.{ready_port, fits_there, heard_any}
 use Rattle.controller_lifts.proofs.Halted.{HasReset, goes_asked}
 use Rattle.controller_lifts.proofs.Kept.{IsClosed, Of, Goes, goes_on, goes_fold, work_goes, performed_goes}
@@ -47,15 +47,15 @@ fits_closed = record {
 }
 
 -- *Both*
-split_unspent : (xs : List Linked) → Every IsReadyPort xs → Every (Of Unspent) xs
+pub split_unspent : (xs : List Linked) → Every IsReadyPort xs → Every (Of Unspent) xs
 split_unspent [] h = tt
 split_unspent (x ∷ xs) h = (h.0.unspent, split_unspent xs h.1)
 
-split_fits : (xs : List Linked) → Every IsReadyPort xs → Every (Of Fits) xs
+pub split_fits : (xs : List Linked) → Every IsReadyPort xs → Every (Of Fits) xs
 split_fits [] h = tt
 split_fits (x ∷ xs) h = ((h.0.setup, h.0.fits), split_fits xs h.1)
 
-both_ready : (xs : List Linked) → Every (Of Unspent) xs → Every (Of Fits) xs → Every IsReadyPort xs
+pub both_ready : (xs : List Linked) → Every (Of Unspent) xs → Every (Of Fits) xs → Every IsReadyPort xs
 both_ready [] u f = tt
 both_ready (x ∷ xs) u f = (record { unspent = u.0; setup = f.0.0; fits = f.0.1 }, both_ready xs u.1 f.1)
 
@@ -131,7 +131,7 @@ module _ (setups : List Setup) where
                 };
           }
 
-  begun_asked : (a : Acted) (linked : Linked) → HasReset (begins a linked)
+  pub begun_asked : (a : Acted) (linked : Linked) → HasReset (begins a linked)
   begun_asked a linked = record { asked = λ e. absurd (cc e) }
 
   -- *Each rule*

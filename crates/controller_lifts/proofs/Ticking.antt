@@ -51,7 +51,7 @@ use Rattle.controller_views.specs.Lifted.{IsProper, IsLifted, Growing}
 use Rattle.controller_views.proofs.Parts.{end_stays, end_then}
 use Rattle.controller_views.proofs.AtPort.{at_port_leads}
 use Rattle.controller_views.proofs.Growing.{at_port_grow}
-use Rattle.controller_lifts.specs.Ready.{IsReady, FitsLink}
+use Rattle.controller_views.specs.Ready.{IsReady, FitsLink}
 use Rattle.controller_lifts.proofs.Lifts.{joined_says, lent_says, ticks_lifted}
 use Rattle.controller_lifts.proofs.Kept.{IsClosed, Goes}
 use Rattle.controller_lifts.proofs.Unspent.{Unspent, unspent_closed}

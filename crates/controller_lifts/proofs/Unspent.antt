@@ -39,7 +39,7 @@ unspent_closed = record { reset = λ setup port n f h. refl; restart = λ setup 
 but_closed : (q : PortNo) → IsClosed (UnspentBut q)
 but_closed q = record { reset = λ setup port n f h. inl refl; restart = λ setup port n f h. inl refl }
 
-each_more : (P Q : Linked → Type 0) → ((x : Linked) → P x → Q x) → (xs : List Linked) → Every P xs → Every Q xs
+pub each_more : (P Q : Linked → Type 0) → ((x : Linked) → P x → Q x) → (xs : List Linked) → Every P xs → Every Q xs
 each_more P Q f [] h = tt
 each_more P Q f (x ∷ xs) h = (f x h.0, each_more P Q f xs h.1)
 
@@ -48,7 +48,7 @@ shut_unspent : (xs : List Linked) → Every IsShutLinked xs → Every (Of Unspen
 shut_unspent xs h = each_more IsShutLinked (Of Unspent) (λ x shut. ap (λ (o : Option Session). is_spent o) shut.session ∙ refl) xs h
 
 -- where the adjacency with the switch isn't in Estab every port is shut
-down_unspent : (setups : List Setup) (a : Acted) → IsSound setups a.controller → is_estab a.controller.adjacency.state ≡ false → Each Unspent a
+pub down_unspent : (setups : List Setup) (a : Acted) → IsSound setups a.controller → is_estab a.controller.adjacency.state ≡ false → Each Unspent a
 down_unspent setups a sound down = by a.controller.has_met refl
   where
     by : (b : Bool) → a.controller.has_met ≡ b → Each Unspent a

@@ -1,6 +1,6 @@
 //! Each rule of a port, and a tick, as moves of the line of each label of a link at its controller.
 //!
-//! `specs/Ready` says what is so of the controller: it is sound, its ports' numbers aren't spent, and each
+//! `controller_views` (`specs/Ready`) says what is so of the controller: it is sound, its ports' numbers aren't spent, and each
 //! number has its field's width, so that what a port says can be read by its neighbour. The lemmas say
 //! that it stays so behind each rule. There is no code that runs.
 #![tactic(auto)]
@@ -31,7 +31,7 @@ ghost use Rattle.port_views.specs.Link.{LinkLabel};
 ghost use Rattle.controller_views.specs.Ends.{EndLeads};
 ghost use Rattle.controller_views.specs.Lifted.{IsProper, IsReadable, IsLifted, Growing};
 ghost use Rattle.arrival_views.specs.Cells.{CanHear};
-ghost use Rattle.controller_lifts.specs.Ready.{IsReady, FitsLink, FitsTick};
+ghost use Rattle.controller_views.specs.Ready.{IsReady, FitsLink, FitsTick};
 
 /// What a port says, in range and with its fields' widths, is what its neighbour reads. It does nothing, and its
 /// contract is the statement.

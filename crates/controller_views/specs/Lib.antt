@@ -1,3 +1,4 @@
 pub mod Ends
 pub mod Lifted
 pub mod Queues
+pub mod Ready

@@ -1,7 +1,7 @@
 -- What is so of every network in a run, between its controllers, switches and links, before the first frame that was
 -- forged or passed its test by chance
 
-use Rattle.std.specs.Prelude.{◌≡◌, ℕ, ◌+◌, ◌<◌, ◌≤◌, true, false, List, ◌∷◌, map, Contains, Option, None, Some}
+use Rattle.std.specs.Prelude.{◌≡◌, ℕ, ◌+◌, ◌<◌, ◌≤◌, true, false, List, ◌∷◌, ◌++◌, Contains, Option, None, Some}
 use Rattle.net_types.specs.declared.channel.End.{End}
 use Rattle.net_types.specs.declared.node.NodeId.{NodeId}
 use Rattle.net_types.specs.declared.node.PortNo.{PortNo}
@@ -9,7 +9,6 @@ use Rattle.net_types.specs.declared.node.Place.{Place}
 use Rattle.net_types.specs.declared.prefix.Addr.{Addr}
 use Rattle.net_types.specs.Label.{is_label_number}
 use Rattle.atm_cells.specs.declared.cell.Cell.{Cell}
-use Rattle.flow_ids.specs.declared.flow.FlowId.{FlowId}
 use Rattle.gsmp_wire.specs.declared.message.Message.TheVariants.{AllPorts}
 use Rattle.gsmp_wire.specs.declared.rows.PortRow.{PortRow}
 use Rattle.ordered_lists.specs.Ordered.{Every}
@@ -20,34 +19,36 @@ use Rattle.desk_model.specs.Desk.{Standing, all_on}
 use Rattle.desk_model.specs.Messages.{is_up}
 use Rattle.switch_model.specs.declared.port.PortState.{PortState}
 use Rattle.switch_model.specs.Switch.{control_port, numbers_of}
-use Rattle.port_model.specs.Setup.{Setup, home_of, label_end}
+use Rattle.port_model.specs.Setup.{Setup, home_of}
 use Rattle.port_facts.specs.Port.{IsLinked, IsLabelEnd, IsShaped}
-use Rattle.controller_model.specs.Controller.{Controller, Linked, ports_of, default_channel}
-use Rattle.label_line.specs.Cells.{Role, Downstream, Upstream}
+use Rattle.controller_model.specs.Controller.{Controller, Linked, ports_of, default_channel, default_home}
+use Rattle.controller_model.specs.Cells.{same_channel}
+use Rattle.label_line.specs.Cells.{Role}
 use Rattle.label_line.specs.Line as labels
 use Rattle.label_line.specs.Law as labels_law
 use Rattle.world_model.specs.Topology.{Topology, Node, node_at}
+use Rattle.world_model.specs.declared.link.LinkEnd.{LinkEnd}
 use Rattle.world_model.specs.World.{World, Site, site_at}
 use Rattle.world_model.specs.Places.{queue_at}
-use Rattle.world_model.specs.Ways.{to_switch, to_controller, gsmp_under, copy_under}
-use Rattle.world_model.specs.Past.{Past, frames_of, last_bound}
-use Rattle.world_model.specs.Users.{IsWay, ByBranch}
-use Rattle.world_model.specs.Owned.{WasCleared, StandsForLast}
+use Rattle.world_model.specs.Conditions.{IsPlace}
+use Rattle.world_model.specs.Ways.{gsmp_to_switch, gsmp_to_controller, requests_chain_at, answers_chain_at, chain_at, gsmp_under, copy_under}
+use Rattle.world_model.specs.Past.{Past, frames_of}
+use Rattle.world_model.specs.Users.{Way, IsWay}
 use Rattle.world_model.specs.Headline.{WasAccepted, fates_of, AreTrueFates}
 use Rattle.port_views.specs.Link.{LinkLabel}
-use Rattle.port_views.specs.Flows.{flow_number}
 use Rattle.shown_cells.specs.Seen.{IsUnmade}
 use Rattle.input_views.specs.Reaching.{ReachedAs, Anything}
-use Rattle.world_views.specs.Pairs.{Pairs, IsLike, IsJoin}
-use Rattle.world_views.specs.Shown.{end_of, way_of, WorldShows}
+use Rattle.world_views.specs.Pairs.{IsLike}
+use Rattle.world_views.specs.Shown.{way_of, WorldShows}
+use Rattle.world_views.specs.Made.{AreMade}
+pub use Rattle.world_views.specs.Ready.{setups_of}
+use Rattle.world_views.specs.Ready.{IsReadySite}
 use Rattle.world_views.specs.Marks.{heading_at, Means, last_cells}
+use Rattle.world_views.specs.Tied.{HasUsersOfLast, HasClearedEnds, HasJoins, LeadsOnce, HasHops, HasPassed}
 
 -- what is so of the site of each node
 abbrev pub EachSite : World → (NodeId → Site → Type 0) → Type 0
 EachSite w P = (node : NodeId) (site : Site) → site_at w node ≡ Some site → P node site
-
-abbrev pub setups_of : Controller → List Setup
-setups_of c = map (λ (linked : Linked). linked.setup) c.ports
 
 -- *Shapes*. The default channel of a linked port, or that of a label in its range
 pub data IsPortEnd (setups : List Setup) : End → Type 0 where
@@ -65,7 +66,7 @@ pub record HasShapes (w : World) (node : NodeId) (site : Site) : Type 0 where
   pub branches : (input output : End) → output_of site.switch.crossbar.branches input ≡ Some output
       → IsShapedBranch (setups_of site.controller) input output
   pub standing : Every (λ (s : Standing). IsShaped (setups_of site.controller) s.request) site.controller.desk.standing
-  pub copies : (s : Standing) (cell : Cell) → Contains (to_switch w node) cell → copy_under w.notes.frames cell.mark ≡ Some s
+  pub copies : (s : Standing) (cell : Cell) → Contains (gsmp_to_switch w node) cell → copy_under w.notes.frames cell.mark ≡ Some s
       → IsShaped (setups_of site.controller) s.request
   pub ports : numbers_of site.switch.ports ≡ control_port ∷ ports_of site.controller
 
@@ -76,17 +77,23 @@ AreUp rows ports = Every (λ (port : PortNo). is_up rows port ≡ true) ports
 
 pub record HasPortsUp (w : World) (node : NodeId) (site : Site) : Type 0 where
   pub up : Every (λ (state : PortState). state.is_up ≡ true) site.switch.ports
-  pub told : (cell : Cell) (code number : ℕ) (rows : List PortRow) → Contains (to_controller w node) cell
+  pub told : (cell : Cell) (code number : ℕ) (rows : List PortRow) → Contains (gsmp_to_controller w node) cell
       → gsmp_under w.notes.frames cell.mark ≡ Some (AllPorts 3 code number rows) → AreUp rows (ports_of site.controller)
   pub met : site.controller.has_met ≡ true → AreUp site.controller.desk.rows (ports_of site.controller)
   pub emptying : (port : PortNo) → all_on site.controller.desk port ≡ true
       → AreUp site.controller.desk.rows (ports_of site.controller)
 
--- *Numbers*: control marks on the way and instances are at most those given out
+-- *Numbers*: control marks on the way, which count from 1, and instances are at most those given out; a chain has taken
+-- cells of its own channel
 pub record HasNumbers (w : World) : Type 0 where
   pub unmade : IsUnmade w.numbers.controls w.notes.frames
   pub marks : (place : Place) (cell : Cell) → Contains (queue_at w place) cell → cell.mark.packet ≡ 0
       → cell.mark.frame ≤ w.numbers.controls
+  pub counted : (place : Place) (cell : Cell) → Contains (queue_at w place) cell → cell.mark.packet ≡ 0 → 0 < cell.mark.frame
+  pub chains : (node : NodeId) (cell : Cell) → Contains (requests_chain_at w node ++ answers_chain_at w node) cell → cell.mark.packet ≡ 0
+      → cell.mark.frame ≤ w.numbers.controls
+  pub taken : (end : LinkEnd) (cell : Cell) → Contains (chain_at w end) cell
+      → (same_channel cell.header.channel (default_home end.port).channel ≡ true) × (cell.mark.packet ≡ 0 → cell.mark.frame ≤ w.numbers.controls)
   pub controllers : EachSite w (λ node site. site.controller.adjacency.own.instance.0 ≤ w.numbers.instances)
   pub switches : EachSite w (λ node site. site.switch.adjacency.own.instance.0 ≤ w.numbers.instances)
   pub ports : EachSite w (λ node site. Every (λ (linked : Linked). linked.port.adjacency.own.instance.0 ≤ w.numbers.instances)
@@ -102,15 +109,11 @@ pub record IsLinkLabel (topology : Topology) (link : LinkLabel) : Type 0 where
   pub address : (role : Role) → HasAddress (node_at topology (link.node role)) (link.address role)
   pub label : is_label_number link.label ≡ true
 
--- moves lead to one that the network shows; its flow is the one that was bound last, and a port was cleared under the
--- instances under which the line says so
+-- moves lead to one that the network shows
 pub record HasLabelLine (past : Past) (link : LinkLabel) : Type 0 where
   pub line : labels.Line
   pub reached : labels_law.IsReached line
   pub shows : WorldShows link (IsLike past.now link) past.now line
-  pub bound : (flow : FlowId) → last_bound past.records (end_of Downstream link) link.label ≡ Some flow → line.flow ≡ flow_number flow
-  pub downstream : (instance : ℕ) → line.downstream_cleared instance ≡ true → WasCleared past (end_of Downstream link) instance
-  pub upstream : (instance : ℕ) → line.upstream_cleared instance ≡ true → WasCleared past (end_of Upstream link) instance
 
 -- *The line of each input* that is a label of a linked port
 abbrev pub IsInput : Controller → End → Type 0
@@ -119,23 +122,10 @@ IsInput c input = IsLabelEnd (setups_of c) input
 abbrev pub HasInputLine : World → NodeId → Site → (input : End) → Type 0
 HasInputLine w node site input = ReachedAs node input site w.notes.frames w.numbers.instances Anything
 
--- *Joins*: once the switch is met, each two labels that are joined or may be are a join of the controller
-abbrev pub HasJoins : World → NodeId → Site → Type 0
-HasJoins w node site =
-    site.controller.has_met ≡ true → (input output : End) → 0 < input.port.0 → 0 < output.port.0
-    → Pairs w node input output → IsJoin site.controller input output
-
--- and at any time the flow bound last to the output is one hop further than that of the input, by the route of the
--- table that is held
-abbrev pub HasHops : Past → LinkLabel → Type 0
-HasHops past link =
-    (input : End) → 0 < input.port.0 → Pairs past.now (link.node Upstream) input (label_end (link.port Upstream) link.label)
-    → StandsForLast past (way_of link) link.label (ByBranch input)
-
 -- *What cells mean*: each cell of each queue
 abbrev pub HasMeanings : Past → Type 0
 HasMeanings past =
-    (place : Place) (cell : Cell) → Contains (queue_at past.now place) cell
+    (place : Place) (cell : Cell) → IsPlace past.topology place → Contains (queue_at past.now place) cell
     → Means past (heading_at past.topology place cell.header.channel) cell.header.last cell.mark
 
 -- *Packets*: of each packet there is at most one last cell, or one record of its fate, and exactly one of the two where it
@@ -148,16 +138,61 @@ pub record HasPacketsOnce (past : Past) : Type 0 where
   pub later : (k : ℕ) → past.now.sent < k → last_cells past.now k ≡ 0
   pub true_fates : AreTrueFates past
 
--- *All of it*
+-- *All of it*, part by part
+abbrev pub HasAllShapes : Past → Type 0
+HasAllShapes past = EachSite past.now (HasShapes past.now)
+
+abbrev pub HasAllPortsUp : Past → Type 0
+HasAllPortsUp past = EachSite past.now (HasPortsUp past.now)
+
+abbrev pub HasAllNumbers : Past → Type 0
+HasAllNumbers past = HasNumbers past.now
+
+abbrev pub HasAllReady : Past → Type 0
+HasAllReady past = EachSite past.now (λ node site. IsReadySite site)
+
+abbrev pub HasAllMade : Past → Type 0
+HasAllMade past = AreMade (frames_of past)
+
+abbrev pub HasAllLabels : Past → Type 0
+HasAllLabels past = (link : LinkLabel) → IsLinkLabel past.topology link → HasLabelLine past link
+
+abbrev pub HasAllInputs : Past → Type 0
+HasAllInputs past = EachSite past.now (λ node site. (input : End) → IsInput site.controller input → HasInputLine past.now node site input)
+
+abbrev pub HasAllUsers : Past → Type 0
+HasAllUsers past = (link : LinkLabel) → IsLinkLabel past.topology link → HasUsersOfLast past link
+
+abbrev pub HasAllCleared : Past → Type 0
+HasAllCleared past = (way : Way) → IsWay past.topology way → HasClearedEnds past way
+
+abbrev pub HasAllJoins : Past → Type 0
+HasAllJoins past = EachSite past.now (HasJoins past.now)
+
+abbrev pub HasAllLedOnce : Past → Type 0
+HasAllLedOnce past = (node : NodeId) → LeadsOnce past.now node
+
+abbrev pub HasAllHops : Past → Type 0
+HasAllHops past = (link : LinkLabel) → IsLinkLabel past.topology link → HasHops past link
+
+abbrev pub HasAllPassed : Past → Type 0
+HasAllPassed past = (node : NodeId) → HasPassed past.now node
+
+-- names and addresses are right in what the lines show: they are seen by instances
 pub record IsWorld (past : Past) : Type 0 where
-  pub shapes : EachSite past.now (HasShapes past.now)
-  pub ports_up : EachSite past.now (HasPortsUp past.now)
-  -- names and addresses are right in what the lines below show: they are seen by instances
-  pub numbers : HasNumbers past.now
-  pub labels : (link : LinkLabel) → IsLinkLabel past.topology link → HasLabelLine past link
-  pub inputs : EachSite past.now (λ node site. (input : End) → IsInput site.controller input → HasInputLine past.now node site input)
-  pub joins : EachSite past.now (HasJoins past.now)
-  pub hops : (link : LinkLabel) → IsLinkLabel past.topology link → HasHops past link
+  pub shapes : HasAllShapes past
+  pub ports_up : HasAllPortsUp past
+  pub numbers : HasAllNumbers past
+  pub ready : HasAllReady past
+  pub made : HasAllMade past
+  pub labels : HasAllLabels past
+  pub inputs : HasAllInputs past
+  pub users : HasAllUsers past
+  pub cleared : HasAllCleared past
+  pub joins : HasAllJoins past
+  pub once : HasAllLedOnce past
+  pub hops : HasAllHops past
+  pub passed : HasAllPassed past
   -- what stands on default channels is in its encapsulation, and messages of IFMP are in their range
   pub meanings : HasMeanings past
   pub packets : HasPacketsOnce past

@@ -1,4 +1,8 @@
 pub mod Pairs
 pub mod Shown
+pub mod Made
+pub mod Ready
 pub mod Marks
+pub mod Tied
 pub mod Between
+pub mod Kept

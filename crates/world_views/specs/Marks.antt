@@ -1,11 +1,12 @@
 -- What the cells of a network mean: which packet a cell of a label or a last cell of a default channel stands for
 
-use Rattle.std.specs.Prelude.{◌≡◌, ℕ, ◌<◌, ◌==◌, ◌&&◌, Bool, true, false, List, length, count_by, Option, None, Some, if◌then◌else◌}
+use Rattle.std.specs.Prelude.{◌≡◌, ◌≢◌, ℕ, ◌<◌, ◌==◌, ◌&&◌, Bool, true, false, List, length, count_by, Option, None, Some, if◌then◌else◌}
 use Rattle.std.specs.List.{sum_by}
 use Rattle.net_types.specs.declared.node.NodeId.{NodeId}
 use Rattle.net_types.specs.declared.node.PortNo.{PortNo}
 use Rattle.net_types.specs.declared.node.Place.{Place}
 use Rattle.net_types.specs.declared.node.Place.TheVariants.{Down, Up, Out}
+use Rattle.net_types.specs.declared.prefix.Addr.{Addr}
 use Rattle.net_types.specs.declared.channel.Channel.{Channel}
 use Rattle.net_types.specs.declared.number.Mark.{Mark}
 use Rattle.net_types.specs.Label.{number_of_channel}
@@ -13,19 +14,19 @@ use Rattle.atm_cells.specs.declared.cell.Cell.{Cell}
 use Rattle.flow_ids.specs.declared.flow.FlowId.{FlowId}
 use Rattle.flow_encaps.specs.Default.{default_payload}
 use Rattle.flow_encaps.specs.Labelled.{Carries}
-use Rattle.ifmp_wire.specs.Message.{InRange}
+use Rattle.ifmp_wire.specs.declared.message.Message.{Message}
 use Rattle.link_model.specs.declared.frames.Frame.{Frame}
 use Rattle.link_model.specs.Ledger.{payload_of}
 use Rattle.controller_model.specs.Controller.{default_channel}
 use Rattle.controller_model.specs.Cells.{same_channel, port_on, on_link}
-use Rattle.controller_model.specs.Packets.{inject_refusal}
+use Rattle.controller_views.specs.Lifted.{payload_by}
 use Rattle.world_model.specs.declared.link.LinkEnd.{LinkEnd}
 use Rattle.world_model.specs.Topology.{Topology, peer_of}
 use Rattle.world_model.specs.World.{World}
 use Rattle.world_model.specs.Places.{places, queue_at}
 use Rattle.world_model.specs.Reached.{Reaches}
 use Rattle.world_model.specs.Past.{Past, frames_of, last_bound}
-use Rattle.shown_cells.specs.Label.{Told, told_of}
+use Rattle.world_views.specs.Made.{IsFit}
 
 -- *Headings*: the end of a link that a cell goes to, if any, and its channel on the link
 pub record Heading : Type 0 where
@@ -44,7 +45,7 @@ heading_at topology (Out node port) channel = record { end = peer_of topology no
 -- *Packets*: packet number k reached a node as these octets, by now
 pub record HasCome (past : Past) (k : ℕ) (node : NodeId) (packet : List ℕ) : Type 0 where
   pub counted : 0 < k
-  pub accepted : inject_refusal packet ≡ None
+  pub fit : IsFit packet
   pub time : ℕ
   pub so_far : time < length past.events
   pub reached : Reaches past.topology past.history k node packet time
@@ -55,12 +56,11 @@ IsNewest frames mark = (k : ℕ) → mark.frame < k → payload_of frames (recor
 
 -- *What a cell means*, by its heading, its mark and whether it is a last one
 pub data Means (past : Past) (to : Heading) (last : Bool) (mark : Mark) : Type 0 where
-  -- on a default channel an early cell means nothing
-  early : same_channel to.channel default_channel ≡ true → last ≡ false → Means past to last mark
-  -- a message of IFMP, in its range
-  control : same_channel to.channel default_channel ≡ true → mark.packet ≡ 0
-      → (payload : List ℕ) → payload_of (frames_of past) mark ≡ Some payload
-      → (item : Told) → told_of payload ≡ Some item → InRange item.message → Means past to last mark
+  -- on a default channel an early cell of a packet means nothing
+  early : same_channel to.channel default_channel ≡ true → last ≡ false → mark.packet ≢ 0 → Means past to last mark
+  -- a message of IFMP
+  control : same_channel to.channel default_channel ≡ true → mark.packet ≡ 0 → (source : Addr) (message : Message)
+      → payload_of (frames_of past) mark ≡ Some (payload_by source message) → Means past to last mark
   -- between a controller and its switch
   local : same_channel to.channel default_channel ≡ true → to.end ≡ None → mark.packet ≡ 0 → Means past to last mark
   -- a packet, that reached the end by now, in its newest frame

@@ -12,7 +12,7 @@ use Rattle.port_model.specs.Grants.{Grant, grant_label, input_of}
 use Rattle.controller_model.specs.Controller.{Controller, Linked, linked_at}
 use Rattle.label_line.specs.Cells.{Upstream}
 use Rattle.world_model.specs.World.{World}
-use Rattle.world_model.specs.Ways.{standing_at, output_at, to_switch, copy_under}
+use Rattle.world_model.specs.Ways.{standing_at, output_at, gsmp_to_switch, copy_under}
 use Rattle.world_model.specs.Users.{leads}
 use Rattle.port_views.specs.Link.{LinkLabel}
 
@@ -20,7 +20,7 @@ use Rattle.port_views.specs.Link.{LinkLabel}
 pub data Pairs (w : World) (node : NodeId) (input output : End) : Type 0 where
   by_branch : output_at w node input ≡ Some output → Pairs w node input output
   by_desk : (s : Standing) → Contains (standing_at w node) s → leads s.request ≡ Some (input, output) → Pairs w node input output
-  by_copy : (s : Standing) (cell : Cell) → Contains (to_switch w node) cell → copy_under w.notes.frames cell.mark ≡ Some s
+  by_copy : (s : Standing) (cell : Cell) → Contains (gsmp_to_switch w node) cell → copy_under w.notes.frames cell.mark ≡ Some s
       → leads s.request ≡ Some (input, output) → Pairs w node input output
 
 -- an input of a port of a link is joined, or may be, to the label at its upstream end

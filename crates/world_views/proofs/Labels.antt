@@ -1,0 +1,13 @@
+-- a label in the range of a port is a label's number
+
+use Rattle.std.proofs.Common.{◌≡◌, ℕ, Bool, true, false, refl}
+use Rattle.std.specs.Prelude.{◌&&◌}
+use Rattle.net_types.specs.Label.{is_label_number}
+use Rattle.port_model.specs.Setup.{Setup, is_in_range}
+
+pub in_range_label : (setup : Setup) (number : ℕ) → is_in_range setup number ≡ true → is_label_number number ≡ true
+in_range_label setup number e = first (is_label_number number) _ e
+  where
+    first : (a b : Bool) → a && b ≡ true → a ≡ true
+    first true b h = refl
+    first false b h = absurd (cc h)
