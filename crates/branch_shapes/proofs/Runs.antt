@@ -19,6 +19,7 @@ use Rattle.switch_model.specs.Switch.{control_port, numbers_of, begun}
 use Rattle.port_model.specs.Setup.{Policy}
 use Rattle.port_facts.specs.Port.{IsShaped}
 use Rattle.port_facts.proofs.Keyed.{at_every}
+use Rattle.controller_model.specs.Controller.{default_channel}
 use Rattle.controller_model.specs.Opening.{after_opening}
 use Rattle.world_model.specs.declared.event.Event.{Event}
 use Rattle.world_model.specs.Topology as topologies
@@ -27,7 +28,7 @@ use Rattle.world_model.specs.Conditions.{IsTopology}
 use Rattle.world_model.specs.World.{World, Site, site_key, site_at, opened_site, with_opened, opens_each, empty_world, opened}
 use Rattle.world_model.specs.Places.{queue_in}
 use Rattle.world_model.specs.Run.{next, world_after}
-use Rattle.world_model.specs.Ways.{to_switch}
+use Rattle.world_model.specs.Ways.{gsmp_to_switch, on_channel}
 use Rattle.world_model.specs.Headline.{IsTame}
 use Rattle.world_model.proofs.Opening.{site_ports}
 use Rattle.world_views.specs.Between as worlds
@@ -80,15 +81,15 @@ whole w own copies node site found = record {
 opening_shapes : (policy : Policy) (t : Topology) → EachSite (opened policy t) (worlds.HasShapes (opened policy t))
 opening_shapes policy t = whole (opened policy t)
     (λ node site found. record { switch = (new node site found).shaped; standing = subst (Every (λ (s : Standing). IsShaped (setups_of site.controller) s.request)) (sym (new node site found).standing) tt })
-    (λ node site found s cell among e. absurd (none_among (to_switch (opened policy t) node) cell (nothing node site found) among))
+    (λ node site found s cell among e. absurd (none_among (gsmp_to_switch (opened policy t) node) cell (nothing node site found) among))
   where
     new : (node : NodeId) (site : Site) → site_at (opened policy t) node ≡ Some site → IsNew site
     new node site found = at_every site_key IsNew node.0 (opened policy t).sites site (new_each policy t empty_world 1 t.nodes tt) found
 
-    nothing : (node : NodeId) (site : Site) → site_at (opened policy t) node ≡ Some site → to_switch (opened policy t) node ≡ []
+    nothing : (node : NodeId) (site : Site) → site_at (opened policy t) node ≡ Some site → gsmp_to_switch (opened policy t) node ≡ []
     nothing node site found =
-        ap (λ o. option_map_or (λ (x : Site). x.switch.reassembly.chain) o [] ++ option_map_or (λ (x : Site). queue_in x (Down node)) o []) found
-        ∙ ap (λ (cells : List Cell). cells ++ site.controller.queue) (new node site found).chain ∙ (new node site found).queue
+        ap (λ o. option_map_or (λ (x : Site). x.switch.reassembly.chain) o [] ++ on_channel default_channel (option_map_or (λ (x : Site). queue_in x (Down node)) o [])) found
+        ∙ ap (λ (cells : List Cell). cells ++ on_channel default_channel site.controller.queue) (new node site found).chain ∙ ap (on_channel default_channel) (new node site found).queue
 
 -- *A run*
 after_one : (t : Topology) (w : World) (before : List Event) (event : Event) → world_after t w (before ++ event ∷ []) ≡ next t (world_after t w before) event

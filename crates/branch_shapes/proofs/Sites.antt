@@ -23,7 +23,7 @@ use Rattle.switch_model.specs.Conduct as switch
 use Rattle.port_model.specs.Setup.{Setup}
 use Rattle.port_facts.specs.Port.{IsShaped}
 use Rattle.port_facts.proofs.Keyed.{at_every}
-use Rattle.controller_model.specs.Controller.{Controller, Acted, Linked}
+use Rattle.controller_model.specs.Controller.{Controller, Acted, Linked, default_channel}
 use Rattle.controller_model.specs.Packets.{inject_refusal, injected}
 use Rattle.controller_model.specs.Cells as controller
 use Rattle.controller_model.specs.Ticks as controller_ticks
@@ -43,7 +43,7 @@ use Rattle.world_model.specs.Places.{place_node, queue_in, queue_at, with_queue_
 use Rattle.world_model.specs.Run.{put_away, next, world_after}
 use Rattle.world_model.specs.Headline.{IsTame}
 use Rattle.world_model.specs.Step.{note, forges, injects_by, arrives_at, carries_head, loses_head, acts}
-use Rattle.world_model.specs.Ways.{requests_chain_at, to_switch, copy_under}
+use Rattle.world_model.specs.Ways.{requests_chain_at, gsmp_to_switch, on_channel, copy_under}
 use Rattle.lifetimes.proofs.Opened.{IsFed, opening_fed}
 use Rattle.lifetimes.proofs.Runs.{run_fed}
 use Rattle.causes.proofs.Shown.{peer_back}
@@ -147,7 +147,7 @@ among_join (x ∷ xs) cells cell = (let rest = among_join xs cells cell in (suc 
 
 -- *An event*, with the notes of earlier ones put away
 module _ (topology : Topology) (is : IsTopology topology) (v : World) (fed : Sited IsFed v.sites) (all : Sited Shaped v.sites)
-    (copies : (node : NodeId) (site : Site) → site_at v node ≡ Some site → (s : Standing) (cell : Cell) → Contains (to_switch v node) cell → copy_under v.notes.frames cell.mark ≡ Some s → IsShaped (setups_of site.controller) s.request) where
+    (copies : (node : NodeId) (site : Site) → site_at v node ≡ Some site → (s : Standing) (cell : Cell) → Contains (gsmp_to_switch v node) cell → copy_under v.notes.frames cell.mark ≡ Some s → IsShaped (setups_of site.controller) s.request) where
   -- a cell comes to the switch from its controller
   abbrev acting : Site → switches.Acted
   acting site = record { switch = site.switch; notes = v.notes; numbers = v.numbers }
@@ -156,8 +156,11 @@ module _ (topology : Topology) (is : IsTopology topology) (v : World) (fed : Sit
       → IsTame (switch.cell_comes (acting site) control_port cell).notes.records → switch.is_gsmp control_port cell.header.channel ≡ true → Brings (setups_of site.controller) (acting site) cell
   brings node cell cells first site found tame g = record {
     passes = tame_passes (acting site) cell (subst (λ (b : Bool). IsTame (if b then switch.gsmp_cell (acting site) cell else switch.switched_cell (acting site) control_port cell).notes.records) g tame);
-    asks = λ s e. copies node site found s cell (subst (λ (q : List Cell). Contains (requests_chain_at v node ++ q) cell) (sym first) (among_join (requests_chain_at v node) cells cell)) e;
+    asks = λ s e. copies node site found s cell (subst (λ (q : List Cell). Contains (requests_chain_at v node ++ q) cell) (sym here) (among_join (requests_chain_at v node) (on_channel default_channel cells) cell)) e;
   }
+    where
+      here : on_channel default_channel (queue_at v (Down node)) ≡ cell ∷ on_channel default_channel cells
+      here = ap (on_channel default_channel) first ∙ ap (λ (b : Bool). if b then cell ∷ on_channel default_channel cells else on_channel default_channel cells) g
 
   -- what a cell does at a site that was found
   abbrev Comes : Cell → Site → Type 0

@@ -11,7 +11,7 @@ use Rattle.world_model.specs.Topology.{Topology}
 use Rattle.world_model.specs.Conditions.{IsTopology}
 use Rattle.world_model.specs.World.{World, Site, opened}
 use Rattle.world_model.specs.Run.{next, world_after}
-use Rattle.world_model.specs.Ways.{to_switch, copy_under}
+use Rattle.world_model.specs.Ways.{gsmp_to_switch, copy_under}
 use Rattle.world_model.specs.Headline.{IsTame}
 use Rattle.world_views.specs.Between as worlds
 use Rattle.world_views.specs.Between.{EachSite, setups_of}
@@ -32,7 +32,7 @@ EventsKeepShapes = (policy : Policy) (topology : Topology) (events : List Event)
 
 -- *So all shapes are kept in every run* without chances, where those of requests on their way are so in each of its worlds
 abbrev pub CopiesAreShaped : World → Type 0
-CopiesAreShaped w = EachSite w (λ node site. (s : Standing) (cell : Cell) → Contains (to_switch w node) cell
+CopiesAreShaped w = EachSite w (λ node site. (s : Standing) (cell : Cell) → Contains (gsmp_to_switch w node) cell
     → copy_under w.notes.frames cell.mark ≡ Some s → IsShaped (setups_of site.controller) s.request)
 
 abbrev pub RunsKeepShapes : Type 0

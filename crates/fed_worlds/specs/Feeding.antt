@@ -17,7 +17,8 @@ use Rattle.world_model.specs.Causes.{HasCauses}
 use Rattle.world_model.specs.Headline.{IsTame, IsRun}
 use Rattle.world_model.specs.Users.{leads}
 use Rattle.world_views.specs.Pairs.{IsJoin}
-use Rattle.world_views.specs.Between.{EachSite, HasShapes, HasJoins}
+use Rattle.world_views.specs.Between.{EachSite, HasShapes}
+use Rattle.world_views.specs.Tied.{HasJoins}
 use Rattle.branch_shapes.specs.Events.{CopiesAreShaped}
 use Rattle.causes.specs.Feeding.{IsFedOnce}
 

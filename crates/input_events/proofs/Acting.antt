@@ -1,6 +1,6 @@
 -- a controller takes an input, or its switch acts: lines of each input of its switch follow
 
-use Rattle.std.proofs.Common.{◌≡◌, ℕ, ◌+◌, ◌<◌, ◌≤◌, ◌^◌, Bool, false, List, [], ◌∷◌, ◌++◌, length, Option, None, Some, refl, sym, ◌∙◌, subst, arith, if◌then◌else◌}
+use Rattle.std.proofs.Common.{◌≡◌, ℕ, ◌+◌, ◌<◌, ◌≤◌, ◌^◌, Bool, true, false, List, [], ◌∷◌, ◌++◌, length, Option, None, Some, refl, sym, ◌∙◌, subst, arith, if◌then◌else◌}
 use Rattle.std.specs.Prelude.{nat_le}
 use Rattle.std.specs.FinMap.{get, keys}
 use Rattle.net_types.specs.declared.channel.End.{End}
@@ -184,7 +184,7 @@ module _ (w : World) (node : NodeId) (site : Site) (found : site_at w node ≡ S
       (routes_leads node input site.switch a (record { packet = number; frame = 0 }) octets by_links next line h)) lines)
 
   -- a cell of another channel comes
-  pub cell_lines : (cell : Cell) → same_channel cell.header.channel default_channel ≡ false → GoesByLinks site.controller → IsNext w.notes.frames cell.mark
+  pub cell_lines : (cell : Cell) → same_channel cell.header.channel default_channel ≡ false → GoesByLinks site.controller → (cell.header.last ≡ true → IsNext w.notes.frames cell.mark)
       → HasLines w → HasLines (at_controller w node (λ b. cell_comes b cell))
   cell_lines cell other by_links next lines = controller_lines (CellComes cell) tt
       (other_cell_leads setups steady.links Growing (growing_kept setups) a cell other whole (steady_read a steady) next by_links)

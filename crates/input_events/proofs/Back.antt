@@ -1,7 +1,7 @@
 -- a cell of the GSMP channel comes to a controller: what is asked of it holds of what its switch says
 
 use Rattle.std.proofs.Common.{◌≡◌, ℕ, ◌+◌, ◌<◌, ◌≤◌, ◌^◌, Bool, true, false, not, List, [], ◌∷◌, ◌++◌, filter, find, Option, None, Some, Result, Ok, Err, refl, sym, ◌∙◌, ap, subst, arith, if◌then◌else◌}
-use Rattle.std.specs.Prelude.{◌==◌, ◌&&◌}
+use Rattle.std.specs.Prelude.{◌==◌, ◌&&◌, nat_lt}
 use Rattle.std.specs.Option.{option_and_then}
 use Rattle.std.proofs.lemmas.Bool.Decides.{nat_tests}
 use Rattle.net_types.specs.declared.adjacency.Greeting.{Greeting}
@@ -42,7 +42,7 @@ use Rattle.branch_line.specs.Words as lines
 use Rattle.branch_line.specs.Words.{ToController, SwitchGreets, Answer, Outcome, Success, Failure}
 use Rattle.branch_line.specs.Line.{Line}
 use Rattle.branch_line.specs.Law.{RepeatsDrawn, HasDrawn, IsReached}
-use Rattle.controller_model.specs.Controller.{Acted, ports_of, with_desk, default_channel}
+use Rattle.controller_model.specs.Controller.{Acted, ports_of, with_desk, default_channel, free_slots}
 use Rattle.controller_model.specs.Cells.{same_channel}
 use Rattle.controller_model.specs.Meeting.{done, takes_answer, answer_comes}
 use Rattle.controller_facts.proofs.Laws.{moves_sound}
@@ -57,7 +57,7 @@ use Rattle.shown_cells.specs.Seen.{Seen, Nothing, Word, Unknown}
 use Rattle.shown_cells.proofs.Shows.{First, no_word, a_word, first_of}
 use Rattle.input_views.specs.Words.{word_of, is_own_greeting, seen_answer, seen_answer_to, seen_outcome, seen_on_gsmp, seen_cell, erased_back}
 use Rattle.input_views.specs.Shown.{controller_of, switch_of, ShowsAnswers, IsAllPorts}
-use Rattle.input_steps.specs.Hearing.{Reads, MayHold, ComesBack, PassesTrue}
+use Rattle.input_steps.specs.Hearing.{IsEnded, Reads, MayHold, ComesBack, PassesTrue}
 use Rattle.input_steps.specs.Meeting.{in_desk, met_after, AfterAnswer, answered_part}
 use Rattle.input_steps.specs.Part.{Part, part_at, Stands, Reaches, AnyLine}
 use Rattle.input_steps.proofs.Done.{comes_line}
@@ -383,12 +383,12 @@ module _ (setups : List Setup) (links : Every (λ (setup : Setup). IsLinkPort se
       → a.numbers.instances + 20 < 2 ^ 32 → IsReached line → Stands node input (part_at input switch a) line → Whole setups a → AreRead setups a.controller.desk.rows
       → IsLabelEnd setups input → TellsPorts switch.ports → numbers_of switch.ports ≡ control_port ∷ ports_of a.controller
       → ((m : Message) → gsmp_under a.notes.frames cell.mark ≡ Some m → IsFromSwitch a.controller m)
-      → PassesTrue a.notes.frames (a.controller.reassembly.chain ++ cell ∷ []) → ComesBack node input switch a cell cells
+      → (IsEnded (nat_lt 0 (free_slots a.controller)) a.controller.reassembly cell → PassesTrue a.notes.frames (a.controller.reassembly.chain ++ cell ∷ [])) → ComesBack node input switch a cell cells
   comes_back switch a cell cells front here line small left reached h whole reads own_input tells same from passes = record {
     front = front;
     here = here;
     passes = passes;
-    holds = λ payload last is. is_held node input bare_switch bare payload (may payload last (under payload is));
+    holds = λ payload ended is. is_held node input bare_switch bare payload (may payload ended.last (under ended payload is));
   }
     where
       bare_switch : Switch
@@ -400,8 +400,8 @@ module _ (setups : List Setup) (links : Every (λ (setup : Setup). IsLinkPort se
       bare_whole : Whole setups bare
       bare_whole = record { sound = moves_sound setups a bare (moves_to (gathering a (record a.controller.reassembly { chain = [] }))) whole.sound; order = whole.order; fits = whole.fits }
 
-      under : (payload : List ℕ) → payload_in (cell_octets (a.controller.reassembly.chain ++ cell ∷ [])) ≡ Some payload → payload_of a.notes.frames cell.mark ≡ Some payload
-      under payload is = ap (payload_of a.notes.frames) (sym (last_is a.controller.reassembly.chain cell)) ∙ frame_is a.notes.frames (last_mark (a.controller.reassembly.chain ++ cell ∷ [])) payload (passes payload is)
+      under : IsEnded (nat_lt 0 (free_slots a.controller)) a.controller.reassembly cell → (payload : List ℕ) → payload_in (cell_octets (a.controller.reassembly.chain ++ cell ∷ [])) ≡ Some payload → payload_of a.notes.frames cell.mark ≡ Some payload
+      under ended payload is = ap (payload_of a.notes.frames) (sym (last_is a.controller.reassembly.chain cell)) ∙ frame_is a.notes.frames (last_mark (a.controller.reassembly.chain ++ cell ∷ [])) payload (passes ended payload is)
 
       message : (payload : List ℕ) (m : Message) → payload_of a.notes.frames cell.mark ≡ Some payload → decoded payload ≡ Ok m → gsmp_under a.notes.frames cell.mark ≡ Some m
       message payload m made ok = ap (λ (o : Option (List ℕ)). option_and_then gsmp_of o) made ∙ ap (λ (r : Result Message Fault). told r) ok

@@ -1,6 +1,6 @@
 -- a cell of another channel than GSMP's comes to the controller: nothing to the line of an input, but what the port asks
 
-use Rattle.std.proofs.Common.{◌≡◌, ℕ, Bool, false, not, List, [], ◌∷◌, ◌++◌, length, drop, Option, None, Some, Result, Ok, Err, refl, sym, subst, arith, if◌then◌else◌}
+use Rattle.std.proofs.Common.{◌≡◌, ℕ, Bool, true, false, not, List, [], ◌∷◌, ◌++◌, length, drop, Option, None, Some, Result, Ok, Err, refl, sym, subst, arith, if◌then◌else◌}
 use Rattle.std.specs.Prelude.{◌==◌, nat_le, nat_lt}
 use Rattle.std.specs.Option.{option_and_then}
 use Rattle.net_types.specs.declared.node.PortNo.{PortNo}
@@ -30,7 +30,7 @@ use Rattle.port_model.specs.Counting.{counts, used}
 use Rattle.port_model.specs.Hearing.{hears}
 use Rattle.port_facts.specs.Port.{Lives}
 use Rattle.port_facts.proofs.Hearings.{hears_goes}
-use Rattle.port_facts.proofs.Keyed.{on_both}
+use Rattle.port_facts.proofs.Keyed.{on_both, on_each}
 use Rattle.port_facts.proofs.Steps.{Goes}
 use Rattle.port_facts.proofs.Rules.{counts_goes, used_goes}
 use Rattle.controller_model.specs.Controller.{Acted, Linked, free_slots, linked_at, chains_with, default_channel}
@@ -154,27 +154,27 @@ module _ (setups : List Setup) (links : Every (λ (setup : Setup). IsLinkPort se
         by_links = h.by_links;
       }))
 
-  -- *A chain* that ended is of the cell that came
+  -- *A chain* that ended is of the cell that came, which is a last one
   abbrev EndsIn : Cell → List Cell → Type 0
   EndsIn cell [] = Unit {0}
-  EndsIn cell (x ∷ xs) = last_mark (x ∷ xs) ≡ cell.mark
+  EndsIn cell (x ∷ xs) = (last_mark (x ∷ xs) ≡ cell.mark) × (cell.header.last ≡ true)
 
-  behind_ends : (cell : Cell) (chain : List Cell) → EndsIn cell (chain ++ cell ∷ [])
-  behind_ends cell [] = last_is [] cell
-  behind_ends cell (x ∷ xs) = last_is (x ∷ xs) cell
+  behind_ends : (cell : Cell) (chain : List Cell) → cell.header.last ≡ true → EndsIn cell (chain ++ cell ∷ [])
+  behind_ends cell [] last = (last_is [] cell, last)
+  behind_ends cell (x ∷ xs) last = (last_is (x ∷ xs) cell, last)
 
   taken_ends : (notes : Journal) (slot : Bool) (r : Reassembly) (cell : Cell) → EndsIn cell (taken notes slot r cell).ended
   taken_ends notes slot r cell = on_both Ends r.is_skipping (passed_over notes r cell) _ tt
       (on_both Ends (not slot) (without_slot notes r cell) _ tt
       (on_both Ends (nat_le most_cells (length r.chain)) (too_long notes r cell) (joined notes r cell) tt
-      (on_both Ends cell.header.last (record { reassembly = record r { chain = [] }; notes = notes; ended = r.chain ++ cell ∷ [] }) (record { reassembly = record r { chain = r.chain ++ cell ∷ [] }; notes = notes; ended = [] }) (behind_ends cell r.chain) tt)))
+      (on_each Ends cell.header.last (record { reassembly = record r { chain = [] }; notes = notes; ended = r.chain ++ cell ∷ [] }) (record { reassembly = record r { chain = r.chain ++ cell ∷ [] }; notes = notes; ended = [] }) (behind_ends cell r.chain) (λ early. tt))))
     where
       Ends : Taken → Type 0
       Ends t = EndsIn cell t.ended
 
-  ended_leads : (a b : Acted) (taker : Taker) (cell : Cell) (ended : List Cell) → EndsIn cell ended → IsOther a taker → Acts b cell.mark → From b (ends_frame b taker ended)
+  ended_leads : (a b : Acted) (taker : Taker) (cell : Cell) (ended : List Cell) → EndsIn cell ended → IsOther a taker → (cell.header.last ≡ true → Acts b cell.mark) → From b (ends_frame b taker ended)
   ended_leads a b taker cell [] ends other h = j.self b
-  ended_leads a b taker cell (x ∷ xs) ends other h = tested_leads a b taker x xs other (subst (Acts b) (sym ends) h)
+  ended_leads a b taker cell (x ∷ xs) ends other h = tested_leads a b taker x xs other (subst (Acts b) (sym ends.0) (h ends.1))
 
   -- *What its channel makes of it*
   gathered_still : (a b : Acted) (taker : Taker) (r : Reassembly) → IsOther a taker → IsStill b (with_reassembly b taker r)
@@ -195,7 +195,7 @@ module _ (setups : List Setup) (links : Every (λ (setup : Setup). IsLinkPort se
     by_links = h.by_links;
   }
 
-  after_leads : (a : Acted) (cell : Cell) (taker : Taker) → IsOther a taker → Acts a cell.mark → From a (takes_cell a cell (Some taker))
+  after_leads : (a : Acted) (cell : Cell) (taker : Taker) → IsOther a taker → (cell.header.last ≡ true → Acts a cell.mark) → From a (takes_cell a cell (Some taker))
   after_leads a cell taker other h =
       let slot : Bool = nat_lt 0 (free_slots a.controller) in
       let t : Taken = taken a.notes slot (reassembly_of a.controller taker) cell in
@@ -204,24 +204,24 @@ module _ (setups : List Setup) (links : Every (λ (setup : Setup). IsLinkPort se
       let same : t.notes.frames ≡ a.notes.frames = taken_frames a.notes slot (reassembly_of a.controller taker) cell in
       j.on a b (takes_cell a cell (Some taker)) (by_still a b (frames_still a t.notes same))
       (j.on b c (takes_cell a cell (Some taker)) (by_still b c (gathered_still a b taker t.reassembly other))
-      (ended_leads a c taker cell t.ended (taken_ends a.notes slot (reassembly_of a.controller taker) cell) other (gathered_acts a t.notes taker t.reassembly cell.mark same other h)))
+      (ended_leads a c taker cell t.ended (taken_ends a.notes slot (reassembly_of a.controller taker) cell) other (λ last. gathered_acts a t.notes taker t.reassembly cell.mark same other (h last))))
 
   -- *A cell* of another channel
   unbound : (a : Acted) (cell : Cell) → From a (takes_cell a cell None)
   unbound a cell = by_still a (takes_cell a cell None) (note_still a (Loss cell.mark Unbound))
 
-  labelled : (a : Acted) (cell : Cell) (linked : Linked) (o : Option Label) → Found setups a linked → Acts a cell.mark → From a (takes_cell a cell (label_taker linked o))
+  labelled : (a : Acted) (cell : Cell) (linked : Linked) (o : Option Label) → Found setups a linked → (cell.header.last ≡ true → Acts a cell.mark) → From a (takes_cell a cell (label_taker linked o))
   labelled a cell linked None found h = unbound a cell
   labelled a cell linked (Some held) found h = on_both (λ (o : Option Taker). From a (takes_cell a cell o)) (is_bound held.state) (Some (ForLabel linked held)) None (after_leads a cell (ForLabel linked held) (label linked held found) h) (unbound a cell)
 
-  at_link : (a : Acted) (cell : Cell) (port : PortNo) (o : Option Linked) → linked_at a.controller port ≡ o → Acts a cell.mark → From a (takes_cell a cell (taker_at o (on_link cell.header.channel)))
+  at_link : (a : Acted) (cell : Cell) (port : PortNo) (o : Option Linked) → linked_at a.controller port ≡ o → (cell.header.last ≡ true → Acts a cell.mark) → From a (takes_cell a cell (taker_at o (on_link cell.header.channel)))
   at_link a cell port None found h = unbound a cell
   at_link a cell port (Some linked) found h =
       let own : Found setups a linked = found_at_own setups a linked port found in
       on_both (λ (o : Option Taker). From a (takes_cell a cell o)) (same_channel (on_link cell.header.channel) default_channel) (Some (ForDefault linked)) (label_taker linked (option_and_then (label_at linked.port) (label_number_of (on_link cell.header.channel))))
       (after_leads a cell (ForDefault linked) (default linked own) h) (labelled a cell linked (option_and_then (label_at linked.port) (label_number_of (on_link cell.header.channel))) own h)
 
-  pub other_cell_leads : (a : Acted) (cell : Cell) → same_channel cell.header.channel default_channel ≡ false → Whole setups a → AreRead setups a.controller.desk.rows → IsNext a.notes.frames cell.mark → GoesByLinks a.controller
+  pub other_cell_leads : (a : Acted) (cell : Cell) → same_channel cell.header.channel default_channel ≡ false → Whole setups a → AreRead setups a.controller.desk.rows → (cell.header.last ≡ true → IsNext a.notes.frames cell.mark) → GoesByLinks a.controller
       → From a (cell_comes a cell)
   other_cell_leads a cell other h reads next by_links = subst (λ (t : Bool). From a (takes_cell a cell (if t then Some ForGsmp else taker_at (linked_at a.controller (port_on cell.header.channel)) (on_link cell.header.channel)))) (sym other)
-      (at_link a cell (port_on cell.header.channel) (linked_at a.controller (port_on cell.header.channel)) refl (record { whole = h; reads = reads; next = next; by_links = by_links }))
+      (at_link a cell (port_on cell.header.channel) (linked_at a.controller (port_on cell.header.channel)) refl (λ last. record { whole = h; reads = reads; next = next last; by_links = by_links }))

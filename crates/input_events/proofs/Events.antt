@@ -1,6 +1,7 @@
 -- each event that forges no frame and carries no cell of the GSMP channel: lines of all inputs follow
 
 use Rattle.std.proofs.Common.{◌≡◌, Contains, ℕ, ◌+◌, ◌<◌, ◌≤◌, ◌^◌, zero, suc, Bool, true, false, List, [], ◌∷◌, ◌++◌, length, drop, Option, None, Some, refl, sym, ◌∙◌, ap, subst, arith, slice_set, slice_index_or, if◌then◌else◌}
+use Rattle.std.specs.Prelude.{nat_lt}
 use Rattle.std.specs.FinMap.{get}
 use Rattle.std.specs.Option.{option_map_or}
 use Rattle.std.proofs.lemmas.Bool.Decides.{nat_tests}
@@ -18,7 +19,7 @@ use Rattle.port_facts.proofs.Keyed.{by_eq}
 use Rattle.switch_model.specs.Switch as switches
 use Rattle.switch_model.specs.Switch.{Switch, control_port}
 use Rattle.switch_model.specs.Conduct as conduct
-use Rattle.controller_model.specs.Controller.{default_channel}
+use Rattle.controller_model.specs.Controller.{default_channel, free_slots}
 use Rattle.controller_model.specs.Cells.{same_channel, cell_comes}
 use Rattle.controller_model.specs.Packets.{inject_refusal, injected}
 use Rattle.controller_model.specs.Resets.{node_restarts}
@@ -36,7 +37,7 @@ use Rattle.shown_cells.proofs.Made.{extends_self}
 use Rattle.gsmp_wire.specs.declared.message.Message.{Message}
 use Rattle.world_model.specs.Ways.{gsmp_under}
 use Rattle.input_steps.specs.Part.{Part, part_of, part_at, part_beside, IsNumbered, Reaches, AnyLine}
-use Rattle.input_steps.specs.Hearing.{LeadsAway, PassesTrue}
+use Rattle.input_steps.specs.Hearing.{IsEnded, LeadsAway, PassesTrue}
 use Rattle.input_steps.proofs.SwitchCells.{gsmp_cell_comes}
 use Rattle.input_steps.proofs.ControllerCells.{cell_comes_back}
 use Rattle.input_steps.proofs.Queues.{queue_loses, back_loses}
@@ -193,7 +194,7 @@ module _ (topology : Topology) (w : World) (running : IsRunning w) where
       by_site (Some site) = (refl, refl)
 
   -- *A cell of the GSMP channel* comes to a switch
-  gsmp_to_switch : (node : NodeId) (cell : Cell) (cells : List Cell) → queue_at w (Down node) ≡ cell ∷ cells → ((site : Site) → site_at w node ≡ Some site → PassesTrue w.notes.frames (site.switch.reassembly.chain ++ cell ∷ []))
+  gsmp_to_switch : (node : NodeId) (cell : Cell) (cells : List Cell) → queue_at w (Down node) ≡ cell ∷ cells → ((site : Site) → site_at w node ≡ Some site → IsEnded (nat_lt 0 (switches.free_slots site.switch)) site.switch.reassembly cell → PassesTrue w.notes.frames (site.switch.reassembly.chain ++ cell ∷ []))
       → same_channel cell.header.channel default_channel ≡ true → HasLines w → HasLines (at_switch (with_queue w (Down node) cells) node (λ b. conduct.cell_comes b control_port cell))
   gsmp_to_switch node cell cells is passes here lines =
       let q : IsShorter w (Down node) cell cells = queued w (Down node) cell cells is in
@@ -216,7 +217,7 @@ module _ (topology : Topology) (w : World) (running : IsRunning w) where
       (comes node input site.controller a cell cells q.is here (setups_of site.controller) line s.small running.left.instances reached h (has_queue _ s.queues) s.ports said (passes site q.found)) line h)) lines))
 
   -- *A cell of the GSMP channel* comes to a controller
-  gsmp_to_controller : (node : NodeId) (cell : Cell) (cells : List Cell) → queue_at w (Up node) ≡ cell ∷ cells → ((site : Site) → site_at w node ≡ Some site → PassesTrue w.notes.frames (site.controller.reassembly.chain ++ cell ∷ []))
+  gsmp_to_controller : (node : NodeId) (cell : Cell) (cells : List Cell) → queue_at w (Up node) ≡ cell ∷ cells → ((site : Site) → site_at w node ≡ Some site → IsEnded (nat_lt 0 (free_slots site.controller)) site.controller.reassembly cell → PassesTrue w.notes.frames (site.controller.reassembly.chain ++ cell ∷ []))
       → same_channel cell.header.channel default_channel ≡ true → HasLines w → HasLines (at_controller (with_queue w (Up node) cells) node (λ a. cell_comes a cell))
   gsmp_to_controller node cell cells is returns here lines =
       let q : IsShorter w (Up node) cell cells = queued w (Up node) cell cells is in

@@ -1,6 +1,7 @@
 -- a cell of the GSMP channel comes to a switch: what is asked of it holds of what its controller says
 
 use Rattle.std.proofs.Common.{◌≡◌, ℕ, ◌+◌, ◌<◌, ◌^◌, Bool, true, false, List, [], ◌∷◌, ◌++◌, Option, None, Some, Result, Ok, Err, refl, sym, ◌∙◌, ap, subst, if◌then◌else◌}
+use Rattle.std.specs.Prelude.{nat_lt}
 use Rattle.std.specs.Option.{option_and_then}
 use Rattle.net_types.specs.declared.adjacency.Greeting.{Greeting}
 use Rattle.net_types.specs.declared.adjacency.HelloKind.{HelloKind}
@@ -36,7 +37,7 @@ use Rattle.shown_cells.specs.Seen.{Seen, Nothing, Word, Unknown}
 use Rattle.shown_cells.proofs.Shows.{First, no_word, a_word, first_of}
 use Rattle.input_views.specs.Words.{is_own_greeting, seen_request, seen_on_gsmp, seen_cell, erased}
 use Rattle.input_views.specs.Shown.{controller_of, switch_of, ShowsRequests}
-use Rattle.input_steps.specs.Hearing.{HasQueue, Reads, Comes, PassesTrue}
+use Rattle.input_steps.specs.Hearing.{HasQueue, IsEnded, Reads, Comes, PassesTrue}
 use Rattle.input_steps.specs.Part.{Part, part_beside, Stands}
 use Rattle.input_steps.proofs.Handled.{greets_is}
 use Rattle.input_steps.proofs.Parties.{answer_at, greeting_is}
@@ -95,23 +96,23 @@ module _ (node : NodeId) (input : End) where
 
     -- *The cell comes*
     pub comes : (setups : List Setup) (line : Line) → node.0 < 256 → a.numbers.instances + 20 < 2 ^ 32 → IsReached line → Stands node input (part_beside input c a) line → HasQueue a.switch → TellsPorts a.switch.ports
-        → ((m : Message) → gsmp_under a.notes.frames cell.mark ≡ Some m → IsToSwitch setups m) → PassesTrue a.notes.frames (a.switch.reassembly.chain ++ cell ∷ []) → Comes c a cell cells
+        → ((m : Message) → gsmp_under a.notes.frames cell.mark ≡ Some m → IsToSwitch setups m) → (IsEnded (nat_lt 0 (switches.free_slots a.switch)) a.switch.reassembly cell → PassesTrue a.notes.frames (a.switch.reassembly.chain ++ cell ∷ [])) → Comes c a cell cells
     comes setups line small left reached h queue tells said passes = record {
       front = front;
       here = here;
       passes = passes;
-      hand = λ payload last is. (let made : payload_of a.notes.frames cell.mark ≡ Some payload = under payload is in record {
+      hand = λ payload ended is. (let made : payload_of a.notes.frames cell.mark ≡ Some payload = under ended payload is in record {
         some = queue;
         well = λ m ok s copy. shaped_asked setups s.request ((said m (message payload m made ok)).shaped s copy);
         reads = λ m ok. record {
-          greets = λ g e. greets payload last made g (ok ∙ ap (λ (z : Message). Ok z) e);
+          greets = λ g e. greets payload ended.last made g (ok ∙ ap (λ (z : Message). Ok z) e);
           answers = λ is. (let k = said m (message payload m made ok) in answer_reads (record a.switch { reassembly = record a.switch.reassembly { chain = [] } }) a.notes tells m k.fits k.said (λ s copy. shaped_asked setups s.request (k.shaped s copy)) is);
         };
       });
     }
       where
-        under : (payload : List ℕ) → payload_in (cell_octets (a.switch.reassembly.chain ++ cell ∷ [])) ≡ Some payload → payload_of a.notes.frames cell.mark ≡ Some payload
-        under payload is = ap (payload_of a.notes.frames) (sym (last_is a.switch.reassembly.chain cell)) ∙ frame_is a.notes.frames (last_mark (a.switch.reassembly.chain ++ cell ∷ [])) payload (passes payload is)
+        under : IsEnded (nat_lt 0 (switches.free_slots a.switch)) a.switch.reassembly cell → (payload : List ℕ) → payload_in (cell_octets (a.switch.reassembly.chain ++ cell ∷ [])) ≡ Some payload → payload_of a.notes.frames cell.mark ≡ Some payload
+        under ended payload is = ap (payload_of a.notes.frames) (sym (last_is a.switch.reassembly.chain cell)) ∙ frame_is a.notes.frames (last_mark (a.switch.reassembly.chain ++ cell ∷ [])) payload (passes ended payload is)
 
         message : (payload : List ℕ) (m : Message) → payload_of a.notes.frames cell.mark ≡ Some payload → decoded payload ≡ Ok m → gsmp_under a.notes.frames cell.mark ≡ Some m
         message payload m made ok = ap (λ (o : Option (List ℕ)). option_and_then gsmp_of o) made ∙ ap (λ (r : Result Message Fault). told r) ok

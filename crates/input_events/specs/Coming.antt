@@ -1,6 +1,6 @@
 -- What is asked of a network and of an event, so that the event is moves of the line of each input
 
-use Rattle.std.specs.Prelude.{◌≡◌, ◌≢◌, ℕ, ◌≤◌, ◌<◌, true, false, List, [], ◌∷◌, ◌++◌, length, map, Contains, Option, None, Some}
+use Rattle.std.specs.Prelude.{◌≡◌, ◌≢◌, ℕ, ◌≤◌, ◌<◌, true, false, nat_lt, List, [], ◌∷◌, ◌++◌, length, map, Contains, Option, None, Some}
 use Rattle.std.specs.FinMap.{get}
 use Rattle.net_types.specs.declared.channel.End.{End}
 use Rattle.net_types.specs.declared.node.NodeId.{NodeId}
@@ -39,7 +39,9 @@ use Rattle.world_model.specs.World.{Site, World, site_at}
 use Rattle.world_model.specs.Places.{queue_at}
 use Rattle.world_model.specs.Ways.{gsmp_under, copy_of}
 use Rattle.shown_cells.specs.Seen.{IsUnmade}
-use Rattle.input_steps.specs.Hearing.{LeadsAway, PassesTrue}
+use Rattle.input_steps.specs.Hearing.{IsEnded, LeadsAway, PassesTrue}
+use Rattle.switch_model.specs.Switch as switches
+use Rattle.controller_model.specs.Controller as controllers
 use Rattle.input_premises.specs.Steady.{IsSteady}
 use Rattle.world_views.specs.Between.{EachSite, setups_of, IsInput, HasInputLine}
 
@@ -106,17 +108,19 @@ abbrev pub HasLines : World → Type 0
 HasLines w = EachSite w (λ node site. (input : End) → IsInput site.controller input → HasInputLine w node site input)
 
 -- *An event* that forges no frame, and lets none pass by chance on the GSMP channel; what it carries to a controller on
--- another channel can be sent on, and what it carries on a link goes from a link's port to another
+-- another channel can be sent on where a frame ends, and what it carries on a link goes from a link's port to another
 abbrev pub IsFar : Option LinkEnd → Type 0
 IsFar None = Unit {0}
 IsFar (Some far) = 1 ≤ far.port.0
 
 abbrev pub CanCarry : Topology → World → Place → Type 0
 CanCarry topology w (Down node) = (cell : Cell) (cells : List Cell) (site : Site) → queue_at w (Down node) ≡ cell ∷ cells → site_at w node ≡ Some site
-    → same_channel cell.header.channel default_channel ≡ true → PassesTrue w.notes.frames (site.switch.reassembly.chain ++ cell ∷ [])
+    → same_channel cell.header.channel default_channel ≡ true → IsEnded (nat_lt 0 (switches.free_slots site.switch)) site.switch.reassembly cell
+    → PassesTrue w.notes.frames (site.switch.reassembly.chain ++ cell ∷ [])
 CanCarry topology w (Up node) = (cell : Cell) (cells : List Cell) (site : Site) → queue_at w (Up node) ≡ cell ∷ cells → site_at w node ≡ Some site
-    → (same_channel cell.header.channel default_channel ≡ false → IsNext w.notes.frames cell.mark)
-    × (same_channel cell.header.channel default_channel ≡ true → PassesTrue w.notes.frames (site.controller.reassembly.chain ++ cell ∷ []))
+    → (same_channel cell.header.channel default_channel ≡ false → cell.header.last ≡ true → IsNext w.notes.frames cell.mark)
+    × (same_channel cell.header.channel default_channel ≡ true → IsEnded (nat_lt 0 (controllers.free_slots site.controller)) site.controller.reassembly cell
+    → PassesTrue w.notes.frames (site.controller.reassembly.chain ++ cell ∷ []))
 CanCarry topology w (Out node port) = (1 ≤ port.0) × IsFar (peer_of topology node port)
 
 abbrev pub CanLose : Place → Type 0

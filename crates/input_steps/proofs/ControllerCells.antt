@@ -32,7 +32,7 @@ use Rattle.shown_cells.proofs.Shows.{First, no_word, a_word, first_of, one_hidde
 use Rattle.input_views.specs.Words.{erased_back, seen_answer, seen_on_gsmp, seen_cell}
 use Rattle.input_views.specs.Shown.{controller_of, switch_of, ShowsAnswers}
 use Rattle.input_steps.specs.Part.{Part, part_at, Stands, Reaches, AnyLine, Leads}
-use Rattle.input_steps.specs.Hearing.{IsHeld, ComesBack}
+use Rattle.input_steps.specs.Hearing.{IsEnded, IsHeld, ComesBack}
 use Rattle.input_steps.proofs.Goes.{stays, goes_to, by_move}
 use Rattle.input_steps.proofs.Reach.{reaches_self, reaches_then, reaches_behind}
 use Rattle.input_steps.proofs.Queues.{back_loses, gathered_loses}
@@ -159,7 +159,7 @@ module _ (node : NodeId) (input : End) where
     pops : (b : Acted) → part_at input (without_first s) b ≡ record (part_at input s b) { back = cells }
     pops b = popped_part input s cell cells k.front b
 
-    tested_line : (line : Line) (o : Option (List ℕ)) → cell.header.last ≡ true → payload_in (octets_of (a.controller.reassembly.chain ++ cell ∷ [])) ≡ o
+    tested_line : (line : Line) (o : Option (List ℕ)) → IsEnded (nat_lt 0 (free_slots a.controller)) a.controller.reassembly cell → payload_in (octets_of (a.controller.reassembly.chain ++ cell ∷ [])) ≡ o
         → Stands node input (part_at input s a) line
         → Back s (after_test (bare a) ForGsmp (last_mark (a.controller.reassembly.chain ++ cell ∷ [])) (tested_by a.notes (a.controller.reassembly.chain ++ cell ∷ []) o)) line
     tested_line line None last is h =
@@ -168,12 +168,12 @@ module _ (node : NodeId) (input : End) where
         back_as s cells b a.notes.frames line (pops b) (broken_frames (marks_of chain) a.notes) (loses_all (part_at input s a) cell cells k.front line h)
     tested_line line (Some payload) last is h =
         let chain : List Cell = a.controller.reassembly.chain ++ cell ∷ [] in
-        let true_frame : is_frame a.notes.frames (last_mark chain) payload ≡ true = k.passes payload is in
+        let true_frame : is_frame a.notes.frames (last_mark chain) payload ≡ true = k.passes last payload is in
         let kept : passed a.notes (last_mark chain) payload ≡ a.notes = ap (λ (t : Bool). if t then a.notes else noted a.notes (Chance (last_mark chain))) true_frame in
         let made : payload_of a.notes.frames cell.mark ≡ Some payload =
         ap (payload_of a.notes.frames) (sym (last_is a.controller.reassembly.chain cell)) ∙ frame_is a.notes.frames (last_mark chain) payload true_frame in
         subst (λ (notes : Journal). Back s (gsmp_holds (record (bare a) { notes = notes }) (decoded payload)) line) (sym kept)
-        (held_line s a cells cell payload line line.to_controller refl pops (k.holds payload last is) k.here last made h
+        (held_line s a cells cell payload line line.to_controller refl pops (k.holds payload last is) k.here last.last made h
         (first_of (subst (λ (z : List Cell). ShowsAnswers node input a.notes.frames z line.to_controller) k.front h.to_controller)))
 
     abbrev joined_as : (last : Bool) → Taken
@@ -182,15 +182,15 @@ module _ (node : NodeId) (input : End) where
         then record { reassembly = record a.controller.reassembly { chain = [] }; notes = a.notes; ended = a.controller.reassembly.chain ++ cell ∷ [] }
         else record { reassembly = record a.controller.reassembly { chain = a.controller.reassembly.chain ++ cell ∷ [] }; notes = a.notes; ended = [] }
 
-    joined_line : (line : Line) (last : Bool) → cell.header.last ≡ last → Stands node input (part_at input s a) line → Back s (after_cell a ForGsmp (joined_as last)) line
-    joined_line line false is h =
+    joined_line : (line : Line) (last : Bool) → (last ≡ true → IsEnded (nat_lt 0 (free_slots a.controller)) a.controller.reassembly cell) → cell.header.last ≡ last → Stands node input (part_at input s a) line → Back s (after_cell a ForGsmp (joined_as last)) line
+    joined_line line false ended is h =
         let b : Acted = after_cell a ForGsmp (joined_as false) in
         back_as s cells b a.notes.frames line (pops b) refl
         (keeps (part_at input s a) cell cells line line.to_controller refl k.here is h
         (first_of (subst (λ (z : List Cell). ShowsAnswers node input a.notes.frames z line.to_controller) k.front h.to_controller)))
-    joined_line line true is h =
+    joined_line line true ended is h =
         let chain : List Cell = a.controller.reassembly.chain in
-        subst (λ (z : Acted). Back s z line) (sym (ends_is (bare a) chain cell)) (tested_line line (payload_in (octets_of (chain ++ cell ∷ []))) is refl h)
+        subst (λ (z : Acted). Back s z line) (sym (ends_is (bare a) chain cell)) (tested_line line (payload_in (octets_of (chain ++ cell ∷ []))) (ended refl) refl h)
 
     taken_line : (line : Line) → Stands node input (part_at input s a) line
         → Back s (after_cell a ForGsmp (taken a.notes (nat_lt 0 (free_slots a.controller)) a.controller.reassembly cell)) line
@@ -202,13 +202,13 @@ module _ (node : NodeId) (input : End) where
         on_each to r.is_skipping (passed_over a.notes r cell)
         (if not slot then without_slot a.notes r cell else (if nat_le most_cells (length r.chain) then too_long a.notes r cell else joined a.notes r cell))
         (λ e. back_as s cells (after_cell a ForGsmp (passed_over a.notes r cell)) a.notes.frames line (pops (after_cell a ForGsmp (passed_over a.notes r cell))) (broken_frames (cell.mark ∷ []) a.notes) (loses_cell p cell cells k.front line h))
-        (λ e. on_each to (not slot) (without_slot a.notes r cell) (if nat_le most_cells (length r.chain) then too_long a.notes r cell else joined a.notes r cell)
+        (λ listens. on_each to (not slot) (without_slot a.notes r cell) (if nat_le most_cells (length r.chain) then too_long a.notes r cell else joined a.notes r cell)
         (λ e. back_as s cells (after_cell a ForGsmp (without_slot a.notes r cell)) a.notes.frames line (pops (after_cell a ForGsmp (without_slot a.notes r cell)))
         (broken_frames (marks_of r.chain) (noted a.notes (Loss cell.mark PoolFull))) (loses_all p cell cells k.front line h))
-        (λ e. on_each to (nat_le most_cells (length r.chain)) (too_long a.notes r cell) (joined a.notes r cell)
+        (λ found. on_each to (nat_le most_cells (length r.chain)) (too_long a.notes r cell) (joined a.notes r cell)
         (λ e. back_as s cells (after_cell a ForGsmp (too_long a.notes r cell)) a.notes.frames line (pops (after_cell a ForGsmp (too_long a.notes r cell)))
         (broken_frames (marks_of (r.chain ++ cell ∷ [])) a.notes) (loses_all p cell cells k.front line h))
-        (λ e. joined_line line cell.header.last refl h)))
+        (λ room. joined_line line cell.header.last (λ last. record { listens = listens; slot_is = found; short = room; last = last }) refl h)))
 
   pub cell_comes_back : (s : Switch) (a : Acted) (cell : Cell) (cells : List Cell) → ComesBack node input s a cell cells
       → Leads node input (part_at input s a) (part_at input (without_first s) (cell_comes a cell))

@@ -43,7 +43,7 @@ use Rattle.shown_cells.proofs.Shows.{First, no_word, a_word, first_of}
 use Rattle.input_views.specs.Words.{erased, seen_request, seen_on_gsmp, seen_cell}
 use Rattle.input_views.specs.Shown.{controller_of, switch_of, ShowsRequests}
 use Rattle.input_steps.specs.Part.{Part, part_beside, Stands, Reaches, AnyLine, Leads}
-use Rattle.input_steps.specs.Hearing.{IsInHand, Comes}
+use Rattle.input_steps.specs.Hearing.{IsEnded, IsInHand, Comes}
 use Rattle.input_steps.proofs.Goes.{goes_to, goes_next, by_move, draw_to, lose_at_switch, behind_part}
 use Rattle.input_steps.proofs.Reach.{reaches_by, reaches_self, reaches_then, reaches_behind}
 use Rattle.input_steps.proofs.Queues.{queue_loses, chain_loses, queue_carries}
@@ -184,7 +184,7 @@ module _ (node : NodeId) (input : End) where
   loses_all c a cell cells front line h = reaches_then node input (record (part_beside input c a) { queue = cells }) (record (part_beside input c a) { queue = cells; chain = [] }) AnyLine AnyLine line
       (loses_cell c a cell cells front line h) (λ z k also. chain_loses node input (record (part_beside input c a) { queue = cells }) [] (part_none a.switch.reassembly.chain) z k)
 
-  tested_line : (c : Controller) (a : Acted) (cell : Cell) (cells : List Cell) (line : Line) (o : Option (List ℕ)) → Comes c a cell cells → cell.header.last ≡ true
+  tested_line : (c : Controller) (a : Acted) (cell : Cell) (cells : List Cell) (line : Line) (o : Option (List ℕ)) → Comes c a cell cells → IsEnded (nat_lt 0 (free_slots a.switch)) a.switch.reassembly cell
       → payload_in (octets_of (a.switch.reassembly.chain ++ cell ∷ [])) ≡ o → Stands node input (part_beside input c a) line
       → let b : Acted = record a { switch = record a.switch { reassembly = record a.switch.reassembly { chain = [] } } } in
       To (popped c cells) (after_test b (tested_by a.notes (a.switch.reassembly.chain ++ cell ∷ []) o)) line
@@ -195,20 +195,20 @@ module _ (node : NodeId) (input : End) where
   tested_line c a cell cells line (Some payload) k last is h =
       let chain : List Cell = a.switch.reassembly.chain ++ cell ∷ [] in
       let b : Acted = record a { switch = record a.switch { reassembly = record a.switch.reassembly { chain = [] } } } in
-      let true_frame : is_frame a.notes.frames (last_mark chain) payload ≡ true = k.passes payload is in
+      let true_frame : is_frame a.notes.frames (last_mark chain) payload ≡ true = k.passes last payload is in
       let kept : passed a.notes (last_mark chain) payload ≡ a.notes = ap (λ (t : Bool). if t then a.notes else noted a.notes (Chance (last_mark chain))) true_frame in
       let made : payload_of a.notes.frames cell.mark ≡ Some payload = ap (payload_of a.notes.frames) (sym (last_is a.switch.reassembly.chain cell)) ∙ frame_is a.notes.frames (last_mark chain) payload true_frame in
       subst (λ (notes : Journal). To (popped c cells) (read (record b { notes = notes }) (decoded payload)) line) (sym kept)
-      (ended_line c a cells cell payload line line.to_switch refl (k.hand payload last is) k.here last made h
+      (ended_line c a cells cell payload line line.to_switch refl (k.hand payload last is) k.here last.last made h
       (first_of (subst (λ (z : List Cell). ShowsRequests node input a.notes.frames z line.to_switch) k.front h.to_switch)))
 
-  joined_line : (c : Controller) (a : Acted) (cell : Cell) (cells : List Cell) (line : Line) (last : Bool) → Comes c a cell cells → cell.header.last ≡ last → Stands node input (part_beside input c a) line
+  joined_line : (c : Controller) (a : Acted) (cell : Cell) (cells : List Cell) (line : Line) (last : Bool) → Comes c a cell cells → (last ≡ true → IsEnded (nat_lt 0 (free_slots a.switch)) a.switch.reassembly cell) → cell.header.last ≡ last → Stands node input (part_beside input c a) line
       → To (popped c cells) (after_cell a (joined_as a cell last)) line
-  joined_line c a cell cells line false k is h = queue_carries node input (part_beside input c a) cell cells k.front line h
-  joined_line c a cell cells line true k is h =
+  joined_line c a cell cells line false k ended is h = queue_carries node input (part_beside input c a) cell cells k.front line h
+  joined_line c a cell cells line true k ended is h =
       let chain : List Cell = a.switch.reassembly.chain in
       let b : Acted = record a { switch = record a.switch { reassembly = record a.switch.reassembly { chain = [] } } } in
-      subst (λ (z : Acted). To (popped c cells) z line) (sym (ends_is b chain cell)) (tested_line c a cell cells line (payload_in (octets_of (chain ++ cell ∷ []))) k is refl h)
+      subst (λ (z : Acted). To (popped c cells) z line) (sym (ends_is b chain cell)) (tested_line c a cell cells line (payload_in (octets_of (chain ++ cell ∷ []))) k (ended refl) refl h)
 
   pub gsmp_cell_comes : (c : Controller) (a : Acted) (cell : Cell) (cells : List Cell) → Comes c a cell cells
       → Leads node input (part_beside input c a) (part_beside input (popped c cells) (gsmp_cell a cell))
@@ -219,11 +219,11 @@ module _ (node : NodeId) (input : End) where
       on_each to r.is_skipping (passed_over a.notes r cell)
       (if not slot then without_slot a.notes r cell else (if nat_le most_cells (length r.chain) then too_long a.notes r cell else joined a.notes r cell))
       (λ e. with_frames (popped c cells) (after_cell a (passed_over a.notes r cell)) a.notes.frames line (broken_frames (cell.mark ∷ []) a.notes) (loses_cell c a cell cells k.front line h))
-      (λ e. on_each to (not slot) (without_slot a.notes r cell) (if nat_le most_cells (length r.chain) then too_long a.notes r cell else joined a.notes r cell)
+      (λ listens. on_each to (not slot) (without_slot a.notes r cell) (if nat_le most_cells (length r.chain) then too_long a.notes r cell else joined a.notes r cell)
       (λ e. with_frames (popped c cells) (after_cell a (without_slot a.notes r cell)) a.notes.frames line (broken_frames (marks_of r.chain) (noted a.notes (Loss cell.mark PoolFull))) (loses_all c a cell cells k.front line h))
-      (λ e. on_each to (nat_le most_cells (length r.chain)) (too_long a.notes r cell) (joined a.notes r cell)
+      (λ found. on_each to (nat_le most_cells (length r.chain)) (too_long a.notes r cell) (joined a.notes r cell)
       (λ e. with_frames (popped c cells) (after_cell a (too_long a.notes r cell)) a.notes.frames line (broken_frames (marks_of (r.chain ++ cell ∷ [])) a.notes) (loses_all c a cell cells k.front line h))
-      (λ e. joined_line c a cell cells line cell.header.last k refl h)))
+      (λ room. joined_line c a cell cells line cell.header.last k (λ last. record { listens = listens; slot_is = found; short = room; last = last }) refl h)))
 
   -- *The switch restarts*
   numbers_same : (own : Instance) (ports : List PortState) → numbers_of (map (λ (state : PortState). begun own state.number) ports) ≡ numbers_of ports

@@ -1,7 +1,7 @@
 -- What is asked of what comes to a controller or its switch: frames pass their test by no chance, and what is said is read as
 -- it is written
 
-use Rattle.std.specs.Prelude.{◌≡◌, ◌≢◌, ◌==◌, ℕ, ◌≤◌, true, false, List, [], ◌∷◌, ◌++◌, length, None, Some, Ok, Option}
+use Rattle.std.specs.Prelude.{◌≡◌, ◌≢◌, ◌==◌, ℕ, ◌≤◌, Bool, true, false, not, nat_le, nat_lt, List, [], ◌∷◌, ◌++◌, length, None, Some, Ok, Option}
 use Rattle.net_types.specs.declared.adjacency.Greeting.{Greeting}
 use Rattle.net_types.specs.declared.adjacency.Party.{Party}
 use Rattle.adjacency_table.specs.declared.message.Answer.{Answer}
@@ -17,7 +17,8 @@ use Rattle.frame_model.specs.Frame.{octets_of as cell_octets, last_mark, payload
 use Rattle.desk_model.specs.Desk.{Standing}
 use Rattle.controller_model.specs.Controller.{Controller, default_channel}
 use Rattle.controller_model.specs.Cells.{same_channel}
-use Rattle.switch_model.specs.Switch.{Switch, Acted}
+use Rattle.frame_model.specs.Reassembly.{Reassembly, most_cells}
+use Rattle.switch_model.specs.Switch.{Switch, Acted, free_slots}
 use Rattle.switch_model.specs.Requests.{is_request}
 use Rattle.switch_model.specs.Answers.{handled}
 use Rattle.world_model.specs.Ways.{copy_of}
@@ -68,6 +69,13 @@ AsksWell m = (s : Standing) → copy_of m ≡ Some s → IsAsked s.request
 abbrev pub PassesTrue : List Frame → List Cell → Type 0
 PassesTrue frames cells = (payload : List ℕ) → payload_in (cell_octets cells) ≡ Some payload → is_frame frames (last_mark cells) payload ≡ true
 
+-- *A cell ends its chain* where the channel doesn't skip, has a slot for it and room in the chain, and it is a last one
+pub record IsEnded (slot : Bool) (r : Reassembly) (cell : Cell) : Type 0 where
+  pub listens : r.is_skipping ≡ false
+  pub slot_is : not slot ≡ false
+  pub short : nat_le most_cells (length r.chain) ≡ false
+  pub last : cell.header.last ≡ true
+
 -- *What is in hand*, once the chain is empty
 pub record IsInHand (c : Controller) (a : Acted) (payload : List ℕ) : Type 0 where
   pub some : HasQueue a.switch
@@ -78,8 +86,8 @@ pub record IsInHand (c : Controller) (a : Acted) (payload : List ℕ) : Type 0 w
 pub record Comes (c : Controller) (a : Acted) (cell : Cell) (cells : List Cell) : Type 0 where
   pub front : c.queue ≡ cell ∷ cells
   pub here : same_channel cell.header.channel default_channel ≡ true
-  pub passes : PassesTrue a.notes.frames (a.switch.reassembly.chain ++ cell ∷ [])
-  pub hand : (payload : List ℕ) → cell.header.last ≡ true → payload_in (cell_octets (a.switch.reassembly.chain ++ cell ∷ [])) ≡ Some payload
+  pub passes : IsEnded (nat_lt 0 (free_slots a.switch)) a.switch.reassembly cell → PassesTrue a.notes.frames (a.switch.reassembly.chain ++ cell ∷ [])
+  pub hand : (payload : List ℕ) → IsEnded (nat_lt 0 (free_slots a.switch)) a.switch.reassembly cell → payload_in (cell_octets (a.switch.reassembly.chain ++ cell ∷ [])) ≡ Some payload
       → IsInHand (record c { queue = cells }) (record a { switch = record a.switch { reassembly = record a.switch.reassembly { chain = [] } } }) payload
 
 -- *What the controller has in hand*: what it does at a message that shows a word, and at one that shows nothing, is moves
@@ -95,8 +103,8 @@ pub record IsHeld (node : NodeId) (input : End) (switch : Switch) (a : controlle
 pub record ComesBack (node : NodeId) (input : End) (switch : Switch) (a : controllers.Acted) (cell : Cell) (cells : List Cell) : Type 0 where
   pub front : queue_of switch.crossbar control_port ≡ cell ∷ cells
   pub here : same_channel cell.header.channel default_channel ≡ true
-  pub passes : PassesTrue a.notes.frames (a.controller.reassembly.chain ++ cell ∷ [])
-  pub holds : (payload : List ℕ) → cell.header.last ≡ true → payload_in (cell_octets (a.controller.reassembly.chain ++ cell ∷ [])) ≡ Some payload
+  pub passes : IsEnded (nat_lt 0 (controllers.free_slots a.controller)) a.controller.reassembly cell → PassesTrue a.notes.frames (a.controller.reassembly.chain ++ cell ∷ [])
+  pub holds : (payload : List ℕ) → IsEnded (nat_lt 0 (controllers.free_slots a.controller)) a.controller.reassembly cell → payload_in (cell_octets (a.controller.reassembly.chain ++ cell ∷ [])) ≡ Some payload
       → IsHeld node input (record switch { crossbar = popped switch.crossbar control_port })
       (record a { controller = record a.controller { reassembly = record a.controller.reassembly { chain = [] } } }) payload
 
