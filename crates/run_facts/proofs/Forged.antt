@@ -1,0 +1,59 @@
+-- a frame that is forged has a record
+
+use Rattle.std.proofs.Common.{◌≡◌, ℕ, Bool, true, false, List, [], ◌∷◌, ◌++◌, length, Option, None, Some, refl, sym, ◌∙◌, ap, true≢false, if◌then◌else◌}
+use Rattle.std.specs.Prelude.{nat_le}
+use Rattle.std.specs.List.{list_any}
+use Rattle.net_types.specs.declared.channel.Channel.{Channel}
+use Rattle.net_types.specs.declared.node.Place.{Place}
+use Rattle.net_types.specs.declared.node.Place.TheVariants.{Down, Up, Out}
+use Rattle.net_types.specs.declared.number.Mark.{Mark}
+use Rattle.net_types.specs.Number.{next_control, with_control}
+use Rattle.atm_cells.specs.declared.cell.Cell.{Cell}
+use Rattle.link_model.specs.declared.record.Record.{Record}
+use Rattle.link_model.specs.declared.record.Record.TheVariants.{Loss, Forged}
+use Rattle.link_model.specs.declared.record.Cause.TheVariants.{PoolFull}
+use Rattle.link_model.specs.Notes.{noted}
+use Rattle.frame_model.specs.Frame.{frame_cells, made}
+use Rattle.frame_model.specs.Sending.{Sent, sent_frame}
+use Rattle.switch_model.specs.Switch as switches
+use Rattle.switch_model.specs.Switch.{control_port}
+use Rattle.switch_model.specs.Conduct as switch
+use Rattle.controller_model.specs.Controller.{free_slots}
+use Rattle.controller_model.specs.Sending.{with_cells, sends}
+use Rattle.world_model.specs.declared.event.Event.TheVariants.{Forge}
+use Rattle.world_model.specs.Topology.{Topology}
+use Rattle.world_model.specs.World.{World, Site, site_at, controller_acts, switch_acts}
+use Rattle.world_model.specs.Step.{note, forges_at}
+use Rattle.world_model.specs.Run.{next, put_away}
+use Rattle.world_model.specs.Headline.{is_wild, IsTame}
+
+wild_sent : {Q : Type 0} (place : Place) (free : ℕ) (with_queue : List Cell → Q) (s : Sent Q) (channel : Channel) (mark : Mark) (payload : List ℕ) → s.notes.records ≡ Forged place ∷ []
+    → list_any is_wild (sent_frame free with_queue s channel mark payload).notes.records ≡ true
+wild_sent {Q} place free with_queue s channel mark payload is = by (nat_le (length (frame_cells channel mark payload)) free)
+  where
+    by : (x : Bool) → list_any is_wild (if x then record s { queues = with_queue (frame_cells channel mark payload); notes = made s.notes mark payload } else record s { notes = noted (made s.notes mark payload) (Loss mark PoolFull) }).notes.records ≡ true
+    by true = ap (list_any is_wild) is
+    by false = ap (λ (l : List Record). list_any is_wild (l ++ Loss mark PoolFull ∷ [])) is
+
+wild_forged : (t : Topology) (w : World) (place : Place) (channel : Channel) (payload : List ℕ) → list_any is_wild (next t w (Forge place channel payload)).notes.records ≡ true
+wild_forged t w place channel payload = by place
+  where
+    begun : World
+    begun = record (note (put_away w) (Forged place)) { numbers = with_control w.numbers }
+
+    at_switch : (port : _) (o : Option Site) → list_any is_wild (switch_acts begun o (λ a. switch.forged a port channel (next_control w.numbers) payload)).notes.records ≡ true
+    at_switch port None = refl
+    at_switch port (Some site) = wild_sent place (switches.free_slots site.switch) (switch.with_cells site.switch port) (record { queues = site.switch; notes = begun.notes }) channel (next_control w.numbers) payload refl
+
+    at_controller : (o : Option Site) → list_any is_wild (controller_acts begun o (λ a. sends a channel (next_control w.numbers) payload)).notes.records ≡ true
+    at_controller None = refl
+    at_controller (Some site) = wild_sent place (free_slots site.controller) (with_cells site.controller) (record { queues = site.controller; notes = begun.notes }) channel (next_control w.numbers) payload refl
+
+    by : (at : Place) → list_any is_wild (forges_at begun at channel (next_control w.numbers) payload).notes.records ≡ true
+    by (Down node) = at_controller (site_at w node)
+    by (Up node) = at_switch control_port (site_at w node)
+    by (Out node port) = at_switch port (site_at w node)
+
+-- so in a tame event none is
+pub none_forged : (t : Topology) (w : World) (place : Place) (channel : Channel) (payload : List ℕ) → IsTame (next t w (Forge place channel payload)).notes.records → ⊥
+none_forged t w place channel payload tame = true≢false (sym (wild_forged t w place channel payload) ∙ tame)

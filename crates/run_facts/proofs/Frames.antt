@@ -1,0 +1,104 @@
+-- frames are made under free marks, and records are noted that bind nothing
+
+use Rattle.std.proofs.Common.{◌≡◌, ◌≢◌, ℕ, ◌+◌, Bool, true, false, cond, List, [], ◌∷◌, ◌++◌, Option, None, Some, refl, sym, ◌∙◌, ap, arith, if◌then◌else◌, map}
+use Rattle.std.specs.Option.{option_or}
+use Rattle.net_types.specs.declared.number.Mark.{Mark}
+use Rattle.link_model.specs.declared.frames.Frame.{Frame}
+use Rattle.link_model.specs.declared.record.Record.{Record}
+use Rattle.link_model.specs.declared.record.Record.TheVariants.{Loss, Chance}
+use Rattle.link_model.specs.declared.record.Cause.TheVariants.{PoolFull, Broken, Cut}
+use Rattle.link_model.specs.Ledger.{payload_of, same_mark, has_entry, is_frame}
+use Rattle.link_model.specs.Notes.{Journal, noted}
+use Rattle.link_model.proofs.Latest.{payload_of_push}
+use Rattle.link_model.proofs.Marks.{same_mark-Decides}
+use Rattle.frame_model.specs.Frame.{tested, tested_by, payload_in, octets_of, last_mark}
+use Rattle.frame_model.specs.Reassembly.{Reassembly, Taken, taken, passed_over, without_slot, too_long, joined, most_cells, marks_of, broken, noted_all, distinct, cut}
+use Rattle.port_facts.proofs.Keyed.{on_both}
+use Rattle.world_model.specs.declared.link.LinkEnd.{LinkEnd}
+use Rattle.world_model.specs.Past.{bound_by, last_bound}
+use Rattle.atm_cells.specs.declared.cell.Cell.{Cell}
+use Rattle.std.specs.Prelude.{not, nat_le, length}
+use Rattle.run_facts.specs.Frames.{IsFree, Stay, BindsNone}
+
+-- *Frames*. Another mark's payload stays
+pub made_elsewhere : (frames : List Frame) (mark other : Mark) (payload : List ℕ) → mark ≢ other
+    → payload_of (frames ++ record { mark = mark; payload = payload } ∷ []) other ≡ payload_of frames other
+made_elsewhere frames mark other payload n = payload_of_push frames (record { mark = mark; payload = payload }) other
+    ∙ elim (same_mark mark other) as (λ b. same_mark mark other ≡ b → cond b (Some payload) (payload_of frames other) ≡ payload_of frames other) [
+      | true ↦ λ t. absurd (n ((same_mark-Decides mark other).0 t))
+      | false ↦ λ t. refl
+    ] refl
+
+pub free_next : (controls : ℕ) (frames : List Frame) (payload : List ℕ) → IsFree controls frames
+    → IsFree (controls + 1) (frames ++ record { mark = record { packet = 0; frame = controls + 1 }; payload = payload } ∷ [])
+free_next controls frames payload h k less =
+    made_elsewhere frames (record { packet = 0; frame = controls + 1 }) (record { packet = 0; frame = k }) payload (λ e. differs (ap (λ (m : Mark). m.frame) e)) ∙ h k (omega (arith, less))
+  where
+    differs : controls + 1 ≡ k → ⊥
+    differs e = absurd (omega (arith, less, e))
+
+pub free_packet : (controls : ℕ) (mark : Mark) (frames : List Frame) (payload : List ℕ) → mark.packet ≢ 0 → IsFree controls frames
+    → IsFree controls (frames ++ record { mark = mark; payload = payload } ∷ [])
+free_packet controls mark frames payload n h k less =
+    made_elsewhere frames mark (record { packet = 0; frame = k }) payload (λ e. n (ap (λ (m : Mark). m.packet) e)) ∙ h k less
+
+-- a frame of a mark that was free at first
+pub stay_more : (first frames : List Frame) (mark : Mark) (payload : List ℕ) → payload_of first mark ≡ None → Stay first frames
+    → Stay first (frames ++ record { mark = mark; payload = payload } ∷ [])
+stay_more first frames mark payload free h other old e =
+    made_elsewhere frames mark other payload (λ same. never same) ∙ h other old e
+  where
+    never : mark ≡ other → ⊥
+    never same = absurd (cc (e, free, same))
+
+-- *Records*
+pub bound_then : (xs ys : List Record) (end : LinkEnd) (label : ℕ) → last_bound (xs ++ ys) end label ≡ option_or (last_bound ys end label) (last_bound xs end label)
+bound_then [] ys end label = sym (or_none (last_bound ys end label))
+  where
+    or_none : {A : Type 0} (o : Option A) → option_or o None ≡ o
+    or_none None = refl
+    or_none (Some x) = refl
+bound_then (x ∷ xs) ys end label = ap (λ o. option_or o (bound_by end label x)) (bound_then xs ys end label) ∙ either (last_bound ys end label) (last_bound xs end label) (bound_by end label x)
+  where
+    either : {A : Type 0} (o p q : Option A) → option_or (option_or o p) q ≡ option_or o (option_or p q)
+    either None p q = refl
+    either (Some x) p q = refl
+
+-- one that binds nothing
+pub noted_binds : (notes : Journal) (item : Record) → ((end : LinkEnd) (label : ℕ) → bound_by end label item ≡ None) → BindsNone notes.records (noted notes item).records
+noted_binds notes item none end label = bound_then notes.records (item ∷ []) end label ∙ ap (λ o. option_or (option_or None o) (last_bound notes.records end label)) (none end label)
+
+pub binds_then : (a b c : List Record) → BindsNone a b → BindsNone b c → BindsNone a c
+binds_then a b c f g end label = g end label ∙ f end label
+
+loss_binds : (notes : Journal) (mark : Mark) → BindsNone notes.records (noted notes (Loss mark Broken)).records
+loss_binds notes mark = noted_binds notes (Loss mark Broken) (λ end label. refl)
+
+broken_binds : (marks : List Mark) (notes : Journal) → BindsNone notes.records (broken notes marks).records
+broken_binds [] notes end label = refl
+broken_binds (mark ∷ marks) notes end label = broken_binds marks (if has_entry notes.entries mark then notes else noted notes (Loss mark Broken)) end label
+    ∙ on_both (λ (n : Journal). last_bound n.records end label ≡ last_bound notes.records end label) (has_entry notes.entries mark) notes (noted notes (Loss mark Broken)) refl (loss_binds notes mark end label)
+
+cuts_bind : (marks : List Mark) (notes : Journal) → BindsNone notes.records (noted_all notes (map (λ mark. Loss mark Cut) marks)).records
+cuts_bind [] notes end label = refl
+cuts_bind (mark ∷ marks) notes end label = cuts_bind marks (noted notes (Loss mark Cut)) end label ∙ noted_binds notes (Loss mark Cut) (λ e l. refl) end label
+
+pub cut_binds : (notes : Journal) (r : Reassembly) → BindsNone notes.records (cut notes r).records
+cut_binds notes r = cuts_bind (distinct (marks_of r.chain)) notes
+
+pub taken_binds : (notes : Journal) (slot : Bool) (r : Reassembly) (cell : Cell) → BindsNone notes.records (taken notes slot r cell).notes.records
+taken_binds notes slot r cell end label = on_both Same r.is_skipping (passed_over notes r cell) _ (broken_binds (cell.mark ∷ []) notes end label)
+    (on_both Same (not slot) (without_slot notes r cell) _ (broken_binds (marks_of r.chain) (noted notes (Loss cell.mark PoolFull)) end label ∙ noted_binds notes (Loss cell.mark PoolFull) (λ e l. refl) end label)
+    (on_both Same (nat_le most_cells (length r.chain)) (too_long notes r cell) (joined notes r cell) (broken_binds (marks_of (r.chain ++ cell ∷ [])) notes end label)
+    (on_both Same cell.header.last (record { reassembly = record r { chain = [] }; notes = notes; ended = r.chain ++ cell ∷ [] }) (record { reassembly = record r { chain = r.chain ++ cell ∷ [] }; notes = notes; ended = [] }) refl refl)))
+  where
+    Same : Taken → Type 0
+    Same t = last_bound t.notes.records end label ≡ last_bound notes.records end label
+
+pub tested_binds : (notes : Journal) (cells : List Cell) → BindsNone notes.records (tested notes cells).notes.records
+tested_binds notes cells end label = by (payload_in (octets_of cells))
+  where
+    by : (o : Option (List ℕ)) → last_bound (tested_by notes cells o).notes.records end label ≡ last_bound notes.records end label
+    by None = broken_binds (marks_of cells) notes end label
+    by (Some payload) = on_both (λ (n : Journal). last_bound n.records end label ≡ last_bound notes.records end label) (is_frame notes.frames (last_mark cells) payload) notes (noted notes (Chance (last_mark cells))) refl
+        (noted_binds notes (Chance (last_mark cells)) (λ e l. refl) end label)

@@ -1,0 +1,21 @@
+-- What is made of frames, and what is noted
+
+use Rattle.std.specs.Prelude.{◌≡◌, ℕ, ◌<◌, List, Some, None}
+use Rattle.net_types.specs.declared.number.Mark.{Mark}
+use Rattle.link_model.specs.declared.frames.Frame.{Frame}
+use Rattle.link_model.specs.declared.record.Record.{Record}
+use Rattle.link_model.specs.Ledger.{payload_of}
+use Rattle.world_model.specs.declared.link.LinkEnd.{LinkEnd}
+use Rattle.world_model.specs.Past.{last_bound}
+
+-- nothing is made under the control marks that weren't given out
+abbrev pub IsFree : (controls : ℕ) → List Frame → Type 0
+IsFree controls frames = (k : ℕ) → controls < k → payload_of frames (record { packet = 0; frame = k }) ≡ None
+
+-- what was made stays
+abbrev pub Stay : (old new : List Frame) → Type 0
+Stay old new = (mark : Mark) (payload : List ℕ) → payload_of old mark ≡ Some payload → payload_of new mark ≡ Some payload
+
+-- no label was bound in between
+abbrev pub BindsNone : (old new : List Record) → Type 0
+BindsNone old new = (end : LinkEnd) (label : ℕ) → last_bound new end label ≡ last_bound old end label

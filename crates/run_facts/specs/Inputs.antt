@@ -1,0 +1,26 @@
+-- What may come to a switch, and which marks are given out
+
+use Rattle.std.specs.Prelude.{◌≡◌, ℕ, ◌<◌, ◌≤◌}
+use Rattle.net_types.specs.declared.node.PortNo.{PortNo}
+use Rattle.net_types.specs.declared.number.Mark.{Mark}
+use Rattle.atm_cells.specs.declared.cell.Cell.{Cell}
+use Rattle.switch_model.specs.Switch.{Acted}
+use Rattle.switch_model.specs.Conduct.{cell_comes, tick_comes, restarted}
+
+-- a cell comes on a port, a tick, a restart
+pub data SwitchInput : Type 0 where
+  CellComes : PortNo → Cell → SwitchInput
+  Ticks : SwitchInput
+  Restarts : SwitchInput
+
+abbrev pub switch_takes : Acted → SwitchInput → Acted
+switch_takes a (CellComes port cell) = cell_comes a port cell
+switch_takes a Ticks = tick_comes a
+switch_takes a Restarts = restarted a
+
+-- *A control mark* is one of those that were given out, from 1; a packet's mark may be any
+abbrev pub IsMark : (controls : ℕ) → Mark → Type 0
+IsMark controls mark = mark.packet ≡ 0 → (0 < mark.frame) × (mark.frame ≤ controls)
+
+abbrev pub IsMarked : (controls : ℕ) → Cell → Type 0
+IsMarked controls cell = IsMark controls cell.mark

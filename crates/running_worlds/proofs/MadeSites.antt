@@ -1,0 +1,199 @@
+-- a controller or a switch of a network acts: the numbers of each node still fit, and each frame is a packet's or a message's
+
+use Rattle.std.proofs.Common.{◌≡◌, ℕ, ◌<◌, Bool, true, false, List, [], ◌∷◌, Option, None, Some, refl, sym, ◌∙◌, ap, subst, arith, ◌⊎◌, inl, inr, if◌then◌else◌}
+use Rattle.std.specs.Prelude.{◌^◌, nat_eq}
+use Rattle.std.proofs.lemmas.Bool.Decides.{nat_tests}
+use Rattle.net_types.specs.declared.node.NodeId.{NodeId}
+use Rattle.net_types.specs.declared.node.Place.{Place}
+use Rattle.net_types.specs.declared.node.Place.TheVariants.{Down, Up, Out}
+use Rattle.atm_cells.specs.declared.cell.Cell.{Cell}
+use Rattle.ordered_lists.specs.Ordered.{Every}
+use Rattle.keyed_lists.specs.Keyed.{at, put}
+use Rattle.crossbar_model.specs.Channels.{IsLinkPort}
+use Rattle.switch_model.specs.Switch as switches
+use Rattle.port_model.specs.Setup.{Setup}
+use Rattle.controller_model.specs.Controller.{Acted, Linked}
+use Rattle.controller_facts.proofs.Moves.{popping, moves_to}
+use Rattle.controller_views.specs.Ready.{IsReadyPort, IsReady}
+use Rattle.controller_lifts.proofs.Kept.{Of}
+use Rattle.controller_lifts.proofs.Ready.{Fits}
+use Rattle.controller_lifts.proofs.Unspent.{Unspent}
+use Rattle.world_model.specs.World.{World, Site, site_key, site_at, controller_acts, at_controller, switch_acts, at_switch}
+use Rattle.world_model.specs.Places.{place_node, with_queue_in, with_queue_of, with_queue}
+use Rattle.world_views.specs.Made.{AreMade}
+use Rattle.world_views.specs.Ready.{setups_of, IsReadySite}
+use Rattle.world_views.specs.Shown.{acting}
+use Rattle.running_worlds.proofs.Walk.{Base, base_moves, Carried, To, alike_to}
+use Rattle.running_worlds.proofs.Switch as switch
+use Rattle.running_worlds.proofs.Switch.{IsSized, IsGood}
+
+-- *A node before an event*
+pub record IsKnown (site : Site) : Type 0 where
+  pub ready : IsReadySite site
+  pub links : Every (λ (setup : Setup). IsLinkPort setup.port) (setups_of site.controller)
+  pub address : site.controller.address.0 < 2 ^ 32
+  pub sized : IsSized site.switch.ports
+
+abbrev pub Sited : (Site → Type 0) → List Site → Type 0
+Sited P sites = (node : NodeId) (site : Site) → at site_key node.0 sites ≡ Some site → P site
+
+pub record Before (v : World) : Type 0 where
+  pub made : AreMade v.notes.frames
+  pub sites : Sited IsKnown v.sites
+
+-- *and behind it*
+pub record Behind (v : World) : Type 0 where
+  pub made : AreMade v.notes.frames
+  pub sites : Sited IsReadySite v.sites
+
+pub unchanged : (v : World) → Before v → Behind v
+unchanged v h = record { made = h.made; sites = λ node site e. (h.sites node site e).ready }
+
+-- what is found once a site was put is that site, or was found before
+pub put_found : (new : Site) (sites : List Site) (k : ℕ) (x : Site) → at site_key k (put site_key new sites) ≡ Some x → (new ≡ x) ⊎ (at site_key k sites ≡ Some x)
+put_found new [] k x e = inr e
+put_found new (z ∷ sites) k x e = by_new (nat_eq (site_key z) (site_key new)) refl (put_found new sites k x) e
+  where
+    moved : (a b k : ℕ) → nat_eq a b ≡ true → nat_eq b k ≡ false → nat_eq a k ≡ false
+    moved a b k s t = grind (arith, nat_tests)
+
+    by_key : (t : Bool) → nat_eq (site_key new) k ≡ t → nat_eq (site_key z) (site_key new) ≡ true → (if t then Some new else at site_key k sites) ≡ Some x
+        → (new ≡ x) ⊎ ((if nat_eq (site_key z) k then Some z else at site_key k sites) ≡ Some x)
+    by_key true t same e = inl (cc e)
+    by_key false t same e = inr (ap (λ (b : Bool). if b then Some z else at site_key k sites) (moved (site_key z) (site_key new) k same t) ∙ e)
+
+    by_old : (t : Bool) → (at site_key k (put site_key new sites) ≡ Some x → (new ≡ x) ⊎ (at site_key k sites ≡ Some x))
+        → (if t then Some z else at site_key k (put site_key new sites)) ≡ Some x → (new ≡ x) ⊎ ((if t then Some z else at site_key k sites) ≡ Some x)
+    by_old true rest e = inr e
+    by_old false rest e = rest e
+
+    by_new : (s : Bool) → nat_eq (site_key z) (site_key new) ≡ s → (at site_key k (put site_key new sites) ≡ Some x → (new ≡ x) ⊎ (at site_key k sites ≡ Some x))
+        → at site_key k (if s then new ∷ sites else z ∷ put site_key new sites) ≡ Some x → (new ≡ x) ⊎ ((if nat_eq (site_key z) k then Some z else at site_key k sites) ≡ Some x)
+    by_new true same rest e = by_key (nat_eq (site_key new) k) refl same e
+    by_new false other rest e = by_old (nat_eq (site_key z) k) rest e
+
+pub put_sited : (P : Site → Type 0) (new : Site) (sites : List Site) → P new → Sited P sites → Sited P (put site_key new sites)
+put_sited P new sites p all node x e = elim (put_found new sites node.0 x e) [
+  | inl same ↦ subst P same p
+  | inr before ↦ all node x before
+]
+
+-- *A controller*: its parts
+fits_each : (xs : List Linked) → Every IsReadyPort xs → Every (Of Fits) xs
+fits_each [] h = tt
+fits_each (x ∷ xs) h = ((h.0.setup, h.0.fits), fits_each xs h.1)
+
+unspent_each : (xs : List Linked) → Every IsReadyPort xs → Every (Of Unspent) xs
+unspent_each [] h = tt
+unspent_each (x ∷ xs) h = (h.0.unspent, unspent_each xs h.1)
+
+ready_each : (xs : List Linked) → Every (Of Unspent) xs → Every (Of Fits) xs → Every IsReadyPort xs
+ready_each [] u f = tt
+ready_each (x ∷ xs) u f = (record { unspent = u.0; setup = f.0.0; fits = f.0.1 }, ready_each xs u.1 f.1)
+
+base_of : (v : World) (site : Site) → IsKnown site → Base (setups_of site.controller) (acting v site)
+base_of v site h = record { sound = h.ready.controller.sound; flows = h.ready.controller.flows; ranged = h.ready.controller.ranged; links = h.links; address = h.address }
+
+carried_of : (v : World) (site : Site) → AreMade v.notes.frames → IsKnown site → Carried (setups_of site.controller) (acting v site)
+carried_of v site made h = record { wide = fits_each site.controller.ports h.ready.controller.ports; rows = h.ready.rows; side = h.ready.side; made = made }
+
+-- what a controller leads to is ready, and what was made is a packet's or a message's
+pub record IsLed (site : Site) (b : Acted) : Type 0 where
+  pub ready : IsReadySite (record site { controller = b.controller })
+  pub made : AreMade b.notes.frames
+  pub links : Every (λ (setup : Setup). IsLinkPort setup.port) (setups_of b.controller)
+  pub address : b.controller.address.0 < 2 ^ 32
+
+pub led : (v : World) (site : Site) (b : Acted) → AreMade v.notes.frames → IsKnown site → To (setups_of site.controller) (acting v site) b → b.numbers.instances < 2 ^ 32 → IsLed site b
+led v site b made h to small = record {
+  ready = record {
+    controller = subst (λ (s : List Setup). IsReady s b.controller) (sym same) ready;
+    rows = after.rows;
+    side = after.side;
+    switch_side = h.ready.switch_side;
+    ports = h.ready.ports;
+  };
+  made = after.made;
+  links = subst (Every (λ (setup : Setup). IsLinkPort setup.port)) (sym same) h.links;
+  address = base.address;
+}
+  where
+    setups : List Setup
+    setups = setups_of site.controller
+
+    base : Base (setups_of site.controller) b
+    base = base_moves (setups_of site.controller) (acting v site) b to.moves (base_of v site h)
+
+    after : Carried (setups_of site.controller) b
+    after = to.carried small (base_of v site h) (carried_of v site made h)
+
+    same : setups_of b.controller ≡ setups_of site.controller
+    same = base.sound.ports.same
+
+    ready : IsReady (setups_of site.controller) b.controller
+    ready = record {
+      sound = base.sound;
+      flows = base.flows;
+      ranged = base.ranged;
+      ports = ready_each b.controller.ports (to.unspent small h.ready.controller.sound (unspent_each site.controller.ports h.ready.controller.ports)) after.wide;
+    }
+
+pub controller_behind : (v : World) (node : NodeId) (act : Acted → Acted) → Before v
+    → ((site : Site) → site_at v node ≡ Some site → To (setups_of site.controller) (acting v site) (act (acting v site)))
+    → (at_controller v node act).numbers.instances < 2 ^ 32 → Behind (at_controller v node act)
+controller_behind v node act h to = by (site_at v node) refl
+  where
+    by : (o : Option Site) → site_at v node ≡ o → (controller_acts v o act).numbers.instances < 2 ^ 32 → Behind (controller_acts v o act)
+    by None found small = unchanged v h
+    by (Some site) found small =
+        let l : IsLed site (act (acting v site)) = led v site (act (acting v site)) h.made (h.sites node site found) (to site found) small in
+        record { made = l.made; sites = put_sited IsReadySite (record site { controller = (act (acting v site)).controller }) v.sites l.ready (λ n x e. (h.sites n x e).ready) }
+
+-- *A switch*
+abbrev pub switching : World → Site → switches.Acted
+switching v site = record { switch = site.switch; notes = v.notes; numbers = v.numbers }
+
+pub switch_behind : (v : World) (node : NodeId) (act : switches.Acted → switches.Acted) → Before v
+    → ((site : Site) → site_at v node ≡ Some site → IsSized site.switch.ports → switch.To (switching v site) (act (switching v site)))
+    → (at_switch v node act).numbers.instances < 2 ^ 32 → Behind (at_switch v node act)
+switch_behind v node act h to = by (site_at v node) refl
+  where
+    by : (o : Option Site) → site_at v node ≡ o → (switch_acts v o act).numbers.instances < 2 ^ 32 → Behind (switch_acts v o act)
+    by None found small = unchanged v h
+    by (Some site) found small =
+        let k : IsKnown site = h.sites node site found in
+        let good : IsGood (act (switching v site)) = (to site found k.sized).good small (record { side = k.ready.switch_side; ports = k.ready.ports; made = h.made }) in
+        record {
+          made = good.made;
+          sites = put_sited IsReadySite (record site { switch = (act (switching v site)).switch }) v.sites
+              (record { controller = k.ready.controller; rows = k.ready.rows; side = k.ready.side; switch_side = good.side; ports = good.ports }) (λ n x e. (h.sites n x e).ready);
+        }
+
+-- *A queue loses its head*
+pop_known : (v : World) (site : Site) (place : Place) (cells : List Cell) → AreMade v.notes.frames → v.numbers.instances < 2 ^ 32 → IsKnown site → IsKnown (with_queue_in site place cells)
+pop_known v site (Down node) cells made small h =
+    let b : Acted = record (acting v site) { controller = record site.controller { queue = cells } } in
+    let l : IsLed site b = led v site b made h (alike_to (setups_of site.controller) (acting v site) b (moves_to (popping (acting v site) cells)) refl refl refl refl) small in
+    record { ready = l.ready; links = l.links; address = l.address; sized = h.sized }
+pop_known v site (Up node) cells made small h = record {
+  ready = record { controller = h.ready.controller; rows = h.ready.rows; side = h.ready.side; switch_side = h.ready.switch_side; ports = h.ready.ports };
+  links = h.links;
+  address = h.address;
+  sized = h.sized;
+}
+pop_known v site (Out node port) cells made small h = record {
+  ready = record { controller = h.ready.controller; rows = h.ready.rows; side = h.ready.side; switch_side = h.ready.switch_side; ports = h.ready.ports };
+  links = h.links;
+  address = h.address;
+  sized = h.sized;
+}
+
+pub pop_before : (v : World) (place : Place) (cells : List Cell) → v.numbers.instances < 2 ^ 32 → Before v → Before (with_queue v place cells)
+pop_before v place cells small h = by (site_at v (place_node place)) refl
+  where
+    by : (o : Option Site) → site_at v (place_node place) ≡ o → Before (with_queue_of v place cells o)
+    by None found = h
+    by (Some site) found = record {
+      made = h.made;
+      sites = put_sited IsKnown (with_queue_in site place cells) v.sites (pop_known v site place cells h.made small (h.sites (place_node place) site found)) h.sites;
+    }

@@ -1,0 +1,62 @@
+-- a chain that a cell ends at a controller, or at a switch, and that passes is the frame of its last cell
+
+use Rattle.std.proofs.Common.{◌≡◌, Bool, not, List, [], ◌∷◌, ◌++◌, length, refl, sym, ◌∙◌, subst}
+use Rattle.std.specs.Prelude.{nat_le, nat_lt}
+use Rattle.net_types.specs.declared.node.Place.TheVariants.{Down, Up}
+use Rattle.atm_cells.specs.declared.cell.Cell.{Cell}
+use Rattle.link_model.specs.Notes.{Journal}
+use Rattle.frame_model.specs.Frame.{last_mark}
+use Rattle.frame_model.specs.Reassembly.{Reassembly, Taken, taken, most_cells, passed_over, without_slot, too_long, joined}
+use Rattle.port_facts.proofs.Keyed.{on_each}
+use Rattle.switch_model.specs.Switch as switches
+use Rattle.controller_model.specs.Controller.{free_slots}
+use Rattle.controller_model.specs.Cells.{reassembly_of}
+use Rattle.world_model.specs.declared.event.Event.TheVariants.{Carry}
+use Rattle.world_model.specs.World.{World}
+use Rattle.world_model.specs.Run.{put_away}
+use Rattle.world_model.specs.Past.{past_of, frames_of}
+use Rattle.world_model.specs.Headline.{IsTame}
+use Rattle.link_model.specs.declared.frames.Frame.{Frame}
+use Rattle.input_steps.specs.Hearing.{IsEnded, PassesTrue}
+use Rattle.input_steps.proofs.SwitchCells.{frame_is}
+use Rattle.run_facts.specs.Steps.{EventsAreSteps, RunsHaveFronts}
+use Rattle.running_worlds.specs.Running.{TameEventsAreTrue}
+use Rattle.running_worlds.proofs.Kept.{IsTrue, ControllersPass, SwitchesPass}
+
+-- *What a cell ends* is the chain with this cell, where the channel listens and has a slot and room
+record Ended (slot : Bool) (r : Reassembly) (cell : Cell) (ended : List Cell) : Type 0 where
+  whole : (first : Cell) (chain : List Cell) → ended ≡ first ∷ chain → IsEnded slot r cell × (ended ≡ r.chain ++ cell ∷ [])
+
+nothing_ended : (slot : Bool) (r : Reassembly) (cell : Cell) → Ended slot r cell []
+nothing_ended slot r cell = record { whole = λ first chain e. absurd (cc e) }
+
+ended_is : (notes : Journal) (slot : Bool) (r : Reassembly) (cell : Cell) → Ended slot r cell (taken notes slot r cell).ended
+ended_is notes slot r cell = on_each Is r.is_skipping (passed_over notes r cell) _ (λ skips. nothing_ended slot r cell)
+    (λ listens. on_each Is (not slot) (without_slot notes r cell) _ (λ full. nothing_ended slot r cell)
+    (λ free. on_each Is (nat_le most_cells (length r.chain)) (too_long notes r cell) (joined notes r cell) (λ long. nothing_ended slot r cell)
+    (λ short. on_each Is cell.header.last (record { reassembly = record r { chain = [] }; notes = notes; ended = r.chain ++ cell ∷ [] }) (record { reassembly = record r { chain = r.chain ++ cell ∷ [] }; notes = notes; ended = [] })
+    (λ last. record { whole = λ first chain e. (record { listens = listens; slot_is = free; short = short; last = last }, refl) })
+    (λ early. nothing_ended slot r cell))))
+  where
+    Is : Taken → Type 0
+    Is t = Ended slot r cell t.ended
+
+true_chain : (frames : List Frame) (cells : List Cell) → PassesTrue frames cells → IsTrue frames cells
+true_chain frames cells passes payload is = frame_is frames (last_mark cells) payload (passes payload is)
+
+module _ (tame : TameEventsAreTrue) (fronts : RunsHaveFronts) (steps : EventsAreSteps) where
+  pub controllers_pass : ControllersPass
+  controllers_pass policy topology before node c site cell first cells chain taker found queue is ended =
+      let whole = (ended_is (put_away (past_of policy topology before).now).notes (nat_lt 0 (free_slots site.controller)) (reassembly_of site.controller taker) cell).whole first chain ended in
+      subst (IsTrue (frames_of (past_of policy topology before))) (sym whole.1 ∙ ended)
+      (true_chain (frames_of (past_of policy topology before)) ((reassembly_of site.controller taker).chain ++ cell ∷ [])
+      ((tame policy topology before (Carry (Up node))
+      (subst (λ (u : World). IsTame u.notes.records) (steps policy topology before (Carry (Up node))).now (fronts policy topology before (Carry (Up node)) c).new_tame)).at_controller node site taker cell cells refl queue found is whole.0))
+
+  pub switches_pass : SwitchesPass
+  switches_pass policy topology before node c site cell first cells chain found queue gsmp ended =
+      let whole = (ended_is (put_away (past_of policy topology before).now).notes (nat_lt 0 (switches.free_slots site.switch)) site.switch.reassembly cell).whole first chain ended in
+      subst (IsTrue (frames_of (past_of policy topology before))) (sym whole.1 ∙ ended)
+      (true_chain (frames_of (past_of policy topology before)) (site.switch.reassembly.chain ++ cell ∷ [])
+      ((tame policy topology before (Carry (Down node))
+      (subst (λ (u : World). IsTame u.notes.records) (steps policy topology before (Carry (Down node))).now (fronts policy topology before (Carry (Down node)) c).new_tame)).at_switch node site cell cells refl queue found gsmp whole.0))

@@ -1,0 +1,77 @@
+-- what a rule of a port asks before its switch is met: neither a reset of the port nor Delete All
+
+use Rattle.std.proofs.Common.{◌≡◌, false, List, [], ◌∷◌, Some, refl}
+use Rattle.net_types.specs.declared.channel.End.{End}
+use Rattle.net_types.specs.declared.node.PortNo.{PortNo}
+use Rattle.gsmp_wire.specs.declared.request.Request.TheVariants.{AddBranch, MoveBranch, DeleteTree, VerifyTree, DeleteAll, PortManagement, AllPorts}
+use Rattle.ordered_lists.specs.Ordered.{Every}
+use Rattle.ordered_lists.proofs.Every.{every_all}
+use Rattle.desk_model.specs.Desk.{Desk}
+use Rattle.port_model.specs.declared.action.Action.{Action}
+use Rattle.port_model.specs.declared.action.Action.TheVariants as actions
+use Rattle.port_model.specs.declared.action.Action.TheVariants.{Say, Ask, Note, CutChain, TakeBack, Withdraw}
+use Rattle.port_model.specs.Setup.{Setup}
+use Rattle.port_model.specs.Port.{Work, labels_of, desk_with}
+use Rattle.port_facts.proofs.Keyed.{at_every}
+use Rattle.port_facts.proofs.Steps.{Goes}
+use Rattle.controller_model.specs.Controller.{Acted, Linked, linked_at, port_key}
+use Rattle.controller_model.specs.Resets.{begins}
+use Rattle.controller_facts.specs.Sound.{IsShutLinked}
+use Rattle.controller_facts.proofs.Moves.{HasPorts, found_at_own, found_setup, begun}
+use Rattle.controller_facts.proofs.Laws.{has_ports}
+use Rattle.controller_law.proofs.Asked.{MayAct, MayActs, IsNoReset, IsTo, Both, goes_asks}
+use Rattle.controller_law.proofs.Resetting.{goes_silent}
+use Rattle.controller_law.proofs.Whole.{Whole}
+use Rattle.running_worlds.specs.Mode.{Mode, Told, Untold}
+use Rattle.running_worlds.proofs.Asking.{AllowsAction, told_allows}
+
+abbrev AnyEnd : End → Type 0
+AnyEnd input = Unit {0}
+
+abbrev Never : PortNo → Type 0
+Never port = ⊥
+
+module _ (setup : Setup) where
+  mild_one : (d : Desk) (x : Action) → MayAct setup AnyEnd Never d x → IsNoReset setup AnyEnd Never x → AllowsAction Untold x
+  mild_one d (Say message) may other = tt
+  mild_one d (Ask (AddBranch i o) needed) may other = tt
+  mild_one d (Ask (MoveBranch i from to) needed) may other = tt
+  mild_one d (Ask (DeleteTree i) needed) may other = tt
+  mild_one d (Ask (VerifyTree i) needed) may other = tt
+  mild_one d (Ask (DeleteAll port) needed) may other = may
+  mild_one d (Ask (PortManagement port function) needed) may other = tt
+  mild_one d (Ask AllPorts needed) may other = tt
+  mild_one d (Note item) may other = tt
+  mild_one d (CutChain label) may other = tt
+  mild_one d (TakeBack i o) may other = tt
+  mild_one d (Withdraw i) may other = tt
+  mild_one d actions.Reset may other = other
+
+  mild_each : (xs : List Action) (d : Desk) → MayActs setup AnyEnd Never d xs → Every (IsNoReset setup AnyEnd Never) xs → Every (AllowsAction Untold) xs
+  mild_each [] d may other = tt
+  mild_each (x ∷ xs) d may other = (mild_one d x may.0 other.0, mild_each xs (desk_with d x) may.2 other.1)
+
+module _ (setups : List Setup) (a : Acted) (whole : Whole setups a) where
+  mild_rule : a.controller.has_met ≡ false → (port : PortNo) (linked : Linked) (w : Work) → linked_at a.controller port ≡ Some linked → Goes linked.setup a.controller.desk (begins a linked) w → Every (AllowsAction Untold) w.actions
+  mild_rule unmet port linked w found goes =
+      let has : HasPorts setups a = has_ports setups a whole.sound in
+      let there = found_setup setups a linked linked.setup.port has (found_at_own setups a linked port found) in
+      let both : Both setups linked.setup there a.controller.desk AnyEnd Never linked.port (λ input some. tt) w =
+      goes_asks setups linked.setup there a.controller.desk AnyEnd Never linked.port (λ input some. tt) (begins a linked) w goes (record {
+        kept = begun setups a linked port has found;
+        asks = record {
+          labels = every_all (IsTo setups linked.setup there a.controller.desk AnyEnd Never linked.port (λ input some. tt)) (labels_of linked.port) (λ label output e. tt);
+          lent = λ input. refl;
+          clearing = λ e. e;
+          acts = tt;
+          last = λ e. tt;
+          idle = λ e. tt;
+        };
+      }) in
+      mild_each linked.setup w.actions a.controller.desk both.asks.acts
+      (goes_silent linked.setup AnyEnd Never a.controller.desk (begins a linked) w goes (at_every port_key IsShutLinked port.0 a.controller.ports linked (whole.sound.unmet unmet) found) tt)
+
+  pub rule_allowed : (m : Mode) → (m ≡ Untold → a.controller.has_met ≡ false) → (port : PortNo) (linked : Linked) (w : Work) → linked_at a.controller port ≡ Some linked → Goes linked.setup a.controller.desk (begins a linked) w
+      → Every (AllowsAction m) w.actions
+  rule_allowed Told unmet port linked w found goes = told_allows w.actions
+  rule_allowed Untold unmet port linked w found goes = mild_rule (unmet refl) port linked w found goes

@@ -1,0 +1,299 @@
+-- what a switch does keeps the widths of its numbers, and each frame that it makes is a message's
+
+use Rattle.std.proofs.Common.{◌≡◌, ℕ, ◌≤◌, ◌<◌, Bool, true, List, [], ◌∷◌, length, Option, None, Some, Result, Ok, Err, refl, sym, ◌∙◌, ap, subst, map, arith, if◌then◌else◌}
+use Rattle.std.specs.FinMap.{get, keys}
+use Rattle.std.specs.Prelude.{◌^◌, ◌==◌, ◌&&◌, nat_le, nat_lt}
+use Rattle.net_types.specs.declared.adjacency.Greeting.{Greeting}
+use Rattle.net_types.specs.declared.adjacency.Party.{Party}
+use Rattle.net_types.specs.declared.number.Mark.{Mark}
+use Rattle.net_types.specs.declared.node.PortNo.{PortNo}
+use Rattle.net_types.specs.declared.number.Instance.{Instance}
+use Rattle.net_types.specs.declared.channel.End.{End}
+use Rattle.net_types.specs.Number.{GivenOut, next_control, with_control, next_instance}
+use Rattle.adjacency_table.specs.declared.message.Answer.{Answer}
+use Rattle.adjacency_table.specs.declared.message.Answer.TheVariants.{Quiet, Send, Open, Reset}
+use Rattle.adjacency_table.specs.Side.{Step, is_estab, ticked}
+use Rattle.adjacency_table.specs.Greeting.{gsmp_answer, gsmp_received}
+use Rattle.atm_cells.specs.declared.cell.Cell.{Cell}
+use Rattle.gsmp_wire.specs.declared.fault.Fault.{Fault}
+use Rattle.gsmp_wire.specs.declared.message.Message.{Message}
+use Rattle.gsmp_wire.specs.declared.message.Message.TheVariants.{Adjacency, Branch, Move, Port, AllPorts}
+use Rattle.gsmp_wire.specs.declared.request.Request.{Request}
+use Rattle.gsmp_wire.specs.declared.request.Request.TheVariants as requests
+use Rattle.gsmp_wire.specs.Layout.{octets_of}
+use Rattle.gsmp_wire.specs.Range.{FitsRows, Fits}
+use Rattle.gsmp_wire.specs.Fields.{decoded}
+use Rattle.gsmp_reading.specs.Said.{IsSaid}
+use Rattle.link_model.specs.declared.frames.Frame.{Frame}
+use Rattle.link_model.specs.declared.record.Record.TheVariants.{Loss}
+use Rattle.link_model.specs.declared.record.Cause.TheVariants.{PoolFull}
+use Rattle.link_model.specs.Notes.{Journal, noted}
+use Rattle.frame_model.specs.Frame.{made, frame_cells, octets_of as cell_octets, payload_in, tested_by}
+use Rattle.frame_model.specs.Reassembly.{Taken, taken}
+use Rattle.frame_model.specs.Sending.{Sent}
+use Rattle.crossbar_model.specs.declared.routed.Routed.{Routed}
+use Rattle.crossbar_model.specs.declared.routed.Routed.TheVariants as routes
+use Rattle.crossbar_model.specs.declared.branch.Branch.{Branch as BranchOf}
+use Rattle.crossbar_model.specs.Crossbar.{routed, cut_by_move}
+use Rattle.desk_model.specs.Desk.{Standing}
+use Rattle.desk_model.specs.Answers.{Head, head_of}
+use Rattle.port_facts.proofs.Keyed.{on_both, on_each}
+use Rattle.port_facts.proofs.Rules.{and_first}
+use Rattle.switch_model.specs.declared.port.PortState.{PortState}
+use Rattle.switch_model.specs.declared.request.Asked.{Asked}
+use Rattle.switch_model.specs.declared.request.Failure.{Failure}
+use Rattle.switch_model.specs.Switch.{Switch, Acted, control_port, gsmp_channel, free_slots, begun}
+use Rattle.switch_model.specs.Requests.{Changed, noted_cut, moved_by, moved_to, ended_by, ended, all_ended, inputs_on, cleared, branches_after, asked_in, is_request, ports_after}
+use Rattle.switch_model.specs.Failures.{failure_of}
+use Rattle.switch_model.specs.Answers.{row_of, Handled, handled_by, handled_asked, handled}
+use Rattle.switch_model.specs.Conduct.{with_cells, says, answers, steps, replied, requested, told, read, after_test, ends_frame, gsmp_cell, passed, switched_cell, is_gsmp, cell_comes, tick_comes, restarted}
+use Rattle.world_model.specs.Ways.{copy_by, copy_of}
+use Rattle.world_views.specs.Made.{said, AreMade}
+use Rattle.world_views.specs.Ready.{FitsSide}
+use Rattle.running_worlds.proofs.Making.{made_more}
+use Rattle.running_worlds.proofs.Asked.{IsWritten, AnswersWell, received_side, received_answers, ticked_side, ticked_answers}
+use Rattle.running_worlds.proofs.Answered.{TellsPorts, IsAsked, answer_written}
+use Rattle.running_worlds.proofs.Still.{cut_frames, taken_frames, tested_frames}
+
+-- *A switch in a run*: its parties fit, it can tell its ports, and each frame is a packet's or a message's
+pub record IsGood (a : Acted) : Type 0 where
+  pub side : FitsSide a.switch.adjacency
+  pub ports : FitsRows (map row_of a.switch.ports)
+  pub made : AreMade a.notes.frames
+
+-- one leads to another, where the instances given out fit
+pub record To (a b : Acted) : Type 0 where
+  pub rises : a.numbers.instances ≤ b.numbers.instances
+  pub good : b.numbers.instances < 2 ^ 32 → IsGood a → IsGood b
+
+stays : (a : Acted) → To a a
+stays a = record { rises = omega arith; good = λ small g. g }
+
+goes_on : (a b c : Acted) → To a b → To b c → To a c
+goes_on a b c f g = record { rises = omega (arith, f.rises, g.rises); good = λ small h. g.good small (f.good (omega (arith, small, g.rises)) h) }
+
+alike : (a b : Acted) → b.numbers ≡ a.numbers → b.switch.adjacency ≡ a.switch.adjacency → b.switch.ports ≡ a.switch.ports → b.notes.frames ≡ a.notes.frames → To a b
+alike a b numbers side ports frames = record {
+  rises = omega (arith, ap (λ (n : GivenOut). n.instances) numbers);
+  good = λ small g. record {
+    side = subst FitsSide (sym side) g.side;
+    ports = subst (λ (xs : List PortState). FitsRows (map row_of xs)) (sym ports) g.ports;
+    made = subst (λ (fs : List Frame). AreMade fs) (sym frames) g.made;
+  };
+}
+
+-- *A message is said*
+says_to : (a : Acted) (m : Message) → (IsGood a → IsWritten m) → To a (says a m)
+says_to a m it = record {
+  rises = on_both (λ (s : Sent Switch). a.numbers.instances ≤ (with_control a.numbers).instances) (nat_le (length cells) (free_slots a.switch)) full none (omega arith) (omega arith);
+  good = λ small g. (let all : AreMade (made a.notes mark (octets_of m)).frames = made_more a.notes.frames mark (octets_of m) g.made (said refl m (it g).0 (it g).1 refl) in
+      on_both (λ (s : Sent Switch). IsGood (record a { switch = s.queues; notes = s.notes; numbers = with_control a.numbers })) (nat_le (length cells) (free_slots a.switch)) full none
+      (record { side = g.side; ports = g.ports; made = all }) (record { side = g.side; ports = g.ports; made = all }));
+}
+  where
+    mark : Mark
+    mark = next_control a.numbers
+
+    cells : List Cell
+    cells = frame_cells gsmp_channel mark (octets_of m)
+
+    full : Sent Switch
+    full = record { queues = with_cells a.switch control_port cells; notes = made a.notes mark (octets_of m) }
+
+    none : Sent Switch
+    none = record { queues = a.switch; notes = noted (made a.notes mark (octets_of m)) (Loss mark PoolFull) }
+
+-- *Greetings* and ticks
+answers_to : (a : Acted) (answer : Answer Greeting Party) → (FitsSide a.switch.adjacency → AnswersWell answer) → To a (answers a answer)
+answers_to a Quiet well = stays a
+answers_to a (Send greeting) well = says_to a (Adjacency greeting) (λ g. well g.side)
+answers_to a (Open None key) well = stays a
+answers_to a (Open (Some greeting) key) well = says_to a (Adjacency greeting) (λ g. well g.side)
+answers_to a Reset well = record {
+  rises = omega arith;
+  good = λ small g. record {
+    side = record { own = record { name = λ i z less. g.side.own.name i z less; name_length = g.side.own.name_length; port = g.side.own.port; instance = small }; stored = tt };
+    ports = g.ports;
+    made = g.made;
+  };
+}
+
+steps_to : (a : Acted) (step : Step Party) → (FitsSide a.switch.adjacency → FitsSide step.side) → (FitsSide step.side → AnswersWell (gsmp_answer step.answer)) → To a (steps a step)
+steps_to a step keeps well =
+    let b : Acted = record a { switch = record a.switch { adjacency = step.side } } in
+    goes_on a b (steps a step) (record { rises = omega arith; good = λ small g. record { side = keeps g.side; ports = g.ports; made = g.made } }) (answers_to b (gsmp_answer step.answer) well)
+
+pub ticks_to : (a : Acted) → To a (tick_comes a)
+ticks_to a = steps_to a (ticked a.switch.adjacency) (ticked_side a.switch.adjacency) (ticked_answers a.switch.adjacency)
+
+-- *Branches* change, and no frame is made
+noted_frames : (notes : Journal) (unfinished : Option Mark) → (noted_cut notes unfinished).frames ≡ notes.frames
+noted_frames notes None = refl
+noted_frames notes (Some mark) = refl
+
+ended_frames : (c : Changed) (input : End) → (ended c input).notes.frames ≡ c.notes.frames
+ended_frames c input = by (get c.branches input)
+  where
+    by : (o : Option BranchOf) → (ended_by c input o).notes.frames ≡ c.notes.frames
+    by None = refl
+    by (Some b) = noted_frames c.notes b.unfinished
+
+all_ended_frames : (inputs : List End) (c : Changed) → (all_ended c inputs).notes.frames ≡ c.notes.frames
+all_ended_frames [] c = refl
+all_ended_frames (input ∷ inputs) c = all_ended_frames inputs (ended c input) ∙ ended_frames c input
+
+moved_frames : (c : Changed) (input to : End) → (moved_to c input to).notes.frames ≡ c.notes.frames
+moved_frames c input to = by (get c.branches input)
+  where
+    by : (o : Option BranchOf) → (moved_by c input to o).notes.frames ≡ c.notes.frames
+    by None = refl
+    by (Some b) = noted_frames c.notes (cut_by_move b to)
+
+branches_frames : (c : Changed) (request : Request) → (branches_after c request).notes.frames ≡ c.notes.frames
+branches_frames c (requests.AddBranch input output) = refl
+branches_frames c (requests.MoveBranch input from to) = moved_frames c input to
+branches_frames c (requests.DeleteTree input) = ended_frames c input
+branches_frames c (requests.DeleteAll port) = all_ended_frames (inputs_on c.branches port) c
+branches_frames c (requests.PortManagement port function) = on_both (λ (d : Changed). d.notes.frames ≡ c.notes.frames) (function == 2) (cleared c port) c (all_ended_frames (inputs_on c.branches port) c) refl
+branches_frames c (requests.VerifyTree input) = refl
+branches_frames c requests.AllPorts = refl
+
+-- *Requests*: what is asked manages no port
+same_ports : (ports : List PortState) (request : Request) → IsAsked request → ports_after ports request ≡ ports
+same_ports ports (requests.AddBranch input output) asked = refl
+same_ports ports (requests.MoveBranch input from to) asked = refl
+same_ports ports (requests.DeleteTree input) asked = refl
+same_ports ports (requests.VerifyTree input) asked = refl
+same_ports ports (requests.DeleteAll port) asked = refl
+same_ports ports (requests.PortManagement port function) asked = absurd asked
+same_ports ports requests.AllPorts asked = refl
+
+abbrev after : Acted → Handled → Acted
+after a h = record a { switch = h.switch; notes = h.notes }
+
+handled_to : (a : Acted) (m : Message) (o : Option Asked) → ((asked : Asked) → o ≡ Some asked → IsAsked asked.request) → To a (after a (handled_asked a.switch a.notes m o))
+handled_to a m None is = alike a (after a (handled_asked a.switch a.notes m None)) refl refl refl refl
+handled_to a m (Some asked) is = by (failure_of a.switch.ports a.switch.vpis a.switch.crossbar.branches asked)
+  where
+    by : (o : Option Failure) → To a (after a (handled_by a.switch a.notes m asked.request o))
+    by (Some failure) = alike a (after a (handled_by a.switch a.notes m asked.request (Some failure))) refl refl refl refl
+    by None = alike a (after a (handled_by a.switch a.notes m asked.request None)) refl refl (same_ports a.switch.ports asked.request (is asked refl))
+        (branches_frames (record { branches = a.switch.crossbar.branches; notes = a.notes }) asked.request)
+
+-- a copy of what is asked says so
+abbrev AsksWell : Message → Type 0
+AsksWell m = (s : Standing) → copy_of m ≡ Some s → IsAsked s.request
+
+well_copied : (m : Message) (head : Head) (found asked : Asked) → is_request m ≡ true → head_of m ≡ Some head → asked_in m ≡ Some found → found ≡ asked → AsksWell m → IsAsked asked.request
+well_copied m head found asked is heads asks same well = subst (λ (x : Asked). IsAsked x.request) same
+    (well (record { number = head.number; request = found.request }) (ap (λ (b : Bool). if b then copy_by (head_of m) (asked_in m) else None) is ∙ (λ i. copy_by (heads i) (asks i))))
+
+asked_well : (m : Message) → is_request m ≡ true → AsksWell m → (asked : Asked) → asked_in m ≡ Some asked → IsAsked asked.request
+asked_well m is well asked e = by (head_of m) refl
+  where
+    headless : (m : Message) → head_of m ≡ None → asked_in m ≡ Some asked → ⊥
+    headless (Adjacency greeting) none e = cc e
+    headless (Branch kind result code number session input_port input output_port output branches priority) none e = cc none
+    headless (Move result code number session input_port input output_port output target_port target branches priority) none e = cc none
+    headless (Port result code number port session function) none e = cc none
+    headless (AllPorts result code number rows) none e = cc none
+
+    by : (o : Option Head) → head_of m ≡ o → IsAsked asked.request
+    by (Some head) heads = well_copied m head asked asked is heads e refl well
+    by None none = absurd (headless m none e)
+
+-- how many ports a switch tells
+pub record IsSized (ports : List PortState) : Type 0 where
+  pub some : 1 ≤ length ports
+  pub few : length (map row_of ports) ≤ 9
+
+tells : (ports : List PortState) → IsSized ports → FitsRows (map row_of ports) → TellsPorts ports
+tells ports sized fits = record { some = sized.some; few = sized.few; fits = fits }
+
+requested_to : (a : Acted) (m : Message) → IsSized a.switch.ports → Fits m → IsSaid m → AsksWell m → To a (requested a m)
+requested_to a m sized fits was_said well = on_each (To a) (is_request m && is_estab a.switch.adjacency.state) (replied a (handled a.switch a.notes m)) a
+    (λ t. by (and_first (is_request m) (is_estab a.switch.adjacency.state) t)) (λ f. stays a)
+  where
+    by : is_request m ≡ true → To a (replied a (handled a.switch a.notes m))
+    by is =
+        let h : Handled = handled a.switch a.notes m in
+        let first : To a (after a h) = handled_to a m (asked_in m) (asked_well m is well) in
+        let last : IsGood a → To (after a h) (says (after a h) h.answer) = λ g. says_to (after a h) h.answer (λ k. answer_written a.switch a.notes (tells a.switch.ports sized g.ports) m fits was_said well is) in
+        record { rises = rising h; good = λ small g. (last g).good small (first.good (omega (arith, small, (last g).rises)) g) }
+      where
+        rising : (h : Handled) → a.numbers.instances ≤ (says (after a h) h.answer).numbers.instances
+        rising h = omega arith
+
+told_to : (a : Acted) (m : Message) → IsSized a.switch.ports → Fits m → IsSaid m → AsksWell m → To a (told a m)
+told_to a (Adjacency greeting) sized fits was_said well = steps_to a (gsmp_received a.switch.adjacency greeting) (received_side a.switch.adjacency greeting fits) (received_answers a.switch.adjacency greeting fits)
+told_to a (Branch kind result code number session input_port input output_port output branches priority) sized fits was_said well =
+    requested_to a (Branch kind result code number session input_port input output_port output branches priority) sized fits was_said well
+told_to a (Move result code number session input_port input output_port output target_port target branches priority) sized fits was_said well =
+    requested_to a (Move result code number session input_port input output_port output target_port target branches priority) sized fits was_said well
+told_to a (Port result code number port session function) sized fits was_said well = requested_to a (Port result code number port session function) sized fits was_said well
+told_to a (AllPorts result code number rows) sized fits was_said well = requested_to a (AllPorts result code number rows) sized fits was_said well
+
+-- *Frames* of the GSMP channel: what is read was written, and asks well
+abbrev pub IsReadWell : (payload : List ℕ) → Type 0
+IsReadWell payload = (m : Message) → decoded payload ≡ Ok m → Fits m × IsSaid m × AsksWell m
+
+read_to : (a : Acted) (payload : List ℕ) → IsSized a.switch.ports → IsReadWell payload → To a (read a (decoded payload))
+read_to a payload sized well = by (decoded payload) refl
+  where
+    by : (r : Result Message Fault) → decoded payload ≡ r → To a (read a r)
+    by (Ok m) is = told_to a m sized (well m is).0 (well m is).1 (well m is).2
+    by (Err fault) is = alike a (read a (Err fault)) refl refl refl refl
+
+abbrev pub Ends : List Cell → Type 0
+Ends [] = Unit {0}
+Ends (first ∷ cells) = (payload : List ℕ) → payload_in (cell_octets (first ∷ cells)) ≡ Some payload → IsReadWell payload
+
+tested_to : (a : Acted) (first : Cell) (cells : List Cell) (o : Option (List ℕ)) → payload_in (cell_octets (first ∷ cells)) ≡ o → IsSized a.switch.ports → Ends (first ∷ cells) → To a (after_test a (tested_by a.notes (first ∷ cells) o))
+tested_to a first cells None is sized ends = alike a (after_test a (tested_by a.notes (first ∷ cells) None)) refl refl refl (tested_frames a.notes (first ∷ cells) None)
+tested_to a first cells (Some payload) is sized ends =
+    let b : Acted = record a { notes = (tested_by a.notes (first ∷ cells) (Some payload)).notes } in
+    goes_on a b (read b (decoded payload)) (alike a b refl refl refl (tested_frames a.notes (first ∷ cells) (Some payload))) (read_to b payload sized (ends payload is))
+
+ended_to : (a : Acted) (cells : List Cell) → IsSized a.switch.ports → Ends cells → To a (ends_frame a cells)
+ended_to a [] sized ends = stays a
+ended_to a (first ∷ cells) sized ends = tested_to a first cells (payload_in (cell_octets (first ∷ cells))) refl sized ends
+
+-- *Cells*
+abbrev pub taken_by : Acted → Cell → Taken
+taken_by a cell = taken a.notes (nat_lt 0 (free_slots a.switch)) a.switch.reassembly cell
+
+gsmp_to : (a : Acted) (cell : Cell) → IsSized a.switch.ports → Ends (taken_by a cell).ended → To a (gsmp_cell a cell)
+gsmp_to a cell sized ends =
+    let t : Taken = taken_by a cell in
+    let b : Acted = record a { switch = record a.switch { reassembly = t.reassembly }; notes = t.notes } in
+    goes_on a b (ends_frame b t.ended) (alike a b refl refl refl (taken_frames a.notes (nat_lt 0 (free_slots a.switch)) a.switch.reassembly cell)) (ended_to b t.ended sized ends)
+
+switched_to : (a : Acted) (port : PortNo) (cell : Cell) → To a (switched_cell a port cell)
+switched_to a port cell = by (routed a.switch.crossbar (free_slots a.switch) port cell)
+  where
+    by : (r : Routed) → To a (passed a port cell r)
+    by (routes.Out output) = alike a (passed a port cell (routes.Out output)) refl refl refl refl
+    by routes.Unconnected = alike a (passed a port cell routes.Unconnected) refl refl refl refl
+    by routes.PoolFull = alike a (passed a port cell routes.PoolFull) refl refl refl refl
+
+pub cell_comes_to : (a : Acted) (port : PortNo) (cell : Cell) → IsSized a.switch.ports → (is_gsmp port cell.header.channel ≡ true → Ends (taken_by a cell).ended) → To a (cell_comes a port cell)
+cell_comes_to a port cell sized ends = on_each (To a) (is_gsmp port cell.header.channel) (gsmp_cell a cell) (switched_cell a port cell) (λ t. gsmp_to a cell sized (ends t)) (λ f. switched_to a port cell)
+
+-- *A restart*: its ports begin anew under its own instance
+begun_fit : (own : Instance) (ports : List PortState) → own.0 < 2 ^ 32 → FitsRows (map row_of ports) → FitsRows (map row_of (map (λ (state : PortState). begun own state.number) ports))
+begun_fit own [] less fits = tt
+begun_fit own (state ∷ ports) less fits = (record { port = fits.0.port; session = less; least = omega arith; greatest = omega arith }, begun_fit own ports less fits.1)
+
+pub restarts_to : (a : Acted) → To a (restarted a)
+restarts_to a = record {
+  rises = omega arith;
+  good = λ small g. record {
+    side = record { own = record { name = λ i z less. g.side.own.name i z less; name_length = g.side.own.name_length; port = g.side.own.port; instance = small }; stored = tt };
+    ports = begun_fit (next_instance a.numbers) a.switch.ports small g.ports;
+    made = subst (λ (fs : List Frame). AreMade fs) (sym frames) g.made;
+  };
+}
+  where
+    frames : (restarted a).notes.frames ≡ a.notes.frames
+    frames = cut_frames (all_ended (record { branches = a.switch.crossbar.branches; notes = a.notes }) (keys a.switch.crossbar.branches)).notes a.switch.reassembly
+        ∙ all_ended_frames (keys a.switch.crossbar.branches) (record { branches = a.switch.crossbar.branches; notes = a.notes })
