@@ -1,0 +1,204 @@
+-- what is asked of a network and of an event, so that no pair is made, is so in every run before the first forged frame
+
+use Rattle.std.proofs.Common.{◌≡◌, ◌≢◌, ℕ, ◌<◌, ◌≤◌, Bool, true, false, not, List, [], ◌∷◌, ◌++◌, length, Option, None, Some, Ok, refl, sym, ◌∙◌, ap, subst, arith, Contains, if◌then◌else◌}
+use Rattle.std.specs.Prelude.{◌==◌, nat_le, nat_lt}
+use Rattle.std.specs.Option.{option_map_or, option_and_then}
+use Rattle.std.proofs.lemmas.Bool.Decides.{nat_tests}
+use Rattle.net_types.specs.declared.node.NodeId.{NodeId}
+use Rattle.net_types.specs.declared.node.Place.{Place}
+use Rattle.net_types.specs.declared.node.Place.TheVariants.{Down, Up, Out}
+use Rattle.net_types.specs.declared.number.Mark.{Mark}
+use Rattle.atm_cells.specs.declared.cell.Cell.{Cell}
+use Rattle.gsmp_wire.specs.Fields.{decoded}
+use Rattle.gsmp_wire.specs.Range.{FitsRows}
+use Rattle.gsmp_wire.specs.declared.message.Message.{Message}
+use Rattle.gsmp_wire.specs.declared.message.Message.TheVariants as messages
+use Rattle.link_model.specs.Ledger.{payload_of, is_frame}
+use Rattle.link_model.specs.Notes.{Journal}
+use Rattle.frame_model.specs.Frame.{octets_of, last_mark, payload_in}
+use Rattle.frame_model.specs.Reassembly.{Reassembly, Taken, taken, most_cells, passed_over, without_slot, too_long, joined}
+use Rattle.crossbar_model.specs.Crossbar.{queue_of}
+use Rattle.switch_model.specs.Switch as switches
+use Rattle.switch_model.specs.Switch.{control_port}
+use Rattle.port_model.specs.Setup.{Policy, Setup}
+use Rattle.port_facts.proofs.Keyed.{on_each}
+use Rattle.controller_model.specs.Controller.{Acted, Linked, default_channel}
+use Rattle.controller_model.specs.Controller as controllers
+use Rattle.controller_model.specs.Cells.{Taker, ForGsmp, ForDefault, ForLabel, same_channel, taker_of, reassembly_of, taker_at, label_taker, port_on, on_link}
+use Rattle.controller_model.specs.Packets.{is_control}
+use Rattle.world_model.specs.declared.event.Event.{Event}
+use Rattle.world_model.specs.declared.event.Event.TheVariants.{Inject, Carry, Lose, Tick, TickSwitch, Restart, RestartSwitch, Forge, Route}
+use Rattle.world_model.specs.declared.link.LinkEnd.{LinkEnd}
+use Rattle.world_model.specs.Topology.{Topology, peer_of}
+use Rattle.world_model.specs.World.{World, Site, site_at}
+use Rattle.world_model.specs.Places.{queue_in, queue_at}
+use Rattle.world_model.specs.Run.{put_away, next}
+use Rattle.world_model.specs.Past.{Past, past_of}
+use Rattle.world_model.specs.Ways.{told, gsmp_of, gsmp_under}
+use Rattle.input_steps.specs.Hearing.{IsEnded, PassesTrue}
+use Rattle.input_steps.proofs.SwitchCells.{frame_is, last_is}
+use Rattle.input_premises.proofs.Reading.{are_read}
+use Rattle.input_events.specs.Coming.{IsRunning, IsOrdinary, IsFar, IsFromSwitch, CanCarry}
+use Rattle.frame_readings.specs.Reading.{MarksAreRead}
+use Rattle.run_facts.specs.Nodes.{RunsHaveNodes, IsNodeOfRun}
+use Rattle.run_facts.specs.Steps.{EventsAreSteps, RunsHaveFronts}
+use Rattle.running_worlds.specs.Running.{EventsAreOrdinary}
+use Rattle.running_worlds.proofs.Sites.{goes_by_links}
+use Rattle.world_views.specs.Made.{AreMade}
+use Rattle.world_views.specs.Shown.{acting}
+use Rattle.world_views.specs.Between.{EachSite, IsWorld, HasAllMade, setups_of}
+use Rattle.world_views.specs.Kept.{Comes, Keeps, behind}
+use Rattle.quiet_controllers.specs.Quiet.{AreRead}
+use Rattle.quiet_controllers.specs.Heard.{RowsAreRead, IsHeard, CanCome}
+use Rattle.pairs.specs.Events.{IsAtDesk, IsHonest, CarriesHonestly, PacketsAskNothing, HasOldPairs, EventsMakeNoPairs}
+use Rattle.pairs.specs.Past.{RunsMakeNoPairs}
+
+-- *A chain that a cell ended* is all of it
+pub record HasEnded (slot : Bool) (r : Reassembly) (cell : Cell) (ended : List Cell) : Type 0 where
+  pub ends : IsEnded slot r cell
+  pub whole : ended ≡ r.chain ++ cell ∷ []
+
+pub has_ended : (notes : Journal) (slot : Bool) (r : Reassembly) (cell first : Cell) (rest : List Cell) → (taken notes slot r cell).ended ≡ first ∷ rest → HasEnded slot r cell (first ∷ rest)
+has_ended notes slot r cell first rest = on_each P r.is_skipping (passed_over notes r cell) _ (λ t e. absurd (cc e))
+    (λ listens. on_each P (not slot) (without_slot notes r cell) _ (λ t e. absurd (cc e))
+    (λ slot_is. on_each P (nat_le most_cells (length r.chain)) (too_long notes r cell) (joined notes r cell) (λ t e. absurd (cc e))
+    (λ short. on_each P cell.header.last (record { reassembly = record r { chain = [] }; notes = notes; ended = r.chain ++ cell ∷ [] }) (record { reassembly = record r { chain = r.chain ++ cell ∷ [] }; notes = notes; ended = [] })
+    (λ last e. record { ends = record { listens = listens; slot_is = slot_is; short = short; last = last }; whole = sym e }) (λ t e. absurd (cc e)))))
+  where
+    P : Taken → Type 0
+    P t = t.ended ≡ first ∷ rest → HasEnded slot r cell (first ∷ rest)
+
+-- so a chain that passes is the frame of the cell's mark
+true_payload : (frames : _) (r : Reassembly) (cell : Cell) (ended : List Cell) (payload : List ℕ) → ended ≡ r.chain ++ cell ∷ [] → PassesTrue frames (r.chain ++ cell ∷ []) → payload_in (octets_of ended) ≡ Some payload → payload_of frames cell.mark ≡ Some payload
+true_payload frames r cell ended payload whole passes is =
+    ap (payload_of frames) (sym (last_is r.chain cell)) ∙ frame_is frames (last_mark (r.chain ++ cell ∷ [])) payload (passes payload (ap (λ (cells : List Cell). payload_in (octets_of cells)) (sym whole) ∙ is))
+
+three_of : (n : ℕ) → (n == 3) ≡ true → n ≡ 3
+three_of n e = grind (arith, nat_tests)
+
+not_both : (b : Bool) → b ≡ true → b ≡ false → ⊥
+not_both true t f = cc f
+not_both false t f = cc t
+
+module _ (nodes : RunsHaveNodes) (fronts : RunsHaveFronts) (steps : EventsAreSteps) (running : EventsAreOrdinary) (read : MarksAreRead) (made : Keeps HasAllMade) where
+  module _ (policy : Policy) (topology : Topology) (before : List Event) (event : Event) (comes : Comes policy topology before event) (world : IsWorld (past_of policy topology before)) where
+    abbrev pub past : Past
+    past = past_of policy topology before
+
+    abbrev pub w : World
+    w = past.now
+
+    pub of_run : (node : NodeId) (site : Site) → site_at w node ≡ Some site → IsNodeOfRun policy past node site
+    of_run node site found = nodes policy topology before comes.addresses (fronts policy topology before event comes).run node site found
+
+    pub at_desk : EachSite w IsAtDesk
+    at_desk node site found =
+        let n : IsNodeOfRun policy past node site = of_run node site found in
+        record {
+          numbered = n.is_node.own;
+          ports = n.conduct.sound.ports;
+          shaped = n.conduct.sound.requests;
+          below = n.conduct.sound.desk.below;
+          room = n.conduct.sound.desk.room;
+          reads = are_read (setups_of site.controller) n.ports.links site.controller.desk.rows (world.ready node site found).rows;
+          reads_none = are_read (setups_of site.controller) n.ports.links [] tt;
+          by_links = goes_by_links past node site.controller n.ports n.conduct.routes;
+        }
+
+    runs : IsRunning w
+    runs = (running policy topology before event comes world).0
+
+    -- *What comes to a controller*
+    rows_read : (node : NodeId) (site : Site) → site_at w node ≡ Some site → (m : Message) → IsFromSwitch site.controller m → RowsAreRead (setups_of site.controller) m
+    rows_read node site found (messages.AllPorts result code number rows) from = λ three. are_read (setups_of site.controller) (of_run node site found).ports.links rows (from (three_of result three)).0
+    rows_read node site found (messages.Adjacency g) from = tt
+    rows_read node site found (messages.Branch kind r c n session ip i op o br pr) from = tt
+    rows_read node site found (messages.Move r c n session ip i op o tp t br pr) from = tt
+    rows_read node site found (messages.Port r c n p session f) from = tt
+
+    head_waits : (node : NodeId) (site : Site) (cell : Cell) (cells : List Cell) → site_at w node ≡ Some site → queue_at w (Up node) ≡ cell ∷ cells → Contains (queue_of site.switch.crossbar control_port) cell
+    head_waits node site cell cells found is = subst (λ (xs : List Cell). Contains xs cell) (sym is ∙ ap (λ (o : Option Site). option_map_or (λ (x : Site). queue_in x (Up node)) o []) found) (0, omega arith, refl)
+
+    heard_now : (node : NodeId) (site : Site) (cell : Cell) (cells : List Cell) → site_at w node ≡ Some site → queue_at w (Up node) ≡ cell ∷ cells → CanCarry topology w (Up node)
+        → (taker : Taker) (first : Cell) (rest : List Cell) (payload : List ℕ) → taker_of site.controller cell.header.channel ≡ Some taker
+        → (taken (put_away w).notes (nat_lt 0 (controllers.free_slots site.controller)) (reassembly_of site.controller taker) cell).ended ≡ first ∷ rest → payload_in (octets_of (first ∷ rest)) ≡ Some payload
+        → IsHeard (setups_of site.controller) cell.mark taker payload
+    heard_now node site cell cells found is can taker first rest payload taken_by ended passes = by (same_channel cell.header.channel default_channel) refl taker taken_by ended
+      where
+        some_taker : (x y : Taker) → Some x ≡ Some y → x ≡ y
+        some_taker x y e = cc e
+
+        at_link : (o : Option Linked) (t : Taker) → taker_at o (on_link cell.header.channel) ≡ Some t → IsHeard (setups_of site.controller) cell.mark t payload → IsHeard (setups_of site.controller) cell.mark t payload
+        at_link o t e h = h
+
+        gsmp : (r : Reassembly) → r ≡ site.controller.reassembly → same_channel cell.header.channel default_channel ≡ true → (taken (put_away w).notes (nat_lt 0 (controllers.free_slots site.controller)) r cell).ended ≡ first ∷ rest → IsHeard (setups_of site.controller) cell.mark ForGsmp payload
+        gsmp r same here e m said =
+            let h : HasEnded (nat_lt 0 (controllers.free_slots site.controller)) r cell (first ∷ rest) = has_ended (put_away w).notes (nat_lt 0 (controllers.free_slots site.controller)) r cell first rest e in
+            let k : HasEnded (nat_lt 0 (controllers.free_slots site.controller)) site.controller.reassembly cell (first ∷ rest) = subst (λ (x : Reassembly). HasEnded (nat_lt 0 (controllers.free_slots site.controller)) x cell (first ∷ rest)) same h in
+            let frame : payload_of w.notes.frames cell.mark ≡ Some payload = true_payload w.notes.frames site.controller.reassembly cell (first ∷ rest) payload k.whole ((can cell cells site is found).1 here k.ends) passes in
+            rows_read node site found m (runs.answered node site found cell m (head_waits node site cell cells found is) here
+            (ap (option_and_then gsmp_of) frame ∙ ap told said))
+
+        away : same_channel cell.header.channel default_channel ≡ false → (r : Reassembly) → (taken (put_away w).notes (nat_lt 0 (controllers.free_slots site.controller)) r cell).ended ≡ first ∷ rest → is_control cell.mark ≡ false → cell.mark.packet ≢ 0
+        away other r e plain = ((can cell cells site is found).0 other (has_ended (put_away w).notes (nat_lt 0 (controllers.free_slots site.controller)) r cell first rest e).ends.last plain).0
+
+        by : (b : Bool) → same_channel cell.header.channel default_channel ≡ b → (t : Taker) → taker_of site.controller cell.header.channel ≡ Some t
+            → (taken (put_away w).notes (nat_lt 0 (controllers.free_slots site.controller)) (reassembly_of site.controller t) cell).ended ≡ first ∷ rest → IsHeard (setups_of site.controller) cell.mark t payload
+        by true here ForGsmp t e = gsmp site.controller.reassembly refl here e
+        by true here (ForDefault linked) t e = absurd (cc (sym (ap (λ (x : Bool). if x then Some ForGsmp else taker_at (controllers.linked_at site.controller (port_on cell.header.channel)) (on_link cell.header.channel)) here) ∙ t))
+        by true here (ForLabel linked label) t e = absurd (cc (sym (ap (λ (x : Bool). if x then Some ForGsmp else taker_at (controllers.linked_at site.controller (port_on cell.header.channel)) (on_link cell.header.channel)) here) ∙ t))
+        by false other ForGsmp t e = absurd (never (controllers.linked_at site.controller (port_on cell.header.channel)) (sym (ap (λ (x : Bool). if x then Some ForGsmp else taker_at (controllers.linked_at site.controller (port_on cell.header.channel)) (on_link cell.header.channel)) other) ∙ t))
+          where
+            no_label : (linked : Linked) (o : Option _) → label_taker linked o ≡ Some ForGsmp → ⊥
+            no_label linked None k = cc k
+            no_label linked (Some label) k = test _ k
+              where
+                test : (b : Bool) → (if b then Some (ForLabel linked label) else None) ≡ Some ForGsmp → ⊥
+                test true l = cc l
+                test false l = cc l
+
+            never : (o : Option Linked) → taker_at o (on_link cell.header.channel) ≡ Some ForGsmp → ⊥
+            never None k = cc k
+            never (Some linked) k = test (same_channel (on_link cell.header.channel) default_channel) _ k
+              where
+                test : (b : Bool) (o : Option _) → (if b then Some (ForDefault linked) else label_taker linked o) ≡ Some ForGsmp → ⊥
+                test true o l = cc l
+                test false o l = no_label linked o l
+        by false other (ForDefault linked) t e = λ plain. away other (reassembly_of site.controller (ForDefault linked)) e plain
+        by false other (ForLabel linked label) t e = λ plain. away other (reassembly_of site.controller (ForLabel linked label)) e plain
+
+    carries : (place : Place) → CanCarry topology w place → CarriesHonestly topology (put_away w) place
+    carries (Down node) can = λ site cell cells found is here first rest payload ended passes.
+        (let k : HasEnded (nat_lt 0 (switches.free_slots site.switch)) site.switch.reassembly cell (first ∷ rest) = has_ended (put_away w).notes (nat_lt 0 (switches.free_slots site.switch)) site.switch.reassembly cell first rest ended in
+        true_payload w.notes.frames site.switch.reassembly cell (first ∷ rest) payload k.whole (can cell cells site is found here k.ends) passes)
+    carries (Up node) can = λ site cell cells found is. record {
+      by_links = (at_desk node site found).by_links;
+      heard = heard_now node site cell cells found is can;
+    }
+    carries (Out node port) can = λ far is. by far (peer_of topology node port) is can.1
+      where
+        by : (far : LinkEnd) (o : Option LinkEnd) → o ≡ Some far → IsFar o → 1 ≤ far.port.0
+        by far None e k = absurd (cc e)
+        by far (Some end) e k = (let same : end ≡ far = cc e in subst (λ (x : LinkEnd). 1 ≤ x.port.0) same k)
+
+    honest : (e : Event) → IsOrdinary topology w e → IsHonest topology (put_away w) e
+    honest (Inject node octets) ok = tt
+    honest (Carry place) ok = carries place ok
+    honest (Lose place) ok = tt
+    honest (Tick node) ok = tt
+    honest (TickSwitch node) ok = tt
+    honest (Restart node) ok = tt
+    honest (RestartSwitch node) ok = tt
+    honest (Forge place channel payload) ok = ok
+    honest (Route node change) ok = tt
+
+    nothing_asked : PacketsAskNothing (next topology w event)
+    nothing_asked mark other = read.no_copy (next topology w event).notes.frames mark
+        (subst (λ (x : World). AreMade x.notes.frames) ((steps policy topology before event).now) (made policy topology before event comes world)) other
+
+    pub old_pairs : EventsMakeNoPairs → HasOldPairs w event (behind policy topology before event).now
+    old_pairs law = subst (λ (v : World). HasOldPairs w event v) (sym ((steps policy topology before event).now))
+        (law topology w event at_desk world.numbers (honest event (running policy topology before event comes world).1) nothing_asked)
+
+  pub runs_make_none : EventsMakeNoPairs → RunsMakeNoPairs
+  runs_make_none law policy topology before event comes world = old_pairs policy topology before event comes world law

@@ -1,0 +1,254 @@
+-- the answer that ends the meeting with the switch
+
+use Rattle.std.proofs.Common.{◌≡◌, ℕ, Bool, true, false, List, [], ◌∷◌, Option, None, Some, Result, Ok, Err, refl, sym, ◌∙◌, ap, subst, fold, if◌then◌else◌}
+use Rattle.std.specs.Prelude.{not, nat_lt, map, filter}
+use Rattle.std.specs.List.{list_any}
+use Rattle.std.specs.Option.{option_and_then}
+use Rattle.net_types.specs.declared.channel.End.{End}
+use Rattle.net_types.specs.declared.node.PortNo.{PortNo}
+use Rattle.net_types.specs.declared.number.Mark.{Mark}
+use Rattle.atm_cells.specs.declared.cell.Cell.{Cell}
+use Rattle.adjacency_table.specs.Side.{is_estab}
+use Rattle.adjacency_table.specs.Greeting.{gsmp_received}
+use Rattle.flow_encaps.specs.Unwrapped.{default_unwrapped, unwrapped}
+use Rattle.gsmp_wire.specs.declared.fault.Fault.{Fault}
+use Rattle.gsmp_wire.specs.declared.message.Message.{Message}
+use Rattle.gsmp_wire.specs.declared.message.Message.TheVariants as messages
+use Rattle.gsmp_wire.specs.declared.request.Request.{Request}
+use Rattle.gsmp_wire.specs.declared.request.Request.TheVariants.{AddBranch, MoveBranch, DeleteTree, VerifyTree, DeleteAll, PortManagement, AllPorts}
+use Rattle.gsmp_wire.specs.Fields.{decoded as gsmp_decoded}
+use Rattle.frame_model.specs.Frame.{octets_of, last_mark, payload_in, tested_by}
+use Rattle.frame_model.specs.Reassembly.{Taken, taken}
+use Rattle.ordered_lists.specs.Ordered.{Every}
+use Rattle.desk_model.specs.Desk.{Desk, Standing}
+use Rattle.desk_model.specs.Requests.{leads_home}
+use Rattle.desk_model.specs.Answers.{Answered, Unknown, Done, Ports, Failed, answered, after_answer, without_request}
+use Rattle.port_model.specs.Setup.{Setup, home_of}
+use Rattle.port_model.specs.Labels.{Label}
+use Rattle.port_model.specs.Grants as grants
+use Rattle.port_model.specs.Grants.{Grant}
+use Rattle.port_model.specs.Port.{Session, Work, halts}
+use Rattle.port_model.specs.Saying.{is_spent, closes}
+use Rattle.port_facts.proofs.Keyed.{at_every, on_each}
+use Rattle.controller_model.specs.Controller.{Controller, Acted, Linked, port_key, default_channel, default_end, default_home, free_slots, linked_at, ports_of, with_desk}
+use Rattle.controller_model.specs.Asking.{asks}
+use Rattle.controller_model.specs.Resets.{begins, node_resets}
+use Rattle.controller_model.specs.Performing.{works_as, works}
+use Rattle.controller_model.specs.Joins.{Join, joins_of, releases_input, released_inputs, resets_spent, releases}
+use Rattle.controller_model.specs.Meeting.{port_of_input, is_deleting, has_emptied, ends_meeting, empties, causes_in_estab, causes, clears_port, clears, done, takes_answer, answer_comes}
+use Rattle.controller_model.specs.Changes.{takes_changes}
+use Rattle.controller_model.specs.Gsmp.{told, gsmp_holds}
+use Rattle.controller_model.specs.Cells.{Taker, ForGsmp, ForDefault, ForLabel, same_channel, reassembly_of, with_reassembly, frame_holds, opened_frame, ends_frame, takes_cell, cell_comes}
+use Rattle.controller_facts.specs.Sound.{IsSound, IsShutLinked}
+use Rattle.controller_facts.proofs.Laws.{has_ports, moves_sound}
+use Rattle.controller_facts.proofs.Moves.{HasPorts, Found, answering, moves_to, moves_ports}
+use Rattle.controller_facts.proofs.Joining.{IsJoin, joins_are, resets_spent_goes, releases_goes}
+use Rattle.controller_facts.proofs.Events.{IsTaker, kept_ports}
+use Rattle.controller_law.specs.Match.{lent_in, lent_at}
+use Rattle.controller_law.proofs.Matched.{shut_lent}
+use Rattle.lasting_joins.proofs.Lent.{Keeps, node_keeps, tells_keep}
+use Rattle.lasting_joins.proofs.Lasting.{Lasts, empties_last, releases_keep, clears_last, changes_last, steps_last, default_lasts, label_lasts}
+use Rattle.lasting_joins.proofs.Tries.{taken_by, gathered_lasts, gathered_met}
+
+-- *Before the switch is met* nothing is released
+module _ (setups : List Setup) where
+  none_joined : (a : Acted) → IsSound setups a.controller → a.controller.has_met ≡ false → joins_of a.controller ≡ []
+  none_joined a sound unmet = by (joins_of a.controller) (joins_are setups a (has_ports setups a sound))
+    where
+      by : (joins : List Join) → Every (IsJoin setups a) joins → joins ≡ []
+      by [] all = refl
+      by (join ∷ joins) all =
+          let is : IsJoin setups a join = all.0 in
+          let lent : lent_at a.controller.ports join.port.0 join.grant.label ≡ Some join.input = ap (option_and_then (λ (x : Linked). lent_in x.port.grants join.grant.label)) is.found
+          ∙ (ap (option_and_then (λ (g : Grant). grants.input_of g.state)) is.granted ∙ is.input) in
+          let none : None ≡ Some join.input = sym (shut_lent a.controller.ports join.port.0 join.grant.label (sound.unmet unmet)) ∙ lent in
+          absurd (cc none)
+
+  -- what an answer of meeting the switch finds of the desk
+  record IsStill (a b : Acted) : Type 0 where
+    desk : b.controller.desk ≡ a.controller.desk
+    met : b.controller.has_met ≡ a.controller.has_met
+
+  spent_still : (a : Acted) (q : PortNo) → IsSound setups a.controller → a.controller.has_met ≡ false → IsStill a (resets_spent a q)
+  spent_still a q sound unmet = by (linked_at a.controller q) refl
+    where
+      by : (o : Option Linked) → linked_at a.controller q ≡ o → IsStill a (works a (λ setup desk w. closes w) o)
+      by None found = record { desk = refl; met = refl }
+      by (Some linked) found =
+          let shut : IsShutLinked linked = at_every port_key IsShutLinked q.0 a.controller.ports linked (sound.unmet unmet) found in
+          subst (λ (w : Work). IsStill a (works_as a linked w)) (ap (λ (o : Option Session). if is_spent o then halts (begins a linked) else begins a linked) (sym shut.session)) (record { desk = refl; met = refl })
+
+  ports_still : (ports : List PortNo) (a : Acted) → IsSound setups a.controller → a.controller.has_met ≡ false → IsStill a (fold resets_spent a ports)
+  ports_still [] a sound unmet = record { desk = refl; met = refl }
+  ports_still (q ∷ ports) a sound unmet =
+      let next : Acted = resets_spent a q in
+      let first : IsStill a next = spent_still a q sound unmet in
+      let rest : IsStill next (fold resets_spent next ports) = ports_still ports next (moves_sound setups a next (resets_spent_goes setups a q (has_ports setups a sound)) sound) (first.met ∙ unmet) in
+      record { desk = rest.desk ∙ first.desk; met = rest.met ∙ first.met }
+
+  pub unmet_desk : (a : Acted) (request : Request) → IsSound setups a.controller → a.controller.has_met ≡ false → (releases a request).controller.desk ≡ a.controller.desk
+  unmet_desk a request sound unmet = subst (λ (joins : List Join).
+      (fold resets_spent (fold releases_input a (filter (λ input. leads_home input (home_of input) request) (map (λ (join : Join). join.input) joins)))
+      (ports_of (fold releases_input a (filter (λ input. leads_home input (home_of input) request) (map (λ (join : Join). join.input) joins))).controller)).controller.desk ≡ a.controller.desk)
+      (sym (none_joined a sound unmet)) (ports_still (ports_of a.controller) a sound unmet).desk
+
+  abbrev Nobody : End → Type 0
+  Nobody input = ⊥
+
+  not_met : {P : Type 0} (b : Bool) → b ≡ true → b ≡ false → P
+  not_met true t f = absurd (cc f)
+  not_met false t f = absurd (cc t)
+
+  unmet_on : (b c : Bool) → (c ≡ true → b ≡ true) → b ≡ false → c ≡ false
+  unmet_on b true f e = absurd (not_met b (f refl) e)
+  unmet_on b false f e = refl
+
+  -- *It is a success of the last Delete All*
+  abbrev pub IsLast : Desk → Standing → Type 0
+  IsLast desk s = (is_deleting s.request ≡ true) × (not (list_any (λ (x : Standing). is_deleting x.request) (without_request desk s).standing) ≡ true)
+
+  pub record EndsMeeting (desk : Desk) (message : Message) : Type 0 where
+    pub standing : Standing
+    pub done : answered desk message ≡ Done standing
+    pub last : IsLast desk standing
+
+  -- what a success causes
+  abbrev Emptied : Acted → Request → Type 0
+  Emptied a request = (is_deleting request ≡ true) × (has_emptied a.controller ≡ true)
+
+  caused_ends : (a : Acted) (request : Request) → HasPorts setups a → a.controller.has_met ≡ false → (causes_in_estab a request).controller.has_met ≡ true → Emptied a request
+  caused_ends a (AddBranch input output) h unmet met = not_met a.controller.has_met ((tells_keep setups 0 0 Nobody a (AddBranch input output) (port_of_input input output) h).met met) unmet
+  caused_ends a (MoveBranch input from to) h unmet met = not_met a.controller.has_met ((tells_keep setups 0 0 Nobody a (MoveBranch input from to) (port_of_input input to) h).met met) unmet
+  caused_ends a (DeleteTree input) h unmet met = not_met a.controller.has_met ((tells_keep setups 0 0 Nobody a (DeleteTree input) input.port h).met met) unmet
+  caused_ends a (VerifyTree input) h unmet met = not_met a.controller.has_met ((tells_keep setups 0 0 Nobody a (VerifyTree input) input.port h).met met) unmet
+  caused_ends a (DeleteAll port) h unmet met = by (has_emptied a.controller) refl
+      (subst (λ (t : Bool). (if t then asks a (AddBranch (default_end port) (default_home port)) else (if has_emptied a.controller then ends_meeting a else a)).controller.has_met ≡ true) unmet met)
+    where
+      by : (t : Bool) → has_emptied a.controller ≡ t → (if t then ends_meeting a else a).controller.has_met ≡ true → Emptied a (DeleteAll port)
+      by true e k = (refl, e)
+      by false e k = not_met a.controller.has_met k unmet
+  caused_ends a (PortManagement port function) h unmet met = not_met a.controller.has_met ((tells_keep setups 0 0 Nobody a (PortManagement port function) port h).met met) unmet
+  caused_ends a AllPorts h unmet met = not_met a.controller.has_met met unmet
+
+  done_ends : (a : Acted) (request : Request) → IsSound setups a.controller → a.controller.has_met ≡ false → (done a request).controller.has_met ≡ true → Emptied a request
+  done_ends a request sound unmet met =
+      by (is_estab released.controller.adjacency.state) refl
+      ((clears_last setups 0 0 Nobody (ports_of caused.controller) caused).met ((changes_last setups 0 0 Nobody (clears caused)).met met))
+    where
+      released : Acted
+      released = releases a request
+
+      caused : Acted
+      caused = causes released request
+
+      ports : HasPorts setups released
+      ports = moves_ports setups (releases_goes setups a request (has_ports setups a sound)) (has_ports setups a sound)
+
+      still : released.controller.has_met ≡ false
+      still = unmet_on a.controller.has_met released.controller.has_met ((releases_keep setups 0 0 Nobody a request (λ input e no. no) (has_ports setups a sound)).met) unmet
+
+      by : (t : Bool) → is_estab released.controller.adjacency.state ≡ t → (if t then causes_in_estab released request else released).controller.has_met ≡ true → Emptied a request
+      by true e k = (let x : Emptied released request = caused_ends released request ports still k in
+          (x.0, ap (λ (d : Desk). not (list_any (λ (s : Standing). is_deleting s.request) d.standing)) (sym (unmet_desk a request sound unmet)) ∙ x.1))
+      by false e k = not_met released.controller.has_met k still
+
+  answer_ends : (a : Acted) (message : Message) → IsSound setups a.controller → a.controller.has_met ≡ false → (answer_comes a message).controller.has_met ≡ true → EndsMeeting a.controller.desk message
+  answer_ends a message sound unmet met = by (answered a.controller.desk message) refl met
+    where
+      by : (x : Answered) → answered a.controller.desk message ≡ x → (takes_answer a x).controller.has_met ≡ true → EndsMeeting a.controller.desk message
+      by Unknown is k = not_met a.controller.has_met k unmet
+      by (Done s) is k =
+          let b : Acted = with_desk a (after_answer a.controller.desk (Done s)) in
+          let x : Emptied b s.request = done_ends b s.request (moves_sound setups a b (moves_to (answering a (Done s))) sound) unmet k in
+          record { standing = s; done = is; last = x }
+      by (Ports s rows) is k = not_met a.controller.has_met ((empties_last setups 0 0 Nobody (with_desk a (after_answer a.controller.desk (Ports s rows)))).met k) unmet
+      by (Failed s code) is k = not_met a.controller.has_met ((node_keeps setups 0 0 Nobody (with_desk a (after_answer a.controller.desk (Failed s code)))).met k) unmet
+
+  told_ends : (a : Acted) (message : Message) → IsSound setups a.controller → a.controller.has_met ≡ false → (told a message).controller.has_met ≡ true → EndsMeeting a.controller.desk message
+  told_ends a (messages.Adjacency greeting) sound unmet met = not_met a.controller.has_met ((steps_last setups 0 0 Nobody a (gsmp_received a.controller.adjacency greeting)).met met) unmet
+  told_ends a (messages.Branch kind result code number session input_port input output_port output branches priority) sound unmet met =
+      answer_ends a (messages.Branch kind result code number session input_port input output_port output branches priority) sound unmet met
+  told_ends a (messages.Move result code number session input_port input output_port output target_port target branches priority) sound unmet met =
+      answer_ends a (messages.Move result code number session input_port input output_port output target_port target branches priority) sound unmet met
+  told_ends a (messages.Port result code number port session function) sound unmet met = answer_ends a (messages.Port result code number port session function) sound unmet met
+  told_ends a (messages.AllPorts result code number rows) sound unmet met = answer_ends a (messages.AllPorts result code number rows) sound unmet met
+
+  -- *A cell* that ends the meeting is the last one of the answer's frame
+  pub record IsMeetingsEnd (a : Acted) (cell : Cell) : Type 0 where
+    pub here : same_channel cell.header.channel default_channel ≡ true
+    pub first : Cell
+    pub rest : List Cell
+    pub ended : (taken a.notes (nat_lt 0 (free_slots a.controller)) a.controller.reassembly cell).ended ≡ first ∷ rest
+    pub payload : List ℕ
+    pub passes : payload_in (octets_of (first ∷ rest)) ≡ Some payload
+    pub message : Message
+    pub read : gsmp_decoded payload ≡ Ok message
+    pub ends : EndsMeeting a.controller.desk message
+
+  record HoldsEnd (desk : Desk) (payload : List ℕ) : Type 0 where
+    message : Message
+    read : gsmp_decoded payload ≡ Ok message
+    ends : EndsMeeting desk message
+
+  gsmp_ends : (a : Acted) (payload : List ℕ) → IsSound setups a.controller → a.controller.has_met ≡ false → (gsmp_holds a (gsmp_decoded payload)).controller.has_met ≡ true → HoldsEnd a.controller.desk payload
+  gsmp_ends a payload sound unmet met = by (gsmp_decoded payload) refl met
+    where
+      by : (r : Result Message Fault) → gsmp_decoded payload ≡ r → (gsmp_holds a r).controller.has_met ≡ true → HoldsEnd a.controller.desk payload
+      by (Ok message) is k = record { message = message; read = is; ends = told_ends a message sound unmet k }
+      by (Err fault) is k = not_met a.controller.has_met k unmet
+
+  -- gathering leaves a controller sound
+  gathered_sound : (c : Controller) (r : _) → IsSound setups c → IsSound setups (record c { reassembly = r })
+  gathered_sound c r s = record {
+    side = s.side;
+    ports = s.ports;
+    requests = s.requests;
+    desk = record { waits = s.desk.waits; met = s.desk.met; below = s.desk.below; earlier = s.desk.earlier; own_inputs = s.desk.own_inputs; own_ports = s.desk.own_ports; room = s.desk.room };
+    unmet = s.unmet;
+  }
+
+  pub cell_ends : (a : Acted) (cell : Cell) → IsSound setups a.controller → a.controller.has_met ≡ false → (cell_comes a cell).controller.has_met ≡ true → IsMeetingsEnd a cell
+  cell_ends a cell sound unmet = taken_by setups 0 0 Nobody (λ (b : Acted). b.controller.has_met ≡ true → IsMeetingsEnd a cell) a cell (λ met. not_met a.controller.has_met met unmet)
+      (λ here. by_gsmp here (taken a.notes (nat_lt 0 (free_slots a.controller)) a.controller.reassembly cell) refl)
+      (λ linked own met. away (ForDefault linked) own (λ b mark payload h. (default_lasts setups 0 0 Nobody b linked.setup.port mark (default_unwrapped payload) h).met) met)
+      (λ linked label own met. away (ForLabel linked label) own (λ b mark payload h. (label_lasts setups 0 0 Nobody b linked label mark (unwrapped label.flow payload) h).met) met)
+    where
+      -- on another channel
+      away : (taker : Taker) → IsTaker setups a taker → ((b : Acted) (mark : Mark) (payload : List ℕ) → HasPorts setups b → (frame_holds b taker mark payload).controller.has_met ≡ true → b.controller.has_met ≡ true)
+          → (takes_cell a cell (Some taker)).controller.has_met ≡ true → IsMeetingsEnd a cell
+      away taker own stays met = not_met a.controller.has_met (sym (gathered_met setups 0 0 Nobody a t.notes taker t.reassembly) ∙ by t.ended met) unmet
+        where
+          t : Taken
+          t = taken a.notes (nat_lt 0 (free_slots a.controller)) (reassembly_of a.controller taker) cell
+
+          b : Acted
+          b = with_reassembly (record a { notes = t.notes }) taker t.reassembly
+
+          by : (ended : List Cell) → (ends_frame b taker ended).controller.has_met ≡ true → b.controller.has_met ≡ true
+          by [] k = k
+          by (first ∷ cells) k = by_payload (payload_in (octets_of (first ∷ cells))) k
+            where
+              ports : HasPorts setups b
+              ports = kept_ports setups a taker t own (has_ports setups a sound)
+
+              by_payload : (o : Option (List ℕ)) → (opened_frame (record b { notes = (tested_by b.notes (first ∷ cells) o).notes }) taker (last_mark (first ∷ cells)) (tested_by b.notes (first ∷ cells) o).payload).controller.has_met ≡ true → b.controller.has_met ≡ true
+              by_payload None l = l
+              by_payload (Some payload) l = stays (record b { notes = (tested_by b.notes (first ∷ cells) (Some payload)).notes }) (last_mark (first ∷ cells)) payload (record { ports = ports.ports; shaped = ports.shaped }) l
+
+      by_gsmp : same_channel cell.header.channel default_channel ≡ true → (t : Taken) → taken a.notes (nat_lt 0 (free_slots a.controller)) a.controller.reassembly cell ≡ t
+          → (ends_frame (with_reassembly (record a { notes = t.notes }) ForGsmp t.reassembly) ForGsmp t.ended).controller.has_met ≡ true → IsMeetingsEnd a cell
+      by_gsmp here t is met = by t.ended refl met
+        where
+          b : Acted
+          b = with_reassembly (record a { notes = t.notes }) ForGsmp t.reassembly
+
+          by : (ended : List Cell) → t.ended ≡ ended → (ends_frame b ForGsmp ended).controller.has_met ≡ true → IsMeetingsEnd a cell
+          by [] e k = not_met a.controller.has_met k unmet
+          by (first ∷ cells) e k = by_payload (payload_in (octets_of (first ∷ cells))) refl k
+            where
+              by_payload : (o : Option (List ℕ)) → payload_in (octets_of (first ∷ cells)) ≡ o
+                  → (opened_frame (record b { notes = (tested_by b.notes (first ∷ cells) o).notes }) ForGsmp (last_mark (first ∷ cells)) (tested_by b.notes (first ∷ cells) o).payload).controller.has_met ≡ true → IsMeetingsEnd a cell
+              by_payload None f l = not_met a.controller.has_met l unmet
+              by_payload (Some payload) f l =
+                  let x : HoldsEnd a.controller.desk payload = gsmp_ends (record b { notes = (tested_by b.notes (first ∷ cells) (Some payload)).notes }) payload (gathered_sound a.controller t.reassembly sound) unmet l in
+                  record { here = here; first = first; rest = cells; ended = ap (λ (z : Taken). z.ended) is ∙ e; payload = payload; passes = f; message = x.message; read = x.read; ends = x.ends }

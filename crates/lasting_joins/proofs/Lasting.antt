@@ -1,0 +1,323 @@
+-- what each event leaves of a grant that is lent, while the switch stays met
+
+use Rattle.std.proofs.Common.{◌≡◌, ℕ, Bool, true, false, List, [], ◌∷◌, ◌++◌, drop, Option, None, Some, Result, Ok, Err, refl, sym, ◌∙◌, ap, subst, fold, if◌then◌else◌}
+use Rattle.std.specs.Prelude.{◌==◌, ◌&&◌, nat_lt, not, map, filter, find}
+use Rattle.std.specs.Option.{option_and_then}
+use Rattle.net_types.specs.declared.channel.Channel.{Channel}
+use Rattle.net_types.specs.declared.channel.End.{End}
+use Rattle.net_types.specs.declared.node.PortNo.{PortNo}
+use Rattle.net_types.specs.declared.number.Mark.{Mark}
+use Rattle.net_types.specs.declared.adjacency.Greeting.{Greeting}
+use Rattle.net_types.specs.declared.adjacency.Party.{Party}
+use Rattle.net_types.specs.Number.{next_control, with_control}
+use Rattle.atm_cells.specs.declared.cell.Cell.{Cell}
+use Rattle.adjacency_table.specs.declared.message.Answer.{Answer}
+use Rattle.adjacency_table.specs.declared.message.Answer.TheVariants.{Quiet, Send, Open, Reset}
+use Rattle.adjacency_table.specs.Side.{Step, is_estab}
+use Rattle.adjacency_table.specs.Greeting.{gsmp_answer, gsmp_received}
+use Rattle.ipv4_packet.specs.Packet.{protocol_of, source_of, first_fault}
+use Rattle.ipv4_packet.specs.declared.validate.PacketFault.{PacketFault}
+use Rattle.ipv4_forward.specs.Hop.{hop_of, onward}
+use Rattle.ipv4_forward.specs.declared.change.RouteChange.{RouteChange}
+use Rattle.ipv4_forward.specs.declared.outcome.Hop.{Hop}
+use Rattle.ipv4_forward.specs.declared.outcome.Hop.TheVariants.{Here, On, NoRoute, Expired}
+use Rattle.flow_encaps.specs.declared.default.EncapsFault.{EncapsFault}
+use Rattle.flow_encaps.specs.Unwrapped.{default_unwrapped, unwrapped}
+use Rattle.ifmp_wire.specs.declared.message.Message.{Message as IfmpMessage}
+use Rattle.ifmp_wire.specs.declared.reader.Fault.{Fault as IfmpFault}
+use Rattle.ifmp_wire.specs.Fields.{decoded as ifmp_decoded}
+use Rattle.gsmp_wire.specs.declared.fault.Fault.{Fault}
+use Rattle.gsmp_wire.specs.declared.message.Message.{Message}
+use Rattle.gsmp_wire.specs.declared.message.Message.TheVariants as messages
+use Rattle.gsmp_wire.specs.declared.request.Request.{Request}
+use Rattle.gsmp_wire.specs.declared.request.Request.TheVariants.{AddBranch, MoveBranch, DeleteTree, VerifyTree, DeleteAll, PortManagement, AllPorts}
+use Rattle.gsmp_wire.specs.declared.rows.PortRow.{PortRow}
+use Rattle.gsmp_wire.specs.Fields.{decoded as gsmp_decoded}
+use Rattle.gsmp_wire.specs.Layout.{octets_of as gsmp_octets}
+use Rattle.ordered_lists.specs.Ordered.{Every}
+use Rattle.desk_model.specs.Desk.{Desk, Standing, empty_desk, sent_again, message_at}
+use Rattle.desk_model.specs.Requests.{leads_home}
+use Rattle.desk_model.specs.Answers.{Answered, Unknown, Done, Ports, Failed, answered, after_answer, without_request}
+use Rattle.port_model.specs.Setup.{Setup, home_of}
+use Rattle.port_model.specs.Labels.{Label}
+use Rattle.port_model.specs.Port.{Work, label_at}
+use Rattle.port_model.specs.Counting.{counts, used}
+use Rattle.port_model.specs.Hearing.{hears}
+use Rattle.port_model.specs.Ticks as port_ticks
+use Rattle.port_facts.specs.Port.{Lives, IsShaped, AnyChannel}
+use Rattle.port_facts.proofs.Keyed.{on_both, on_each}
+use Rattle.port_facts.proofs.Found.{find_every}
+use Rattle.port_facts.proofs.Rules.{used_goes, counts_goes}
+use Rattle.port_facts.proofs.Hearings.{hears_goes, ticks_goes}
+use Rattle.port_facts.proofs.Steps.{GoesOn, Goes}
+use Rattle.controller_model.specs.Controller.{Acted, Linked, linked_at, with_linked, with_desk, note, ports_of, chains_with}
+use Rattle.controller_model.specs.Sending.{sends, sends_control, says_gsmp}
+use Rattle.controller_model.specs.Asking.{sends_request, asks, takes_back}
+use Rattle.controller_model.specs.Resets.{begins, node_resets}
+use Rattle.controller_model.specs.Performing.{Rule, at_port}
+use Rattle.controller_model.specs.Joins.{Join, joins_of, releases_input, released_inputs, resets_spent, releases, output_of}
+use Rattle.controller_model.specs.Meeting.{meets, up_ports, empties, tells_port, behind_delete_all, ends_meeting, has_emptied, causes_in_estab, causes, clears_port, clears, done, answers_desk, takes_answer, answer_comes, port_of_input, port_of, default_branches}
+use Rattle.controller_model.specs.Gsmp.{answers, steps, told, gsmp_holds}
+use Rattle.controller_model.specs.Changes.{changed_joins, takes_join_back, begins_change, takes_change, may_take, takes_each, takes_changes, change_comes}
+use Rattle.controller_model.specs.Packets.{is_control, sends_next, goes_by, grant_by, forwarded, routes, injected, control_protocol}
+use Rattle.controller_model.specs.Cells.{Taker, ForGsmp, ForDefault, ForLabel, label_holds, ifmp_holds, counted_at, packet_holds, default_holds, frame_holds, opened_frame, with_reassembly}
+use Rattle.controller_model.specs.Controller.{default_end, default_home}
+use Rattle.controller_model.specs.Ticks.{sends_again, ticks_port, ticks_ports}
+use Rattle.controller_facts.proofs.Lifetimes.{decoded_lives}
+use Rattle.controller_facts.proofs.Moves.{HasPorts, Found, by_rule, found_setup, found_at_own, found_port, begun, moves_ports}
+use Rattle.controller_facts.proofs.Performing.{Any, any_ports}
+use Rattle.controller_facts.proofs.Joining.{every_filter, releases_input_goes, resets_spent_goes, releases_goes}
+use Rattle.controller_facts.proofs.Events.{routes_goes, steps_goes, sends_again_goes, ticks_port_goes, causes_goes, clears_goes}
+use Rattle.controller_law.specs.Match.{lent_in, lent_at}
+use Rattle.controller_law.proofs.Pairing.{SamePairs, same_pairs, goes_pairs}
+use Rattle.lasting_joins.proofs.Lent.{sent_cases, Keeps, itself, keeps_on, keeps_fold, same_keeps, put_keeps, node_keeps, asks_keep, worked_keeps, tells_keep, spent_keeps, input_keeps, clears_keep}
+
+module _ (setups : List Setup) (q m : ℕ) (Unled : End → Type 0) where
+  abbrev K : Acted → Acted → Type 0
+  K a b = Keeps setups q m Unled a b
+
+  -- *It lasts*
+  pub record Lasts (a b : Acted) : Type 0 where
+    pub met : b.controller.has_met ≡ true → a.controller.has_met ≡ true
+    pub lent : b.controller.has_met ≡ true → (input : End) → Unled input → lent_at a.controller.ports q m ≡ Some input → lent_at b.controller.ports q m ≡ Some input
+
+  pub of_keeps : (a b : Acted) → K a b → Lasts a b
+  of_keeps a b k = record { met = k.met; lent = k.lent }
+
+  pub lasts_self : (a : Acted) → Lasts a a
+  lasts_self a = record { met = λ e. e; lent = λ e input u h. h }
+
+  pub lasts_on : (a b c : Acted) → Lasts a b → Lasts b c → Lasts a c
+  lasts_on a b c f g = record { met = λ e. f.met (g.met e); lent = λ e input u h. g.lent e input u (f.lent (g.met e) input u h) }
+
+  pub lasts_fold : {A : Type 0} (f : Acted → A → Acted) → ((a : Acted) (x : A) → Lasts a (f a x)) → (xs : List A) (a : Acted) → Lasts a (fold f a xs)
+  lasts_fold f each [] a = lasts_self a
+  lasts_fold f each (x ∷ xs) a = lasts_on a (f a x) (fold f (f a x) xs) (each a x) (lasts_fold f each xs (f a x))
+
+  pub same_lasts : (a b : Acted) → b.controller.has_met ≡ a.controller.has_met → b.controller.ports ≡ a.controller.ports → Lasts a b
+  same_lasts a b met ports = record { met = λ e. sym met ∙ e; lent = λ e input u h. ap (λ (xs : List Linked). lent_at xs q m) ports ∙ h }
+
+  pub note_lasts : (a : Acted) (item : _) → Lasts a (note a item)
+  note_lasts a item = same_lasts a (note a item) refl refl
+
+  pub sends_last : (a : Acted) (channel : Channel) (mark : Mark) (payload : List ℕ) → Lasts a (sends a channel mark payload)
+  sends_last a channel mark payload = sent_cases (Lasts a) a channel mark payload (same_lasts a _ refl refl) (same_lasts a _ refl refl)
+
+  control_lasts : (a : Acted) (channel : Channel) (payload : List ℕ) → Lasts a (sends_control a channel payload)
+  control_lasts a channel payload = sent_cases (Lasts a) (record a { numbers = with_control a.numbers }) channel (next_control a.numbers) payload (same_lasts a _ refl refl) (same_lasts a _ refl refl)
+
+  pub asks_last : (a : Acted) (request : Request) → Lasts a (asks a request)
+  asks_last a request = of_keeps a (asks a request) (asks_keep setups q m Unled a request)
+
+  -- *A rule of a port*
+  rule_lasts : (a : Acted) (port : PortNo) (rule : Rule) → HasPorts setups a
+      → ((linked : Linked) → linked_at a.controller port ≡ Some linked → GoesOn AnyChannel ⊥ linked.setup a.controller.desk (begins a linked) (rule linked.setup a.controller.desk (begins a linked)))
+      → ((linked : Linked) → linked_at a.controller port ≡ Some linked → Goes linked.setup a.controller.desk (begins a linked) (rule linked.setup a.controller.desk (begins a linked)))
+      → Lasts a (at_port a port rule)
+  rule_lasts a port rule h goes also = of_keeps a (at_port a port rule) (worked_keeps setups q m Unled a port rule h (λ linked found. by_rule _ (also linked found))
+      (λ linked found. (let own : Found setups a linked = found_at_own setups a linked port found in
+      let same : SamePairs linked.port (rule linked.setup a.controller.desk (begins a linked)).port = goes_pairs linked.port setups linked.setup (found_setup setups a linked linked.setup.port h own) a.controller.desk
+      (begins a linked) (rule linked.setup a.controller.desk (begins a linked)) (goes linked found) (begun setups a linked linked.setup.port h own) (same_pairs linked.port) in
+      same.lends m)))
+
+  -- *Packets*
+  next_lasts : (a : Acted) (came : Mark) (channel : Channel) (payload : List ℕ) → Lasts a (sends_next a came channel payload)
+  next_lasts a came channel payload = on_both (Lasts a) (is_control came) (sends_control a channel payload) _ (control_lasts a channel payload) (sends_last a channel _ payload)
+
+  goes_last : (a : Acted) (came : Mark) (port : PortNo) (packet : List ℕ) (o : Option _) → Lasts a (goes_by a came port packet o)
+  goes_last a came port packet None = next_lasts a came _ _
+  goes_last a came port packet (Some grant) = next_lasts a came _ _
+
+  forwarded_lasts : (a : Acted) (came : Mark) (packet : List ℕ) (hop : Hop) → Lasts a (forwarded a came packet hop)
+  forwarded_lasts a came packet Here = note_lasts a _
+  forwarded_lasts a came packet NoRoute = note_lasts a _
+  forwarded_lasts a came packet Expired = note_lasts a _
+  forwarded_lasts a came packet (On port) = goes_last a came port (onward packet) (grant_by a.controller port (onward packet))
+
+  pub routes_last : (a : Acted) (came : Mark) (packet : List ℕ) → Lasts a (routes a came packet)
+  routes_last a came packet = forwarded_lasts a came packet (hop_of a.controller.table packet)
+
+  -- *Changes of routes*
+  back_lasts : (a : Acted) (join : Join) → Lasts a (takes_join_back a join)
+  back_lasts a join = on_both (Lasts a) _ a (asks a (MoveBranch join.input (output_of join) (home_of join.input))) (lasts_self a) (asks_last a (MoveBranch join.input (output_of join) (home_of join.input)))
+
+  begins_last : (a : Acted) (change : RouteChange) → Lasts a (begins_change a change)
+  begins_last a change = (let begun : Acted = record a { controller = record a.controller { is_begun = true } } in
+      on_both (Lasts a) a.controller.is_begun a (fold takes_join_back begun (changed_joins a.controller change)) (lasts_self a)
+      (lasts_on a begun (fold takes_join_back begun (changed_joins a.controller change)) (same_lasts a begun refl refl) (lasts_fold takes_join_back back_lasts (changed_joins a.controller change) begun)))
+
+  each_lasts : (changes : List RouteChange) (a : Acted) → Lasts a (takes_each a changes)
+  each_lasts [] a = lasts_self a
+  each_lasts (change ∷ rest) a =
+      let begun : Acted = begins_change a change in
+      let taken : Acted = takes_change begun change rest in
+      on_both (Lasts a) (may_take begun.controller change) (takes_each taken rest) begun
+      (lasts_on a begun (takes_each taken rest) (begins_last a change) (lasts_on begun taken (takes_each taken rest) (same_lasts begun taken refl refl) (each_lasts rest taken))) (begins_last a change)
+
+  pub changes_last : (a : Acted) → Lasts a (takes_changes a)
+  changes_last a = on_both (Lasts a) a.controller.has_met (takes_each a a.controller.waiting) a (each_lasts a.controller.waiting a) (lasts_self a)
+
+  pub change_lasts : (a : Acted) (change : RouteChange) → Lasts a (change_comes a change)
+  change_lasts a change = (let waits : Acted = record a { controller = record a.controller { waiting = a.controller.waiting ++ change ∷ [] } } in
+      lasts_on a waits (change_comes a change) (same_lasts a waits refl refl) (changes_last waits))
+
+  -- *The adjacency with the switch*
+  meets_last : (a : Acted) → Lasts a (meets a)
+  meets_last a = lasts_on a (with_desk a empty_desk) (meets a) (same_lasts a (with_desk a empty_desk) refl refl) (asks_last (with_desk a empty_desk) AllPorts)
+
+  answers_last : (a : Acted) (answer : Answer Greeting Party) → Lasts a (answers a answer)
+  answers_last a Quiet = lasts_self a
+  answers_last a (Send greeting) = control_lasts a _ _
+  answers_last a (Open None own) = meets_last a
+  answers_last a (Open (Some greeting) own) = (let b : Acted = says_gsmp a (messages.Adjacency greeting) in lasts_on a b (meets b) (control_lasts a _ _) (meets_last b))
+  answers_last a Reset = of_keeps a (node_resets a) (node_keeps setups q m Unled a)
+
+  pub steps_last : (a : Acted) (step : Step Party) → Lasts a (steps a step)
+  steps_last a step = (let b : Acted = record a { controller = record a.controller { adjacency = step.side } } in
+      lasts_on a b (steps a step) (same_lasts a b refl refl) (answers_last b (gsmp_answer step.answer)))
+
+  -- *Ticks*, before joins
+  pub again_lasts : (a : Acted) → Lasts a (sends_again a)
+  again_lasts a = on_both (Lasts a) (is_estab a.controller.adjacency.state) (fold sends_request a (sent_again a.controller.desk)) a (lasts_fold sends_request (λ b s. control_lasts b _ _) (sent_again a.controller.desk) a) (lasts_self a)
+
+  port_lasts : (a : Acted) (port : PortNo) → HasPorts setups a → Lasts a (ticks_port a port)
+  port_lasts a port h = rule_lasts a port port_ticks.ticks h (λ linked found. ticks_goes linked.setup a.controller.desk (begins a linked) refl) (λ linked found. ticks_goes linked.setup a.controller.desk (begins a linked) refl)
+
+  each_port : (ports : List PortNo) (a : Acted) → HasPorts setups a → Lasts a (fold ticks_port a ports)
+  each_port [] a h = lasts_self a
+  each_port (port ∷ ports) a h = lasts_on a (ticks_port a port) (fold ticks_port (ticks_port a port) ports) (port_lasts a port h) (each_port ports (ticks_port a port) (moves_ports setups (ticks_port_goes setups a port h) h))
+
+  pub ports_last : (a : Acted) → HasPorts setups a → Lasts a (ticks_ports a)
+  ports_last a h = each_port (ports_of a.controller) a h
+
+  -- *Frames* of a link
+  pub label_lasts : (a : Acted) (linked : Linked) (label : Label) (mark : Mark) (r : Result (List ℕ) EncapsFault) → HasPorts setups a → Lasts a (label_holds a linked label mark r)
+  label_lasts a linked label mark (Err fault) h = note_lasts a _
+  label_lasts a linked label mark (Ok packet) h = (let b : Acted = routes a mark packet in lasts_on a b (label_holds a linked label mark (Ok packet)) (routes_last a mark packet)
+      (rule_lasts b linked.setup.port (λ setup desk w. used w label.number) (moves_ports setups (routes_goes setups a mark packet) h) (λ other found. used_goes other.setup b.controller.desk (begins b other) label.number) (λ other found. used_goes other.setup b.controller.desk (begins b other) label.number)))
+
+  ifmp_lasts : (a : Acted) (port : PortNo) (packet : List ℕ) (r : Result IfmpMessage IfmpFault) → ((message : IfmpMessage) → r ≡ Ok message → Lives message) → HasPorts setups a → Lasts a (ifmp_holds a port packet r)
+  ifmp_lasts a port packet (Err fault) lives h = note_lasts a _
+  ifmp_lasts a port packet (Ok message) lives h = rule_lasts a port (λ setup desk w. hears setup desk w (source_of packet) message) h
+      (λ linked found. hears_goes linked.setup a.controller.desk (begins a linked) (source_of packet) message refl (lives message refl))
+      (λ linked found. hears_goes linked.setup a.controller.desk (begins a linked) (source_of packet) message refl (lives message refl))
+
+  counted_lasts : (a : Acted) (port : PortNo) (packet : List ℕ) → HasPorts setups a → Lasts a (counted_at a port packet)
+  counted_lasts a port packet h = rule_lasts a port (λ setup desk w. counts setup desk w packet) h
+      (λ linked found. counts_goes linked.setup a.controller.desk (begins a linked) packet (found_port setups a linked port h found).ascend)
+      (λ linked found. counts_goes linked.setup a.controller.desk (begins a linked) packet (found_port setups a linked port h found).ascend)
+
+  packet_lasts : (a : Acted) (port : PortNo) (mark : Mark) (packet : List ℕ) (o : Option PacketFault) → HasPorts setups a → Lasts a (packet_holds a port mark packet o)
+  packet_lasts a port mark packet (Some fault) h = note_lasts a _
+  packet_lasts a port mark packet None h = (let b : Acted = routes a mark packet in
+      on_both (Lasts a) (protocol_of packet == control_protocol) (ifmp_holds a port packet (ifmp_decoded (drop 20 packet))) (counted_at b port packet)
+      (ifmp_lasts a port packet (ifmp_decoded (drop 20 packet)) (decoded_lives (drop 20 packet)) h)
+      (lasts_on a b (counted_at b port packet) (routes_last a mark packet) (counted_lasts b port packet (moves_ports setups (routes_goes setups a mark packet) h))))
+
+  pub default_lasts : (a : Acted) (port : PortNo) (mark : Mark) (r : Result (List ℕ) EncapsFault) → HasPorts setups a → Lasts a (default_holds a port mark r)
+  default_lasts a port mark (Err fault) h = note_lasts a _
+  default_lasts a port mark (Ok packet) h = packet_lasts a port mark packet (first_fault packet) h
+
+  -- *Answers of the switch*
+  pub empties_last : (a : Acted) → Lasts a (empties a)
+  empties_last a = lasts_fold asks asks_last (map DeleteAll (record { 0 = 0 } ∷ up_ports a.controller)) a
+
+  inputs_keep : (inputs : List End) (a : Acted) → Every (λ (e : End). Unled e → ⊥) inputs → HasPorts setups a → K a (fold releases_input a inputs)
+  inputs_keep [] a all h = itself setups q m Unled a
+  inputs_keep (e ∷ inputs) a all h = keeps_on setups q m Unled a (releases_input a e) (fold releases_input (releases_input a e) inputs) (input_keeps setups q m Unled a e all.0 h)
+      (inputs_keep inputs (releases_input a e) all.1 (moves_ports setups (releases_input_goes setups a e h) h))
+
+  inputs_ports : (inputs : List End) (a : Acted) → HasPorts setups a → HasPorts setups (fold releases_input a inputs)
+  inputs_ports [] a h = h
+  inputs_ports (e ∷ inputs) a h = inputs_ports inputs (releases_input a e) (moves_ports setups (releases_input_goes setups a e h) h)
+
+  spent_keep : (ports : List PortNo) (a : Acted) → HasPorts setups a → K a (fold resets_spent a ports)
+  spent_keep [] a h = itself setups q m Unled a
+  spent_keep (port ∷ ports) a h = keeps_on setups q m Unled a (resets_spent a port) (fold resets_spent (resets_spent a port) ports) (spent_keeps setups q m Unled a port h)
+      (spent_keep ports (resets_spent a port) (moves_ports setups (resets_spent_goes setups a port h) h))
+
+  passing : {A : Type 0} (P : A → Type 0) (test : A → Bool) → ((x : A) → test x ≡ true → P x) → (xs : List A) → Every P (filter test xs)
+  passing P test each [] = tt
+  passing P test each (x ∷ xs) = on_each (Every P) (test x) (x ∷ filter test xs) (filter test xs) (λ t. (each x t, passing P test each xs)) (λ t. passing P test each xs)
+
+  abbrev Releasing : Request → Type 0
+  Releasing request = (input : End) → leads_home input (home_of input) request ≡ true → Unled input → ⊥
+
+  pub releases_keep : (a : Acted) (request : Request) → Releasing request → HasPorts setups a → K a (releases a request)
+  releases_keep a request led h =
+      let inputs : List End = released_inputs a.controller request in
+      let released : Acted = fold releases_input a inputs in
+      keeps_on setups q m Unled a released (releases a request)
+      (inputs_keep inputs a (passing (λ (e : End). Unled e → ⊥) (λ (input : End). leads_home input (home_of input) request) led (map (λ (join : Join). join.input) (joins_of a.controller))) h)
+      (spent_keep (ports_of released.controller) released (inputs_ports inputs a h))
+
+  causes_in_keep : (a : Acted) (request : Request) → a.controller.has_met ≡ true → HasPorts setups a → K a (causes_in_estab a request)
+  causes_in_keep a (AddBranch input output) met h = tells_keep setups q m Unled a (AddBranch input output) (port_of_input input output) h
+  causes_in_keep a (MoveBranch input from to) met h = tells_keep setups q m Unled a (MoveBranch input from to) (port_of_input input to) h
+  causes_in_keep a (DeleteTree input) met h = tells_keep setups q m Unled a (DeleteTree input) input.port h
+  causes_in_keep a (VerifyTree input) met h = tells_keep setups q m Unled a (VerifyTree input) input.port h
+  causes_in_keep a (DeleteAll port) met h = subst (λ (t : Bool). K a (if t then asks a (AddBranch (default_end port) (default_home port)) else (if has_emptied a.controller then ends_meeting a else a))) (sym met)
+      (asks_keep setups q m Unled a (AddBranch (default_end port) (default_home port)))
+  causes_in_keep a (PortManagement port function) met h = tells_keep setups q m Unled a (PortManagement port function) port h
+  causes_in_keep a AllPorts met h = itself setups q m Unled a
+
+  pub clears_last : (ports : List PortNo) (a : Acted) → K a (fold clears_port a ports)
+  clears_last ports a = keeps_fold setups q m Unled clears_port (λ b port. clears_keep setups q m Unled b port) ports a
+
+  -- a success, while the switch is met
+  done_lasts : (a : Acted) (request : Request) → Releasing request → a.controller.has_met ≡ true → HasPorts setups a → Lasts a (done a request)
+  done_lasts a request led met h =
+      let released : Acted = releases a request in
+      let caused : Acted = causes released request in
+      let k : K a released = releases_keep a request led h in
+      let c : K released caused = on_each (K released) (is_estab released.controller.adjacency.state) (causes_in_estab released request) released
+      (λ estab. causes_in_keep released request (k.stays_met estab met) (moves_ports setups (releases_goes setups a request h) h)) (λ t. itself setups q m Unled released) in
+      lasts_on a (clears caused) (done a request)
+      (of_keeps a (clears caused) (keeps_on setups q m Unled a released (clears caused) k (keeps_on setups q m Unled released caused (clears caused) c (clears_last (ports_of caused.controller) caused))))
+      (changes_last (clears caused))
+
+  -- what an answer is to
+  done_shaped : (a : Acted) (message : Message) (s : Standing) → HasPorts setups a → answered a.controller.desk message ≡ Done s → a.controller.has_met ≡ true
+      → Releasing s.request → Lasts a (answer_comes a message)
+  done_shaped a message s h is met led = subst (λ (x : Answered). Lasts a (takes_answer a x)) (sym is)
+      (lasts_on a b (done b s.request) (same_lasts a b refl refl) (done_lasts b s.request led met (record { ports = h.ports; shaped = every_filter (λ (x : Standing). IsShaped setups x.request) (λ (x : Standing). not (x.number == s.number)) a.controller.desk.standing h.shaped })))
+    where
+      b : Acted
+      b = with_desk a (without_request a.controller.desk s)
+
+  pub answer_lasts : (a : Acted) (message : Message) → HasPorts setups a → a.controller.has_met ≡ true
+      → ((s : Standing) → answered a.controller.desk message ≡ Done s → Releasing s.request) → Lasts a (answer_comes a message)
+  answer_lasts a message h met led = by (answered a.controller.desk message) refl
+    where
+      by : (x : Answered) → answered a.controller.desk message ≡ x → Lasts a (answer_comes a message)
+      by Unknown is = subst (λ (x : Answered). Lasts a (takes_answer a x)) (sym is) (same_lasts a (with_desk a a.controller.desk) refl refl)
+      by (Done s) is = done_shaped a message s h is met (led s is)
+      by (Ports s rows) is = subst (λ (x : Answered). Lasts a (takes_answer a x)) (sym is) (lasts_on a (with_desk a (after_answer a.controller.desk (Ports s rows))) _ (same_lasts a _ refl refl) (empties_last (with_desk a (after_answer a.controller.desk (Ports s rows)))))
+      by (Failed s code) is = subst (λ (x : Answered). Lasts a (takes_answer a x)) (sym is) (lasts_on a (with_desk a (after_answer a.controller.desk (Failed s code))) _ (same_lasts a _ refl refl)
+          (of_keeps _ _ (node_keeps setups q m Unled (with_desk a (after_answer a.controller.desk (Failed s code))))))
+
+  told_lasts : (a : Acted) (message : Message) → HasPorts setups a → a.controller.has_met ≡ true
+      → ((s : Standing) → answered a.controller.desk message ≡ Done s → Releasing s.request) → Lasts a (told a message)
+  told_lasts a (messages.Adjacency greeting) h met led = steps_last a (gsmp_received a.controller.adjacency greeting)
+  told_lasts a (messages.Branch kind result code number session input_port input output_port output branches priority) h met led =
+      answer_lasts a (messages.Branch kind result code number session input_port input output_port output branches priority) h met led
+  told_lasts a (messages.Move result code number session input_port input output_port output target_port target branches priority) h met led =
+      answer_lasts a (messages.Move result code number session input_port input output_port output target_port target branches priority) h met led
+  told_lasts a (messages.Port result code number port session function) h met led = answer_lasts a (messages.Port result code number port session function) h met led
+  told_lasts a (messages.AllPorts result code number rows) h met led = answer_lasts a (messages.AllPorts result code number rows) h met led
+
+  gsmp_lasts : (a : Acted) (r : Result Message Fault) → HasPorts setups a → a.controller.has_met ≡ true
+      → ((message : Message) (s : Standing) → r ≡ Ok message → answered a.controller.desk message ≡ Done s → Releasing s.request) → Lasts a (gsmp_holds a r)
+  gsmp_lasts a (Ok message) h met led = told_lasts a message h met (λ s is. led message s refl is)
+  gsmp_lasts a (Err fault) h met led = note_lasts a _
+
+  -- by who takes the cells of the channel: at a success of the switch the inputs that it releases aren't among these
+  abbrev pub Frees : Acted → Taker → (payload : List ℕ) → Type 0
+  Frees a ForGsmp payload = (message : Message) (s : Standing) → gsmp_decoded payload ≡ Ok message → answered a.controller.desk message ≡ Done s → Releasing s.request
+  Frees a (ForDefault linked) payload = Unit {0}
+  Frees a (ForLabel linked label) payload = Unit {0}
+
+  pub frame_lasts : (a : Acted) (taker : Taker) (mark : Mark) (payload : List ℕ) → HasPorts setups a → a.controller.has_met ≡ true → Frees a taker payload → Lasts a (frame_holds a taker mark payload)
+  frame_lasts a ForGsmp mark payload h met frees = gsmp_lasts a (gsmp_decoded payload) h met frees
+  frame_lasts a (ForDefault linked) mark payload h met frees = default_lasts a linked.setup.port mark (default_unwrapped payload) h
+  frame_lasts a (ForLabel linked label) mark payload h met frees = label_lasts a linked label mark (unwrapped label.flow payload) h

@@ -1,0 +1,5 @@
+pub mod Branches
+pub mod SitePairs
+pub mod Nodes
+pub mod Acts
+pub mod Events

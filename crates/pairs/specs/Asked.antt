@@ -1,0 +1,29 @@
+-- That each answer of a switch settles what may be joined
+
+use Rattle.std.specs.Prelude.{◌≡◌, List, ◌∷◌, Some}
+use Rattle.net_types.specs.declared.node.NodeId.{NodeId}
+use Rattle.net_types.specs.declared.node.Place.TheVariants.{Up}
+use Rattle.atm_cells.specs.declared.cell.Cell.{Cell}
+use Rattle.crossbar_model.specs.Crossbar.{queue_of}
+use Rattle.switch_model.specs.Switch.{control_port}
+use Rattle.label_line.specs.Cells.{Upstream}
+use Rattle.port_model.specs.Setup.{Policy}
+use Rattle.port_views.specs.Link.{LinkLabel}
+use Rattle.world_model.specs.declared.event.Event.{Event}
+use Rattle.world_model.specs.declared.event.Event.TheVariants.{Carry}
+use Rattle.world_model.specs.Topology.{Topology}
+use Rattle.world_model.specs.World.{Site, site_at}
+use Rattle.world_model.specs.Past.{past_of}
+use Rattle.world_views.specs.Pairs.{IsLike}
+use Rattle.world_views.specs.Between.{IsWorld, IsLinkLabel}
+use Rattle.world_views.specs.Kept.{Comes, behind}
+use Rattle.pairs.specs.Settles.{SettlesAt}
+
+-- *Each answer* that comes to the controller at the end of a link that may send under a label, with what may be joined to
+-- the label behind the event
+abbrev pub AnswersSettle : Type 0
+AnswersSettle = (policy : Policy) (topology : Topology) (before : List Event) (node : NodeId)
+    → Comes policy topology before (Carry (Up node)) → IsWorld (past_of policy topology before) → (link : LinkLabel) → IsLinkLabel topology link
+    → node.0 ≡ (link.node Upstream).0 → (site : Site) (cell : Cell) (cells : List Cell) → site_at (past_of policy topology before).now node ≡ Some site
+    → queue_of site.switch.crossbar control_port ≡ cell ∷ cells
+    → SettlesAt link (IsLike (behind policy topology before (Carry (Up node))).now link) (past_of policy topology before).now.notes.frames site.controller cell

@@ -1,0 +1,4 @@
+pub mod Events
+pub mod Past
+pub mod Settles
+pub mod Asked

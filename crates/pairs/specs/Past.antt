@@ -1,0 +1,15 @@
+-- Which labels are joined, or may be, behind each event of a run before the first frame that was forged or passed by chance
+
+use Rattle.std.specs.Prelude.{List}
+use Rattle.port_model.specs.Setup.{Policy}
+use Rattle.world_model.specs.declared.event.Event.{Event}
+use Rattle.world_model.specs.Topology.{Topology}
+use Rattle.world_model.specs.Past.{past_of}
+use Rattle.world_views.specs.Between.{IsWorld}
+use Rattle.world_views.specs.Kept.{Comes, behind}
+use Rattle.pairs.specs.Events.{HasOldPairs}
+
+-- those that were before it, and at a tick those of the joins that it enters
+abbrev pub RunsMakeNoPairs : Type 0
+RunsMakeNoPairs = (policy : Policy) (topology : Topology) (before : List Event) (event : Event) → Comes policy topology before event → IsWorld (past_of policy topology before)
+    → HasOldPairs (past_of policy topology before).now event (behind policy topology before event).now
