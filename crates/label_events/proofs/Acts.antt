@@ -13,7 +13,7 @@ use Rattle.world_model.specs.Run.{put_away}
 use Rattle.port_views.specs.Link.{LinkLabel}
 use Rattle.controller_views.specs.Ends.{EndLeads}
 use Rattle.controller_views.specs.Lifted.{IsProper, Growing}
-use Rattle.controller_lifts.specs.Ready.{FitsLink}
+use Rattle.controller_views.specs.Ready.{FitsLink}
 use Rattle.controller_lifts.proofs.Follow.{change_follows}
 use Rattle.controller_lifts.proofs.Ways.{leads_followed, growing_followed, SameNode, node_followed}
 use Rattle.controller_lifts.proofs.Ticking.{ticks_lead, ticks_grow, ticks_node}

@@ -50,14 +50,14 @@ use Rattle.label_events.proofs.SwitchActs.{switching, switched_world, quiet_site
 on_control_same : (p : PortNo) (x y : Channel) → same_channel (channel_on_control p x) (channel_on_control p y) ≡ same_channel x y
 on_control_same p x y = grind (arith, nat_tests)
 
-seen_out : (role : Role) (link : LinkLabel) (frames : List Frame) (c d : Cell) → c.header.channel ≡ channel_on_control (link.port role) d.header.channel → d.header.last ≡ c.header.last → d.mark ≡ c.mark
-    → seen OnLink role link frames d ≡ seen (OnControl (link.port role)) role link frames c
-seen_out role link frames c d channel last mark = sym (both_tests (same_channel c.header.channel (channel_at (OnControl (link.port role)) default_channel)) (same_channel d.header.channel default_channel)
-    (same_channel c.header.channel (channel_at (OnControl (link.port role)) (label_channel_of link.label))) (same_channel d.header.channel (label_channel_of link.label))
+pub seen_out : (port : PortNo) (role : Role) (link : LinkLabel) (frames : List Frame) (c d : Cell) → c.header.channel ≡ channel_on_control port d.header.channel → d.header.last ≡ c.header.last → d.mark ≡ c.mark
+    → seen OnLink role link frames d ≡ seen (OnControl port) role link frames c
+seen_out port role link frames c d channel last mark = sym (both_tests (same_channel c.header.channel (channel_at (OnControl port) default_channel)) (same_channel d.header.channel default_channel)
+    (same_channel c.header.channel (channel_at (OnControl port) (label_channel_of link.label))) (same_channel d.header.channel (label_channel_of link.label))
     (test default_channel) (test (label_channel_of link.label)))
   where
-    test : (x : Channel) → same_channel c.header.channel (channel_on_control (link.port role) x) ≡ same_channel d.header.channel x
-    test x = ap (λ (z : Channel). same_channel z (channel_on_control (link.port role) x)) channel ∙ on_control_same (link.port role) d.header.channel x
+    test : (x : Channel) → same_channel c.header.channel (channel_on_control port x) ≡ same_channel d.header.channel x
+    test x = ap (λ (z : Channel). same_channel z (channel_on_control port x)) channel ∙ on_control_same port d.header.channel x
 
     both_tests : (a b x y : Bool) → a ≡ b → x ≡ y
         → (if a then seen_payload role link c.header.last (payload_of frames c.mark) else (if x then on_label role else Nothing))
@@ -66,7 +66,7 @@ seen_out role link frames c d channel last mark = sym (both_tests (same_channel 
 
 -- *A cell that goes nowhere, or to another port*, is nothing to the queues of a port and of the controller
 module _ (link : LinkLabel) (proper : IsProper link) (role : Role) where
-  sent_elsewhere : (a : Acted) (output : PortNo) (cells : List Cell) (b : Acted) → b.switch.crossbar.queues ≡ (sent a.switch.crossbar output cells).queues → b.notes.frames ≡ a.notes.frames
+  pub sent_elsewhere : (a : Acted) (output : PortNo) (cells : List Cell) (b : Acted) → b.switch.crossbar.queues ≡ (sent a.switch.crossbar output cells).queues → b.notes.frames ≡ a.notes.frames
       → b.numbers ≡ a.numbers → 0 < output.0 → output.0 ≢ (link.port role).0 → IsQuiet link role a b
   sent_elsewhere a output cells b queues frames numbers above n =
       let between : Acted = record a { switch = record a.switch { crossbar = sent a.switch.crossbar output cells } } in
@@ -167,7 +167,7 @@ module _ (link : LinkLabel) (proper : IsProper link) (like : Type 0) (apart : Ar
       (carried_net link like role (pieces_of w link s.end) line cell cells ((pieces_of w link s.end).output role ++ on_channel_of cell branch.output ∷ [])
       (subst (λ (z : Site). z.controller.queue ≡ cell ∷ cells) (sym is) front) s.net
       (put_out (on_channel_of cell branch.output) refl
-      (seen_out role link w.notes.frames cell (on_channel_of cell branch.output) (channel ∙ ap (λ (q : PortNo). channel_on_control q branch.output.channel) port) refl refl))))
+      (seen_out (link.port role) role link w.notes.frames cell (on_channel_of cell branch.output) (channel ∙ ap (λ (q : PortNo). channel_on_control q branch.output.channel) port) refl refl))))
 
   -- *Where its branch leads*
   same_notes : (b : Acted) → b.switch.crossbar.queues ≡ begun.switch.crossbar.queues → b.notes.frames ≡ w.notes.frames → b.numbers ≡ w.numbers → After b

@@ -7,3 +7,7 @@ pub mod Carries
 pub mod Restarts
 pub mod Enters
 pub mod Arrivals
+pub mod Labelled
+pub mod Links
+pub mod Across
+pub mod Next

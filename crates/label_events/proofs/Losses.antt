@@ -147,7 +147,7 @@ module _ (link : LinkLabel) (proper : IsProper link) (like : Type 0) (apart : Ar
       (lost_net link like role pieces line cell cells front s.net)
   at_end role (Out node port) cell cells nine placed low front = out_loses role node port cell cells placed nine low front
 
-  lost_site : (place : Place) (cell : Cell) (cells : List Cell) (site : Site) → ((role : Role) → (link.port role).0 ≤ 8) → HasQueues site → IsLinkPlace place
+  pub lost_site : (place : Place) (cell : Cell) (cells : List Cell) (site : Site) → ((role : Role) → (link.port role).0 ≤ 8) → HasQueues site → IsLinkPlace place
       → site_at w (place_node place) ≡ Some site → queue_in site place ≡ cell ∷ cells → WorldGoes link like (lost_at place site cell cells) line
   lost_site place cell cells site low nine placed found front = by_node link like (WorldGoes link like (lost_at place site cell cells) line) (place_node place) w site line found s
       (λ role same is. subst (λ (z : Site). WorldGoes link like (lost_at place z cell cells) line) is

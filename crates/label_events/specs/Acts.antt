@@ -10,7 +10,7 @@ use Rattle.controller_model.specs.Cells.{cell_comes}
 use Rattle.port_views.specs.Link.{LinkLabel}
 use Rattle.controller_views.specs.Lifted.{Growing}
 use Rattle.arrival_views.specs.Cells.{CanArrive}
-use Rattle.controller_lifts.specs.Ready.{IsReady, FitsTick}
+use Rattle.controller_views.specs.Ready.{IsReady, FitsTick}
 use Rattle.world_model.specs.World.{World, Site}
 use Rattle.world_views.specs.Shown.{acting}
 

@@ -1,17 +1,23 @@
 -- The queues of a network where events take place
 
-use Rattle.std.specs.Prelude.{◌≡◌, ◌<◌, ◌≤◌, length, Some}
+use Rattle.std.specs.Prelude.{◌≡◌, ◌≢◌, ℕ, ◌<◌, ◌≤◌, true, length, Some}
 use Rattle.std.specs.FinMap.{get}
+use Rattle.net_types.specs.declared.channel.End.{End}
+use Rattle.net_types.specs.declared.node.PortNo.{PortNo}
 use Rattle.net_types.specs.declared.node.Place.{Place}
 use Rattle.net_types.specs.declared.node.Place.TheVariants.{Down, Up, Out}
 use Rattle.net_types.specs.Channel.{channel_on_control}
+use Rattle.net_types.specs.Label.{is_label_number}
 use Rattle.atm_cells.specs.declared.cell.Cell.{Cell}
 use Rattle.crossbar_model.specs.declared.branch.Branch.{Branch}
-use Rattle.crossbar_model.specs.Crossbar.{input_of}
+use Rattle.crossbar_model.specs.Crossbar.{input_of, output_of}
 use Rattle.switch_model.specs.Switch.{control_port}
+use Rattle.port_model.specs.Setup.{home_of, label_end}
 use Rattle.label_line.specs.Cells.{Role}
+use Rattle.world_model.specs.declared.link.LinkEnd.{LinkEnd}
 use Rattle.world_model.specs.World.{Site}
-use Rattle.port_views.specs.Link.{LinkLabel}
+use Rattle.port_views.specs.Link.{LinkLabel, other}
+use Rattle.world_views.specs.Shown.{end_of}
 
 -- a switch has a queue at each of the ports 0 to 8
 abbrev pub HasQueues : Site → Type 0
@@ -32,3 +38,20 @@ HasLowPorts link = (role : Role) → (link.port role).0 ≤ 8
 abbrev pub LeadsOut : Site → Cell → Type 0
 LeadsOut site cell = (branch : Branch) → get site.switch.crossbar.branches (input_of control_port cell) ≡ Some branch
     → (0 < branch.output.port.0) × (cell.header.channel ≡ channel_on_control branch.output.port branch.output.channel)
+
+-- one that came from a link leaves it for the controller, on the channel of the control link that stands for its own, or
+-- by a port of a link, on the channel of a label
+pub data LeadsOn (input output : End) : Type 0 where
+  home : input.channel.vpi < 16 → output ≡ home_of input → LeadsOn input output
+  joined : (port : PortNo) (number : ℕ) → 0 < port.0 → is_label_number number ≡ true → output ≡ label_end port number
+      → LeadsOn input output
+
+abbrev pub LeadsFromLinks : Site → Type 0
+LeadsFromLinks site = (input output : End) → 0 < input.port.0 → output_of site.switch.crossbar.branches input ≡ Some output
+    → LeadsOn input output
+
+-- *The other end of a link*: it is at another node, and an end of this link only where the first one is its other end
+pub record IsAcross (link : LinkLabel) (from far : LinkEnd) : Type 0 where
+  pub above : 0 < far.port.0
+  pub apart : far.node.0 ≢ from.node.0
+  pub back : (role : Role) → far ≡ end_of role link → from ≡ end_of (other role) link

@@ -5,27 +5,32 @@
 //! same line is shown. There is no code that runs.
 #![tactic(auto)]
 
-ghost use Rattle.std.specs.Prelude.{◌≡◌, ◌∷◌, ◌+◌, ℕ, List, None, Some};
+ghost use Rattle.std.specs.Prelude.{◌≡◌, ◌<◌, ◌∷◌, ◌+◌, ℕ, List, None, Some};
+ghost use Rattle.net_types.specs.declared.channel.End.{End};
 ghost use Rattle.net_types.specs.declared.node.NodeId.{NodeId};
 ghost use Rattle.net_types.specs.declared.node.Place.{Place};
-ghost use Rattle.net_types.specs.declared.node.Place.TheVariants.{Down, Up};
+ghost use Rattle.net_types.specs.declared.node.Place.TheVariants.{Down, Up, Out};
 ghost use Rattle.atm_cells.specs.declared.cell.Cell.{Cell};
 ghost use Rattle.link_model.specs.Ledger.{payload_of};
 ghost use Rattle.crossbar_model.specs.Crossbar.{queue_of};
 ghost use Rattle.switch_model.specs.Switch.{control_port};
 ghost use Rattle.ipv4_forward.specs.declared.change.RouteChange.{RouteChange};
+ghost use Rattle.label_line.specs.Cells.{Upstream};
 ghost use Rattle.label_line.specs.Line.{Line};
+ghost use Rattle.port_model.specs.Setup.{label_end};
+ghost use Rattle.world_model.specs.declared.link.LinkEnd.{LinkEnd};
 ghost use Rattle.world_model.specs.declared.event.Event.TheVariants.{Inject, Carry, Lose, Tick, TickSwitch, Restart, RestartSwitch, Route};
-ghost use Rattle.world_model.specs.Topology.{Topology};
+ghost use Rattle.world_model.specs.Topology.{Topology, peer_of};
 ghost use Rattle.world_model.specs.World.{World, Site, site_at};
 ghost use Rattle.world_model.specs.Places.{place_node};
 ghost use Rattle.world_model.specs.Run.{next, put_away};
+ghost use Rattle.world_model.specs.Ways.{output_at};
 ghost use Rattle.port_views.specs.Link.{LinkLabel};
 ghost use Rattle.controller_views.specs.Lifted.{IsProper};
 ghost use Rattle.arrival_views.specs.Packets.{HasLabelGrants};
-ghost use Rattle.controller_lifts.specs.Ready.{FitsLink};
+ghost use Rattle.controller_views.specs.Ready.{FitsLink};
 ghost use Rattle.world_views.specs.Shown.{WorldShows, WorldGoes, AreApart};
-ghost use Rattle.label_events.specs.Queues.{HasQueues, HasLowPorts, IsLinkPlace, LeadsOut};
+ghost use Rattle.label_events.specs.Queues.{HasQueues, HasLowPorts, IsLinkPlace, LeadsOut, LeadsFromLinks, IsAcross};
 ghost use Rattle.label_events.specs.Acts.{CanTick, Arrives};
 
 /// A cell is lost at the front of any queue of a network: the line of each label of each link follows. It does
@@ -71,4 +76,16 @@ pub fn switches_lead_lines<Like>()
     ensures restarts { (topology : Topology) (link : LinkLabel) (w : World) (line : Line) (node : NodeId) → IsProper link → AreApart link
         → ((site : Site) → site_at w node ≡ Some site → HasQueues site)
         → WorldShows link Like w line → WorldGoes link Like (next topology w (RestartSwitch node)) line }
+{}
+
+/// A cell comes over a link to the switch at its other end: to the controller there, out under a label or nowhere; the
+/// line of each label of each link follows. Where a branch leads to the label from a port of a link, it may be joined. It
+/// does nothing, and its contract is the statement.
+pub fn links_lead_lines<Like>()
+    ensures { (topology : Topology) (link : LinkLabel) (w : World) (line : Line) (from : LinkEnd) → IsProper link → HasLowPorts link → AreApart link
+        → 0 < from.port.0 → ((far : LinkEnd) → peer_of topology from.node from.port ≡ Some far → IsAcross link from far)
+        → ((node : NodeId) (site : Site) → site_at w node ≡ Some site → HasQueues site)
+        → ((node : NodeId) (site : Site) → site_at w node ≡ Some site → LeadsFromLinks site)
+        → ((input : End) → 0 < input.port.0 → output_at w (link.node Upstream) input ≡ Some (label_end (link.port Upstream) link.label) → Like)
+        → WorldShows link Like w line → WorldGoes link Like (next topology w (Carry (Out from.node from.port))) line }
 {}

@@ -1,0 +1,104 @@
+-- each event but a cell that comes to a controller and a tick: the line of each label of each link follows, with what may be
+-- joined before it
+
+use Rattle.std.proofs.Common.{◌≡◌, ℕ, ◌+◌, ◌<◌, true, List, Option, None, Some, refl, arith}
+use Rattle.std.specs.Prelude.{is_some}
+use Rattle.net_types.specs.declared.node.NodeId.{NodeId}
+use Rattle.net_types.specs.declared.node.PortNo.{PortNo}
+use Rattle.net_types.specs.declared.node.Place.{Place}
+use Rattle.net_types.specs.declared.node.Place.TheVariants.{Down, Up, Out}
+use Rattle.net_types.specs.Label.{is_label_number}
+use Rattle.ipv4_forward.specs.declared.change.RouteChange.{RouteChange}
+use Rattle.ordered_lists.specs.Ordered.{Every}
+use Rattle.ordered_lists.proofs.Every.{every_map}
+use Rattle.port_facts.proofs.Keyed.{at_every}
+use Rattle.port_facts.specs.Port.{IsGrant}
+use Rattle.crossbar_model.specs.Channels.{IsLinkPort}
+use Rattle.port_model.specs.Setup.{Setup}
+use Rattle.port_model.specs.Grants.{Grant}
+use Rattle.controller_model.specs.Controller.{port_key}
+use Rattle.controller_facts.specs.Sound.{IsSound, IsLinkedPort}
+use Rattle.label_line.specs.Line.{Line}
+use Rattle.world_model.specs.declared.event.Event.{Event}
+use Rattle.world_model.specs.declared.event.Event.TheVariants.{Inject, Carry, Lose, TickSwitch, Restart, RestartSwitch, Route}
+use Rattle.world_model.specs.declared.link.LinkEnd.{LinkEnd}
+use Rattle.world_model.specs.Topology.{Topology, peer_of}
+use Rattle.world_model.specs.Conditions.{IsTopology, IsPlace}
+use Rattle.world_model.specs.World.{Site, site_at}
+use Rattle.world_model.specs.Run.{next}
+use Rattle.world_model.specs.Past.{Past}
+use Rattle.port_views.specs.Link.{LinkLabel}
+use Rattle.arrival_views.specs.Packets.{HasLabelGrants}
+use Rattle.world_views.specs.Ready.{setups_of}
+use Rattle.world_views.specs.Pairs.{IsLike, by_branch}
+use Rattle.world_views.specs.Shown.{WorldShows, WorldGoes}
+use Rattle.world_views.specs.Between.{EachSite, IsWorld, IsLinkLabel}
+use Rattle.causes.proofs.Shown.{IsPeer, peer_back}
+use Rattle.label_events.specs.Queues.{HasQueues, IsLinkPlace, LeadsFromLinks}
+use Rattle.label_events.proofs.Next.{loses, goes_down, goes_over, packet_enters, restarts, route_comes, ticks_switch, restarts_switch}
+use Rattle.world_views.proofs.Labels.{in_range_label}
+use Rattle.label_worlds.proofs.Ends.{proper, low, apart, across, leads_out, leads_from}
+
+-- a port that cells of the topology leave by is a link's
+module _ (topology : Topology) (is : IsTopology topology) where
+  above_by : (node : NodeId) (port : PortNo) (o : Option LinkEnd) → peer_of topology node port ≡ o → is_some o ≡ true → 0 < port.0
+  above_by node port None e there = absurd (cc there)
+  above_by node port (Some far) e there = (let p : IsPeer topology (record { node = node; port = port }) far = peer_back topology is (record { node = node; port = port }) far e in omega (arith, p.own.0))
+
+  link_place : (place : Place) → IsPlace topology place → IsLinkPlace place
+  link_place (Down node) at = tt
+  link_place (Up node) at = tt
+  link_place (Out node port) at = above_by node port (peer_of topology node port) refl at.1
+
+-- the grants of a sound controller are of labels
+label_grants : (site : Site) → IsSound (setups_of site.controller) site.controller → HasLabelGrants site.controller
+label_grants site sound port linked found =
+    let h : IsLinkedPort (setups_of site.controller) linked = at_every port_key (IsLinkedPort (setups_of site.controller)) port.0 site.controller.ports linked sound.ports.each found in
+    every_map (IsGrant (setups_of site.controller) linked.setup) (λ (g : Grant). is_label_number g.label ≡ true) linked.port.grants
+    (λ g is. in_range_label linked.setup g.label is.in_range) h.grants
+
+-- a switch has its queues, and its controller's ports are of links
+pub record IsPlain (site : Site) : Type 0 where
+  pub nine : HasQueues site
+  pub links : Every (λ (setup : Setup). IsLinkPort setup.port) (setups_of site.controller)
+
+module _ (past : Past) (is : IsTopology past.topology) (world : IsWorld past) (plain : EachSite past.now (λ node site. IsPlain site))
+    (link : LinkLabel) (of : IsLinkLabel past.topology link) (line : Line) (s : WorldShows link (IsLike past.now link) past.now line) where
+  abbrev Follows : Event → Type 0
+  Follows event = WorldGoes link (IsLike past.now link) (next past.topology past.now event) line
+
+  nine : (node : NodeId) (site : Site) → site_at past.now node ≡ Some site → HasQueues site
+  nine node site found = (plain node site found).nine
+
+  from_links : (node : NodeId) (site : Site) → site_at past.now node ≡ Some site → LeadsFromLinks site
+  from_links node site found = leads_from site (plain node site found).links (world.shapes node site found).branches
+
+  pub follows_lose : (place : Place) → IsPlace past.topology place → Follows (Lose place)
+  follows_lose place at = loses (IsLike past.now link) past.topology link past.now line (proper past.topology is link of) (apart past.topology is link of) s place
+      (low past.topology is link of) (λ site found. nine _ site found) (link_place past.topology is place at)
+
+  pub follows_down : (node : NodeId) → Follows (Carry (Down node))
+  follows_down node = goes_down (IsLike past.now link) past.topology link past.now line (proper past.topology is link of) (apart past.topology is link of) s node
+      (low past.topology is link of) (nine node)
+      (λ site cell cells found front. leads_out site (plain node site found).links (world.shapes node site found).branches cell)
+
+  pub follows_over : (node : NodeId) (port : PortNo) → IsPlace past.topology (Out node port) → Follows (Carry (Out node port))
+  follows_over node port at = goes_over (IsLike past.now link) past.topology link past.now line (proper past.topology is link of) (apart past.topology is link of) s (record { node = node; port = port })
+      (low past.topology is link of) (link_place past.topology is (Out node port) at) (across past.topology is link of (record { node = node; port = port })) nine from_links
+      (λ input above output. record { input = input; above = above; pair = by_branch output })
+
+  pub follows_inject : (node : NodeId) (octets : List ℕ) → Follows (Inject node octets)
+  follows_inject node octets = packet_enters (IsLike past.now link) past.topology link past.now line (proper past.topology is link of) (apart past.topology is link of) s node octets
+      (world.packets.unsent (past.now.sent + 1) 1 (omega arith)) (λ site found. label_grants site (world.ready node site found).controller.sound)
+
+  pub follows_restart : (node : NodeId) → Follows (Restart node)
+  follows_restart node = restarts (IsLike past.now link) past.topology link past.now line (proper past.topology is link of) (apart past.topology is link of) s node
+
+  pub follows_route : (node : NodeId) (change : RouteChange) → Follows (Route node change)
+  follows_route node change = route_comes (IsLike past.now link) past.topology link past.now line (proper past.topology is link of) (apart past.topology is link of) s node change
+
+  pub follows_switch : (node : NodeId) → Follows (TickSwitch node)
+  follows_switch node = ticks_switch (IsLike past.now link) past.topology link past.now line (proper past.topology is link of) (apart past.topology is link of) s node (nine node)
+
+  pub follows_switch_restart : (node : NodeId) → Follows (RestartSwitch node)
+  follows_switch_restart node = restarts_switch (IsLike past.now link) past.topology link past.now line (proper past.topology is link of) (apart past.topology is link of) s node (nine node)

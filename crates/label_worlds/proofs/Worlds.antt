@@ -1,0 +1,117 @@
+-- in every run before the first forged frame and the first chance: a cell that comes to a controller can be followed there, and
+-- a tick leads each label's line
+
+use Rattle.std.proofs.Common.{◌≡◌, ◌<◌, ◌+◌, List, [], ◌∷◌, ◌++◌, Option, Some, refl, sym, ◌∙◌, ap, subst, arith, ◌⊎◌, inl, inr}
+use Rattle.std.proofs.lemmas.List.{length-map}
+use Rattle.std.specs.Prelude.{◌^◌, not}
+use Rattle.std.specs.Option.{option_map_or}
+use Rattle.net_types.specs.declared.node.NodeId.{NodeId}
+use Rattle.net_types.specs.declared.node.Place.TheVariants.{Up}
+use Rattle.label_line.specs.Cells.{Upstream}
+use Rattle.port_model.specs.Setup.{Policy, label_end}
+use Rattle.controller_model.specs.Cells.{Taker, taker_of, reassembly_of}
+use Rattle.controller_model.specs.Ticks.{ticks}
+use Rattle.controller_facts.specs.Sound.{linked_setup}
+use Rattle.controller_facts.proofs.Drawn.{ticks_few}
+use Rattle.arrival_views.specs.Cells.{PassesByRight, EndsFrame}
+use Rattle.world_model.specs.declared.event.Event.{Event}
+use Rattle.world_model.specs.declared.event.Event.TheVariants.{Carry, Tick}
+use Rattle.world_model.specs.Topology.{Topology}
+use Rattle.world_model.specs.Conditions.{IsEvent}
+use Rattle.world_model.specs.World.{World, Site, site_at, at_controller, opened}
+use Rattle.world_model.specs.Places.{queue_in, queue_at}
+use Rattle.world_model.specs.Run.{next, put_away, world_after}
+use Rattle.world_model.specs.Past.{Past, past_of}
+use Rattle.world_model.specs.Headline.{IsRun, IsTame}
+use Rattle.world_views.specs.Pairs.{Pairs, IsLike}
+use Rattle.pairs.specs.Events.{EntersAt}
+use Rattle.world_views.specs.Ready.{setups_of}
+use Rattle.world_views.specs.Shown.{WorldGoes, acting}
+use Rattle.world_views.specs.Between.{IsWorld}
+use Rattle.world_views.specs.Kept.{Comes}
+use Rattle.run_facts.specs.Nodes.{IsNodeOfRun, RunsHaveNodes, RunsHaveRoom}
+use Rattle.run_facts.proofs.Steps.{front_run, runs_have_fronts}
+use Rattle.running_worlds.proofs.Worlds.{events_true}
+use Rattle.label_events.proofs.Acts.{away_shows, tallied_goes}
+use Rattle.label_worlds.specs.Conduct.{now_of, then_of, CellsArrive, TicksLead}
+use Rattle.label_worlds.proofs.Ends.{proper, apart, fits}
+use Rattle.label_worlds.specs.Enters.{IsTickJoin}
+use Rattle.pairs.specs.Asked.{AnswersSettle}
+use Rattle.pairs.specs.Past.{RunsMakeNoPairs}
+use Rattle.label_worlds.proofs.Arriving.{arrives}
+use Rattle.label_worlds.proofs.Ticking.{Ticks, tick_goes}
+
+one_more : (topology : Topology) (w : World) (before : List Event) (event : Event) → world_after topology w (before ++ event ∷ []) ≡ next topology (world_after topology w before) event
+one_more topology w [] event = refl
+one_more topology w (first ∷ before) event = one_more topology (next topology w first) before event
+
+-- *Of a run*
+module _ (nodes : RunsHaveNodes) (room : RunsHaveRoom) (policy : Policy) (topology : Topology) (before : List Event) (event : Event) (comes : Comes policy topology before event)
+    (world : IsWorld (past_of policy topology before)) where
+  abbrev past : Past
+  past = past_of policy topology before
+
+  run : IsRun policy topology before
+  run = front_run policy topology before (event ∷ []) comes.run
+
+  node_is : (node : NodeId) (site : Site) → site_at past.now node ≡ Some site → IsNodeOfRun policy past node site
+  node_is node site found = nodes policy topology before comes.addresses run node site found
+
+  left : past.now.numbers.instances + 20 < 2 ^ 32
+  left = (room policy topology before run).left.instances
+
+  meant : IsEvent topology past.now event
+  meant = (comes.run.each before [] event refl).meant
+
+  then_is : then_of policy topology before event ≡ next topology past.now event
+  then_is = one_more topology (opened policy topology) before event
+
+  tame : IsTame (next topology past.now event).notes.records
+  tame = subst (λ (v : World). IsTame v.notes.records) then_is (runs_have_fronts policy topology before event comes).new_tame
+
+  ticks_small : (node : NodeId) (site : Site) → site_at past.now node ≡ Some site → Ticks (put_away past.now) site
+  ticks_small node site found = record {
+    setups = setups_of site.controller;
+    ready = (world.ready node site found).controller;
+    small = omega (arith, (ticks_few (acting (put_away past.now) site)).few, left, length-map site.controller.ports linked_setup, (node_is node site found).ports.few);
+  }
+
+-- *Cells*
+pub cells_arrive : RunsHaveNodes → RunsHaveRoom → AnswersSettle → CellsArrive
+cells_arrive nodes room settle policy topology before node comes world link of site cell cells found front =
+    let event : Event = Carry (Up node) in
+    let is : IsNodeOfRun policy (past_of policy topology before) node site = node_is nodes room policy topology before event comes world node site found in
+    arrives (past_of policy topology before) world node site cell cells found front (meant nodes room policy topology before event comes world) is.ports.few
+    (left nodes room policy topology before event comes world) is.conduct.bound passes
+    link (proper topology comes.run.topology_is link of) (fits topology comes.run.topology_is link of comes.addresses) (IsLike (then_of policy topology before event) link)
+    (λ here. settle policy topology before node comes world link of here site cell cells found front)
+  where
+    queue : queue_at (now_of policy topology before) (Up node) ≡ cell ∷ cells
+    queue = ap (λ (o : Option Site). option_map_or (λ (s : Site). queue_in s (Up node)) o []) found ∙ front
+
+    passes : (taker : Taker) → taker_of site.controller cell.header.channel ≡ Some taker → EndsFrame (acting (put_away (now_of policy topology before)) site) (reassembly_of site.controller taker) cell
+        → PassesByRight (acting (put_away (now_of policy topology before)) site) ((reassembly_of site.controller taker).chain ++ cell ∷ [])
+    passes taker takes whole = (events_true policy topology before (Carry (Up node)) (tame nodes room policy topology before (Carry (Up node)) comes world)).at_controller node site taker cell cells refl queue found takes
+        (record { listens = whole.gathers; slot_is = ap not whole.slot; short = whole.short; last = whole.last })
+
+-- *Ticks*
+pub ticks_lead : RunsHaveNodes → RunsHaveRoom → RunsMakeNoPairs → TicksLead
+ticks_lead nodes room old policy topology before node comes world link of line shows =
+    let event : Event = Tick node in
+    let w : World = now_of policy topology before in
+    let like : Type 0 = IsLike w link in
+    let more : Type 0 = IsLike (then_of policy topology before event) link in
+    subst (λ (v : World). WorldGoes link more v line) (sym (then_is nodes room policy topology before event comes world))
+    (tallied_goes link more (put_away w) (at_controller (put_away w) node ticks) line
+    (tick_goes link (proper topology comes.run.topology_is link of) (fits topology comes.run.topology_is link of comes.addresses) (apart topology comes.run.topology_is link of) like more
+    (put_away w) line (away_shows link like w line shows) node (λ site found. ticks_small nodes room policy topology before event comes world node site found) joined))
+  where
+    joined : IsLike (then_of policy topology before (Tick node)) link → IsLike (now_of policy topology before) link ⊎ IsTickJoin link (put_away (now_of policy topology before)) node
+    joined may = by (old policy topology before (Tick node) comes world (link.node Upstream) may.input (label_end (link.port Upstream) link.label) may.above
+        ((proper topology comes.run.topology_is link of).above Upstream) may.pair)
+      where
+        by : Pairs (now_of policy topology before) (link.node Upstream) may.input (label_end (link.port Upstream) link.label)
+            ⊎ EntersAt (put_away (now_of policy topology before)) (Tick node) (link.node Upstream) may.input (label_end (link.port Upstream) link.label)
+            → IsLike (now_of policy topology before) link ⊎ IsTickJoin link (put_away (now_of policy topology before)) node
+        by (inl pair) = inl (record { input = may.input; above = may.above; pair = pair })
+        by (inr entered) = inr (record { here = entered.0; site = entered.1.site; found = entered.1.found; enters = record { input = may.input; enters = entered.1.enters.enters } })
