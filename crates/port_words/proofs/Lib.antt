@@ -1,0 +1,10 @@
+pub mod Voices
+pub mod Turning
+pub mod Rules
+pub mod Hearing
+pub mod Sending
+pub mod Performing
+pub mod Joining
+pub mod Binding
+pub mod Events
+pub mod Clearing

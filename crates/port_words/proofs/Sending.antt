@@ -1,0 +1,255 @@
+-- what a controller sends and notes in an event: cells for the switch are those of messages of its ports, or of no port's
+-- default channel
+
+use Rattle.std.proofs.Common.{◌≡◌, ◌≢◌, ℕ, ◌<◌, ◌≤◌, Bool, true, false, List, [], ◌∷◌, ◌++◌, length, Option, None, Some, refl, sym, ◌∙◌, ap, subst, arith, if◌then◌else◌, fold}
+use Rattle.std.specs.Prelude.{◌+◌, ◌*◌, ◌/◌, ◌&&◌, nat_eq, Contains}
+use Rattle.std.specs.Option.{option_or}
+use Rattle.std.specs.List.{range_with_len}
+use Rattle.std.proofs.lemmas.Bool.Decides.{nat_tests}
+use Rattle.std.proofs.lemmas.List.Elements.{Contains-append_left}
+use Rattle.net_types.specs.declared.node.PortNo.{PortNo}
+use Rattle.net_types.specs.declared.node.NodeId.{NodeId}
+use Rattle.net_types.specs.declared.channel.Channel.{Channel}
+use Rattle.net_types.specs.declared.number.Mark.{Mark}
+use Rattle.net_types.specs.declared.number.Instance.{Instance}
+use Rattle.net_types.specs.Number.{next_control, with_control}
+use Rattle.net_types.specs.Label.{label_channel_of}
+use Rattle.aal5_frames.specs.Frame.{cell_of, cells_with, pdu_of}
+use Rattle.atm_cells.specs.declared.cell.Cell.{Cell}
+use Rattle.flow_ids.specs.declared.flow.FlowId.{FlowId}
+use Rattle.gsmp_wire.specs.Layout.{octets_of as gsmp_octets}
+use Rattle.gsmp_wire.specs.declared.message.Message.{Message as GsmpMessage}
+use Rattle.ifmp_wire.specs.declared.message.Message.{Message as IfmpMessage}
+use Rattle.ifmp_wire.specs.declared.message.Message.TheVariants.{Redirect}
+use Rattle.link_model.specs.declared.frames.Frame.{Frame}
+use Rattle.link_model.specs.declared.record.Record.{Record}
+use Rattle.link_model.specs.declared.record.Record.TheVariants.{Delivered, Dropped, Refused, Loss, Chance, Forged, Bad, Opened, Closed, Bind, Free, Join, Part, Routes}
+use Rattle.link_model.specs.declared.record.Cause.TheVariants.{PoolFull}
+use Rattle.link_model.specs.Ledger.{payload_of}
+use Rattle.link_model.specs.Notes.{Journal, noted}
+use Rattle.frame_model.specs.Frame.{frame_cells}
+use Rattle.frame_model.specs.Reassembly.{cut, nothing_taken}
+use Rattle.ordered_lists.specs.Ordered.{Every}
+use Rattle.ordered_lists.proofs.Every.{every_join, every_map, every_mapped, every_all}
+use Rattle.port_facts.proofs.Keyed.{at_every, put_every}
+use Rattle.controller_model.specs.Controller.{Acted, Linked, port_key, linked_at, with_linked, note, chain_of, chains_with, default_channel, default_home}
+use Rattle.controller_model.specs.Cells.{same_channel}
+use Rattle.controller_model.specs.Sending.{sends, sends_control, says_gsmp, says_ifmp}
+use Rattle.controller_model.specs.Resets.{cuts_of, cuts_label, cuts_default_of, cuts_default}
+use Rattle.world_model.specs.Past.{last_bound, bound_by}
+use Rattle.controller_bindings.specs.Bindings.{site}
+use Rattle.controller_bindings.proofs.Lasts.{BindNothing, Grows, cut_grows}
+use Rattle.controller_views.specs.Lifted.{payload_by}
+use Rattle.controller_views.proofs.Sends.{sent_cases}
+use Rattle.controller_views.proofs.Works.{cut_frames}
+use Rattle.shown_cells.proofs.Made.{made_is, made_elsewhere}
+use Rattle.port_words.specs.Words.{Terms, IsWord, IsFrameOf, IsSent, waited, of_packet, away, said, bound, IsNoted, IsSteadyAt, IsSteadily}
+
+-- *What is noted and binds nothing*
+nat_same : (n : ℕ) → nat_eq n n ≡ true
+nat_same n = grind (arith, nat_tests)
+
+or_some : (o : Option FlowId) (flow : FlowId) → option_or o (Some flow) ≡ None → ⊥
+or_some None flow e = absurd (cc e)
+or_some (Some x) flow e = absurd (cc e)
+
+or_first : (o p : Option FlowId) → option_or o p ≡ None → o ≡ None
+or_first None p e = refl
+or_first (Some x) p e = absurd (cc e)
+
+own_bound : (node : NodeId) (port : PortNo) (label : ℕ) (flow : FlowId) → bound_by (site node port) label (Bind node port label flow) ≡ Some flow
+own_bound node port label flow = ap (λ (b : Bool). if b then Some flow else None)
+    (ap (λ (b : Bool). b && (nat_eq port.0 port.0 && nat_eq label label)) (nat_same node.0) ∙ ap (λ (b : Bool). b && nat_eq label label) (nat_same port.0) ∙ nat_same label)
+
+quiet_head : (node : NodeId) (port : PortNo) (label : ℕ) (flow : FlowId) (items : List Record) → BindNothing (Bind node port label flow ∷ items) → ⊥
+quiet_head node port label flow items quiet = or_some (last_bound items (site node port) label) flow (subst (λ o. option_or (last_bound items (site node port) label) o ≡ None) (own_bound node port label flow) (quiet (site node port) label))
+
+module _ (t : Terms) where
+  quiet_noted : (items : List Record) → BindNothing items → Every (IsNoted t) items
+  quiet_noted [] quiet = tt
+  quiet_noted (Bind node port label flow ∷ items) quiet = absurd (quiet_head node port label flow items quiet)
+  quiet_noted (Delivered node packet octets ∷ items) quiet = (tt, quiet_noted items (λ end label. or_first _ _ (quiet end label)))
+  quiet_noted (Dropped node packet cause ∷ items) quiet = (tt, quiet_noted items (λ end label. or_first _ _ (quiet end label)))
+  quiet_noted (Refused node packet name ∷ items) quiet = (tt, quiet_noted items (λ end label. or_first _ _ (quiet end label)))
+  quiet_noted (Loss mark cause ∷ items) quiet = (tt, quiet_noted items (λ end label. or_first _ _ (quiet end label)))
+  quiet_noted (Chance mark ∷ items) quiet = (tt, quiet_noted items (λ end label. or_first _ _ (quiet end label)))
+  quiet_noted (Forged place ∷ items) quiet = (tt, quiet_noted items (λ end label. or_first _ _ (quiet end label)))
+  quiet_noted (Bad node layer name ∷ items) quiet = (tt, quiet_noted items (λ end label. or_first _ _ (quiet end label)))
+  quiet_noted (Opened node port ∷ items) quiet = (tt, quiet_noted items (λ end label. or_first _ _ (quiet end label)))
+  quiet_noted (Closed node port ∷ items) quiet = (tt, quiet_noted items (λ end label. or_first _ _ (quiet end label)))
+  quiet_noted (Free node port label ∷ items) quiet = (tt, quiet_noted items (λ end label. or_first _ _ (quiet end label)))
+  quiet_noted (Join node port label to_port to_label ∷ items) quiet = (tt, quiet_noted items (λ end label. or_first _ _ (quiet end label)))
+  quiet_noted (Part node port label ∷ items) quiet = (tt, quiet_noted items (λ end label. or_first _ _ (quiet end label)))
+  quiet_noted (Routes node number ∷ items) quiet = (tt, quiet_noted items (λ end label. or_first _ _ (quiet end label)))
+
+  -- *A cell that was sent stays so*, while records are noted and frames are made
+  frame_later : (frames later : List Frame) (controls more : ℕ) (cell : Cell) (port : PortNo) (message : IfmpMessage) → controls ≤ more
+      → ((mark : Mark) (payload : List ℕ) → mark.packet ≡ 0 → mark.frame ≤ controls → payload_of frames mark ≡ Some payload → payload_of later mark ≡ Some payload)
+      → IsFrameOf t frames controls cell port message → IsFrameOf t later more cell port message
+  frame_later frames later controls more cell port message less kept f = record {
+    channel = f.channel;
+    control = f.control;
+    drawn = omega (arith, less, f.drawn);
+    made = kept cell.mark _ f.control f.drawn f.made;
+  }
+
+  sent_later : (records now : List Record) (frames later : List Frame) (controls more : ℕ) (cell : Cell) → ((item : Record) → Contains records item → Contains now item) → controls ≤ more
+      → ((mark : Mark) (payload : List ℕ) → mark.packet ≡ 0 → mark.frame ≤ controls → payload_of frames mark ≡ Some payload → payload_of later mark ≡ Some payload)
+      → IsSent t records frames controls cell → IsSent t now later more cell
+  sent_later records now frames later controls more cell grows less kept (waited w) = waited w
+  sent_later records now frames later controls more cell grows less kept (of_packet n) = of_packet n
+  sent_later records now frames later controls more cell grows less kept (away a) = away a
+  sent_later records now frames later controls more cell grows less kept (said port message f word) = said port message (frame_later frames later controls more cell port message less kept f) word
+  sent_later records now frames later controls more cell grows less kept (bound port sender peer number lifetime label flow f own has) =
+      bound port sender peer number lifetime label flow (frame_later frames later controls more cell port _ less kept f) own (grows (Bind t.node port label flow) has)
+
+  -- *Notes*
+  pub notes_h : (a : Acted) (notes : Journal) (more : List Record) → notes.frames ≡ a.notes.frames → notes.records ≡ a.notes.records ++ more → Every (IsNoted t) more
+      → IsSteadily t a → IsSteadily t (record a { notes = notes })
+  notes_h a notes more frames records noted h = record {
+    address = h.address;
+    ports = h.ports;
+    cells = every_map (IsSent t a.notes.records a.notes.frames a.numbers.controls) (IsSent t notes.records notes.frames a.numbers.controls) a.controller.queue
+        (λ cell sent. sent_later a.notes.records notes.records a.notes.frames notes.frames a.numbers.controls a.numbers.controls cell
+        (λ item has. subst (λ (rs : List Record). Contains rs item) (sym records) (Contains-append_left a.notes.records more item has)) (omega arith)
+        (λ mark payload control drawn e. ap (λ (fs : List Frame). payload_of fs mark) frames ∙ e) sent) h.cells;
+    records = subst (Every (IsNoted t)) (sym records) (every_join (IsNoted t) a.notes.records more h.records noted);
+  }
+
+  pub note_h : (a : Acted) (item : Record) → IsNoted t item → IsSteadily t a → IsSteadily t (note a item)
+  note_h a item noted h = notes_h a _ (item ∷ []) refl refl (noted, tt) h
+
+  pub grows_h : {Here : NodeId → Type 0} (a : Acted) (notes : Journal) → notes.frames ≡ a.notes.frames → Grows Here a.notes.records notes.records → IsSteadily t a → IsSteadily t (record a { notes = notes })
+  grows_h a notes frames grows h = notes_h a notes grows.more frames grows.is (quiet_noted grows.more grows.quiet) h
+
+  -- *Frames*: all cells of one are on its channel, under its mark
+  frame_all : (P : Cell → Type 0) (channel : Channel) (mark : Mark) (payload : List ℕ) → ((cell : Cell) → cell.header.channel ≡ channel → cell.mark ≡ mark → P cell) → Every P (frame_cells channel mark payload)
+  unfolding cells_with
+  frame_all P channel mark payload each = every_mapped (cell_of channel mark (pdu_of payload)) P (range_with_len 0 (length (pdu_of payload) / 48))
+      (every_all (λ k. P (cell_of channel mark (pdu_of payload) k)) (range_with_len 0 (length (pdu_of payload) / 48)) (λ k. each (cell_of channel mark (pdu_of payload) k) refl refl))
+
+  abbrev pub with_frame : List Frame → Mark → List ℕ → List Frame
+  with_frame frames mark payload = frames ++ record { mark = mark; payload = payload } ∷ []
+
+  -- under the next control mark
+  pub control_h : (a : Acted) (channel : Channel) (payload : List ℕ)
+      → ((cell : Cell) → cell.header.channel ≡ channel → cell.mark ≡ next_control a.numbers → IsSent t a.notes.records (with_frame a.notes.frames (next_control a.numbers) payload) (a.numbers.controls + 1) cell)
+      → IsSteadily t a → IsSteadily t (sends_control a channel payload)
+  control_h a channel payload new h = sent_cases (IsSteadily t) b channel mark payload
+      (record {
+        address = h.address;
+        ports = h.ports;
+        cells = every_join (IsSent t a.notes.records frames (a.numbers.controls + 1)) a.controller.queue (frame_cells channel mark payload) (later a.notes.records (λ item has. has))
+            (frame_all (IsSent t a.notes.records frames (a.numbers.controls + 1)) channel mark payload new);
+        records = h.records;
+      })
+      (record {
+        address = h.address;
+        ports = h.ports;
+        cells = later (a.notes.records ++ Loss mark PoolFull ∷ []) (λ item has. Contains-append_left a.notes.records (Loss mark PoolFull ∷ []) item has);
+        records = every_join (IsNoted t) a.notes.records (Loss mark PoolFull ∷ []) h.records (tt, tt);
+      })
+    where
+      mark : Mark
+      mark = next_control a.numbers
+
+      b : Acted
+      b = record a { numbers = with_control a.numbers }
+
+      frames : List Frame
+      frames = with_frame a.notes.frames mark payload
+
+      other : (m : Mark) → m.frame ≤ a.numbers.controls → mark ≢ m
+      other m drawn e = absurd (omega (arith, drawn, ap (λ (x : Mark). x.frame) e))
+
+      later : (records : List Record) → ((item : Record) → Contains a.notes.records item → Contains records item) → Every (IsSent t records frames (a.numbers.controls + 1)) a.controller.queue
+      later records grows = every_map (IsSent t a.notes.records a.notes.frames a.numbers.controls) (IsSent t records frames (a.numbers.controls + 1)) a.controller.queue
+          (λ cell sent. sent_later a.notes.records records a.notes.frames frames a.numbers.controls (a.numbers.controls + 1) cell grows (omega arith)
+          (λ m p control drawn e. made_elsewhere a.notes.frames mark m payload (other m drawn) ∙ e) sent) h.cells
+
+  -- a packet's
+  pub packet_h : (a : Acted) (channel : Channel) (mark : Mark) (payload : List ℕ) → mark.packet ≢ 0 → IsSteadily t a → IsSteadily t (sends a channel mark payload)
+  packet_h a channel mark payload packet h = sent_cases (IsSteadily t) a channel mark payload
+      (record {
+        address = h.address;
+        ports = h.ports;
+        cells = every_join (IsSent t a.notes.records frames a.numbers.controls) a.controller.queue (frame_cells channel mark payload) (later a.notes.records (λ item has. has))
+            (frame_all (IsSent t a.notes.records frames a.numbers.controls) channel mark payload (λ cell on under. of_packet (λ e. packet (ap (λ (m : Mark). m.packet) (sym under) ∙ e))));
+        records = h.records;
+      })
+      (record {
+        address = h.address;
+        ports = h.ports;
+        cells = later (a.notes.records ++ Loss mark PoolFull ∷ []) (λ item has. Contains-append_left a.notes.records (Loss mark PoolFull ∷ []) item has);
+        records = every_join (IsNoted t) a.notes.records (Loss mark PoolFull ∷ []) h.records (tt, tt);
+      })
+    where
+      frames : List Frame
+      frames = with_frame a.notes.frames mark payload
+
+      later : (records : List Record) → ((item : Record) → Contains a.notes.records item → Contains records item) → Every (IsSent t records frames a.numbers.controls) a.controller.queue
+      later records grows = every_map (IsSent t a.notes.records a.notes.frames a.numbers.controls) (IsSent t records frames a.numbers.controls) a.controller.queue
+          (λ cell sent. sent_later a.notes.records records a.notes.frames frames a.numbers.controls a.numbers.controls cell grows (omega arith)
+          (λ m p control drawn e. made_elsewhere a.notes.frames mark m payload (λ same. packet (ap (λ (x : Mark). x.packet) same ∙ control)) ∙ e) sent) h.cells
+
+  -- of GSMP
+  gsmp_away : (cell : Cell) → cell.header.channel ≡ default_channel → (port : PortNo) → 0 < port.0 → same_channel cell.header.channel (default_home port).channel ≡ false
+  gsmp_away cell on port above = ap (λ (c : Channel). same_channel c (default_home port).channel) on ∙ ap (λ b. b && true) (differs port.0 above)
+    where
+      differs : (n : ℕ) → 0 < n → nat_eq 0 (16 * n + 0) ≡ false
+      differs n above = grind (arith, nat_tests, above)
+
+  pub gsmp_h : (a : Acted) (message : GsmpMessage) → IsSteadily t a → IsSteadily t (says_gsmp a message)
+  gsmp_h a message h = control_h a default_channel (gsmp_octets message) (λ cell on under. away (gsmp_away cell on)) h
+
+  -- of IFMP
+  said_frame : (a : Acted) (port : PortNo) (message : IfmpMessage) → IsSteadily t a → (cell : Cell) → cell.header.channel ≡ (default_home port).channel → cell.mark ≡ next_control a.numbers
+      → IsFrameOf t (with_frame a.notes.frames (next_control a.numbers) (payload_by a.controller.address message)) (a.numbers.controls + 1) cell port message
+  said_frame a port message h cell on under = record {
+    channel = on;
+    control = ap (λ (m : Mark). m.packet) under;
+    drawn = omega (arith, ap (λ (m : Mark). m.frame) under);
+    made = ap (payload_of (with_frame a.notes.frames (next_control a.numbers) (payload_by a.controller.address message))) under
+        ∙ (made_is a.notes.frames (next_control a.numbers) (payload_by a.controller.address message) ∙ ap (λ (address : _). Some (payload_by address message)) h.address.0);
+  }
+
+  pub ifmp_h : (a : Acted) (port : PortNo) (message : IfmpMessage) → IsWord t port message → IsSteadily t a → IsSteadily t (says_ifmp port a message)
+  ifmp_h a port message word h = control_h a (default_home port).channel (payload_by a.controller.address message)
+      (λ cell on under. said port message (said_frame a port message h cell on under) word) h
+
+  -- the REDIRECT of a label whose binding was recorded
+  pub bound_h : (a : Acted) (port : PortNo) (sender peer : Instance) (number lifetime label : ℕ) (flow : FlowId) → t.told port sender.0 → Contains a.notes.records (Bind t.node port label flow)
+      → IsSteadily t a → IsSteadily t (says_ifmp port a (Redirect sender peer number lifetime (label_channel_of label) flow))
+  bound_h a port sender peer number lifetime label flow told has h = control_h a (default_home port).channel (payload_by a.controller.address (Redirect sender peer number lifetime (label_channel_of label) flow))
+      (λ cell on under. bound port sender peer number lifetime label flow (said_frame a port (Redirect sender peer number lifetime (label_channel_of label) flow) h cell on under) told has) h
+
+  -- *A port is put in its place*
+  pub put_h : (a : Acted) (after : Linked) → IsSteadyAt t after → IsSteadily t a → IsSteadily t (with_linked a after)
+  put_h a after k h = record { address = h.address; ports = put_every port_key (IsSteadyAt t) after a.controller.ports k h.ports; cells = h.cells; records = h.records }
+
+  pub found_h : (a : Acted) (port : PortNo) (linked : Linked) → linked_at a.controller port ≡ Some linked → IsSteadily t a → IsSteadyAt t linked
+  found_h a port linked found h = at_every port_key (IsSteadyAt t) port.0 a.controller.ports linked h.ports found
+
+  pub fold_h : {A : Type 0} (f : Acted → A → Acted) → ((a : Acted) (x : A) → IsSteadily t a → IsSteadily t (f a x)) → (xs : List A) (a : Acted) → IsSteadily t a → IsSteadily t (fold f a xs)
+  fold_h f each [] a h = h
+  fold_h f each (x ∷ xs) a h = fold_h f each xs (f a x) (each a x h)
+
+  cut_h : (a : Acted) (label : ℕ) (o : Option Linked) → ((linked : Linked) → o ≡ Some linked → IsSteadyAt t linked) → IsSteadily t a → IsSteadily t (cuts_of a label o)
+  cut_h a label None there h = h
+  cut_h a label (Some linked) there h =
+      let notes : Journal = cut a.notes (chain_of linked.chains label) in
+      put_h (record a { notes = notes }) (record linked { chains = chains_with linked.chains label nothing_taken }) (there linked refl)
+      (grows_h {Here = λ node. ⊥} a notes (cut_frames a.notes (chain_of linked.chains label)) (cut_grows a.notes (chain_of linked.chains label)) h)
+
+  pub cuts_h : (port : PortNo) (a : Acted) (label : ℕ) → IsSteadily t a → IsSteadily t (cuts_label port a label)
+  cuts_h port a label h = cut_h a label (linked_at a.controller port) (λ linked found. found_h a port linked found h) h
+
+  cut_default_h : (a : Acted) (o : Option Linked) → ((linked : Linked) → o ≡ Some linked → IsSteadyAt t linked) → IsSteadily t a → IsSteadily t (cuts_default_of a o)
+  cut_default_h a None there h = h
+  cut_default_h a (Some linked) there h =
+      let notes : Journal = cut a.notes linked.reassembly in
+      put_h (record a { notes = notes }) (record linked { reassembly = nothing_taken }) ((there linked refl).0, tt)
+      (grows_h {Here = λ node. ⊥} a notes (cut_frames a.notes linked.reassembly) (cut_grows a.notes linked.reassembly) h)
+
+  pub cuts_default_h : (a : Acted) (port : PortNo) → IsSteadily t a → IsSteadily t (cuts_default a port)
+  cuts_default_h a port h = cut_default_h a (linked_at a.controller port) (λ linked found. found_h a port linked found h) h

@@ -1,0 +1,3 @@
+//! What the ports of a controller are, say and note in an event, told by what was so before it. There is no code
+//! that runs.
+#![tactic(auto)]

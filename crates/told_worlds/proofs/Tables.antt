@@ -1,0 +1,163 @@
+-- the route of a join's flow stays while a cell comes
+
+use Rattle.std.proofs.Common.{◌≡◌, ◌≢◌, ℕ, zero, suc, ◌<◌, ◌≤◌, Bool, true, false, List, [], ◌∷◌, ◌++◌, length, Option, None, Some, Result, Ok, Err, refl, sym, ◌∙◌, ap, subst, arith, inl, inr, if◌then◌else◌, fold}
+use Rattle.std.specs.Prelude.{Contains, is_some, not, nat_lt, nat_le, ◌⊎◌, ◌&&◌, ◌==◌, ◌+◌, filter, map}
+use Rattle.std.specs.Option.{option_map, option_map_or, option_and_then}
+use Rattle.net_types.specs.declared.channel.End.{End}
+use Rattle.net_types.specs.declared.node.NodeId.{NodeId}
+use Rattle.net_types.specs.declared.node.PortNo.{PortNo}
+use Rattle.net_types.specs.declared.node.Place.TheVariants.{Up}
+use Rattle.net_types.specs.declared.number.Mark.{Mark}
+use Rattle.net_types.specs.declared.prefix.Addr.{Addr}
+use Rattle.adjacency_table.specs.Greeting.{gsmp_received}
+use Rattle.atm_cells.specs.declared.cell.Cell.{Cell}
+use Rattle.flow_ids.specs.declared.flow.FlowId.{FlowId}
+use Rattle.flow_ids.specs.Parts.{flow_destination}
+use Rattle.flow_encaps.specs.Unwrapped.{default_unwrapped, unwrapped}
+use Rattle.ipv4_forward.specs.Best.{best}
+use Rattle.ipv4_forward.specs.declared.table.Next.{Next}
+use Rattle.ipv4_forward.specs.declared.table.Next.TheVariants.{Via}
+use Rattle.ipv4_forward.specs.declared.table.Route.{Route}
+use Rattle.gsmp_wire.specs.declared.fault.Fault.{Fault as GsmpFault}
+use Rattle.gsmp_wire.specs.declared.message.Message.{Message}
+use Rattle.gsmp_wire.specs.declared.message.Message.TheVariants as messages
+use Rattle.gsmp_wire.specs.declared.request.Request.TheVariants.{DeleteAll}
+use Rattle.gsmp_wire.specs.Fields.{decoded as gsmp_decoded}
+use Rattle.link_model.specs.declared.frames.Frame.{Frame}
+use Rattle.link_model.specs.Ledger.{payload_of, is_frame}
+use Rattle.link_model.specs.Notes.{Journal}
+use Rattle.frame_model.specs.Frame.{Tested, tested, tested_by, payload_in, octets_of, last_mark}
+use Rattle.frame_model.specs.Reassembly.{Reassembly, Taken, taken, passed_over, without_slot, too_long, joined, most_cells}
+use Rattle.desk_model.specs.Desk.{Standing}
+use Rattle.desk_model.specs.Answers.{Answered, Unknown, Done, Ports, Failed, answered, after_answer}
+use Rattle.port_facts.proofs.Keyed.{on_both, on_each}
+use Rattle.controller_model.specs.Controller.{Controller, Acted, Linked, free_slots, ports_of, with_desk}
+use Rattle.controller_model.specs.Asking.{asks}
+use Rattle.controller_model.specs.Resets.{node_resets}
+use Rattle.controller_model.specs.Joins.{releases}
+use Rattle.controller_model.specs.Meeting.{up_ports, clears, clears_port, causes, done, takes_answer, answer_comes}
+use Rattle.controller_model.specs.Changes.{takes_changes}
+use Rattle.controller_model.specs.Gsmp.{steps, told, gsmp_holds}
+use Rattle.controller_model.specs.Cells.{Taker, ForGsmp, ForDefault, ForLabel, taker_of, takes_cell, reassembly_of, with_reassembly, label_holds, default_holds, frame_holds, opened_frame, ends_frame, after_cell, cell_comes}
+use Rattle.input_steps.specs.Hearing.{IsEnded}
+use Rattle.actor_pace.proofs.Paces.{Paces, paces_then, paces_fold, asks_paces, node_resets_paces}
+use Rattle.told_worlds.proofs.Pacing.{releases_paces, causes_paces, clears_of_paces, steps_paces, label_holds_paces, default_paces, with_reassembly_paces, noted_paces}
+use Rattle.told_worlds.proofs.Routing.{IsLent, changes_keep}
+use Rattle.controller_model.specs.Controller.{linked_at}
+
+-- *A chain is ended* by a last cell that is taken
+pub record IsWhole (slot : Bool) (r : Reassembly) (cell : Cell) (ended : List Cell) : Type 0 where
+  pub is_ended : IsEnded slot r cell
+  pub whole : ended ≡ r.chain ++ cell ∷ []
+
+pub whole_chain : (notes : Journal) (slot : Bool) (r : Reassembly) (cell first : Cell) (cells : List Cell) → (taken notes slot r cell).ended ≡ first ∷ cells → IsWhole slot r cell (first ∷ cells)
+whole_chain notes slot r cell first cells = on_each To r.is_skipping (passed_over notes r cell) _ (λ b e. absurd (cc e))
+    (λ listens. on_each To (not slot) (without_slot notes r cell) _ (λ b e. absurd (cc e))
+    (λ has. on_each To (nat_le most_cells (length r.chain)) (too_long notes r cell) (joined notes r cell) (λ b e. absurd (cc e))
+    (λ short. on_each To cell.header.last (record { reassembly = record r { chain = [] }; notes = notes; ended = r.chain ++ cell ∷ [] }) (record { reassembly = record r { chain = r.chain ++ cell ∷ [] }; notes = notes; ended = [] })
+    (λ last e. record { is_ended = record { listens = listens; slot_is = has; short = short; last = last }; whole = sym e }) (λ b e. absurd (cc e)))))
+  where
+    To : Taken → Type 0
+    To t = t.ended ≡ first ∷ cells → IsWhole slot r cell (first ∷ cells)
+
+module _ (q m : ℕ) (d : Addr) (port : PortNo) where
+  abbrev pub Routed : Acted → Type 0
+  Routed a = best a.controller.table d ≡ Some (Via port)
+
+  by_pace : (floor : ℕ) (a b : Acted) → Paces floor a b → Routed a → Routed b
+  by_pace floor a b pace route = ap (λ (table : List Route). best table d) pace.table ∙ route
+
+  -- *An answer* of a request that stood
+  abbrev pub now : Acted → Standing → Acted
+  now a s = with_desk a (after_answer a.controller.desk (Done s))
+
+  abbrev pub before_changes : Acted → Standing → Acted
+  before_changes a s = clears (causes (releases (now a s) s.request) s.request)
+
+  -- the join is there before changes of routes are taken
+  abbrev pub StaysLent : Acted → Standing → Type 0
+  StaysLent a s = (before_changes a s).controller.has_met ≡ true → IsLent (before_changes a s).controller.ports q m d
+
+  done_routed : (a : Acted) (s : Standing) → StaysLent a s → Routed a → Routed (done (now a s) s.request)
+  done_routed a s stays route =
+      let released : Acted = releases (now a s) s.request in
+      let caused : Acted = causes released s.request in
+      let pace : Paces 0 (now a s) (clears caused) = paces_then 0 (now a s) caused (clears caused) (paces_then 0 (now a s) released caused (releases_paces 0 (now a s) s.request) (causes_paces 0 released s.request))
+      (paces_fold 0 clears_port (λ b p. clears_of_paces 0 b (linked_at b.controller p)) (ports_of caused.controller) caused) in
+      changes_keep q m d port (clears caused) stays (by_pace 0 (now a s) (clears caused) pace route)
+
+  answer_routed : (a : Acted) (message : Message) → ((s : Standing) → answered a.controller.desk message ≡ Done s → StaysLent a s) → Routed a → Routed (answer_comes a message)
+  answer_routed a message stays route = by (answered a.controller.desk message) refl
+    where
+      by : (x : Answered) → answered a.controller.desk message ≡ x → Routed (takes_answer a x)
+      by Unknown is = route
+      by (Done s) is = done_routed a s (stays s is) route
+      by (Ports s rows) is = (let b : Acted = with_desk a (after_answer a.controller.desk (Ports s rows)) in
+          by_pace 0 b (takes_answer a (Ports s rows)) (paces_fold 0 asks (asks_paces 0) (map DeleteAll (record { 0 = 0 } ∷ up_ports b.controller)) b) route)
+      by (Failed s code) is = (let b : Acted = with_desk a (after_answer a.controller.desk (Failed s code)) in by_pace 0 b (node_resets b) (node_resets_paces 0 b) route)
+
+  told_routed : (a : Acted) (message : Message) → ((s : Standing) → answered a.controller.desk message ≡ Done s → StaysLent a s) → Routed a → Routed (told a message)
+  told_routed a (messages.Adjacency greeting) stays route =
+      by_pace 0 a (steps a (gsmp_received a.controller.adjacency greeting)) (steps_paces 0 a (gsmp_received a.controller.adjacency greeting)) route
+  told_routed a (messages.Branch kind result code number session input_port input output_port output branches priority) stays route =
+      answer_routed a (messages.Branch kind result code number session input_port input output_port output branches priority) stays route
+  told_routed a (messages.Move result code number session input_port input output_port output target_port target branches priority) stays route =
+      answer_routed a (messages.Move result code number session input_port input output_port output target_port target branches priority) stays route
+  told_routed a (messages.Port result code number port_is session function) stays route = answer_routed a (messages.Port result code number port_is session function) stays route
+  told_routed a (messages.AllPorts result code number rows) stays route = answer_routed a (messages.AllPorts result code number rows) stays route
+
+  gsmp_routed : (a : Acted) (r : Result Message GsmpFault) → ((message : Message) (s : Standing) → r ≡ Ok message → answered a.controller.desk message ≡ Done s → StaysLent a s) → Routed a → Routed (gsmp_holds a r)
+  gsmp_routed a (Ok message) stays route = told_routed a message (λ s is. stays message s refl is) route
+  gsmp_routed a (Err fault) stays route = by_pace 0 a (gsmp_holds a (Err fault)) (noted_paces 0 a (gsmp_holds a (Err fault)) refl refl) route
+
+  -- what the frame that a cell ends may answer
+  abbrev pub Stays : Acted → (b : Acted) → (taker : Taker) → (payload : List ℕ) → Type 0
+  Stays a b ForGsmp payload = (message : Message) (s : Standing) → gsmp_decoded payload ≡ Ok message → answered b.controller.desk message ≡ Done s → StaysLent b s
+  Stays a b (ForDefault linked) payload = Unit {0}
+  Stays a b (ForLabel linked label) payload = Unit {0}
+
+  frame_routed : (a b : Acted) (taker : Taker) (mark : Mark) (payload : List ℕ) → Stays a b taker payload → Routed b → Routed (frame_holds b taker mark payload)
+  frame_routed a b ForGsmp mark payload stays route = gsmp_routed b (gsmp_decoded payload) stays route
+  frame_routed a b (ForDefault linked) mark payload stays route =
+      by_pace (mark.frame + 1) b (default_holds b linked.setup.port mark (default_unwrapped payload)) (default_paces (mark.frame + 1) b linked.setup.port mark (default_unwrapped payload) (omega arith)) route
+  frame_routed a b (ForLabel linked label) mark payload stays route =
+      by_pace (mark.frame + 1) b (label_holds b linked label mark (unwrapped label.flow payload)) (label_holds_paces (mark.frame + 1) b linked label mark (unwrapped label.flow payload) (omega arith)) route
+
+  -- *A cell*
+  abbrev pub gathered : Acted → Cell → Taker → Acted
+  gathered a cell taker =
+      let t : Taken = taken a.notes (nat_lt 0 (free_slots a.controller)) (reassembly_of a.controller taker) cell in
+      with_reassembly (record a { notes = t.notes }) taker t.reassembly
+
+  abbrev pub CellStays : Acted → Cell → Type 0
+  CellStays a cell = (taker : Taker) (first : Cell) (cells : List Cell) (payload : List ℕ) → taker_of a.controller cell.header.channel ≡ Some taker
+      → (taken a.notes (nat_lt 0 (free_slots a.controller)) (reassembly_of a.controller taker) cell).ended ≡ first ∷ cells → payload_in (octets_of (first ∷ cells)) ≡ Some payload
+      → Stays a (record (gathered a cell taker) { notes = (tested_by (gathered a cell taker).notes (first ∷ cells) (Some payload)).notes }) taker payload
+
+  pub cell_routed : (a : Acted) (cell : Cell) → CellStays a cell → Routed a → Routed (cell_comes a cell)
+  cell_routed a cell stays route = by (taker_of a.controller cell.header.channel) refl
+    where
+      by_taker : (taker : Taker) → taker_of a.controller cell.header.channel ≡ Some taker → Routed (takes_cell a cell (Some taker))
+      by_taker taker is = by_ended (taken a.notes (nat_lt 0 (free_slots a.controller)) (reassembly_of a.controller taker) cell).ended refl
+        where
+          b : Acted
+          b = gathered a cell taker
+
+          noted : Acted
+          noted = record a { notes = (taken a.notes (nat_lt 0 (free_slots a.controller)) (reassembly_of a.controller taker) cell).notes }
+
+          there : Routed b
+          there = by_pace 0 noted b (with_reassembly_paces 0 noted taker (taken a.notes (nat_lt 0 (free_slots a.controller)) (reassembly_of a.controller taker) cell).reassembly) route
+
+          by_ended : (es : List Cell) → (taken a.notes (nat_lt 0 (free_slots a.controller)) (reassembly_of a.controller taker) cell).ended ≡ es → Routed (ends_frame b taker es)
+          by_ended [] e = there
+          by_ended (first ∷ cells) e = by_payload (payload_in (octets_of (first ∷ cells))) refl
+            where
+              by_payload : (o : Option (List ℕ)) → payload_in (octets_of (first ∷ cells)) ≡ o
+                  → Routed (opened_frame (record b { notes = (tested_by b.notes (first ∷ cells) o).notes }) taker (last_mark (first ∷ cells)) (tested_by b.notes (first ∷ cells) o).payload)
+              by_payload None p = there
+              by_payload (Some payload) p = frame_routed a (record b { notes = (tested_by b.notes (first ∷ cells) (Some payload)).notes }) taker (last_mark (first ∷ cells)) payload (stays taker first cells payload is e p) there
+
+      by : (o : Option Taker) → taker_of a.controller cell.header.channel ≡ o → Routed (takes_cell a cell o)
+      by None is = route
+      by (Some taker) is = by_taker taker is

@@ -1,0 +1,67 @@
+//! What the controllers of a network say, note and take up in each event of a run, by what was so before it: a label that
+//! an event binds was being wired, and nobody used it; whoever uses a label stands for the flow that it was bound to last; and
+//! the instances that ports have, tell and store are such as the ports were cleared under.
+//!
+//! And the flow that an output's label was bound to last is one hop further than that of the input that is joined to it, or may
+//! be, by the route of the table that is held.
+//!
+//! `specs/Before` has the words of `port_words` for a past of a run, `specs/Bound` the statements of bindings, `specs/Hops` that
+//! of joins. `proofs/Start`, `Heeds` and `Bound` lead a controller through each event; `Ways` to `Events` say where the cells
+//! between two ends of a link come from, and `Kept` reads it off behind an event; `Pacing` to `Hops` follow the routes of joins.
+//! There is no code that runs.
+#![tactic(auto)]
+
+ghost use Rattle.run_facts.specs.Nodes.{RunsHaveNodes};
+ghost use Rattle.run_facts.specs.Steps.{EventsAreSteps, RunsHaveFronts};
+ghost use Rattle.world_views.specs.Between.{HasAllCleared, HasAllHops, HasAllUsers};
+ghost use Rattle.world_views.specs.Kept.{Begins, Keeps};
+ghost use Rattle.pairs.specs.Asked.{AnswersSettle};
+ghost use Rattle.pairs.specs.Past.{RunsMakeNoPairs};
+ghost use Rattle.told_worlds.specs.Bound.{BindsAreWired, BoundLabelsAreUnused};
+ghost use Rattle.told_worlds.specs.Hops.{RunsLeadOn};
+
+use frame_readings::frames_are_read;
+use label_line::label_is_owned;
+use run_facts::nodes_are_steady;
+use running_worlds::{frames_are_made, worlds_are_running};
+use unused_labels::labels_are_unused;
+
+/// Each label that an event binds was being wired for its flow, and nobody used it. It calls the laws of what is read in frames,
+/// of chains that pass, and of a label's line, and its contract is the statement.
+pub fn labels_are_bound_unused()
+    ensures wired { RunsHaveNodes → RunsHaveFronts → EventsAreSteps → BindsAreWired }
+    ensures unused { RunsHaveNodes → RunsHaveFronts → EventsAreSteps → BoundLabelsAreUnused }
+{
+    frames_are_read();
+    worlds_are_running();
+    labels_are_unused();
+}
+
+/// Each event keeps who may use a label and the instances under which ports were cleared, and at the opening they are so.
+/// It calls the laws of what is so of every run, of frames, of chains that pass, and of a label's line, and its contract
+/// is the statement.
+pub fn users_are_kept()
+    ensures cleared { Keeps HasAllCleared }
+    ensures cleared_begin { Begins HasAllCleared }
+    ensures users { Keeps HasAllUsers }
+    ensures users_begin { Begins HasAllUsers }
+{
+    nodes_are_steady();
+    frames_are_made();
+    frames_are_read();
+    worlds_are_running();
+    label_is_owned();
+}
+
+/// Each event leaves joins one hop apart, where no event makes a pair of labels but by the joins that a tick enters, answers
+/// settle what is joined, and nobody uses a label that the event binds; and at the opening there are none. It calls the laws of
+/// what is so of every run, of frames, of chains that pass and of labels that are bound, and its contract is the statement.
+pub fn joins_lead_on()
+    ensures events { RunsMakeNoPairs → AnswersSettle → RunsLeadOn }
+    ensures opening { Begins HasAllHops }
+{
+    nodes_are_steady();
+    frames_are_read();
+    worlds_are_running();
+    labels_are_bound_unused();
+}

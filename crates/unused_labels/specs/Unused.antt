@@ -1,0 +1,33 @@
+-- A label that is spare or wired has no user, where what goes between controllers and switches is on its own channel
+
+use Rattle.std.specs.Prelude.{◌≡◌, ℕ, true, Contains, Some}
+use Rattle.net_types.specs.declared.node.Place.TheVariants.{Down}
+use Rattle.net_types.specs.Label.{is_label_number}
+use Rattle.atm_cells.specs.declared.cell.Cell.{Cell}
+use Rattle.flow_ids.specs.declared.flow.FlowId.{FlowId}
+use Rattle.desk_model.specs.Desk.{Standing}
+use Rattle.port_model.specs.Port.{Session}
+use Rattle.controller_model.specs.Controller.{default_channel}
+use Rattle.controller_model.specs.Cells.{same_channel}
+use Rattle.world_model.specs.Conditions.{IsTopology}
+use Rattle.world_model.specs.World.{World}
+use Rattle.world_model.specs.Places.{queue_at}
+use Rattle.world_model.specs.Ways.{session_at, copy_under, on_the_way, on_default_channel}
+use Rattle.world_model.specs.Past.{Past}
+use Rattle.world_model.specs.Users.{Way, IsWay, IsRedirect, IsUnused}
+use Rattle.world_model.specs.Owned.{IsSpareOrWired, held}
+use Rattle.world_views.specs.Between.{IsWorld}
+
+-- *Channels of their own*: each copy of a request waits for the switch on GSMP's channel, and each REDIRECT of a label
+-- between the two ends of a link is on the default channel of its way
+pub record HasOwnChannels (w : World) (way : Way) (label : ℕ) : Type 0 where
+  pub copies : (cell : Cell) (s : Standing) → Contains (queue_at w (Down way.up.node)) cell → copy_under w.notes.frames cell.mark ≡ Some s
+      → same_channel cell.header.channel default_channel ≡ true
+  pub redirects : (cell : Cell) (flow : FlowId) → Contains (on_the_way w way.down way.up) cell → IsRedirect w way label cell.mark flow
+      → Contains (on_default_channel w way.down way.up) cell
+
+-- *Nobody uses* a label that is spare or wired in an open session
+abbrev pub SpareLabelsAreUnused : Type 0
+SpareLabelsAreUnused = (past : Past) → IsTopology past.topology → IsWorld past → (way : Way) → IsWay past.topology way → (label : ℕ)
+    → is_label_number label ≡ true → HasOwnChannels past.now way label → (session : Session) → session_at past.now way.down ≡ Some session
+    → IsSpareOrWired (held session label) → IsUnused past.now way label

@@ -1,0 +1,2 @@
+//! What stands on the way between two controllers behind an event of a network. There is no code that runs.
+#![tactic(auto)]
