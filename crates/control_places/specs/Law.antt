@@ -1,0 +1,17 @@
+-- Control frames between a controller and its switch stay on GSMP's channel, or on channels of ports of links
+
+use Rattle.std.specs.Prelude.{List}
+use Rattle.port_model.specs.Setup.{Policy}
+use Rattle.world_model.specs.declared.event.Event.{Event}
+use Rattle.world_model.specs.Topology.{Topology}
+use Rattle.world_model.specs.Past.{past_of}
+use Rattle.world_views.specs.Between.{IsWorld}
+use Rattle.world_views.specs.Kept.{Comes, Begins, behind}
+use Rattle.ownership.specs.Places.{HasPlaces}
+
+abbrev pub PlacesAreKept : Type 0
+PlacesAreKept = (policy : Policy) (topology : Topology) (before : List Event) (event : Event) → Comes policy topology before event
+    → IsWorld (past_of policy topology before) → HasPlaces (past_of policy topology before) → HasPlaces (behind policy topology before event)
+
+abbrev pub PlacesBegin : Type 0
+PlacesBegin = Begins HasPlaces

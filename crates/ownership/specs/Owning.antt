@@ -1,0 +1,49 @@
+-- What is so of each label of each link in a network of a run, between its events: that it is owned
+
+use Rattle.std.specs.Prelude.{◌≡◌, true, Contains, Some}
+use Rattle.net_types.specs.declared.node.Place.TheVariants.{Down}
+use Rattle.atm_cells.specs.declared.cell.Cell.{Cell}
+use Rattle.ifmp_wire.specs.declared.message.Message.{Message}
+use Rattle.ifmp_wire.specs.Message.{names_of}
+use Rattle.desk_model.specs.Desk.{Standing}
+use Rattle.crossbar_model.specs.Channels.{IsLinkPort}
+use Rattle.ordered_lists.specs.Ordered.{Every}
+use Rattle.port_model.specs.Setup.{Setup}
+use Rattle.controller_model.specs.Controller.{default_channel}
+use Rattle.controller_model.specs.Cells.{same_channel}
+use Rattle.world_model.specs.Conditions.{IsTopology}
+use Rattle.world_model.specs.declared.link.LinkEnd.{LinkEnd}
+use Rattle.world_model.specs.World.{World}
+use Rattle.world_model.specs.Places.{queue_at}
+use Rattle.world_model.specs.Ways.{side_at, on_the_way, on_default_channel, ifmp_under, copy_under}
+use Rattle.world_model.specs.Past.{Past}
+use Rattle.world_model.specs.Users.{Way, IsWay, IsOwn}
+use Rattle.world_model.specs.Headline.{AreOwned}
+use Rattle.controller_facts.specs.Sound.{IsSound}
+use Rattle.controller_law.specs.Match.{IsMatched}
+use Rattle.world_views.specs.Tied.{tells_its_own}
+use Rattle.world_views.specs.Between.{EachSite, IsWorld, setups_of}
+
+-- a network of a run whose controllers are sound, with joins and grants that match
+pub record IsKept (past : Past) : Type 0 where
+  pub topology_is : IsTopology past.topology
+  pub world : IsWorld past
+  pub sound : EachSite past.now (λ node site. IsSound (setups_of site.controller) site.controller)
+  pub links : EachSite past.now (λ node site. Every (λ (setup : Setup). IsLinkPort setup.port) (setups_of site.controller))
+  pub matched : EachSite past.now (λ node site. IsMatched site.controller.ports site.controller.desk)
+
+-- *Channels of their own*: each message of IFMP of its sender's own words, with the instance that the sender has, is on the
+-- default channel of its way; and each copy of a request is on GSMP's channel
+abbrev pub HasOwnTold : World → (from to : LinkEnd) → Type 0
+HasOwnTold w from to =
+    (cell : Cell) (message : Message) → Contains (on_the_way w from to) cell → ifmp_under w.notes.frames cell.mark ≡ Some message
+    → tells_its_own message ≡ true → IsOwn (names_of message).sender (side_at w from) → Contains (on_default_channel w from to) cell
+
+pub record HasOwnWays (past : Past) : Type 0 where
+  pub copies : (way : Way) → IsWay past.topology way → (cell : Cell) (s : Standing) → Contains (queue_at past.now (Down way.up.node)) cell
+      → copy_under past.now.notes.frames cell.mark ≡ Some s → same_channel cell.header.channel default_channel ≡ true
+  pub told : (way : Way) → IsWay past.topology way → HasOwnTold past.now way.down way.up × HasOwnTold past.now way.up way.down
+
+-- *Each label of each link is owned*
+abbrev pub LabelsAreOwned : Type 0
+LabelsAreOwned = (past : Past) → IsKept past → HasOwnWays past → AreOwned past
