@@ -1,0 +1,263 @@
+-- what of packets, flows and routes the law of packets uses
+
+use Rattle.std.proofs.Common.{◌≡◌, ℕ, zero, suc, ◌++◌, take, drop, slice_set, ◌-◌, ◌/◌, ◌%◌, ◌<◌, ◌≤◌, ◌==◌, Bool, true, false, not, nat_lt, nat_le, List, [], ◌∷◌, length, slice_index, Option, None, Some, Ok, refl, sym, ◌∙◌, ap, ap₂, subst, arith, if◌then◌else◌}
+use Rattle.std.proofs.lemmas.Bool.Decides.{nat_tests}
+use Rattle.std.proofs.lemmas.List.{length-set}
+use Rattle.ipv4_packet.specs.Packet.{ttl_of, destination_of, protocol_of, total_length_of, header_sum, with_ttl, canonical, canonical_checksum, first_fault, IsPacket}
+use Rattle.ipv4_packet.specs.declared.validate.PacketFault.{PacketFault}
+use Rattle.ipv4_packet.specs.declared.validate.PacketFault.TheVariants.{Short, Version, Options, Length, TooLong, Checksum}
+use Rattle.std.specs.Int.{w16, to_be_bytes}
+use Rattle.octet_fields.proofs.FieldLemmas.{AreOctets, AreOctets-take, AreOctets-drop}
+use Rattle.flow_encaps.proofs.RebuiltLemmas.{AreOctets-pair}
+use Rattle.ipv4_packet.proofs.HeaderLemmas.{IsPacket-with_ttl}
+use Rattle.ipv4_packet.proofs.RouteLemmas.{canonical-canonical, protocol_of-rerouted}
+use Rattle.plain_laws.proofs.Packets.{fault_onward}
+use Rattle.link_model.specs.declared.record.Refusal.{Refusal}
+use Rattle.link_model.specs.declared.record.Refusal.TheVariants.{ControlProtocol}
+use Rattle.controller_model.specs.Packets.{control_protocol, refused_by, inject_refusal}
+use Rattle.ipv4_forward.specs.Best.{best}
+use Rattle.ipv4_forward.specs.Hop.{hop_by, hop_of, onward}
+use Rattle.ipv4_forward.specs.declared.table.Next.{Next}
+use Rattle.ipv4_forward.specs.declared.table.Next.TheVariants.{Local, Via}
+use Rattle.ipv4_forward.specs.declared.table.Route.{Route}
+use Rattle.ipv4_forward.specs.declared.outcome.Hop.{Hop}
+use Rattle.ipv4_forward.specs.declared.outcome.Hop.TheVariants.{Here, NoRoute, On, Expired}
+use Rattle.net_types.specs.declared.node.PortNo.{PortNo}
+use Rattle.flow_ids.specs.declared.flow.FlowKind.{FlowKind}
+use Rattle.flow_ids.specs.declared.flow.FlowKind.TheVariants.{One as ConnectionKind, Two as HostsKind}
+use Rattle.flow_ids.specs.declared.flow.FlowId.{FlowId}
+use Rattle.flow_ids.specs.Parts.{flow_destination}
+use Rattle.flow_ids.specs.Flow.{kind_of, flow_ttl, at_ttl, flow_of, next_hop_of}
+use Rattle.flow_encaps.specs.Default.{default_payload}
+use Rattle.flow_encaps.specs.Unwrapped.{default_unwrapped, unwrapped, unwrapped_by}
+use Rattle.flow_encaps.specs.Labelled.{labelled_payload, Carries}
+use Rattle.flow_encaps.proofs.CarryLemmas.{packet-carried, unwrap_fault-carried, Carries-next_hop}
+
+-- where packets of a flow go
+abbrev pub flow_hop : List Route → FlowId → Hop
+flow_hop routes flow = hop_by (flow_ttl flow) (best routes (flow_destination flow))
+
+-- a packet's flow has its time to live and its destination
+some_flow : (test : Bool) (flow other : FlowId) → (if test then Some flow else None) ≡ Some other → flow ≡ other
+some_flow true flow other e = cc
+some_flow false flow other e = absurd (cc e)
+
+pub flow_tells : (kind : FlowKind) (flow : FlowId) (packet : List ℕ) → flow_of kind packet ≡ Some flow → (flow_ttl flow ≡ ttl_of packet) × (flow_destination flow ≡ destination_of packet)
+flow_tells ConnectionKind flow packet e =
+    let same = some_flow _ _ flow e in (ap flow_ttl (sym same), ap flow_destination (sym same))
+flow_tells HostsKind flow packet e =
+    let same = some_flow _ _ flow e in (ap flow_ttl (sym same), ap flow_destination (sym same))
+
+-- (1) the flow tells the packet's route
+pub route_is : (routes : List Route) (flow : FlowId) (packet payload : List ℕ) → Carries flow packet payload → hop_of routes packet ≡ flow_hop routes flow
+route_is routes flow packet payload c =
+    let t = flow_tells (kind_of flow) flow packet c.of_flow in
+    ap₂ (λ ttl destination. hop_by ttl (best routes destination)) (sym t.0) (sym t.1)
+
+-- a hop needs a time to live above 1
+alive_by : (ttl : ℕ) (next : Option Next) (port : PortNo) → hop_by ttl next ≡ On port → 1 < ttl
+alive_by ttl None port e = absurd (cc e)
+alive_by ttl (Some Local) port e = absurd (cc e)
+alive_by ttl (Some (Via q)) port e =
+    let by : (b : Bool) → nat_le ttl 1 ≡ b → (if b then Expired else On q) ≡ On port → 1 < ttl = λ b.
+    elim b as (λ v. nat_le ttl 1 ≡ v → (if v then Expired else On q) ≡ On port → 1 < ttl) [ true ↦ λ t f. absurd (cc f) | false ↦ λ t f. grind (arith, nat_tests) ] in
+    by (nat_le ttl 1) refl e
+
+pub alive : (routes : List Route) (packet : List ℕ) (port : PortNo) → hop_of routes packet ≡ On port → 1 < ttl_of packet
+alive routes packet port e = alive_by (ttl_of packet) (best routes (destination_of packet)) port e
+
+next_is : (flow : FlowId) → 1 < flow_ttl flow → next_hop_of flow ≡ Some (at_ttl flow (flow_ttl flow - 1))
+next_is flow more = let test : nat_le (flow_ttl flow) 1 ≡ false = grind (arith, nat_tests) in rw test refl
+
+-- (2) a joined cell: the same payload is the next packet's, under the next flow's label
+pub hop_carries : (routes : List Route) (flow : FlowId) (packet payload : List ℕ) (port : PortNo) → Carries flow packet payload → flow_hop routes flow ≡ On port
+    → (next : FlowId) × (next_hop_of flow ≡ Some next) × Carries next (onward packet) payload
+hop_carries routes flow packet payload port c on =
+    let t = flow_tells (kind_of flow) flow packet c.of_flow in
+    let more : 1 < flow_ttl flow = alive_by (flow_ttl flow) (best routes (flow_destination flow)) port on in
+    let next : next_hop_of flow ≡ Some (at_ttl flow (flow_ttl flow - 1)) = next_is flow more in (
+      at_ttl flow (flow_ttl flow - 1),
+      next,
+      subst (λ ttl. Carries (at_ttl flow (flow_ttl flow - 1)) (canonical (with_ttl packet (ttl - 1))) payload) t.0 (Carries-next_hop flow (at_ttl flow (flow_ttl flow - 1)) packet payload c next),
+    )
+
+-- (3) what is sent on is canonical, so a grant's label carries it
+pub wraps : (flow : FlowId) (packet : List ℕ) → IsPacket packet → AreOctets (onward packet) → flow_of (kind_of flow) (onward packet) ≡ Some flow
+    → Carries flow (onward packet) (labelled_payload (kind_of flow) (onward packet))
+wraps flow packet p octets is = record {
+  octets = λ i. omega (arith, octets i);
+  is_packet = IsPacket-with_ttl packet (ttl_of packet - 1) p;
+  is_canonical = canonical-canonical (with_ttl packet (ttl_of packet - 1)) (long (with_ttl packet (ttl_of packet - 1)) packet p);
+  of_flow = is;
+  filled = refl;
+}
+  where
+    long : (other packet : List ℕ) → IsPacket packet → 20 ≤ length (with_ttl packet (ttl_of packet - 1))
+    long other packet p = rw (length-set packet 8 (ttl_of packet - 1)) p.has_header
+
+-- (4) and the receiver finds it
+pub opens : (flow : FlowId) (packet payload : List ℕ) → Carries flow packet payload → unwrapped flow payload ≡ Ok packet
+unfolding unwrapped
+opens flow packet payload carried =
+    ap (unwrapped_by flow payload) (unwrap_fault-carried flow packet payload carried) ∙ ap (λ (octets : List ℕ). Ok octets) (packet-carried flow packet payload carried)
+
+-- *What may be sent*
+
+octets_append : (front back : List ℕ) → AreOctets front → AreOctets back → AreOctets (front ++ back)
+octets_append [] back small more place = more place
+octets_append (octet ∷ front) back small more zero = small 0
+octets_append (octet ∷ front) back small more (suc place) = octets_append front back (λ (i : ℕ). small (suc i)) more place
+
+octets_set : (octets : List ℕ) (place octet : ℕ) → octet < 256 → AreOctets octets → AreOctets (slice_set octets place octet)
+octets_set [] place octet is small i = small i
+octets_set (first ∷ octets) zero octet is small zero = is
+octets_set (first ∷ octets) zero octet is small (suc i) = small (suc i)
+octets_set (first ∷ octets) (suc place) octet is small zero = small 0
+octets_set (first ∷ octets) (suc place) octet is small (suc i) = octets_set octets place octet is (λ (j : ℕ). small (suc j)) i
+
+byte_small : (number : ℕ) → number % 256 < 256
+byte_small number = omega arith
+
+octets_canonical : (octets : List ℕ) → AreOctets octets → AreOctets (canonical octets)
+octets_canonical octets small =
+    let checksum = canonical_checksum octets in
+    octets_append (take 10 octets) (to_be_bytes w16 checksum ++ drop 12 octets) (AreOctets-take octets 10 small)
+    (octets_append (to_be_bytes w16 checksum) (drop 12 octets) (AreOctets-pair (checksum / 256 % 256) (checksum % 256) (byte_small (checksum / 256)) (byte_small checksum)) (AreOctets-drop octets 12 small))
+
+pub octets_onward : (packet : List ℕ) → AreOctets packet → AreOctets (onward packet)
+octets_onward packet small = octets_canonical (with_ttl packet (ttl_of packet - 1)) (octets_set packet 8 (ttl_of packet - 1) (omega (arith, small 8)) small)
+
+guard : (b : Bool) (fault : PacketFault) (rest : Option PacketFault) → (if b then Some fault else rest) ≡ None → (b ≡ false) × (rest ≡ None)
+guard true fault rest e = absurd (cc e)
+guard false fault rest e = (refl, e)
+
+-- the tests of a receiver are all that a packet is
+pub packet_of : (octets : List ℕ) → first_fault octets ≡ None → IsPacket octets
+packet_of octets none =
+    let a = guard (nat_lt (length octets) 20) Short _ none in
+    let b = guard (not (slice_index octets 0 / 16 == 4)) Version _ a.1 in
+    let c = guard (not (slice_index octets 0 % 16 == 5)) Options _ b.1 in
+    let d = guard (not (total_length_of octets == length octets)) Length _ c.1 in
+    let e = guard (nat_lt 1500 (length octets)) TooLong _ d.1 in
+    let f = guard (not (header_sum octets == 65535)) Checksum _ e.1 in
+    record {
+      has_header = grind (arith, nat_tests, a.0);
+      fits_mtu = grind (arith, nat_tests, e.0);
+      version_and_header_length = first_octet (slice_index octets 0) b.0 c.0;
+      own_length = grind (arith, nat_tests, d.0);
+      sums_up = grind (arith, nat_tests, f.0);
+    }
+  where
+    first_octet : (n : ℕ) → not (n / 16 == 4) ≡ false → not (n % 16 == 5) ≡ false → n ≡ 69
+    first_octet n e f =
+        let high : n / 16 ≡ 4 = grind (arith, nat_tests, e) in
+        let low : n % 16 ≡ 5 = grind (arith, nat_tests, f) in
+        omega (arith, high, low)
+
+-- what may be sent may be sent on
+protocol_test : (b : Bool) → ◌≡◌ {A = Option Refusal} (if b then Some ControlProtocol else None) None → b ≡ false
+protocol_test true e = absurd (cc e)
+protocol_test false e = refl
+
+parts_by : (octets : List ℕ) (fault : Option PacketFault) → refused_by octets fault ≡ None → (fault ≡ None) × ((protocol_of octets == control_protocol) ≡ false)
+parts_by octets None e = (refl, protocol_test (protocol_of octets == control_protocol) e)
+parts_by octets (Some fault) e = absurd (cc e)
+
+pub accepted_parts : (octets : List ℕ) → inject_refusal octets ≡ None → (first_fault octets ≡ None) × ((protocol_of octets == control_protocol) ≡ false)
+accepted_parts octets e = parts_by octets (first_fault octets) e
+
+pub accepted_onward : (packet : List ℕ) → inject_refusal packet ≡ None → inject_refusal (onward packet) ≡ None
+accepted_onward packet e =
+    let parts = accepted_parts packet e in
+    let protocol : protocol_of (onward packet) ≡ protocol_of packet = protocol_of-rerouted packet (ttl_of packet - 1) (packet_of packet parts.0).has_header in
+    let other : (protocol_of (onward packet) == control_protocol) ≡ false = ap (λ n. n == control_protocol) protocol ∙ parts.1 in
+    rw (fault_onward packet parts.0, other) refl
+
+-- *What a hop is*, by the route
+pub record IsHop (routes : List Route) (packet : List ℕ) (port : PortNo) : Type 0 where
+  pub lives : 2 ≤ ttl_of packet
+  pub routed : best routes (destination_of packet) ≡ Some (Via port)
+
+on_by : (ttl : ℕ) (next : Option Next) (port : PortNo) → hop_by ttl next ≡ On port → next ≡ Some (Via port)
+on_by ttl None port e = absurd (cc e)
+on_by ttl (Some Local) port e = absurd (cc e)
+on_by ttl (Some (Via q)) port e =
+    let by : (b : Bool) → (if b then Expired else On q) ≡ On port → Some (Via q) ≡ Some (Via port) = λ b.
+    elim b as (λ v. (if v then Expired else On q) ≡ On port → Some (Via q) ≡ Some (Via port)) [ true ↦ λ f. absurd (cc f) | false ↦ λ f. (let same : q ≡ port = cc in ap (λ (p : PortNo). Some (Via p)) same) ] in
+    by (nat_le ttl 1) e
+
+pub goes_on : (routes : List Route) (packet : List ℕ) (port : PortNo) → hop_of routes packet ≡ On port → IsHop routes packet port
+goes_on routes packet port e = record { lives = omega (arith, alive routes packet port e); routed = on_by (ttl_of packet) (best routes (destination_of packet)) port e }
+
+here_by : (ttl : ℕ) (next : Option Next) → hop_by ttl next ≡ Here → next ≡ Some Local
+here_by ttl None e = absurd (cc e)
+here_by ttl (Some Local) e = refl
+here_by ttl (Some (Via q)) e =
+    let by : (b : Bool) → (if b then Expired else On q) ≡ Here → Some (Via q) ≡ Some Local = λ b.
+    elim b as (λ v. (if v then Expired else On q) ≡ Here → Some (Via q) ≡ Some Local) [ true ↦ λ f. absurd (cc f) | false ↦ λ f. absurd (cc f) ] in
+    by (nat_le ttl 1) e
+
+pub stays_here : (routes : List Route) (packet : List ℕ) → hop_of routes packet ≡ Here → best routes (destination_of packet) ≡ Some Local
+stays_here routes packet e = here_by (ttl_of packet) (best routes (destination_of packet)) e
+
+nowhere_by : (ttl : ℕ) (next : Option Next) → hop_by ttl next ≡ NoRoute → next ≡ None
+nowhere_by ttl None e = refl
+nowhere_by ttl (Some Local) e = absurd (cc e)
+nowhere_by ttl (Some (Via q)) e =
+    let by : (b : Bool) → (if b then Expired else On q) ≡ NoRoute → Some (Via q) ≡ None = λ b.
+    elim b as (λ v. (if v then Expired else On q) ≡ NoRoute → Some (Via q) ≡ None) [ true ↦ λ f. absurd (cc f) | false ↦ λ f. absurd (cc f) ] in
+    by (nat_le ttl 1) e
+
+pub goes_nowhere : (routes : List Route) (packet : List ℕ) → hop_of routes packet ≡ NoRoute → best routes (destination_of packet) ≡ None
+goes_nowhere routes packet e = nowhere_by (ttl_of packet) (best routes (destination_of packet)) e
+
+pub record Expires (routes : List Route) (packet : List ℕ) : Type 0 where
+  pub port : PortNo
+  pub routed : best routes (destination_of packet) ≡ Some (Via port)
+  pub ended : ttl_of packet ≤ 1
+
+expired_by : (ttl : ℕ) (next : Option Next) → hop_by ttl next ≡ Expired → (port : PortNo) × (next ≡ Some (Via port)) × (ttl ≤ 1)
+expired_by ttl None e = absurd (cc e)
+expired_by ttl (Some Local) e = absurd (cc e)
+expired_by ttl (Some (Via q)) e =
+    let by : (b : Bool) → nat_le ttl 1 ≡ b → (if b then Expired else On q) ≡ Expired → (port : PortNo) × (Some (Via q) ≡ Some (Via port)) × (ttl ≤ 1) = λ b.
+    elim b as (λ v. nat_le ttl 1 ≡ v → (if v then Expired else On q) ≡ Expired → (port : PortNo) × (Some (Via q) ≡ Some (Via port)) × (ttl ≤ 1)) [
+      | true ↦ λ t f. (q, refl, grind (arith, nat_tests, t))
+      | false ↦ λ t f. absurd (cc f)
+    ] in
+    by (nat_le ttl 1) refl e
+
+pub expires : (routes : List Route) (packet : List ℕ) → hop_of routes packet ≡ Expired → Expires routes packet
+expires routes packet e = (let x = expired_by (ttl_of packet) (best routes (destination_of packet)) e in record { port = x.0; routed = x.1; ended = x.2 })
+
+-- *Under a label*: what a flow's label carries goes by the flow's route, and is carried on under the flow one hop further
+pub record GoesOn (routes : List Route) (next : FlowId) (packet payload : List ℕ) (port : PortNo) : Type 0 where
+  pub hop : IsHop routes packet port
+  pub carried : Carries next (onward packet) payload
+
+next_lives : (flow next : FlowId) → next_hop_of flow ≡ Some next → 1 < flow_ttl flow
+next_lives flow next e =
+    let by : (b : Bool) → nat_le (flow_ttl flow) 1 ≡ b → (if b then None else Some (at_ttl flow (flow_ttl flow - 1))) ≡ Some next → 1 < flow_ttl flow = λ b.
+    elim b as (λ v. nat_le (flow_ttl flow) 1 ≡ v → (if v then None else Some (at_ttl flow (flow_ttl flow - 1))) ≡ Some next → 1 < flow_ttl flow) [
+      | true ↦ λ t f. absurd (cc f)
+      | false ↦ λ t f. grind (arith, nat_tests, t)
+    ] in
+    by (nat_le (flow_ttl flow) 1) refl e
+
+pub carried_on : (routes : List Route) (flow next : FlowId) (packet payload : List ℕ) (port : PortNo) → Carries flow packet payload → best routes (flow_destination flow) ≡ Some (Via port)
+    → next_hop_of flow ≡ Some next → GoesOn routes next packet payload port
+carried_on routes flow next packet payload port c routed further =
+    let t = flow_tells (kind_of flow) flow packet c.of_flow in
+    record {
+      hop = record {
+        lives = omega (arith, next_lives flow next further, t.0);
+        routed = ap (best routes) (sym t.1) ∙ routed;
+      };
+      carried = subst (λ ttl. Carries next (canonical (with_ttl packet (ttl - 1))) payload) t.0 (Carries-next_hop flow next packet payload c further);
+    }
+
+-- *Frames of default channels*
+pub unwrapped_plain : (packet : List ℕ) → default_unwrapped (default_payload packet) ≡ Ok packet
+unwrapped_plain packet =
+    let long : nat_lt (length (default_payload packet)) 8 ≡ false = grind (arith, nat_tests) in
+    rw long refl

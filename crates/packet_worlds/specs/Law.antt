@@ -1,0 +1,40 @@
+-- What an event keeps of packets
+
+use Rattle.std.specs.Prelude.{ℕ, List, Contains}
+use Rattle.flow_ids.specs.declared.flow.FlowId.{FlowId}
+use Rattle.link_model.specs.declared.record.Record.TheVariants.{Bind}
+use Rattle.port_model.specs.Setup.{Policy}
+use Rattle.world_model.specs.declared.event.Event.{Event}
+use Rattle.world_model.specs.Topology.{Topology}
+use Rattle.world_model.specs.Past.{Past, past_of}
+use Rattle.world_model.specs.Users.{Way, IsWay, IsUnused}
+use Rattle.world_model.specs.Headline.{HasFatesOnce}
+use Rattle.world_views.specs.Between.{IsWorld, HasMeanings, HasPacketsOnce}
+use Rattle.world_views.specs.Kept.{Comes, behind, Begins}
+use Rattle.packet_worlds.specs.Channels.{HasChannels}
+
+-- nobody may use a label before the event that binds it
+abbrev pub BindsUnusedAt : Policy → Topology → (before : List Event) → Event → Type 0
+BindsUnusedAt policy topology before event =
+    (way : Way) (label : ℕ) (flow : FlowId)
+    → Contains (behind policy topology before event).now.notes.records (Bind way.down.node way.down.port label flow)
+    → IsWay topology way → IsUnused (past_of policy topology before).now way label
+
+-- what cells mean, that packets are once, and on which channels cells stand
+pub record HasPackets (past : Past) : Type 0 where
+  pub meanings : HasMeanings past
+  pub packets : HasPacketsOnce past
+  pub channels : HasChannels past
+
+abbrev pub PacketsAreKept : Type 0
+PacketsAreKept = (policy : Policy) (topology : Topology) (before : List Event) (event : Event) → Comes policy topology before event
+    → IsWorld (past_of policy topology before) → HasChannels (past_of policy topology before) → BindsUnusedAt policy topology before event
+    → HasPackets (behind policy topology before event)
+
+abbrev pub PacketsBegin : Type 0
+PacketsBegin = Begins HasPackets
+
+-- and then each packet has one fate at most
+abbrev pub FatesAreOnce : Type 0
+FatesAreOnce = (policy : Policy) (topology : Topology) (events : List Event) → HasPacketsOnce (past_of policy topology events)
+    → HasFatesOnce (past_of policy topology events)

@@ -1,0 +1,9 @@
+pub mod Sending
+pub mod Grants
+pub mod Sites
+pub mod Events
+pub mod Runs
+pub mod Opening
+pub mod Kept
+pub mod Causes
+pub mod Whole

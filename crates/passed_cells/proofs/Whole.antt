@@ -1,0 +1,13 @@
+-- so it is in every run before the first frame that was forged or passed by chance
+
+use Rattle.run_facts.proofs.Nodes.{runs_have_nodes}
+use Rattle.run_facts.proofs.Steps.{events_are_steps, runs_have_fronts}
+use Rattle.running_worlds.proofs.Made.{up, down, frames_kept}
+use Rattle.world_views.specs.Between.{HasAllShapes}
+use Rattle.world_views.specs.Kept.{Keeps}
+use Rattle.pairs.specs.Past.{RunsMakeNoPairs}
+use Rattle.passed_cells.specs.Passed.{PassedIsKept}
+use Rattle.passed_cells.proofs.Kept.{passed_kept}
+
+pub cells_pass : Keeps HasAllShapes → RunsMakeNoPairs → PassedIsKept
+cells_pass shapes pairs = passed_kept runs_have_nodes runs_have_fronts events_are_steps up down shapes frames_kept pairs
