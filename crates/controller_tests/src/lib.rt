@@ -16,6 +16,8 @@ mod label_book_tests;
 #[cfg(test)]
 mod label_pool_tests;
 #[cfg(test)]
+mod reclaimed_tests;
+#[cfg(test)]
 mod redirect_state_tests;
 #[cfg(test)]
 mod request_book_tests;

@@ -1,8 +1,10 @@
-//! The replay of a script in a network of IP switches, whose nodes all go by the policy that the script
-//! names.
+//! The replay of a script, of a document and of a drill in a network of IP switches, whose nodes all go
+//! by the policy that the script names.
 #![tactic(auto)]
 
 mod choice;
 mod replay;
+mod whole;
 
 pub use replay::replay_script;
+pub use whole::{replay_document, replay_drill};

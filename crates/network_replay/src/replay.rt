@@ -200,6 +200,13 @@ impl<C: NodeController> Replay<C> {
         self.take(read, choice, writer, sink, meter)
     }
 
+    /// Whether 32 bits count the octets and the lines with this one.
+    pub fn has_room(&self, line: &[u8]) -> bool
+        ensures { result ≡ true → HasRoom self.now.state line.now }
+    {
+        line.len() <= (u32::MAX - self.state.octets()) as usize && self.state.lines() < u32::MAX
+    }
+
     /// The next line is refused by this name.
     pub fn refused(&self, name: LineRefusal) -> Refused
         requires { self.now.state.lines + 1 < 2 ^ 32 }

@@ -1,0 +1,65 @@
+//! The lines of a document, one by one.
+
+ghost use Rattle.std.specs.Prelude.{◌≡◌, IfOk, OnOk};
+ghost use Rattle.lab_io.specs.Fault.{count_after};
+ghost use Rattle.network_run.specs.Telling.{Puts, StaysWithin, is_failed};
+ghost use Rattle.network_replay.specs.Along.{IsBegun};
+ghost use Rattle.document_replay.specs.Lines.{Comes, meter_by, report_by, script_of_lines};
+
+use document_text::Lines;
+use lab_io::{ReportWriter, Sink};
+use net_types::OutOfMemory;
+use network_replay::{PolicyChoice, Replay};
+use network_run::Stop;
+use script_model::Refused;
+use std::alloc::AllocError;
+use world::{Meter, NodeController};
+
+/// Takes the lines, up to the first that is refused, which is told. More lines or octets than 32 bits
+/// count are want of memory.
+fn take_lines<C: NodeController, N: PolicyChoice<C>, K: Sink>(
+    replay: &mut Replay<C>,
+    lines: &Lines,
+    choice: &N,
+    writer: &mut ReportWriter,
+    sink: &mut K,
+    meter: &mut Meter,
+) -> Result<Option<Refused>, Stop>
+    requires begun { IsBegun replay.old }
+    ensures comes { Comes C.seen (N.chosen choice.now) writer.old (K.written sink.old) meter.old (script_of_lines lines.now) result replay.new writer.new (K.written sink.new) meter.new }
+    ensures room { StaysWithin writer.old writer.new }
+    ensures faults { K.faults sink.new ≡ count_after (is_failed result) (K.faults sink.old) }
+{
+    for place in 0..lines.len() {
+        let Some(text) = lines.at(place) else {
+            return Ok(None);
+        };
+        if !replay.has_room(text) {
+            return Err(Stop::OutOfMemory(OutOfMemory::from(AllocError)));
+        }
+        if let Some(refused) = replay.string(text, choice, writer, sink, meter)? {
+            return Ok(Some(refused));
+        }
+    }
+    Ok(None)
+}
+
+/// Puts the report of the script that the lines are, and tells which of them is refused.
+pub fn put_report<C: NodeController, N: PolicyChoice<C>, K: Sink>(
+    replay: &mut Replay<C>,
+    lines: &Lines,
+    choice: &N,
+    writer: &mut ReportWriter,
+    sink: &mut K,
+    meter: &mut Meter,
+) -> Result<Option<Refused>, Stop>
+    requires begun { IsBegun replay.old }
+    ensures put { Puts result writer.old writer.new (K.written sink.old) (K.written sink.new) (report_by (N.chosen choice.now) (script_of_lines lines.now)) }
+    ensures refused { IfOk result (λ refused. (script_of_lines lines.now).refused ≡ refused) }
+    ensures meter { OnOk result (meter.new ≡ meter_by (N.chosen choice.now) meter.old (script_of_lines lines.now)) }
+    ensures faults { K.faults sink.new ≡ count_after (is_failed result) (K.faults sink.old) }
+{
+    let refused = take_lines(replay, lines, choice, writer, sink, meter)?;
+    replay.end(refused, choice, writer, sink)?;
+    Ok(refused)
+}

@@ -1,0 +1,8 @@
+//! The replay of a drill: its script is made and taken line by line, and of its report the last line
+//! alone is written.
+#![tactic(auto)]
+
+mod drill;
+mod lines;
+
+pub use drill::replay_drill;

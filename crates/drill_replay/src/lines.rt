@@ -1,0 +1,52 @@
+//! The lines of a drill, one by one.
+
+ghost use Rattle.std.specs.Prelude.{◌≡◌, false, IfOk, OnOk};
+ghost use Rattle.network_run.specs.Telling.{is_failed};
+ghost use Rattle.network_replay.specs.Along.{IsBegun, IsWhole};
+ghost use Rattle.script_model.specs.Drill.{drill_script};
+ghost use Rattle.drill_replay.specs.Drill.{meter_by};
+
+use drill_script::DrillLines;
+use lab_io::{ReportWriter, SureSink};
+use lab_text::Text;
+use net_types::OutOfMemory;
+use network_replay::{PolicyChoice, Replay};
+use network_run::Stop;
+use script_model::Refused;
+use std::alloc::{AllocError, Global};
+use world::{Meter, NodeController};
+
+/// So many octets of the report are held on their way to nowhere.
+const ROOM: usize = 65_536;
+
+/// Takes the lines of a drill, up to the first that is refused, which is told; the lines of their records
+/// go nowhere. More lines or octets than 32 bits count are want of memory.
+pub fn take_lines<C: NodeController, N: PolicyChoice<C>>(
+    alloc: Global,
+    replay: &mut Replay<C>,
+    drill: u32,
+    choice: &N,
+    meter: &mut Meter,
+) -> Result<Option<Refused>, Stop>
+    requires begun { IsBegun replay.old }
+    ensures whole { IfOk result (λ refused. IsWhole C.seen (N.chosen choice.now) (drill_script drill) refused replay.new) }
+    ensures meter { OnOk result (meter.new ≡ meter_by (N.chosen choice.now) meter.old (drill_script drill)) }
+    ensures memory { is_failed result ≡ false }
+{
+    let mut nowhere = SureSink::new();
+    let mut writer = ReportWriter::open(alloc, ROOM)?;
+    let mut lines = DrillLines::new(drill);
+    loop {
+        let mut line = Text::new(alloc);
+        if !lines.next(&mut line)? {
+            return Ok(None);
+        }
+        let text = line.as_slice();
+        if !replay.has_room(text) {
+            return Err(Stop::OutOfMemory(OutOfMemory::from(AllocError)));
+        }
+        if let Some(refused) = replay.line(text, choice, &mut writer, &mut nowhere, meter)? {
+            return Ok(Some(refused));
+        }
+    }
+}
