@@ -1,6 +1,6 @@
 -- What the words ask for is what is read of them
 
-use Rattle.std.proofs.Common.{◌≡◌, ◌∙◌, ℕ, List, [], Option, None, Some, append-nil, refl, sym, ap, option_and_then}
+use Rattle.std.proofs.Common.{◌≡◌, ◌∙◌, ℕ, List, [], Option, None, Some, append-nil, refl, sym, ap, option_map}
 use Rattle.std.specs.Io.KnownBytes.{Appends, Consumes}
 use Rattle.command_line.specs.declared.command.Command.{Command}
 use Rattle.command_line.specs.Commands.{IsReading}
@@ -10,12 +10,16 @@ use Rattle.ipswitch.specs.Task.{task_of, AskForTask, AskForNone, IsTaskOf}
 
 -- *Read as a task*
 pub some_read : (words : List (List ℕ)) (command : Command) (found : Option Task) → IsReading words (Some command)
-    → found ≡ task_of command → IsTaskOf words found
+    → found ≡ Some (task_of command) → IsTaskOf words found
 some_read words command found reading is = record {
-  asked = λ task e. record { command = command; asked = reading.asked command refl; is_built = sym is ∙ e };
+  asked = λ task e. record {
+    command = command;
+    asked = reading.asked command refl;
+    does = let same : Some (task_of command) ≡ Some task = sym is ∙ e in cc;
+  };
   all = λ task asks.
       let same : Some command ≡ Some asks.command = reading.all asks.command asks.asked in
-      is ∙ (ap (λ (o : Option Command). option_and_then task_of o) same ∙ asks.is_built);
+      is ∙ (ap (λ (o : Option Command). option_map task_of o) same ∙ ap (λ (t : Task). Some t) asks.does);
 }
 
 pub none_read : (words : List (List ℕ)) → IsReading words None → IsTaskOf words None

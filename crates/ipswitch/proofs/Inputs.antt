@@ -1,17 +1,23 @@
 -- A source that tells its octets: what was read of them is all that a task needs
 
-use Rattle.std.proofs.Common.{◌≡◌, ℕ, ◌<◌, ◌≤◌, List, [], ◌∷◌, ◌++◌, Bool, length, take, Option, None, Some, is_some, refl, sym, ap, ◌∙◌, arith, inl, inr, ◌⊎◌, append-nil, zero, suc}
+use Rattle.std.proofs.Common.{◌≡◌, ℕ, ◌<◌, ◌≤◌, List, [], ◌∷◌, ◌++◌, Bool, true, length, length-append, take, Option, None, Some, is_some, refl, sym, ap, ◌∙◌, arith, inl, inr, ◌⊎◌, append-nil, zero, suc, Result, Ok, Err}
+use Rattle.std.specs.Prelude.{nat_le, IfOk}
 use Rattle.std.specs.Io.KnownBytes.{Consumes, IsAtEnd}
+use Rattle.std.proofs.lemmas.Bool.Decides.{nat_tests}
 use Rattle.std.proofs.lemmas.List.{take-append-le}
 use Rattle.lab_text.specs.Lines.{lines_of}
 use Rattle.message_text.specs.Listing.{fault_from, lines_in}
 use Rattle.script_model.specs.Reading.{line_says}
-use Rattle.script_model.specs.Script.{script_of, script_from}
+use Rattle.script_model.specs.Script.{Script, script_of, script_from}
 use Rattle.script_model.specs.State.{nothing_read}
+use Rattle.script_model.specs.declared.refusal.DocumentRefusal.TheVariants.{ScriptTooLong}
+use Rattle.script_model.specs.Documents.{document_script, refused_document}
 use Rattle.ipswitch.specs.declared.task.Task.TheVariants as task
 use Rattle.ipswitch.specs.declared.task.Whole.{Whole}
 use Rattle.ipswitch.specs.declared.task.Whole.TheVariants.{Ideal, Decode}
-use Rattle.ipswitch.specs.Run.{is_refused}
+use Rattle.world.specs.declared.counts.Meter.{Meter}
+use Rattle.ipswitch.specs.declared.fault.RunFault.{RunFault}
+use Rattle.ipswitch.specs.Run.{IsDrillDone, is_refused}
 
 below_or_at : (i n : ℕ) → i ≤ n → (i < n) ⊎ (n ≡ i)
 below_or_at zero zero h = inr refl
@@ -44,3 +50,32 @@ pub complete : (whole : Whole) (left_old left_new : Option (List ℕ)) (there in
     → seen ≡ input → refused ≡ is_refused (task.Whole whole) seen → refused ≡ is_refused (task.Whole whole) there
 complete whole left_old left_new there input seen refused told read within ended at said =
     said ∙ (ap (is_refused (task.Whole whole)) at ∙ read_refusal whole there input left_new (rw told at read) within ended)
+
+-- *A document* that is as long as the limit is refused, whatever follows
+long_document : (octets : List ℕ) → 16777217 ≤ length octets → document_script octets ≡ refused_document ScriptTooLong
+unfolding document_script
+long_document octets long = let yes : nat_le 16777217 (length octets) ≡ true = grind (nat_tests, arith, long) in rw yes refl
+
+same_document : (there input rest : List ℕ) → there ≡ input ++ rest → length input ≤ 16777217 → (length input < 16777217 → rest ≡ []) → document_script input ≡ document_script there
+same_document there input rest e within whole =
+    elim (below_or_at (length input) 16777217 within) [
+      | inl low ↦ ap document_script (sym (e ∙ (ap (λ (xs : List ℕ). input ++ xs) (whole low) ∙ append-nil input)))
+      | inr at ↦ long_document input (omega (arith, at))
+          ∙ sym (long_document there (omega (arith, at, ap length e, length-append input rest)))
+    ]
+
+document_refusal : (there input : List ℕ) (left_new : Option (List ℕ)) → Consumes (Some there) left_new input → length input ≤ 16777217 → (length input < 16777217 → IsAtEnd left_new) → is_refused task.Document input ≡ is_refused task.Document there
+document_refusal there input None read within ended = absurd read
+document_refusal there input (Some rest) read within ended = ap (λ (script : Script). is_some script.refused) (same_document there input rest read within ended)
+
+pub document_complete : (left_old left_new : Option (List ℕ)) (there input seen : List ℕ) (refused : Bool) → left_old ≡ Some there → Consumes left_old left_new input → length input ≤ 16777217 → (length input < 16777217 → IsAtEnd left_new)
+    → seen ≡ input → refused ≡ is_refused task.Document seen → refused ≡ is_refused task.Document there
+document_complete left_old left_new there input seen refused told read within ended at said =
+    said ∙ (ap (is_refused task.Document) at ∙ document_refusal there input left_new (rw told at read) within ended)
+
+-- *A drill* reads nothing, so what is said of it holds whatever octets there are
+pub drill_complete : (number : ℕ) (result : Result Bool RunFault) (left written_old written_new : Option (List ℕ)) (before meter : Meter)
+    → IfOk result (IsDrillDone number left left written_old written_new before meter)
+    → IfOk result (λ (refused : Bool). (input : List ℕ) → left ≡ Some input → refused ≡ is_refused (task.Drill number) input)
+drill_complete number (Ok refused) left written_old written_new before meter done = λ input told. done.outcome
+drill_complete number (Err fault) left written_old written_new before meter done = tt

@@ -6,6 +6,8 @@ use Rattle.lab_io.specs.declared.transfer.InputFault.{InputFault}
 use Rattle.lab_io.specs.declared.transfer.InputFault.TheVariants as input
 use Rattle.script_replay.specs.declared.fault.ReplayFault.{ReplayFault}
 use Rattle.script_replay.specs.declared.fault.ReplayFault.TheVariants as replay
+use Rattle.network_run.specs.declared.stop.Stop.{Stop}
+use Rattle.network_run.specs.declared.stop.Stop.TheVariants as stop
 use Rattle.ipswitch.specs.declared.fault.RunFault.{RunFault}
 use Rattle.ipswitch.specs.declared.fault.RunFault.TheVariants as fault
 
@@ -20,6 +22,10 @@ abbrev pub fault_of_replay : ReplayFault → RunFault
 fault_of_replay replay.Read = fault.Read
 fault_of_replay replay.Write = fault.Write
 fault_of_replay (replay.OutOfMemory error) = fault.OutOfMemory error
+
+abbrev pub fault_of_stop : Stop → RunFault
+fault_of_stop stop.Failed = fault.Write
+fault_of_stop (stop.OutOfMemory error) = fault.OutOfMemory error
 
 abbrev pub fault_status : RunFault → ℕ
 fault_status fault.Read = 3

@@ -1,17 +1,21 @@
 -- What the commands read and write, and their statuses
 
-use Rattle.std.specs.Prelude.{◌≡◌, ℕ, ◌<◌, ◌≤◌, List, [], length, Bool, false, is_some, Option, if◌then◌else◌}
+use Rattle.std.specs.Prelude.{◌≡◌, ◌⊎◌, ℕ, ◌<◌, ◌≤◌, List, [], length, Bool, false, is_some, Option, if◌then◌else◌}
 use Rattle.std.specs.Io.KnownBytes.{Appends, Consumes, IsAtEnd}
 use Rattle.lab_io.specs.Transfer.{AppendsFront, ConsumesSome}
 use Rattle.lab_text.specs.Line.{input_limit}
 use Rattle.message_text.specs.Listing.{IsListing, fault_in}
 use Rattle.world_model.specs.Topology.{policy_of}
 use Rattle.script_model.specs.Script.{script_of}
+use Rattle.script_model.specs.Documents.{document_script}
+use Rattle.script_model.specs.Drill.{drill_script}
 use Rattle.script_model.specs.Ideal.{ideal_report}
 use Rattle.world.specs.declared.counts.Meter.{Meter}
 use Rattle.script_replay.specs.Report as replays
+use Rattle.document_replay.specs.Lines as documents
+use Rattle.drill_replay.specs.Drill as drills
 use Rattle.ipswitch.specs.declared.task.Task as tasks
-use Rattle.ipswitch.specs.declared.task.Task.TheVariants.{Replay, Whole}
+use Rattle.ipswitch.specs.declared.task.Task.TheVariants.{Replay, Document, Drill, Whole}
 use Rattle.ipswitch.specs.declared.task.Whole as wholes
 use Rattle.ipswitch.specs.declared.task.Whole.TheVariants.{Ideal, Decode}
 use Rattle.ipswitch.specs.declared.fault.RunFault.{RunFault}
@@ -27,6 +31,8 @@ IsReport (Decode protocol) input report = IsListing protocol input report
 -- a line of the input is refused
 abbrev pub is_refused : tasks.Task → (input : List ℕ) → Bool
 is_refused Replay input = is_some (script_of input).refused
+is_refused Document input = is_some (document_script input).refused
+is_refused (Drill number) input = is_some (drill_script number).refused
 is_refused (Whole Ideal) input = is_some (script_of input).refused
 is_refused (Whole (Decode protocol)) input = is_some (fault_in input)
 
@@ -69,25 +75,61 @@ pub record IsSilent (left_old left_new written_old written_new : Option (List �
   pub read : ConsumesSome left_old left_new
   pub written : Appends written_old written_new []
 
+-- *A document is replayed*: what is written is the report of the script that it is, and the meter is at the last of its
+-- events; or a front of that report is written
+pub record IsDocumentDone (left_old left_new written_old written_new : Option (List ℕ)) (before meter : Meter) (refused : Bool) : Type 0 where
+  pub input : List ℕ
+  pub is_read : IsRead left_old left_new input
+  pub written : Appends written_old written_new (documents.report_by policy_of (document_script input))
+  pub outcome : refused ≡ is_refused Document input
+  pub meter_is : meter ≡ documents.meter_by policy_of before (document_script input)
+
+pub record IsDocumentFront (left_old left_new written_old written_new : Option (List ℕ)) : Type 0 where
+  pub input : List ℕ
+  pub is_read : IsRead left_old left_new input
+  pub written : AppendsFront written_old written_new (documents.report_by policy_of (document_script input))
+
+-- *A drill*: nothing is read, and what is written is the last line of its report, or a front of it
+pub record IsDrillDone (number : ℕ) (left_old left_new written_old written_new : Option (List ℕ)) (before meter : Meter) (refused : Bool) : Type 0 where
+  pub unread : left_new ≡ left_old
+  pub written : Appends written_old written_new (drills.report_by policy_of (drill_script number))
+  pub outcome : refused ≡ is_some (drill_script number).refused
+  pub meter_is : meter ≡ drills.meter_by policy_of before (drill_script number)
+
+pub record IsDrillFront (number : ℕ) (left_old left_new written_old written_new : Option (List ℕ)) : Type 0 where
+  pub unread : left_new ≡ left_old
+  pub written : AppendsFront written_old written_new (drills.report_by policy_of (drill_script number))
+
 -- *A task is done*, with or without a line that is refused. A script is replayed under the policy that it names, and
--- the meter is at the last of its events; no other task has events
+-- the meter is at the last of its events; a whole input has none
 abbrev pub HasDone : tasks.Task → (left_old left_new written_old written_new : Option (List ℕ)) → (before meter : Meter) → (refused : Bool) → Type 0
 HasDone Replay left_old left_new written_old written_new before meter refused =
     replays.IsDone policy_of left_old left_new written_old written_new before meter refused
+HasDone Document left_old left_new written_old written_new before meter refused =
+    IsDocumentDone left_old left_new written_old written_new before meter refused
+HasDone (Drill number) left_old left_new written_old written_new before meter refused =
+    IsDrillDone number left_old left_new written_old written_new before meter refused
 HasDone (Whole whole) left_old left_new written_old written_new before meter refused =
     IsDone whole left_old left_new written_old written_new refused × (meter ≡ before)
 
 -- *What a fault leaves* of a task
 abbrev pub LeavesUnread : tasks.Task → (left_old left_new written_old written_new : Option (List ℕ)) → Type 0
 LeavesUnread Replay left_old left_new written_old written_new = replays.IsCutOff policy_of left_old left_new written_old written_new
+LeavesUnread Document left_old left_new written_old written_new = IsSilent left_old left_new written_old written_new
+LeavesUnread (Drill number) left_old left_new written_old written_new = ⊥
 LeavesUnread (Whole whole) left_old left_new written_old written_new = IsSilent left_old left_new written_old written_new
 
 abbrev pub LeavesFront : tasks.Task → (left_old left_new written_old written_new : Option (List ℕ)) → Type 0
 LeavesFront Replay left_old left_new written_old written_new = replays.IsFront policy_of left_old left_new written_old written_new
+LeavesFront Document left_old left_new written_old written_new = IsDocumentFront left_old left_new written_old written_new
+LeavesFront (Drill number) left_old left_new written_old written_new = IsDrillFront number left_old left_new written_old written_new
 LeavesFront (Whole whole) left_old left_new written_old written_new = IsFront whole left_old left_new written_old written_new
 
 abbrev pub LeavesAtWant : tasks.Task → (left_old left_new written_old written_new : Option (List ℕ)) → Type 0
 LeavesAtWant Replay left_old left_new written_old written_new = replays.IsFront policy_of left_old left_new written_old written_new
+LeavesAtWant Document left_old left_new written_old written_new =
+    IsSilent left_old left_new written_old written_new ⊎ IsDocumentFront left_old left_new written_old written_new
+LeavesAtWant (Drill number) left_old left_new written_old written_new = IsDrillFront number left_old left_new written_old written_new
 LeavesAtWant (Whole whole) left_old left_new written_old written_new = IsSilent left_old left_new written_old written_new
 
 abbrev pub Leaves : RunFault → tasks.Task → (left_old left_new written_old written_new : Option (List ℕ)) → Type 0

@@ -1,30 +1,30 @@
 -- What the words of the command line ask for
 
-use Rattle.std.specs.Prelude.{◌≡◌, ℕ, List, codes, Option, None, Some}
+use Rattle.std.specs.Prelude.{◌≡◌, ℕ, List, codes, Option, Some}
 use Rattle.message_text.specs.declared.protocol.Protocol.TheVariants.{Ifmp, Gsmp}
 use Rattle.command_line.specs.declared.command.Command.{Command}
 use Rattle.command_line.specs.declared.command.Command.TheVariants as command
 use Rattle.command_line.specs.Commands.{AskFor}
 use Rattle.ipswitch.specs.declared.task.Task.{Task}
-use Rattle.ipswitch.specs.declared.task.Task.TheVariants.{Replay, Whole}
+use Rattle.ipswitch.specs.declared.task.Task.TheVariants.{Replay, Document, Drill, Whole}
 use Rattle.ipswitch.specs.declared.task.Whole.TheVariants.{Ideal, Decode}
 
--- what a command does; `replay toml` and `drill` aren't built
-abbrev pub task_of : Command → Option Task
-task_of command.Replay = Some Replay
-task_of command.ReplayToml = None
-task_of command.Ideal = Some (Whole Ideal)
-task_of command.DecodeIfmp = Some (Whole (Decode Ifmp))
-task_of command.DecodeGsmp = Some (Whole (Decode Gsmp))
-task_of (command.Drill number) = None
+-- what a command does
+abbrev pub task_of : Command → Task
+task_of command.Replay = Replay
+task_of command.ReplayToml = Document
+task_of command.Ideal = Whole Ideal
+task_of command.DecodeIfmp = Whole (Decode Ifmp)
+task_of command.DecodeGsmp = Whole (Decode Gsmp)
+task_of (command.Drill number) = Drill number
 
 -- the words are those of a command that does this
 pub record AskForTask (words : List (List ℕ)) (task : Task) : Type 0 where
   pub command : Command
   pub asked : AskFor words command
-  pub is_built : task_of command ≡ Some task
+  pub does : task_of command ≡ task
 
--- they are no command's, or those of one that isn't built
+-- they are no command's
 abbrev pub AskForNone : (words : List (List ℕ)) → Type 0
 AskForNone words = (task : Task) → AskForTask words task → ⊥
 

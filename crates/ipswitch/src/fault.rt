@@ -1,10 +1,11 @@
 //! Why a task isn't carried out to its end.
 
 ghost use Rattle.std.specs.Prelude.{◌≡◌};
-ghost use Rattle.ipswitch.specs.Fault.{fault_of_input, fault_of_replay, no_memory};
+ghost use Rattle.ipswitch.specs.Fault.{fault_of_input, fault_of_replay, fault_of_stop, no_memory};
 
 use lab_io::InputFault;
 use net_types::OutOfMemory;
+use network_run::Stop;
 use script_replay::ReplayFault;
 
 /// Why a task isn't carried out to its end.
@@ -34,6 +35,17 @@ impl From<OutOfMemory> for RunFault {
 
     fn from(error: OutOfMemory) -> RunFault {
         RunFault::OutOfMemory(error)
+    }
+}
+
+impl From<Stop> for RunFault {
+    ghost from_gives = { λ e f. f ≡ fault_of_stop e };
+
+    fn from(stop: Stop) -> RunFault {
+        match stop {
+            Stop::Failed => RunFault::Write,
+            Stop::OutOfMemory(error) => RunFault::OutOfMemory(error),
+        }
     }
 }
 

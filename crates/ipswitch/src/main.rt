@@ -5,6 +5,8 @@ ghost use Rattle.std.specs.Prelude.{◌≡◌, map, drop, string_bytes, IfOk};
 ghost use Rattle.std.specs.Vec.Iter.{into_iter_items};
 
 mod fault;
+mod laws;
+mod networks;
 mod run;
 mod sure;
 mod task;

@@ -5,11 +5,15 @@ ghost use Rattle.std.specs.Io.KnownBytes.{Appends};
 ghost use Rattle.lab_io.specs.Fault.{Rose, count_after};
 ghost use Rattle.lab_io.specs.Transfer.{AppendsFront};
 ghost use Rattle.ipswitch.specs.declared.task.Task.{Task};
+ghost use Rattle.ipswitch.specs.declared.task.Task.TheVariants.{Drill};
 ghost use Rattle.ipswitch.specs.Fault.{fault_status, read_failed, write_failed};
+ghost use Rattle.ipswitch.specs.Law.{IsTrueTask};
 ghost use Rattle.ipswitch.specs.Run.{HasDone, IsAnswered, IsCutOff, IsCutShort, IsGivenUp, Leaves, LeavesAtWant, LeavesFront, LeavesUnread, is_refused, status_of};
 ghost use Rattle.ipswitch.specs.Task.{AskForNone, AskForTask, usage_line};
 
 use crate::fault::RunFault;
+use crate::laws::tasks_are_true;
+use crate::networks::{run_document, run_drill};
 use crate::task::{Task, read_task};
 use crate::whole::run_whole;
 use command_line::Word;
@@ -65,9 +69,12 @@ fn run_task<S: Source, K: Sink>(
     ensures left { IfErr result (λ fault. Leaves fault task (S.left source.old) (S.left source.new) (K.written sink.old) (K.written sink.new)) }
     ensures read { S.faults source.new ≡ count_after (read_failed result) (S.faults source.old) }
     ensures write { K.faults sink.new ≡ count_after (write_failed result) (K.faults sink.old) }
+    ensures undrilled { (number : ℕ) → task ≡ Drill number → source.new ≡ source.old }
 {
     match task {
         Task::Replay => Ok(replay_script(alloc, source, sink, meter)?),
+        Task::Document => run_document(alloc, source, sink, meter),
+        Task::Drill(number) => run_drill(alloc, number, sink, meter),
         Task::Whole(whole) => run_whole(alloc, whole, source, sink),
     }
 }
@@ -89,6 +96,7 @@ fn task_status<S: Source, K: Sink>(
     ensures complete { (input : List ℕ) → S.left source.old ≡ Some input → (Rose (S.faults source.old) (S.faults source.new) → ⊥) → (Rose (K.faults sink.old) (K.faults sink.new) → ⊥) → (result ≡ status_of task input) ⊎ (result ≡ 5) }
     ensures range { result ≤ 5 }
     ensures asked { result ≢ 1 }
+    ensures undrilled { (number : ℕ) → task ≡ Drill number → source.new ≡ source.old }
 {
     match run_task(alloc, task, source, sink, meter) {
         Ok(true) => REFUSED,
@@ -100,7 +108,8 @@ fn task_status<S: Source, K: Sink>(
 /// Runs the command that the words ask for, reads its input from `source`, writes its output to
 /// `sink`, and gives the status: 0 done, 1 usage, 2 a line is refused, 3 a read failed, 4 a write
 /// failed, 5 want of memory. The first fault ends the run. The meter counts the events of a replay, and
-/// is as it was where there is none.
+/// is as it was where there is none. What a replay reports is the run of a script, and of each such run the
+/// clause `headline` says what is true: cut-through changes nothing of what routing makes of packets.
 #[tactic(auto, using(crate::proofs::Asked::asks_for, crate::proofs::Asked::asks_for_none, crate::proofs::Asked::asks_for_some, crate::proofs::Asked::asks_for_one, crate::proofs::Asked::silent_still))]
 pub fn run<S: Source, K: Sink>(
     alloc: Global,
@@ -112,6 +121,7 @@ pub fn run<S: Source, K: Sink>(
     ensures usage { result ≡ 1 → AskForNone words.now × Appends (K.written sink.old) (K.written sink.new) usage_line }
     ensures usage_only { AskForNone words.now → (result ≡ 1) ⊎ ((result ≡ 4) ⊎ (result ≡ 5)) }
     ensures unread { AskForNone words.now → (source.new ≡ source.old) × (meter.new ≡ meter.old) }
+    ensures undrilled { (number : ℕ) → AskForTask words.now (Drill number) → source.new ≡ source.old }
     ensures answered { (result ≡ 0) ⊎ (result ≡ 2) → IsAnswered words.now (S.left source.old) (S.left source.new) (K.written sink.old) (K.written sink.new) meter.old meter.new (result == 2) }
 
     // A fault of the outside ends the run and is told, and what it leaves is a front of the output.
@@ -124,7 +134,11 @@ pub fn run<S: Source, K: Sink>(
     // With an input and no fault the status is the input's, want of memory aside.
     ensures complete { (task : Task) (input : List ℕ) → AskForTask words.now task → S.left source.old ≡ Some input → (Rose (S.faults source.old) (S.faults source.new) → ⊥) → (Rose (K.faults sink.old) (K.faults sink.new) → ⊥) → (result ≡ status_of task input) ⊎ (result ≡ 5) }
     ensures range { result ≤ 5 }
+
+    // And what is replayed is true to routing.
+    ensures headline { (task : Task) (input : List ℕ) → AskForTask words.now task → IsTrueTask task input }
 {
+    tasks_are_true();
     match read_task(alloc, words) {
         Err(_) => NO_MEMORY,
         Ok(None) => match write_usage(sink) {

@@ -22,31 +22,35 @@ pub enum Whole {
 pub enum Task {
     /// A script is replayed as it is read, line by line.
     Replay,
+    /// A document is read as a whole, and the script that it is is replayed.
+    Document,
+    /// The drill with this number is replayed; nothing is read.
+    Drill(u32),
     /// The input is read as a whole, and then its report is written.
     Whole(Whole),
 }
 
-/// What a command does; `None` where it isn't built.
-fn task_of(command: Command) -> Option<Task>
+/// What a command does.
+fn task_of(command: Command) -> Task
     ensures { result ≡ task_of command }
 {
     match command {
-        Command::Replay => Some(Task::Replay),
-        Command::Ideal => Some(Task::Whole(Whole::Ideal)),
-        Command::DecodeIfmp => Some(Task::Whole(Whole::Decode(Protocol::Ifmp))),
-        Command::DecodeGsmp => Some(Task::Whole(Whole::Decode(Protocol::Gsmp))),
-        Command::ReplayToml | Command::Drill(_) => None,
+        Command::Replay => Task::Replay,
+        Command::ReplayToml => Task::Document,
+        Command::Ideal => Task::Whole(Whole::Ideal),
+        Command::DecodeIfmp => Task::Whole(Whole::Decode(Protocol::Ifmp)),
+        Command::DecodeGsmp => Task::Whole(Whole::Decode(Protocol::Gsmp)),
+        Command::Drill(number) => Task::Drill(number),
     }
 }
 
-/// The task that the words ask for; `None` exactly where they are no command's, or those of a command
-/// that isn't built.
+/// The task that the words ask for; `None` exactly where they are no command's.
 #[tactic(auto, using(crate::proofs::Asked::some_read, crate::proofs::Asked::none_read))]
 pub fn read_task(alloc: Global, words: &[Word]) -> Result<Option<Task>, OutOfMemory>
     ensures { IfOk result (IsTaskOf words.now) }
 {
     match read_command(alloc, words)? {
-        Some(command) => Ok(task_of(command)),
+        Some(command) => Ok(Some(task_of(command))),
         None => Ok(None),
     }
 }

@@ -176,9 +176,12 @@ const USAGE: &str = "usage: ipswitch replay|replay toml|ideal|decode ifmp|decode
 /// Words that ask for nothing get the usage line.
 #[test]
 fn other_words_are_usage(rt: HostRuntime) -> Result<(), Fail> {
-    let lists: [&[&str]; 7] = [
+    let lists: [&[&str]; 10] = [
         &[],
         &["replay", "x"],
+        &["replay", "toml", "x"],
+        &["drill"],
+        &["drill", "x"],
         &["help"],
         &["--help"],
         &["decode"],
@@ -190,6 +193,54 @@ fn other_words_are_usage(rt: HostRuntime) -> Result<(), Fail> {
         assert_eq!(rt; given, 1);
         assert_eq!(rt; sink.written(), USAGE.as_bytes());
     }
+    Ok(())
+}
+
+/// A document is replayed as the script that it is: its lines are those of `topology` and then those of
+/// `events`, and a key that is missing has none. A document that can't be read, or has another key, is
+/// refused as a whole; a line of one is refused by its number.
+#[test]
+fn documents_are_replayed(rt: HostRuntime) -> Result<(), Fail> {
+    for (document, report, status) in [
+        (
+            "events = [\"send a 4500001c0001000004119ecf0a0001010a0003011389138a00080000\"]\ntopology = [\"node a 10.0.1.1\", \"route a 10.0.0.0/8 local\"]\n",
+            "deliver a 1 4500001c0001000004119ecf0a0001010a0003011389138a00080000\nend events 1 sent 1 delivered 1 dropped 0 refused 0 losses 0 redirects 0 switched 0 chance 0\n",
+            0,
+        ),
+        (
+            "",
+            "end events 0 sent 0 delivered 0 dropped 0 refused 0 losses 0 redirects 0 switched 0 chance 0\n",
+            0,
+        ),
+        (
+            "topology = [\"node a 10.0.1.1\"]\nevents = [\"tick a\", \"tick b\"]\n",
+            "refused 3 UnknownName\n",
+            2,
+        ),
+        (
+            "topology = [\"node a 10.0.1.1\"]\nevent = []\n",
+            "refused 0 Toml\n",
+            2,
+        ),
+        ("topology = [\"node a 10.0.1.1\"\n", "refused 0 Toml\n", 2),
+    ] {
+        let (given, sink) = outcome(rt.alloc(), &["replay", "toml"], document, 64, &[], &[])?;
+        assert_eq!(rt; given, status);
+        assert_eq!(rt; sink.written(), report.as_bytes());
+    }
+    Ok(())
+}
+
+/// A drill reads nothing, so a source that would fail doesn't; what it writes was counted by another
+/// program.
+#[test]
+fn drills_are_replayed(rt: HostRuntime) -> Result<(), Fail> {
+    let (given, sink) = outcome(rt.alloc(), &["drill", "5"], "", 4096, &[1], &[])?;
+    assert_eq!(rt; given, 0);
+    assert_eq!(rt;
+        sink.written(),
+        "end events 915 sent 400 delivered 338 dropped 0 refused 0 losses 101 redirects 34 switched 863 chance 0\n".as_bytes()
+    );
     Ok(())
 }
 
@@ -327,8 +378,7 @@ fn faults_end_the_run(rt: HostRuntime) -> Result<(), Fail> {
     Ok(())
 }
 
-/// Where nothing fails, the words and the lines of the input give the status. The commands that aren't
-/// built are usage.
+/// Where nothing fails, the words and the lines of the input give the status.
 #[test]
 fn sure_runs_end_by_words_and_lines(rt: HostRuntime) -> Result<(), Fail> {
     let rows: [(&[&str], &str, u8); 6] = [
@@ -336,8 +386,8 @@ fn sure_runs_end_by_words_and_lines(rt: HostRuntime) -> Result<(), Fail> {
         (&["ideal"], ONE_NODE, 0),
         (&["decode", "gsmp"], "00\n", 0),
         (&["ideal"], "tick z\n", 2),
-        (&["replay", "toml"], "", 1),
-        (&["drill", "1"], "", 1),
+        (&["replay", "toml"], "", 0),
+        (&["replay", "toml"], "x", 2),
     ];
     for (texts, input, status) in rows {
         let words = words_of(rt.alloc(), texts)?;

@@ -1,5 +1,6 @@
 use Rattle.std.proofs.Common.{◌≡◌, ◌⊎◌, None, Some, subst}
 use Rattle.ipswitch.specs.declared.task.Task.{Task}
+use Rattle.ipswitch.specs.declared.task.Task.TheVariants.{Drill}
 use Rattle.ipswitch.specs.Run.{InUsage, InReport, InTask, status_of}
 use Rattle.ipswitch.specs.Task.{IsTaskOf}
 use Rattle.ipswitch.proofs.Asked.{asks_for, asks_for_none, asks_for_one}
@@ -36,3 +37,8 @@ returns-in-Ok-Some-clause-complete g c =
     λ task input asks told read write.
     subst (λ (t : Task). (c.task_status.result ≡ status_of t input) ⊎ (c.task_status.result ≡ 5)) (asks_for_one c.args.words.now c.in-Ok-Some.task task is asks)
     (c.task_status.ensures.complete input told read write)
+
+pub returns-in-Ok-Some-clause-undrilled : goal.returns-in-Ok-Some-clause-undrilled
+returns-in-Ok-Some-clause-undrilled g c =
+    let is : IsTaskOf c.args.words.now (Some c.in-Ok-Some.task) = subst (IsTaskOf c.args.words.now) (cc) c.in-Ok-Some.ensures in
+    λ number asks. c.task_status.ensures.undrilled number (asks_for_one c.args.words.now c.in-Ok-Some.task (Drill number) is asks)

@@ -1,0 +1,49 @@
+//! The laws of every run, put together. No code of this module does anything.
+
+ghost use Rattle.std.specs.Prelude.{ℕ, List};
+ghost use Rattle.ipswitch.specs.declared.task.Task.{Task};
+ghost use Rattle.ipswitch.specs.Law.{IsTrueTask, RunsAreTrue};
+
+use control_places::control_frames_have_places;
+use joined_worlds::{answers_settle_joins, joins_are_kept, runs_make_no_pairs};
+use label_worlds::labels_are_followed;
+use lifetimes::grants_expire;
+use ownership::labels_are_owned;
+use packet_worlds::packets_are_kept;
+use passed_cells::cells_have_passed;
+use run_facts::nodes_are_steady;
+use running_worlds::{frames_are_made, inputs_are_kept};
+use script_runs::scripts_are_runs;
+use told_worlds::{joins_lead_on, labels_are_bound_unused, users_are_kept};
+
+/// What is true of every run of a network: cut-through changes nothing of what routing makes of packets,
+/// before the first frame that was forged or passed its test by chance; so long labels are owned and
+/// broken frames have their causes; and grants end by their lifetimes. It calls the laws that it stands
+/// on, and its contract is the statement.
+fn runs_are_true()
+    ensures { RunsAreTrue }
+{
+    nodes_are_steady();
+    frames_are_made();
+    inputs_are_kept();
+    runs_make_no_pairs();
+    answers_settle_joins();
+    labels_are_followed();
+    joins_are_kept();
+    joins_lead_on();
+    labels_are_bound_unused();
+    users_are_kept();
+    cells_have_passed();
+    packets_are_kept();
+    control_frames_have_places();
+    labels_are_owned();
+    grants_expire();
+}
+
+/// So it is of what each command replays: of a script, of a document and of a drill.
+pub(crate) fn tasks_are_true()
+    ensures { (task : Task) (input : List ℕ) → IsTrueTask task input }
+{
+    runs_are_true();
+    scripts_are_runs();
+}

@@ -1,0 +1,11 @@
+-- A script is a run: of a topology that lines make, and of events of which each can come when it comes
+
+use Rattle.port_model.specs.Setup.{Policy}
+use Rattle.world_model.specs.Headline.{IsRun}
+use Rattle.world_views.specs.Kept.{HasAddresses}
+use Rattle.script_model.specs.Script.{Script}
+
+-- whatever the policy
+pub record IsScriptRun (script : Script) : Type 0 where
+  pub addresses : HasAddresses script.topology
+  pub run : (policy : Policy) → IsRun policy script.topology script.events
