@@ -40,8 +40,8 @@ use Rattle.adjacency_table.specs.Greeting.{greeting_of, gsmp_answer, gsmp_receiv
 use Rattle.link_model.specs.declared.record.Record.TheVariants.{Part}
 use Rattle.frame_model.specs.Reassembly.{Reassembly, Taken, taken}
 use Rattle.frame_model.specs.Frame.{Tested, tested, last_mark, next_mark}
-use Rattle.desk_model.specs.Desk.{empty_desk, sent_again, message_at}
-use Rattle.desk_model.specs.Answers.{Answered, Unknown, Done, Ports, Failed, answered, after_answer}
+use Rattle.port_model.specs.Desk.{empty_desk, sent_again, message_at}
+use Rattle.port_model.specs.DeskAnswers.{Answered, Unknown, Done, Ports, Failed, answered, after_answer}
 use Rattle.port_model.specs.Setup.{home_of, control_end}
 use Rattle.port_model.specs.Labels.{Label}
 use Rattle.port_model.specs.Grants.{Grant}
@@ -52,17 +52,17 @@ use Rattle.port_model.specs.Answers as port_answers
 use Rattle.port_model.specs.Joins as port_joins
 use Rattle.port_model.specs.Resets.{cleared}
 use Rattle.port_model.specs.Ticks as port_ticks
-use Rattle.controller_model.specs.Controller.{Acted, Linked, free_slots, linked_at, ports_of, with_linked, with_desk, note, chains_with, default_end, default_home}
-use Rattle.controller_model.specs.Sending.{sends, sends_control, says_gsmp}
-use Rattle.controller_model.specs.Asking.{asks, sends_request}
-use Rattle.controller_model.specs.Resets.{node_resets, node_restarts}
-use Rattle.controller_model.specs.Joins.{Join, join_of, parts, gives_back, releases_join, releases_input, released_inputs, resets_spent, releases, join_for, may_join, enters_grant, output_of, enters_label, joins, tries_label, label_on, tries_join, inputs_at, tries_joins}
-use Rattle.controller_model.specs.Changes.{changed_joins, takes_join_back, begins_change, takes_change, may_take, takes_each, takes_changes, change_comes}
-use Rattle.controller_model.specs.Meeting.{meets, up_ports, default_branches, ends_meeting, has_emptied, port_of_input, tells_port, behind_delete_all, causes_in_estab, causes, may_clear, clears_of, clears_port, clears, done, takes_answer, answer_comes}
-use Rattle.controller_model.specs.Gsmp.{answers, steps, told, gsmp_holds}
-use Rattle.controller_model.specs.Packets.{is_control, sends_next, goes_by, grant_by, forwarded, routes, control_protocol, injected}
-use Rattle.controller_model.specs.Cells.{Taker, ForGsmp, ForDefault, ForLabel, taker_of, takes_cell, reassembly_of, with_reassembly, label_holds, ifmp_holds, counted_at, packet_holds, default_holds, frame_holds, opened_frame, ends_frame, after_cell, cell_comes}
-use Rattle.controller_model.specs.Ticks.{sends_again, ticks_port, ticks_ports, ticks_by, ticks}
+use Rattle.world_model.specs.Controller.{Acted, Linked, free_slots, linked_at, ports_of, with_linked, with_desk, note, chains_with, default_end, default_home}
+use Rattle.world_model.specs.Sending.{sends, sends_control, says_gsmp}
+use Rattle.world_model.specs.Asking.{asks, sends_request}
+use Rattle.world_model.specs.Resets.{node_resets, node_restarts}
+use Rattle.world_model.specs.Joins.{Join, join_of, parts, gives_back, releases_join, releases_input, released_inputs, resets_spent, releases, join_for, may_join, enters_grant, output_of, enters_label, joins, tries_label, label_on, tries_join, inputs_at, tries_joins}
+use Rattle.world_model.specs.Changes.{changed_joins, takes_join_back, begins_change, takes_change, may_take, takes_each, takes_changes, change_comes}
+use Rattle.world_model.specs.Meeting.{meets, up_ports, default_branches, ends_meeting, has_emptied, port_of_input, tells_port, behind_delete_all, causes_in_estab, causes, may_clear, clears_of, clears_port, clears, done, takes_answer, answer_comes}
+use Rattle.world_model.specs.Gsmp.{answers, steps, told, gsmp_holds}
+use Rattle.world_model.specs.Packets.{is_control, sends_next, goes_by, grant_by, forwarded, routes, control_protocol, injected}
+use Rattle.world_model.specs.Cells.{Taker, ForGsmp, ForDefault, ForLabel, taker_of, takes_cell, reassembly_of, with_reassembly, label_holds, ifmp_holds, counted_at, packet_holds, default_holds, frame_holds, opened_frame, ends_frame, after_cell, cell_comes}
+use Rattle.world_model.specs.Ticks.{sends_again, ticks_port, ticks_ports, ticks_by, ticks}
 use Rattle.actor_pace.specs.Pace.{AreUpTo, changes_of}
 use Rattle.actor_pace.proofs.Cells.{ended_last, on_both}
 use Rattle.actor_pace.proofs.Paces.{Paces, itself, paces_then, Follows, follows, follows_then, paces_fold, ports_put, sends_paces, sends_control_paces, says_gsmp_paces, same, node_resets_paces, asks_paces, takes_back_paces, at_port_paces, node_restarts_paces}

@@ -34,14 +34,14 @@ use Rattle.crossbar_model.specs.declared.branch.Branch.{Branch}
 use Rattle.crossbar_model.specs.declared.routed.Routed.{Routed}
 use Rattle.crossbar_model.specs.declared.routed.Routed.TheVariants as routes
 use Rattle.crossbar_model.specs.Crossbar.{Crossbar, queue_of, sent, switched, switched_on, input_of, on_channel_of, routed}
-use Rattle.switch_model.specs.declared.port.PortState.{PortState}
-use Rattle.switch_model.specs.declared.request.Asked.{Asked}
-use Rattle.switch_model.specs.declared.request.Failure.{Failure}
-use Rattle.switch_model.specs.Switch.{Switch, Acted, control_port, gsmp_channel, free_slots, numbers_of, with_port, begun}
-use Rattle.switch_model.specs.Requests.{asked_in, is_request, managed, ports_after}
-use Rattle.switch_model.specs.Failures.{failure_of}
-use Rattle.switch_model.specs.Answers.{Handled, handled, handled_asked, handled_by}
-use Rattle.switch_model.specs.Conduct.{with_cells, sends, says, reset, answers, steps, replied, requested, told, read, opened_frame, ends_frame, gsmp_cell, passed, switched_cell, is_gsmp, cell_comes, tick_comes, restarted}
+use Rattle.world_model.specs.declared.port.PortState.{PortState}
+use Rattle.world_model.specs.declared.request.Asked.{Asked}
+use Rattle.world_model.specs.declared.request.Failure.{Failure}
+use Rattle.world_model.specs.Switch.{Switch, Acted, control_port, gsmp_channel, free_slots, numbers_of, with_port, begun}
+use Rattle.world_model.specs.Requests.{asked_in, is_request, managed, ports_after}
+use Rattle.world_model.specs.Failures.{failure_of}
+use Rattle.world_model.specs.Answers.{Handled, handled, handled_asked, handled_by}
+use Rattle.world_model.specs.Conduct.{with_cells, sends, says, reset, answers, steps, replied, requested, told, read, opened_frame, ends_frame, gsmp_cell, passed, switched_cell, is_gsmp, cell_comes, tick_comes, restarted}
 use Rattle.actor_pace.specs.Pace.{IsUpTo, AreUpTo, AreAllUpTo}
 use Rattle.actor_pace.proofs.Cells.{frame_up_to, every_set, every_at, on_both}
 

@@ -3,7 +3,7 @@
 use Rattle.std.specs.Prelude.{ℕ, ◌+◌, ◌≤◌, List, length}
 use Rattle.atm_cells.specs.declared.cell.Cell.{Cell}
 use Rattle.ordered_lists.specs.Ordered.{Every}
-use Rattle.controller_model.specs.Controller.{Controller}
+use Rattle.world_model.specs.Controller.{Controller}
 
 -- no cell's frame has a greater number
 abbrev pub IsUpTo : (most : ℕ) → Cell → Type 0

@@ -15,7 +15,7 @@ use Rattle.label_line.specs.Downstream.{takes_cell}
 use Rattle.label_line.specs.Line.{Line}
 use Rattle.label_line.specs.Moves.{Reassemble, Lose, reassembles_upstream, step, run}
 use Rattle.port_model.specs.declared.action.Action.{Action}
-use Rattle.controller_model.specs.Controller.{Acted, Linked, port_key, linked_at, with_linked}
+use Rattle.world_model.specs.Controller.{Acted, Linked, port_key, linked_at, with_linked}
 use Rattle.port_views.specs.Link.{LinkLabel, other}
 use Rattle.port_views.specs.Shown.{Part, part_of, ShownAt}
 use Rattle.port_views.proofs.Reach.{run_join}

@@ -27,10 +27,10 @@ use Rattle.port_facts.proofs.Keyed.{on_each, at_key, at_put_same}
 use Rattle.label_line.specs.Cells.{Role}
 use Rattle.label_line.specs.Line.{Line}
 use Rattle.port_model.specs.Hearing.{hears}
-use Rattle.controller_model.specs.Controller.{Acted, Linked, port_key, free_slots, linked_at, with_linked, note}
-use Rattle.controller_model.specs.Packets.{routes, control_protocol}
-use Rattle.controller_model.specs.Performing.{Rule, works, at_port}
-use Rattle.controller_model.specs.Cells.{Taker, ForDefault, ifmp_holds, counted_at, packet_holds, default_holds, after_test, ends_frame, after_cell, takes_cell}
+use Rattle.world_model.specs.Controller.{Acted, Linked, port_key, free_slots, linked_at, with_linked, note}
+use Rattle.world_model.specs.Packets.{routes, control_protocol}
+use Rattle.world_model.specs.Performing.{Rule, works, at_port}
+use Rattle.world_model.specs.Cells.{Taker, ForDefault, ifmp_holds, counted_at, packet_holds, default_holds, after_test, ends_frame, after_cell, takes_cell}
 use Rattle.port_views.specs.Link.{LinkLabel, other}
 use Rattle.shown_cells.specs.Seen.{nothing}
 use Rattle.shown_cells.specs.Label.{seen_payload}

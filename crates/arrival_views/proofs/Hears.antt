@@ -17,9 +17,9 @@ use Rattle.label_line.specs.Cells.{Role, Downstream, Upstream}
 use Rattle.label_line.specs.Line.{Line}
 use Rattle.label_line.specs.Moves.{Hear, step, run}
 use Rattle.port_model.specs.Port.{Work}
-use Rattle.controller_model.specs.Controller.{Acted, Linked, linked_at}
-use Rattle.controller_model.specs.Resets.{begins, with_work}
-use Rattle.controller_model.specs.Performing.{works_as}
+use Rattle.world_model.specs.Controller.{Acted, Linked, linked_at}
+use Rattle.world_model.specs.Resets.{begins, with_work}
+use Rattle.world_model.specs.Performing.{works_as}
 use Rattle.world_model.specs.Ways.{told}
 use Rattle.port_views.specs.Link.{LinkLabel, other}
 use Rattle.port_views.specs.Heard.{heard_by, is_own}

@@ -20,8 +20,8 @@ use Rattle.label_line.specs.Cells.{Role, Downstream, Upstream}
 use Rattle.label_line.specs.Line.{Line}
 use Rattle.port_model.specs.Labels.{Label, is_bound}
 use Rattle.port_model.specs.Port.{label_at}
-use Rattle.controller_model.specs.Controller.{Acted, Linked, port_key, free_slots, linked_at, note, chains_with, default_channel}
-use Rattle.controller_model.specs.Cells.{Taker, ForGsmp, ForDefault, ForLabel, port_on, on_link, same_channel, label_taker, taker_at, taker_of, reassembly_of, with_reassembly, frame_holds, after_test, after_cell, takes_cell, cell_comes}
+use Rattle.world_model.specs.Controller.{Acted, Linked, port_key, free_slots, linked_at, note, chains_with, default_channel}
+use Rattle.world_model.specs.Cells.{Taker, ForGsmp, ForDefault, ForLabel, port_on, on_link, same_channel, label_taker, taker_at, taker_of, reassembly_of, with_reassembly, frame_holds, after_test, after_cell, takes_cell, cell_comes}
 use Rattle.port_views.specs.Link.{LinkLabel}
 use Rattle.shown_cells.specs.Label.{OnControl, channel_at}
 use Rattle.shown_cells.proofs.Frames.{same_is}

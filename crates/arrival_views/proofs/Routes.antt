@@ -47,10 +47,10 @@ use Rattle.label_line.specs.Moves.{SendLabelled, step, run}
 use Rattle.label_line.specs.Upstream.{sends_labelled}
 use Rattle.port_model.specs.Setup.{control_end}
 use Rattle.port_model.specs.Grants.{Grant, GrantState, Idle, ByController, ByInput, Leaving, grant_label, grant_for, grant_of_kind, grant_matching, is_by_controller}
-use Rattle.controller_model.specs.Controller.{Acted, Linked, linked_at, default_channel, default_home}
-use Rattle.controller_model.specs.Cells.{same_channel}
-use Rattle.controller_model.specs.Sending.{with_cells, sends, sends_control}
-use Rattle.controller_model.specs.Packets.{is_control, sends_next, goes_by, goes_on, forwarded, routes, control_protocol}
+use Rattle.world_model.specs.Controller.{Acted, Linked, linked_at, default_channel, default_home}
+use Rattle.world_model.specs.Cells.{same_channel}
+use Rattle.world_model.specs.Sending.{with_cells, sends, sends_control}
+use Rattle.world_model.specs.Packets.{is_control, sends_next, goes_by, goes_on, forwarded, routes, control_protocol}
 use Rattle.port_views.specs.Link.{LinkLabel, other}
 use Rattle.port_views.specs.Flows.{flow_number}
 use Rattle.port_views.specs.Shown.{grant_in, granted, GrantShows, IsOfOther, Once}

@@ -15,10 +15,10 @@ use Rattle.label_line.specs.Cells.{Role}
 use Rattle.port_model.specs.Saying.{is_spent}
 use Rattle.port_model.specs.Port.{Work}
 use Rattle.port_model.specs.Hearing.{hears}
-use Rattle.controller_model.specs.Controller.{Acted, Linked, free_slots, linked_at, with_linked, default_channel}
-use Rattle.controller_model.specs.Packets.{routes, control_protocol}
-use Rattle.controller_model.specs.Cells.{Taker, taker_of, reassembly_of, with_reassembly, frame_holds, counted_at}
-use Rattle.controller_model.specs.Resets.{begins}
+use Rattle.world_model.specs.Controller.{Acted, Linked, free_slots, linked_at, with_linked, default_channel}
+use Rattle.world_model.specs.Packets.{routes, control_protocol}
+use Rattle.world_model.specs.Cells.{Taker, taker_of, reassembly_of, with_reassembly, frame_holds, counted_at}
+use Rattle.world_model.specs.Resets.{begins}
 use Rattle.port_views.specs.Link.{LinkLabel}
 use Rattle.shown_cells.specs.Label.{OnControl, channel_at}
 use Rattle.controller_views.specs.Ends.{EndLeads}

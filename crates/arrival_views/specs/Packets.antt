@@ -9,8 +9,8 @@ use Rattle.link_model.specs.Ledger.{payload_of}
 use Rattle.frame_model.specs.Frame.{next_mark}
 use Rattle.ordered_lists.specs.Ordered.{Every}
 use Rattle.port_model.specs.Grants.{Grant}
-use Rattle.controller_model.specs.Controller.{Controller, Acted, Linked, linked_at}
-use Rattle.controller_model.specs.Packets.{is_control, control_protocol}
+use Rattle.world_model.specs.Controller.{Controller, Acted, Linked, linked_at}
+use Rattle.world_model.specs.Packets.{is_control, control_protocol}
 
 -- *The mark of its next frame*: nothing was made under it
 pub data IsFree (a : Acted) (came : Mark) : Type 0 where

@@ -4,9 +4,9 @@ use Rattle.std.proofs.Common.{◌≡◌, ℕ, ◌==◌, ◌&&◌, Option, None, 
 use Rattle.gsmp_wire.specs.declared.message.Message.{Message}
 use Rattle.gsmp_wire.specs.declared.message.Message.TheVariants as messages
 use Rattle.gsmp_wire.specs.declared.rows.PortRow.{PortRow}
-use Rattle.desk_model.specs.Desk.{Desk, Standing}
-use Rattle.desk_model.specs.Answers.{Head, head_of, is_of_type, outcome, succeeded, answered}
-use Rattle.desk_model.specs.Answers.Answered.{Unknown, Done, Failed}
+use Rattle.port_model.specs.Desk.{Desk, Standing}
+use Rattle.port_model.specs.DeskAnswers.{Head, head_of, is_of_type, outcome, succeeded, answered}
+use Rattle.port_model.specs.DeskAnswers.Answered.{Unknown, Done, Failed}
 
 module _ (desk : Desk) (m : Message) (h : Head) (is : head_of m ≡ Some h) where
   answered_is : (o : Option Standing) → find (λ s. s.number == h.number && is_of_type m s.request) desk.standing ≡ o → answered desk m ≡ outcome m h o

@@ -10,9 +10,9 @@ use Rattle.net_types.specs.declared.channel.End.{End}
 use Rattle.gsmp_wire.specs.declared.request.Request.{Request}
 use Rattle.gsmp_wire.specs.declared.request.Request.TheVariants.{AddBranch, MoveBranch, DeleteTree, VerifyTree, DeleteAll, PortManagement, AllPorts}
 use Rattle.crossbar_model.specs.Crossbar.{same_end}
-use Rattle.desk_model.specs.Desk.{Standing}
-use Rattle.desk_model.specs.Messages.{all_of}
-use Rattle.desk_model.specs.Requests.{input_of, is_on, is_delete_all, leads_home, withdraws}
+use Rattle.port_model.specs.Desk.{Standing}
+use Rattle.port_model.specs.Messages.{all_of}
+use Rattle.port_model.specs.Requests.{input_of, is_on, is_delete_all, leads_home, withdraws}
 use Rattle.branch_desk.specs.Requests.{AreApart, deleted_of}
 use Rattle.branch_desk.proofs.Ends.{end_from_same, same_itself}
 use Rattle.branch_desk.proofs.Numbers.{not_true, found_first, find_passes}

@@ -4,9 +4,9 @@ use Rattle.std.proofs.Common.{◌≡◌, ◌↔◌, ℕ, zero, suc, ◌==◌, �
 use Rattle.std.proofs.lemmas.Bool.{eqb-true}
 use Rattle.gsmp_wire.specs.declared.message.Message.{Message}
 use Rattle.gsmp_wire.specs.declared.message.Message.TheVariants as messages
-use Rattle.desk_model.specs.Desk.{Desk, Standing}
-use Rattle.desk_model.specs.Answers.{Head, head_of, is_of_type, answered, outcome, succeeded}
-use Rattle.desk_model.specs.Answers.Answered.{Failed, Unknown}
+use Rattle.port_model.specs.Desk.{Desk, Standing}
+use Rattle.port_model.specs.DeskAnswers.{Head, head_of, is_of_type, answered, outcome, succeeded}
+use Rattle.port_model.specs.DeskAnswers.Answered.{Failed, Unknown}
 use Rattle.branch_desk.specs.declared.answered.Answered.{Answered as Told}
 use Rattle.branch_desk.specs.Answers.{told, done_of, IsDoneBy}
 use Rattle.branch_desk.specs.Requests.{AreRising}

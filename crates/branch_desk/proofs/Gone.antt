@@ -5,10 +5,10 @@ use Rattle.std.specs.List.{list_any}
 use Rattle.std.proofs.lemmas.Bool.{eqb-true}
 use Rattle.std.proofs.lemmas.List.Folds.{list_any-append}
 use Rattle.gsmp_wire.specs.declared.request.Request.{Request}
-use Rattle.desk_model.specs.Requests.{withdraws}
-use Rattle.desk_model.specs.Desk.{Desk, Standing}
-use Rattle.desk_model.specs.Answers.{Answered, answered, after_answer}
-use Rattle.desk_model.specs.Answers.Answered.{Unknown, Done, Ports, Failed}
+use Rattle.port_model.specs.Requests.{withdraws}
+use Rattle.port_model.specs.Desk.{Desk, Standing}
+use Rattle.port_model.specs.DeskAnswers.{Answered, answered, after_answer}
+use Rattle.port_model.specs.DeskAnswers.Answered.{Unknown, Done, Ports, Failed}
 use Rattle.branch_desk.specs.Later.{Call, after_call, after_calls, stands_under}
 use Rattle.branch_desk.specs.Later.Call.{Ask, Withdraw, Answer}
 use Rattle.branch_desk.proofs.Numbers.{has, not_true, or_left, or_right}

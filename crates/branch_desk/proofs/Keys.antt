@@ -17,9 +17,9 @@ use Rattle.gsmp_wire.specs.declared.request.Request.{Request}
 use Rattle.crossbar_model.specs.Channels.{end_cmp}
 use Rattle.crossbar_model.specs.Crossbar.{same_end}
 use Rattle.net_types.specs.declared.node.PortNo.{PortNo}
-use Rattle.desk_model.specs.Desk.{Standing}
-use Rattle.desk_model.specs.Messages.{all_of}
-use Rattle.desk_model.specs.Requests.{is_delete_all}
+use Rattle.port_model.specs.Desk.{Standing}
+use Rattle.port_model.specs.Messages.{all_of}
+use Rattle.port_model.specs.Requests.{is_delete_all}
 use Rattle.branch_desk.specs.declared.by_end.Numbered.{Numbered}
 use Rattle.branch_desk.specs.ByEnd.{IsPlaceOf, IsGapFor, IsEntered, entry_of, has_end, has_other, is_entry}
 use Rattle.branch_desk.specs.Requests.{AreRising, deleted_of}

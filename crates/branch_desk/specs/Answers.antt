@@ -2,9 +2,9 @@
 
 use Rattle.std.specs.Prelude.{◌≡◌, ℕ, true, Option, None, Some}
 use Rattle.gsmp_wire.specs.declared.message.Message.{Message}
-use Rattle.desk_model.specs.Answers.{head_of, is_of_type}
-use Rattle.desk_model.specs.Answers as meaning
-use Rattle.desk_model.specs.Desk.{Standing}
+use Rattle.port_model.specs.DeskAnswers.{head_of, is_of_type}
+use Rattle.port_model.specs.DeskAnswers as meaning
+use Rattle.port_model.specs.Desk.{Standing}
 use Rattle.branch_desk.specs.declared.answered.Answered.{Answered}
 use Rattle.branch_desk.specs.declared.answered.Answered.TheVariants.{Unknown, Done, Ports, Failed}
 

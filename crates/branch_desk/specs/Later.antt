@@ -4,8 +4,8 @@ use Rattle.std.specs.Prelude.{ℕ, Bool, ◌==◌, List, [], ◌∷◌}
 use Rattle.std.specs.List.{list_any}
 use Rattle.gsmp_wire.specs.declared.message.Message.{Message}
 use Rattle.gsmp_wire.specs.declared.request.Request.{Request}
-use Rattle.desk_model.specs.Desk.{Desk, Standing, asked}
-use Rattle.desk_model.specs.Answers.{answered, after_answer, without_request}
+use Rattle.port_model.specs.Desk.{Desk, Standing, asked}
+use Rattle.port_model.specs.DeskAnswers.{answered, after_answer, without_request}
 
 pub data Call : Type 0 where
   Ask : Request → Call

@@ -5,9 +5,9 @@ use Rattle.std.specs.List.{AllPairs}
 use Rattle.net_types.specs.declared.channel.End.{End}
 use Rattle.gsmp_wire.specs.declared.request.Request.{Request}
 use Rattle.gsmp_wire.specs.declared.request.Request.TheVariants.{DeleteAll, PortManagement}
-use Rattle.desk_model.specs.Desk.{Standing}
-use Rattle.desk_model.specs.Messages.{all_of}
-use Rattle.desk_model.specs.Requests.{withdraws}
+use Rattle.port_model.specs.Desk.{Standing}
+use Rattle.port_model.specs.Messages.{all_of}
+use Rattle.port_model.specs.Requests.{withdraws}
 
 -- Port Management brings the port up or takes it down
 abbrev pub has_function : Request → Bool

@@ -4,10 +4,10 @@ ghost use Rattle.std.specs.Prelude.{◌≡◌, ◌<◌, ◌≤◌, ◌==◌, ◌
 ghost use Rattle.std.specs.Option.{option_map, option_and_then};
 ghost use Rattle.std.specs.List.{list_any};
 ghost use Rattle.gsmp_wire.specs.Range.{IsInRange};
-ghost use Rattle.desk_model.specs.Answers.{answered, after_answer, without_request};
-ghost use Rattle.desk_model.specs.Desk.{Standing, all_on, asked, empty_desk, is_led_home, last_transaction, message_at, on_input};
-ghost use Rattle.desk_model.specs.Messages.{is_up};
-ghost use Rattle.desk_model.specs.Requests.{input_of, is_delete_all, is_on, withdraws};
+ghost use Rattle.port_model.specs.DeskAnswers.{answered, after_answer, without_request};
+ghost use Rattle.port_model.specs.Desk.{Standing, all_on, asked, empty_desk, is_led_home, last_transaction, message_at, on_input};
+ghost use Rattle.port_model.specs.Messages.{is_up};
+ghost use Rattle.port_model.specs.Requests.{input_of, is_delete_all, is_on, withdraws};
 ghost use Rattle.branch_desk.specs.Answers.{IsDoneBy, done_of, told};
 ghost use Rattle.branch_desk.specs.Requests.{AreApart, AreRising, deleted_of, has_function};
 ghost use Rattle.branch_desk.specs.Later.{Call, after_calls, stands_under};
@@ -42,7 +42,7 @@ pub struct Desk {
 }
 
 impl Model for Desk {
-    ghost use Rattle.desk_model.specs.Desk as desk;
+    ghost use Rattle.port_model.specs.Desk as desk;
     ghost use Rattle.std.specs.Prelude.{◌<◌, All};
 
     ghost Value = { desk.Desk };

@@ -1,7 +1,7 @@
 //! A request under its number.
 
 ghost use Rattle.std.specs.Prelude.{◌≡◌, IfSome};
-ghost use Rattle.desk_model.specs.Requests.{input_of, leads_home};
+ghost use Rattle.port_model.specs.Requests.{input_of, leads_home};
 ghost use Rattle.branch_desk.specs.Requests.{deleted_of};
 
 use crate::message::all_of;
@@ -17,7 +17,7 @@ pub(crate) struct Entry {
 }
 
 impl Model for Entry {
-    ghost use Rattle.desk_model.specs.Desk.{Standing};
+    ghost use Rattle.port_model.specs.Desk.{Standing};
 
     ghost Value = { Standing };
 

@@ -1,8 +1,8 @@
 //! Messages of GSMP, as a desk writes and hears them.
 
 ghost use Rattle.std.specs.Prelude.{◌≡◌};
-ghost use Rattle.desk_model.specs.Answers.{head_of, is_branch_of, is_of_type};
-ghost use Rattle.desk_model.specs.Messages.{all_of, branch_message, is_up, message_of, row_of, session_of};
+ghost use Rattle.port_model.specs.DeskAnswers.{head_of, is_branch_of, is_of_type};
+ghost use Rattle.port_model.specs.Messages.{all_of, branch_message, is_up, message_of, row_of, session_of};
 
 use gsmp_wire::{BranchKind, Message, PortRow, PortRows, Request};
 use net_types::{Channel, End, PortNo};
@@ -29,7 +29,7 @@ pub(crate) struct Head {
 }
 
 impl Model for Head {
-    ghost use Rattle.desk_model.specs.Answers as answers;
+    ghost use Rattle.port_model.specs.DeskAnswers as answers;
 
     ghost Value = { answers.Head };
 

@@ -3,8 +3,8 @@
 ghost use Rattle.std.specs.Prelude.{◌≡◌, ◌<◌, ◌≤◌, ◌==◌, ◌&&◌, ◌++◌, ◌∷◌, [], not, All, find, filter, length, slice_get, false, true, Some, is_some, IfOk, IfSome, IfNone};
 ghost use Rattle.std.specs.Option.{option_map};
 ghost use Rattle.std.specs.List.{list_any};
-ghost use Rattle.desk_model.specs.Answers.{is_of_type};
-ghost use Rattle.desk_model.specs.Requests.{is_on, is_delete_all, leads_home, withdraws};
+ghost use Rattle.port_model.specs.DeskAnswers.{is_of_type};
+ghost use Rattle.port_model.specs.Requests.{is_on, is_delete_all, leads_home, withdraws};
 ghost use Rattle.branch_desk.specs.Requests.{AreApart, AreRising, deleted_of, has_function};
 ghost use Rattle.branch_desk.specs.ByEnd.{IsUnder};
 
@@ -40,8 +40,8 @@ pub(crate) struct Requests {
 impl Model for Requests {
     ghost use Rattle.std.specs.Prelude.{◌≡◌, ◌≤◌, true, List, All, length};
     ghost use Rattle.std.specs.Vec.{vec_capacity};
-    ghost use Rattle.desk_model.specs.Desk.{Standing};
-    ghost use Rattle.desk_model.specs.Requests.{input_of};
+    ghost use Rattle.port_model.specs.Desk.{Standing};
+    ghost use Rattle.port_model.specs.Requests.{input_of};
     ghost use Rattle.branch_desk.specs.Requests.{AreApart, AreRising, deleted_of, has_function};
     ghost use Rattle.branch_desk.specs.ByEnd.{AreKeysOf};
 

@@ -15,7 +15,7 @@ pub struct Ticket {
 }
 
 impl Model for Ticket {
-    ghost use Rattle.desk_model.specs.Desk.{Standing};
+    ghost use Rattle.port_model.specs.Desk.{Standing};
 
     ghost Value = { Standing };
 
@@ -59,7 +59,7 @@ pub struct BranchDone {
 }
 
 impl Model for BranchDone {
-    ghost use Rattle.desk_model.specs.Desk.{Standing};
+    ghost use Rattle.port_model.specs.Desk.{Standing};
 
     ghost Value = { Standing };
 

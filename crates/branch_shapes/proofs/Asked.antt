@@ -12,15 +12,15 @@ use Rattle.gsmp_wire.specs.declared.request.Request.{Request}
 use Rattle.crossbar_model.specs.declared.branch.Branch.{Branch}
 use Rattle.crossbar_model.specs.Channels.{is_link_channel, is_channel_of, is_connectable}
 use Rattle.crossbar_model.specs.Crossbar.{Branches, same_end, new_branch}
-use Rattle.switch_model.specs.declared.port.PortState.{PortState}
-use Rattle.switch_model.specs.declared.request.Asked.{Asked}
-use Rattle.switch_model.specs.declared.request.Failure.TheVariants.{NoPort, BadSession, PortDown, OutOfRange, Busy, NoConnection, SessionsSpent}
-use Rattle.switch_model.specs.Switch.{numbers_of}
-use Rattle.switch_model.specs.Requests.{Changed, added_by, added, moved_by, moved_to, ended_by, ended, all_ended, inputs_on, branches_after}
-use Rattle.switch_model.specs.Failures.{named_ends, applies, failure_of}
+use Rattle.world_model.specs.declared.port.PortState.{PortState}
+use Rattle.world_model.specs.declared.request.Asked.{Asked}
+use Rattle.world_model.specs.declared.request.Failure.TheVariants.{NoPort, BadSession, PortDown, OutOfRange, Busy, NoConnection, SessionsSpent}
+use Rattle.world_model.specs.Switch.{numbers_of}
+use Rattle.world_model.specs.Requests.{Changed, added_by, added, moved_by, moved_to, ended_by, ended, all_ended, inputs_on, branches_after}
+use Rattle.world_model.specs.Failures.{named_ends, applies, failure_of}
 use Rattle.port_model.specs.Setup.{Setup, home_of}
 use Rattle.port_facts.specs.Port.{IsDefaultEnd, IsShaped, asks_ports, empties_control, empties_port, opens_input, opens_output, leads_label, leads_grant, joins_label, parts_label, frees_label}
-use Rattle.controller_model.specs.Controller.{default_end}
+use Rattle.world_model.specs.Controller.{default_end}
 use Rattle.world_views.specs.Between.{IsPortEnd, IsShapedBranch, default, label, home, out, joined}
 use Rattle.causes.proofs.Maps.{same_input, insert_here, insert_away, remove_here, remove_away}
 use Rattle.branch_shapes.specs.Shapes.{AreShaped}

@@ -33,15 +33,15 @@ use Rattle.crossbar_model.specs.declared.branch.Branch.{Branch}
 use Rattle.crossbar_model.specs.declared.routed.Routed.{Routed}
 use Rattle.crossbar_model.specs.declared.routed.Routed.TheVariants as routes
 use Rattle.crossbar_model.specs.Crossbar.{Crossbar, input_of, unfinished_after, routed, switched_on}
-use Rattle.desk_model.specs.Desk.{Standing}
-use Rattle.switch_model.specs.declared.port.PortState.{PortState}
-use Rattle.switch_model.specs.declared.request.Asked.{Asked}
-use Rattle.switch_model.specs.declared.request.Failure.{Failure}
-use Rattle.switch_model.specs.Switch.{Switch, Acted, control_port, gsmp_channel, free_slots, numbers_of, begun}
-use Rattle.switch_model.specs.Requests.{asked_in, is_request, ports_after}
-use Rattle.switch_model.specs.Failures.{failure_of}
-use Rattle.switch_model.specs.Answers.{handled_by, handled_asked, handled}
-use Rattle.switch_model.specs.Conduct.{sends, with_cells, says, answers, steps, replied, requested, told, read, after_test, ends_frame, gsmp_cell, passed as passed_cell, switched_cell, is_gsmp}
+use Rattle.port_model.specs.Desk.{Standing}
+use Rattle.world_model.specs.declared.port.PortState.{PortState}
+use Rattle.world_model.specs.declared.request.Asked.{Asked}
+use Rattle.world_model.specs.declared.request.Failure.{Failure}
+use Rattle.world_model.specs.Switch.{Switch, Acted, control_port, gsmp_channel, free_slots, numbers_of, begun}
+use Rattle.world_model.specs.Requests.{asked_in, is_request, ports_after}
+use Rattle.world_model.specs.Failures.{failure_of}
+use Rattle.world_model.specs.Answers.{handled_by, handled_asked, handled}
+use Rattle.world_model.specs.Conduct.{sends, with_cells, says, answers, steps, replied, requested, told, read, after_test, ends_frame, gsmp_cell, passed as passed_cell, switched_cell, is_gsmp}
 use Rattle.port_model.specs.Setup.{Setup}
 use Rattle.port_facts.specs.Port.{IsShaped, asks_ports, empties_control, empties_port, opens_input, opens_output, leads_label, leads_grant, joins_label, parts_label, frees_label}
 use Rattle.port_facts.proofs.Keyed.{on_both}

@@ -14,13 +14,13 @@ use Rattle.crossbar_model.specs.declared.branch.Branch.{Branch}
 use Rattle.crossbar_model.specs.Channels.{end_cmp}
 use Rattle.ordered_lists.specs.Ordered.{Every}
 use Rattle.ordered_lists.proofs.Every.{every_join}
-use Rattle.desk_model.specs.Desk.{Standing}
-use Rattle.switch_model.specs.Switch.{control_port, numbers_of, begun}
+use Rattle.port_model.specs.Desk.{Standing}
+use Rattle.world_model.specs.Switch.{control_port, numbers_of, begun}
 use Rattle.port_model.specs.Setup.{Policy}
 use Rattle.port_facts.specs.Port.{IsShaped}
 use Rattle.port_facts.proofs.Keyed.{at_every}
-use Rattle.controller_model.specs.Controller.{default_channel}
-use Rattle.controller_model.specs.Opening.{after_opening}
+use Rattle.world_model.specs.Controller.{default_channel}
+use Rattle.world_model.specs.Opening.{after_opening}
 use Rattle.world_model.specs.declared.event.Event.{Event}
 use Rattle.world_model.specs.Topology as topologies
 use Rattle.world_model.specs.Topology.{Topology, Node}

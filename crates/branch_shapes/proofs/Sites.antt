@@ -16,20 +16,20 @@ use Rattle.link_model.specs.declared.record.Record.TheVariants.{Forged}
 use Rattle.link_model.specs.Notes.{Journal}
 use Rattle.ordered_lists.specs.Ordered.{Every}
 use Rattle.keyed_lists.specs.Keyed.{at, put}
-use Rattle.desk_model.specs.Desk.{Standing}
-use Rattle.switch_model.specs.Switch as switches
-use Rattle.switch_model.specs.Switch.{control_port, numbers_of}
-use Rattle.switch_model.specs.Conduct as switch
+use Rattle.port_model.specs.Desk.{Standing}
+use Rattle.world_model.specs.Switch as switches
+use Rattle.world_model.specs.Switch.{control_port, numbers_of}
+use Rattle.world_model.specs.Conduct as switch
 use Rattle.port_model.specs.Setup.{Setup}
 use Rattle.port_facts.specs.Port.{IsShaped}
 use Rattle.port_facts.proofs.Keyed.{at_every}
-use Rattle.controller_model.specs.Controller.{Controller, Acted, Linked, default_channel}
-use Rattle.controller_model.specs.Packets.{inject_refusal, injected}
-use Rattle.controller_model.specs.Cells as controller
-use Rattle.controller_model.specs.Ticks as controller_ticks
-use Rattle.controller_model.specs.Resets.{node_restarts}
-use Rattle.controller_model.specs.Changes.{change_comes}
-use Rattle.controller_model.specs.Sending.{sends}
+use Rattle.world_model.specs.Controller.{Controller, Acted, Linked, default_channel}
+use Rattle.world_model.specs.Packets.{inject_refusal, injected}
+use Rattle.world_model.specs.Cells as controller
+use Rattle.world_model.specs.Ticks as controller_ticks
+use Rattle.world_model.specs.Resets.{node_restarts}
+use Rattle.world_model.specs.Changes.{change_comes}
+use Rattle.world_model.specs.Sending.{sends}
 use Rattle.controller_facts.specs.Inputs.{FrameIsForged, Input, CellComes, PacketEnters, Ticks, Restarts, ChangeComes, enters_unless, takes_input}
 use Rattle.controller_facts.specs.Sound.{IsSound, setups_by}
 use Rattle.controller_facts.proofs.Laws.{always_sound, input_sound}

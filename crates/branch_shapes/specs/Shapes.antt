@@ -8,9 +8,9 @@ use Rattle.link_model.specs.Ledger.{payload_of}
 use Rattle.frame_model.specs.Frame.{octets_of, payload_in}
 use Rattle.frame_model.specs.Reassembly.{taken}
 use Rattle.crossbar_model.specs.Crossbar.{Branches, output_of}
-use Rattle.desk_model.specs.Desk.{Standing}
-use Rattle.switch_model.specs.Switch.{Switch, Acted, control_port, free_slots, numbers_of}
-use Rattle.switch_model.specs.Conduct.{is_gsmp, cell_comes, tick_comes, restarted}
+use Rattle.port_model.specs.Desk.{Standing}
+use Rattle.world_model.specs.Switch.{Switch, Acted, control_port, free_slots, numbers_of}
+use Rattle.world_model.specs.Conduct.{is_gsmp, cell_comes, tick_comes, restarted}
 use Rattle.port_model.specs.Setup.{Setup}
 use Rattle.port_facts.specs.Port.{IsShaped}
 use Rattle.world_model.specs.Ways.{copy_under}

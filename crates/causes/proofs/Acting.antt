@@ -8,7 +8,7 @@ use Rattle.net_types.specs.declared.channel.Channel.{Channel}
 use Rattle.atm_cells.specs.declared.cell.Cell.{Cell}
 use Rattle.link_model.specs.declared.entries.Entry.{Entry}
 use Rattle.frame_model.specs.Reassembly.{Reassembly, nothing_taken}
-use Rattle.controller_model.specs.Controller.{Acted}
+use Rattle.world_model.specs.Controller.{Acted}
 use Rattle.world_model.specs.Topology.{Topology}
 use Rattle.world_model.specs.Conditions.{IsTopology}
 use Rattle.world_model.specs.World.{World, Site, site_key, site_at, with_site}

@@ -16,9 +16,9 @@ use Rattle.link_model.specs.Notes.{Journal, noted}
 use Rattle.frame_model.specs.Reassembly.{Reassembly, Taken, taken, nothing_taken}
 use Rattle.frame_model.specs.Frame.{Tested, tested, last_mark}
 use Rattle.frame_model.specs.Stretch.{stretch_from}
-use Rattle.controller_model.specs.Controller.{Controller, Acted, free_slots, default_channel}
-use Rattle.controller_model.specs.Cells as cells_of
-use Rattle.controller_model.specs.Cells.{ForGsmp, ForDefault, ForLabel, same_channel, taker_of, reassembly_of, with_reassembly, opened_frame, after_test, ends_frame, after_cell, takes_cell, cell_comes}
+use Rattle.world_model.specs.Controller.{Controller, Acted, free_slots, default_channel}
+use Rattle.world_model.specs.Cells as cells_of
+use Rattle.world_model.specs.Cells.{ForGsmp, ForDefault, ForLabel, same_channel, taker_of, reassembly_of, with_reassembly, opened_frame, after_test, ends_frame, after_cell, takes_cell, cell_comes}
 use Rattle.world_model.specs.declared.event.Event.{Event}
 use Rattle.world_model.specs.declared.event.Event.TheVariants.{Carry}
 use Rattle.world_model.specs.Topology.{Topology}

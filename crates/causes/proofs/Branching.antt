@@ -20,7 +20,7 @@ use Rattle.gsmp_wire.specs.declared.request.Request.{Request}
 use Rattle.gsmp_wire.specs.declared.request.Request.TheVariants.{AddBranch, MoveBranch, DeleteTree, VerifyTree, DeleteAll, PortManagement, AllPorts}
 use Rattle.crossbar_model.specs.declared.branch.Branch.{Branch}
 use Rattle.crossbar_model.specs.Crossbar.{Crossbar, Branches, same_end, new_branch}
-use Rattle.switch_model.specs.Requests.{Changed, noted_cut, added_by, added, moved_by, moved_to, ended_by, ended, all_ended, inputs_on, cleared, branches_after}
+use Rattle.world_model.specs.Requests.{Changed, noted_cut, added_by, added, moved_by, moved_to, ended_by, ended, all_ended, inputs_on, cleared, branches_after}
 use Rattle.world_model.specs.Topology.{Topology}
 use Rattle.world_model.specs.Conditions.{IsTopology}
 use Rattle.world_model.specs.World.{World, Site, site_at}

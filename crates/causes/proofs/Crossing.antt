@@ -17,8 +17,8 @@ use Rattle.link_model.specs.Notes.{noted}
 use Rattle.frame_model.specs.Reassembly.{Reassembly}
 use Rattle.crossbar_model.specs.declared.branch.Branch.{Branch}
 use Rattle.crossbar_model.specs.Crossbar.{Crossbar, route_on, on_channel_of, unfinished_after, forwarded, switched_on}
-use Rattle.switch_model.specs.Switch.{Acted, free_slots}
-use Rattle.switch_model.specs.Conduct.{passed, switched_cell, counted}
+use Rattle.world_model.specs.Switch.{Acted, free_slots}
+use Rattle.world_model.specs.Conduct.{passed, switched_cell, counted}
 use Rattle.world_model.specs.declared.event.Event.{Event}
 use Rattle.world_model.specs.declared.link.LinkEnd.{LinkEnd}
 use Rattle.world_model.specs.Topology.{Topology, peer_of}

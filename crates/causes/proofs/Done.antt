@@ -9,7 +9,7 @@ use Rattle.net_types.specs.declared.node.Place.TheVariants.{Down, Up, Out}
 use Rattle.net_types.specs.declared.channel.End.{End as PortEnd}
 use Rattle.atm_cells.specs.declared.cell.Cell.{Cell}
 use Rattle.link_model.specs.declared.entries.Entry.{Entry}
-use Rattle.switch_model.specs.Switch.{Switch}
+use Rattle.world_model.specs.Switch.{Switch}
 use Rattle.world_model.specs.Topology.{Topology}
 use Rattle.world_model.specs.Conditions.{IsTopology}
 use Rattle.world_model.specs.World.{World, Site, site_key, site_at, with_site}

@@ -14,8 +14,8 @@ use Rattle.keyed_lists.specs.Keyed.{at, put, without, entered, key_le}
 use Rattle.port_model.specs.Labels.{Label, label_number, is_bound}
 use Rattle.port_model.specs.Port.{Port, label_at, labels_of}
 use Rattle.port_facts.proofs.Keyed.{by_eq, on_each, on_both, at_key, at_put_same, at_put_other}
-use Rattle.controller_model.specs.Controller.{Controller, LabelChain, Linked, port_key, chain_key, chain_of, chains_with, chain_slots, default_channel}
-use Rattle.controller_model.specs.Cells.{Taker, ForGsmp, ForDefault, ForLabel, port_on, on_link, same_channel, label_taker, taker_at, taker_of, reassembly_of}
+use Rattle.world_model.specs.Controller.{Controller, LabelChain, Linked, port_key, chain_key, chain_of, chains_with, chain_slots, default_channel}
+use Rattle.world_model.specs.Cells.{Taker, ForGsmp, ForDefault, ForLabel, port_on, on_link, same_channel, label_taker, taker_at, taker_of, reassembly_of}
 use Rattle.cell_lists.proofs.Net.{End, Takes, Closed}
 use Rattle.causes.proofs.Spots.{same_spot}
 

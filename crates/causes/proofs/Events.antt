@@ -17,16 +17,16 @@ use Rattle.ipv4_packet.specs.declared.validate.PacketFault.{PacketFault}
 use Rattle.ipv4_packet.specs.Packet.{first_fault}
 use Rattle.frame_model.specs.Stretch.{stretch_from}
 use Rattle.keyed_lists.specs.Keyed.{at, put}
-use Rattle.switch_model.specs.Switch as switch_of
-use Rattle.switch_model.specs.Switch.{control_port, gsmp_channel}
-use Rattle.switch_model.specs.Conduct as switch
-use Rattle.controller_model.specs.Controller.{Acted}
-use Rattle.controller_model.specs.Cells as controller
-use Rattle.controller_model.specs.Cells.{same_channel}
-use Rattle.controller_model.specs.Ticks.{ticks}
-use Rattle.controller_model.specs.Resets.{node_restarts}
-use Rattle.controller_model.specs.Changes.{change_comes}
-use Rattle.controller_model.specs.Packets.{inject_refusal, refused_by, injected}
+use Rattle.world_model.specs.Switch as switch_of
+use Rattle.world_model.specs.Switch.{control_port, gsmp_channel}
+use Rattle.world_model.specs.Conduct as switch
+use Rattle.world_model.specs.Controller.{Acted}
+use Rattle.world_model.specs.Cells as controller
+use Rattle.world_model.specs.Cells.{same_channel}
+use Rattle.world_model.specs.Ticks.{ticks}
+use Rattle.world_model.specs.Resets.{node_restarts}
+use Rattle.world_model.specs.Changes.{change_comes}
+use Rattle.world_model.specs.Packets.{inject_refusal, refused_by, injected}
 use Rattle.world_model.specs.declared.event.Event.{Event}
 use Rattle.world_model.specs.declared.event.Event.TheVariants.{Inject, Carry, Lose, Tick, TickSwitch, Restart, RestartSwitch, Forge, Route}
 use Rattle.world_model.specs.declared.link.LinkEnd.{LinkEnd}

@@ -12,8 +12,8 @@ use Rattle.link_model.specs.declared.entries.Entry.{Entry}
 use Rattle.frame_model.specs.Reassembly.{Reassembly}
 use Rattle.frame_model.specs.Stretch.{stretch_from}
 use Rattle.keyed_lists.specs.Keyed.{at}
-use Rattle.controller_model.specs.Controller.{Controller, Acted, default_channel}
-use Rattle.controller_model.specs.Cells.{same_channel, taker_of, reassembly_of}
+use Rattle.world_model.specs.Controller.{Controller, Acted, default_channel}
+use Rattle.world_model.specs.Cells.{same_channel, taker_of, reassembly_of}
 use Rattle.world_model.specs.declared.event.Event.{Event}
 use Rattle.world_model.specs.Topology.{Topology}
 use Rattle.world_model.specs.Conditions.{IsTopology}

@@ -12,8 +12,8 @@ use Rattle.keyed_lists.specs.Keyed.{at}
 use Rattle.port_model.specs.Labels.{Label}
 use Rattle.port_model.specs.Port.{label_at}
 use Rattle.port_facts.proofs.Keyed.{at_key, at_every}
-use Rattle.controller_model.specs.Controller.{Controller, Linked, LabelChain, chain_key, port_key, default_channel}
-use Rattle.controller_model.specs.Cells.{ForGsmp, ForDefault, ForLabel, port_on, on_link, same_channel, label_taker, taker_at}
+use Rattle.world_model.specs.Controller.{Controller, Linked, LabelChain, chain_key, port_key, default_channel}
+use Rattle.world_model.specs.Cells.{ForGsmp, ForDefault, ForLabel, port_on, on_link, same_channel, label_taker, taker_at}
 use Rattle.world_model.specs.World.{World, Site, site_key, site_at, controller_at, opened}
 use Rattle.world_model.specs.Run.{world_after}
 use Rattle.controller_bindings.specs.Bindings.{IsOfBound}

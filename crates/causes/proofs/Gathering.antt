@@ -15,10 +15,10 @@ use Rattle.frame_model.specs.Reassembly.{Reassembly, Taken, taken}
 use Rattle.frame_model.specs.Frame.{Tested, tested}
 use Rattle.frame_model.specs.Stretch.{stretch_from}
 use Rattle.crossbar_model.specs.Crossbar.{Crossbar}
-use Rattle.switch_model.specs.Switch.{Acted, free_slots, gsmp_channel}
-use Rattle.switch_model.specs.Conduct.{gsmp_cell, ends_frame, opened_frame}
-use Rattle.controller_model.specs.Controller.{default_channel}
-use Rattle.controller_model.specs.Cells.{same_channel}
+use Rattle.world_model.specs.Switch.{Acted, free_slots, gsmp_channel}
+use Rattle.world_model.specs.Conduct.{gsmp_cell, ends_frame, opened_frame}
+use Rattle.world_model.specs.Controller.{default_channel}
+use Rattle.world_model.specs.Cells.{same_channel}
 use Rattle.world_model.specs.declared.event.Event.{Event}
 use Rattle.world_model.specs.declared.event.Event.TheVariants.{Carry}
 use Rattle.world_model.specs.Topology.{Topology}

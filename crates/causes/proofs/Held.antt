@@ -32,15 +32,15 @@ use Rattle.frame_model.specs.Frame.{frame_cells, made}
 use Rattle.frame_model.specs.Sending.{Sent}
 use Rattle.ordered_lists.specs.Ordered.{Every}
 use Rattle.crossbar_model.specs.Crossbar.{Crossbar, Branches, queue_of, sent}
-use Rattle.switch_model.specs.declared.port.PortState.{PortState}
-use Rattle.switch_model.specs.declared.request.Asked.{Asked}
-use Rattle.switch_model.specs.declared.request.Failure.{Failure}
-use Rattle.switch_model.specs.Switch.{Switch, Acted, control_port, gsmp_channel, free_slots, with_branches, with_port}
-use Rattle.switch_model.specs.Requests.{Changed, asked_in, is_request, branches_after, ports_after, managed}
-use Rattle.switch_model.specs.Failures.{failure_of}
-use Rattle.switch_model.specs.Answers.{failure_answer, success_answer, row_of, refused, carried_out, handled_by, handled_asked, handled}
-use Rattle.switch_model.specs.Conduct.{with_cells, says, answers, steps, replied, requested, told, read, opened_frame}
-use Rattle.controller_model.specs.Controller.{default_channel}
+use Rattle.world_model.specs.declared.port.PortState.{PortState}
+use Rattle.world_model.specs.declared.request.Asked.{Asked}
+use Rattle.world_model.specs.declared.request.Failure.{Failure}
+use Rattle.world_model.specs.Switch.{Switch, Acted, control_port, gsmp_channel, free_slots, with_branches, with_port}
+use Rattle.world_model.specs.Requests.{Changed, asked_in, is_request, branches_after, ports_after, managed}
+use Rattle.world_model.specs.Failures.{failure_of}
+use Rattle.world_model.specs.Answers.{failure_answer, success_answer, row_of, refused, carried_out, handled_by, handled_asked, handled}
+use Rattle.world_model.specs.Conduct.{with_cells, says, answers, steps, replied, requested, told, read, opened_frame}
+use Rattle.world_model.specs.Controller.{default_channel}
 use Rattle.world_model.specs.Topology.{Topology}
 use Rattle.world_model.specs.Conditions.{IsTopology}
 use Rattle.world_model.specs.World.{World, Site, site_at}

@@ -16,9 +16,9 @@ use Rattle.link_model.specs.Ledger.{same_mark}
 use Rattle.frame_model.specs.Reassembly.{Reassembly}
 use Rattle.frame_model.specs.Stretch.{stretch_from}
 use Rattle.port_model.specs.Setup.{home_of}
-use Rattle.controller_model.specs.Controller.{Controller, default_channel}
+use Rattle.world_model.specs.Controller.{Controller, default_channel}
 use Rattle.crossbar_model.specs.declared.branch.Branch.{Branch}
-use Rattle.controller_model.specs.Cells.{same_channel, taker_of, reassembly_of}
+use Rattle.world_model.specs.Cells.{same_channel, taker_of, reassembly_of}
 use Rattle.world_model.specs.declared.event.Event.{Event}
 use Rattle.world_model.specs.Topology.{Topology}
 use Rattle.world_model.specs.World.{World, Site, site_key, site_at, controller_at}

@@ -20,12 +20,12 @@ use Rattle.ordered_lists.specs.Ordered.{Every}
 use Rattle.ordered_lists.proofs.Every.{every_join}
 use Rattle.keyed_lists.specs.Keyed.{at}
 use Rattle.port_model.specs.Setup.{Policy, Setup}
-use Rattle.controller_model.specs.declared.range.PortRange.{PortRange}
-use Rattle.controller_model.specs.Controller.{port_key, default_channel}
-use Rattle.controller_model.specs.Cells.{same_channel, on_link, port_on}
+use Rattle.world_model.specs.declared.range.PortRange.{PortRange}
+use Rattle.world_model.specs.Controller.{port_key, default_channel}
+use Rattle.world_model.specs.Cells.{same_channel, on_link, port_on}
 use Rattle.net_types.specs.Label.{label_number_of}
-use Rattle.controller_model.specs.Opening.{setup_of, opens_port, opens_ports, after_opening}
-use Rattle.switch_model.specs.Switch.{begun}
+use Rattle.world_model.specs.Opening.{setup_of, opens_port, opens_ports, after_opening}
+use Rattle.world_model.specs.Switch.{begun}
 use Rattle.world_model.specs.Topology as topologies
 use Rattle.world_model.specs.Topology.{Topology, Node, peer_of, ranges_of, timers_of}
 use Rattle.world_model.specs.World.{World, Site, site_key, site_at, empty_world, opened, opened_site, with_opened, opens_each}

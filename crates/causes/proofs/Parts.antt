@@ -15,8 +15,8 @@ use Rattle.atm_cells.specs.declared.cell.Cell.{Cell}
 use Rattle.frame_model.specs.Reassembly.{Reassembly}
 use Rattle.crossbar_model.specs.declared.branch.Branch.{Branch}
 use Rattle.port_model.specs.Setup.{home_of}
-use Rattle.controller_model.specs.Controller.{Controller, Linked, default_channel}
-use Rattle.controller_model.specs.Cells.{same_channel}
+use Rattle.world_model.specs.Controller.{Controller, Linked, default_channel}
+use Rattle.world_model.specs.Cells.{same_channel}
 use Rattle.world_model.specs.declared.link.LinkEnd.{LinkEnd}
 use Rattle.world_model.specs.Topology.{Topology, peer_of}
 use Rattle.world_model.specs.Conditions.{IsTopology}

@@ -25,10 +25,10 @@ use Rattle.ordered_lists.proofs.Every.{every_join, every_map}
 use Rattle.keyed_lists.specs.Keyed.{at, put}
 use Rattle.port_model.specs.Port.{Port}
 use Rattle.port_facts.proofs.Keyed.{by_eq, on_both, at_key, at_put_same}
-use Rattle.controller_model.specs.Controller.{Controller, Acted, LabelChain, Linked, port_key, free_slots, linked_at, note, chain_of, chains_with, default_channel}
-use Rattle.controller_model.specs.Sending.{with_cells, sends}
-use Rattle.controller_model.specs.Resets.{cuts_of, cuts_label, cuts_default_of, cuts_default}
-use Rattle.controller_model.specs.Cells.{ForGsmp, port_on, on_link, same_channel, taker_at}
+use Rattle.world_model.specs.Controller.{Controller, Acted, LabelChain, Linked, port_key, free_slots, linked_at, note, chain_of, chains_with, default_channel}
+use Rattle.world_model.specs.Sending.{with_cells, sends}
+use Rattle.world_model.specs.Resets.{cuts_of, cuts_label, cuts_default_of, cuts_default}
+use Rattle.world_model.specs.Cells.{ForGsmp, port_on, on_link, same_channel, taker_at}
 use Rattle.world_model.specs.Ways.{on_channel}
 use Rattle.cell_lists.specs.Causes.{bare}
 use Rattle.cell_lists.proofs.Frames.{IsWhole, whole_frame}

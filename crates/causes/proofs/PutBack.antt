@@ -11,8 +11,8 @@ use Rattle.keyed_lists.specs.Keyed.{at, put}
 use Rattle.port_model.specs.Labels.{Label, label_number, is_bound}
 use Rattle.port_model.specs.Port.{label_at, labels_of}
 use Rattle.port_facts.proofs.Keyed.{at_key}
-use Rattle.controller_model.specs.Controller.{Controller, Acted, Linked, port_key, chains_with, default_channel}
-use Rattle.controller_model.specs.Cells.{Taker, ForGsmp, ForDefault, ForLabel, port_on, on_link, same_channel, label_taker, taker_at, taker_of, with_reassembly}
+use Rattle.world_model.specs.Controller.{Controller, Acted, Linked, port_key, chains_with, default_channel}
+use Rattle.world_model.specs.Cells.{Taker, ForGsmp, ForDefault, ForLabel, port_on, on_link, same_channel, label_taker, taker_at, taker_of, with_reassembly}
 use Rattle.causes.proofs.Spots.{channels_are, channels_apart}
 use Rattle.causes.proofs.Ends.{label_chain, chain_at, chain_in, open_in, put_same, put_new, taken_by_port, chain_here, chain_there, label_link, control_parts}
 

@@ -16,12 +16,12 @@ use Rattle.link_model.specs.Notes.{Journal}
 use Rattle.frame_model.specs.Reassembly.{Reassembly, nothing_taken, cut}
 use Rattle.frame_model.specs.Stretch.{stretch_from}
 use Rattle.crossbar_model.specs.Crossbar.{Crossbar}
-use Rattle.switch_model.specs.declared.port.PortState.{PortState}
-use Rattle.switch_model.specs.Switch.{Acted, begun as begun_port}
-use Rattle.switch_model.specs.Requests.{Changed, all_ended}
-use Rattle.switch_model.specs.Conduct.{tick_comes, restarted}
-use Rattle.controller_model.specs.Controller.{default_channel}
-use Rattle.controller_model.specs.Cells.{same_channel}
+use Rattle.world_model.specs.declared.port.PortState.{PortState}
+use Rattle.world_model.specs.Switch.{Acted, begun as begun_port}
+use Rattle.world_model.specs.Requests.{Changed, all_ended}
+use Rattle.world_model.specs.Conduct.{tick_comes, restarted}
+use Rattle.world_model.specs.Controller.{default_channel}
+use Rattle.world_model.specs.Cells.{same_channel}
 use Rattle.world_model.specs.declared.event.Event.{Event}
 use Rattle.world_model.specs.Topology.{Topology}
 use Rattle.world_model.specs.Conditions.{IsTopology}

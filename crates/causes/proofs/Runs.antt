@@ -24,11 +24,11 @@ use Rattle.frame_model.specs.Sending.{Sent, sent_frame}
 use Rattle.frame_model.specs.Stretch.{Turn, Takes, IsCut, stretch_from, open_stretch}
 use Rattle.ordered_lists.specs.Ordered.{Every}
 use Rattle.run_model.specs.Causes.{StandsBesideCause, is_broken, has_mark}
-use Rattle.switch_model.specs.Switch as switches
-use Rattle.switch_model.specs.Switch.{control_port}
-use Rattle.switch_model.specs.Conduct as switch
-use Rattle.controller_model.specs.Controller.{free_slots}
-use Rattle.controller_model.specs.Sending.{with_cells, sends}
+use Rattle.world_model.specs.Switch as switches
+use Rattle.world_model.specs.Switch.{control_port}
+use Rattle.world_model.specs.Conduct as switch
+use Rattle.world_model.specs.Controller.{free_slots}
+use Rattle.world_model.specs.Sending.{with_cells, sends}
 use Rattle.port_model.specs.Setup.{Policy}
 use Rattle.world_model.specs.declared.event.Event.{Event}
 use Rattle.world_model.specs.declared.event.Event.TheVariants.{Inject, Carry, Lose, Tick, TickSwitch, Restart, RestartSwitch, Forge, Route}

@@ -11,8 +11,8 @@ use Rattle.net_types.specs.declared.node.Place.TheVariants.{Down, Up, Out}
 use Rattle.net_types.specs.declared.channel.Channel.{Channel}
 use Rattle.net_types.specs.declared.channel.End.{End as PortEnd}
 use Rattle.crossbar_model.specs.declared.branch.Branch.{Branch}
-use Rattle.controller_model.specs.Controller.{default_channel}
-use Rattle.controller_model.specs.Cells.{same_channel}
+use Rattle.world_model.specs.Controller.{default_channel}
+use Rattle.world_model.specs.Cells.{same_channel}
 use Rattle.world_model.specs.declared.link.LinkEnd.{LinkEnd}
 use Rattle.world_model.specs.Topology.{Topology, Link, same_link_end, peer_on, peer_among, peer_of}
 use Rattle.world_model.specs.Conditions.{IsTopology, IsLink, IsPort, IsNode}

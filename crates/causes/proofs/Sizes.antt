@@ -41,8 +41,8 @@ use Rattle.gsmp_wire.specs.declared.fault.Fault.{Fault as GsmpFault}
 use Rattle.gsmp_wire.specs.Refusal.{refusal, type_of}
 use Rattle.gsmp_wire.specs.Fields.{hello_kind, party_in, decoded_by, decoded as gsmp_decoded}
 use Rattle.gsmp_wire.specs.Layout.{octets_of as gsmp_octets, rows_octets}
-use Rattle.desk_model.specs.Desk.{Desk, Standing, message_at}
-use Rattle.desk_model.specs.Messages.{message_of}
+use Rattle.port_model.specs.Desk.{Desk, Standing, message_at}
+use Rattle.port_model.specs.Messages.{message_of}
 
 abbrev pub HasLength : List ℕ → Type 0
 HasLength payload = (1 ≤ length payload) × (length payload ≤ 1528)

@@ -16,7 +16,7 @@ use Rattle.aal5_frames.specs.Frame.{cell_of, cells_for, pdu_of}
 use Rattle.aal5_frames.proofs.Cells.{cells_all, length-pdu_of}
 use Rattle.frame_model.specs.Frame.{frame_cells}
 use Rattle.ordered_lists.specs.Ordered.{Every}
-use Rattle.controller_model.specs.Cells.{same_channel}
+use Rattle.world_model.specs.Cells.{same_channel}
 use Rattle.port_facts.proofs.Keyed.{by_eq}
 use Rattle.world_model.specs.Ways.{on_channel}
 

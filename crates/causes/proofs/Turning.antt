@@ -12,9 +12,9 @@ use Rattle.atm_cells.specs.declared.cell.Cell.{Cell}
 use Rattle.link_model.specs.Notes.{Journal}
 use Rattle.frame_model.specs.Reassembly.{Reassembly, taken, passed_over, without_slot, too_long, nothing_taken, most_cells}
 use Rattle.frame_model.specs.Stretch.{Takes, IsCut, stretch_from}
-use Rattle.controller_model.specs.Controller.{Controller, default_channel}
-use Rattle.controller_model.specs.Cells.{taker_of, reassembly_of, same_channel}
-use Rattle.controller_model.specs.Cells as cells
+use Rattle.world_model.specs.Controller.{Controller, default_channel}
+use Rattle.world_model.specs.Cells.{taker_of, reassembly_of, same_channel}
+use Rattle.world_model.specs.Cells as cells
 use Rattle.world_model.specs.World.{World, controller_at}
 use Rattle.world_model.specs.Stretches.{Taker, OfController, OfSwitch, reassembly_at, has_slot, cell_for, arrival, taken_at, left_by, is_nothing, cut_turn, cell_turn, turns_at}
 use Rattle.world_model.specs.declared.event.Event.{Event}

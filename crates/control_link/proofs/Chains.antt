@@ -8,7 +8,7 @@ use Rattle.std.proofs.lemmas.Bool.Decides.{nat_tests}
 use Rattle.atm_cells.specs.declared.cell.Cell.{Cell}
 use Rattle.frame_model.specs.Reassembly.{Reassembly, nothing_taken}
 use Rattle.keyed_lists.specs.Keyed.{at, without, entered, key_le}
-use Rattle.controller_model.specs.Controller.{LabelChain, chain_key, chain_of, chain_slots, chains_with}
+use Rattle.world_model.specs.Controller.{LabelChain, chain_key, chain_of, chain_slots, chains_with}
 use Rattle.control_link.specs.Link.{chains_from, has_cells}
 
 differ : (a b : ℕ) → b < a → nat_eq a b ≡ false

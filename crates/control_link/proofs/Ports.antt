@@ -11,8 +11,8 @@ use Rattle.std.proofs.lemmas.List.Sums.{sum_by-cons, sum_by-take-drop}
 use Rattle.net_types.specs.declared.node.PortNo.{PortNo}
 use Rattle.frame_model.specs.Reassembly.{Reassembly, nothing_taken}
 use Rattle.keyed_lists.specs.Keyed.{at, put}
-use Rattle.controller_model.specs.declared.range.PortRange.{PortRange}
-use Rattle.controller_model.specs.Controller.{chains_with}
+use Rattle.world_model.specs.declared.range.PortRange.{PortRange}
+use Rattle.world_model.specs.Controller.{chains_with}
 use Rattle.control_link.specs.declared.taker.Taker.{Taker}
 use Rattle.control_link.specs.declared.taker.Taker.TheVariants.{Gsmp, Default, Label}
 use Rattle.control_link.specs.Cells.{PortCells, free_slots, is_channel, is_label_of, opened, port_key, port_slots, range_at, reassembly_of, with_reassembly}

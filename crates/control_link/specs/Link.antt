@@ -2,8 +2,8 @@
 
 use Rattle.std.specs.Prelude.{◌≡◌, ℕ, Bool, ◌+◌, ◌-◌, ◌||◌, nat_lt, List, [], ◌∷◌, drop, length, slice_index_or, take, if◌then◌else◌}
 use Rattle.frame_model.specs.Reassembly.{Reassembly, nothing_taken}
-use Rattle.controller_model.specs.declared.range.PortRange.{PortRange}
-use Rattle.controller_model.specs.Controller.{LabelChain, chain_slots}
+use Rattle.world_model.specs.declared.range.PortRange.{PortRange}
+use Rattle.world_model.specs.Controller.{LabelChain, chain_slots}
 use Rattle.control_link.specs.Cells.{ControlCells, PortCells}
 use Rattle.control_link.specs.Layout.{count_of, width}
 use Rattle.control_link.specs.Store.{Stored}

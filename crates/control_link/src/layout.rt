@@ -6,7 +6,7 @@ ghost use Rattle.control_link.specs.Cells.{IsRange, is_channel, range_at};
 ghost use Rattle.control_link.specs.Layout.{count_of, first_of, place_of, width};
 
 use crate::taker::Taker;
-use controller_model::PortRange;
+use world_model::PortRange;
 use net_types::{OutOfMemory, PortNo};
 use std::alloc::Global;
 use std::marker::Model;
@@ -43,7 +43,7 @@ pub(crate) struct Layout {
 
 impl Model for Layout {
     ghost use Rattle.std.specs.Prelude.{List};
-    ghost use Rattle.controller_model.specs.declared.range.PortRange.{PortRange};
+    ghost use Rattle.world_model.specs.declared.range.PortRange.{PortRange};
     ghost use Rattle.control_link.specs.Layout.{AreBlocks};
 
     ghost Value = { List PortRange };

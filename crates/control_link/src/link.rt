@@ -14,7 +14,7 @@ use crate::store::Store;
 use crate::taker::Taker;
 use atm_cells::Cell;
 use cell_pool::Pool;
-use controller_model::PortRange;
+use world_model::PortRange;
 use frame_model::Queues;
 use link_model::Notes;
 use net_types::OutOfMemory;

@@ -41,11 +41,11 @@ use Rattle.frame_readings.proofs.Packets.{is_forwarded, is_heard}
 use Rattle.frame_readings.proofs.Reading.{read_default}
 use Rattle.port_facts.proofs.Rules.{and_first}
 use Rattle.port_facts.proofs.Keyed.{on_each}
-use Rattle.controller_model.specs.Controller.{Acted, Linked, free_slots, chain_of, chains_with, default_home}
-use Rattle.controller_model.specs.Sending.{sends, sends_control, says_gsmp}
-use Rattle.controller_model.specs.Performing.{Rule, at_port}
-use Rattle.controller_model.specs.Packets.{is_control, sends_next, goes_by, grant_by, forwarded, routes}
-use Rattle.controller_model.specs.Cells.{Taker, ForGsmp, ForDefault, ForLabel, taker_of, reassembly_of, with_reassembly, label_holds, ifmp_holds, counted_at, packet_holds, default_holds, frame_holds, after_test, ends_frame, takes_cell, cell_comes}
+use Rattle.world_model.specs.Controller.{Acted, Linked, free_slots, chain_of, chains_with, default_home}
+use Rattle.world_model.specs.Sending.{sends, sends_control, says_gsmp}
+use Rattle.world_model.specs.Performing.{Rule, at_port}
+use Rattle.world_model.specs.Packets.{is_control, sends_next, goes_by, grant_by, forwarded, routes}
+use Rattle.world_model.specs.Cells.{Taker, ForGsmp, ForDefault, ForLabel, taker_of, reassembly_of, with_reassembly, label_holds, ifmp_holds, counted_at, packet_holds, default_holds, frame_holds, after_test, ends_frame, takes_cell, cell_comes}
 use Rattle.run_facts.proofs.Taking.{taken_frames, tested_frames, taken_chain}
 use Rattle.run_facts.proofs.Takers.{taker_at_port}
 use Rattle.actor_pace.proofs.Cells.{ended_last}

@@ -27,10 +27,10 @@ use Rattle.ordered_lists.specs.Ordered.{Every}
 use Rattle.ordered_lists.proofs.Every.{every_join, every_map, every_all}
 use Rattle.port_facts.proofs.Keyed.{on_both}
 use Rattle.port_model.specs.Setup.{Setup}
-use Rattle.controller_model.specs.Controller.{Controller, Acted, Linked, free_slots, default_channel, default_home}
-use Rattle.controller_model.specs.Cells.{Taker, same_channel, port_on, taker_of}
-use Rattle.controller_model.specs.Packets.{inject_refusal}
-use Rattle.controller_model.specs.Sending.{with_cells, sends, sends_control, says_gsmp}
+use Rattle.world_model.specs.Controller.{Controller, Acted, Linked, free_slots, default_channel, default_home}
+use Rattle.world_model.specs.Cells.{Taker, same_channel, port_on, taker_of}
+use Rattle.world_model.specs.Packets.{inject_refusal}
+use Rattle.world_model.specs.Sending.{with_cells, sends, sends_control, says_gsmp}
 use Rattle.controller_facts.specs.Inputs.{Input, CellComes, PacketEnters, Ticks, Restarts, ChangeComes, FrameIsForged, CellLeaves, Meanwhile, enters_unless, takes_input}
 use Rattle.run_facts.specs.Frames.{IsFree}
 use Rattle.run_facts.proofs.Frames.{made_elsewhere, free_next, free_packet}

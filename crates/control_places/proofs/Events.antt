@@ -10,13 +10,13 @@ use Rattle.atm_cells.specs.declared.cell.Cell.{Cell}
 use Rattle.link_model.specs.declared.frames.Frame.{Frame}
 use Rattle.link_model.specs.declared.record.Refusal.{Refusal}
 use Rattle.link_model.specs.Notes.{Journal}
-use Rattle.switch_model.specs.Switch.{control_port}
-use Rattle.controller_model.specs.Controller.{Acted}
-use Rattle.controller_model.specs.Packets.{inject_refusal, injected}
-use Rattle.controller_model.specs.Cells as controller
-use Rattle.controller_model.specs.Ticks.{ticks}
-use Rattle.controller_model.specs.Resets.{node_restarts}
-use Rattle.controller_model.specs.Changes.{change_comes}
+use Rattle.world_model.specs.Switch.{control_port}
+use Rattle.world_model.specs.Controller.{Acted}
+use Rattle.world_model.specs.Packets.{inject_refusal, injected}
+use Rattle.world_model.specs.Cells as controller
+use Rattle.world_model.specs.Ticks.{ticks}
+use Rattle.world_model.specs.Resets.{node_restarts}
+use Rattle.world_model.specs.Changes.{change_comes}
 use Rattle.controller_facts.specs.Inputs.{Input, CellComes, PacketEnters, Ticks, Restarts, ChangeComes, enters_unless, takes_input}
 use Rattle.controller_facts.specs.Sound.{IsOwn}
 use Rattle.world_model.specs.declared.event.Event.{Event}

@@ -12,8 +12,8 @@ use Rattle.crossbar_model.specs.Channels.{IsLinkPort}
 use Rattle.port_model.specs.Setup.{Setup, home_of}
 use Rattle.port_facts.specs.Port.{setup_port, IsLinked}
 use Rattle.port_facts.proofs.Keyed.{at_every, at_key}
-use Rattle.controller_model.specs.Controller.{Linked, port_key}
-use Rattle.controller_model.specs.Cells.{port_on}
+use Rattle.world_model.specs.Controller.{Linked, port_key}
+use Rattle.world_model.specs.Cells.{port_on}
 use Rattle.controller_facts.proofs.Conditions.{label_has_home}
 use Rattle.world_views.specs.Between.{IsPortEnd, IsShapedBranch, default, label, home, out, joined}
 

@@ -20,10 +20,10 @@ use Rattle.ordered_lists.specs.Ordered.{Every}
 use Rattle.keyed_lists.specs.Keyed.{at}
 use Rattle.port_facts.proofs.Keyed.{at_key, at_every, every_more}
 use Rattle.crossbar_model.specs.Crossbar.{queue_of}
-use Rattle.switch_model.specs.Switch.{control_port}
+use Rattle.world_model.specs.Switch.{control_port}
 use Rattle.port_model.specs.Setup.{Policy}
-use Rattle.controller_model.specs.Controller.{Linked, port_key}
-use Rattle.controller_model.specs.Cells.{port_on}
+use Rattle.world_model.specs.Controller.{Linked, port_key}
+use Rattle.world_model.specs.Cells.{port_on}
 use Rattle.controller_facts.specs.Inputs.{Input, takes_input}
 use Rattle.controller_facts.specs.Sound.{IsOwn}
 use Rattle.controller_views.specs.Lifted.{payload_by}

@@ -11,9 +11,9 @@ use Rattle.atm_cells.specs.declared.cell.Cell.{Cell}
 use Rattle.link_model.specs.declared.frames.Frame.{Frame}
 use Rattle.ordered_lists.specs.Ordered.{Every}
 use Rattle.crossbar_model.specs.Crossbar.{queue_of}
-use Rattle.switch_model.specs.Switch as switches
-use Rattle.switch_model.specs.Switch.{control_port}
-use Rattle.controller_model.specs.Controller.{Acted, Linked}
+use Rattle.world_model.specs.Switch as switches
+use Rattle.world_model.specs.Switch.{control_port}
+use Rattle.world_model.specs.Controller.{Acted, Linked}
 use Rattle.controller_facts.specs.Inputs.{Input, takes_input}
 use Rattle.world_model.specs.Topology.{Topology}
 use Rattle.world_model.specs.Lines.{is_linked}

@@ -20,10 +20,10 @@ use Rattle.port_model.specs.Labels.{Label, is_bound, label_number}
 use Rattle.port_model.specs.Port.{label_at, labels_of}
 use Rattle.port_state.specs.Engine.{bound_flow, flow_at}
 use Rattle.port_facts.proofs.Keyed.{at_every}
-use Rattle.controller_model.specs.Controller.{Acted, Controller, Linked, chains_with, linked_at, note, port_key}
-use Rattle.controller_model.specs.Cells.{Taker, ForGsmp, ForDefault, ForLabel, cell_comes, default_holds, frame_holds, label_holds, opened_frame, taker_of, takes_cell}
-use Rattle.controller_model.specs.Gsmp.{gsmp_holds}
-use Rattle.controller_model.specs.Packets.{routes}
+use Rattle.world_model.specs.Controller.{Acted, Controller, Linked, chains_with, linked_at, note, port_key}
+use Rattle.world_model.specs.Cells.{Taker, ForGsmp, ForDefault, ForLabel, cell_comes, default_holds, frame_holds, label_holds, opened_frame, taker_of, takes_cell}
+use Rattle.world_model.specs.Gsmp.{gsmp_holds}
+use Rattle.world_model.specs.Packets.{routes}
 use Rattle.controller_facts.specs.Said.{HasFlowsAt}
 use Rattle.join_facts.proofs.Splits.{at_put}
 use Rattle.router.specs.Cells.{IsFound, channel_of, gathered, receipt}

@@ -5,7 +5,7 @@ use Rattle.std.specs.Result.{result_err}
 use Rattle.net_types.specs.declared.memory.OutOfMemory.{OutOfMemory}
 use Rattle.net_types.specs.Number.{AreDrawn, GivenOut, HasNumbersLeft}
 use Rattle.link_model.specs.Notes.{Journal}
-use Rattle.controller_model.specs.Controller.{Acted}
+use Rattle.world_model.specs.Controller.{Acted}
 use Rattle.controller_facts.specs.Inputs.{Input, CellLeaves, takes_input}
 use Rattle.controller_facts.specs.Sound.{IsOwn}
 use Rattle.gsmp_client.specs.Client.{PortEnd}

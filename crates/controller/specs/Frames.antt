@@ -14,9 +14,9 @@ use Rattle.control_link.specs.declared.taker.Taker as control
 use Rattle.control_link.specs.declared.taker.Taker.TheVariants.{Gsmp, Default, Label}
 use Rattle.port_model.specs.Counting.{used}
 use Rattle.port_state.specs.Engine.{flow_at}
-use Rattle.controller_model.specs.Controller.{Acted, Controller, linked_at}
-use Rattle.controller_model.specs.Cells.{Taker, ForGsmp, ForDefault, ForLabel}
-use Rattle.controller_model.specs.Performing.{at_port}
+use Rattle.world_model.specs.Controller.{Acted, Controller, linked_at}
+use Rattle.world_model.specs.Cells.{Taker, ForGsmp, ForDefault, ForLabel}
+use Rattle.world_model.specs.Performing.{at_port}
 use Rattle.joining_router.specs.Answers.{CanBeTold}
 use Rattle.joining_conditions.specs.Cells.{CanHoldPacket}
 

@@ -3,7 +3,7 @@
 
 ghost use Rattle.std.specs.Prelude.{◌≡◌, ◌≤◌, ◌<◌, ◌^◌, length, OnOk};
 ghost use Rattle.net_types.specs.Number.{HasNumbersLeft};
-ghost use Rattle.controller_model.specs.Cells.{Taker as TakerValue, cell_comes, frame_holds};
+ghost use Rattle.world_model.specs.Cells.{Taker as TakerValue, cell_comes, frame_holds};
 ghost use Rattle.router.specs.Cells.{channel_of};
 ghost use Rattle.router.specs.Conditions.{HasMark};
 ghost use Rattle.joining_router.specs.Joining.{AreJoined, acted, controller_of};

@@ -2,7 +2,7 @@
 
 ghost use Rattle.std.specs.Prelude.{◌≡◌, length, option_map, IsSome, Some};
 ghost use Rattle.cell_pool.specs.Region.{size};
-ghost use Rattle.controller_model.specs.Controller.{free_slots, linked_at};
+ghost use Rattle.world_model.specs.Controller.{free_slots, linked_at};
 ghost use Rattle.router.specs.Node.{end_of};
 ghost use Rattle.joining_router.specs.Joining.{controller_of};
 

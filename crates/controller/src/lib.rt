@@ -1,6 +1,6 @@
 //! The controller of an IP switch: a router whose links are the ports of an ATM switch, which it drives by
 //! GSMP (RFC 1987), and which redirects flows to labels by IFMP (RFC 1953). What it does is defined in
-//! `controller_model`; [`Controller`] is that definition in code, over any engines of its ports, and the
+//! `world_model`; [`Controller`] is that definition in code, over any engines of its ports, and the
 //! controller of a node in a network. What its router asks of it at each call holds of every controller,
 //! from the opening on (`controller_conditions`, `joining_conditions`).
 #![tactic(auto)]

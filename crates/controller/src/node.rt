@@ -6,7 +6,7 @@ use crate::opening::open_router;
 use crate::packets::CONTROL_PROTOCOL;
 use aal5_frames::MAX_FRAME;
 use atm_cells::Cell;
-use controller_model::PortRange;
+use world_model::PortRange;
 use ipv4_forward::{RouteChange, Table};
 use ipv4_packet::{check, protocol};
 use link_model::Notes;

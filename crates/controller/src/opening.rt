@@ -3,13 +3,13 @@
 ghost use Rattle.std.specs.Prelude.{◌≡◌, ◌≤◌, ◌<◌, ◌+◌, ◌^◌, ◌++◌, ◌∷◌, [], length, map, All, IfOk, OnOk};
 ghost use Rattle.net_types.specs.Number.{HasNumbersLeft, with_instance};
 ghost use Rattle.crossbar_model.specs.Channels.{ArePorts};
-ghost use Rattle.controller_model.specs.Opening.{after_opening, opened, setup_of};
+ghost use Rattle.world_model.specs.Opening.{after_opening, opened, setup_of};
 ghost use Rattle.router.specs.Engine.{opened_end};
 ghost use Rattle.joining_router.specs.Joining.{controller_of};
 ghost use Rattle.world.specs.Nodes.{AreTimes, IsLabelRange};
 ghost use Rattle.controller.specs.Opening.{opened_ends};
 
-use controller_model::PortRange;
+use world_model::PortRange;
 use gsmp_client::Client;
 use ipv4_forward::Table;
 use joining_router::JoiningRouter;

@@ -19,8 +19,8 @@ use Rattle.port_model.specs.Labels.{Label, label_number}
 use Rattle.port_model.specs.Port.{Session, Work, labels_of}
 use Rattle.port_model.specs.Resets.{closing, restarts}
 use Rattle.port_facts.proofs.Keyed.{by_eq, at_key, at_every, at_put_same, put_every, put_order}
-use Rattle.controller_model.specs.Controller.{Acted, Linked, LabelChain, port_key, chain_key, linked_at, ports_of, chain_of}
-use Rattle.controller_model.specs.Resets.{begins, with_work, cuts_of, closes_by, port_restarts_of, port_restarts, resets_gsmp, node_resets}
+use Rattle.world_model.specs.Controller.{Acted, Linked, LabelChain, port_key, chain_key, linked_at, ports_of, chain_of}
+use Rattle.world_model.specs.Resets.{begins, with_work, cuts_of, closes_by, port_restarts_of, port_restarts, resets_gsmp, node_resets}
 use Rattle.controller_facts.proofs.Unmet.{put_each, none_with}
 use Rattle.controller_law.proofs.Lists.{any_at}
 use Rattle.controller_bindings.proofs.Lasts.{some_same, Grows, stays_so, grows_then, grows_where, noted_grows, cut_grows}

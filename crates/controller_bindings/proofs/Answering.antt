@@ -11,17 +11,17 @@ use Rattle.gsmp_wire.specs.declared.request.Request.TheVariants.{AddBranch, Move
 use Rattle.gsmp_wire.specs.declared.message.Message.{Message}
 use Rattle.gsmp_wire.specs.declared.message.Message.TheVariants as messages
 use Rattle.ordered_lists.specs.Ordered.{Every}
-use Rattle.desk_model.specs.Desk.{Standing, empty_desk}
-use Rattle.desk_model.specs.Answers.{Head, head_of, is_of_type, Answered, Unknown, Done, Ports, Failed, succeeded, outcome, answered_with, after_answer}
+use Rattle.port_model.specs.Desk.{Standing, empty_desk}
+use Rattle.port_model.specs.DeskAnswers.{Head, head_of, is_of_type, Answered, Unknown, Done, Ports, Failed, succeeded, outcome, answered_with, after_answer}
 use Rattle.port_model.specs.Setup.{Setup}
 use Rattle.port_facts.proofs.Keyed.{on_both}
 use Rattle.port_facts.proofs.Found.{by_number}
 use Rattle.port_facts.proofs.Rules.{IsTree, done_goes}
-use Rattle.controller_model.specs.Controller.{Acted, Linked, linked_at, ports_of, with_linked, with_desk, default_end, default_home}
-use Rattle.controller_model.specs.Asking.{asks}
-use Rattle.controller_model.specs.Resets.{node_resets, begins}
-use Rattle.controller_model.specs.Joins.{releases}
-use Rattle.controller_model.specs.Meeting.{meets, up_ports, empties, default_branches, ends_meeting, has_emptied, port_of_input, behind_delete_all, causes_in_estab, causes, may_clear, clears_of, clears_port, clears, takes_answer, answer_comes, tells_port}
+use Rattle.world_model.specs.Controller.{Acted, Linked, linked_at, ports_of, with_linked, with_desk, default_end, default_home}
+use Rattle.world_model.specs.Asking.{asks}
+use Rattle.world_model.specs.Resets.{node_resets, begins}
+use Rattle.world_model.specs.Joins.{releases}
+use Rattle.world_model.specs.Meeting.{meets, up_ports, empties, default_branches, ends_meeting, has_emptied, port_of_input, behind_delete_all, causes_in_estab, causes, may_clear, clears_of, clears_port, clears, takes_answer, answer_comes, tells_port}
 use Rattle.crossbar_model.specs.Channels.{IsLinkPort}
 use Rattle.controller_facts.proofs.Moves.{by_rule, found_at_own}
 use Rattle.controller_law.proofs.Holding.{Holds, answered_holds}
@@ -36,7 +36,7 @@ use Rattle.port_model.specs.Port.{label_at}
 use Rattle.port_model.specs.Hearing.{label_by}
 use Rattle.port_model.specs.Answers.{freed}
 use Rattle.port_model.specs.Answers as port_answers
-use Rattle.controller_model.specs.Performing.{works}
+use Rattle.world_model.specs.Performing.{works}
 use Rattle.link_model.specs.declared.record.Record.{Record}
 use Rattle.controller_bindings.proofs.Lasts.{stays_so}
 use Rattle.controller_bindings.proofs.Working.{freed_body}

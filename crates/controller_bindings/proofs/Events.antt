@@ -38,7 +38,7 @@ use Rattle.link_model.specs.declared.record.Record.{Record}
 use Rattle.link_model.specs.declared.record.Record.TheVariants.{Bad, Loss, Delivered, Dropped}
 use Rattle.refusal_names.specs.Names.{encaps_refusal, packet_refusal, ifmp_refusal, gsmp_refusal}
 use Rattle.frame_model.specs.Reassembly.{Reassembly, Taken, taken, cut, nothing_taken}
-use Rattle.desk_model.specs.Desk.{sent_again}
+use Rattle.port_model.specs.Desk.{sent_again}
 use Rattle.port_model.specs.Setup.{Setup, control_end}
 use Rattle.port_model.specs.Labels.{Label, is_bound}
 use Rattle.port_model.specs.Grants.{Grant}
@@ -51,15 +51,15 @@ use Rattle.port_facts.proofs.Rules.{used_goes, counts_goes}
 use Rattle.port_facts.proofs.Hearings.{hears_goes, ticks_goes}
 use Rattle.ordered_lists.specs.Ordered.{Every}
 use Rattle.crossbar_model.specs.Channels.{IsLinkPort}
-use Rattle.controller_model.specs.Controller.{Acted, Linked, free_slots, linked_at, ports_of, note, chains_with, default_channel, default_home, LabelChain, port_key, chain_key, chain_slots, with_linked}
-use Rattle.controller_model.specs.Sending.{sends, sends_control, says_gsmp}
-use Rattle.controller_model.specs.Asking.{sends_request}
-use Rattle.controller_model.specs.Resets.{begins, cuts_default_of, cuts_default, cuts_gsmp, node_resets, node_restarts}
-use Rattle.controller_model.specs.Joins.{tries_joins}
-use Rattle.controller_model.specs.Gsmp.{answers, steps, told, gsmp_holds}
-use Rattle.controller_model.specs.Packets.{is_control, sends_next, goes_by, grant_by, forwarded, routes, control_protocol, inject_refusal}
-use Rattle.controller_model.specs.Cells.{Taker, ForGsmp, ForDefault, ForLabel, reassembly_of, with_reassembly, label_holds, ifmp_holds, counted_at, packet_holds, default_holds, frame_holds, opened_frame, ends_frame, cell_comes, port_on, on_link, same_channel, label_taker, taker_at, takes_cell}
-use Rattle.controller_model.specs.Ticks.{sends_again, ticks_port, ticks_ports, ticks_by, ticks}
+use Rattle.world_model.specs.Controller.{Acted, Linked, free_slots, linked_at, ports_of, note, chains_with, default_channel, default_home, LabelChain, port_key, chain_key, chain_slots, with_linked}
+use Rattle.world_model.specs.Sending.{sends, sends_control, says_gsmp}
+use Rattle.world_model.specs.Asking.{sends_request}
+use Rattle.world_model.specs.Resets.{begins, cuts_default_of, cuts_default, cuts_gsmp, node_resets, node_restarts}
+use Rattle.world_model.specs.Joins.{tries_joins}
+use Rattle.world_model.specs.Gsmp.{answers, steps, told, gsmp_holds}
+use Rattle.world_model.specs.Packets.{is_control, sends_next, goes_by, grant_by, forwarded, routes, control_protocol, inject_refusal}
+use Rattle.world_model.specs.Cells.{Taker, ForGsmp, ForDefault, ForLabel, reassembly_of, with_reassembly, label_holds, ifmp_holds, counted_at, packet_holds, default_holds, frame_holds, opened_frame, ends_frame, cell_comes, port_on, on_link, same_channel, label_taker, taker_at, takes_cell}
+use Rattle.world_model.specs.Ticks.{sends_again, ticks_port, ticks_ports, ticks_by, ticks}
 use Rattle.link_model.specs.declared.record.Refusal.{Refusal}
 use Rattle.controller_facts.specs.Inputs.{Input, CellComes, PacketEnters, Ticks, Restarts, ChangeComes, FrameIsForged, CellLeaves, Meanwhile, enters_unless, takes_input, takes_inputs}
 use Rattle.controller_facts.proofs.Lifetimes.{decoded_lives}
@@ -83,7 +83,7 @@ use Rattle.controller_bindings.proofs.Tied.{Tied, noted_put, Settled, NoCut, Goe
 use Rattle.controller_bindings.proofs.Performing.{IsTied, tied_at, put_tied, at_port_goes}
 use Rattle.controller_bindings.proofs.Joining.{tries_joins_settled, change_comes_settled}
 use Rattle.controller_bindings.proofs.Answering.{meets_goes, answer_comes_settled}
-use Rattle.controller_model.specs.Meeting.{meets}
+use Rattle.world_model.specs.Meeting.{meets}
 use Rattle.link_model.specs.declared.record.Layer.{Layer}
 
 -- *Packets*

@@ -12,7 +12,7 @@ use Rattle.flow_ids.specs.Parts.{flow_destination, same_flow}
 use Rattle.ipv4_forward.specs.declared.table.Next.{Next}
 use Rattle.ipv4_forward.specs.declared.table.Next.TheVariants.{Local, Via}
 use Rattle.port_facts.proofs.Rules.{and_first, and_second}
-use Rattle.controller_model.specs.Routes.{same_next}
+use Rattle.world_model.specs.Routes.{same_next}
 
 number_same : (m n : ℕ) → (m == n) ≡ true → m ≡ n
 number_same m n e = grind (arith, nat_tests)

@@ -24,7 +24,7 @@ use Rattle.link_model.specs.declared.record.Record.TheVariants.{Part, Routes}
 use Rattle.ordered_lists.specs.Ordered.{Every}
 use Rattle.ordered_lists.proofs.Every.{every_map, every_map2, every_left, every_right}
 use Rattle.keyed_lists.specs.Keyed.{entered, in_order}
-use Rattle.desk_model.specs.Desk.{on_input, most_asked}
+use Rattle.port_model.specs.Desk.{on_input, most_asked}
 use Rattle.port_model.specs.Setup.{Setup, home_of}
 use Rattle.port_model.specs.Labels.{Label, Offered, label_number}
 use Rattle.port_model.specs.Grants.{Grant, grant_for, is_by_controller, input_of}
@@ -35,11 +35,11 @@ use Rattle.port_facts.specs.Port.{setup_port, IsLabelEnd, IsPort}
 use Rattle.port_facts.proofs.Keyed.{on_both, on_each, at_key, at_every}
 use Rattle.port_facts.proofs.Found.{find_passes}
 use Rattle.port_facts.proofs.Rules.{and_first, and_second}
-use Rattle.controller_model.specs.Controller.{Acted, Linked, port_key, linked_at, note, ports_of}
-use Rattle.controller_model.specs.Resets.{begins}
-use Rattle.controller_model.specs.Joins.{Join, join_to, joins_at, joins_of, end_le, join_of, parts, gives_back, releases_join, releases_input, released_inputs, resets_spent, releases, output_of, port_by, join_through, join_by, join_for, is_offered, may_join, enters_grant, enters_label, joins, tries_label, label_on, tries_join, inputs_at, tries_joins}
-use Rattle.controller_model.specs.Routes.{same_next, differs, route_stays}
-use Rattle.controller_model.specs.Changes.{is_changed, changed_joins, takes_join_back, begins_change, takes_change, may_take, takes_each, takes_changes, change_comes}
+use Rattle.world_model.specs.Controller.{Acted, Linked, port_key, linked_at, note, ports_of}
+use Rattle.world_model.specs.Resets.{begins}
+use Rattle.world_model.specs.Joins.{Join, join_to, joins_at, joins_of, end_le, join_of, parts, gives_back, releases_join, releases_input, released_inputs, resets_spent, releases, output_of, port_by, join_through, join_by, join_for, is_offered, may_join, enters_grant, enters_label, joins, tries_label, label_on, tries_join, inputs_at, tries_joins}
+use Rattle.world_model.specs.Routes.{same_next, differs, route_stays}
+use Rattle.world_model.specs.Changes.{is_changed, changed_joins, takes_join_back, begins_change, takes_change, may_take, takes_each, takes_changes, change_comes}
 use Rattle.controller_facts.specs.Sound.{IsSound}
 use Rattle.controller_facts.proofs.Moves.{Found, HasPorts, found_setup}
 use Rattle.controller_facts.proofs.Joining.{every_flat_map, each_there}

@@ -17,10 +17,10 @@ use Rattle.port_model.specs.Grants.{grant_label}
 use Rattle.port_model.specs.Port.{label_at, labels_of}
 use Rattle.port_facts.specs.Port.{IsLabel}
 use Rattle.port_facts.proofs.Keyed.{at_key, at_every}
-use Rattle.controller_model.specs.declared.range.PortRange.{PortRange}
-use Rattle.controller_model.specs.Controller.{Acted, Linked, LabelChain, port_key, linked_at}
-use Rattle.controller_model.specs.Joins.{Join, joins_of, output_of, label_on}
-use Rattle.controller_model.specs.Opening.{setup_of, opens_ports}
+use Rattle.world_model.specs.declared.range.PortRange.{PortRange}
+use Rattle.world_model.specs.Controller.{Acted, Linked, LabelChain, port_key, linked_at}
+use Rattle.world_model.specs.Joins.{Join, joins_of, output_of, label_on}
+use Rattle.world_model.specs.Opening.{setup_of, opens_ports}
 use Rattle.controller_facts.specs.Inputs.{Input, takes_inputs}
 use Rattle.controller_facts.specs.Sound.{linked_setup, Opening, opened_by, setups_by}
 use Rattle.controller_facts.proofs.Moves.{HasPorts, found_port}

@@ -32,10 +32,10 @@ use Rattle.port_model.specs.Resets.{closing, left_in, left_of, withdrawing_in, w
 use Rattle.port_facts.specs.Port.{IsPort, IsAction, AnyChannel}
 use Rattle.port_facts.proofs.Keyed.{on_both, on_each, by_eq, at_key, at_every, at_put_same, put_every, put_order, each_found}
 use Rattle.port_facts.proofs.Steps.{GoesOn}
-use Rattle.controller_model.specs.Controller.{Acted, Linked, LabelChain, port_key, chain_key, linked_at, chain_of, note, default_home}
-use Rattle.controller_model.specs.Resets.{cuts_of, closes_by, begins, with_work}
-use Rattle.controller_model.specs.Performing.{does, does_in_estab, resets_as, resets_of, resets_port, performs, performs_in_estab, Rule, works_as, works, at_port}
-use Rattle.controller_model.specs.Meeting.{is_clearing}
+use Rattle.world_model.specs.Controller.{Acted, Linked, LabelChain, port_key, chain_key, linked_at, chain_of, note, default_home}
+use Rattle.world_model.specs.Resets.{cuts_of, closes_by, begins, with_work}
+use Rattle.world_model.specs.Performing.{does, does_in_estab, resets_as, resets_of, resets_port, performs, performs_in_estab, Rule, works_as, works, at_port}
+use Rattle.world_model.specs.Meeting.{is_clearing}
 use Rattle.controller_facts.specs.Sound.{IsSound}
 use Rattle.controller_facts.proofs.Moves.{Worked, worked_kept, by_rule, Found, placing, moves_to, HasPorts, found_setup, found_at_own, begun}
 use Rattle.controller_facts.proofs.Joining.{every_flat_map, each_there}

@@ -30,17 +30,17 @@ use Rattle.frame_model.specs.Sending.{Sent}
 use Rattle.frame_model.specs.Frame.{frame_cells, made}
 use Rattle.ordered_lists.specs.Ordered.{Every, InOrder}
 use Rattle.ordered_lists.proofs.Every.{every_map, every_map2, every_join}
-use Rattle.desk_model.specs.Desk.{Standing, asked, is_led_home, message_at, last_transaction}
+use Rattle.port_model.specs.Desk.{Standing, asked, is_led_home, message_at, last_transaction}
 use Rattle.port_model.specs.Setup.{Setup, home_of}
 use Rattle.port_model.specs.Labels.{Label}
 use Rattle.port_model.specs.Port.{Session, labels_of}
 use Rattle.port_model.specs.declared.action.Action.{Action}
 use Rattle.port_facts.proofs.Keyed.{on_both, at_every, put_every}
 use Rattle.keyed_lists.specs.Keyed.{at, put}
-use Rattle.controller_model.specs.Controller.{Controller, Acted, Linked, LabelChain, port_key, free_slots, with_desk, note, default_channel}
-use Rattle.controller_model.specs.Sending.{with_cells, sends, sends_control, says_gsmp}
-use Rattle.controller_model.specs.Asking.{sends_request, asks_next, asks, takes_back, withdraws_input}
-use Rattle.controller_model.specs.Resets.{node_resets}
+use Rattle.world_model.specs.Controller.{Controller, Acted, Linked, LabelChain, port_key, free_slots, with_desk, note, default_channel}
+use Rattle.world_model.specs.Sending.{with_cells, sends, sends_control, says_gsmp}
+use Rattle.world_model.specs.Asking.{sends_request, asks_next, asks, takes_back, withdraws_input}
+use Rattle.world_model.specs.Resets.{node_resets}
 use Rattle.controller_facts.specs.Sound.{IsSound, IsShutLinked}
 use Rattle.world_model.specs.Past.{last_bound}
 use Rattle.controller_bindings.specs.Bindings.{site, IsBoundLast, IsOfNode}

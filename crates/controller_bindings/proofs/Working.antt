@@ -25,7 +25,7 @@ use Rattle.ordered_lists.specs.Ordered.{Every, InOrder}
 use Rattle.ordered_lists.proofs.Every.{every_all, every_map}
 use Rattle.ordered_lists.proofs.InOrder.{order_map}
 use Rattle.keyed_lists.specs.Keyed.{at, put, without, entered, key_le}
-use Rattle.desk_model.specs.Desk.{Desk, on_input}
+use Rattle.port_model.specs.Desk.{Desk, on_input}
 use Rattle.port_model.specs.declared.action.Action.{Action}
 use Rattle.port_model.specs.declared.action.Action.TheVariants as actions
 use Rattle.port_model.specs.declared.action.Action.TheVariants.{Say, Ask, Note, CutChain, TakeBack}
@@ -44,8 +44,8 @@ use Rattle.port_facts.proofs.Steps.{IsTurn, hears, ages, StepOn, GoesOn, greetin
 use Rattle.port_facts.proofs.Said.{any_step}
 use Rattle.port_facts.proofs.Turns.{IsTurned, received_turns, ticked_turns}
 use Rattle.port_facts.proofs.Kept.{step_kept}
-use Rattle.controller_model.specs.Controller.{LabelChain}
-use Rattle.controller_model.specs.Meeting.{is_clearing}
+use Rattle.world_model.specs.Controller.{LabelChain}
+use Rattle.world_model.specs.Meeting.{is_clearing}
 use Rattle.controller_facts.proofs.Unmet.{put_each}
 use Rattle.controller_law.specs.Match.{joined_in}
 use Rattle.controller_law.proofs.Pairing.{SamePairs, goes_pairs}

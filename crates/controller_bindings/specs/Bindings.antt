@@ -14,8 +14,8 @@ use Rattle.link_model.specs.declared.record.Record.TheVariants as kinds
 use Rattle.ordered_lists.specs.Ordered.{Every}
 use Rattle.port_model.specs.Labels.{Label, Wiring, is_bound}
 use Rattle.port_model.specs.Port.{label_at, labels_of}
-use Rattle.controller_model.specs.Controller.{Acted, Linked, LabelChain}
-use Rattle.controller_model.specs.Joins.{Join, joins_of, label_on}
+use Rattle.world_model.specs.Controller.{Acted, Linked, LabelChain}
+use Rattle.world_model.specs.Joins.{Join, joins_of, label_on}
 use Rattle.world_model.specs.declared.link.LinkEnd.{LinkEnd}
 use Rattle.world_model.specs.Past.{last_bound}
 use Rattle.controller_facts.specs.Inputs.{Input, Meanwhile, takes_input, takes_inputs}

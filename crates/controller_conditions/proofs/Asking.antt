@@ -7,12 +7,12 @@ use Rattle.adjacency_table.specs.Side.{is_estab}
 use Rattle.gsmp_wire.specs.declared.request.Request.{Request}
 use Rattle.gsmp_wire.specs.declared.request.Request.TheVariants.{MoveBranch}
 use Rattle.branch_desk.specs.Requests.{has_function}
-use Rattle.desk_model.specs.Desk.{last_transaction}
+use Rattle.port_model.specs.Desk.{last_transaction}
 use Rattle.port_model.specs.Setup.{Setup, home_of}
 use Rattle.port_facts.specs.Port.{IsLabelEnd, IsShaped, asks_ports, empties_control, empties_port, opens_input, opens_output, leads_label, leads_grant, joins_label, parts_label, frees_label}
-use Rattle.controller_model.specs.Controller.{Acted}
-use Rattle.controller_model.specs.Asking.{asks_next, asks, takes_back}
-use Rattle.controller_model.specs.Resets.{node_resets}
+use Rattle.world_model.specs.Controller.{Acted}
+use Rattle.world_model.specs.Asking.{asks_next, asks, takes_back}
+use Rattle.world_model.specs.Resets.{node_resets}
 use Rattle.controller_facts.specs.Conditions as facts
 use Rattle.controller_facts.proofs.Conditions.{label_has_home}
 use Rattle.controller_law.proofs.Laws.{few_stand}

@@ -27,10 +27,10 @@ use Rattle.port_model.specs.Grants.{Grant}
 use Rattle.port_model.specs.Port.{label_at, labels_of}
 use Rattle.port_facts.specs.Port.{IsLabel}
 use Rattle.port_facts.proofs.Keyed.{on_both, at_key, at_every}
-use Rattle.controller_model.specs.Controller.{Controller, Acted, Linked, free_slots, linked_at, chains_with, default_channel, default_home}
-use Rattle.controller_model.specs.Sending.{with_cells, sends, sends_control}
-use Rattle.controller_model.specs.Packets.{is_control, sends_next, goes_by, grant_by, forwarded, routes}
-use Rattle.controller_model.specs.Cells.{Taker, ForGsmp, ForDefault, ForLabel, port_on, on_link, same_channel, label_taker, taker_at, taker_of, with_reassembly}
+use Rattle.world_model.specs.Controller.{Controller, Acted, Linked, free_slots, linked_at, chains_with, default_channel, default_home}
+use Rattle.world_model.specs.Sending.{with_cells, sends, sends_control}
+use Rattle.world_model.specs.Packets.{is_control, sends_next, goes_by, grant_by, forwarded, routes}
+use Rattle.world_model.specs.Cells.{Taker, ForGsmp, ForDefault, ForLabel, port_on, on_link, same_channel, label_taker, taker_at, taker_of, with_reassembly}
 use Rattle.controller_facts.proofs.Moves.{gathering, chaining, Moves, moves_to, HasPorts, found_setup, found_at_own, found_port}
 use Rattle.controller_facts.proofs.Events.{routes_goes}
 use Rattle.controller_facts.proofs.Flows.{moves_flow}

@@ -10,8 +10,8 @@ use Rattle.port_model.specs.Setup.{Setup, is_in_range}
 use Rattle.port_facts.specs.Port.{setup_port}
 use Rattle.port_facts.proofs.Keyed.{at_map}
 use Rattle.port_facts.proofs.Rules.{and_second}
-use Rattle.controller_model.specs.declared.range.PortRange.{PortRange}
-use Rattle.controller_model.specs.Controller.{Linked, port_key}
+use Rattle.world_model.specs.declared.range.PortRange.{PortRange}
+use Rattle.world_model.specs.Controller.{Linked, port_key}
 use Rattle.controller_facts.specs.Sound.{linked_setup}
 use Rattle.control_link.specs.Cells.{range_key, is_label_of, is_channel}
 use Rattle.control_link.specs.declared.taker.Taker.TheVariants.{Default, Label}

@@ -9,7 +9,7 @@ use Rattle.crossbar_model.specs.Channels.{IsLinkPort}
 use Rattle.ordered_lists.specs.Ordered.{Every}
 use Rattle.ordered_lists.proofs.Every.{every_map, every_map2}
 use Rattle.keyed_lists.specs.Keyed.{at}
-use Rattle.desk_model.specs.Desk.{Desk}
+use Rattle.port_model.specs.Desk.{Desk}
 use Rattle.port_model.specs.declared.action.Action.{Action}
 use Rattle.port_model.specs.declared.action.Action.TheVariants as actions
 use Rattle.port_model.specs.declared.action.Action.TheVariants.{Say, Ask, Note, CutChain, TakeBack, Withdraw}
@@ -19,9 +19,9 @@ use Rattle.port_model.specs.Resets.{resets}
 use Rattle.port_facts.specs.Port.{setup_port, IsAction}
 use Rattle.port_facts.proofs.Keyed.{at_key, at_every, at_put_same, every_more}
 use Rattle.port_facts.proofs.Joins.{resets_kept}
-use Rattle.controller_model.specs.Controller.{Acted, Linked, port_key, linked_at}
-use Rattle.controller_model.specs.Resets.{begins, with_work}
-use Rattle.controller_model.specs.Performing.{does, does_in_estab, resets_of, resets_port}
+use Rattle.world_model.specs.Controller.{Acted, Linked, port_key, linked_at}
+use Rattle.world_model.specs.Resets.{begins, with_work}
+use Rattle.world_model.specs.Performing.{does, does_in_estab, resets_of, resets_port}
 use Rattle.controller_facts.proofs.Moves.{by_reset, placing, Moves, moves_to, moves_fold, HasPorts, found_setup, found_at_own, found_port, begun}
 use Rattle.controller_facts.proofs.Performing.{does_in_estab_goes}
 use Rattle.controller_law.specs.Actions as law

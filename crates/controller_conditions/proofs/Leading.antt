@@ -45,8 +45,8 @@ use Rattle.frame_model.specs.Reassembly.{Reassembly, Taken, taken}
 use Rattle.link_model.specs.declared.record.Refusal.{Refusal}
 use Rattle.ordered_lists.specs.Ordered.{Every}
 use Rattle.ordered_lists.proofs.Every.{every_map, every_mapped, every_join}
-use Rattle.desk_model.specs.Answers.{Answered, Unknown, Done, Ports, Failed, after_answer, answered}
-use Rattle.desk_model.specs.Desk.{sent_again}
+use Rattle.port_model.specs.DeskAnswers.{Answered, Unknown, Done, Ports, Failed, after_answer, answered}
+use Rattle.port_model.specs.Desk.{sent_again}
 use Rattle.port_model.specs.Setup.{control_end}
 use Rattle.port_model.specs.Labels.{Label}
 use Rattle.port_model.specs.Grants.{Grant}
@@ -55,16 +55,16 @@ use Rattle.port_model.specs.Counting.{counts, used}
 use Rattle.port_model.specs.Ticks as port_ticks
 use Rattle.port_facts.proofs.Keyed.{on_both}
 use Rattle.port_facts.proofs.Found.{find_every}
-use Rattle.controller_model.specs.Controller.{Acted, Linked, free_slots, linked_at, ports_of, with_desk, default_channel, default_home}
-use Rattle.controller_model.specs.Sending.{sends, sends_control, says_gsmp}
-use Rattle.controller_model.specs.Asking.{sends_request}
-use Rattle.controller_model.specs.Resets.{cuts_default_of, cuts_default, cuts_gsmp, node_resets}
-use Rattle.controller_model.specs.Packets.{is_control, sends_next, goes_by, grant_by, forwarded, routes, control_protocol, inject_refusal}
-use Rattle.controller_model.specs.Meeting.{causes, clears, takes_answer, answer_comes}
-use Rattle.controller_model.specs.Joins.{releases, tries_joins}
-use Rattle.controller_model.specs.Gsmp.{answers, steps, told, gsmp_holds}
-use Rattle.controller_model.specs.Cells.{Taker, ForGsmp, ForDefault, ForLabel, reassembly_of, with_reassembly, label_holds, ifmp_holds, counted_at, packet_holds, default_holds, frame_holds, opened_frame, ends_frame, takes_cell, taker_of}
-use Rattle.controller_model.specs.Ticks.{sends_again, ticks_port, ticks_ports, ticks_by}
+use Rattle.world_model.specs.Controller.{Acted, Linked, free_slots, linked_at, ports_of, with_desk, default_channel, default_home}
+use Rattle.world_model.specs.Sending.{sends, sends_control, says_gsmp}
+use Rattle.world_model.specs.Asking.{sends_request}
+use Rattle.world_model.specs.Resets.{cuts_default_of, cuts_default, cuts_gsmp, node_resets}
+use Rattle.world_model.specs.Packets.{is_control, sends_next, goes_by, grant_by, forwarded, routes, control_protocol, inject_refusal}
+use Rattle.world_model.specs.Meeting.{causes, clears, takes_answer, answer_comes}
+use Rattle.world_model.specs.Joins.{releases, tries_joins}
+use Rattle.world_model.specs.Gsmp.{answers, steps, told, gsmp_holds}
+use Rattle.world_model.specs.Cells.{Taker, ForGsmp, ForDefault, ForLabel, reassembly_of, with_reassembly, label_holds, ifmp_holds, counted_at, packet_holds, default_holds, frame_holds, opened_frame, ends_frame, takes_cell, taker_of}
+use Rattle.world_model.specs.Ticks.{sends_again, ticks_port, ticks_ports, ticks_by}
 use Rattle.controller_facts.specs.Inputs.{Input, CellComes, PacketEnters, Ticks, Restarts, ChangeComes, FrameIsForged, CellLeaves, Meanwhile, enters_unless, takes_input}
 use Rattle.controller_facts.proofs.Joining.{every_filter}
 use Rattle.controller_conditions.specs.Routes.{LeadsToLink, IsLinkRoute, MayLead, IsLinkChange, IsLinkInput, RoutesLeadToLinks}

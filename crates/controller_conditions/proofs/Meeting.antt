@@ -22,9 +22,9 @@ use Rattle.net_types.specs.Number.{next_control, with_control}
 use Rattle.ordered_lists.specs.Ordered.{Every}
 use Rattle.ordered_lists.proofs.Every.{every_map, every_join}
 use Rattle.ordered_lists.proofs.Parts.{part_filtered, every_part}
-use Rattle.desk_model.specs.Messages.{is_up}
-use Rattle.desk_model.specs.Requests.{input_of, is_delete_all, withdraws}
-use Rattle.desk_model.specs.Desk.{all_on, Desk, Standing, asked, empty_desk, message_at, last_transaction}
+use Rattle.port_model.specs.Messages.{is_up}
+use Rattle.port_model.specs.Requests.{input_of, is_delete_all, withdraws}
+use Rattle.port_model.specs.Desk.{all_on, Desk, Standing, asked, empty_desk, message_at, last_transaction}
 use Rattle.port_model.specs.Setup.{Setup}
 use Rattle.port_model.specs.Answers as port_answers
 use Rattle.port_model.specs.Resets.{cleared}
@@ -32,12 +32,12 @@ use Rattle.port_facts.specs.Port.{IsLinked, IsDefaultEnd, IsShaped, asks_ports, 
 use Rattle.port_facts.proofs.Keyed.{on_both, on_each}
 use Rattle.port_facts.proofs.Rules.{done_goes}
 use Rattle.port_facts.proofs.Turns.{IsTurned, received_turns, ticked_turns}
-use Rattle.controller_model.specs.Controller.{Acted, with_desk, default_channel, default_end, default_home, ports_of, Linked, linked_at, with_linked}
-use Rattle.controller_model.specs.Sending.{says_gsmp}
-use Rattle.controller_model.specs.Asking.{asks_next, asks}
-use Rattle.controller_model.specs.Resets.{begins, node_resets}
-use Rattle.controller_model.specs.Meeting.{meets, up_ports, empties, default_branches, ends_meeting, is_deleting, has_emptied, port_of_input, tells_port, behind_delete_all, causes_in_estab, causes, may_clear, clears_of, clears_port, clears}
-use Rattle.controller_model.specs.Gsmp.{answers, steps}
+use Rattle.world_model.specs.Controller.{Acted, with_desk, default_channel, default_end, default_home, ports_of, Linked, linked_at, with_linked}
+use Rattle.world_model.specs.Sending.{says_gsmp}
+use Rattle.world_model.specs.Asking.{asks_next, asks}
+use Rattle.world_model.specs.Resets.{begins, node_resets}
+use Rattle.world_model.specs.Meeting.{meets, up_ports, empties, default_branches, ends_meeting, is_deleting, has_emptied, port_of_input, tells_port, behind_delete_all, causes_in_estab, causes, may_clear, clears_of, clears_port, clears}
+use Rattle.world_model.specs.Gsmp.{answers, steps}
 use Rattle.controller_facts.proofs.Moves.{IsGsmpTurn, hears, ages, turning, ending_meeting, meeting, moves_to, moves_ports, HasPorts, clearing, found_at_own}
 use Rattle.controller_facts.proofs.Performing.{says_gsmp_goes, asks_goes, asks_each, ports_linked}
 use Rattle.controller_facts.proofs.Events.{meets_goes}

@@ -8,8 +8,8 @@ use Rattle.ordered_lists.proofs.Every.{every_map, every_mapped}
 use Rattle.port_model.specs.Setup.{Setup}
 use Rattle.port_facts.specs.Port.{IsRanged}
 use Rattle.control_link.proofs.Blocks.{few_ports, link_port, port_below}
-use Rattle.controller_model.specs.declared.range.PortRange.{PortRange}
-use Rattle.controller_model.specs.Opening.{setup_of}
+use Rattle.world_model.specs.declared.range.PortRange.{PortRange}
+use Rattle.world_model.specs.Opening.{setup_of}
 use Rattle.controller_facts.specs.Sound.{Opening, DifferInPort, opened_by, setups_by}
 use Rattle.controller_facts.proofs.Flows.{always_flowing}
 use Rattle.controller_law.specs.Law.{IsOpening}

@@ -6,8 +6,8 @@ use Rattle.ordered_lists.specs.Ordered.{Every}
 use Rattle.port_model.specs.Setup.{Setup}
 use Rattle.port_facts.specs.Port.{setup_port, IsRanged}
 use Rattle.port_facts.proofs.Keyed.{at_every}
-use Rattle.controller_model.specs.Controller.{Acted, Linked, port_key, linked_at}
-use Rattle.controller_model.specs.Resets.{begins}
+use Rattle.world_model.specs.Controller.{Acted, Linked, port_key, linked_at}
+use Rattle.world_model.specs.Resets.{begins}
 use Rattle.controller_facts.specs.Sound.{NeverFall}
 use Rattle.controller_facts.specs.Said.{HasFlowsAt}
 use Rattle.controller_facts.proofs.Moves.{Moves, HasPorts, found_setup, found_at_own, begun}

@@ -8,8 +8,8 @@ use Rattle.frame_model.specs.Frame.{Tested, tested, last_mark}
 use Rattle.frame_model.specs.Reassembly.{Reassembly, Taken, most_cells, passed_over, without_slot, too_long, joined, taken}
 use Rattle.reassembly.specs.Receipt.{ended}
 use Rattle.port_facts.proofs.Keyed.{on_both}
-use Rattle.controller_model.specs.Controller.{Acted, free_slots}
-use Rattle.controller_model.specs.Cells.{Taker, ForGsmp, ForDefault, ForLabel, reassembly_of, with_reassembly, taker_of, opened_frame, ends_frame, takes_cell, cell_comes}
+use Rattle.world_model.specs.Controller.{Acted, free_slots}
+use Rattle.world_model.specs.Cells.{Taker, ForGsmp, ForDefault, ForLabel, reassembly_of, with_reassembly, taker_of, opened_frame, ends_frame, takes_cell, cell_comes}
 use Rattle.router.specs.Cells.{receipt}
 use Rattle.controller_conditions.specs.Cells.{after_receipt}
 

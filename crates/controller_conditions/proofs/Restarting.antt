@@ -14,8 +14,8 @@ use Rattle.port_model.specs.Setup.{Setup}
 use Rattle.port_model.specs.Resets.{restarts}
 use Rattle.port_facts.specs.Port.{setup_port, IsLinked}
 use Rattle.port_facts.proofs.Keyed.{at_map}
-use Rattle.controller_model.specs.Controller.{Acted, Linked, port_key, linked_at, ports_of}
-use Rattle.controller_model.specs.Resets.{begins, with_work, cuts_of, closes_by, port_restarts_of, port_restarts, resets_gsmp, node_resets}
+use Rattle.world_model.specs.Controller.{Acted, Linked, port_key, linked_at, ports_of}
+use Rattle.world_model.specs.Resets.{begins, with_work, cuts_of, closes_by, port_restarts_of, port_restarts, resets_gsmp, node_resets}
 use Rattle.controller_facts.specs.Sound.{linked_setup}
 use Rattle.controller_facts.proofs.Moves.{Fine, fine_moves, fine_fold, fine_ports, HasPorts, found_setup, reset_ports}
 use Rattle.controller_facts.proofs.Performing.{Any, any_ports, ports_linked, port_restarts_of_fine}

@@ -23,11 +23,11 @@ use Rattle.port_facts.proofs.Hearings.{hears_goes, ticks_goes}
 use Rattle.port_facts.proofs.Steps as steps_of
 use Rattle.port_facts.proofs.Steps.{Goes, steps_to}
 use Rattle.port_facts.proofs.Keyed.{at_key}
-use Rattle.controller_model.specs.Controller.{Acted, Linked, port_key, linked_at, with_linked}
-use Rattle.controller_model.specs.Resets.{begins}
-use Rattle.controller_model.specs.Performing.{Rule, resets_port, works, at_port}
-use Rattle.controller_model.specs.Joins.{resets_spent}
-use Rattle.controller_model.specs.Ticks.{ticks_port}
+use Rattle.world_model.specs.Controller.{Acted, Linked, port_key, linked_at, with_linked}
+use Rattle.world_model.specs.Resets.{begins}
+use Rattle.world_model.specs.Performing.{Rule, resets_port, works, at_port}
+use Rattle.world_model.specs.Joins.{resets_spent}
+use Rattle.world_model.specs.Ticks.{ticks_port}
 use Rattle.controller_facts.proofs.Moves.{by_rule, Moves, stays, further, moves_ports, HasPorts, found_at_own, found_port}
 use Rattle.controller_facts.proofs.Performing.{at_port_goes}
 use Rattle.controller_law.proofs.Actions.{asks_what_can_be_done}

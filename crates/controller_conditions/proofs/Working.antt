@@ -10,7 +10,7 @@ use Rattle.adjacency_table.specs.Side.{is_estab}
 use Rattle.ordered_lists.specs.Ordered.{Every}
 use Rattle.ordered_lists.proofs.Every.{every_map}
 use Rattle.keyed_lists.specs.Keyed.{at}
-use Rattle.desk_model.specs.Desk.{Desk}
+use Rattle.port_model.specs.Desk.{Desk}
 use Rattle.port_model.specs.declared.action.Action.{Action}
 use Rattle.port_model.specs.declared.action.Action.TheVariants as actions
 use Rattle.port_model.specs.declared.action.Action.TheVariants.{Say, Ask, Note, CutChain, TakeBack, Withdraw}
@@ -19,9 +19,9 @@ use Rattle.port_model.specs.Port.{Work, desk_with}
 use Rattle.port_facts.specs.Port.{setup_port, IsAction}
 use Rattle.port_facts.proofs.Keyed.{at_key, at_every, at_put_same}
 use Rattle.port_facts.proofs.Steps.{Goes}
-use Rattle.controller_model.specs.Controller.{Acted, Linked, port_key, linked_at}
-use Rattle.controller_model.specs.Resets.{begins, with_work}
-use Rattle.controller_model.specs.Performing.{does, does_in_estab, performs, performs_in_estab, Rule, works, works_as, at_port}
+use Rattle.world_model.specs.Controller.{Acted, Linked, port_key, linked_at}
+use Rattle.world_model.specs.Resets.{begins, with_work}
+use Rattle.world_model.specs.Performing.{does, does_in_estab, performs, performs_in_estab, Rule, works, works_as, at_port}
 use Rattle.controller_facts.specs.Sound.{IsShutLinked}
 use Rattle.controller_facts.proofs.Moves.{by_rule, placing, Found, Moves, moves_to, moves_fold, moves_ports, HasPorts, found_setup, found_at_own, begun}
 use Rattle.controller_facts.proofs.Performing.{performs_in_estab_goes}

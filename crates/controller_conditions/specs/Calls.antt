@@ -14,20 +14,20 @@ use Rattle.gsmp_wire.specs.declared.request.Request.TheVariants.{DeleteAll}
 use Rattle.ifmp_wire.specs.declared.message.Message.{Message}
 use Rattle.ifmp_wire.specs.Message.{InRange}
 use Rattle.ordered_lists.specs.Ordered.{Every}
-use Rattle.desk_model.specs.Desk.{Standing}
+use Rattle.port_model.specs.Desk.{Standing}
 use Rattle.port_model.specs.Hearing.{hears}
 use Rattle.port_model.specs.Counting.{counts}
 use Rattle.port_model.specs.Answers.{done}
 use Rattle.port_model.specs.Ticks as port_ticks
 use Rattle.port_facts.specs.Port.{IsLabelEnd, IsShaped}
-use Rattle.controller_model.specs.Controller.{Acted, ports_of}
-use Rattle.controller_model.specs.Asking.{asks, takes_back}
-use Rattle.controller_model.specs.Resets.{node_resets, node_restarts}
-use Rattle.controller_model.specs.Performing.{Rule, resets_port, at_port}
-use Rattle.controller_model.specs.Joins.{resets_spent}
-use Rattle.controller_model.specs.Meeting.{empties, causes_in_estab}
-use Rattle.controller_model.specs.Gsmp.{steps}
-use Rattle.controller_model.specs.Ticks.{ticks_port, ticks_ports}
+use Rattle.world_model.specs.Controller.{Acted, ports_of}
+use Rattle.world_model.specs.Asking.{asks, takes_back}
+use Rattle.world_model.specs.Resets.{node_resets, node_restarts}
+use Rattle.world_model.specs.Performing.{Rule, resets_port, at_port}
+use Rattle.world_model.specs.Joins.{resets_spent}
+use Rattle.world_model.specs.Meeting.{empties, causes_in_estab}
+use Rattle.world_model.specs.Gsmp.{steps}
+use Rattle.world_model.specs.Ticks.{ticks_port, ticks_ports}
 use Rattle.controller_law.specs.Order.{IsDeleting}
 use Rattle.router.specs.Conditions.{CanAsk, CanTakeBack, CanResetNode, CanResetPort, CanWork, EachCanTick, CanFollow, turned_to}
 use Rattle.router.specs.Meeting.{CanResetSpent, EachCanResetSpent, CanEmpty, CanCause}

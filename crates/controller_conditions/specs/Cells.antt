@@ -9,9 +9,9 @@ use Rattle.link_model.specs.Notes.{Journal}
 use Rattle.frame_model.specs.Reassembly.{Reassembly}
 use Rattle.reassembly.specs.Receipt.{Received}
 use Rattle.control_link.specs.Cells.{is_channel}
-use Rattle.controller_model.specs.Controller.{Acted}
-use Rattle.controller_model.specs.Cells.{Taker, with_reassembly, taker_of, opened_frame, cell_comes}
-use Rattle.controller_model.specs.Packets.{routes}
+use Rattle.world_model.specs.Controller.{Acted}
+use Rattle.world_model.specs.Cells.{Taker, with_reassembly, taker_of, opened_frame, cell_comes}
+use Rattle.world_model.specs.Packets.{routes}
 use Rattle.router.specs.Node.{linked_range}
 use Rattle.router.specs.Cells.{IsFound, channel_of, gathered, receipt}
 use Rattle.controller_conditions.specs.Kept.{IsKept}

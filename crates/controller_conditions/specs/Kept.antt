@@ -6,7 +6,7 @@ use Rattle.crossbar_model.specs.Channels.{IsLinkPort}
 use Rattle.ordered_lists.specs.Ordered.{Every}
 use Rattle.port_model.specs.Setup.{Setup}
 use Rattle.port_facts.specs.Port.{IsRanged}
-use Rattle.controller_model.specs.Controller.{Controller}
+use Rattle.world_model.specs.Controller.{Controller}
 use Rattle.controller_facts.specs.Sound.{IsSound}
 use Rattle.controller_facts.specs.Said.{HasFlowingPorts}
 use Rattle.controller_law.specs.Order.{IsOrderly}

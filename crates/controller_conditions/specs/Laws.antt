@@ -4,8 +4,8 @@ use Rattle.std.specs.Prelude.{◌≡◌, ◌≤◌, true, map, All}
 use Rattle.net_types.specs.Number.{HasNumbersLeft, AreDrawn}
 use Rattle.net_types.specs.Label.{is_label_number}
 use Rattle.crossbar_model.specs.Channels.{ArePorts}
-use Rattle.controller_model.specs.declared.range.PortRange.{PortRange}
-use Rattle.controller_model.specs.Controller.{Controller, Acted}
+use Rattle.world_model.specs.declared.range.PortRange.{PortRange}
+use Rattle.world_model.specs.Controller.{Controller, Acted}
 use Rattle.controller_facts.specs.Inputs.{Input, takes_input}
 use Rattle.controller_facts.specs.Sound.{Opening, IsOwn, opened_by}
 use Rattle.controller_conditions.specs.Kept.{IsHeld, IsKept, AreIn}

@@ -10,7 +10,7 @@ use Rattle.ipv4_forward.specs.declared.table.Route.{Route}
 use Rattle.net_types.specs.declared.node.PortNo.{PortNo}
 use Rattle.crossbar_model.specs.Channels.{IsLinkPort}
 use Rattle.ordered_lists.specs.Ordered.{Every}
-use Rattle.controller_model.specs.Controller.{Controller, Acted}
+use Rattle.world_model.specs.Controller.{Controller, Acted}
 use Rattle.controller_facts.specs.Inputs.{Input, ChangeComes, takes_input}
 use Rattle.controller_facts.specs.Sound.{Opening, opened_by}
 

@@ -25,15 +25,15 @@ use Rattle.ordered_lists.specs.Ordered.{Every, InOrder}
 use Rattle.ordered_lists.proofs.Every.{every_join, every_map}
 use Rattle.ordered_lists.proofs.InOrder.{order_join}
 use Rattle.ordered_lists.proofs.Parts.{part_filtered, every_part, order_part}
-use Rattle.desk_model.specs.Requests.{input_of, is_on, is_delete_all, withdraws}
-use Rattle.desk_model.specs.Desk.{Desk, Standing, asked, last_transaction}
-use Rattle.desk_model.specs.Answers.{Answered, Unknown, Done, Ports, Failed, after_answer}
+use Rattle.port_model.specs.Requests.{input_of, is_on, is_delete_all, withdraws}
+use Rattle.port_model.specs.Desk.{Desk, Standing, asked, last_transaction}
+use Rattle.port_model.specs.DeskAnswers.{Answered, Unknown, Done, Ports, Failed, after_answer}
 use Rattle.port_model.specs.Setup.{Setup}
 use Rattle.port_facts.proofs.Keyed.{on_both}
 use Rattle.port_facts.proofs.Turns.{IsTurned, received_turns, ticked_turns}
-use Rattle.controller_model.specs.Controller.{Controller, Acted, free_slots}
-use Rattle.controller_model.specs.Sending.{with_cells, sends}
-use Rattle.controller_model.specs.Resets.{resets_gsmp}
+use Rattle.world_model.specs.Controller.{Controller, Acted, free_slots}
+use Rattle.world_model.specs.Sending.{with_cells, sends}
+use Rattle.world_model.specs.Resets.{resets_gsmp}
 use Rattle.controller_facts.specs.Sound.{IsEarlier, HaveOwnInputs, HaveOwnPorts}
 use Rattle.controller_facts.proofs.Moves.{IsGsmpTurn, hears, ages, Move, noting, taking_notes, sending, sending_control, asking, withdrawing, answering, meeting, ending_meeting, turning, placing, clearing, gathering, chaining, routing, popping}
 

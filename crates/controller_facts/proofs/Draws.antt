@@ -19,7 +19,7 @@ use Rattle.link_model.specs.Notes.{noted}
 use Rattle.frame_model.specs.Sending.{Sent}
 use Rattle.frame_model.specs.Frame.{frame_cells, made}
 use Rattle.frame_model.specs.Reassembly.{nothing_taken}
-use Rattle.desk_model.specs.Desk.{asked, is_led_home, message_at, last_transaction}
+use Rattle.port_model.specs.Desk.{asked, is_led_home, message_at, last_transaction}
 use Rattle.port_model.specs.declared.action.Action.{Action}
 use Rattle.port_model.specs.declared.action.Action.TheVariants.{Say, Ask, Note, CutChain, TakeBack, Withdraw, Reset}
 use Rattle.port_model.specs.Setup.{home_of}
@@ -27,11 +27,11 @@ use Rattle.port_model.specs.Port.{Work}
 use Rattle.port_model.specs.Resets.{resets, restarts}
 use Rattle.port_facts.proofs.Keyed.{on_both, on_each, put_length}
 use Rattle.port_facts.proofs.Halting.{resets_among, resets_one}
-use Rattle.controller_model.specs.Controller.{Controller, Acted, Linked, port_key, free_slots, linked_at, ports_of, with_linked, with_desk, note, chains_with, default_channel, default_home}
-use Rattle.controller_model.specs.Sending.{with_cells, sends, sends_control, says_gsmp}
-use Rattle.controller_model.specs.Asking.{asks_next, asks, takes_back}
-use Rattle.controller_model.specs.Resets.{cuts_of, cuts_label, cuts_default_of, cuts_default, cuts_gsmp, begins, with_work, closes_by, port_restarts_as, port_restarts_of, port_restarts, resets_gsmp, node_resets, node_restarts}
-use Rattle.controller_model.specs.Performing.{does, does_in_estab, resets_of, resets_port, performs, performs_in_estab, Rule, works_as, works, at_port}
+use Rattle.world_model.specs.Controller.{Controller, Acted, Linked, port_key, free_slots, linked_at, ports_of, with_linked, with_desk, note, chains_with, default_channel, default_home}
+use Rattle.world_model.specs.Sending.{with_cells, sends, sends_control, says_gsmp}
+use Rattle.world_model.specs.Asking.{asks_next, asks, takes_back}
+use Rattle.world_model.specs.Resets.{cuts_of, cuts_label, cuts_default_of, cuts_default, cuts_gsmp, begins, with_work, closes_by, port_restarts_as, port_restarts_of, port_restarts, resets_gsmp, node_resets, node_restarts}
+use Rattle.world_model.specs.Performing.{does, does_in_estab, resets_of, resets_port, performs, performs_in_estab, Rule, works_as, works, at_port}
 
 -- what a node reset would draw: in Estab one for the node and one for each port, and else it was reset before
 abbrev pub left_by : Bool → ℕ → ℕ

@@ -19,18 +19,18 @@ use Rattle.port_model.specs.declared.action.Action.{Action}
 use Rattle.port_model.specs.Setup.{Setup, home_of}
 use Rattle.port_model.specs.Port.{Work}
 use Rattle.port_facts.specs.Port.{IsLabelEnd, IsShaped, IsAction}
-use Rattle.controller_model.specs.Controller.{Acted, Linked, linked_at}
-use Rattle.controller_model.specs.Sending.{sends, sends_control}
-use Rattle.controller_model.specs.Asking.{asks, takes_back, withdraws_input}
-use Rattle.controller_model.specs.Resets.{begins, node_resets, node_restarts}
-use Rattle.controller_model.specs.Performing.{Rule, resets_port, performs_in_estab, works_as, at_port}
-use Rattle.controller_model.specs.Packets.{routes}
-use Rattle.controller_model.specs.Joins.{releases_input, resets_spent, releases, tries_join, tries_joins}
-use Rattle.controller_model.specs.Changes.{begins_change, takes_changes, change_comes}
-use Rattle.controller_model.specs.Meeting.{meets, causes, clears, done}
-use Rattle.controller_model.specs.Gsmp.{steps, gsmp_holds}
-use Rattle.controller_model.specs.Cells.{cell_comes}
-use Rattle.controller_model.specs.Ticks.{sends_again, ticks_port, ticks_ports, ticks}
+use Rattle.world_model.specs.Controller.{Acted, Linked, linked_at}
+use Rattle.world_model.specs.Sending.{sends, sends_control}
+use Rattle.world_model.specs.Asking.{asks, takes_back, withdraws_input}
+use Rattle.world_model.specs.Resets.{begins, node_resets, node_restarts}
+use Rattle.world_model.specs.Performing.{Rule, resets_port, performs_in_estab, works_as, at_port}
+use Rattle.world_model.specs.Packets.{routes}
+use Rattle.world_model.specs.Joins.{releases_input, resets_spent, releases, tries_join, tries_joins}
+use Rattle.world_model.specs.Changes.{begins_change, takes_changes, change_comes}
+use Rattle.world_model.specs.Meeting.{meets, causes, clears, done}
+use Rattle.world_model.specs.Gsmp.{steps, gsmp_holds}
+use Rattle.world_model.specs.Cells.{cell_comes}
+use Rattle.world_model.specs.Ticks.{sends_again, ticks_port, ticks_ports, ticks}
 use Rattle.controller_facts.specs.Sound.{IsSound, NeverFall}
 use Rattle.controller_facts.proofs.Moves.{IsGsmpTurn, Worked, Found, sending, sending_control, withdrawing, Moves, moves_to}
 use Rattle.controller_facts.proofs.Performing.{node_resets_goes, node_restarts_goes, asks_goes, takes_back_goes, resets_port_goes, performs_in_estab_goes, works_as_goes, at_port_goes}

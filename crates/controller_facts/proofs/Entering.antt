@@ -13,7 +13,7 @@ use Rattle.flow_ids.specs.Parts.{same_flow, flow_destination}
 use Rattle.gsmp_wire.specs.declared.request.Request.TheVariants.{MoveBranch}
 use Rattle.ordered_lists.specs.Ordered.{Every}
 use Rattle.keyed_lists.specs.Keyed.{at}
-use Rattle.desk_model.specs.Desk.{on_input, most_asked}
+use Rattle.port_model.specs.Desk.{on_input, most_asked}
 use Rattle.port_model.specs.Setup.{Setup, home_of, label_end}
 use Rattle.port_model.specs.Labels.{Label, LabelState, Wiring, Offered, Recalled, Wired, label_number}
 use Rattle.port_model.specs.Grants.{Grant, GrantState, Idle, ByController, ByInput, Leaving, grant_label, grant_for, is_by_controller}
@@ -23,11 +23,11 @@ use Rattle.port_facts.specs.Port.{IsLabelEnd, IsLabel, IsGrant, IsPort, joins_la
 use Rattle.port_facts.proofs.Keyed.{on_each, at_every, apart_at}
 use Rattle.port_facts.proofs.Found.{find_passes}
 use Rattle.port_facts.proofs.Rules.{and_first}
-use Rattle.controller_model.specs.Controller.{Controller, Acted, Linked, linked_at}
-use Rattle.controller_model.specs.Resets.{begins}
-use Rattle.controller_model.specs.Performing.{works}
-use Rattle.controller_model.specs.Routes.{route_stays}
-use Rattle.controller_model.specs.Joins.{Join, port_by, join_through, join_by, join_for, is_offered, may_join, enters_grant, output_of, enters_label, joins, tries_label, label_on, tries_join, inputs_at, tries_joins}
+use Rattle.world_model.specs.Controller.{Controller, Acted, Linked, linked_at}
+use Rattle.world_model.specs.Resets.{begins}
+use Rattle.world_model.specs.Performing.{works}
+use Rattle.world_model.specs.Routes.{route_stays}
+use Rattle.world_model.specs.Joins.{Join, port_by, join_through, join_by, join_for, is_offered, may_join, enters_grant, output_of, enters_label, joins, tries_label, label_on, tries_join, inputs_at, tries_joins}
 use Rattle.controller_facts.proofs.Moves.{by_joining, by_lending, Found, stays, HasPorts, found_setup, found_at_own, found_port, moves_fold, goes_on}
 use Rattle.controller_facts.proofs.Performing.{To, asks_goes, at_port_goes}
 use Rattle.controller_facts.proofs.Joining.{every_flat_map, labels_at, same_image, image_is, each_there}

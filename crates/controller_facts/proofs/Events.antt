@@ -43,9 +43,9 @@ use Rattle.refusal_names.specs.Names.{encaps_refusal, packet_refusal, ifmp_refus
 use Rattle.frame_model.specs.Reassembly.{Reassembly, Taken, taken}
 use Rattle.frame_model.specs.Frame.{Tested, tested, last_mark, next_mark}
 use Rattle.ordered_lists.specs.Ordered.{Every}
-use Rattle.desk_model.specs.Messages.{is_up}
-use Rattle.desk_model.specs.Desk.{Standing, empty_desk, sent_again}
-use Rattle.desk_model.specs.Answers.{Head, head_of, is_of_type, Answered, Unknown, Done, Ports, Failed, succeeded, outcome, answered_with, after_answer}
+use Rattle.port_model.specs.Messages.{is_up}
+use Rattle.port_model.specs.Desk.{Standing, empty_desk, sent_again}
+use Rattle.port_model.specs.DeskAnswers.{Head, head_of, is_of_type, Answered, Unknown, Done, Ports, Failed, succeeded, outcome, answered_with, after_answer}
 use Rattle.port_model.specs.Setup.{Setup, control_end}
 use Rattle.port_model.specs.Labels.{Label, is_bound}
 use Rattle.port_model.specs.Grants.{Grant}
@@ -60,15 +60,15 @@ use Rattle.port_facts.proofs.Keyed.{on_both, on_each}
 use Rattle.port_facts.proofs.Found.{find_every}
 use Rattle.port_facts.proofs.Rules.{used_goes, counts_goes, done_goes}
 use Rattle.port_facts.proofs.Hearings.{hears_goes, ticks_goes}
-use Rattle.controller_model.specs.Controller.{Acted, Linked, free_slots, linked_at, ports_of, with_linked, with_desk, chains_with, default_channel, default_end, default_home}
-use Rattle.controller_model.specs.Sending.{sends, sends_control, says_gsmp}
-use Rattle.controller_model.specs.Asking.{asks, sends_request}
-use Rattle.controller_model.specs.Joins.{releases, tries_joins}
-use Rattle.controller_model.specs.Meeting.{meets, up_ports, empties, default_branches, ends_meeting, has_emptied, port_of_input, tells_port, behind_delete_all, causes_in_estab, causes, may_clear, clears_of, clears_port, clears, done, takes_answer, answer_comes}
-use Rattle.controller_model.specs.Gsmp.{answers, steps, told, gsmp_holds}
-use Rattle.controller_model.specs.Packets.{is_control, sends_next, goes_by, grant_by, forwarded, routes, control_protocol}
-use Rattle.controller_model.specs.Cells.{Taker, ForGsmp, ForDefault, ForLabel, port_on, on_link, same_channel, label_taker, taker_at, reassembly_of, with_reassembly, label_holds, ifmp_holds, counted_at, packet_holds, default_holds, frame_holds, opened_frame, after_test, ends_frame, after_cell, takes_cell, cell_comes}
-use Rattle.controller_model.specs.Ticks.{sends_again, ticks_port, ticks_ports, ticks_by, ticks}
+use Rattle.world_model.specs.Controller.{Acted, Linked, free_slots, linked_at, ports_of, with_linked, with_desk, chains_with, default_channel, default_end, default_home}
+use Rattle.world_model.specs.Sending.{sends, sends_control, says_gsmp}
+use Rattle.world_model.specs.Asking.{asks, sends_request}
+use Rattle.world_model.specs.Joins.{releases, tries_joins}
+use Rattle.world_model.specs.Meeting.{meets, up_ports, empties, default_branches, ends_meeting, has_emptied, port_of_input, tells_port, behind_delete_all, causes_in_estab, causes, may_clear, clears_of, clears_port, clears, done, takes_answer, answer_comes}
+use Rattle.world_model.specs.Gsmp.{answers, steps, told, gsmp_holds}
+use Rattle.world_model.specs.Packets.{is_control, sends_next, goes_by, grant_by, forwarded, routes, control_protocol}
+use Rattle.world_model.specs.Cells.{Taker, ForGsmp, ForDefault, ForLabel, port_on, on_link, same_channel, label_taker, taker_at, reassembly_of, with_reassembly, label_holds, ifmp_holds, counted_at, packet_holds, default_holds, frame_holds, opened_frame, after_test, ends_frame, after_cell, takes_cell, cell_comes}
+use Rattle.world_model.specs.Ticks.{sends_again, ticks_port, ticks_ports, ticks_by, ticks}
 use Rattle.controller_facts.proofs.Lifetimes.{decoded_lives}
 use Rattle.controller_facts.proofs.Moves.{IsGsmpTurn, hears as hears_greeting, ages, by_rule, Found, noting, taking_notes, sending, sending_control, answering, meeting, ending_meeting, turning, clearing, gathering, chaining, stays, moves_to, further, HasPorts, IsShapedStanding, found_at_own, found_port, moves_ports, moves_fold, goes_on}
 use Rattle.controller_facts.proofs.Performing.{To, Any, any_ports, ports_linked, says_gsmp_goes, node_resets_goes, sends_request_goes, asks_goes, asks_each, at_port_goes}

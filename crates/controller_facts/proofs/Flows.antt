@@ -14,7 +14,7 @@ use Rattle.link_model.specs.Notes.{noted}
 use Rattle.frame_model.specs.Sending.{Sent}
 use Rattle.frame_model.specs.Frame.{frame_cells, made}
 use Rattle.ordered_lists.specs.Ordered.{Every}
-use Rattle.desk_model.specs.Desk.{Desk, empty_desk}
+use Rattle.port_model.specs.Desk.{Desk, empty_desk}
 use Rattle.port_model.specs.Setup.{Setup}
 use Rattle.port_model.specs.Port.{Port, Work, label_at}
 use Rattle.port_model.specs.Resets.{cleared}
@@ -23,10 +23,10 @@ use Rattle.port_facts.proofs.Keyed.{on_both, at_every, put_every}
 use Rattle.port_facts.proofs.Rules.{counts_goes, done_goes}
 use Rattle.port_facts.proofs.Hearings.{hears_goes, ticks_goes}
 use Rattle.port_facts.proofs.Said.{goes_flows, closes_flows_of, resets_flows, parted_flows, lent_flows, given_back_flows, goes_said, given_back_said}
-use Rattle.controller_model.specs.declared.range.PortRange.{PortRange}
-use Rattle.controller_model.specs.Controller.{Controller, Acted, port_key, free_slots}
-use Rattle.controller_model.specs.Sending.{with_cells, sends}
-use Rattle.controller_model.specs.Opening.{setup_of, opens_ports}
+use Rattle.world_model.specs.declared.range.PortRange.{PortRange}
+use Rattle.world_model.specs.Controller.{Controller, Acted, port_key, free_slots}
+use Rattle.world_model.specs.Sending.{with_cells, sends}
+use Rattle.world_model.specs.Opening.{setup_of, opens_ports}
 use Rattle.controller_facts.specs.Inputs.{Input, CellComes, PacketEnters, Ticks, Restarts, ChangeComes, FrameIsForged, CellLeaves, Meanwhile, takes_input, takes_inputs}
 use Rattle.controller_facts.specs.Sound.{IsSound, IsOwn, Always, opened_by, setups_by}
 use Rattle.controller_facts.specs.Said.{HasFlowsAt, HasFlowingPorts, SaysInRange}

@@ -25,11 +25,11 @@ use Rattle.port_model.specs.Saying.{closes}
 use Rattle.port_facts.specs.Port.{IsLabelEnd, IsGrant, IsPort, parts_label}
 use Rattle.port_facts.proofs.Keyed.{on_both, by_eq, at_key, at_every, at_put_same, at_put_other, entered_every, each_found}
 use Rattle.port_facts.proofs.Found.{find_every}
-use Rattle.controller_model.specs.Controller.{Acted, Linked, port_key, linked_at, ports_of, note}
-use Rattle.controller_model.specs.Resets.{begins}
-use Rattle.controller_model.specs.Performing.{works, works_as}
-use Rattle.controller_model.specs.Joins.{Join, join_to, joins_at, end_le, joins_of, join_of, parts, releases_join, releases_input, released_inputs, resets_spent, releases, output_of}
-use Rattle.controller_model.specs.Changes.{is_changed, changed_joins, takes_join_back, begins_change, takes_change, may_take, takes_each, takes_changes, change_comes}
+use Rattle.world_model.specs.Controller.{Acted, Linked, port_key, linked_at, ports_of, note}
+use Rattle.world_model.specs.Resets.{begins}
+use Rattle.world_model.specs.Performing.{works, works_as}
+use Rattle.world_model.specs.Joins.{Join, join_to, joins_at, end_le, joins_of, join_of, parts, releases_join, releases_input, released_inputs, resets_spent, releases, output_of}
+use Rattle.world_model.specs.Changes.{is_changed, changed_joins, takes_join_back, begins_change, takes_change, may_take, takes_each, takes_changes, change_comes}
 use Rattle.controller_facts.specs.Sound.{linked_setup, IsLinkedPort, AreApart}
 use Rattle.controller_facts.proofs.Moves.{by_closing, by_parting, by_giving_back, Found, noting, routing, stays, moves_to, further, HasPorts, found_setup, found_at_own, found_port, moves_fold, goes_on}
 use Rattle.controller_facts.proofs.Performing.{To, Any, any_ports, takes_back_goes, at_port_goes}

@@ -9,11 +9,11 @@ use Rattle.ordered_lists.proofs.InOrder.{order_mapped}
 use Rattle.port_model.specs.Setup.{Setup}
 use Rattle.port_facts.specs.Port.{IsPort}
 use Rattle.port_facts.proofs.Joins.{begun_kept}
-use Rattle.controller_model.specs.declared.range.PortRange.{PortRange}
-use Rattle.controller_model.specs.Controller.{Acted}
-use Rattle.controller_model.specs.Opening.{setup_of, opens_port, opens_ports}
-use Rattle.controller_model.specs.Packets.{inject_refusal, injected}
-use Rattle.controller_model.specs.Sending.{sends}
+use Rattle.world_model.specs.declared.range.PortRange.{PortRange}
+use Rattle.world_model.specs.Controller.{Acted}
+use Rattle.world_model.specs.Opening.{setup_of, opens_port, opens_ports}
+use Rattle.world_model.specs.Packets.{inject_refusal, injected}
+use Rattle.world_model.specs.Sending.{sends}
 use Rattle.controller_facts.specs.Inputs.{Input, CellComes, PacketEnters, Ticks, Restarts, ChangeComes, FrameIsForged, CellLeaves, Meanwhile, enters_unless, takes_input, takes_inputs}
 use Rattle.controller_facts.specs.Sound.{linked_setup, IsLinkedPort, AreApart, IsSound, HasSoundSide, HasSoundPorts, HasShapedRequests, HasSoundDesk, HasShutPorts, IsShutLinked, Always, IsOwn, NumbersNeverFall, DrawsFewInstances, DrawsFewMarks, Opening, opened_by, setups_by}
 use Rattle.controller_facts.proofs.Moves.{Moves, stays, moves_to, sending, popping, HasPorts, moves_ports, moves_keep}

@@ -18,9 +18,9 @@ use Rattle.adjacency_table.specs.Side.{is_estab}
 use Rattle.link_model.specs.declared.record.Record.TheVariants.{Part}
 use Rattle.frame_model.specs.Frame.{frame_cells, made}
 use Rattle.frame_model.specs.Sending.{Sent}
-use Rattle.desk_model.specs.Requests.{leads_home}
-use Rattle.desk_model.specs.Messages.{is_up}
-use Rattle.desk_model.specs.Desk.{asked, is_led_home, last_transaction, message_at}
+use Rattle.port_model.specs.Requests.{leads_home}
+use Rattle.port_model.specs.Messages.{is_up}
+use Rattle.port_model.specs.Desk.{asked, is_led_home, last_transaction, message_at}
 use Rattle.port_model.specs.Setup.{Setup, home_of}
 use Rattle.port_model.specs.Labels.{Label}
 use Rattle.port_model.specs.Grants.{Grant, GrantState, Idle, ByController, ByInput, Leaving, grant_label}
@@ -32,13 +32,13 @@ use Rattle.port_model.specs.Resets.{cleared}
 use Rattle.port_facts.specs.Port.{IsPort}
 use Rattle.port_facts.proofs.Keyed.{on_both}
 use Rattle.port_facts.proofs.Rules.{done_goes}
-use Rattle.controller_model.specs.Controller.{Controller, Acted, Linked, free_slots, linked_at, ports_of, with_linked, with_desk, note, default_channel, default_end, default_home}
-use Rattle.controller_model.specs.Sending.{with_cells, sends}
-use Rattle.controller_model.specs.Asking.{asks, asks_next}
-use Rattle.controller_model.specs.Resets.{begins, with_work, cuts_of, closes_by, port_restarts_of, port_restarts, resets_gsmp, node_resets}
-use Rattle.controller_model.specs.Joins.{Join, join_to, joins_at, end_le, joins_of, join_of, parts, gives_back, releases_join, releases_input, released_inputs, resets_spent, releases, output_of, joins}
-use Rattle.controller_model.specs.Changes.{is_changed, changed_joins, takes_join_back, begins_change, takes_change, may_take, takes_each, takes_changes}
-use Rattle.controller_model.specs.Meeting.{up_ports, default_branches, ends_meeting, has_emptied, port_of_input, tells_port, behind_delete_all, causes_in_estab, causes, may_clear, clears_of}
+use Rattle.world_model.specs.Controller.{Controller, Acted, Linked, free_slots, linked_at, ports_of, with_linked, with_desk, note, default_channel, default_end, default_home}
+use Rattle.world_model.specs.Sending.{with_cells, sends}
+use Rattle.world_model.specs.Asking.{asks, asks_next}
+use Rattle.world_model.specs.Resets.{begins, with_work, cuts_of, closes_by, port_restarts_of, port_restarts, resets_gsmp, node_resets}
+use Rattle.world_model.specs.Joins.{Join, join_to, joins_at, end_le, joins_of, join_of, parts, gives_back, releases_join, releases_input, released_inputs, resets_spent, releases, output_of, joins}
+use Rattle.world_model.specs.Changes.{is_changed, changed_joins, takes_join_back, begins_change, takes_change, may_take, takes_each, takes_changes}
+use Rattle.world_model.specs.Meeting.{up_ports, default_branches, ends_meeting, has_emptied, port_of_input, tells_port, behind_delete_all, causes_in_estab, causes, may_clear, clears_of}
 use Rattle.std.specs.Option.{option_map}
 use Rattle.ipv4_forward.specs.declared.table.Route.{Route}
 use Rattle.gsmp_wire.specs.Layout.{octets_of as gsmp_octets}

@@ -38,9 +38,9 @@ use Rattle.adjacency_table.specs.Side.{Side, is_estab, counted, followed_tick, t
 use Rattle.adjacency_table.specs.Greeting.{greeting_of, gsmp_answer, gsmp_received}
 use Rattle.frame_model.specs.Reassembly.{Reassembly, Taken, taken}
 use Rattle.frame_model.specs.Frame.{Tested, tested, last_mark, next_mark}
-use Rattle.desk_model.specs.Messages.{is_up}
-use Rattle.desk_model.specs.Desk.{Standing, empty_desk, sent_again}
-use Rattle.desk_model.specs.Answers.{Done, Ports, Failed, after_answer}
+use Rattle.port_model.specs.Messages.{is_up}
+use Rattle.port_model.specs.Desk.{Standing, empty_desk, sent_again}
+use Rattle.port_model.specs.DeskAnswers.{Done, Ports, Failed, after_answer}
 use Rattle.port_model.specs.Setup.{Setup, home_of, label_end, control_end}
 use Rattle.port_model.specs.Labels.{Label}
 use Rattle.port_model.specs.Grants.{Grant}
@@ -53,18 +53,18 @@ use Rattle.port_facts.specs.Port.{IsPort, IsShaped, Lives}
 use Rattle.port_facts.proofs.Keyed.{on_both}
 use Rattle.port_facts.proofs.Rules.{used_goes, counts_goes}
 use Rattle.port_facts.proofs.Hearings.{hears_goes, ticks_goes}
-use Rattle.controller_model.specs.Controller.{Acted, Linked, free_slots, linked_at, ports_of, with_desk, default_home}
-use Rattle.controller_model.specs.Sending.{sends, sends_control, says_gsmp}
-use Rattle.controller_model.specs.Asking.{sends_request}
-use Rattle.controller_model.specs.Resets.{begins, cuts_default_of, cuts_default, cuts_gsmp, node_resets, node_restarts}
-use Rattle.controller_model.specs.Performing.{works, works_as}
-use Rattle.controller_model.specs.Joins.{Join, releases, join_for, may_join, enters_grant, output_of, enters_label, joins, tries_label, label_on, tries_join, inputs_at, tries_joins}
-use Rattle.controller_model.specs.Changes.{change_comes}
-use Rattle.controller_model.specs.Meeting.{meets, up_ports, empties, causes, clears_port, clears, done, takes_answer, answer_comes}
-use Rattle.controller_model.specs.Gsmp.{answers, steps, told, gsmp_holds}
-use Rattle.controller_model.specs.Packets.{is_control, sends_next, goes_by, grant_by, forwarded, routes, control_protocol}
-use Rattle.controller_model.specs.Cells.{Taker, ForGsmp, ForDefault, ForLabel, reassembly_of, with_reassembly, label_holds, ifmp_holds, counted_at, packet_holds, default_holds, frame_holds, opened_frame, ends_frame, after_cell, takes_cell, cell_comes}
-use Rattle.controller_model.specs.Ticks.{sends_again, ticks_port, ticks_ports, ticks_by, ticks}
+use Rattle.world_model.specs.Controller.{Acted, Linked, free_slots, linked_at, ports_of, with_desk, default_home}
+use Rattle.world_model.specs.Sending.{sends, sends_control, says_gsmp}
+use Rattle.world_model.specs.Asking.{sends_request}
+use Rattle.world_model.specs.Resets.{begins, cuts_default_of, cuts_default, cuts_gsmp, node_resets, node_restarts}
+use Rattle.world_model.specs.Performing.{works, works_as}
+use Rattle.world_model.specs.Joins.{Join, releases, join_for, may_join, enters_grant, output_of, enters_label, joins, tries_label, label_on, tries_join, inputs_at, tries_joins}
+use Rattle.world_model.specs.Changes.{change_comes}
+use Rattle.world_model.specs.Meeting.{meets, up_ports, empties, causes, clears_port, clears, done, takes_answer, answer_comes}
+use Rattle.world_model.specs.Gsmp.{answers, steps, told, gsmp_holds}
+use Rattle.world_model.specs.Packets.{is_control, sends_next, goes_by, grant_by, forwarded, routes, control_protocol}
+use Rattle.world_model.specs.Cells.{Taker, ForGsmp, ForDefault, ForLabel, reassembly_of, with_reassembly, label_holds, ifmp_holds, counted_at, packet_holds, default_holds, frame_holds, opened_frame, ends_frame, after_cell, takes_cell, cell_comes}
+use Rattle.world_model.specs.Ticks.{sends_again, ticks_port, ticks_ports, ticks_by, ticks}
 use Rattle.controller_facts.proofs.Lifetimes.{decoded_lives}
 use Rattle.ordered_lists.specs.Ordered.{Every}
 use Rattle.port_facts.proofs.Weights.{counts_cost, used_cost}

@@ -29,10 +29,10 @@ use Rattle.frame_model.specs.Reassembly.{Reassembly}
 use Rattle.gsmp_wire.specs.declared.request.Request.{Request}
 use Rattle.ordered_lists.specs.Ordered.{Every}
 use Rattle.keyed_lists.specs.Keyed.{at, put}
-use Rattle.desk_model.specs.Messages.{is_up}
-use Rattle.desk_model.specs.Requests.{is_on, withdraws}
-use Rattle.desk_model.specs.Desk.{Desk, Standing, asked, empty_desk, last_transaction}
-use Rattle.desk_model.specs.Answers.{Answered, Unknown, Done, Ports, Failed, after_answer}
+use Rattle.port_model.specs.Messages.{is_up}
+use Rattle.port_model.specs.Requests.{is_on, withdraws}
+use Rattle.port_model.specs.Desk.{Desk, Standing, asked, empty_desk, last_transaction}
+use Rattle.port_model.specs.DeskAnswers.{Answered, Unknown, Done, Ports, Failed, after_answer}
 use Rattle.port_model.specs.Setup.{Setup}
 use Rattle.port_model.specs.Labels.{Label, Offered}
 use Rattle.port_model.specs.Grants.{Grant, ByController, grant_label}
@@ -45,11 +45,11 @@ use Rattle.port_facts.proofs.Keyed.{on_both, at_key, at_every, at_map, map_put, 
 use Rattle.port_facts.proofs.Steps.{Goes}
 use Rattle.port_facts.proofs.Kept.{closes_kept, goes_kept}
 use Rattle.port_facts.proofs.Joins.{parted_kept, joined_kept, lent_kept, given_back_kept, resets_kept, restarts_kept, cleared_kept}
-use Rattle.controller_model.specs.Controller.{Controller, Acted, Linked, port_key, free_slots, linked_at, with_linked, with_desk, note}
-use Rattle.controller_model.specs.Sending.{with_cells, sends, sends_control}
-use Rattle.controller_model.specs.Asking.{withdraws_input}
-use Rattle.controller_model.specs.Resets.{begins, with_work, resets_gsmp, node_resets}
-use Rattle.controller_model.specs.Meeting.{may_clear, is_clearing, awaits_nothing}
+use Rattle.world_model.specs.Controller.{Controller, Acted, Linked, port_key, free_slots, linked_at, with_linked, with_desk, note}
+use Rattle.world_model.specs.Sending.{with_cells, sends, sends_control}
+use Rattle.world_model.specs.Asking.{withdraws_input}
+use Rattle.world_model.specs.Resets.{begins, with_work, resets_gsmp, node_resets}
+use Rattle.world_model.specs.Meeting.{may_clear, is_clearing, awaits_nothing}
 use Rattle.controller_facts.specs.Sound.{linked_setup, IsLinkedPort, ArePorts}
 
 -- what a message or a tick makes of the side of the adjacency with the switch

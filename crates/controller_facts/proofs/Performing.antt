@@ -16,7 +16,7 @@ use Rattle.ipv4_packet.specs.Packet.{ifmp_packet_of}
 use Rattle.flow_encaps.specs.Default.{default_payload}
 use Rattle.ordered_lists.specs.Ordered.{Every}
 use Rattle.keyed_lists.specs.Keyed.{at}
-use Rattle.desk_model.specs.Desk.{Standing, asked, is_led_home, message_at, last_transaction}
+use Rattle.port_model.specs.Desk.{Standing, asked, is_led_home, message_at, last_transaction}
 use Rattle.port_model.specs.declared.action.Action.{Action}
 use Rattle.port_model.specs.declared.action.Action.TheVariants.{Say, Ask, Note, CutChain, TakeBack, Withdraw, Reset}
 use Rattle.port_model.specs.Setup.{Setup, home_of}
@@ -25,11 +25,11 @@ use Rattle.port_model.specs.Resets.{resets, restarts}
 use Rattle.port_facts.specs.Port.{setup_port, IsLinked, IsShaped, parts_label, IsAction}
 use Rattle.port_facts.proofs.Keyed.{on_both, on_each, each_key_found}
 use Rattle.port_facts.proofs.Joins.{resets_kept, restarts_kept}
-use Rattle.controller_model.specs.Controller.{Acted, Linked, linked_at, ports_of, with_desk, chain_of, chains_with, default_channel, default_home}
-use Rattle.controller_model.specs.Sending.{says_gsmp, says_ifmp}
-use Rattle.controller_model.specs.Asking.{sends_request, asks_next, asks, takes_back}
-use Rattle.controller_model.specs.Resets.{cuts_of, cuts_label, cuts_default_of, cuts_default, cuts_gsmp, begins, with_work, closes_by, port_restarts_of, port_restarts, resets_gsmp, node_resets, node_restarts}
-use Rattle.controller_model.specs.Performing.{does, does_in_estab, resets_of, resets_port, performs, performs_in_estab, Rule, works_as, works, at_port}
+use Rattle.world_model.specs.Controller.{Acted, Linked, linked_at, ports_of, with_desk, chain_of, chains_with, default_channel, default_home}
+use Rattle.world_model.specs.Sending.{says_gsmp, says_ifmp}
+use Rattle.world_model.specs.Asking.{sends_request, asks_next, asks, takes_back}
+use Rattle.world_model.specs.Resets.{cuts_of, cuts_label, cuts_default_of, cuts_default, cuts_gsmp, begins, with_work, closes_by, port_restarts_of, port_restarts, resets_gsmp, node_resets, node_restarts}
+use Rattle.world_model.specs.Performing.{does, does_in_estab, resets_of, resets_port, performs, performs_in_estab, Rule, works_as, works, at_port}
 use Rattle.controller_facts.specs.Sound.{linked_setup}
 use Rattle.controller_facts.proofs.Moves.{Worked, by_reset, by_restart, Found, noting, taking_notes, sending_control, asking, withdrawing, placing, gathering, chaining, Moves, stays, moves_to, further, HasPorts, found_setup, found_at_own, begun, moves_fold, goes_on, worked_kept, Fine, rests, goes_to, and_on, fine_moves, fine_ports, fine_fold, reset_ports, resets_node}
 

@@ -3,9 +3,9 @@
 use Rattle.std.proofs.Common.{Bool, ◌∙◌, ap, if◌then◌else◌}
 use Rattle.std.specs.Prelude.{drop}
 use Rattle.ifmp_wire.specs.Fields.{decoded as ifmp_decoded}
-use Rattle.controller_model.specs.Gsmp.{gsmp_holds}
-use Rattle.controller_model.specs.Packets.{routes}
-use Rattle.controller_model.specs.Cells.{label_holds, ifmp_holds, counted_at, packet_holds, default_holds}
+use Rattle.world_model.specs.Gsmp.{gsmp_holds}
+use Rattle.world_model.specs.Packets.{routes}
+use Rattle.world_model.specs.Cells.{label_holds, ifmp_holds, counted_at, packet_holds, default_holds}
 use Rattle.controller_facts.specs.Refused.{RefusedIsRecorded}
 
 pub refused_is_recorded : RefusedIsRecorded

@@ -18,8 +18,8 @@ use Rattle.ordered_lists.specs.Ordered.{Every, InOrder}
 use Rattle.ordered_lists.proofs.Every.{every_map}
 use Rattle.ordered_lists.proofs.InOrder.{order_unmapped}
 use Rattle.keyed_lists.specs.Keyed.{at, put}
-use Rattle.desk_model.specs.Desk.{Desk}
-use Rattle.desk_model.specs.Messages.{is_up}
+use Rattle.port_model.specs.Desk.{Desk}
+use Rattle.port_model.specs.Messages.{is_up}
 use Rattle.port_model.specs.declared.action.Action.{Action}
 use Rattle.port_model.specs.declared.action.Action.TheVariants.{Say, Ask, Note, CutChain, TakeBack, Withdraw, Reset}
 use Rattle.port_model.specs.Setup.{Setup}
@@ -28,10 +28,10 @@ use Rattle.port_model.specs.Resets.{restarts}
 use Rattle.port_facts.specs.Port.{IsShut}
 use Rattle.port_facts.proofs.Keyed.{on_both, by_eq, at_key, at_every, put_every}
 use Rattle.port_facts.proofs.Shut.{goes_shut, closes_shut, resets_shut, restarts_shut, parted_shut, joined_shut, no_grant}
-use Rattle.controller_model.specs.Controller.{Controller, Acted, Linked, port_key, free_slots, linked_at, ports_of, chains_with}
-use Rattle.controller_model.specs.Sending.{with_cells, sends}
-use Rattle.controller_model.specs.Meeting.{may_clear, is_clearing, awaits_nothing}
-use Rattle.controller_model.specs.Resets.{cuts_of, begins, with_work, closes_by, port_restarts_of, port_restarts, resets_gsmp, node_resets}
+use Rattle.world_model.specs.Controller.{Controller, Acted, Linked, port_key, free_slots, linked_at, ports_of, chains_with}
+use Rattle.world_model.specs.Sending.{with_cells, sends}
+use Rattle.world_model.specs.Meeting.{may_clear, is_clearing, awaits_nothing}
+use Rattle.world_model.specs.Resets.{cuts_of, begins, with_work, closes_by, port_restarts_of, port_restarts, resets_gsmp, node_resets}
 use Rattle.controller_facts.specs.Sound.{linked_setup, AreApart, IsShutLinked}
 use Rattle.controller_facts.proofs.Moves.{Worked, by_rule, by_closing, by_reset, by_restart, by_parting, by_joining, by_lending, by_giving_back, Move, noting, taking_notes, sending, sending_control, asking, withdrawing, answering, meeting, ending_meeting, turning, placing, clearing, gathering, chaining, routing, popping, fine_ports, Moves, moves_keep_whole, HasPorts, move_ports, moves_ports, reset_ports}
 use Rattle.controller_facts.proofs.Performing.{node_resets_goes, port_restarts_of_fine}

@@ -7,12 +7,12 @@ use Rattle.gsmp_wire.specs.declared.request.Request.{Request}
 use Rattle.gsmp_wire.specs.declared.request.Request.TheVariants.{MoveBranch, PortManagement}
 use Rattle.ordered_lists.specs.Ordered.{Every}
 use Rattle.keyed_lists.specs.Keyed.{at}
-use Rattle.desk_model.specs.Desk.{Standing}
+use Rattle.port_model.specs.Desk.{Standing}
 use Rattle.port_model.specs.Setup.{Setup}
 use Rattle.port_model.specs.Grants.{grant_label, input_of}
 use Rattle.port_facts.specs.Port.{IsLabelEnd}
-use Rattle.controller_model.specs.Controller.{Controller, Linked, linked_at}
-use Rattle.controller_model.specs.Joins.{Join, joins_of, output_of}
+use Rattle.world_model.specs.Controller.{Controller, Linked, linked_at}
+use Rattle.world_model.specs.Joins.{Join, joins_of, output_of}
 
 -- *Requests*: none manages a port. A Move Branch moves the branch of a label's channel, and moves it to a
 -- label's channel or to the control link

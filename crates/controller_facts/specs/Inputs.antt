@@ -8,13 +8,13 @@ use Rattle.atm_cells.specs.declared.cell.Cell.{Cell}
 use Rattle.ipv4_forward.specs.declared.change.RouteChange.{RouteChange}
 use Rattle.link_model.specs.declared.record.Refusal.{Refusal}
 use Rattle.link_model.specs.Notes.{Journal}
-use Rattle.controller_model.specs.Controller.{Acted}
-use Rattle.controller_model.specs.Cells.{cell_comes}
-use Rattle.controller_model.specs.Packets.{inject_refusal, injected}
-use Rattle.controller_model.specs.Ticks.{ticks}
-use Rattle.controller_model.specs.Resets.{node_restarts}
-use Rattle.controller_model.specs.Changes.{change_comes}
-use Rattle.controller_model.specs.Sending.{sends}
+use Rattle.world_model.specs.Controller.{Acted}
+use Rattle.world_model.specs.Cells.{cell_comes}
+use Rattle.world_model.specs.Packets.{inject_refusal, injected}
+use Rattle.world_model.specs.Ticks.{ticks}
+use Rattle.world_model.specs.Resets.{node_restarts}
+use Rattle.world_model.specs.Changes.{change_comes}
+use Rattle.world_model.specs.Sending.{sends}
 
 -- any cell comes, a packet is to enter, a tick, a restart, a change of routes, a forged frame, a cell leaves for
 -- the switch; and meanwhile others take notes and are given numbers

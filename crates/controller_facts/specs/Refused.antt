@@ -14,9 +14,9 @@ use Rattle.link_model.specs.declared.record.Layer.TheVariants.{Encaps, Packet, I
 use Rattle.link_model.specs.declared.record.Record.TheVariants.{Bad}
 use Rattle.refusal_names.specs.Names.{encaps_refusal, packet_refusal, ifmp_refusal, gsmp_refusal}
 use Rattle.port_model.specs.Labels.{Label}
-use Rattle.controller_model.specs.Controller.{Acted, Linked, note}
-use Rattle.controller_model.specs.Packets.{control_protocol}
-use Rattle.controller_model.specs.Cells.{ForGsmp, ForDefault, ForLabel, frame_holds}
+use Rattle.world_model.specs.Controller.{Acted, Linked, note}
+use Rattle.world_model.specs.Packets.{control_protocol}
+use Rattle.world_model.specs.Cells.{ForGsmp, ForDefault, ForLabel, frame_holds}
 
 -- on the GSMP channel; on a default channel by its encapsulation, as a packet, or as a message of IFMP; on a label's
 -- channel by its encapsulation

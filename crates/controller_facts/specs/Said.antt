@@ -7,7 +7,7 @@ use Rattle.ifmp_wire.specs.declared.message.Message.{Message}
 use Rattle.ifmp_wire.specs.Message.{InRange}
 use Rattle.ordered_lists.specs.Ordered.{Every}
 use Rattle.keyed_lists.specs.Keyed.{at}
-use Rattle.desk_model.specs.Desk.{Desk}
+use Rattle.port_model.specs.Desk.{Desk}
 use Rattle.port_model.specs.Setup.{Setup}
 use Rattle.port_model.specs.Grants.{Grant, grant_label}
 use Rattle.port_model.specs.Port.{Work}
@@ -17,7 +17,7 @@ use Rattle.port_model.specs.Counting.{counts}
 use Rattle.port_model.specs.Answers.{done}
 use Rattle.port_model.specs.Joins.{given_back}
 use Rattle.port_facts.specs.Port.{setup_port, IsWork, HasFlows, IsSayable, IsRanged}
-use Rattle.controller_model.specs.Controller.{Controller, Linked}
+use Rattle.world_model.specs.Controller.{Controller, Linked}
 
 -- *Flows* of the labels and grants of each port
 abbrev pub HasFlowsAt : Linked → Type 0

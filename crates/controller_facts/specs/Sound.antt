@@ -10,14 +10,14 @@ use Rattle.ipv4_forward.specs.declared.table.Route.{Route}
 use Rattle.link_model.specs.Notes.{Journal}
 use Rattle.adjacency_table.specs.Side.{IsSide, is_estab}
 use Rattle.ordered_lists.specs.Ordered.{Every, InOrder}
-use Rattle.desk_model.specs.Requests.{input_of, is_delete_all}
-use Rattle.desk_model.specs.Desk.{Standing, last_transaction}
+use Rattle.port_model.specs.Requests.{input_of, is_delete_all}
+use Rattle.port_model.specs.Desk.{Standing, last_transaction}
 use Rattle.port_model.specs.declared.timers.Timers.{Timers}
 use Rattle.port_model.specs.Setup.{Setup, Policy}
 use Rattle.port_facts.specs.Port.{setup_port, IsPort, IsShut, IsShaped}
-use Rattle.controller_model.specs.declared.range.PortRange.{PortRange}
-use Rattle.controller_model.specs.Controller.{Controller, Linked, Acted}
-use Rattle.controller_model.specs.Opening.{setup_of, opened, after_opening}
+use Rattle.world_model.specs.declared.range.PortRange.{PortRange}
+use Rattle.world_model.specs.Controller.{Controller, Linked, Acted}
+use Rattle.world_model.specs.Opening.{setup_of, opened, after_opening}
 use Rattle.controller_facts.specs.Inputs.{Input, Meanwhile, takes_input, takes_inputs}
 
 abbrev pub linked_setup : Linked → Setup

@@ -12,7 +12,7 @@ use Rattle.ifmp_wire.specs.Message.{InRange}
 use Rattle.ordered_lists.specs.Ordered.{Every}
 use Rattle.ordered_lists.proofs.Every.{every_all, every_map, every_right}
 use Rattle.keyed_lists.specs.Keyed.{put, without}
-use Rattle.desk_model.specs.Desk.{Desk, empty_desk}
+use Rattle.port_model.specs.Desk.{Desk, empty_desk}
 use Rattle.port_model.specs.declared.action.Action.{Action}
 use Rattle.port_model.specs.declared.action.Action.TheVariants as actions
 use Rattle.port_model.specs.declared.action.Action.TheVariants.{Say, Ask, Note, CutChain, TakeBack, Withdraw}

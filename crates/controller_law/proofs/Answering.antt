@@ -20,20 +20,20 @@ use Rattle.crossbar_model.specs.Crossbar.{same_end}
 use Rattle.ordered_lists.specs.Ordered.{Every}
 use Rattle.ordered_lists.proofs.Every.{every_map, every_join}
 use Rattle.ordered_lists.proofs.Parts.{every_part, part_filtered}
-use Rattle.desk_model.specs.Messages.{is_up}
-use Rattle.desk_model.specs.Requests.{input_of, is_delete_all, withdraws, leads_home}
-use Rattle.desk_model.specs.Desk.{Desk, Standing, asked, all_on, empty_desk, last_transaction, message_at}
-use Rattle.desk_model.specs.Answers.{Head, head_of, is_of_type, Answered, Unknown, Done, Ports, Failed, succeeded, outcome, answered_with, after_answer}
+use Rattle.port_model.specs.Messages.{is_up}
+use Rattle.port_model.specs.Requests.{input_of, is_delete_all, withdraws, leads_home}
+use Rattle.port_model.specs.Desk.{Desk, Standing, asked, all_on, empty_desk, last_transaction, message_at}
+use Rattle.port_model.specs.DeskAnswers.{Head, head_of, is_of_type, Answered, Unknown, Done, Ports, Failed, succeeded, outcome, answered_with, after_answer}
 use Rattle.port_model.specs.Setup.{Setup, home_of}
 use Rattle.port_facts.specs.Port.{MovesNone, IsLabelEnd, IsShaped, IsLinked, IsDefaultEnd, asks_ports, empties_control, empties_port, opens_input, opens_output, frees_label}
 use Rattle.port_facts.proofs.Keyed.{on_both, on_each}
 use Rattle.port_facts.proofs.Found.{find_every, find_passes}
 use Rattle.port_facts.proofs.Rules.{and_second}
-use Rattle.controller_model.specs.Controller.{Acted, Linked, linked_at, ports_of, with_linked, with_desk, default_channel, default_end, default_home}
-use Rattle.controller_model.specs.Asking.{asks_next, asks}
-use Rattle.controller_model.specs.Resets.{node_resets}
-use Rattle.controller_model.specs.Joins.{releases}
-use Rattle.controller_model.specs.Meeting.{is_clearing, meets, up_ports, empties, default_branches, ends_meeting, is_deleting, has_emptied, port_of_input, behind_delete_all, causes_in_estab, causes, may_clear, clears_of, clears_port, clears, done, takes_answer, answer_comes}
+use Rattle.world_model.specs.Controller.{Acted, Linked, linked_at, ports_of, with_linked, with_desk, default_channel, default_end, default_home}
+use Rattle.world_model.specs.Asking.{asks_next, asks}
+use Rattle.world_model.specs.Resets.{node_resets}
+use Rattle.world_model.specs.Joins.{releases}
+use Rattle.world_model.specs.Meeting.{is_clearing, meets, up_ports, empties, default_branches, ends_meeting, is_deleting, has_emptied, port_of_input, behind_delete_all, causes_in_estab, causes, may_clear, clears_of, clears_port, clears, done, takes_answer, answer_comes}
 use Rattle.crossbar_model.specs.Channels.{IsLinkPort}
 use Rattle.controller_facts.proofs.Moves.{ending_meeting, moves_to, HasPorts, IsShapedStanding, found_at_own}
 use Rattle.controller_facts.proofs.Performing.{ports_linked}

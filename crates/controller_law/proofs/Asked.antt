@@ -22,7 +22,7 @@ use Rattle.ifmp_wire.specs.declared.message.Message.TheVariants.{Adjacency}
 use Rattle.link_model.specs.declared.record.Record.TheVariants.{Bind, Free, Opened, Join}
 use Rattle.ordered_lists.specs.Ordered.{Every}
 use Rattle.keyed_lists.specs.Keyed.{at, put, without, entered, key_le}
-use Rattle.desk_model.specs.Desk.{Desk, most_asked, on_input}
+use Rattle.port_model.specs.Desk.{Desk, most_asked, on_input}
 use Rattle.port_model.specs.declared.action.Action.{Action}
 use Rattle.port_model.specs.declared.action.Action.TheVariants as actions
 use Rattle.port_model.specs.declared.action.Action.TheVariants.{Say, Ask, Note, CutChain, TakeBack, Withdraw}

@@ -16,7 +16,7 @@ use Rattle.adjacency_table.specs.Side.{is_estab}
 use Rattle.link_model.specs.declared.record.Record.TheVariants.{Routes}
 use Rattle.ordered_lists.specs.Ordered.{Every}
 use Rattle.ordered_lists.proofs.Every.{every_map}
-use Rattle.desk_model.specs.Desk.{on_input, most_asked}
+use Rattle.port_model.specs.Desk.{on_input, most_asked}
 use Rattle.port_model.specs.Setup.{Setup}
 use Rattle.port_model.specs.Labels.{Label, Offered}
 use Rattle.port_model.specs.Grants.{Grant, grant_label, grant_for, is_by_controller}
@@ -24,10 +24,10 @@ use Rattle.port_facts.specs.Port.{IsLabelEnd, IsPort, parts_label}
 use Rattle.port_facts.proofs.Keyed.{on_both, on_each, apart_at}
 use Rattle.port_facts.proofs.Found.{find_passes}
 use Rattle.port_facts.proofs.Rules.{and_first, and_second}
-use Rattle.controller_model.specs.Controller.{Acted, Linked, linked_at, note}
-use Rattle.controller_model.specs.Joins.{Join, joins_of, output_of, port_by, join_through, join_by, join_for, is_offered, may_join, joins, tries_label, label_on, tries_join, inputs_at, tries_joins}
-use Rattle.controller_model.specs.Routes.{route_stays}
-use Rattle.controller_model.specs.Changes.{is_changed, changed_joins, takes_join_back, begins_change, takes_change, may_take, takes_each, takes_changes, change_comes}
+use Rattle.world_model.specs.Controller.{Acted, Linked, linked_at, note}
+use Rattle.world_model.specs.Joins.{Join, joins_of, output_of, port_by, join_through, join_by, join_for, is_offered, may_join, joins, tries_label, label_on, tries_join, inputs_at, tries_joins}
+use Rattle.world_model.specs.Routes.{route_stays}
+use Rattle.world_model.specs.Changes.{is_changed, changed_joins, takes_join_back, begins_change, takes_change, may_take, takes_each, takes_changes, change_comes}
 use Rattle.controller_facts.proofs.Moves.{Found, routing, moves_to, HasPorts, found_at_own, found_port}
 use Rattle.controller_facts.proofs.Joining.{IsJoin, joins_are, join_input, join_output, every_filter, every_flat_map, each_there}
 use Rattle.controller_facts.proofs.Entering.{is_offered_by, by_controller, inputs_of_port}

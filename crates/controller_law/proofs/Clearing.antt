@@ -26,8 +26,8 @@ use Rattle.frame_model.specs.Reassembly.{nothing_taken}
 use Rattle.ordered_lists.specs.Ordered.{Every}
 use Rattle.ordered_lists.proofs.Every.{every_join}
 use Rattle.keyed_lists.specs.Keyed.{at}
-use Rattle.desk_model.specs.Requests.{is_on, is_delete_all, withdraws}
-use Rattle.desk_model.specs.Desk.{Desk, Standing, asked, all_on, is_led_home, message_at, last_transaction}
+use Rattle.port_model.specs.Requests.{is_on, is_delete_all, withdraws}
+use Rattle.port_model.specs.Desk.{Desk, Standing, asked, all_on, is_led_home, message_at, last_transaction}
 use Rattle.port_model.specs.declared.action.Action.{Action}
 use Rattle.port_model.specs.declared.action.Action.TheVariants as actions
 use Rattle.port_model.specs.declared.action.Action.TheVariants.{Say, Ask, Note, CutChain, TakeBack, Withdraw}
@@ -39,13 +39,13 @@ use Rattle.port_model.specs.Saying.{is_spent, closes}
 use Rattle.port_model.specs.Resets.{closing, withdrawing_in, withdrawing_of, withdrawing, taking_back_in, taking_back, resets}
 use Rattle.port_facts.specs.Port.{IsPort}
 use Rattle.port_facts.proofs.Keyed.{on_both, on_each, by_eq, at_key}
-use Rattle.controller_model.specs.Controller.{Controller, Acted, Linked, port_key, linked_at, with_desk, free_slots, chains_with, default_channel, default_home}
-use Rattle.controller_model.specs.Sending.{with_cells, sends}
-use Rattle.controller_model.specs.Asking.{asks_next, asks, takes_back}
-use Rattle.controller_model.specs.Resets.{begins, with_work, cuts_of, node_resets}
-use Rattle.controller_model.specs.Performing.{does, does_in_estab, resets_of, resets_port, works, works_as}
-use Rattle.controller_model.specs.Joins.{resets_spent}
-use Rattle.controller_model.specs.Meeting.{is_clearing}
+use Rattle.world_model.specs.Controller.{Controller, Acted, Linked, port_key, linked_at, with_desk, free_slots, chains_with, default_channel, default_home}
+use Rattle.world_model.specs.Sending.{with_cells, sends}
+use Rattle.world_model.specs.Asking.{asks_next, asks, takes_back}
+use Rattle.world_model.specs.Resets.{begins, with_work, cuts_of, node_resets}
+use Rattle.world_model.specs.Performing.{does, does_in_estab, resets_of, resets_port, works, works_as}
+use Rattle.world_model.specs.Joins.{resets_spent}
+use Rattle.world_model.specs.Meeting.{is_clearing}
 use Rattle.controller_facts.specs.Sound.{IsSound}
 use Rattle.controller_facts.proofs.Moves.{Found, found_at_own, found_port}
 use Rattle.controller_facts.proofs.Laws.{has_ports}

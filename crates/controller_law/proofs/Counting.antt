@@ -14,15 +14,15 @@ use Rattle.crossbar_model.specs.Crossbar.{same_end}
 use Rattle.ordered_lists.specs.Ordered.{Every, InOrder}
 use Rattle.ordered_lists.proofs.Every.{every_all}
 use Rattle.keyed_lists.specs.Keyed.{at}
-use Rattle.desk_model.specs.Requests.{input_of, is_on, is_delete_all}
-use Rattle.desk_model.specs.Desk.{Standing}
+use Rattle.port_model.specs.Requests.{input_of, is_on, is_delete_all}
+use Rattle.port_model.specs.Desk.{Standing}
 use Rattle.port_model.specs.Setup.{Setup, home_of}
 use Rattle.port_model.specs.Grants as grants
 use Rattle.port_model.specs.Grants.{Grant, most_grants}
 use Rattle.port_facts.specs.Port.{setup_port, IsDefaultEnd, IsLinked, IsShaped, asks_ports, empties_control, empties_port, opens_input, opens_output, leads_label, leads_grant, joins_label, parts_label, frees_label}
 use Rattle.port_facts.proofs.Keyed.{by_eq}
-use Rattle.controller_model.specs.Controller.{Linked, default_end, default_home}
-use Rattle.controller_model.specs.Meeting.{is_deleting}
+use Rattle.world_model.specs.Controller.{Linked, default_end, default_home}
+use Rattle.world_model.specs.Meeting.{is_deleting}
 use Rattle.controller_facts.specs.Sound.{HaveOwnInputs, HaveOwnPorts}
 use Rattle.controller_facts.proofs.Conditions.{of_label, shaped_moves}
 use Rattle.controller_facts.specs.Conditions.{MovesLabels}

@@ -12,10 +12,10 @@ use Rattle.gsmp_wire.specs.declared.request.Request.TheVariants.{AddBranch, Move
 use Rattle.crossbar_model.specs.Crossbar.{same_end}
 use Rattle.ordered_lists.specs.Ordered.{Every}
 use Rattle.ordered_lists.proofs.Every.{every_join}
-use Rattle.desk_model.specs.Requests.{input_of, is_on, is_delete_all, withdraws}
-use Rattle.desk_model.specs.Desk.{Desk, Standing, all_on, asked, withdrawn}
+use Rattle.port_model.specs.Requests.{input_of, is_on, is_delete_all, withdraws}
+use Rattle.port_model.specs.Desk.{Desk, Standing, all_on, asked, withdrawn}
 use Rattle.port_facts.specs.Port.{MovesNone}
-use Rattle.controller_model.specs.Controller.{Linked}
+use Rattle.world_model.specs.Controller.{Linked}
 use Rattle.controller_facts.proofs.Joining.{every_filter}
 use Rattle.controller_law.specs.Match.{MovesJoined, IsOfJoin}
 

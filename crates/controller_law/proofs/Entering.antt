@@ -21,7 +21,7 @@ use Rattle.gsmp_wire.specs.declared.request.Request.{Request}
 use Rattle.gsmp_wire.specs.declared.request.Request.TheVariants.{MoveBranch}
 use Rattle.crossbar_model.specs.Crossbar.{same_end}
 use Rattle.keyed_lists.specs.Keyed.{at, put}
-use Rattle.desk_model.specs.Desk.{Desk, all_on, asked, last_transaction, is_led_home, message_at}
+use Rattle.port_model.specs.Desk.{Desk, all_on, asked, last_transaction, is_led_home, message_at}
 use Rattle.port_model.specs.Setup.{Setup, home_of, label_end}
 use Rattle.port_model.specs.Labels.{Label, Offered, label_number}
 use Rattle.port_model.specs.Grants as grants
@@ -31,12 +31,12 @@ use Rattle.port_model.specs.Joins as port_joins
 use Rattle.port_model.specs.Joins.{joins_label}
 use Rattle.port_facts.specs.Port.{IsLabelEnd, IsGrant, joins_label as joins_label_shape}
 use Rattle.port_facts.proofs.Keyed.{on_both, on_each, at_key, at_every, put_every, at_put_same}
-use Rattle.controller_model.specs.Controller.{Controller, Acted, Linked, port_key, linked_at, with_desk, free_slots, default_channel}
-use Rattle.controller_model.specs.Sending.{with_cells, sends}
-use Rattle.controller_model.specs.Asking.{asks_next, asks, takes_back}
-use Rattle.controller_model.specs.Resets.{begins, node_resets}
-use Rattle.controller_model.specs.Performing.{works, works_as}
-use Rattle.controller_model.specs.Joins.{Join, output_of, enters_grant, enters_label, joins, label_on}
+use Rattle.world_model.specs.Controller.{Controller, Acted, Linked, port_key, linked_at, with_desk, free_slots, default_channel}
+use Rattle.world_model.specs.Sending.{with_cells, sends}
+use Rattle.world_model.specs.Asking.{asks_next, asks, takes_back}
+use Rattle.world_model.specs.Resets.{begins, node_resets}
+use Rattle.world_model.specs.Performing.{works, works_as}
+use Rattle.world_model.specs.Joins.{Join, output_of, enters_grant, enters_label, joins, label_on}
 use Rattle.controller_facts.proofs.Moves.{Worked, by_joining, by_lending, Found, HasPorts, found_setup, found_at_own, found_port}
 use Rattle.controller_facts.proofs.Joining.{IsJoin, image_is}
 use Rattle.controller_facts.proofs.Conditions.{of_label}

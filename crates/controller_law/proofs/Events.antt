@@ -43,7 +43,7 @@ use Rattle.link_model.specs.Notes.{noted}
 use Rattle.refusal_names.specs.Names.{encaps_refusal, packet_refusal, ifmp_refusal, gsmp_refusal}
 use Rattle.frame_model.specs.Reassembly.{Reassembly, Taken, taken, cut, nothing_taken}
 use Rattle.frame_model.specs.Frame.{Tested, tested, last_mark, next_mark}
-use Rattle.desk_model.specs.Desk.{Standing, sent_again}
+use Rattle.port_model.specs.Desk.{Standing, sent_again}
 use Rattle.port_model.specs.Setup.{Setup, control_end}
 use Rattle.port_model.specs.Labels.{Label}
 use Rattle.port_model.specs.Grants.{Grant}
@@ -57,15 +57,15 @@ use Rattle.port_facts.proofs.Hearings.{hears_goes, ticks_goes}
 use Rattle.port_facts.proofs.Turns.{IsTurned, received_turns, ticked_turns}
 use Rattle.ordered_lists.specs.Ordered.{Every}
 use Rattle.crossbar_model.specs.Channels.{IsLinkPort}
-use Rattle.controller_model.specs.Controller.{Controller, Acted, Linked, free_slots, linked_at, ports_of, note, chains_with, default_channel, default_home}
-use Rattle.controller_model.specs.Sending.{with_cells, sends, sends_control, says_gsmp}
-use Rattle.controller_model.specs.Asking.{sends_request}
-use Rattle.controller_model.specs.Resets.{begins, cuts_default_of, cuts_default, cuts_gsmp, node_resets, node_restarts}
-use Rattle.controller_model.specs.Joins.{tries_joins}
-use Rattle.controller_model.specs.Gsmp.{answers, steps, told, gsmp_holds}
-use Rattle.controller_model.specs.Packets.{is_control, sends_next, goes_by, grant_by, forwarded, routes, control_protocol, inject_refusal}
-use Rattle.controller_model.specs.Cells.{Taker, ForGsmp, ForDefault, ForLabel, reassembly_of, with_reassembly, label_holds, ifmp_holds, counted_at, packet_holds, default_holds, frame_holds, opened_frame, ends_frame, after_cell, cell_comes}
-use Rattle.controller_model.specs.Ticks.{sends_again, ticks_port, ticks_ports, ticks_by, ticks}
+use Rattle.world_model.specs.Controller.{Controller, Acted, Linked, free_slots, linked_at, ports_of, note, chains_with, default_channel, default_home}
+use Rattle.world_model.specs.Sending.{with_cells, sends, sends_control, says_gsmp}
+use Rattle.world_model.specs.Asking.{sends_request}
+use Rattle.world_model.specs.Resets.{begins, cuts_default_of, cuts_default, cuts_gsmp, node_resets, node_restarts}
+use Rattle.world_model.specs.Joins.{tries_joins}
+use Rattle.world_model.specs.Gsmp.{answers, steps, told, gsmp_holds}
+use Rattle.world_model.specs.Packets.{is_control, sends_next, goes_by, grant_by, forwarded, routes, control_protocol, inject_refusal}
+use Rattle.world_model.specs.Cells.{Taker, ForGsmp, ForDefault, ForLabel, reassembly_of, with_reassembly, label_holds, ifmp_holds, counted_at, packet_holds, default_holds, frame_holds, opened_frame, ends_frame, after_cell, cell_comes}
+use Rattle.world_model.specs.Ticks.{sends_again, ticks_port, ticks_ports, ticks_by, ticks}
 use Rattle.link_model.specs.declared.record.Refusal.{Refusal}
 use Rattle.controller_facts.specs.Inputs.{Input, CellComes, PacketEnters, Ticks, Restarts, ChangeComes, FrameIsForged, CellLeaves, Meanwhile, enters_unless, takes_input, takes_inputs}
 use Rattle.controller_facts.proofs.Lifetimes.{decoded_lives}

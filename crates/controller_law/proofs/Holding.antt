@@ -20,9 +20,9 @@ use Rattle.gsmp_wire.specs.declared.request.Request.{Request}
 use Rattle.ordered_lists.specs.Ordered.{Every}
 use Rattle.ordered_lists.proofs.Every.{every_all, every_map}
 use Rattle.keyed_lists.specs.Keyed.{at, put}
-use Rattle.desk_model.specs.Requests.{is_on, is_delete_all}
-use Rattle.desk_model.specs.Desk.{Desk, Standing, asked, empty_desk, last_transaction, all_on}
-use Rattle.desk_model.specs.Answers.{Answered, after_answer}
+use Rattle.port_model.specs.Requests.{is_on, is_delete_all}
+use Rattle.port_model.specs.Desk.{Desk, Standing, asked, empty_desk, last_transaction, all_on}
+use Rattle.port_model.specs.DeskAnswers.{Answered, after_answer}
 use Rattle.port_model.specs.declared.action.Action.{Action}
 use Rattle.port_model.specs.declared.action.Action.TheVariants as actions
 use Rattle.port_model.specs.declared.action.Action.TheVariants.{Say, Ask, Note, CutChain, TakeBack, Withdraw}
@@ -32,13 +32,13 @@ use Rattle.port_model.specs.Port.{Session, Port, Work, labels_of}
 use Rattle.port_model.specs.Resets.{cleared, restarts}
 use Rattle.port_facts.specs.Port.{IsShaped, IsShut}
 use Rattle.port_facts.proofs.Keyed.{on_both, at_every}
-use Rattle.controller_model.specs.Controller.{Controller, Acted, Linked, port_key, free_slots, linked_at, ports_of, with_linked, with_desk, chain_of, chains_with}
+use Rattle.world_model.specs.Controller.{Controller, Acted, Linked, port_key, free_slots, linked_at, ports_of, with_linked, with_desk, chain_of, chains_with}
 use Rattle.frame_model.specs.Reassembly.{cut, nothing_taken}
 use Rattle.port_model.specs.Grants.{Grant}
-use Rattle.controller_model.specs.Sending.{with_cells, sends, sends_control}
-use Rattle.controller_model.specs.Asking.{withdraws_input}
-use Rattle.controller_model.specs.Resets.{begins, with_work, cuts_of, closes_by, port_restarts_of, port_restarts, resets_gsmp, node_resets}
-use Rattle.controller_model.specs.Meeting.{awaits_nothing, may_clear}
+use Rattle.world_model.specs.Sending.{with_cells, sends, sends_control}
+use Rattle.world_model.specs.Asking.{withdraws_input}
+use Rattle.world_model.specs.Resets.{begins, with_work, cuts_of, closes_by, port_restarts_of, port_restarts, resets_gsmp, node_resets}
+use Rattle.world_model.specs.Meeting.{awaits_nothing, may_clear}
 use Rattle.controller_facts.specs.Sound.{IsSound, IsShutLinked}
 use Rattle.controller_facts.proofs.Moves.{Worked, Found, sending, asking, withdrawing, answering, meeting, placing, clearing, chaining, moves_to}
 use Rattle.controller_facts.proofs.Laws.{moves_sound}

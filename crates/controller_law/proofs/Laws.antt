@@ -6,14 +6,14 @@ use Rattle.std.proofs.lemmas.List.{length-map}
 use Rattle.gsmp_wire.specs.declared.request.Request.{Request}
 use Rattle.gsmp_wire.specs.declared.request.Request.TheVariants.{AddBranch, MoveBranch, DeleteTree, VerifyTree, DeleteAll, PortManagement, AllPorts}
 use Rattle.crossbar_model.specs.Channels.{IsLinkPort}
-use Rattle.desk_model.specs.Requests.{input_of, is_delete_all}
-use Rattle.desk_model.specs.Desk.{Desk, Standing, all_on}
+use Rattle.port_model.specs.Requests.{input_of, is_delete_all}
+use Rattle.port_model.specs.Desk.{Desk, Standing, all_on}
 use Rattle.ordered_lists.specs.Ordered.{Every}
 use Rattle.ordered_lists.proofs.Every.{every_mapped, every_map}
 use Rattle.port_model.specs.Setup.{Setup}
-use Rattle.controller_model.specs.declared.range.PortRange.{PortRange}
-use Rattle.controller_model.specs.Controller.{Controller, Acted, Linked, port_key, linked_at}
-use Rattle.controller_model.specs.Opening.{setup_of, opens_ports}
+use Rattle.world_model.specs.declared.range.PortRange.{PortRange}
+use Rattle.world_model.specs.Controller.{Controller, Acted, Linked, port_key, linked_at}
+use Rattle.world_model.specs.Opening.{setup_of, opens_ports}
 use Rattle.controller_facts.specs.Inputs.{Input, takes_inputs}
 use Rattle.controller_facts.specs.Sound.{linked_setup, IsLinkedPort, Opening, opened_by, setups_by}
 use Rattle.controller_facts.proofs.Moves.{found_setup, found_at_own}
@@ -37,8 +37,8 @@ use Rattle.port_model.specs.Labels.{Label}
 use Rattle.port_model.specs.Grants as grants
 use Rattle.port_model.specs.Grants.{Grant}
 use Rattle.port_model.specs.Port.{label_at, labels_of}
-use Rattle.controller_model.specs.Meeting.{is_clearing}
-use Rattle.controller_model.specs.Joins.{Join, joins_of, output_of, label_on}
+use Rattle.world_model.specs.Meeting.{is_clearing}
+use Rattle.world_model.specs.Joins.{Join, joins_of, output_of, label_on}
 use Rattle.controller_facts.proofs.Joining.{IsJoin, joins_are}
 use Rattle.controller_law.proofs.Ordering.{empty_order}
 use Rattle.controller_law.proofs.Events.{inputs_hold}

@@ -13,14 +13,14 @@ use Rattle.crossbar_model.specs.Crossbar.{same_end}
 use Rattle.ordered_lists.specs.Ordered.{Every}
 use Rattle.ordered_lists.proofs.Every.{every_map, every_map2}
 use Rattle.keyed_lists.specs.Keyed.{at, put}
-use Rattle.desk_model.specs.Requests.{input_of}
-use Rattle.desk_model.specs.Desk.{Desk, Standing, all_on}
+use Rattle.port_model.specs.Requests.{input_of}
+use Rattle.port_model.specs.Desk.{Desk, Standing, all_on}
 use Rattle.port_model.specs.Labels.{Label}
 use Rattle.port_model.specs.Grants.{Grant}
 use Rattle.port_model.specs.Port.{Session, labels_of}
 use Rattle.port_facts.proofs.Keyed.{by_eq, at_every, at_put_same, at_put_other}
-use Rattle.controller_model.specs.Controller.{Linked, port_key}
-use Rattle.controller_model.specs.Meeting.{is_clearing}
+use Rattle.world_model.specs.Controller.{Linked, port_key}
+use Rattle.world_model.specs.Meeting.{is_clearing}
 use Rattle.controller_facts.specs.Sound.{IsShutLinked}
 use Rattle.controller_law.specs.Match.{MovesJoined, IsOfJoin, joined_in, lent_in, joined_at, lent_at, clearing_at, end_at}
 use Rattle.controller_law.proofs.Asked.{same_end_itself}

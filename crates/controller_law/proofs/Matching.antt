@@ -24,8 +24,8 @@ use Rattle.frame_model.specs.Reassembly.{nothing_taken}
 use Rattle.ordered_lists.specs.Ordered.{Every, InOrder}
 use Rattle.ordered_lists.proofs.Every.{every_left, every_right}
 use Rattle.keyed_lists.specs.Keyed.{at}
-use Rattle.desk_model.specs.Requests.{is_on}
-use Rattle.desk_model.specs.Desk.{Desk, Standing, asked, all_on, is_led_home, message_at, last_transaction}
+use Rattle.port_model.specs.Requests.{is_on}
+use Rattle.port_model.specs.Desk.{Desk, Standing, asked, all_on, is_led_home, message_at, last_transaction}
 use Rattle.port_model.specs.declared.action.Action.{Action}
 use Rattle.port_model.specs.declared.action.Action.TheVariants as actions
 use Rattle.port_model.specs.declared.action.Action.TheVariants.{Say, Ask, Note, CutChain, TakeBack, Withdraw}
@@ -38,11 +38,11 @@ use Rattle.port_facts.proofs.Keyed.{on_both, on_each, by_eq}
 use Rattle.port_facts.proofs.Steps.{GoesOn, Goes, stays, steps_to, further}
 use Rattle.port_facts.proofs.Said.{any_step}
 use Rattle.port_facts.proofs.Joins.{resets_kept}
-use Rattle.controller_model.specs.Controller.{Controller, Acted, Linked, free_slots, linked_at, with_desk, chains_with, default_channel, default_home}
-use Rattle.controller_model.specs.Sending.{with_cells, sends, sends_control}
-use Rattle.controller_model.specs.Asking.{asks_next, asks, takes_back, withdraws_input}
-use Rattle.controller_model.specs.Resets.{begins, with_work, cuts_of, node_resets}
-use Rattle.controller_model.specs.Performing.{does, does_in_estab, resets_as, resets_of, resets_port, performs, performs_in_estab, Rule, works_as, works, at_port}
+use Rattle.world_model.specs.Controller.{Controller, Acted, Linked, free_slots, linked_at, with_desk, chains_with, default_channel, default_home}
+use Rattle.world_model.specs.Sending.{with_cells, sends, sends_control}
+use Rattle.world_model.specs.Asking.{asks_next, asks, takes_back, withdraws_input}
+use Rattle.world_model.specs.Resets.{begins, with_work, cuts_of, node_resets}
+use Rattle.world_model.specs.Performing.{does, does_in_estab, resets_as, resets_of, resets_port, performs, performs_in_estab, Rule, works_as, works, at_port}
 use Rattle.controller_facts.specs.Sound.{IsSound}
 use Rattle.controller_facts.proofs.Moves.{Worked, worked_kept, by_rule, by_reset, Found, placing, moves_to, HasPorts, found_setup, found_at_own, found_port, begun}
 use Rattle.controller_facts.proofs.Performing.{does_in_estab_goes}

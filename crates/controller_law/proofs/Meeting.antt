@@ -14,9 +14,9 @@ use Rattle.ordered_lists.specs.Ordered.{Every, InOrder}
 use Rattle.ordered_lists.proofs.Every.{every_map, every_map2}
 use Rattle.ordered_lists.proofs.Parts.{every_part, part_filtered}
 use Rattle.keyed_lists.specs.Keyed.{in_order}
-use Rattle.desk_model.specs.Requests.{input_of, is_on, is_delete_all, leads_home}
-use Rattle.desk_model.specs.Desk.{Desk, Standing, on_input, all_on}
-use Rattle.desk_model.specs.Answers.{Done, after_answer, without_request}
+use Rattle.port_model.specs.Requests.{input_of, is_on, is_delete_all, leads_home}
+use Rattle.port_model.specs.Desk.{Desk, Standing, on_input, all_on}
+use Rattle.port_model.specs.DeskAnswers.{Done, after_answer, without_request}
 use Rattle.port_model.specs.Setup.{Setup, home_of}
 use Rattle.port_model.specs.Grants.{Grant}
 use Rattle.port_model.specs.Port.{Session}
@@ -25,10 +25,10 @@ use Rattle.port_model.specs.Port.{Work, halts}
 use Rattle.port_facts.specs.Port.{IsLabelEnd}
 use Rattle.port_facts.proofs.Keyed.{at_every}
 use Rattle.port_facts.proofs.Found.{find_every, filter_passes}
-use Rattle.controller_model.specs.Controller.{Acted, Linked, port_key, linked_at, ports_of, with_desk}
-use Rattle.controller_model.specs.Resets.{begins}
-use Rattle.controller_model.specs.Performing.{works, works_as}
-use Rattle.controller_model.specs.Joins.{Join, join_to, joins_at, end_le, released_inputs, releases_input, resets_spent, releases}
+use Rattle.world_model.specs.Controller.{Acted, Linked, port_key, linked_at, ports_of, with_desk}
+use Rattle.world_model.specs.Resets.{begins}
+use Rattle.world_model.specs.Performing.{works, works_as}
+use Rattle.world_model.specs.Joins.{Join, join_to, joins_at, end_le, released_inputs, releases_input, resets_spent, releases}
 use Rattle.crossbar_model.specs.Channels.{IsLinkPort}
 use Rattle.controller_facts.specs.Sound.{IsShutLinked, HaveOwnInputs, HaveOwnPorts}
 use Rattle.controller_facts.proofs.Conditions.{label_has_home}

@@ -14,15 +14,15 @@ use Rattle.ordered_lists.specs.Ordered.{Every}
 use Rattle.ordered_lists.proofs.Every.{every_map, every_map2, every_join}
 use Rattle.ordered_lists.proofs.Parts.{every_part, part_filtered}
 use Rattle.keyed_lists.specs.Keyed.{at, put}
-use Rattle.desk_model.specs.Requests.{input_of, is_on, is_delete_all, withdraws}
-use Rattle.desk_model.specs.Desk.{Desk, Standing, asked, all_on, on_input, most_asked}
-use Rattle.desk_model.specs.Answers.{Answered, Unknown, Done, Ports, Failed, after_answer}
+use Rattle.port_model.specs.Requests.{input_of, is_on, is_delete_all, withdraws}
+use Rattle.port_model.specs.Desk.{Desk, Standing, asked, all_on, on_input, most_asked}
+use Rattle.port_model.specs.DeskAnswers.{Answered, Unknown, Done, Ports, Failed, after_answer}
 use Rattle.port_model.specs.Setup.{label_end}
 use Rattle.port_model.specs.Labels.{Label}
 use Rattle.port_model.specs.Port.{labels_of}
 use Rattle.port_facts.proofs.Keyed.{on_both, by_eq, at_put_same, at_put_other, put_every}
 use Rattle.port_facts.proofs.Found.{filter_passes}
-use Rattle.controller_model.specs.Controller.{Linked, port_key}
+use Rattle.world_model.specs.Controller.{Linked, port_key}
 use Rattle.controller_law.specs.Order.{is_lent, IsLentTo, HasLentLabels, IsDeleting, IsMeeting, listing, emptying, IsOther, IsClearingAt, IsOfClearing, is_default, IsLinkInput, IsApart, IsLentMove, MovesLent, is_unlent, stands_unlent, is_listing, is_all_ports, count_of, IsOrder}
 use Rattle.controller_law.proofs.Lists.{one_most, one_leads, one_none, count_most, count_filter, length_filter, count_more, count_within, count_replaced, any_more, any_filter, any_each}
 

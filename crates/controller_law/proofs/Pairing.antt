@@ -18,7 +18,7 @@ use Rattle.gsmp_wire.specs.declared.request.Request.TheVariants.{AddBranch, Dele
 use Rattle.ifmp_wire.specs.declared.message.Message.TheVariants.{Adjacency}
 use Rattle.link_model.specs.declared.record.Record.TheVariants.{Bind, Opened, Join}
 use Rattle.keyed_lists.specs.Keyed.{at, put, without, entered, key_le}
-use Rattle.desk_model.specs.Desk.{Desk, on_input}
+use Rattle.port_model.specs.Desk.{Desk, on_input}
 use Rattle.port_model.specs.declared.action.Action.{Action}
 use Rattle.port_model.specs.declared.action.Action.TheVariants as actions
 use Rattle.port_model.specs.declared.action.Action.TheVariants.{Say, Ask, Note, CutChain, TakeBack}
@@ -36,7 +36,7 @@ use Rattle.port_facts.proofs.Steps.{IsTurn, hears, ages, StepOn, GoesOn, greetin
 use Rattle.port_facts.proofs.Said.{any_step}
 use Rattle.port_facts.proofs.Turns.{IsTurned, received_turns, ticked_turns}
 use Rattle.port_facts.proofs.Kept.{step_kept}
-use Rattle.controller_model.specs.Meeting.{is_clearing}
+use Rattle.world_model.specs.Meeting.{is_clearing}
 use Rattle.controller_law.specs.Match.{joined_in, lent_in}
 
 -- *Look-ups*: what the one with a key shows

@@ -22,7 +22,7 @@ use Rattle.frame_model.specs.Frame.{frame_cells, made}
 use Rattle.crossbar_model.specs.Crossbar.{same_end}
 use Rattle.ordered_lists.specs.Ordered.{Every}
 use Rattle.keyed_lists.specs.Keyed.{at, put, without, entered, in_order}
-use Rattle.desk_model.specs.Desk.{Desk, on_input}
+use Rattle.port_model.specs.Desk.{Desk, on_input}
 use Rattle.port_model.specs.declared.action.Action.{Action}
 use Rattle.port_model.specs.declared.action.Action.TheVariants as actions
 use Rattle.port_model.specs.declared.action.Action.TheVariants.{Say, Ask, Note, CutChain, TakeBack, Withdraw}
@@ -35,11 +35,11 @@ use Rattle.port_model.specs.Saying.{reclaim_ack}
 use Rattle.port_model.specs.Joins.{joins_label, parted, given_back_in, given_back}
 use Rattle.port_facts.specs.Port.{IsLabelEnd, IsGrant}
 use Rattle.port_facts.proofs.Keyed.{on_both, by_eq, at_key, at_every, at_put_same, at_put_other}
-use Rattle.controller_model.specs.Controller.{Controller, Acted, Linked, port_key, linked_at, note, free_slots, default_home}
-use Rattle.controller_model.specs.Sending.{with_cells}
-use Rattle.controller_model.specs.Resets.{begins, with_work}
-use Rattle.controller_model.specs.Performing.{Rule, performs, performs_in_estab, works, works_as}
-use Rattle.controller_model.specs.Joins.{Join, join_to, joins_at, end_le, joins_of, join_of, parts, releases_join, releases_input}
+use Rattle.world_model.specs.Controller.{Controller, Acted, Linked, port_key, linked_at, note, free_slots, default_home}
+use Rattle.world_model.specs.Sending.{with_cells}
+use Rattle.world_model.specs.Resets.{begins, with_work}
+use Rattle.world_model.specs.Performing.{Rule, performs, performs_in_estab, works, works_as}
+use Rattle.world_model.specs.Joins.{Join, join_to, joins_at, end_le, joins_of, join_of, parts, releases_join, releases_input}
 use Rattle.controller_facts.specs.Sound.{IsSound, IsLinkedPort}
 use Rattle.controller_facts.proofs.Moves.{Found, HasPorts, found_at_own, found_port}
 use Rattle.controller_facts.proofs.Joining.{IsJoin, joins_are, join_input, parts_grants, parts_goes, granted_there}
@@ -49,7 +49,7 @@ use Rattle.port_facts.proofs.Found.{find_every, find_passes}
 use Rattle.controller_law.specs.Match.{joined_in, lent_in, joined_at, lent_at, clearing_at, end_at}
 use Rattle.controller_law.proofs.Asked.{same_end_itself}
 use Rattle.controller_law.proofs.Lists.{either}
-use Rattle.controller_model.specs.Meeting.{is_clearing}
+use Rattle.world_model.specs.Meeting.{is_clearing}
 use Rattle.controller_law.proofs.Pairing.{without_other}
 use Rattle.controller_law.proofs.Matched.{But, end_is, one_pair, here_now, there_now, joined_put, lent_put, clearing_put, released_but}
 use Rattle.controller_law.proofs.Releasing.{number_at, IsGivenBack, given_back_parts, free_standing, tells_parts}

@@ -25,8 +25,8 @@ use Rattle.frame_model.specs.Reassembly.{nothing_taken}
 use Rattle.ordered_lists.specs.Ordered.{Every}
 use Rattle.ordered_lists.proofs.Every.{every_map, every_map2}
 use Rattle.keyed_lists.specs.Keyed.{at, put}
-use Rattle.desk_model.specs.Requests.{is_delete_all, leads_home}
-use Rattle.desk_model.specs.Desk.{Desk, Standing, asked, all_on, on_input, is_led_home, message_at, last_transaction, most_asked}
+use Rattle.port_model.specs.Requests.{is_delete_all, leads_home}
+use Rattle.port_model.specs.Desk.{Desk, Standing, asked, all_on, on_input, is_led_home, message_at, last_transaction, most_asked}
 use Rattle.port_model.specs.declared.action.Action.{Action}
 use Rattle.port_model.specs.declared.action.Action.TheVariants as actions
 use Rattle.port_model.specs.declared.action.Action.TheVariants.{Say, Ask, Note, CutChain, TakeBack, Withdraw}
@@ -37,11 +37,11 @@ use Rattle.port_facts.specs.Port.{setup_port, IsShaped, IsAction, parts_label}
 use Rattle.port_facts.proofs.Keyed.{on_both, on_each, at_key, at_every, at_put_same}
 use Rattle.port_facts.proofs.Steps.{Goes}
 use Rattle.port_facts.proofs.Joins.{resets_kept}
-use Rattle.controller_model.specs.Controller.{Controller, Acted, Linked, port_key, free_slots, linked_at, with_desk, chains_with, default_channel, default_home}
-use Rattle.controller_model.specs.Sending.{with_cells, sends, sends_control}
-use Rattle.controller_model.specs.Asking.{sends_request, asks_next, asks, takes_back}
-use Rattle.controller_model.specs.Resets.{begins, with_work, cuts_of, node_resets}
-use Rattle.controller_model.specs.Performing.{does, does_in_estab, resets_as, resets_of, resets_port, performs, performs_in_estab, Rule, works_as, works, at_port}
+use Rattle.world_model.specs.Controller.{Controller, Acted, Linked, port_key, free_slots, linked_at, with_desk, chains_with, default_channel, default_home}
+use Rattle.world_model.specs.Sending.{with_cells, sends, sends_control}
+use Rattle.world_model.specs.Asking.{sends_request, asks_next, asks, takes_back}
+use Rattle.world_model.specs.Resets.{begins, with_work, cuts_of, node_resets}
+use Rattle.world_model.specs.Performing.{does, does_in_estab, resets_as, resets_of, resets_port, performs, performs_in_estab, Rule, works_as, works, at_port}
 use Rattle.controller_facts.specs.Sound.{IsShutLinked}
 use Rattle.controller_facts.proofs.Moves.{by_rule, by_reset, Found, HasPorts, found_setup, found_at_own, found_port, begun}
 use Rattle.controller_facts.proofs.Laws.{has_ports}

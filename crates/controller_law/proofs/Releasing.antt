@@ -15,8 +15,8 @@ use Rattle.crossbar_model.specs.Crossbar.{same_end}
 use Rattle.ordered_lists.specs.Ordered.{Every, InOrder}
 use Rattle.ordered_lists.proofs.Every.{every_map, every_map2, every_mapped, every_join}
 use Rattle.keyed_lists.specs.Keyed.{at, put, without}
-use Rattle.desk_model.specs.Requests.{input_of, is_on, leads_home}
-use Rattle.desk_model.specs.Desk.{Desk, Standing, on_input}
+use Rattle.port_model.specs.Requests.{input_of, is_on, leads_home}
+use Rattle.port_model.specs.Desk.{Desk, Standing, on_input}
 use Rattle.port_model.specs.declared.action.Action.{Action}
 use Rattle.port_model.specs.declared.action.Action.TheVariants.{Say}
 use Rattle.port_model.specs.Setup.{Setup, home_of, label_end}
@@ -31,10 +31,10 @@ use Rattle.port_facts.proofs.Keyed.{on_both, by_eq, at_key, at_every, put_every}
 use Rattle.port_facts.proofs.Found.{filter_passes, tells_labels}
 use Rattle.port_facts.proofs.Steps as steps_of
 use Rattle.port_facts.proofs.Steps.{steps_to}
-use Rattle.controller_model.specs.Controller.{Acted, Linked, port_key, linked_at, ports_of, note}
-use Rattle.controller_model.specs.Resets.{begins, with_work}
-use Rattle.controller_model.specs.Performing.{works, works_as}
-use Rattle.controller_model.specs.Joins.{Join, joins_of, join_of, parts, releases_join, releases_input, released_inputs, resets_spent, releases}
+use Rattle.world_model.specs.Controller.{Acted, Linked, port_key, linked_at, ports_of, note}
+use Rattle.world_model.specs.Resets.{begins, with_work}
+use Rattle.world_model.specs.Performing.{works, works_as}
+use Rattle.world_model.specs.Joins.{Join, joins_of, join_of, parts, releases_join, releases_input, released_inputs, resets_spent, releases}
 use Rattle.controller_facts.proofs.Moves.{Worked, by_parting, by_giving_back, Found, placing, moves_to, HasPorts, found_at_own, found_port}
 use Rattle.controller_facts.proofs.Joining.{IsJoin, joins_are, join_input, parts_grants, granted_there, every_filter}
 use Rattle.controller_facts.proofs.Unmet.{put_each, none_with, ports_apart}

@@ -21,9 +21,9 @@ use Rattle.port_model.specs.declared.action.Action.TheVariants as actions
 use Rattle.port_model.specs.declared.action.Action.TheVariants.{Say, Ask, Note, CutChain, TakeBack, Withdraw}
 use Rattle.port_model.specs.Setup.{Setup}
 use Rattle.port_facts.proofs.Keyed.{on_both}
-use Rattle.controller_model.specs.Controller.{Controller, Acted, free_slots, default_home}
-use Rattle.controller_model.specs.Sending.{with_cells, sends}
-use Rattle.controller_model.specs.Performing.{performs, performs_in_estab}
+use Rattle.world_model.specs.Controller.{Controller, Acted, free_slots, default_home}
+use Rattle.world_model.specs.Sending.{with_cells, sends}
+use Rattle.world_model.specs.Performing.{performs, performs_in_estab}
 use Rattle.controller_law.proofs.Holding.{Holds, sends_control_holds}
 
 -- *Saying* alone

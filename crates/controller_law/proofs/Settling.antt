@@ -28,9 +28,9 @@ use Rattle.crossbar_model.specs.Crossbar.{same_end}
 use Rattle.ordered_lists.specs.Ordered.{Every, InOrder}
 use Rattle.ordered_lists.proofs.Every.{every_map, every_map2, every_mapped}
 use Rattle.keyed_lists.specs.Keyed.{at, put, without}
-use Rattle.desk_model.specs.Requests.{is_delete_all, leads_home}
-use Rattle.desk_model.specs.Desk.{Desk, Standing, asked, all_on, on_input, is_led_home, message_at, last_transaction}
-use Rattle.desk_model.specs.Answers.{Done, without_request, after_answer}
+use Rattle.port_model.specs.Requests.{is_delete_all, leads_home}
+use Rattle.port_model.specs.Desk.{Desk, Standing, asked, all_on, on_input, is_led_home, message_at, last_transaction}
+use Rattle.port_model.specs.DeskAnswers.{Done, without_request, after_answer}
 use Rattle.port_model.specs.declared.action.Action.{Action}
 use Rattle.port_model.specs.declared.action.Action.TheVariants as actions
 use Rattle.port_model.specs.declared.action.Action.TheVariants.{Say, Ask, Note, CutChain, TakeBack, Withdraw}
@@ -45,12 +45,12 @@ use Rattle.port_facts.proofs.Found.{filter_passes, find_every}
 use Rattle.port_facts.proofs.Steps as steps_of
 use Rattle.port_facts.proofs.Steps.{GoesOn, steps_to}
 use Rattle.port_facts.proofs.Joins.{resets_kept}
-use Rattle.controller_model.specs.Controller.{Controller, Acted, Linked, port_key, linked_at, ports_of, with_desk, free_slots, chains_with, default_channel, default_home}
-use Rattle.controller_model.specs.Sending.{with_cells, sends}
-use Rattle.controller_model.specs.Asking.{asks_next, asks, takes_back}
-use Rattle.controller_model.specs.Resets.{begins, with_work, cuts_of, node_resets}
-use Rattle.controller_model.specs.Performing.{does, does_in_estab, resets_of, resets_port, performs, performs_in_estab, works}
-use Rattle.controller_model.specs.Joins.{Join, joins_of, released_inputs, releases_input, resets_spent, releases}
+use Rattle.world_model.specs.Controller.{Controller, Acted, Linked, port_key, linked_at, ports_of, with_desk, free_slots, chains_with, default_channel, default_home}
+use Rattle.world_model.specs.Sending.{with_cells, sends}
+use Rattle.world_model.specs.Asking.{asks_next, asks, takes_back}
+use Rattle.world_model.specs.Resets.{begins, with_work, cuts_of, node_resets}
+use Rattle.world_model.specs.Performing.{does, does_in_estab, resets_of, resets_port, performs, performs_in_estab, works}
+use Rattle.world_model.specs.Joins.{Join, joins_of, released_inputs, releases_input, resets_spent, releases}
 use Rattle.controller_facts.specs.Sound.{IsSound, IsEarlier}
 use Rattle.controller_facts.proofs.Moves.{Worked, worked_kept, by_rule, by_reset, Found, placing, moves_to, HasPorts, found_setup, found_at_own, found_port, begun}
 use Rattle.controller_facts.proofs.Performing.{does_in_estab_goes}

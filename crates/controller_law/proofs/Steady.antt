@@ -20,7 +20,7 @@ use Rattle.link_model.specs.declared.record.Cause.TheVariants.{PoolFull}
 use Rattle.link_model.specs.Notes.{noted}
 use Rattle.frame_model.specs.Sending.{Sent}
 use Rattle.frame_model.specs.Frame.{frame_cells, made}
-use Rattle.desk_model.specs.Desk.{asked, is_led_home, message_at, last_transaction}
+use Rattle.port_model.specs.Desk.{asked, is_led_home, message_at, last_transaction}
 use Rattle.port_model.specs.declared.action.Action.{Action}
 use Rattle.port_model.specs.declared.action.Action.TheVariants as actions
 use Rattle.port_model.specs.declared.action.Action.TheVariants.{Say, Ask, Note, CutChain, TakeBack, Withdraw}
@@ -30,12 +30,12 @@ use Rattle.port_model.specs.Resets.{resets}
 use Rattle.port_model.specs.Joins as port_joins
 use Rattle.port_model.specs.Saying.{closes}
 use Rattle.port_facts.proofs.Keyed.{on_both}
-use Rattle.controller_model.specs.Controller.{Controller, Acted, Linked, linked_at, ports_of, with_desk, note, free_slots, default_channel, default_home}
-use Rattle.controller_model.specs.Sending.{with_cells, sends, sends_control}
-use Rattle.controller_model.specs.Asking.{asks_next, asks, takes_back}
-use Rattle.controller_model.specs.Resets.{begins, with_work, cuts_of, node_resets}
-use Rattle.controller_model.specs.Performing.{does, does_in_estab, resets_as, resets_of, performs, performs_in_estab, Rule, works_as, works, at_port}
-use Rattle.controller_model.specs.Joins.{Join, join_of, parts, releases_join, releases_input, released_inputs, resets_spent, releases}
+use Rattle.world_model.specs.Controller.{Controller, Acted, Linked, linked_at, ports_of, with_desk, note, free_slots, default_channel, default_home}
+use Rattle.world_model.specs.Sending.{with_cells, sends, sends_control}
+use Rattle.world_model.specs.Asking.{asks_next, asks, takes_back}
+use Rattle.world_model.specs.Resets.{begins, with_work, cuts_of, node_resets}
+use Rattle.world_model.specs.Performing.{does, does_in_estab, resets_as, resets_of, performs, performs_in_estab, Rule, works_as, works, at_port}
+use Rattle.world_model.specs.Joins.{Join, join_of, parts, releases_join, releases_input, released_inputs, resets_spent, releases}
 use Rattle.controller_law.proofs.Holding.{node_closed}
 
 module _ (setups : List Setup) where

@@ -20,7 +20,7 @@ use Rattle.link_model.specs.declared.record.Record.{Record}
 use Rattle.link_model.specs.declared.record.Record.TheVariants.{Free}
 use Rattle.link_model.specs.Notes.{Journal}
 use Rattle.keyed_lists.specs.Keyed.{at, put}
-use Rattle.desk_model.specs.Desk.{Desk, Standing, all_on, message_at}
+use Rattle.port_model.specs.Desk.{Desk, Standing, all_on, message_at}
 use Rattle.port_model.specs.declared.action.Action.TheVariants.{Note}
 use Rattle.port_model.specs.Setup.{Setup, home_of}
 use Rattle.port_model.specs.Labels.{Label, LabelState, Wiring, Offered, Recalled, Wired, label_number}
@@ -38,13 +38,13 @@ use Rattle.port_facts.proofs.Keyed.{on_both, by_eq, at_key, at_every, at_put_sam
 use Rattle.port_facts.proofs.Steps.{GoesOn}
 use Rattle.port_facts.proofs.Rules.{IsTree, done_goes}
 use Rattle.port_facts.proofs.Found.{by_number}
-use Rattle.controller_model.specs.Controller.{Acted, Linked, port_key, linked_at, with_linked, default_channel}
-use Rattle.controller_model.specs.Sending.{sends, sends_control}
-use Rattle.controller_model.specs.Asking.{sends_request, asks, takes_back}
-use Rattle.controller_model.specs.Resets.{begins, node_resets}
-use Rattle.controller_model.specs.Performing.{performs, performs_in_estab, Rule, works, works_as, at_port}
-use Rattle.controller_model.specs.Joins.{Join, output_of, enters_grant, enters_label, joins, label_on}
-use Rattle.controller_model.specs.Meeting.{is_clearing, awaits_nothing, may_clear, tells_port}
+use Rattle.world_model.specs.Controller.{Acted, Linked, port_key, linked_at, with_linked, default_channel}
+use Rattle.world_model.specs.Sending.{sends, sends_control}
+use Rattle.world_model.specs.Asking.{sends_request, asks, takes_back}
+use Rattle.world_model.specs.Resets.{begins, node_resets}
+use Rattle.world_model.specs.Performing.{performs, performs_in_estab, Rule, works, works_as, at_port}
+use Rattle.world_model.specs.Joins.{Join, output_of, enters_grant, enters_label, joins, label_on}
+use Rattle.world_model.specs.Meeting.{is_clearing, awaits_nothing, may_clear, tells_port}
 use Rattle.controller_facts.specs.Sound.{IsSound}
 use Rattle.controller_facts.proofs.Moves.{Found, HasPorts, found_setup, found_at_own, found_port}
 use Rattle.controller_facts.proofs.Joining.{image_is}

@@ -4,12 +4,12 @@ use Rattle.std.specs.Prelude.{◌≡◌, ◌≤◌, ◌<◌, ◌+◌, true, fals
 use Rattle.net_types.specs.declared.channel.End.{End}
 use Rattle.crossbar_model.specs.Channels.{IsLinkPort}
 use Rattle.ordered_lists.specs.Ordered.{Every, InOrder}
-use Rattle.desk_model.specs.Requests.{input_of}
-use Rattle.desk_model.specs.Desk.{Standing, all_on, most_asked}
-use Rattle.controller_model.specs.declared.range.PortRange.{PortRange}
+use Rattle.port_model.specs.Requests.{input_of}
+use Rattle.port_model.specs.Desk.{Standing, all_on, most_asked}
+use Rattle.world_model.specs.declared.range.PortRange.{PortRange}
 use Rattle.port_model.specs.Labels.{Label}
-use Rattle.controller_model.specs.Controller.{Controller}
-use Rattle.controller_model.specs.Joins.{Join, joins_of, output_of, label_on}
+use Rattle.world_model.specs.Controller.{Controller}
+use Rattle.world_model.specs.Joins.{Join, joins_of, output_of, label_on}
 use Rattle.controller_facts.specs.Inputs.{Input, takes_inputs}
 use Rattle.controller_facts.specs.Sound.{Opening, DifferInPort, opened_by}
 use Rattle.controller_law.specs.Match.{IsMatched}

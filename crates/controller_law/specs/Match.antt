@@ -8,14 +8,14 @@ use Rattle.gsmp_wire.specs.declared.request.Request.{Request}
 use Rattle.gsmp_wire.specs.declared.request.Request.TheVariants.{MoveBranch}
 use Rattle.ordered_lists.specs.Ordered.{Every}
 use Rattle.keyed_lists.specs.Keyed.{at}
-use Rattle.desk_model.specs.Desk.{Desk, Standing, all_on}
+use Rattle.port_model.specs.Desk.{Desk, Standing, all_on}
 use Rattle.port_model.specs.Setup.{label_end, home_of}
 use Rattle.port_model.specs.Labels.{Label, label_number}
 use Rattle.port_model.specs.Grants as grants
 use Rattle.port_model.specs.Grants.{Grant, grant_label}
 use Rattle.port_model.specs.Port.{labels_of}
-use Rattle.controller_model.specs.Controller.{Linked, port_key}
-use Rattle.controller_model.specs.Meeting.{is_clearing}
+use Rattle.world_model.specs.Controller.{Linked, port_key}
+use Rattle.world_model.specs.Meeting.{is_clearing}
 
 -- where a label is joined to, and the input that a grant is lent to, by their numbers
 abbrev pub joined_in : List Label → (number : ℕ) → Option End

@@ -11,14 +11,14 @@ use Rattle.adjacency_table.specs.declared.State.TheVariants.{Clearing}
 use Rattle.crossbar_model.specs.Crossbar.{same_end}
 use Rattle.ordered_lists.specs.Ordered.{Every}
 use Rattle.keyed_lists.specs.Keyed.{at}
-use Rattle.desk_model.specs.Requests.{input_of, is_delete_all}
-use Rattle.desk_model.specs.Desk.{Desk, Standing, all_on, most_asked}
+use Rattle.port_model.specs.Requests.{input_of, is_delete_all}
+use Rattle.port_model.specs.Desk.{Desk, Standing, all_on, most_asked}
 use Rattle.port_model.specs.Setup.{label_end}
 use Rattle.port_model.specs.Labels.{Label}
 use Rattle.port_model.specs.Grants as grants
 use Rattle.port_model.specs.Grants.{Grant}
 use Rattle.port_model.specs.Port.{labels_of}
-use Rattle.controller_model.specs.Controller.{Controller, Linked, port_key}
+use Rattle.world_model.specs.Controller.{Controller, Linked, port_key}
 
 -- *Joins*: a grant is lent to an input
 abbrev pub lends : End → Grant → Bool

@@ -15,17 +15,17 @@ use Rattle.gsmp_wire.specs.declared.request.Request.{Request}
 use Rattle.gsmp_wire.specs.declared.request.Request.TheVariants.{AddBranch, DeleteAll, AllPorts}
 use Rattle.gsmp_wire.specs.declared.message.Message.{Message}
 use Rattle.gsmp_wire.specs.declared.message.Message.TheVariants.{Adjacency}
-use Rattle.desk_model.specs.Desk.{empty_desk, message_at, sent_again}
+use Rattle.port_model.specs.Desk.{empty_desk, message_at, sent_again}
 use Rattle.port_facts.proofs.Keyed.{on_both}
-use Rattle.controller_model.specs.Controller.{Acted, with_desk, default_end, default_home}
-use Rattle.controller_model.specs.Sending.{says_gsmp}
-use Rattle.controller_model.specs.Resets.{node_resets}
-use Rattle.controller_model.specs.Asking.{sends_request, asks, takes_back}
-use Rattle.controller_model.specs.Joins.{output_of}
-use Rattle.controller_model.specs.Changes.{changed_joins, takes_join_back, begins_change, takes_change, may_take, takes_each, takes_changes, change_comes}
-use Rattle.controller_model.specs.Gsmp.{answers, steps}
-use Rattle.controller_model.specs.Meeting.{meets, up_ports, empties, default_branches, ends_meeting, has_emptied, behind_delete_all}
-use Rattle.controller_model.specs.Ticks.{sends_again}
+use Rattle.world_model.specs.Controller.{Acted, with_desk, default_end, default_home}
+use Rattle.world_model.specs.Sending.{says_gsmp}
+use Rattle.world_model.specs.Resets.{node_resets}
+use Rattle.world_model.specs.Asking.{sends_request, asks, takes_back}
+use Rattle.world_model.specs.Joins.{output_of}
+use Rattle.world_model.specs.Changes.{changed_joins, takes_join_back, begins_change, takes_change, may_take, takes_each, takes_changes, change_comes}
+use Rattle.world_model.specs.Gsmp.{answers, steps}
+use Rattle.world_model.specs.Meeting.{meets, up_ports, empties, default_branches, ends_meeting, has_emptied, behind_delete_all}
+use Rattle.world_model.specs.Ticks.{sends_again}
 
 -- *One controller follows another*: itself, on from one that follows, where nothing changes that bears on ports, frames
 -- or numbers, and by the smallest things that are done

@@ -14,7 +14,7 @@ use Rattle.gsmp_wire.specs.declared.request.Request.TheVariants.{AddBranch, Dele
 use Rattle.link_model.specs.declared.record.Record.TheVariants.{Bind, Free, Join, Opened}
 use Rattle.net_types.specs.Label.{number_of_channel}
 use Rattle.keyed_lists.specs.Keyed.{put, without, entered, key_le}
-use Rattle.desk_model.specs.Desk.{Desk, on_input}
+use Rattle.port_model.specs.Desk.{Desk, on_input}
 use Rattle.port_model.specs.declared.action.Action.{Action}
 use Rattle.port_model.specs.declared.action.Action.TheVariants as actions
 use Rattle.port_model.specs.declared.action.Action.TheVariants.{Say, Ask, Note, CutChain, TakeBack}

@@ -15,9 +15,9 @@ use Rattle.port_facts.proofs.Keyed.{on_both}
 use Rattle.port_model.specs.Setup.{Setup, control_end}
 use Rattle.port_model.specs.Grants.{Grant}
 use Rattle.port_model.specs.Port.{Port}
-use Rattle.controller_model.specs.Controller.{Acted, default_home}
-use Rattle.controller_model.specs.Sending.{sends, sends_control}
-use Rattle.controller_model.specs.Packets.{is_control, sends_next, goes_by, grant_by, forwarded, routes}
+use Rattle.world_model.specs.Controller.{Acted, default_home}
+use Rattle.world_model.specs.Sending.{sends, sends_control}
+use Rattle.world_model.specs.Packets.{is_control, sends_next, goes_by, grant_by, forwarded, routes}
 use Rattle.controller_facts.proofs.Events.{routes_goes}
 use Rattle.controller_lifts.proofs.Kept.{IsClosed, Goes, same_ports, sends_goes, control_goes}
 use Rattle.controller_lifts.proofs.Unspent.{Unspent, unspent_closed}

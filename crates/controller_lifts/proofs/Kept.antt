@@ -14,17 +14,17 @@ use Rattle.gsmp_wire.specs.Layout.{octets_of as gsmp_octets}
 use Rattle.frame_model.specs.Reassembly.{nothing_taken, cut}
 use Rattle.ordered_lists.specs.Ordered.{Every}
 use Rattle.port_facts.proofs.Keyed.{on_both, at_every, put_every}
-use Rattle.desk_model.specs.Desk.{asked, is_led_home, last_transaction, message_at}
+use Rattle.port_model.specs.Desk.{asked, is_led_home, last_transaction, message_at}
 use Rattle.port_model.specs.declared.action.Action.{Action}
 use Rattle.port_model.specs.declared.action.Action.TheVariants.{Say, Ask, Note, CutChain, TakeBack, Withdraw, Reset}
 use Rattle.port_model.specs.Setup.{Setup, home_of}
 use Rattle.port_model.specs.Port.{Port, Work}
 use Rattle.port_model.specs.Resets.{resets, restarts}
-use Rattle.controller_model.specs.Controller.{Acted, Linked, port_key, linked_at, ports_of, with_linked, with_desk, note, chain_of, chains_with, default_channel}
-use Rattle.controller_model.specs.Sending.{sends, sends_control}
-use Rattle.controller_model.specs.Resets.{cuts_of, cuts_label, begins, with_work, closes_by, port_restarts_as, port_restarts_of, port_restarts, resets_gsmp, node_resets}
-use Rattle.controller_model.specs.Asking.{asks_next, asks, takes_back, withdraws_input}
-use Rattle.controller_model.specs.Performing.{does, does_in_estab, resets_as, resets_of, resets_port, performs, performs_in_estab, Rule, works_as, works, at_port}
+use Rattle.world_model.specs.Controller.{Acted, Linked, port_key, linked_at, ports_of, with_linked, with_desk, note, chain_of, chains_with, default_channel}
+use Rattle.world_model.specs.Sending.{sends, sends_control}
+use Rattle.world_model.specs.Resets.{cuts_of, cuts_label, begins, with_work, closes_by, port_restarts_as, port_restarts_of, port_restarts, resets_gsmp, node_resets}
+use Rattle.world_model.specs.Asking.{asks_next, asks, takes_back, withdraws_input}
+use Rattle.world_model.specs.Performing.{does, does_in_estab, resets_as, resets_of, resets_port, performs, performs_in_estab, Rule, works_as, works, at_port}
 use Rattle.controller_views.proofs.Sends.{sent_cases}
 
 -- *A property of ports*, by what stays the same of them and the port, that a reset and a restart keep, where the next

@@ -27,7 +27,7 @@ use Rattle.port_facts.proofs.Rules.{used_goes, counts_goes, done_goes}
 use Rattle.port_facts.proofs.Hearings.{hears_goes, ticks_goes}
 use Rattle.port_facts.specs.Port as facts
 use Rattle.label_line.specs.Cells.{Role}
-use Rattle.desk_model.specs.Desk.{empty_desk}
+use Rattle.port_model.specs.Desk.{empty_desk}
 use Rattle.port_model.specs.declared.action.Action.{Action}
 use Rattle.port_model.specs.declared.action.Action.TheVariants.{Say, Ask, Note, CutChain, TakeBack, Withdraw, Reset}
 use Rattle.port_model.specs.Setup.{Setup}
@@ -38,8 +38,8 @@ use Rattle.port_model.specs.Counting.{counts, packet_flow, used_label, used}
 use Rattle.port_model.specs.Answers.{done}
 use Rattle.port_model.specs.Ticks.{ticks}
 use Rattle.port_model.specs.Joins.{joins_label, joined, parted, lent, given_back}
-use Rattle.controller_model.specs.Controller.{Acted, Linked, port_key, linked_at}
-use Rattle.controller_model.specs.Resets.{begins}
+use Rattle.world_model.specs.Controller.{Acted, Linked, port_key, linked_at}
+use Rattle.world_model.specs.Resets.{begins}
 use Rattle.controller_facts.specs.Said.{HasFlowsAt, IsAtWork}
 use Rattle.controller_facts.proofs.Moves.{found_setup, begun}
 use Rattle.controller_facts.proofs.Laws.{has_ports}

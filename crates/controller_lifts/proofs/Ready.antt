@@ -22,10 +22,10 @@ use Rattle.port_widths.specs.Widths.{FitsPort, FitsWork, FitsSetup}
 use Rattle.port_widths.proofs.Rules.{hears_fit, used_fit, done_fit, ticks_fit, resets_fit, restarts_fit}
 use Rattle.label_steps.specs.Follows.{IsUnspent}
 use Rattle.label_steps.proofs.Unspent.{hears_unspent, used_unspent, done_unspent}
-use Rattle.controller_model.specs.Controller.{Acted, Linked, linked_at, ports_of}
-use Rattle.controller_model.specs.Resets.{begins, with_work}
-use Rattle.controller_model.specs.Performing.{Rule, performs_in_estab, works_as, works, at_port}
-use Rattle.controller_model.specs.Ticks.{ticks_port, ticks_ports}
+use Rattle.world_model.specs.Controller.{Acted, Linked, linked_at, ports_of}
+use Rattle.world_model.specs.Resets.{begins, with_work}
+use Rattle.world_model.specs.Performing.{Rule, performs_in_estab, works_as, works, at_port}
+use Rattle.world_model.specs.Ticks.{ticks_port, ticks_ports}
 use Rattle.controller_facts.proofs.Moves.{Worked, by_rule, HasPorts, Moves, found_at_own}
 use Rattle.controller_facts.proofs.Performing.{works_as_goes}
 use Rattle.controller_facts.proofs.Laws.{has_ports, moves_sound}

@@ -25,11 +25,11 @@ use Rattle.port_model.specs.Joins.{parted, given_back}
 use Rattle.port_widths.specs.Widths.{FitsWork, FitsSetup}
 use Rattle.port_widths.proofs.Keeping.{found_grant, closes_fit}
 use Rattle.port_widths.proofs.Rules.{parted_fit, given_back_fit}
-use Rattle.controller_model.specs.Controller.{Controller, Acted, Linked, port_key, linked_at, ports_of, note}
-use Rattle.controller_model.specs.Resets.{begins, with_work}
-use Rattle.controller_model.specs.Performing.{resets_as, resets_of, resets_port, does_in_estab, works_as, works, at_port}
-use Rattle.controller_model.specs.Resets as resetting
-use Rattle.controller_model.specs.Joins.{Join, join_of, joins_of, parts, releases_join, releases_input, released_inputs, resets_spent, releases}
+use Rattle.world_model.specs.Controller.{Controller, Acted, Linked, port_key, linked_at, ports_of, note}
+use Rattle.world_model.specs.Resets.{begins, with_work}
+use Rattle.world_model.specs.Performing.{resets_as, resets_of, resets_port, does_in_estab, works_as, works, at_port}
+use Rattle.world_model.specs.Resets as resetting
+use Rattle.world_model.specs.Joins.{Join, join_of, joins_of, parts, releases_join, releases_input, released_inputs, resets_spent, releases}
 use Rattle.port_model.specs.Resets.{resets}
 use Rattle.controller_facts.specs.Sound.{IsSound}
 use Rattle.controller_facts.specs.Said.{HasFlowsAt, HasFlowingPorts, IsAtWork}

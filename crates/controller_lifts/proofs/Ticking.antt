@@ -34,12 +34,12 @@ use Rattle.port_model.specs.Joins as port_joins
 use Rattle.port_model.specs.Ticks as port_ticks
 use Rattle.port_views.specs.Link.{LinkLabel}
 use Rattle.port_views.proofs.Answering.{joined_leads, lent_leads}
-use Rattle.controller_model.specs.Controller.{Acted, Linked, linked_at, ports_of}
-use Rattle.controller_model.specs.Resets.{begins}
-use Rattle.controller_model.specs.Performing.{at_port}
-use Rattle.controller_model.specs.Joins.{Join, port_by, join_through, join_by, join_for, may_join, enters_grant, output_of, enters_label, joins, tries_label, label_on, tries_join, inputs_at, tries_joins}
-use Rattle.controller_model.specs.Gsmp.{steps}
-use Rattle.controller_model.specs.Ticks.{sends_again, ticks_port, ticks_ports, ticks_by, ticks}
+use Rattle.world_model.specs.Controller.{Acted, Linked, linked_at, ports_of}
+use Rattle.world_model.specs.Resets.{begins}
+use Rattle.world_model.specs.Performing.{at_port}
+use Rattle.world_model.specs.Joins.{Join, port_by, join_through, join_by, join_for, may_join, enters_grant, output_of, enters_label, joins, tries_label, label_on, tries_join, inputs_at, tries_joins}
+use Rattle.world_model.specs.Gsmp.{steps}
+use Rattle.world_model.specs.Ticks.{sends_again, ticks_port, ticks_ports, ticks_by, ticks}
 use Rattle.controller_facts.proofs.Moves.{ages, Found, HasPorts, found_at_own, found_port, moves_ports, further}
 use Rattle.controller_facts.proofs.Laws.{has_ports}
 use Rattle.controller_facts.proofs.Joining.{every_flat_map, each_there}

@@ -14,9 +14,9 @@ use Rattle.port_model.specs.Setup.{Setup}
 use Rattle.port_model.specs.Port.{Session, Port, Work}
 use Rattle.port_model.specs.Saying.{is_spent}
 use Rattle.port_model.specs.Resets.{resets}
-use Rattle.controller_model.specs.Controller.{Acted, Linked, port_key, linked_at}
-use Rattle.controller_model.specs.Resets.{begins, with_work}
-use Rattle.controller_model.specs.Performing.{does_in_estab, resets_as, resets_of, resets_port, performs_in_estab, works_as}
+use Rattle.world_model.specs.Controller.{Acted, Linked, port_key, linked_at}
+use Rattle.world_model.specs.Resets.{begins, with_work}
+use Rattle.world_model.specs.Performing.{does_in_estab, resets_as, resets_of, resets_port, performs_in_estab, works_as}
 use Rattle.controller_facts.specs.Sound.{IsSound, IsShutLinked}
 use Rattle.controller_facts.proofs.Moves.{Worked, Found, moves_to, placing, found_setup, found_at_own, begun, worked_kept}
 use Rattle.controller_facts.proofs.Laws.{has_ports, moves_sound}

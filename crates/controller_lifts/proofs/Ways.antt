@@ -11,13 +11,13 @@ use Rattle.adjacency_table.specs.Side.{is_estab}
 use Rattle.gsmp_wire.specs.declared.request.Request.{Request}
 use Rattle.gsmp_wire.specs.declared.request.Request.TheVariants.{MoveBranch}
 use Rattle.port_facts.proofs.Keyed.{on_both}
-use Rattle.desk_model.specs.Desk.{asked, is_led_home, last_transaction}
+use Rattle.port_model.specs.Desk.{asked, is_led_home, last_transaction}
 use Rattle.port_model.specs.declared.action.Action.TheVariants.{Say, Ask, Note, CutChain, TakeBack, Withdraw, Reset}
 use Rattle.port_model.specs.Resets.{resets, restarts}
-use Rattle.controller_model.specs.Sending.{sends_control}
-use Rattle.controller_model.specs.Resets.{cuts_of, begins, with_work, closes_by, port_restarts_of, port_restarts, resets_gsmp, node_resets}
-use Rattle.controller_model.specs.Asking.{asks_next, asks, takes_back}
-use Rattle.controller_model.specs.Performing.{does, does_in_estab, resets_of, performs, performs_in_estab, Rule, works, at_port}
+use Rattle.world_model.specs.Sending.{sends_control}
+use Rattle.world_model.specs.Resets.{cuts_of, begins, with_work, closes_by, port_restarts_of, port_restarts, resets_gsmp, node_resets}
+use Rattle.world_model.specs.Asking.{asks_next, asks, takes_back}
+use Rattle.world_model.specs.Performing.{does, does_in_estab, resets_of, performs, performs_in_estab, Rule, works, at_port}
 use Rattle.controller_views.proofs.Sends.{sent_cases}
 use Rattle.net_types.specs.Number.{GivenOut}
 use Rattle.keyed_lists.specs.Keyed.{at}
@@ -25,7 +25,7 @@ use Rattle.label_line.specs.Cells.{Role}
 use Rattle.port_model.specs.declared.action.Action.{Action}
 use Rattle.port_model.specs.Setup.{Setup, home_of}
 use Rattle.port_model.specs.Port.{Port}
-use Rattle.controller_model.specs.Controller.{Acted, Linked, port_key, linked_at, ports_of, with_desk, default_channel}
+use Rattle.world_model.specs.Controller.{Acted, Linked, port_key, linked_at, ports_of, with_desk, default_channel}
 use Rattle.port_views.specs.Link.{LinkLabel}
 use Rattle.controller_views.specs.Ends.{EndLeads}
 use Rattle.controller_views.specs.Lifted.{IsProper, Growing}

@@ -6,7 +6,7 @@ ghost use Rattle.control_link.specs.Cells.{is_channel, ranges_of};
 use aal5_frames::segment;
 use atm_cells::{BLANK_CELL, Cell};
 use control_link::{ControlLink, Taker};
-use controller_model::PortRange;
+use world_model::PortRange;
 use frame_model::Queues;
 use link_model::Notes;
 use net_types::{Channel, Mark, PortNo};

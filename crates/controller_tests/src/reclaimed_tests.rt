@@ -8,7 +8,7 @@ ghost use Rattle.world.specs.Nodes.{AreRoutesOf};
 use aal5_frames::{cells_of, check_pdu, segment};
 use atm_cells::{BLANK_CELL, Cell};
 use controller::Controller;
-use controller_model::PortRange;
+use world_model::PortRange;
 use flow_classifier::XyPolicy;
 use ipv4_forward::{Next, Table};
 use link_model::{Notes, Record};

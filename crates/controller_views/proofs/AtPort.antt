@@ -11,9 +11,9 @@ use Rattle.label_line.specs.Cells.{Role, Downstream, Upstream}
 use Rattle.label_line.specs.Line.{Line}
 use Rattle.port_model.specs.declared.action.Action.{Action}
 use Rattle.port_model.specs.Port.{Work}
-use Rattle.controller_model.specs.Controller.{Acted, Linked, port_key, linked_at}
-use Rattle.controller_model.specs.Resets.{begins, with_work}
-use Rattle.controller_model.specs.Performing.{Rule, works_as, works, at_port}
+use Rattle.world_model.specs.Controller.{Acted, Linked, port_key, linked_at}
+use Rattle.world_model.specs.Resets.{begins, with_work}
+use Rattle.world_model.specs.Performing.{Rule, works_as, works, at_port}
 use Rattle.port_views.specs.Link.{LinkLabel}
 use Rattle.port_views.specs.Shown.{Part, part_of, ShownAt, Shown}
 use Rattle.port_views.specs.Reaching.{ReachesFrom, Reaches, Leads}

@@ -10,18 +10,18 @@ use Rattle.adjacency_table.specs.Side.{is_estab}
 use Rattle.gsmp_wire.specs.declared.request.Request.{Request}
 use Rattle.gsmp_wire.specs.declared.request.Request.TheVariants.{MoveBranch}
 use Rattle.gsmp_wire.specs.Layout.{octets_of as gsmp_octets}
-use Rattle.desk_model.specs.Desk.{asked, is_led_home, last_transaction, message_at}
+use Rattle.port_model.specs.Desk.{asked, is_led_home, last_transaction, message_at}
 use Rattle.port_facts.proofs.Keyed.{on_both}
 use Rattle.port_model.specs.declared.action.Action.{Action}
 use Rattle.port_model.specs.declared.action.Action.TheVariants.{Say, Ask, Note, CutChain, TakeBack, Withdraw, Reset}
 use Rattle.port_model.specs.Setup.{home_of}
 use Rattle.port_model.specs.Port.{Work}
 use Rattle.port_model.specs.Resets.{resets, restarts}
-use Rattle.controller_model.specs.Controller.{Acted, Linked, linked_at, ports_of, with_desk, chain_of, default_channel}
-use Rattle.controller_model.specs.Sending.{sends_control}
-use Rattle.controller_model.specs.Resets.{cuts_of, begins, with_work, closes_by, port_restarts_as, port_restarts_of, port_restarts, resets_gsmp, node_resets}
-use Rattle.controller_model.specs.Asking.{asks_next, asks, takes_back}
-use Rattle.controller_model.specs.Performing.{does, does_in_estab, resets_as, resets_of, performs, performs_in_estab, Rule, works_as, works, at_port}
+use Rattle.world_model.specs.Controller.{Acted, Linked, linked_at, ports_of, with_desk, chain_of, default_channel}
+use Rattle.world_model.specs.Sending.{sends_control}
+use Rattle.world_model.specs.Resets.{cuts_of, begins, with_work, closes_by, port_restarts_as, port_restarts_of, port_restarts, resets_gsmp, node_resets}
+use Rattle.world_model.specs.Asking.{asks_next, asks, takes_back}
+use Rattle.world_model.specs.Performing.{does, does_in_estab, resets_as, resets_of, performs, performs_in_estab, Rule, works_as, works, at_port}
 use Rattle.shown_cells.specs.Seen.{IsUnmade, Extends}
 use Rattle.shown_cells.proofs.Made.{extends_made, unmade_next}
 use Rattle.controller_views.specs.Lifted.{Growing}

@@ -9,7 +9,7 @@ use Rattle.label_line.specs.Line.{Line}
 use Rattle.label_line.specs.Moves.{run}
 use Rattle.port_model.specs.declared.action.Action.{Action}
 use Rattle.port_model.specs.Port.{Work}
-use Rattle.controller_model.specs.Controller.{Controller, Acted, Linked}
+use Rattle.world_model.specs.Controller.{Controller, Acted, Linked}
 use Rattle.port_views.specs.Link.{LinkLabel, other}
 use Rattle.port_views.specs.Shown.{Part, part_of, rest_of, ShownAt}
 use Rattle.port_views.proofs.Reach.{run_join}

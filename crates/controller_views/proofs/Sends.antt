@@ -29,8 +29,8 @@ use Rattle.label_line.specs.Moves.{Move, Split, Lose, step, run}
 use Rattle.port_model.specs.declared.action.Action.{Action}
 use Rattle.port_model.specs.declared.action.Action.TheVariants.{Say, Ask, Note, CutChain, TakeBack, Withdraw, Reset}
 use Rattle.port_model.specs.Port.{Work}
-use Rattle.controller_model.specs.Controller.{Controller, Acted, Linked, linked_at, free_slots, default_channel}
-use Rattle.controller_model.specs.Sending.{with_cells, sends, sends_control, says_ifmp}
+use Rattle.world_model.specs.Controller.{Controller, Acted, Linked, linked_at, free_slots, default_channel}
+use Rattle.world_model.specs.Sending.{with_cells, sends, sends_control, says_ifmp}
 use Rattle.port_views.specs.Link.{LinkLabel, other}
 use Rattle.port_views.specs.Heard.{heard_by, framed, is_own, IsOwn, asked, asked_all}
 use Rattle.port_views.specs.Shown.{Part, part_of, rest_of, ShownAt}

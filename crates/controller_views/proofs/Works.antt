@@ -27,18 +27,18 @@ use Rattle.port_facts.proofs.Keyed.{by_eq, on_both, at_key, at_put_same, at_put_
 use Rattle.label_line.specs.Cells as lines
 use Rattle.label_line.specs.Cells.{Role, Downstream, Upstream}
 use Rattle.label_line.specs.Line.{Line}
-use Rattle.desk_model.specs.Desk.{Desk, asked as desk_asked, withdrawn, is_led_home, last_transaction, message_at}
+use Rattle.port_model.specs.Desk.{Desk, asked as desk_asked, withdrawn, is_led_home, last_transaction, message_at}
 use Rattle.port_model.specs.declared.action.Action.{Action}
 use Rattle.port_model.specs.declared.action.Action.TheVariants.{Say, Ask, Note, CutChain, TakeBack, Withdraw, Reset}
 use Rattle.port_model.specs.Setup.{Setup, home_of}
 use Rattle.port_model.specs.Port.{Port, Work}
 use Rattle.port_model.specs.Resets.{resets, restarts, closing}
 use Rattle.port_views.proofs.Resets.{resetting}
-use Rattle.controller_model.specs.Controller.{Acted, Linked, port_key, linked_at, ports_of, with_linked, with_desk, note, chain_of, chains_with, default_channel, default_home}
-use Rattle.controller_model.specs.Sending.{says_gsmp, says_ifmp}
-use Rattle.controller_model.specs.Resets.{cuts_of, cuts_label, begins, with_work, closes_by, port_restarts_as, port_restarts_of, port_restarts, resets_gsmp, node_resets}
-use Rattle.controller_model.specs.Asking.{asks_next, asks, takes_back, withdraws_input}
-use Rattle.controller_model.specs.Performing.{does, does_in_estab, resets_as, resets_of, resets_port, performs, performs_in_estab}
+use Rattle.world_model.specs.Controller.{Acted, Linked, port_key, linked_at, ports_of, with_linked, with_desk, note, chain_of, chains_with, default_channel, default_home}
+use Rattle.world_model.specs.Sending.{says_gsmp, says_ifmp}
+use Rattle.world_model.specs.Resets.{cuts_of, cuts_label, begins, with_work, closes_by, port_restarts_as, port_restarts_of, port_restarts, resets_gsmp, node_resets}
+use Rattle.world_model.specs.Asking.{asks_next, asks, takes_back, withdraws_input}
+use Rattle.world_model.specs.Performing.{does, does_in_estab, resets_as, resets_of, resets_port, performs, performs_in_estab}
 use Rattle.port_views.specs.Link.{LinkLabel, other}
 use Rattle.port_views.specs.Heard.{IsOwn, asked_all}
 use Rattle.port_views.specs.Shown.{Part, part_of, rest_of, ShownAt, Shown}

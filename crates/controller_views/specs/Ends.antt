@@ -11,7 +11,7 @@ use Rattle.label_line.specs.Line.{Line}
 use Rattle.label_line.specs.Moves.{Move, run}
 use Rattle.port_model.specs.declared.action.Action.{Action}
 use Rattle.port_model.specs.Port.{Work}
-use Rattle.controller_model.specs.Controller.{Controller, Acted, Linked, linked_at}
+use Rattle.world_model.specs.Controller.{Controller, Acted, Linked, linked_at}
 use Rattle.port_views.specs.Link.{LinkLabel, other}
 use Rattle.port_views.specs.Shown.{Part, part_of, ShownAt, rest_of}
 use Rattle.shown_cells.specs.Seen.{IsUnmade, Extends}

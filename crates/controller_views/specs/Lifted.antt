@@ -13,9 +13,9 @@ use Rattle.label_line.specs.Cells as lines
 use Rattle.label_line.specs.Cells.{Role}
 use Rattle.port_model.specs.declared.action.Action.{Action}
 use Rattle.port_model.specs.declared.action.Action.TheVariants.{Say}
-use Rattle.controller_model.specs.Controller.{Acted, Linked, linked_at}
-use Rattle.controller_model.specs.Resets.{begins}
-use Rattle.controller_model.specs.Performing.{Rule}
+use Rattle.world_model.specs.Controller.{Acted, Linked, linked_at}
+use Rattle.world_model.specs.Resets.{begins}
+use Rattle.world_model.specs.Performing.{Rule}
 use Rattle.port_views.specs.Link.{LinkLabel}
 use Rattle.port_views.specs.Reaching.{Leads}
 use Rattle.shown_cells.specs.Seen.{IsUnmade}

@@ -7,10 +7,10 @@ use Rattle.port_model.specs.Setup.{Setup}
 use Rattle.port_model.specs.Saying.{is_spent}
 use Rattle.port_facts.specs.Port.{IsRanged}
 use Rattle.adjacency_table.specs.Side.{ticked}
-use Rattle.controller_model.specs.Controller.{Controller, Acted, Linked}
-use Rattle.controller_model.specs.Gsmp.{steps}
-use Rattle.controller_model.specs.Joins.{tries_joins}
-use Rattle.controller_model.specs.Ticks.{sends_again, ticks_ports}
+use Rattle.world_model.specs.Controller.{Controller, Acted, Linked}
+use Rattle.world_model.specs.Gsmp.{steps}
+use Rattle.world_model.specs.Joins.{tries_joins}
+use Rattle.world_model.specs.Ticks.{sends_again, ticks_ports}
 use Rattle.controller_facts.specs.Sound.{IsSound}
 use Rattle.controller_facts.specs.Said.{HasFlowingPorts}
 use Rattle.port_views.specs.Link.{LinkLabel}

@@ -14,8 +14,8 @@ use Rattle.gsmp_wire.specs.declared.request.Request.{Request}
 use Rattle.gsmp_wire.specs.declared.request.Request.TheVariants.{MoveBranch}
 use Rattle.port_model.specs.Setup.{home_of, label_end}
 use Rattle.port_model.specs.Grants.{Grant, grant_for}
-use Rattle.controller_model.specs.Joins.{output_of, port_by}
-use Rattle.controller_model.specs.Joins as controller
+use Rattle.world_model.specs.Joins.{output_of, port_by}
+use Rattle.world_model.specs.Joins as controller
 use Rattle.cut_through.specs.declared.joins.Join.{Join}
 
 -- the port of a flow's route, where its packets live long enough to be sent on

@@ -5,7 +5,7 @@ use Rattle.std.proofs.lemmas.List.{take_all}
 use Rattle.std.specs.Result.{IsErrAnd}
 use Rattle.lab_io.specs.Report.{IsPut, Writer}
 use Rattle.port_model.specs.Setup.{Policy}
-use Rattle.controller_model.specs.Controller.{Controller}
+use Rattle.world_model.specs.Controller.{Controller}
 use Rattle.world_model.specs.Topology.{Topology}
 use Rattle.script_model.specs.declared.refusal.Refused.{Refused}
 use Rattle.script_model.specs.Reading.{string_says}

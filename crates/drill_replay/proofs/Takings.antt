@@ -5,7 +5,7 @@ use Rattle.net_types.specs.declared.memory.OutOfMemory.{OutOfMemory}
 use Rattle.lab_io.specs.Report.{Writer}
 use Rattle.lab_text.specs.Text.{line_of}
 use Rattle.port_model.specs.Setup.{Policy}
-use Rattle.controller_model.specs.Controller.{Controller}
+use Rattle.world_model.specs.Controller.{Controller}
 use Rattle.world_model.specs.Topology.{Topology}
 use Rattle.script_model.specs.declared.refusal.Refused.{Refused}
 use Rattle.script_model.specs.Drill.{drill_script, drill_words}

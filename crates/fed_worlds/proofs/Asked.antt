@@ -7,12 +7,12 @@ use Rattle.net_types.specs.Label.{number_of_channel}
 use Rattle.gsmp_wire.specs.declared.request.Request.{Request}
 use Rattle.ordered_lists.specs.Ordered.{Every}
 use Rattle.keyed_lists.specs.Keyed.{at}
-use Rattle.desk_model.specs.Desk.{Standing}
+use Rattle.port_model.specs.Desk.{Standing}
 use Rattle.port_model.specs.Setup.{Setup, home_of}
 use Rattle.port_model.specs.Grants.{Grant, grant_label, input_of}
 use Rattle.port_facts.specs.Port.{IsShaped, asks_ports, empties_control, empties_port, opens_input, opens_output, leads_label, leads_grant, joins_label, parts_label, frees_label}
 use Rattle.port_facts.proofs.Keyed.{at_every}
-use Rattle.controller_model.specs.Controller.{Controller, Linked, linked_at}
+use Rattle.world_model.specs.Controller.{Controller, Linked, linked_at}
 use Rattle.controller_facts.specs.Sound.{setups_by}
 use Rattle.controller_facts.proofs.Laws.{always_sound}
 use Rattle.controller_law.specs.Match.{lent_in, lent_at, MovesJoined, IsOfJoin}

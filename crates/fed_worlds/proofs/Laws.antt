@@ -10,8 +10,8 @@ use Rattle.crossbar_model.specs.Channels.{IsLinkPort}
 use Rattle.ordered_lists.proofs.Every.{every_mapped}
 use Rattle.port_model.specs.Setup.{Setup}
 use Rattle.port_facts.proofs.Keyed.{at_every}
-use Rattle.controller_model.specs.Controller.{Controller}
-use Rattle.controller_model.specs.Opening.{setup_of}
+use Rattle.world_model.specs.Controller.{Controller}
+use Rattle.world_model.specs.Opening.{setup_of}
 use Rattle.controller_facts.proofs.Laws.{always_sound}
 use Rattle.world_model.specs.declared.event.Event.{Event}
 use Rattle.world_model.specs.Topology.{Topology}

@@ -20,7 +20,7 @@ use Rattle.port_facts.specs.Port.{setup_port, IsLinked}
 use Rattle.port_facts.proofs.Keyed.{by_eq, at_key, at_every}
 use Rattle.controller_facts.specs.Conditions.{HasHome}
 use Rattle.controller_facts.proofs.Conditions.{label_has_home}
-use Rattle.controller_model.specs.Controller.{Controller, Linked, default_end}
+use Rattle.world_model.specs.Controller.{Controller, Linked, default_end}
 use Rattle.world_model.specs.World.{World, Site, site_at}
 use Rattle.world_model.specs.Places.{queue_at}
 use Rattle.world_model.specs.Ways.{output_at}

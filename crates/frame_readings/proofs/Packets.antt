@@ -19,7 +19,7 @@ use Rattle.link_model.specs.declared.record.Refusal.{Refusal}
 use Rattle.link_model.specs.declared.record.Refusal.TheVariants.{ControlProtocol}
 use Rattle.wire_laws.proofs.Ifmp.{read_back}
 use Rattle.wire_laws.proofs.Packets.{protocol_is, source_is, message_is}
-use Rattle.controller_model.specs.Packets.{control_protocol, refused_by}
+use Rattle.world_model.specs.Packets.{control_protocol, refused_by}
 use Rattle.shown_cells.specs.Label.{Told}
 use Rattle.world_views.specs.Made.{IsFit}
 use Rattle.frame_readings.specs.Reading.{IsToldAs, IsForwarded, IsHeardAs}

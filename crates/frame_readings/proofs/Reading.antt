@@ -17,7 +17,7 @@ use Rattle.gsmp_wire.specs.declared.fault.Fault.{Fault}
 use Rattle.gsmp_wire.specs.declared.message.Message.{Message as GsmpMessage}
 use Rattle.gsmp_wire.specs.Fields.{decoded as gsmp_decoded}
 use Rattle.gsmp_reading.proofs.Read.{message_is_read}
-use Rattle.desk_model.specs.Desk.{Standing}
+use Rattle.port_model.specs.Desk.{Standing}
 use Rattle.link_model.specs.declared.frames.Frame.{Frame}
 use Rattle.link_model.specs.Ledger.{payload_of}
 use Rattle.controller_lifts.proofs.Lifts.{readable}

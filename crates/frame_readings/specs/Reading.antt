@@ -15,10 +15,10 @@ use Rattle.gsmp_wire.specs.Layout.{octets_of as gsmp_octets}
 use Rattle.gsmp_wire.specs.Range.{Fits}
 use Rattle.gsmp_wire.specs.Fields.{decoded as gsmp_decoded}
 use Rattle.gsmp_reading.specs.Said.{IsSaid}
-use Rattle.desk_model.specs.Desk.{Standing}
+use Rattle.port_model.specs.Desk.{Standing}
 use Rattle.link_model.specs.declared.frames.Frame.{Frame}
 use Rattle.link_model.specs.Ledger.{payload_of}
-use Rattle.controller_model.specs.Packets.{control_protocol}
+use Rattle.world_model.specs.Packets.{control_protocol}
 use Rattle.controller_views.specs.Lifted.{payload_by}
 use Rattle.world_model.specs.Ways.{ifmp_under, gsmp_under, copy_of, copy_under}
 use Rattle.shown_cells.specs.Label.{Told, told_of}

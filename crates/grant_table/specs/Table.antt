@@ -8,7 +8,7 @@ use Rattle.net_types.specs.Label.{is_label_number, label_number_of}
 use Rattle.flow_ids.specs.declared.flow.FlowId.{FlowId}
 use Rattle.gsmp_wire.specs.declared.request.Request.{Request}
 use Rattle.gsmp_wire.specs.declared.request.Request.TheVariants.{AddBranch}
-use Rattle.desk_model.specs.Requests.{leads_home}
+use Rattle.port_model.specs.Requests.{leads_home}
 use Rattle.keyed_lists.specs.Keyed.{at, put, without}
 use Rattle.port_model.specs.Setup.{home_of}
 use Rattle.port_model.specs.Grants.{Grant, GrantState, Idle, ByController, ByInput, Leaving, Acceptance, acceptance_beside, grant_label, input_of, is_leaving}

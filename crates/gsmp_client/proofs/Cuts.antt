@@ -8,9 +8,9 @@ use Rattle.net_types.specs.declared.node.PortNo.{PortNo}
 use Rattle.net_types.specs.Number.{GivenOut}
 use Rattle.link_model.specs.Notes.{Journal}
 use Rattle.frame_model.specs.Reassembly.{Reassembly, cut, nothing_taken}
-use Rattle.controller_model.specs.Controller as model
-use Rattle.controller_model.specs.Controller.{Acted, Linked, chain_of, chains_with}
-use Rattle.controller_model.specs.Resets.{cuts_default, cuts_label}
+use Rattle.world_model.specs.Controller as model
+use Rattle.world_model.specs.Controller.{Acted, Linked, chain_of, chains_with}
+use Rattle.world_model.specs.Resets.{cuts_default, cuts_label}
 use Rattle.control_link.specs.Cells as cells
 use Rattle.control_link.specs.Cells.{ControlCells, PortCells, ranges_of, reassembly_of, with_reassembly}
 use Rattle.control_link.specs.declared.taker.Taker.{Taker}

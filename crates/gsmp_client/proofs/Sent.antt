@@ -11,8 +11,8 @@ use Rattle.link_model.specs.declared.record.Record.TheVariants.{Loss}
 use Rattle.link_model.specs.declared.record.Cause.TheVariants.{PoolFull}
 use Rattle.frame_model.specs.Frame.{frame_cells, made}
 use Rattle.frame_model.specs.Sending.{Sent, sent_frame}
-use Rattle.controller_model.specs.Controller as model
-use Rattle.controller_model.specs.Sending.{sends}
+use Rattle.world_model.specs.Controller as model
+use Rattle.world_model.specs.Sending.{sends}
 use Rattle.control_link.specs.Cells.{ControlCells, free_slots}
 use Rattle.gsmp_client.specs.Client.{AreOneNode, Client, Router, acted, controller_of}
 use Rattle.gsmp_client.proofs.Sums.{free_is, ports_in}

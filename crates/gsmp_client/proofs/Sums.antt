@@ -4,7 +4,7 @@ use Rattle.std.proofs.Common.{◌≡◌, ◌+◌, ◌-◌, List, [], ◌∷◌, 
 use Rattle.std.specs.List.{sum_by}
 use Rattle.std.proofs.lemmas.List.Sums.{sum_by-cons}
 use Rattle.net_types.specs.declared.node.PortNo.{PortNo}
-use Rattle.controller_model.specs.Controller as model
+use Rattle.world_model.specs.Controller as model
 use Rattle.control_link.specs.Cells as cells
 use Rattle.control_link.specs.Cells.{PortCells, ranges_of}
 use Rattle.gsmp_client.specs.Client.{AreOneNode, Client, PortEnd, Router, controller_of, end_port, linked_of, linked_ports}

@@ -3,8 +3,8 @@
 use Rattle.std.proofs.Common.{◌≡◌, ℕ, nat_eq, Bool, true, false, List, [], ◌∷◌, Some, None, map, refl, ap, sym, ◌∙◌, if◌then◌else◌}
 use Rattle.keyed_lists.specs.Keyed.{at, put}
 use Rattle.net_types.specs.declared.node.PortNo.{PortNo}
-use Rattle.controller_model.specs.Controller.{Linked}
-use Rattle.controller_model.specs.Controller as model
+use Rattle.world_model.specs.Controller.{Linked}
+use Rattle.world_model.specs.Controller as model
 use Rattle.control_link.specs.Cells as cells
 use Rattle.control_link.specs.Cells.{PortCells}
 use Rattle.gsmp_client.specs.Client.{PortEnd, end_key, end_port, linked_of, linked_ports}

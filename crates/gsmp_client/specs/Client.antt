@@ -10,11 +10,11 @@ use Rattle.ipv4_forward.specs.declared.table.Route.{Route}
 use Rattle.ipv4_forward.specs.declared.change.RouteChange.{RouteChange}
 use Rattle.adjacency_table.specs.Side.{Side}
 use Rattle.link_model.specs.Notes.{Journal}
-use Rattle.desk_model.specs.Desk.{Desk}
+use Rattle.port_model.specs.Desk.{Desk}
 use Rattle.port_model.specs.Setup.{Setup}
 use Rattle.port_model.specs.Port.{Port}
 use Rattle.control_link.specs.Cells.{ControlCells, PortCells, ranges_of}
-use Rattle.controller_model.specs.Controller.{Acted, Controller, Linked}
+use Rattle.world_model.specs.Controller.{Acted, Controller, Linked}
 
 -- its side of the adjacency with the switch, the requests that stand, whether the switch is met, and what the
 -- region of its control link holds

@@ -2,13 +2,13 @@
 
 ghost use Rattle.std.specs.Prelude.{◌≡◌, ◌<◌, ◌≤◌, ◌+◌, ◌^◌, ◌==◌, fold, length, slice_get, OnOk, IfSome, true};
 ghost use Rattle.gsmp_wire.specs.declared.request.Request.TheVariants.{MoveBranch};
-ghost use Rattle.desk_model.specs.Desk.{Standing, asked, is_led_home, last_transaction, sent_again, withdrawn};
+ghost use Rattle.port_model.specs.Desk.{Standing, asked, is_led_home, last_transaction, sent_again, withdrawn};
 ghost use Rattle.net_types.specs.Number.{with_control};
 ghost use Rattle.port_model.specs.Setup.{home_of};
 ghost use Rattle.branch_desk.specs.Requests.{has_function};
-ghost use Rattle.controller_model.specs.Asking.{asks_next, sends_request};
-ghost use Rattle.controller_model.specs.Controller.{default_end, default_home};
-ghost use Rattle.controller_model.specs.Meeting.{awaits_nothing};
+ghost use Rattle.world_model.specs.Asking.{asks_next, sends_request};
+ghost use Rattle.world_model.specs.Controller.{default_end, default_home};
+ghost use Rattle.world_model.specs.Meeting.{awaits_nothing};
 ghost use Rattle.gsmp_client.specs.Client.{AreOneNode, Router, acted, controller_of};
 
 use crate::client::Client;

@@ -6,7 +6,7 @@ ghost use Rattle.net_types.specs.Number.{GivenOut};
 ghost use Rattle.reassembly.specs.Receipt.{received};
 ghost use Rattle.control_link.specs.Cells.{free_slots, is_channel, ranges_of, reassembly_of, with_reassembly};
 ghost use Rattle.control_link.specs.declared.taker.Taker.TheVariants.{Default, Label};
-ghost use Rattle.controller_model.specs.Resets.{cuts_default, cuts_gsmp, cuts_label};
+ghost use Rattle.world_model.specs.Resets.{cuts_default, cuts_gsmp, cuts_label};
 ghost use Rattle.gsmp_client.specs.Client.{AreOneNode, Router, acted};
 
 use crate::client::Client;

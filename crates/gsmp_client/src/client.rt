@@ -5,15 +5,15 @@ ghost use Rattle.adjacency_table.specs.Side.{fresh, is_entry, is_estab, is_open,
 ghost use Rattle.cell_pool.specs.Region.{size};
 ghost use Rattle.control_link.specs.Cells.{IsRange, free_slots, opened};
 ghost use Rattle.crossbar_model.specs.Channels.{ArePorts};
-ghost use Rattle.desk_model.specs.Answers.{after_answer, answered};
-ghost use Rattle.desk_model.specs.Desk.{empty_desk, emptied};
+ghost use Rattle.port_model.specs.DeskAnswers.{after_answer, answered};
+ghost use Rattle.port_model.specs.Desk.{empty_desk, emptied};
 ghost use Rattle.gsmp_adjacency.specs.Greeting.{gsmp_answer, gsmp_received};
 ghost use Rattle.request_book.specs.Answers.{told};
 
 use adjacency_table::State;
 use cell_pool::Pool;
 use control_link::ControlLink;
-use controller_model::PortRange;
+use world_model::PortRange;
 use gsmp_adjacency::{Adjacency, Answer as AdjacencyAnswer};
 use gsmp_wire::Message;
 use net_types::{Greeting, Instance, OutOfMemory, Party};

@@ -5,7 +5,7 @@ ghost use Rattle.net_types.specs.Number.{GivenOut, with_control};
 ghost use Rattle.gsmp_wire.specs.Range.{Bits, IsInRange};
 ghost use Rattle.gsmp_wire.specs.declared.message.Message.TheVariants as messages;
 ghost use Rattle.ifmp_wire.specs.Message.{InRange};
-ghost use Rattle.controller_model.specs.Sending.{says_gsmp, says_ifmp, sends, sends_control};
+ghost use Rattle.world_model.specs.Sending.{says_gsmp, says_ifmp, sends, sends_control};
 ghost use Rattle.gsmp_client.specs.Client.{AreOneNode, Router, acted};
 
 use crate::client::Client;

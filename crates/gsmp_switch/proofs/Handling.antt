@@ -12,16 +12,16 @@ use Rattle.gsmp_wire.specs.declared.message.Message.TheVariants.{Adjacency, Bran
 use Rattle.link_model.specs.Notes.{Journal}
 use Rattle.crossbar_model.specs.Channels.{is_connectable}
 use Rattle.crossbar_model.specs.Crossbar.{Branches}
-use Rattle.switch_model.specs.declared.port.PortState.{PortState}
-use Rattle.switch_model.specs.declared.request.Asked.{Asked}
+use Rattle.world_model.specs.declared.port.PortState.{PortState}
+use Rattle.world_model.specs.declared.request.Asked.{Asked}
 use Rattle.gsmp_wire.specs.declared.request.Request.{Request}
-use Rattle.switch_model.specs.declared.request.Failure.{Failure}
-use Rattle.switch_model.specs.declared.request.Failure.TheVariants.{NoPort, BadSession, PortDown, OutOfRange, SessionsSpent}
+use Rattle.world_model.specs.declared.request.Failure.{Failure}
+use Rattle.world_model.specs.declared.request.Failure.TheVariants.{NoPort, BadSession, PortDown, OutOfRange, SessionsSpent}
 use Rattle.gsmp_wire.specs.declared.request.Request.TheVariants.{AddBranch, MoveBranch, DeleteTree, VerifyTree, DeleteAll, PortManagement, AllPorts as AllPortsAsked}
-use Rattle.switch_model.specs.Switch.{Switch, has_port, has_session, is_up, numbers_of, port_of}
-use Rattle.switch_model.specs.Requests.{asked_in}
-use Rattle.switch_model.specs.Failures.{failure_of, named_ends, named_ports, names_session, used_ports}
-use Rattle.switch_model.specs.Answers.{carried_out, failure_answer, handled, handled_asked, handled_by}
+use Rattle.world_model.specs.Switch.{Switch, has_port, has_session, is_up, numbers_of, port_of}
+use Rattle.world_model.specs.Requests.{asked_in}
+use Rattle.world_model.specs.Failures.{failure_of, named_ends, named_ports, names_session, used_ports}
+use Rattle.world_model.specs.Answers.{carried_out, failure_answer, handled, handled_asked, handled_by}
 use Rattle.gsmp_switch.specs.State.{AreStatesOf, CanRaise}
 use Rattle.gsmp_switch.proofs.PortStates.{has_port_small}
 

@@ -16,7 +16,7 @@ use Rattle.crossbar_model.specs.Channels.{end_cmp}
 use Rattle.crossbar_model.specs.Crossbar.{Branches, first_on}
 use Rattle.fabric.proofs.Channels.{end_cmp_total}
 use Rattle.fabric.proofs.Maps.{keys-map_of, map_of, remove-map_of}
-use Rattle.switch_model.specs.Requests.{Changed, all_ended, cleared, ended, ended_by, inputs_on}
+use Rattle.world_model.specs.Requests.{Changed, all_ended, cleared, ended, ended_by, inputs_on}
 
 pub left : (a b : Bool) → T (a && b) → T a
 left true b h = tt

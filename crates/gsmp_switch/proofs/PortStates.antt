@@ -5,7 +5,7 @@ use Rattle.std.proofs.Math.Seq.{drop-cons}
 use Rattle.std.proofs.Math.ListN.{get_or-map}
 use Rattle.std.proofs.lemmas.List.{length-map, set_split}
 use Rattle.net_types.specs.declared.node.PortNo.{PortNo}
-use Rattle.switch_model.specs.declared.port.PortState.{PortState}
+use Rattle.world_model.specs.declared.port.PortState.{PortState}
 use Rattle.net_types.specs.declared.number.Instance.{Instance}
 use Rattle.std.specs.List.{list_all}
 use Rattle.std.specs.List.Sorted.{IsStrictlyIncreasing}
@@ -14,8 +14,8 @@ use Rattle.std.proofs.lemmas.Bool.Decides.{nat_tests}
 use Rattle.std.proofs.lemmas.List.Elements.{All-tail}
 use Rattle.crossbar_model.specs.Channels.{ArePorts, IsLinkPort}
 use Rattle.gsmp_wire.proofs.Places.{both}
-use Rattle.switch_model.specs.Switch.{begun, control_port, has_port, numbers_of, port_of, with_port}
-use Rattle.switch_model.specs.Requests.{managed, ports_after}
+use Rattle.world_model.specs.Switch.{begun, control_port, has_port, numbers_of, port_of, with_port}
+use Rattle.world_model.specs.Requests.{managed, ports_after}
 use Rattle.gsmp_wire.specs.declared.request.Request.{Request}
 use Rattle.gsmp_wire.specs.declared.request.Request.TheVariants.{AddBranch, MoveBranch, DeleteTree, VerifyTree, DeleteAll, PortManagement, AllPorts}
 use Rattle.gsmp_switch.specs.State.{AreStatesOf}

@@ -15,7 +15,7 @@ use Rattle.crossbar_model.specs.declared.branch.Branch.{Branch}
 use Rattle.crossbar_model.specs.Channels.{end_cmp}
 use Rattle.crossbar_model.specs.Crossbar.{Branches}
 use Rattle.fabric.proofs.Channels.{end_cmp-IsAntisymmetric}
-use Rattle.switch_model.specs.Requests.{Changed, all_ended, cleared, ended, ended_by, inputs_on}
+use Rattle.world_model.specs.Requests.{Changed, all_ended, cleared, ended, ended_by, inputs_on}
 use Rattle.gsmp_switch.proofs.Inputs.{Entries, inputs_of, without, keys_removed, left, right}
 
 abbrev is_from : ℕ → End → Bool

@@ -10,7 +10,7 @@ use Rattle.cell_pool.specs.Shares.{IsApartFromEach, len_of_all}
 use Rattle.crossbar_model.specs.Crossbar.{Crossbar}
 use Rattle.fabric.specs.Fabric.{FabricView, crossbar, free_slots}
 use Rattle.link_model.specs.Notes.{Journal}
-use Rattle.switch_model.specs.Requests.{Changed}
+use Rattle.world_model.specs.Requests.{Changed}
 
 -- the ports besides port 0, how many VPIs labels may have, the crossbar, what is made of the cells of the
 -- GSMP channel, and how many slots there are

@@ -5,10 +5,10 @@ use Rattle.net_types.specs.declared.node.PortNo.{PortNo}
 use Rattle.link_model.specs.Notes.{Journal}
 use Rattle.net_types.specs.Number.{GivenOut}
 use Rattle.crossbar_model.specs.Channels.{ArePorts}
-use Rattle.switch_model.specs.declared.port.PortState.{PortState}
+use Rattle.world_model.specs.declared.port.PortState.{PortState}
 use Rattle.gsmp_wire.specs.declared.request.Request.{Request}
 use Rattle.gsmp_wire.specs.declared.request.Request.TheVariants.{PortManagement}
-use Rattle.switch_model.specs.Switch.{Acted, Switch, control_port, port_of}
+use Rattle.world_model.specs.Switch.{Acted, Switch, control_port, port_of}
 
 -- the control port, and then these ports of links
 pub record AreStatesOf (states : List PortState) (linked : List PortNo) : Type 0 where

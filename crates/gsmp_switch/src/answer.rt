@@ -1,15 +1,15 @@
 //! The answers to requests.
 
 ghost use Rattle.std.specs.Prelude.{◌≡◌, ◌≤◌, true, length, map};
-ghost use Rattle.switch_model.specs.Answers.{branch_of, count_of, failure_answer, failure_code, row_of, session_of, success_answer, told_output};
-ghost use Rattle.switch_model.specs.Requests.{end_at, is_request};
+ghost use Rattle.world_model.specs.Answers.{branch_of, count_of, failure_answer, failure_code, row_of, session_of, success_answer, told_output};
+ghost use Rattle.world_model.specs.Requests.{end_at, is_request};
 ghost use Rattle.gsmp_wire.specs.Range.{FitsRow, FitsRows, IsInRange};
 
 use crate::exchange::Exchange;
 use crate::ports::port_of;
 use gsmp_wire::{BranchKind, Message, PortRow, PortRows};
 use net_types::{Channel, End};
-use switch_model::{Failure, PortState, Request};
+use world_model::{Failure, PortState, Request};
 
 /// The Result of a success answer.
 const SUCCESS: u8 = 3;

@@ -5,14 +5,14 @@ ghost use Rattle.std.specs.FinMap.{keys};
 ghost use Rattle.std.specs.List.{list_all};
 ghost use Rattle.crossbar_model.specs.Channels.{is_connectable};
 ghost use Rattle.gsmp_switch.specs.Exchange.{Store, changed_in, with_changed};
-ghost use Rattle.switch_model.specs.Requests.{Changed, added, all_ended, branches_after, cleared, ended, moved_to};
-ghost use Rattle.switch_model.specs.Failures.{named_ends};
+ghost use Rattle.world_model.specs.Requests.{Changed, added, all_ended, branches_after, cleared, ended, moved_to};
+ghost use Rattle.world_model.specs.Failures.{named_ends};
 
 use crate::cut::note_cut;
 use crate::exchange::Exchange;
 use link_model::Notes;
 use net_types::{End, OutOfMemory, PortNo};
-use switch_model::Request;
+use world_model::Request;
 
 /// The function of Port Management that takes a port down.
 const TAKE_DOWN: u8 = 2;

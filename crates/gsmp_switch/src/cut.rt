@@ -1,7 +1,7 @@
 //! The entry of the frame that was open on a branch.
 
 ghost use Rattle.std.specs.Prelude.{◌≡◌, OnOk};
-ghost use Rattle.switch_model.specs.Requests.{noted_cut};
+ghost use Rattle.world_model.specs.Requests.{noted_cut};
 
 use link_model::{Cause, Notes, Record};
 use net_types::{Mark, OutOfMemory};

@@ -1,6 +1,6 @@
 //! The switch of a node, which a controller drives by GSMP (RFC 1987): cells go where its branches
 //! lead, and messages that come on the control port change the branches. What it does is defined in
-//! `switch_model`; [`Switch`] is proved to be that definition.
+//! `world_model`; [`Switch`] is proved to be that definition.
 #![tactic(auto)]
 
 mod answer;

@@ -1,13 +1,13 @@
 //! The ports of a switch, by their numbers.
 
 ghost use Rattle.std.specs.Prelude.{◌≡◌, ◌∷◌, ◌<◌, ◌+◌, ◌^◌, map, IfOk, IfSome};
-ghost use Rattle.switch_model.specs.Switch.{begun, control_port, has_port, has_session, is_up, port_of, with_port};
-ghost use Rattle.switch_model.specs.Requests.{managed, ports_after};
+ghost use Rattle.world_model.specs.Switch.{begun, control_port, has_port, has_session, is_up, port_of, with_port};
+ghost use Rattle.world_model.specs.Requests.{managed, ports_after};
 ghost use Rattle.gsmp_switch.specs.State.{CanRaise};
 
 use net_types::{Instance, OutOfMemory, PortNo};
 use std::alloc::Global;
-use switch_model::{PortState, Request};
+use world_model::{PortState, Request};
 
 /// The function of Port Management that brings a port up.
 const BRING_UP: u8 = 1;

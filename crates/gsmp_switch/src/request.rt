@@ -2,17 +2,17 @@
 
 ghost use Rattle.std.specs.Prelude.{◌≡◌, Some, None, false, ◌&&◌, ◌==◌, ◌*◌, nat_le, nat_lt, IfSome, IfNone, if◌then◌else◌};
 ghost use Rattle.std.specs.List.{list_all, list_any};
-ghost use Rattle.switch_model.specs.Requests.{asked_in, end_at, is_request};
+ghost use Rattle.world_model.specs.Requests.{asked_in, end_at, is_request};
 ghost use Rattle.crossbar_model.specs.Channels.{is_connectable};
-ghost use Rattle.switch_model.specs.Failures.{failure_of, is_busy, is_last_session, lacks_branch, leads_elsewhere, named_ends, named_ports, names_session, used_ports};
-ghost use Rattle.switch_model.specs.Switch.{has_port, is_up, numbers_of};
+ghost use Rattle.world_model.specs.Failures.{failure_of, is_busy, is_last_session, lacks_branch, leads_elsewhere, named_ends, named_ports, names_session, used_ports};
+ghost use Rattle.world_model.specs.Switch.{has_port, is_up, numbers_of};
 ghost use Rattle.gsmp_switch.specs.State.{AreStatesOf};
 
 use crate::exchange::Exchange;
 use crate::ports::{has_port, has_session, is_up};
 use gsmp_wire::{BranchKind, Message};
 use net_types::{Channel, End, PortNo};
-use switch_model::{Asked, Failure, PortState, Request};
+use world_model::{Asked, Failure, PortState, Request};
 
 /// The Result of a request.
 const REQUEST: u8 = 2;

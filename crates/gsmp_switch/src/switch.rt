@@ -6,10 +6,10 @@ ghost use Rattle.crossbar_model.specs.Channels.{ArePorts};
 ghost use Rattle.crossbar_model.specs.Crossbar.{output_of, popped, queue_of};
 ghost use Rattle.fabric.specs.Fabric.{crossbar, free_slots as fabric_slots};
 ghost use Rattle.gsmp_wire.specs.Range.{Bits, IsInRange};
-ghost use Rattle.switch_model.specs.Switch.{control_port, free_slots, has_port, numbers_of, opened, switch_party};
-ghost use Rattle.switch_model.specs.Requests.{is_request};
-ghost use Rattle.switch_model.specs.Answers.{handled};
-ghost use Rattle.switch_model.specs.Conduct.{answers, cell_comes, forged, greeted, gsmp_cell, one_more, read, requested, reset, restarted, says, switched_cell, tick_comes, told};
+ghost use Rattle.world_model.specs.Switch.{control_port, free_slots, has_port, numbers_of, opened, switch_party};
+ghost use Rattle.world_model.specs.Requests.{is_request};
+ghost use Rattle.world_model.specs.Answers.{handled};
+ghost use Rattle.world_model.specs.Conduct.{answers, cell_comes, forged, greeted, gsmp_cell, one_more, read, requested, reset, restarted, says, switched_cell, tick_comes, told};
 ghost use Rattle.adjacency_table.specs.Side.{fresh, is_estab};
 ghost use Rattle.gsmp_switch.specs.State.{acted};
 
@@ -29,7 +29,7 @@ use net_types::{Channel, End, Greeting, Mark, NodeId, Numbers, OutOfMemory, Part
 use refusal_names::gsmp_refusal;
 use std::alloc::Global;
 use std::marker::Model;
-use switch_model::{Failure, PortState};
+use world_model::{Failure, PortState};
 
 /// The control port.
 const CONTROL_PORT: PortNo = PortNo(0);
@@ -67,7 +67,7 @@ impl Model for Switch {
     ghost use Rattle.crossbar_model.specs.Channels.{end_cmp};
     ghost use Rattle.net_types.specs.contracts.channel.End as end_contract;
     ghost use Rattle.crossbar_model.specs.contracts.branch.Branch as branch_contract;
-    ghost use Rattle.switch_model.specs.Switch as model;
+    ghost use Rattle.world_model.specs.Switch as model;
     ghost use Rattle.gsmp_switch.specs.State.{AreStatesOf};
 
     ghost Value = { model.Switch };

@@ -2,7 +2,7 @@
 
 ghost use Rattle.std.specs.Prelude.{◌≡◌, None, length};
 ghost use Rattle.ipv4_packet.specs.Packet.{IsPacket};
-ghost use Rattle.controller_model.specs.Packets.{inject_refusal};
+ghost use Rattle.world_model.specs.Packets.{inject_refusal};
 ghost use Rattle.world_model.specs.Conditions.{IsNode, IsTopology};
 ghost use Rattle.script_model.specs.Ideal.{ideal_record};
 

@@ -32,18 +32,18 @@ use Rattle.ordered_lists.specs.Ordered.{Every}
 use Rattle.port_model.specs.Setup.{Setup}
 use Rattle.port_facts.specs.Port.{IsLabelEnd}
 use Rattle.port_facts.proofs.Keyed.{on_both}
-use Rattle.switch_model.specs.Switch as switches
-use Rattle.switch_model.specs.Switch.{control_port, gsmp_channel}
-use Rattle.switch_model.specs.Requests.{all_ended}
-use Rattle.switch_model.specs.Conduct as conduct
-use Rattle.controller_model.specs.Controller.{Controller, Acted, default_channel}
-use Rattle.controller_model.specs.Sending.{with_cells}
-use Rattle.controller_model.specs.Cells.{same_channel, cell_comes}
-use Rattle.controller_model.specs.Packets.{inject_refusal, injected}
+use Rattle.world_model.specs.Switch as switches
+use Rattle.world_model.specs.Switch.{control_port, gsmp_channel}
+use Rattle.world_model.specs.Requests.{all_ended}
+use Rattle.world_model.specs.Conduct as conduct
+use Rattle.world_model.specs.Controller.{Controller, Acted, default_channel}
+use Rattle.world_model.specs.Sending.{with_cells}
+use Rattle.world_model.specs.Cells.{same_channel, cell_comes}
+use Rattle.world_model.specs.Packets.{inject_refusal, injected}
 use Rattle.link_model.specs.declared.record.Refusal.{Refusal}
-use Rattle.controller_model.specs.Resets.{node_restarts}
-use Rattle.controller_model.specs.Changes.{change_comes}
-use Rattle.controller_model.specs.Ticks.{ticks}
+use Rattle.world_model.specs.Resets.{node_restarts}
+use Rattle.world_model.specs.Changes.{change_comes}
+use Rattle.world_model.specs.Ticks.{ticks}
 use Rattle.controller_facts.specs.Inputs.{Input, CellComes, PacketEnters, Ticks, Restarts, ChangeComes, enters_unless, takes_input}
 use Rattle.controller_facts.specs.Sound.{IsOwn}
 use Rattle.controller_facts.proofs.Moves.{Move, noting, taking_notes, sending, sending_control, asking, withdrawing, answering, meeting, ending_meeting, turning, placing, clearing, gathering, chaining, routing, popping, Moves, moves_keep}

@@ -27,31 +27,31 @@ use Rattle.gsmp_wire.specs.declared.request.Request.{Request}
 use Rattle.gsmp_wire.specs.declared.request.Request.TheVariants.{AddBranch, MoveBranch, DeleteTree, VerifyTree, DeleteAll, PortManagement, AllPorts}
 use Rattle.gsmp_wire.specs.Range.{FitsRows}
 use Rattle.gsmp_wire.specs.declared.rows.PortRow.{PortRow}
-use Rattle.desk_model.specs.Messages.{is_up}
+use Rattle.port_model.specs.Messages.{is_up}
 use Rattle.net_types.specs.declared.node.PortNo.{PortNo}
 use Rattle.port_facts.specs.Port.{IsLabelEnd}
 use Rattle.link_model.specs.Ledger.{payload_of}
 use Rattle.frame_model.specs.Frame.{octets_of as cell_octets, last_mark, payload_in}
 use Rattle.ordered_lists.specs.Ordered.{Every}
 use Rattle.ordered_lists.proofs.Every.{every_right}
-use Rattle.desk_model.specs.Desk.{Standing}
-use Rattle.desk_model.specs.Answers.{Head, head_of, is_of_type, Answered, Unknown, Done, Ports, Failed, succeeded, outcome, answered_with, answered, without_request}
+use Rattle.port_model.specs.Desk.{Standing}
+use Rattle.port_model.specs.DeskAnswers.{Head, head_of, is_of_type, Answered, Unknown, Done, Ports, Failed, succeeded, outcome, answered_with, answered, without_request}
 use Rattle.port_model.specs.Setup.{Setup}
 use Rattle.port_facts.proofs.Found.{find_every, find_passes}
 use Rattle.branch_line.specs.Words as lines
 use Rattle.branch_line.specs.Words.{ToController, SwitchGreets, Answer, Outcome, Success, Failure}
 use Rattle.branch_line.specs.Line.{Line}
 use Rattle.branch_line.specs.Law.{RepeatsDrawn, HasDrawn, IsReached}
-use Rattle.controller_model.specs.Controller.{Acted, ports_of, with_desk, default_channel, free_slots}
-use Rattle.controller_model.specs.Cells.{same_channel}
-use Rattle.controller_model.specs.Meeting.{done, takes_answer, answer_comes}
+use Rattle.world_model.specs.Controller.{Acted, ports_of, with_desk, default_channel, free_slots}
+use Rattle.world_model.specs.Cells.{same_channel}
+use Rattle.world_model.specs.Meeting.{done, takes_answer, answer_comes}
 use Rattle.controller_facts.proofs.Laws.{moves_sound}
 use Rattle.controller_facts.proofs.Moves.{gathering, moves_to}
 use Rattle.controller_law.specs.Order.{IsOther, IsDeleting, IsMeeting, listing, emptying}
 use Rattle.controller_law.proofs.Whole.{Whole}
-use Rattle.switch_model.specs.declared.request.Asked.{Asked}
-use Rattle.switch_model.specs.Requests.{asked_in}
-use Rattle.switch_model.specs.Switch.{Switch, control_port, numbers_of}
+use Rattle.world_model.specs.declared.request.Asked.{Asked}
+use Rattle.world_model.specs.Requests.{asked_in}
+use Rattle.world_model.specs.Switch.{Switch, control_port, numbers_of}
 use Rattle.world_model.specs.Ways.{gsmp_of, gsmp_under, copy_by, told}
 use Rattle.shown_cells.specs.Seen.{Seen, Nothing, Word, Unknown}
 use Rattle.shown_cells.proofs.Shows.{First, no_word, a_word, first_of}

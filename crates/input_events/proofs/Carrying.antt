@@ -25,14 +25,14 @@ use Rattle.link_model.specs.declared.record.Cause.TheVariants.{PoolFull}
 use Rattle.link_model.specs.declared.frames.Frame.{Frame}
 use Rattle.link_model.specs.Notes.{Journal, noted}
 use Rattle.port_facts.proofs.Keyed.{on_each, on_both}
-use Rattle.switch_model.specs.declared.request.Asked.{Asked}
-use Rattle.switch_model.specs.declared.request.Failure.{Failure}
-use Rattle.switch_model.specs.Switch as switches
-use Rattle.switch_model.specs.Switch.{free_slots}
-use Rattle.switch_model.specs.Requests.{Changed, noted_cut, ended_by, moved_by, branches_after, cleared, inputs_on, asked_in, is_request}
-use Rattle.switch_model.specs.Failures.{failure_of}
-use Rattle.switch_model.specs.Answers.{Handled, handled, handled_asked, handled_by}
-use Rattle.switch_model.specs.Conduct as conduct
+use Rattle.world_model.specs.declared.request.Asked.{Asked}
+use Rattle.world_model.specs.declared.request.Failure.{Failure}
+use Rattle.world_model.specs.Switch as switches
+use Rattle.world_model.specs.Switch.{free_slots}
+use Rattle.world_model.specs.Requests.{Changed, noted_cut, ended_by, moved_by, branches_after, cleared, inputs_on, asked_in, is_request}
+use Rattle.world_model.specs.Failures.{failure_of}
+use Rattle.world_model.specs.Answers.{Handled, handled, handled_asked, handled_by}
+use Rattle.world_model.specs.Conduct as conduct
 use Rattle.world_model.specs.World.{Site, World, site_at, with_site}
 use Rattle.shown_cells.specs.Seen.{IsUnmade, Extends}
 use Rattle.input_steps.specs.Part.{part_of, IsNumbered}

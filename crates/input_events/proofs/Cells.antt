@@ -33,11 +33,11 @@ use Rattle.port_facts.proofs.Hearings.{hears_goes}
 use Rattle.port_facts.proofs.Keyed.{on_both, on_each}
 use Rattle.port_facts.proofs.Steps.{Goes}
 use Rattle.port_facts.proofs.Rules.{counts_goes, used_goes}
-use Rattle.controller_model.specs.Controller.{Acted, Linked, free_slots, linked_at, chains_with, default_channel}
-use Rattle.controller_model.specs.Resets.{begins}
-use Rattle.controller_model.specs.Packets.{routes, control_protocol}
-use Rattle.controller_model.specs.Performing.{Rule, at_port}
-use Rattle.controller_model.specs.Cells.{Taker, ForGsmp, ForDefault, ForLabel, port_on, on_link, same_channel, label_taker, taker_at, reassembly_of, with_reassembly, label_holds, ifmp_holds, counted_at, packet_holds, default_holds, frame_holds, opened_frame, ends_frame, takes_cell, cell_comes}
+use Rattle.world_model.specs.Controller.{Acted, Linked, free_slots, linked_at, chains_with, default_channel}
+use Rattle.world_model.specs.Resets.{begins}
+use Rattle.world_model.specs.Packets.{routes, control_protocol}
+use Rattle.world_model.specs.Performing.{Rule, at_port}
+use Rattle.world_model.specs.Cells.{Taker, ForGsmp, ForDefault, ForLabel, port_on, on_link, same_channel, label_taker, taker_at, reassembly_of, with_reassembly, label_holds, ifmp_holds, counted_at, packet_holds, default_holds, frame_holds, opened_frame, ends_frame, takes_cell, cell_comes}
 use Rattle.controller_facts.proofs.Lifetimes.{decoded_lives}
 use Rattle.controller_facts.proofs.Moves.{Found, found_at_own, found_port}
 use Rattle.controller_facts.proofs.Laws.{has_ports}

@@ -15,10 +15,10 @@ use Rattle.gsmp_wire.specs.declared.request.Request.TheVariants.{AddBranch, Move
 use Rattle.ordered_lists.specs.Ordered.{Every}
 use Rattle.ordered_lists.proofs.Every.{every_join, every_map}
 use Rattle.ordered_lists.proofs.Parts.{every_part, part_filtered}
-use Rattle.desk_model.specs.Desk.{Desk, Standing, asked, last_transaction, message_at}
-use Rattle.desk_model.specs.Messages.{is_up}
-use Rattle.desk_model.specs.Requests.{input_of, withdraws, is_delete_all, leads_home}
-use Rattle.desk_model.specs.Answers.{Done, without_request, after_answer}
+use Rattle.port_model.specs.Desk.{Desk, Standing, asked, last_transaction, message_at}
+use Rattle.port_model.specs.Messages.{is_up}
+use Rattle.port_model.specs.Requests.{input_of, withdraws, is_delete_all, leads_home}
+use Rattle.port_model.specs.DeskAnswers.{Done, without_request, after_answer}
 use Rattle.keyed_lists.specs.Keyed.{in_order}
 use Rattle.port_model.specs.Setup.{Setup, home_of}
 use Rattle.port_model.specs.Grants.{Grant}
@@ -27,13 +27,13 @@ use Rattle.port_model.specs.Saying.{is_spent, closes}
 use Rattle.port_model.specs.Resets.{cleared}
 use Rattle.port_facts.specs.Port.{IsLinked, IsShaped, IsDefaultEnd, opens_input, opens_output}
 use Rattle.port_facts.proofs.Keyed.{at_every, on_both, on_each}
-use Rattle.controller_model.specs.Controller.{Acted, Linked, port_key, linked_at, ports_of, with_desk, with_linked, default_channel, default_end, default_home}
-use Rattle.controller_model.specs.Asking.{asks, asks_next}
-use Rattle.controller_model.specs.Resets.{begins, node_resets}
-use Rattle.controller_model.specs.Performing.{works, works_as}
-use Rattle.controller_model.specs.Joins.{Join, end_le, join_to, joins_at, released_inputs, releases_input, resets_spent, releases}
-use Rattle.controller_model.specs.Meeting.{is_deleting, has_emptied, up_ports, default_branches, ends_meeting, causes_in_estab, causes, may_clear, clears_of, clears_port, clears, done}
-use Rattle.controller_model.specs.Changes.{takes_changes}
+use Rattle.world_model.specs.Controller.{Acted, Linked, port_key, linked_at, ports_of, with_desk, with_linked, default_channel, default_end, default_home}
+use Rattle.world_model.specs.Asking.{asks, asks_next}
+use Rattle.world_model.specs.Resets.{begins, node_resets}
+use Rattle.world_model.specs.Performing.{works, works_as}
+use Rattle.world_model.specs.Joins.{Join, end_le, join_to, joins_at, released_inputs, releases_input, resets_spent, releases}
+use Rattle.world_model.specs.Meeting.{is_deleting, has_emptied, up_ports, default_branches, ends_meeting, causes_in_estab, causes, may_clear, clears_of, clears_port, clears, done}
+use Rattle.world_model.specs.Changes.{takes_changes}
 use Rattle.controller_facts.specs.Sound.{IsShutLinked}
 use Rattle.controller_facts.proofs.Laws.{has_ports, moves_sound}
 use Rattle.controller_facts.proofs.Performing.{ports_linked}
@@ -51,7 +51,7 @@ use Rattle.controller_law.proofs.Settling.{answered_fits, releases_fits}
 use Rattle.controller_law.proofs.Saying.{sent_desk}
 use Rattle.controller_law.proofs.Steady.{Steady, asks_steady}
 use Rattle.controller_law.proofs.Whole.{Whole, holds_of, whole_of, asks_whole}
-use Rattle.switch_model.specs.Switch.{Switch}
+use Rattle.world_model.specs.Switch.{Switch}
 use Rattle.input_steps.specs.Asking.{CanEach, MayAsk}
 use Rattle.input_steps.specs.Meeting.{is_none_left, met_after, answered_part}
 use Rattle.input_steps.specs.Part.{Part, part_at, Leads}

@@ -16,15 +16,15 @@ use Rattle.crossbar_model.specs.Crossbar.{input_of, queue_of}
 use Rattle.link_model.specs.declared.record.Refusal.{Refusal}
 use Rattle.ordered_lists.proofs.Parts.{IsPart, left, part_whole}
 use Rattle.port_facts.proofs.Keyed.{by_eq}
-use Rattle.switch_model.specs.Switch as switches
-use Rattle.switch_model.specs.Switch.{Switch, control_port}
-use Rattle.switch_model.specs.Conduct as conduct
-use Rattle.controller_model.specs.Controller.{default_channel, free_slots}
-use Rattle.controller_model.specs.Cells.{same_channel, cell_comes}
-use Rattle.controller_model.specs.Packets.{inject_refusal, injected}
-use Rattle.controller_model.specs.Resets.{node_restarts}
-use Rattle.controller_model.specs.Changes.{change_comes}
-use Rattle.controller_model.specs.Ticks.{ticks}
+use Rattle.world_model.specs.Switch as switches
+use Rattle.world_model.specs.Switch.{Switch, control_port}
+use Rattle.world_model.specs.Conduct as conduct
+use Rattle.world_model.specs.Controller.{default_channel, free_slots}
+use Rattle.world_model.specs.Cells.{same_channel, cell_comes}
+use Rattle.world_model.specs.Packets.{inject_refusal, injected}
+use Rattle.world_model.specs.Resets.{node_restarts}
+use Rattle.world_model.specs.Changes.{change_comes}
+use Rattle.world_model.specs.Ticks.{ticks}
 use Rattle.world_model.specs.declared.event.Event.{Event}
 use Rattle.world_model.specs.declared.event.Event.TheVariants.{Inject, Carry, Lose, Tick, TickSwitch, Restart, RestartSwitch, Forge, Route}
 use Rattle.world_model.specs.declared.link.LinkEnd.{LinkEnd}
@@ -52,7 +52,7 @@ use Rattle.ordered_lists.specs.Ordered.{Every}
 use Rattle.crossbar_model.specs.Channels.{IsLinkPort}
 use Rattle.port_model.specs.Setup.{Setup}
 use Rattle.port_facts.specs.Port.{IsLabelEnd}
-use Rattle.controller_model.specs.Controller.{Acted}
+use Rattle.world_model.specs.Controller.{Acted}
 use Rattle.controller_facts.specs.Inputs.{CellComes}
 use Rattle.controller_facts.proofs.Laws.{input_goes}
 use Rattle.controller_law.proofs.Whole.{Whole}

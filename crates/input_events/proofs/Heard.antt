@@ -29,9 +29,9 @@ use Rattle.branch_line.specs.Words.{ToSwitch, ControllerGreets}
 use Rattle.branch_line.specs.Line.{Line}
 use Rattle.branch_line.specs.Law.{IsDrawn, NamesDrawn, HasDrawn, IsReached}
 use Rattle.branch_line.proofs.Drawn.{row_drawn}
-use Rattle.controller_model.specs.Controller.{Controller, default_channel}
-use Rattle.controller_model.specs.Cells.{same_channel}
-use Rattle.switch_model.specs.Switch as switches
+use Rattle.world_model.specs.Controller.{Controller, default_channel}
+use Rattle.world_model.specs.Cells.{same_channel}
+use Rattle.world_model.specs.Switch as switches
 use Rattle.world_model.specs.Ways.{gsmp_of, gsmp_under, told}
 use Rattle.shown_cells.specs.Seen.{Seen, Nothing, Word, Unknown}
 use Rattle.shown_cells.proofs.Shows.{First, no_word, a_word, first_of}

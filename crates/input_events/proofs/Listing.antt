@@ -17,9 +17,9 @@ use Rattle.gsmp_wire.specs.declared.rows.PortRow.{PortRow}
 use Rattle.ordered_lists.specs.Ordered.{Every, InOrder}
 use Rattle.ordered_lists.proofs.Every.{every_all, every_map}
 use Rattle.keyed_lists.specs.Keyed.{at}
-use Rattle.desk_model.specs.Desk.{Standing, last_transaction}
-use Rattle.desk_model.specs.Messages.{is_up, message_of}
-use Rattle.desk_model.specs.Answers.{without_request}
+use Rattle.port_model.specs.Desk.{Standing, last_transaction}
+use Rattle.port_model.specs.Messages.{is_up, message_of}
+use Rattle.port_model.specs.DeskAnswers.{without_request}
 use Rattle.port_model.specs.Setup.{Setup}
 use Rattle.port_facts.specs.Port.{setup_port, IsLinked, IsLabelEnd, empties_control, empties_port}
 use Rattle.branch_line.specs.Line.{Meeting, Listing, Emptying, Met, MetAndAsked, Line}
@@ -27,15 +27,15 @@ use Rattle.branch_line.specs.Asking.{has_met}
 use Rattle.branch_line.specs.Law.{AsksFirst, IsReached}
 use Rattle.branch_line.proofs.First.{always_first}
 use Rattle.branch_line.proofs.Reached.{holds_reached}
-use Rattle.controller_model.specs.Controller.{Acted, Linked, ports_of, with_desk}
-use Rattle.controller_model.specs.Meeting.{up_ports}
+use Rattle.world_model.specs.Controller.{Acted, Linked, ports_of, with_desk}
+use Rattle.world_model.specs.Meeting.{up_ports}
 use Rattle.controller_facts.specs.Sound.{linked_setup}
 use Rattle.controller_facts.proofs.Laws.{has_ports}
 use Rattle.controller_facts.proofs.Performing.{ports_linked}
 use Rattle.controller_law.proofs.Whole.{Whole}
-use Rattle.switch_model.specs.declared.port.PortState.{PortState}
-use Rattle.switch_model.specs.Answers.{row_of}
-use Rattle.switch_model.specs.Switch.{Switch, control_port, numbers_of}
+use Rattle.world_model.specs.declared.port.PortState.{PortState}
+use Rattle.world_model.specs.Answers.{row_of}
+use Rattle.world_model.specs.Switch.{Switch, control_port, numbers_of}
 use Rattle.input_views.specs.Shown.{before_of, behind_of, IsDeleteAll, PhaseShows}
 use Rattle.input_steps.specs.Asking.{IsReadable}
 use Rattle.input_steps.specs.Meeting.{AreDistinct, Untouched, MayEmpty, IsAround}

@@ -25,10 +25,10 @@ use Rattle.port_model.specs.Setup.{control_end}
 use Rattle.port_model.specs.Grants.{Grant}
 use Rattle.port_facts.proofs.Keyed.{on_both, on_each}
 use Rattle.branch_line.specs.Line.{Line}
-use Rattle.switch_model.specs.Switch.{Switch}
-use Rattle.controller_model.specs.Controller.{Controller, Acted, free_slots, default_channel, default_home}
-use Rattle.controller_model.specs.Sending.{with_cells, sends, sends_control}
-use Rattle.controller_model.specs.Packets.{is_control, sends_next, goes_by, grant_by, forwarded, routes}
+use Rattle.world_model.specs.Switch.{Switch}
+use Rattle.world_model.specs.Controller.{Controller, Acted, free_slots, default_channel, default_home}
+use Rattle.world_model.specs.Sending.{with_cells, sends, sends_control}
+use Rattle.world_model.specs.Packets.{is_control, sends_next, goes_by, grant_by, forwarded, routes}
 use Rattle.shown_cells.proofs.Shows.{shows_behind}
 use Rattle.shown_cells.proofs.Made.{extends_made, unmade_packet}
 use Rattle.input_views.specs.Words.{erased, seen_request}

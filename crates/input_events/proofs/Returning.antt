@@ -18,7 +18,7 @@ use Rattle.link_model.specs.declared.record.Layer.TheVariants.{Gsmp}
 use Rattle.refusal_names.specs.Names.{gsmp_refusal}
 use Rattle.frame_model.specs.Frame.{octets_of, payload_in, last_mark, tested_by}
 use Rattle.frame_model.specs.Reassembly.{Taken, taken}
-use Rattle.desk_model.specs.Answers.{Answered, Unknown, Done, Ports, Failed, answered, after_answer}
+use Rattle.port_model.specs.DeskAnswers.{Answered, Unknown, Done, Ports, Failed, answered, after_answer}
 use Rattle.port_model.specs.Setup.{Setup}
 use Rattle.port_model.specs.Saying.{closes}
 use Rattle.port_model.specs.Joins as port_joins
@@ -29,13 +29,13 @@ use Rattle.port_facts.proofs.Keyed.{on_both}
 use Rattle.port_facts.proofs.Rules.{done_goes}
 use Rattle.port_facts.proofs.Steps.{steps_to}
 use Rattle.port_facts.proofs.Steps as steps_of
-use Rattle.controller_model.specs.Controller.{Acted, Linked, free_slots, linked_at, ports_of, note, with_linked, with_desk, default_channel, default_end, default_home}
-use Rattle.controller_model.specs.Asking.{asks}
-use Rattle.controller_model.specs.Cells.{same_channel, ForGsmp, after_test, ends_frame, after_cell, takes_cell, taker_at, port_on, on_link, cell_comes}
-use Rattle.controller_model.specs.Gsmp.{told, gsmp_holds}
-use Rattle.controller_model.specs.Joins.{Join, join_of, parts, releases_join, releases_input, released_inputs, resets_spent, releases}
-use Rattle.controller_model.specs.Meeting.{up_ports, default_branches, ends_meeting, has_emptied, port_of, tells_port, causes_in_estab, causes, may_clear, clears_of, clears_port, clears, done, answers_desk, answer_comes}
-use Rattle.controller_model.specs.Resets.{begins}
+use Rattle.world_model.specs.Controller.{Acted, Linked, free_slots, linked_at, ports_of, note, with_linked, with_desk, default_channel, default_end, default_home}
+use Rattle.world_model.specs.Asking.{asks}
+use Rattle.world_model.specs.Cells.{same_channel, ForGsmp, after_test, ends_frame, after_cell, takes_cell, taker_at, port_on, on_link, cell_comes}
+use Rattle.world_model.specs.Gsmp.{told, gsmp_holds}
+use Rattle.world_model.specs.Joins.{Join, join_of, parts, releases_join, releases_input, released_inputs, resets_spent, releases}
+use Rattle.world_model.specs.Meeting.{up_ports, default_branches, ends_meeting, has_emptied, port_of, tells_port, causes_in_estab, causes, may_clear, clears_of, clears_port, clears, done, answers_desk, answer_comes}
+use Rattle.world_model.specs.Resets.{begins}
 use Rattle.controller_views.specs.Lifted.{Growing}
 use Rattle.controller_views.proofs.Growing.{grow_self, grow_on, grow_fold, node_resets_grow, asks_grow, at_port_grow}
 use Rattle.input_steps.proofs.Resets.{note_still}

@@ -15,20 +15,20 @@ use Rattle.gsmp_wire.specs.declared.message.Message.{Message}
 use Rattle.gsmp_wire.specs.declared.message.Message.TheVariants.{AllPorts}
 use Rattle.ordered_lists.specs.Ordered.{Every, InOrder}
 use Rattle.crossbar_model.specs.Crossbar.{queue_of}
-use Rattle.switch_model.specs.Switch.{control_port, numbers_of}
+use Rattle.world_model.specs.Switch.{control_port, numbers_of}
 use Rattle.gsmp_reading.specs.Said.{IsSaid}
-use Rattle.desk_model.specs.Desk.{Standing}
-use Rattle.desk_model.specs.Messages.{is_up}
+use Rattle.port_model.specs.Desk.{Standing}
+use Rattle.port_model.specs.Messages.{is_up}
 use Rattle.port_model.specs.Setup.{Setup}
 use Rattle.port_facts.specs.Port.{IsShaped}
-use Rattle.switch_model.specs.declared.port.PortState.{PortState}
-use Rattle.switch_model.specs.Answers.{row_of}
+use Rattle.world_model.specs.declared.port.PortState.{PortState}
+use Rattle.world_model.specs.Answers.{row_of}
 use Rattle.link_model.specs.declared.frames.Frame.{Frame}
 use Rattle.link_model.specs.Ledger.{payload_of}
 use Rattle.frame_model.specs.Frame.{next_mark}
-use Rattle.controller_model.specs.Controller.{Controller, ports_of, default_channel}
-use Rattle.controller_model.specs.Cells.{same_channel}
-use Rattle.controller_model.specs.Packets.{is_control}
+use Rattle.world_model.specs.Controller.{Controller, ports_of, default_channel}
+use Rattle.world_model.specs.Cells.{same_channel}
+use Rattle.world_model.specs.Packets.{is_control}
 use Rattle.net_types.specs.declared.node.Place.{Place}
 use Rattle.net_types.specs.declared.node.Place.TheVariants.{Down, Up, Out}
 use Rattle.world_model.specs.declared.event.Event.{Event}
@@ -40,8 +40,8 @@ use Rattle.world_model.specs.Places.{queue_at}
 use Rattle.world_model.specs.Ways.{gsmp_under, copy_of}
 use Rattle.shown_cells.specs.Seen.{IsUnmade}
 use Rattle.input_steps.specs.Hearing.{IsEnded, LeadsAway, PassesTrue}
-use Rattle.switch_model.specs.Switch as switches
-use Rattle.controller_model.specs.Controller as controllers
+use Rattle.world_model.specs.Switch as switches
+use Rattle.world_model.specs.Controller as controllers
 use Rattle.input_premises.specs.Steady.{IsSteady}
 use Rattle.world_views.specs.Between.{EachSite, setups_of, IsInput, HasInputLine}
 

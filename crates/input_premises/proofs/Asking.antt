@@ -14,13 +14,13 @@ use Rattle.gsmp_wire.specs.declared.request.Request.TheVariants.{AddBranch, Move
 use Rattle.crossbar_model.specs.Crossbar.{same_end}
 use Rattle.ordered_lists.specs.Ordered.{Every}
 use Rattle.ordered_lists.proofs.Every.{every_map, every_right}
-use Rattle.desk_model.specs.Requests.{input_of, is_delete_all, withdraws}
-use Rattle.desk_model.specs.Desk.{Desk, Standing, all_on, asked, is_led_home, message_at, last_transaction}
+use Rattle.port_model.specs.Requests.{input_of, is_delete_all, withdraws}
+use Rattle.port_model.specs.Desk.{Desk, Standing, all_on, asked, is_led_home, message_at, last_transaction}
 use Rattle.port_model.specs.Setup.{Setup, home_of}
 use Rattle.port_facts.specs.Port.{IsShaped, asks_ports, empties_control, empties_port, opens_input, opens_output, leads_label, leads_grant, joins_label, parts_label, frees_label}
-use Rattle.controller_model.specs.Controller.{Acted, with_desk, default_channel}
-use Rattle.controller_model.specs.Asking.{asks_next, asks, takes_back}
-use Rattle.controller_model.specs.Resets.{node_resets}
+use Rattle.world_model.specs.Controller.{Acted, with_desk, default_channel}
+use Rattle.world_model.specs.Asking.{asks_next, asks, takes_back}
+use Rattle.world_model.specs.Resets.{node_resets}
 use Rattle.controller_law.specs.Order.{IsApart, IsLinkInput}
 use Rattle.controller_law.proofs.Lists.{any_each}
 use Rattle.controller_law.proofs.Desk.{asked_all}

@@ -13,9 +13,9 @@ use Rattle.ordered_lists.proofs.Every.{every_map}
 use Rattle.port_model.specs.Setup.{Setup}
 use Rattle.port_facts.specs.Port.{IsLabelEnd, parts_label}
 use Rattle.port_facts.proofs.Keyed.{on_both}
-use Rattle.controller_model.specs.Controller.{Acted, Linked, note}
-use Rattle.controller_model.specs.Joins.{Join, joins_of, output_of}
-use Rattle.controller_model.specs.Changes.{is_changed, changed_joins, takes_join_back, begins_change, takes_change}
+use Rattle.world_model.specs.Controller.{Acted, Linked, note}
+use Rattle.world_model.specs.Joins.{Join, joins_of, output_of}
+use Rattle.world_model.specs.Changes.{is_changed, changed_joins, takes_join_back, begins_change, takes_change}
 use Rattle.controller_facts.proofs.Moves.{routing, moves_to, HasPorts}
 use Rattle.controller_facts.proofs.Joining.{IsJoin, joins_are, join_input, join_output, every_filter}
 use Rattle.controller_facts.proofs.Laws.{has_ports, moves_sound}

@@ -11,9 +11,9 @@ use Rattle.crossbar_model.specs.Channels.{IsLinkPort}
 use Rattle.gsmp_wire.specs.declared.request.Request.{Request}
 use Rattle.gsmp_wire.specs.declared.request.Request.TheVariants.{AddBranch, MoveBranch, DeleteTree, VerifyTree, DeleteAll, PortManagement, AllPorts}
 use Rattle.ordered_lists.specs.Ordered.{Every}
-use Rattle.desk_model.specs.Requests.{is_delete_all}
-use Rattle.desk_model.specs.Desk.{Standing, all_on}
-use Rattle.desk_model.specs.Answers.{Done, after_answer}
+use Rattle.port_model.specs.Requests.{is_delete_all}
+use Rattle.port_model.specs.Desk.{Standing, all_on}
+use Rattle.port_model.specs.DeskAnswers.{Done, after_answer}
 use Rattle.port_model.specs.Setup.{Setup}
 use Rattle.port_model.specs.Answers as port_answers
 use Rattle.port_model.specs.Resets.{cleared}
@@ -21,11 +21,11 @@ use Rattle.port_facts.specs.Port.{IsDefaultEnd, IsShaped, empties_control, empti
 use Rattle.port_facts.proofs.Found.{find_every}
 use Rattle.port_facts.proofs.Keyed.{on_each}
 use Rattle.port_facts.proofs.Rules.{done_goes}
-use Rattle.controller_model.specs.Controller.{Acted, Linked, linked_at, ports_of, with_linked, with_desk, default_end, default_home}
-use Rattle.controller_model.specs.Asking.{asks}
-use Rattle.controller_model.specs.Resets.{begins}
-use Rattle.controller_model.specs.Joins.{releases}
-use Rattle.controller_model.specs.Meeting.{ends_meeting, has_emptied, is_clearing, port_of, tells_port, causes_in_estab, causes, may_clear, clears_of, clears_port, clears}
+use Rattle.world_model.specs.Controller.{Acted, Linked, linked_at, ports_of, with_linked, with_desk, default_end, default_home}
+use Rattle.world_model.specs.Asking.{asks}
+use Rattle.world_model.specs.Resets.{begins}
+use Rattle.world_model.specs.Joins.{releases}
+use Rattle.world_model.specs.Meeting.{ends_meeting, has_emptied, is_clearing, port_of, tells_port, causes_in_estab, causes, may_clear, clears_of, clears_port, clears}
 use Rattle.controller_facts.proofs.Moves.{IsShapedStanding, found_at_own}
 use Rattle.controller_law.specs.Order.{IsClearingAt, IsOfClearing}
 use Rattle.controller_law.proofs.Ordering.{of_input, for_default}

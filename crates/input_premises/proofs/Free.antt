@@ -19,18 +19,18 @@ use Rattle.link_model.specs.declared.record.Cause.TheVariants.{PoolFull}
 use Rattle.link_model.specs.Notes.{noted}
 use Rattle.frame_model.specs.Sending.{Sent}
 use Rattle.frame_model.specs.Frame.{frame_cells, made}
-use Rattle.desk_model.specs.Requests.{is_on, is_delete_all, withdraws}
-use Rattle.desk_model.specs.Desk.{Desk, Standing, all_on, asked, is_led_home, message_at, last_transaction}
+use Rattle.port_model.specs.Requests.{is_on, is_delete_all, withdraws}
+use Rattle.port_model.specs.Desk.{Desk, Standing, all_on, asked, is_led_home, message_at, last_transaction}
 use Rattle.port_model.specs.declared.action.Action.{Action}
 use Rattle.port_model.specs.declared.action.Action.TheVariants as actions
 use Rattle.port_model.specs.declared.action.Action.TheVariants.{Say, Ask, Note, CutChain, TakeBack, Withdraw}
 use Rattle.port_model.specs.Setup.{Setup, home_of}
 use Rattle.port_facts.proofs.Keyed.{on_both}
-use Rattle.controller_model.specs.Controller.{Controller, Acted, Linked, linked_at, free_slots, with_desk, default_channel, default_home}
-use Rattle.controller_model.specs.Sending.{with_cells, sends}
-use Rattle.controller_model.specs.Asking.{asks_next, asks, takes_back}
-use Rattle.controller_model.specs.Resets.{cuts_of, node_resets}
-use Rattle.controller_model.specs.Performing.{does, does_in_estab}
+use Rattle.world_model.specs.Controller.{Controller, Acted, Linked, linked_at, free_slots, with_desk, default_channel, default_home}
+use Rattle.world_model.specs.Sending.{with_cells, sends}
+use Rattle.world_model.specs.Asking.{asks_next, asks, takes_back}
+use Rattle.world_model.specs.Resets.{cuts_of, node_resets}
+use Rattle.world_model.specs.Performing.{does, does_in_estab}
 use Rattle.controller_law.proofs.Lists.{any_more, any_filter}
 use Rattle.controller_law.proofs.Holding.{node_closed}
 

@@ -10,8 +10,8 @@ use Rattle.gsmp_wire.specs.declared.request.Request.{Request}
 use Rattle.link_model.specs.declared.record.Record.TheVariants.{Part}
 use Rattle.ordered_lists.specs.Ordered.{Every}
 use Rattle.ordered_lists.proofs.Every.{every_map, every_map2, every_mapped}
-use Rattle.desk_model.specs.Requests.{leads_home}
-use Rattle.desk_model.specs.Desk.{Desk, on_input}
+use Rattle.port_model.specs.Requests.{leads_home}
+use Rattle.port_model.specs.Desk.{Desk, on_input}
 use Rattle.port_model.specs.declared.action.Action.{Action}
 use Rattle.port_model.specs.declared.action.Action.TheVariants as actions
 use Rattle.port_model.specs.declared.action.Action.TheVariants.{Say, Ask, Note, CutChain, TakeBack, Withdraw}
@@ -29,10 +29,10 @@ use Rattle.port_facts.proofs.Found.{filter_passes}
 use Rattle.port_facts.proofs.Instances.{parted_gave, given_back_gave}
 use Rattle.port_facts.proofs.Steps as steps_of
 use Rattle.port_facts.proofs.Steps.{steps_to}
-use Rattle.controller_model.specs.Controller.{Acted, Linked, linked_at, ports_of, note}
-use Rattle.controller_model.specs.Resets.{begins, with_work}
-use Rattle.controller_model.specs.Performing.{performs_in_estab}
-use Rattle.controller_model.specs.Joins.{Join, joins_of, join_of, parts, releases_input, released_inputs, resets_spent}
+use Rattle.world_model.specs.Controller.{Acted, Linked, linked_at, ports_of, note}
+use Rattle.world_model.specs.Resets.{begins, with_work}
+use Rattle.world_model.specs.Performing.{performs_in_estab}
+use Rattle.world_model.specs.Joins.{Join, joins_of, join_of, parts, releases_input, released_inputs, resets_spent}
 use Rattle.controller_facts.proofs.Moves.{HasPorts, found_setup, found_at_own}
 use Rattle.controller_facts.proofs.Joining.{IsJoin, joins_are, join_input, every_filter}
 use Rattle.controller_facts.proofs.Laws.{has_ports}

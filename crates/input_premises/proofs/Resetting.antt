@@ -13,7 +13,7 @@ use Rattle.crossbar_model.specs.Channels.{IsLinkPort}
 use Rattle.ordered_lists.specs.Ordered.{Every}
 use Rattle.ordered_lists.proofs.Every.{every_map, every_map2}
 use Rattle.keyed_lists.specs.Keyed.{at}
-use Rattle.desk_model.specs.Desk.{all_on}
+use Rattle.port_model.specs.Desk.{all_on}
 use Rattle.port_model.specs.declared.action.Action.{Action}
 use Rattle.port_model.specs.declared.action.Action.TheVariants as actions
 use Rattle.port_model.specs.declared.action.Action.TheVariants.{Say, Ask, Note, CutChain, TakeBack, Withdraw}
@@ -25,9 +25,9 @@ use Rattle.port_model.specs.Resets.{closing, withdrawing_in, withdrawing_of, wit
 use Rattle.port_facts.specs.Port.{setup_port, IsAction, parts_label}
 use Rattle.port_facts.proofs.Keyed.{at_key, at_every, at_put_same, every_more}
 use Rattle.port_facts.proofs.Joins.{resets_kept}
-use Rattle.controller_model.specs.Controller.{Acted, Linked, port_key, linked_at}
-use Rattle.controller_model.specs.Resets.{begins, with_work}
-use Rattle.controller_model.specs.Performing.{does, does_in_estab}
+use Rattle.world_model.specs.Controller.{Acted, Linked, port_key, linked_at}
+use Rattle.world_model.specs.Resets.{begins, with_work}
+use Rattle.world_model.specs.Performing.{does, does_in_estab}
 use Rattle.controller_facts.proofs.Moves.{by_reset, Found, HasPorts, found_setup, found_at_own, found_port, begun}
 use Rattle.controller_facts.proofs.Laws.{has_ports}
 use Rattle.controller_law.specs.Order.{lends_at, is_lent}

@@ -21,7 +21,7 @@ use Rattle.link_model.specs.declared.record.Cause.TheVariants.{PoolFull}
 use Rattle.link_model.specs.Notes.{noted}
 use Rattle.frame_model.specs.Sending.{Sent}
 use Rattle.frame_model.specs.Frame.{frame_cells, made}
-use Rattle.desk_model.specs.Desk.{Desk, asked, is_led_home, message_at, last_transaction, sent_again}
+use Rattle.port_model.specs.Desk.{Desk, asked, is_led_home, message_at, last_transaction, sent_again}
 use Rattle.port_model.specs.declared.action.Action.{Action}
 use Rattle.port_model.specs.declared.action.Action.TheVariants as actions
 use Rattle.port_model.specs.declared.action.Action.TheVariants.{Say, Ask, Note, CutChain, TakeBack, Withdraw}
@@ -32,15 +32,15 @@ use Rattle.port_model.specs.Joins as port_joins
 use Rattle.port_model.specs.Saying.{closes}
 use Rattle.port_model.specs.Answers as port_answers
 use Rattle.port_facts.proofs.Keyed.{on_both}
-use Rattle.controller_model.specs.Controller.{Controller, Acted, Linked, linked_at, ports_of, with_linked, with_desk, note, free_slots, default_channel, default_end, default_home}
-use Rattle.controller_model.specs.Sending.{with_cells, sends, sends_control}
-use Rattle.controller_model.specs.Asking.{sends_request, asks_next, asks, takes_back}
-use Rattle.controller_model.specs.Resets.{begins, with_work, cuts_of, resets_gsmp, port_restarts, node_resets}
-use Rattle.controller_model.specs.Performing.{does, does_in_estab, resets_of, performs, performs_in_estab, Rule, works, at_port}
-use Rattle.controller_model.specs.Joins.{Join, join_of, output_of, join_for, may_join, parts, releases_join, releases_input, released_inputs, resets_spent, releases, enters_grant, enters_label, joins, tries_label, label_on, tries_join}
-use Rattle.controller_model.specs.Meeting.{port_of, tells_port, up_ports, default_branches, ends_meeting, has_emptied, behind_delete_all, causes_in_estab, causes, may_clear, clears_of, clears_port, clears}
-use Rattle.controller_model.specs.Changes.{changed_joins, takes_join_back, begins_change}
-use Rattle.controller_model.specs.Ticks.{sends_again, ticks_port}
+use Rattle.world_model.specs.Controller.{Controller, Acted, Linked, linked_at, ports_of, with_linked, with_desk, note, free_slots, default_channel, default_end, default_home}
+use Rattle.world_model.specs.Sending.{with_cells, sends, sends_control}
+use Rattle.world_model.specs.Asking.{sends_request, asks_next, asks, takes_back}
+use Rattle.world_model.specs.Resets.{begins, with_work, cuts_of, resets_gsmp, port_restarts, node_resets}
+use Rattle.world_model.specs.Performing.{does, does_in_estab, resets_of, performs, performs_in_estab, Rule, works, at_port}
+use Rattle.world_model.specs.Joins.{Join, join_of, output_of, join_for, may_join, parts, releases_join, releases_input, released_inputs, resets_spent, releases, enters_grant, enters_label, joins, tries_label, label_on, tries_join}
+use Rattle.world_model.specs.Meeting.{port_of, tells_port, up_ports, default_branches, ends_meeting, has_emptied, behind_delete_all, causes_in_estab, causes, may_clear, clears_of, clears_port, clears}
+use Rattle.world_model.specs.Changes.{changed_joins, takes_join_back, begins_change}
+use Rattle.world_model.specs.Ticks.{sends_again, ticks_port}
 use Rattle.port_model.specs.Labels.{Label}
 use Rattle.port_model.specs.Ticks as port_ticks
 use Rattle.input_steps.proofs.Resets.{still_fold, restarts_still}

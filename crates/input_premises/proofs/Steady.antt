@@ -1,7 +1,7 @@
 -- what is so of a controller between events gives all that its calls need
 
 use Rattle.std.proofs.Common.{inr}
-use Rattle.controller_model.specs.Controller.{Acted}
+use Rattle.world_model.specs.Controller.{Acted}
 use Rattle.controller_law.proofs.Whole.{Whole}
 use Rattle.input_premises.specs.Read.{AreRead}
 use Rattle.input_premises.specs.Steady.{IsSteady}

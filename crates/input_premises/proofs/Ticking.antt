@@ -17,18 +17,18 @@ use Rattle.gsmp_wire.specs.declared.message.Message.TheVariants.{Adjacency}
 use Rattle.gsmp_wire.specs.declared.request.Request.TheVariants.{AllPorts}
 use Rattle.gsmp_wire.specs.declared.rows.PortRow.{PortRow}
 use Rattle.ordered_lists.specs.Ordered.{Every}
-use Rattle.desk_model.specs.Desk.{Desk, Standing, empty_desk, last_transaction, sent_again}
+use Rattle.port_model.specs.Desk.{Desk, Standing, empty_desk, last_transaction, sent_again}
 use Rattle.port_model.specs.Setup.{Setup}
 use Rattle.port_model.specs.Ticks as port_ticks
 use Rattle.port_facts.specs.Port.{IsLabelEnd, IsPort, IsShaped}
 use Rattle.port_facts.proofs.Hearings.{ticks_goes}
-use Rattle.controller_model.specs.Controller.{Acted, Linked, ports_of, with_desk, default_channel}
-use Rattle.controller_model.specs.Sending.{says_gsmp}
-use Rattle.controller_model.specs.Resets.{begins}
-use Rattle.controller_model.specs.Joins.{inputs_at}
-use Rattle.controller_model.specs.Meeting.{meets}
-use Rattle.controller_model.specs.Gsmp.{answers, steps}
-use Rattle.controller_model.specs.Ticks.{ticks_port}
+use Rattle.world_model.specs.Controller.{Acted, Linked, ports_of, with_desk, default_channel}
+use Rattle.world_model.specs.Sending.{says_gsmp}
+use Rattle.world_model.specs.Resets.{begins}
+use Rattle.world_model.specs.Joins.{inputs_at}
+use Rattle.world_model.specs.Meeting.{meets}
+use Rattle.world_model.specs.Gsmp.{answers, steps}
+use Rattle.world_model.specs.Ticks.{ticks_port}
 use Rattle.controller_facts.proofs.Moves.{ages, Found, HasPorts}
 use Rattle.controller_facts.proofs.Joining.{every_flat_map, each_there}
 use Rattle.controller_facts.proofs.Entering.{inputs_of_port}

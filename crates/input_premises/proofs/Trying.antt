@@ -13,7 +13,7 @@ use Rattle.ipv4_forward.specs.Best.{best}
 use Rattle.gsmp_wire.specs.declared.request.Request.TheVariants.{MoveBranch}
 use Rattle.ordered_lists.specs.Ordered.{Every}
 use Rattle.keyed_lists.specs.Keyed.{at}
-use Rattle.desk_model.specs.Desk.{on_input, most_asked}
+use Rattle.port_model.specs.Desk.{on_input, most_asked}
 use Rattle.port_model.specs.Setup.{Setup, home_of}
 use Rattle.port_model.specs.Labels.{Label, Offered, label_number}
 use Rattle.port_model.specs.Grants.{Grant, ByController, grant_label, grant_for, is_by_controller}
@@ -24,11 +24,11 @@ use Rattle.port_facts.proofs.Keyed.{on_each, at_every, apart_at}
 use Rattle.port_facts.proofs.Found.{find_passes}
 use Rattle.port_facts.proofs.Instances.{joined_gave, lent_gave}
 use Rattle.port_facts.proofs.Rules.{and_first}
-use Rattle.controller_model.specs.Controller.{Acted, Linked, linked_at}
-use Rattle.controller_model.specs.Resets.{begins, with_work}
-use Rattle.controller_model.specs.Performing.{performs_in_estab}
-use Rattle.controller_model.specs.Joins.{Join, output_of, port_by, join_through, join_by, join_for, is_offered, may_join, enters_grant, enters_label, joins, tries_label, label_on, tries_join}
-use Rattle.controller_model.specs.Routes.{route_stays}
+use Rattle.world_model.specs.Controller.{Acted, Linked, linked_at}
+use Rattle.world_model.specs.Resets.{begins, with_work}
+use Rattle.world_model.specs.Performing.{performs_in_estab}
+use Rattle.world_model.specs.Joins.{Join, output_of, port_by, join_through, join_by, join_for, is_offered, may_join, enters_grant, enters_label, joins, tries_label, label_on, tries_join}
+use Rattle.world_model.specs.Routes.{route_stays}
 use Rattle.controller_facts.proofs.Moves.{Found, HasPorts, found_setup, found_at_own, found_port}
 use Rattle.controller_facts.proofs.Joining.{image_is}
 use Rattle.controller_facts.proofs.Entering.{is_offered_by, by_controller, OnPort, on_port, lends_labels}

@@ -13,8 +13,8 @@ use Rattle.crossbar_model.specs.Channels.{IsLinkPort}
 use Rattle.ordered_lists.specs.Ordered.{Every}
 use Rattle.ordered_lists.proofs.Every.{every_map}
 use Rattle.keyed_lists.specs.Keyed.{at, put}
-use Rattle.desk_model.specs.Requests.{is_delete_all}
-use Rattle.desk_model.specs.Desk.{Desk, Standing, all_on}
+use Rattle.port_model.specs.Requests.{is_delete_all}
+use Rattle.port_model.specs.Desk.{Desk, Standing, all_on}
 use Rattle.port_model.specs.declared.action.Action.{Action}
 use Rattle.port_model.specs.declared.action.Action.TheVariants as actions
 use Rattle.port_model.specs.declared.action.Action.TheVariants.{Say, Ask, Note, CutChain, TakeBack, Withdraw}
@@ -23,9 +23,9 @@ use Rattle.port_model.specs.Port.{Work, desk_with}
 use Rattle.port_facts.specs.Port.{setup_port, IsAction, parts_label}
 use Rattle.port_facts.proofs.Keyed.{at_every, at_put_same, every_more}
 use Rattle.port_facts.proofs.Steps.{Goes}
-use Rattle.controller_model.specs.Controller.{Acted, Linked, port_key, linked_at}
-use Rattle.controller_model.specs.Resets.{begins, with_work}
-use Rattle.controller_model.specs.Performing.{does, does_in_estab, performs, performs_in_estab, Rule}
+use Rattle.world_model.specs.Controller.{Acted, Linked, port_key, linked_at}
+use Rattle.world_model.specs.Resets.{begins, with_work}
+use Rattle.world_model.specs.Performing.{does, does_in_estab, performs, performs_in_estab, Rule}
 use Rattle.controller_facts.specs.Sound.{IsShutLinked}
 use Rattle.controller_facts.proofs.Moves.{by_rule, Found, HasPorts, found_setup, found_at_own, begun}
 use Rattle.controller_facts.proofs.Numbers.{worked_draws}

@@ -3,8 +3,8 @@
 use Rattle.std.specs.Prelude.{ℕ, ◌<◌, List}
 use Rattle.gsmp_wire.specs.declared.request.Request.{Request}
 use Rattle.gsmp_wire.specs.declared.rows.PortRow.{PortRow}
-use Rattle.desk_model.specs.Desk.{last_transaction}
-use Rattle.desk_model.specs.Messages.{message_of}
+use Rattle.port_model.specs.Desk.{last_transaction}
+use Rattle.port_model.specs.Messages.{message_of}
 use Rattle.port_model.specs.Setup.{Setup}
 use Rattle.port_facts.specs.Port.{IsShaped}
 use Rattle.input_steps.specs.Asking.{IsReadable}

@@ -5,7 +5,7 @@ use Rattle.gsmp_wire.specs.Range.{FitsRows}
 use Rattle.ordered_lists.specs.Ordered.{Every}
 use Rattle.port_model.specs.Setup.{Setup}
 use Rattle.std.specs.Prelude.{List}
-use Rattle.controller_model.specs.Controller.{Controller}
+use Rattle.world_model.specs.Controller.{Controller}
 use Rattle.controller_facts.specs.Sound.{IsSound}
 use Rattle.controller_law.specs.Order.{IsOrderly}
 use Rattle.controller_law.specs.Match.{IsMatched}

@@ -14,9 +14,9 @@ use Rattle.ordered_lists.specs.Ordered.{Every, InOrder}
 use Rattle.ordered_lists.proofs.Every.{every_map}
 use Rattle.ordered_lists.proofs.Parts.{IsPart, part_mapped}
 use Rattle.crossbar_model.specs.Crossbar.{same_end}
-use Rattle.desk_model.specs.Requests.{is_on}
-use Rattle.desk_model.specs.Desk.{Standing, asked, is_led_home, last_transaction}
-use Rattle.desk_model.specs.Messages.{message_of}
+use Rattle.port_model.specs.Requests.{is_on}
+use Rattle.port_model.specs.Desk.{Standing, asked, is_led_home, last_transaction}
+use Rattle.port_model.specs.Messages.{message_of}
 use Rattle.port_model.specs.declared.action.Action.{Action}
 use Rattle.port_model.specs.declared.action.Action.TheVariants.{Say, Ask, Note, CutChain, TakeBack, Withdraw, Reset}
 use Rattle.port_model.specs.Setup.{home_of}
@@ -24,11 +24,11 @@ use Rattle.port_model.specs.Port.{Work}
 use Rattle.port_model.specs.Resets.{resets}
 use Rattle.branch_line.specs.Line.{Other, Meeting, Listing, Emptying, Met, MetAndAsked, Line}
 use Rattle.branch_line.specs.Asking.{has_met}
-use Rattle.switch_model.specs.Switch.{Switch}
-use Rattle.controller_model.specs.Controller.{Acted, Linked, linked_at, with_desk, default_channel, default_home}
-use Rattle.controller_model.specs.Asking.{asks_next, asks, takes_back, withdraws_input}
-use Rattle.controller_model.specs.Resets.{begins, with_work, node_resets}
-use Rattle.controller_model.specs.Performing.{does, does_in_estab, resets_as, resets_of, performs, performs_in_estab, Rule, works_as, works, at_port}
+use Rattle.world_model.specs.Switch.{Switch}
+use Rattle.world_model.specs.Controller.{Acted, Linked, linked_at, with_desk, default_channel, default_home}
+use Rattle.world_model.specs.Asking.{asks_next, asks, takes_back, withdraws_input}
+use Rattle.world_model.specs.Resets.{begins, with_work, node_resets}
+use Rattle.world_model.specs.Performing.{does, does_in_estab, resets_as, resets_of, performs, performs_in_estab, Rule, works_as, works, at_port}
 use Rattle.input_views.specs.Words.{is_own, own_of, other_of, others_of}
 use Rattle.input_views.specs.Shown.{AskedShows, IsAllPorts, IsDeleteAll, PhaseShows}
 use Rattle.input_steps.specs.Part.{Part, part_at, Stands, Reaches, AnyLine, Leads}

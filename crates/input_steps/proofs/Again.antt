@@ -8,15 +8,15 @@ use Rattle.adjacency_table.specs.Side.{is_estab}
 use Rattle.gsmp_wire.specs.Layout.{octets_of}
 use Rattle.frame_model.specs.Frame.{frame_cells}
 use Rattle.ordered_lists.specs.Ordered.{Every, InOrder}
-use Rattle.desk_model.specs.Desk.{Desk, Standing, message_at, sent_again}
+use Rattle.port_model.specs.Desk.{Desk, Standing, message_at, sent_again}
 use Rattle.branch_line.specs.Words.{ToSwitch, Copy, OnInput, Elsewhere}
 use Rattle.branch_line.specs.Line.{Asked, Apart, Unasked, Stands as Standing_at, Answered, Line}
 use Rattle.branch_line.specs.Asking.{ask_again}
 use Rattle.branch_line.specs.Moves.{Move, AskAgain, AskOtherAgain, step}
-use Rattle.switch_model.specs.Switch.{Switch}
-use Rattle.controller_model.specs.Controller.{Acted, default_channel}
-use Rattle.controller_model.specs.Asking.{sends_request}
-use Rattle.controller_model.specs.Ticks.{sends_again}
+use Rattle.world_model.specs.Switch.{Switch}
+use Rattle.world_model.specs.Controller.{Acted, default_channel}
+use Rattle.world_model.specs.Asking.{sends_request}
+use Rattle.world_model.specs.Ticks.{sends_again}
 use Rattle.input_views.specs.Words.{own_request, type_of, is_own, own_of, other_of, others_of}
 use Rattle.input_views.specs.Shown.{AskedShows, ShowsRequests}
 use Rattle.input_steps.specs.Part.{Part, part_at, Stands, Reaches, AnyLine, Leads}

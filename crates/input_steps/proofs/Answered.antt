@@ -16,8 +16,8 @@ use Rattle.ordered_lists.specs.Ordered.{Every, InOrder}
 use Rattle.ordered_lists.proofs.Every.{every_map, every_left, every_right, every_join, every_mapped}
 use Rattle.ordered_lists.proofs.InOrder.{order_right, order_across}
 use Rattle.crossbar_model.specs.Crossbar.{same_end}
-use Rattle.desk_model.specs.Desk.{Desk, Standing}
-use Rattle.desk_model.specs.Answers.{is_of_type, without_request}
+use Rattle.port_model.specs.Desk.{Desk, Standing}
+use Rattle.port_model.specs.DeskAnswers.{is_of_type, without_request}
 use Rattle.branch_line.specs.Words as lines
 use Rattle.branch_line.specs.Words.{Request as LineRequest, OnInput, Elsewhere, message_type, Success, ToController, Answer}
 use Rattle.branch_line.specs.Line.{Asked, Apart, Unasked, Stands as Standing_at, Answered, Other, Meeting, Listing, Emptying, Met, MetAndAsked, Line, Controller}

@@ -21,14 +21,14 @@ use Rattle.ordered_lists.proofs.Every.{every_map, every_join}
 use Rattle.ordered_lists.proofs.InOrder.{order_join, order_mapped}
 use Rattle.ordered_lists.proofs.Parts.{IsPart, part_filtered, every_part, order_part}
 use Rattle.crossbar_model.specs.Crossbar.{same_end}
-use Rattle.desk_model.specs.Desk.{Desk, Standing, asked, message_at}
-use Rattle.desk_model.specs.Messages.{message_of}
+use Rattle.port_model.specs.Desk.{Desk, Standing, asked, message_at}
+use Rattle.port_model.specs.Messages.{message_of}
 use Rattle.branch_line.specs.Words as lines
 use Rattle.branch_line.specs.Words.{ToSwitch, Copy, OnInput, Elsewhere}
 use Rattle.branch_line.specs.Line.{Asked, Apart, Unasked, Stands as Standing_at, Answered, Other, Meeting, Listing, Emptying, Met, MetAndAsked, Controller, Line}
 use Rattle.branch_line.specs.Asking.{has_met, deletes_all, ask}
 use Rattle.branch_line.specs.Moves.{Ask, AskAgain, AskOtherAgain, step}
-use Rattle.controller_model.specs.Controller.{default_channel}
+use Rattle.world_model.specs.Controller.{default_channel}
 use Rattle.shown_cells.specs.Seen.{Seen, Word}
 use Rattle.input_views.specs.Words.{own_request, type_of, word_of, is_own, own_of, other_of, others_of, seen_request, seen_on_gsmp, erased}
 use Rattle.input_views.specs.Shown.{controller_of, switch_of, AskedShows, PhaseShows, ShowsRequests}

@@ -20,8 +20,8 @@ use Rattle.crossbar_model.specs.Channels.{end_cmp}
 use Rattle.crossbar_model.specs.Crossbar.{Branches, output_of, new_branch, same_end}
 use Rattle.gsmp_wire.specs.declared.request.Request.{Request}
 use Rattle.gsmp_wire.specs.declared.request.Request.TheVariants.{AddBranch, MoveBranch, DeleteTree, VerifyTree, DeleteAll, PortManagement, AllPorts}
-use Rattle.switch_model.specs.Requests.{Changed, added_by, moved_by, ended_by, ended, all_ended, inputs_on, cleared, branches_after}
-use Rattle.switch_model.specs.Failures.{is_busy, lacks_branch}
+use Rattle.world_model.specs.Requests.{Changed, added_by, moved_by, ended_by, ended, all_ended, inputs_on, cleared, branches_after}
+use Rattle.world_model.specs.Failures.{is_busy, lacks_branch}
 use Rattle.branch_line.specs.Words as lines
 use Rattle.branch_line.specs.Switch.{branch_after}
 use Rattle.input_views.specs.Words.{word_of}

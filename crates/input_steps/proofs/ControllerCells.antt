@@ -21,11 +21,11 @@ use Rattle.crossbar_model.specs.Crossbar.{queue_of, popped}
 use Rattle.branch_line.specs.Words.{ToController}
 use Rattle.branch_line.specs.Line.{Line}
 use Rattle.branch_line.specs.Moves.{CarryToController, carry_to_controller}
-use Rattle.switch_model.specs.Switch.{Switch, control_port}
-use Rattle.controller_model.specs.Controller.{Acted, default_channel, free_slots}
-use Rattle.controller_model.specs.Cells.{same_channel, ForGsmp, after_test, ends_frame, after_cell, takes_cell, cell_comes, taker_at, port_on, on_link}
-use Rattle.controller_model.specs.Gsmp.{gsmp_holds}
-use Rattle.controller_model.specs.Controller.{linked_at}
+use Rattle.world_model.specs.Switch.{Switch, control_port}
+use Rattle.world_model.specs.Controller.{Acted, default_channel, free_slots}
+use Rattle.world_model.specs.Cells.{same_channel, ForGsmp, after_test, ends_frame, after_cell, takes_cell, cell_comes, taker_at, port_on, on_link}
+use Rattle.world_model.specs.Gsmp.{gsmp_holds}
+use Rattle.world_model.specs.Controller.{linked_at}
 use Rattle.world_model.specs.Ways.{gsmp_of}
 use Rattle.shown_cells.specs.Seen.{Seen, Nothing, Word, nothing}
 use Rattle.shown_cells.proofs.Shows.{First, no_word, a_word, first_of, one_hidden, shows_behind}

@@ -14,19 +14,19 @@ use Rattle.port_model.specs.Saying.{closes}
 use Rattle.port_model.specs.Joins as port_joins
 use Rattle.port_model.specs.Answers as port_answers
 use Rattle.port_model.specs.Resets.{cleared}
-use Rattle.switch_model.specs.Switch.{Switch}
-use Rattle.controller_model.specs.Controller.{Acted, Linked, linked_at, ports_of, note, with_linked, with_desk, default_end, default_home}
-use Rattle.controller_model.specs.Joins.{Join, join_of, output_of, parts, releases_join, releases_input, released_inputs, resets_spent, releases}
-use Rattle.controller_model.specs.Meeting.{port_of, tells_port, has_emptied, ends_meeting, behind_delete_all, causes_in_estab, causes, may_clear, clears_of, clears_port, clears, done, default_branches, up_ports, takes_answer, answer_comes}
-use Rattle.controller_model.specs.Asking.{asks}
-use Rattle.controller_model.specs.Changes.{changed_joins, takes_join_back, begins_change, takes_change, may_take, takes_each, takes_changes}
+use Rattle.world_model.specs.Switch.{Switch}
+use Rattle.world_model.specs.Controller.{Acted, Linked, linked_at, ports_of, note, with_linked, with_desk, default_end, default_home}
+use Rattle.world_model.specs.Joins.{Join, join_of, output_of, parts, releases_join, releases_input, released_inputs, resets_spent, releases}
+use Rattle.world_model.specs.Meeting.{port_of, tells_port, has_emptied, ends_meeting, behind_delete_all, causes_in_estab, causes, may_clear, clears_of, clears_port, clears, done, default_branches, up_ports, takes_answer, answer_comes}
+use Rattle.world_model.specs.Asking.{asks}
+use Rattle.world_model.specs.Changes.{changed_joins, takes_join_back, begins_change, takes_change, may_take, takes_each, takes_changes}
 use Rattle.gsmp_wire.specs.declared.message.Message.{Message}
-use Rattle.desk_model.specs.Desk.{Standing}
-use Rattle.desk_model.specs.Answers.{Head, Answered, Done, answered, without_request}
+use Rattle.port_model.specs.Desk.{Standing}
+use Rattle.port_model.specs.DeskAnswers.{Head, Answered, Done, answered, without_request}
 use Rattle.branch_line.specs.Words.{Answer, Success}
 use Rattle.branch_line.specs.Line.{Line}
-use Rattle.switch_model.specs.declared.request.Asked.{Asked}
-use Rattle.switch_model.specs.Requests.{asked_in}
+use Rattle.world_model.specs.declared.request.Asked.{Asked}
+use Rattle.world_model.specs.Requests.{asked_in}
 use Rattle.input_views.specs.Words.{word_of}
 use Rattle.input_views.specs.Shown.{IsAllPorts}
 use Rattle.input_steps.specs.Asking.{CanEach, MayAsk}

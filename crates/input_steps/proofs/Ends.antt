@@ -10,8 +10,8 @@ use Rattle.gsmp_wire.specs.declared.request.Request.TheVariants.{AddBranch, Move
 use Rattle.ordered_lists.specs.Ordered.{Every}
 use Rattle.ordered_lists.proofs.Parts.{IsPart, part_mapped}
 use Rattle.crossbar_model.specs.Crossbar.{same_end}
-use Rattle.desk_model.specs.Requests.{is_on, is_on_port, is_delete_all, withdraws}
-use Rattle.desk_model.specs.Desk.{Standing}
+use Rattle.port_model.specs.Requests.{is_on, is_on_port, is_delete_all, withdraws}
+use Rattle.port_model.specs.Desk.{Standing}
 use Rattle.branch_line.specs.Words as lines
 use Rattle.input_views.specs.Words.{own_request, type_of, word_by, word_of, is_own, own_of, other_of, others_of}
 pub use Rattle.input_steps.specs.Asking.{IsAsked, concerns, on_input, deletes_port, NoDeleteAll}

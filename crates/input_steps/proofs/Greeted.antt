@@ -23,20 +23,20 @@ use Rattle.gsmp_wire.specs.declared.request.Request.TheVariants.{AllPorts}
 use Rattle.gsmp_wire.specs.Layout.{octets_of}
 use Rattle.frame_model.specs.Frame.{frame_cells}
 use Rattle.ordered_lists.proofs.Parts.{IsPart, part_whole, part_none, part_join}
-use Rattle.desk_model.specs.Desk.{empty_desk, asked}
-use Rattle.desk_model.specs.Messages.{message_of}
+use Rattle.port_model.specs.Desk.{empty_desk, asked}
+use Rattle.port_model.specs.Messages.{message_of}
 use Rattle.branch_line.specs.Words.{ToSwitch, ControllerGreets, Copy, Elsewhere, ToController, SwitchGreets}
 use Rattle.branch_line.specs.Line.{Line, Controller as LineController, spoken, Unasked, Listing}
 use Rattle.branch_line.specs.Asking.{say}
 use Rattle.branch_line.specs.Controller.{reset_node, meet, meet_on_entering, tick_controller}
 use Rattle.branch_line.specs.Moves.{ControllerTakes, ControllerTicks, LoseAtController, AskOtherAgain}
-use Rattle.switch_model.specs.Switch.{Switch}
-use Rattle.controller_model.specs.Controller.{Acted, default_channel, with_desk}
-use Rattle.controller_model.specs.Sending.{says_gsmp}
-use Rattle.controller_model.specs.Asking.{asks_next}
-use Rattle.controller_model.specs.Resets.{node_resets}
-use Rattle.controller_model.specs.Meeting.{meets}
-use Rattle.controller_model.specs.Gsmp.{answers, steps}
+use Rattle.world_model.specs.Switch.{Switch}
+use Rattle.world_model.specs.Controller.{Acted, default_channel, with_desk}
+use Rattle.world_model.specs.Sending.{says_gsmp}
+use Rattle.world_model.specs.Asking.{asks_next}
+use Rattle.world_model.specs.Resets.{node_resets}
+use Rattle.world_model.specs.Meeting.{meets}
+use Rattle.world_model.specs.Gsmp.{answers, steps}
 use Rattle.shown_cells.specs.Seen.{Word}
 use Rattle.input_views.specs.Words.{own_of, is_own_greeting, seen_on_gsmp, erased}
 use Rattle.input_views.specs.Shown.{controller_of, switch_of, AskedShows}

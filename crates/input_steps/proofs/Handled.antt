@@ -18,22 +18,22 @@ use Rattle.ordered_lists.specs.Ordered.{Every}
 use Rattle.crossbar_model.specs.declared.branch.Branch.{Branch as Led}
 use Rattle.crossbar_model.specs.Crossbar.{Branches, output_of, cut_by_move}
 use Rattle.std.specs.FinMap as finite
-use Rattle.desk_model.specs.Answers.{Head, head_of}
+use Rattle.port_model.specs.DeskAnswers.{Head, head_of}
 use Rattle.branch_line.specs.Words as lines
 use Rattle.branch_line.specs.Words.{ToSwitch, ControllerGreets, Copy, ToController, Answer, Outcome, Success, Failure}
 use Rattle.branch_line.specs.Line.{Line}
 use Rattle.branch_line.specs.Switch.{reply, takes_requests, branch_after, handle}
 use Rattle.branch_line.specs.Moves.{SwitchTakes, LoseAtSwitch}
-use Rattle.controller_model.specs.Controller.{Controller}
-use Rattle.switch_model.specs.declared.port.PortState.{PortState}
-use Rattle.switch_model.specs.declared.request.Asked.{Asked}
-use Rattle.switch_model.specs.declared.request.Failure.{Failure as Cause}
-use Rattle.switch_model.specs.declared.request.Failure.TheVariants.{NoPort, BadSession, PortDown, OutOfRange, Busy, NoConnection, SessionsSpent}
-use Rattle.switch_model.specs.Switch.{Acted, numbers_of}
-use Rattle.switch_model.specs.Requests.{Changed, asked_in, is_request, noted_cut, moved_by, ended_by, ended, all_ended, inputs_on, branches_after, ports_after}
-use Rattle.switch_model.specs.Failures.{applies, failure_of, is_busy, lacks_branch}
-use Rattle.switch_model.specs.Answers.{Handled, handled, handled_asked, handled_by, refused, carried_out, failure_answer, success_answer}
-use Rattle.switch_model.specs.Conduct.{greeted, replied, requested, told}
+use Rattle.world_model.specs.Controller.{Controller}
+use Rattle.world_model.specs.declared.port.PortState.{PortState}
+use Rattle.world_model.specs.declared.request.Asked.{Asked}
+use Rattle.world_model.specs.declared.request.Failure.{Failure as Cause}
+use Rattle.world_model.specs.declared.request.Failure.TheVariants.{NoPort, BadSession, PortDown, OutOfRange, Busy, NoConnection, SessionsSpent}
+use Rattle.world_model.specs.Switch.{Acted, numbers_of}
+use Rattle.world_model.specs.Requests.{Changed, asked_in, is_request, noted_cut, moved_by, ended_by, ended, all_ended, inputs_on, branches_after, ports_after}
+use Rattle.world_model.specs.Failures.{applies, failure_of, is_busy, lacks_branch}
+use Rattle.world_model.specs.Answers.{Handled, handled, handled_asked, handled_by, refused, carried_out, failure_answer, success_answer}
+use Rattle.world_model.specs.Conduct.{greeted, replied, requested, told}
 use Rattle.world_model.specs.Ways.{copy_of, copy_by}
 use Rattle.shown_cells.specs.Seen.{Seen, Nothing, Word, Unknown}
 use Rattle.input_views.specs.Words.{is_own_greeting, seen_copy, word_of, erased}

@@ -10,18 +10,18 @@ use Rattle.gsmp_wire.specs.declared.fault.Fault.{Fault}
 use Rattle.gsmp_wire.specs.declared.message.Message.{Message}
 use Rattle.gsmp_wire.specs.declared.message.Message.TheVariants as messages
 use Rattle.gsmp_wire.specs.Fields.{decoded}
-use Rattle.desk_model.specs.Desk.{Standing}
-use Rattle.desk_model.specs.Answers as answers
-use Rattle.desk_model.specs.Answers.{Head, head_of, is_of_type}
+use Rattle.port_model.specs.Desk.{Standing}
+use Rattle.port_model.specs.DeskAnswers as answers
+use Rattle.port_model.specs.DeskAnswers.{Head, head_of, is_of_type}
 use Rattle.branch_line.specs.Words as lines
 use Rattle.branch_line.specs.Words.{ToController, SwitchGreets, Answer, Outcome}
 use Rattle.branch_line.specs.Line.{Line}
-use Rattle.switch_model.specs.declared.request.Asked.{Asked}
-use Rattle.switch_model.specs.Requests.{asked_in}
-use Rattle.switch_model.specs.Switch.{Switch}
-use Rattle.controller_model.specs.Controller.{Acted}
-use Rattle.controller_model.specs.Gsmp.{gsmp_holds, told, steps}
-use Rattle.controller_model.specs.Meeting.{answer_comes, takes_answer}
+use Rattle.world_model.specs.declared.request.Asked.{Asked}
+use Rattle.world_model.specs.Requests.{asked_in}
+use Rattle.world_model.specs.Switch.{Switch}
+use Rattle.world_model.specs.Controller.{Acted}
+use Rattle.world_model.specs.Gsmp.{gsmp_holds, told, steps}
+use Rattle.world_model.specs.Meeting.{answer_comes, takes_answer}
 use Rattle.world_model.specs.Ways.{gsmp_of, copy_by}
 use Rattle.shown_cells.specs.Seen.{Seen, Nothing, Word, Unknown}
 use Rattle.input_views.specs.Words.{is_own_greeting, seen_answer, seen_answer_to, seen_outcome, outcome_of, erased_back}

@@ -17,18 +17,18 @@ use Rattle.frame_model.specs.Frame.{frame_cells}
 use Rattle.ordered_lists.specs.Ordered.{Every}
 use Rattle.ordered_lists.proofs.Every.{every_map, every_join}
 use Rattle.ordered_lists.proofs.Parts.{IsPart, part_whole, part_none, part_join}
-use Rattle.desk_model.specs.Requests.{withdraws}
-use Rattle.desk_model.specs.Desk.{Standing, asked, last_transaction}
-use Rattle.desk_model.specs.Messages.{message_of}
+use Rattle.port_model.specs.Requests.{withdraws}
+use Rattle.port_model.specs.Desk.{Standing, asked, last_transaction}
+use Rattle.port_model.specs.Messages.{message_of}
 use Rattle.branch_line.specs.Words as lines
 use Rattle.branch_line.specs.Words.{Request as LineRequest, OnInput, Elsewhere, delete_all, ToSwitch, Copy, message_type, Success, ToController, Answer}
 use Rattle.branch_line.specs.Line.{Stands as Standing_at, Meeting, Emptying, Line, Controller}
 use Rattle.branch_line.specs.Asking.{ask, ask_each, number_taken}
 use Rattle.branch_line.specs.Controller.{deletes, empty_ports}
-use Rattle.switch_model.specs.Switch.{Switch}
-use Rattle.controller_model.specs.Controller.{Acted, default_channel, with_desk}
-use Rattle.controller_model.specs.Asking.{asks, asks_next}
-use Rattle.controller_model.specs.Resets.{node_resets}
+use Rattle.world_model.specs.Switch.{Switch}
+use Rattle.world_model.specs.Controller.{Acted, default_channel, with_desk}
+use Rattle.world_model.specs.Asking.{asks, asks_next}
+use Rattle.world_model.specs.Resets.{node_resets}
 use Rattle.shown_cells.specs.Seen.{Seen, Shows, nothing, hidden, word}
 use Rattle.input_views.specs.Words.{word_of, is_own, own_of, other_of}
 use Rattle.input_views.specs.Shown.{AskedShows, IsDeleteAll, PhaseShows}

@@ -15,7 +15,7 @@ use Rattle.link_model.specs.declared.record.Cause.TheVariants.{Cut}
 use Rattle.link_model.specs.Notes.{Journal, noted}
 use Rattle.frame_model.specs.Reassembly.{Reassembly, cut, distinct, marks_of, noted_all}
 use Rattle.ordered_lists.proofs.Parts.{part_none}
-use Rattle.desk_model.specs.Desk.{Desk, emptied}
+use Rattle.port_model.specs.Desk.{Desk, emptied}
 use Rattle.port_model.specs.declared.action.Action.{Action}
 use Rattle.port_model.specs.declared.action.Action.TheVariants.{Say, Ask, Note, CutChain, TakeBack, Withdraw, Reset}
 use Rattle.port_model.specs.Port.{Work}
@@ -23,9 +23,9 @@ use Rattle.port_model.specs.Resets.{restarts}
 use Rattle.branch_line.specs.Line.{Line}
 use Rattle.branch_line.specs.Controller.{reset_node}
 use Rattle.branch_line.specs.Moves.{ControllerResets}
-use Rattle.switch_model.specs.Switch.{Switch}
-use Rattle.controller_model.specs.Controller.{Acted, Linked, linked_at, ports_of, chain_of}
-use Rattle.controller_model.specs.Resets.{cuts_of, cuts_default_of, cuts_default, cuts_gsmp, begins, with_work, closes_by, port_restarts_as, port_restarts_of, port_restarts, resets_gsmp, node_resets, node_restarts}
+use Rattle.world_model.specs.Switch.{Switch}
+use Rattle.world_model.specs.Controller.{Acted, Linked, linked_at, ports_of, chain_of}
+use Rattle.world_model.specs.Resets.{cuts_of, cuts_default_of, cuts_default, cuts_gsmp, begins, with_work, closes_by, port_restarts_as, port_restarts_of, port_restarts, resets_gsmp, node_resets, node_restarts}
 use Rattle.shown_cells.specs.Seen.{IsUnmade}
 use Rattle.shown_cells.proofs.Made.{extends_self}
 use Rattle.input_steps.specs.Part.{Part, part_at, Stands, Reaches, AnyLine, Leads}

@@ -19,9 +19,9 @@ use Rattle.port_facts.proofs.Keyed.{on_both}
 use Rattle.branch_line.specs.Words.{ToSwitch}
 use Rattle.branch_line.specs.Line.{Line}
 use Rattle.branch_line.specs.Moves.{Move, step}
-use Rattle.switch_model.specs.Switch.{Switch}
-use Rattle.controller_model.specs.Controller.{Controller, Acted, free_slots, default_channel}
-use Rattle.controller_model.specs.Sending.{with_cells, sends, sends_control}
+use Rattle.world_model.specs.Switch.{Switch}
+use Rattle.world_model.specs.Controller.{Controller, Acted, free_slots, default_channel}
+use Rattle.world_model.specs.Sending.{with_cells, sends, sends_control}
 use Rattle.shown_cells.specs.Seen.{Seen, Shows, Extends, IsUnmade}
 use Rattle.shown_cells.proofs.Shows.{shows_join, shows_behind}
 use Rattle.shown_cells.proofs.Made.{extends_made, made_is, unmade_next}

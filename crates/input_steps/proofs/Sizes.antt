@@ -11,7 +11,7 @@ use Rattle.atm_cells.specs.declared.cell.Cell.{Cell}
 use Rattle.aal5_frames.specs.Frame.{pdu_of}
 use Rattle.aal5_frames.proofs.Cells.{cells_all, length-pdu_of}
 use Rattle.frame_model.specs.Frame.{frame_cells}
-use Rattle.desk_model.specs.Messages.{message_of}
+use Rattle.port_model.specs.Messages.{message_of}
 
 pub delete_octets : (rows : List PortRow) (n : ℕ) (p : PortNo) → length (octets_of (message_of rows n (DeleteAll p))) ≡ 40
 delete_octets rows n p = refl

@@ -31,12 +31,12 @@ use Rattle.branch_line.specs.Words.{ToSwitch}
 use Rattle.branch_line.specs.Line.{Line}
 use Rattle.branch_line.specs.Switch.{restart_switch}
 use Rattle.branch_line.specs.Moves.{CarryToSwitch, SwitchRestarts, carry_to_switch}
-use Rattle.controller_model.specs.Controller.{Controller, default_channel}
-use Rattle.controller_model.specs.Cells.{same_channel}
-use Rattle.switch_model.specs.declared.port.PortState.{PortState}
-use Rattle.switch_model.specs.Switch.{Acted, numbers_of, begun, free_slots}
-use Rattle.switch_model.specs.Requests.{Changed, all_ended}
-use Rattle.switch_model.specs.Conduct.{read, after_test, ends_frame, after_cell, gsmp_cell, restarted}
+use Rattle.world_model.specs.Controller.{Controller, default_channel}
+use Rattle.world_model.specs.Cells.{same_channel}
+use Rattle.world_model.specs.declared.port.PortState.{PortState}
+use Rattle.world_model.specs.Switch.{Acted, numbers_of, begun, free_slots}
+use Rattle.world_model.specs.Requests.{Changed, all_ended}
+use Rattle.world_model.specs.Conduct.{read, after_test, ends_frame, after_cell, gsmp_cell, restarted}
 use Rattle.world_model.specs.Ways.{gsmp_of}
 use Rattle.shown_cells.specs.Seen.{Nothing, Word, nothing}
 use Rattle.shown_cells.proofs.Shows.{First, no_word, a_word, first_of}

@@ -14,9 +14,9 @@ use Rattle.link_model.specs.declared.record.Cause.TheVariants.{Unconnected, Pool
 use Rattle.link_model.specs.Notes.{noted}
 use Rattle.crossbar_model.specs.declared.branch.Branch.{Branch}
 use Rattle.crossbar_model.specs.Crossbar.{queue_of, on_channel_of, input_of, unfinished_after, forwarded, switched_on, route_on}
-use Rattle.controller_model.specs.Controller.{Controller, default_channel}
-use Rattle.switch_model.specs.Switch.{Acted, free_slots}
-use Rattle.switch_model.specs.Conduct.{counted, passed, switched_cell}
+use Rattle.world_model.specs.Controller.{Controller, default_channel}
+use Rattle.world_model.specs.Switch.{Acted, free_slots}
+use Rattle.world_model.specs.Conduct.{counted, passed, switched_cell}
 use Rattle.input_views.specs.Words.{seen_answer}
 use Rattle.input_views.specs.Shown.{controller_of, switch_of, ShowsAnswers}
 use Rattle.input_views.proofs.Cells.{cell_elsewhere}

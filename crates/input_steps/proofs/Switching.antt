@@ -34,9 +34,9 @@ use Rattle.branch_line.specs.Line.{Line, spoken}
 use Rattle.branch_line.specs.Switch.{reply, reset_switch, tick_switch}
 use Rattle.branch_line.specs.Moves.{SwitchTakes, SwitchTicks, SwitchResets, LoseAtSwitch}
 use Rattle.branch_line.specs.Words as lines
-use Rattle.controller_model.specs.Controller.{Controller, default_channel}
-use Rattle.switch_model.specs.Switch.{Switch, Acted, control_port, gsmp_channel, free_slots}
-use Rattle.switch_model.specs.Conduct.{with_cells, sends, says, reset, answers, steps, greeted, tick_comes}
+use Rattle.world_model.specs.Controller.{Controller, default_channel}
+use Rattle.world_model.specs.Switch.{Switch, Acted, control_port, gsmp_channel, free_slots}
+use Rattle.world_model.specs.Conduct.{with_cells, sends, says, reset, answers, steps, greeted, tick_comes}
 use Rattle.shown_cells.specs.Seen.{Seen, Nothing, Word}
 use Rattle.input_views.specs.Words.{is_own_greeting, seen_answer, seen_on_gsmp, erased_back}
 use Rattle.input_views.specs.Shown.{controller_of, switch_of, ShowsAnswers}

@@ -14,21 +14,21 @@ use Rattle.gsmp_wire.specs.declared.message.Message.TheVariants as messages
 use Rattle.gsmp_wire.specs.declared.request.Request.TheVariants.{AllPorts}
 use Rattle.gsmp_wire.specs.declared.rows.PortRow.{PortRow}
 use Rattle.ordered_lists.specs.Ordered.{Every, InOrder}
-use Rattle.desk_model.specs.Desk.{Standing}
-use Rattle.desk_model.specs.Answers.{Head, head_of, is_of_type, without_request, after_answer}
-use Rattle.desk_model.specs.Answers as answers
+use Rattle.port_model.specs.Desk.{Standing}
+use Rattle.port_model.specs.DeskAnswers.{Head, head_of, is_of_type, without_request, after_answer}
+use Rattle.port_model.specs.DeskAnswers as answers
 use Rattle.branch_line.specs.Words.{Request as LineRequest, message_type, Success, ToController, Answer}
 use Rattle.branch_line.specs.Line.{Other, Meeting, Listing, Emptying, Met, MetAndAsked, Line}
 use Rattle.branch_line.specs.Asking.{has_met}
 use Rattle.branch_line.specs.Controller.{answers_asked, answers_other, input_answered, other_answered, hear_answer, empty_ports}
 use Rattle.branch_line.specs.Moves.{ControllerTakes, LoseAtController}
-use Rattle.switch_model.specs.declared.request.Asked.{Asked}
-use Rattle.switch_model.specs.Switch.{Switch}
-use Rattle.switch_model.specs.Requests.{asked_in}
-use Rattle.controller_model.specs.Controller.{Acted, with_desk}
-use Rattle.controller_model.specs.Asking.{asks}
-use Rattle.controller_model.specs.Resets.{node_resets}
-use Rattle.controller_model.specs.Meeting.{empties, up_ports, takes_answer, answer_comes}
+use Rattle.world_model.specs.declared.request.Asked.{Asked}
+use Rattle.world_model.specs.Switch.{Switch}
+use Rattle.world_model.specs.Requests.{asked_in}
+use Rattle.world_model.specs.Controller.{Acted, with_desk}
+use Rattle.world_model.specs.Asking.{asks}
+use Rattle.world_model.specs.Resets.{node_resets}
+use Rattle.world_model.specs.Meeting.{empties, up_ports, takes_answer, answer_comes}
 use Rattle.input_views.specs.Words.{type_of, word_of, is_own, own_of, other_of, others_of}
 use Rattle.input_views.specs.Shown.{AskedShows, IsAllPorts, IsDeleteAll, PhaseShows}
 use Rattle.input_steps.specs.Part.{Part, part_at, IsEarlier, Stands, Reaches, AnyLine}

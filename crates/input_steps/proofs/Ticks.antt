@@ -14,10 +14,10 @@ use Rattle.port_model.specs.Setup.{home_of}
 use Rattle.port_model.specs.Labels.{Label}
 use Rattle.port_model.specs.Joins as port_joins
 use Rattle.port_model.specs.Ticks as port_ticks
-use Rattle.switch_model.specs.Switch.{Switch}
-use Rattle.controller_model.specs.Controller.{Acted, ports_of}
-use Rattle.controller_model.specs.Joins.{Join, join_for, may_join, output_of, enters_grant, enters_label, joins, tries_label, label_on, tries_join, inputs_at, tries_joins}
-use Rattle.controller_model.specs.Ticks.{ticks_port, ticks_by, ticks}
+use Rattle.world_model.specs.Switch.{Switch}
+use Rattle.world_model.specs.Controller.{Acted, ports_of}
+use Rattle.world_model.specs.Joins.{Join, join_for, may_join, output_of, enters_grant, enters_label, joins, tries_label, label_on, tries_join, inputs_at, tries_joins}
+use Rattle.world_model.specs.Ticks.{ticks_port, ticks_by, ticks}
 use Rattle.input_steps.specs.Part.{part_at, Leads}
 use Rattle.input_steps.specs.Ticks.{CanTickPort, CanJoin, CanJoinLabel, CanTryJoin, after_steps, after_again, after_ports, CanTick}
 use Rattle.input_steps.proofs.Reach.{leads_self, leads_then}

@@ -10,17 +10,17 @@ use Rattle.gsmp_wire.specs.declared.request.Request.{Request}
 use Rattle.gsmp_wire.specs.declared.request.Request.TheVariants.{AddBranch, MoveBranch, DeleteTree, VerifyTree, DeleteAll, PortManagement, AllPorts}
 use Rattle.ordered_lists.specs.Ordered.{Every}
 use Rattle.crossbar_model.specs.Crossbar.{same_end}
-use Rattle.desk_model.specs.Desk.{Desk, Standing, is_led_home, last_transaction, message_at}
-use Rattle.desk_model.specs.Messages.{message_of}
+use Rattle.port_model.specs.Desk.{Desk, Standing, is_led_home, last_transaction, message_at}
+use Rattle.port_model.specs.Messages.{message_of}
 use Rattle.port_model.specs.declared.action.Action.{Action}
 use Rattle.port_model.specs.declared.action.Action.TheVariants.{Say, Ask, Note, CutChain, TakeBack, Withdraw, Reset}
 use Rattle.port_model.specs.Setup.{home_of}
 use Rattle.port_model.specs.Port.{Work}
 use Rattle.port_model.specs.Resets.{resets}
 use Rattle.branch_line.specs.Words as lines
-use Rattle.controller_model.specs.Controller.{Acted, Linked, linked_at}
-use Rattle.controller_model.specs.Resets.{begins, with_work}
-use Rattle.controller_model.specs.Performing.{does_in_estab, performs_in_estab, Rule}
+use Rattle.world_model.specs.Controller.{Acted, Linked, linked_at}
+use Rattle.world_model.specs.Resets.{begins, with_work}
+use Rattle.world_model.specs.Performing.{does_in_estab, performs_in_estab, Rule}
 use Rattle.world_model.specs.Ways.{gsmp_of}
 
 -- what a receiver reads in the octets of a message is the message

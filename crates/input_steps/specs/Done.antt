@@ -9,15 +9,15 @@ use Rattle.adjacency_table.specs.Side.{is_estab}
 use Rattle.gsmp_wire.specs.declared.request.Request.{Request}
 use Rattle.gsmp_wire.specs.declared.request.Request.TheVariants.{AddBranch, MoveBranch, DeleteTree, VerifyTree, DeleteAll, PortManagement, AllPorts}
 use Rattle.link_model.specs.declared.record.Record.TheVariants.{Part as Parted}
-use Rattle.desk_model.specs.Desk.{is_led_home}
+use Rattle.port_model.specs.Desk.{is_led_home}
 use Rattle.port_model.specs.Setup.{home_of}
 use Rattle.port_model.specs.Saying.{closes}
 use Rattle.port_model.specs.Joins as port_joins
 use Rattle.port_model.specs.Answers as port_answers
-use Rattle.controller_model.specs.Controller.{Acted, linked_at, ports_of, note, default_end, default_home}
-use Rattle.controller_model.specs.Joins.{Join, join_of, output_of, parts, releases_input, released_inputs, resets_spent, releases}
-use Rattle.controller_model.specs.Meeting.{port_of, causes, clears}
-use Rattle.controller_model.specs.Changes.{changed_joins, takes_join_back, begins_change, takes_change, may_take}
+use Rattle.world_model.specs.Controller.{Acted, linked_at, ports_of, note, default_end, default_home}
+use Rattle.world_model.specs.Joins.{Join, join_of, output_of, parts, releases_input, released_inputs, resets_spent, releases}
+use Rattle.world_model.specs.Meeting.{port_of, causes, clears}
+use Rattle.world_model.specs.Changes.{changed_joins, takes_join_back, begins_change, takes_change, may_take}
 use Rattle.input_steps.specs.Asking.{CanEach, MayAsk, CanApply}
 
 -- *A release*: the label isn't joined any more, and the grant is given back

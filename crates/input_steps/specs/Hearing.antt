@@ -14,13 +14,13 @@ use Rattle.gsmp_wire.specs.Fields.{decoded}
 use Rattle.link_model.specs.declared.frames.Frame.{Frame}
 use Rattle.link_model.specs.Ledger.{is_frame}
 use Rattle.frame_model.specs.Frame.{octets_of as cell_octets, last_mark, payload_in}
-use Rattle.desk_model.specs.Desk.{Standing}
-use Rattle.controller_model.specs.Controller.{Controller, default_channel}
-use Rattle.controller_model.specs.Cells.{same_channel}
+use Rattle.port_model.specs.Desk.{Standing}
+use Rattle.world_model.specs.Controller.{Controller, default_channel}
+use Rattle.world_model.specs.Cells.{same_channel}
 use Rattle.frame_model.specs.Reassembly.{Reassembly, most_cells}
-use Rattle.switch_model.specs.Switch.{Switch, Acted, free_slots}
-use Rattle.switch_model.specs.Requests.{is_request}
-use Rattle.switch_model.specs.Answers.{handled}
+use Rattle.world_model.specs.Switch.{Switch, Acted, free_slots}
+use Rattle.world_model.specs.Requests.{is_request}
+use Rattle.world_model.specs.Answers.{handled}
 use Rattle.world_model.specs.Ways.{copy_of}
 use Rattle.net_types.specs.declared.channel.End.{End}
 use Rattle.net_types.specs.declared.node.NodeId.{NodeId}
@@ -28,15 +28,15 @@ use Rattle.crossbar_model.specs.declared.branch.Branch.{Branch}
 use Rattle.crossbar_model.specs.Crossbar.{queue_of, popped}
 use Rattle.branch_line.specs.Words.{ToController}
 use Rattle.branch_line.specs.Line.{Line}
-use Rattle.controller_model.specs.Controller as controllers
-use Rattle.controller_model.specs.Gsmp.{gsmp_holds}
-use Rattle.controller_model.specs.Meeting.{answer_comes}
+use Rattle.world_model.specs.Controller as controllers
+use Rattle.world_model.specs.Gsmp.{gsmp_holds}
+use Rattle.world_model.specs.Meeting.{answer_comes}
 use Rattle.adjacency_table.specs.Side.{is_estab}
 use Rattle.gsmp_wire.specs.declared.request.Request.TheVariants.{AllPorts}
 use Rattle.gsmp_wire.specs.declared.rows.PortRow.{PortRow}
-use Rattle.desk_model.specs.Messages.{message_of}
-use Rattle.desk_model.specs.Answers.{answered, Done, Ports}
-use Rattle.switch_model.specs.Switch.{control_port}
+use Rattle.port_model.specs.Messages.{message_of}
+use Rattle.port_model.specs.DeskAnswers.{answered, Done, Ports}
+use Rattle.world_model.specs.Switch.{control_port}
 use Rattle.world_model.specs.Ways.{gsmp_of}
 use Rattle.shown_cells.specs.Seen.{Nothing, Word}
 use Rattle.input_views.specs.Words.{erased_back, seen_answer}

@@ -7,10 +7,10 @@ use Rattle.adjacency_table.specs.Side.{is_estab}
 use Rattle.gsmp_wire.specs.declared.message.Message.{Message}
 use Rattle.gsmp_wire.specs.declared.request.Request.TheVariants.{DeleteAll}
 use Rattle.ordered_lists.specs.Ordered.{Every, InOrder}
-use Rattle.desk_model.specs.Requests.{withdraws}
-use Rattle.desk_model.specs.Desk.{Desk, Standing, last_transaction}
-use Rattle.desk_model.specs.Messages.{message_of}
-use Rattle.desk_model.specs.Answers.{Head, is_of_type, without_request}
+use Rattle.port_model.specs.Requests.{withdraws}
+use Rattle.port_model.specs.Desk.{Desk, Standing, last_transaction}
+use Rattle.port_model.specs.Messages.{message_of}
+use Rattle.port_model.specs.DeskAnswers.{Head, is_of_type, without_request}
 use Rattle.branch_line.specs.Line.{Answered, Met, Line}
 use Rattle.input_steps.specs.Part.{Part}
 use Rattle.input_steps.specs.Asking.{IsReadable, concerns, on_input}

@@ -12,16 +12,16 @@ use Rattle.atm_cells.specs.declared.cell.Cell.{Cell}
 use Rattle.link_model.specs.declared.frames.Frame.{Frame}
 use Rattle.ordered_lists.specs.Ordered.{Every, InOrder}
 use Rattle.crossbar_model.specs.Crossbar.{output_of, queue_of}
-use Rattle.desk_model.specs.Desk.{Desk, Standing}
+use Rattle.port_model.specs.Desk.{Desk, Standing}
 use Rattle.branch_line.specs.Line as lines
 use Rattle.branch_line.specs.Line.{Line}
 use Rattle.branch_line.specs.Asking.{has_met}
 use Rattle.branch_line.specs.Moves.{Move, run}
-use Rattle.switch_model.specs.Switch.{control_port, numbers_of}
-use Rattle.switch_model.specs.Switch as switches
-use Rattle.switch_model.specs.Switch.{Switch}
-use Rattle.controller_model.specs.Controller as controllers
-use Rattle.controller_model.specs.Controller.{Controller}
+use Rattle.world_model.specs.Switch.{control_port, numbers_of}
+use Rattle.world_model.specs.Switch as switches
+use Rattle.world_model.specs.Switch.{Switch}
+use Rattle.world_model.specs.Controller as controllers
+use Rattle.world_model.specs.Controller.{Controller}
 use Rattle.world_model.specs.World.{Site}
 use Rattle.shown_cells.specs.Seen.{IsUnmade}
 use Rattle.input_views.specs.Words.{own_of, others_of}

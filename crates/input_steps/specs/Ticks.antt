@@ -8,15 +8,15 @@ use Rattle.adjacency_table.specs.Side.{ticked}
 use Rattle.adjacency_table.specs.Greeting.{gsmp_answer}
 use Rattle.gsmp_wire.specs.declared.request.Request.TheVariants.{MoveBranch}
 use Rattle.ordered_lists.specs.Ordered.{Every}
-use Rattle.desk_model.specs.Desk.{sent_again}
+use Rattle.port_model.specs.Desk.{sent_again}
 use Rattle.port_model.specs.Setup.{home_of}
 use Rattle.port_model.specs.Labels.{Label}
 use Rattle.port_model.specs.Joins as port_joins
 use Rattle.port_model.specs.Ticks as port_ticks
-use Rattle.controller_model.specs.Controller.{Acted, linked_at, ports_of}
-use Rattle.controller_model.specs.Gsmp.{steps}
-use Rattle.controller_model.specs.Joins.{Join, join_for, may_join, output_of, enters_grant, enters_label, label_on, tries_join, inputs_at}
-use Rattle.controller_model.specs.Ticks.{sends_again, ticks_port, ticks_ports}
+use Rattle.world_model.specs.Controller.{Acted, linked_at, ports_of}
+use Rattle.world_model.specs.Gsmp.{steps}
+use Rattle.world_model.specs.Joins.{Join, join_for, may_join, output_of, enters_grant, enters_label, label_on, tries_join, inputs_at}
+use Rattle.world_model.specs.Ticks.{sends_again, ticks_port, ticks_ports}
 use Rattle.input_steps.specs.Asking.{CanEach, MayAsk, CanApply, IsReady}
 use Rattle.input_steps.specs.Hearing.{Reads}
 

@@ -12,8 +12,8 @@ use Rattle.link_model.specs.Ledger.{payload_of}
 use Rattle.frame_model.specs.Frame.{frame_cells}
 use Rattle.ordered_lists.specs.Ordered.{Every}
 use Rattle.branch_line.specs.Words as lines
-use Rattle.controller_model.specs.Controller.{default_channel}
-use Rattle.controller_model.specs.Cells.{same_channel}
+use Rattle.world_model.specs.Controller.{default_channel}
+use Rattle.world_model.specs.Cells.{same_channel}
 use Rattle.shown_cells.specs.Seen.{Seen, Nothing, Word, Unknown, Shows, nothing, hidden, word, Extends}
 use Rattle.shown_cells.proofs.Shows.{shows_map, shows_join, shows_hidden}
 use Rattle.shown_cells.proofs.Frames.{IsOf, IsCut, frame_is_cut, same_self, differ}

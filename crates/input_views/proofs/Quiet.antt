@@ -8,10 +8,10 @@ use Rattle.adjacency_table.specs.Side.{Side, is_estab}
 use Rattle.adjacency_table.specs.Ends.{side_of}
 use Rattle.link_model.specs.declared.frames.Frame.{Frame}
 use Rattle.frame_model.specs.Reassembly.{Reassembly}
-use Rattle.desk_model.specs.Desk.{Desk}
+use Rattle.port_model.specs.Desk.{Desk}
 use Rattle.branch_line.specs.Line.{Line}
-use Rattle.switch_model.specs.declared.port.PortState.{PortState}
-use Rattle.switch_model.specs.Switch.{numbers_of}
+use Rattle.world_model.specs.declared.port.PortState.{PortState}
+use Rattle.world_model.specs.Switch.{numbers_of}
 use Rattle.world_model.specs.World.{Site}
 use Rattle.input_views.specs.Words.{own_of, others_of}
 use Rattle.input_views.specs.Shown.{controller_of, switch_of, AskedShows, PhaseShows, before_of, behind_of, ShowsRequests, ShowsAnswers, InputShows}

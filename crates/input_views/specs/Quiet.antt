@@ -6,7 +6,7 @@ use Rattle.net_types.specs.declared.node.NodeId.{NodeId}
 use Rattle.link_model.specs.declared.frames.Frame.{Frame}
 use Rattle.crossbar_model.specs.Crossbar.{output_of, queue_of}
 use Rattle.branch_line.specs.Words as lines
-use Rattle.switch_model.specs.Switch.{control_port}
+use Rattle.world_model.specs.Switch.{control_port}
 use Rattle.world_model.specs.World.{Site}
 use Rattle.shown_cells.specs.Seen.{Extends}
 use Rattle.input_views.specs.Shown.{ShowsRequests, ShowsAnswers}

@@ -14,11 +14,11 @@ use Rattle.gsmp_wire.specs.declared.request.Request.TheVariants.{AllPorts, Delet
 use Rattle.link_model.specs.declared.frames.Frame.{Frame}
 use Rattle.ordered_lists.specs.Ordered.{Every}
 use Rattle.crossbar_model.specs.Crossbar.{output_of, queue_of}
-use Rattle.desk_model.specs.Desk.{Standing}
+use Rattle.port_model.specs.Desk.{Standing}
 use Rattle.branch_line.specs.Words as lines
 use Rattle.branch_line.specs.Line.{Asked, Apart, Unasked, Stands, Answered, Meeting, Listing, Emptying, Met, MetAndAsked, Line}
 use Rattle.branch_line.specs.Asking.{has_met}
-use Rattle.switch_model.specs.Switch.{control_port, numbers_of, controller_party, switch_party}
+use Rattle.world_model.specs.Switch.{control_port, numbers_of, controller_party, switch_party}
 use Rattle.world_model.specs.World.{Site}
 use Rattle.shown_cells.specs.Seen.{Shows}
 use Rattle.input_views.specs.Words.{own_request, own_of, others_of, seen_request, seen_answer, seen_cell, erased, erased_back}

@@ -15,13 +15,13 @@ use Rattle.gsmp_wire.specs.declared.request.Request.TheVariants.{AddBranch, Move
 use Rattle.crossbar_model.specs.Crossbar.{same_end}
 use Rattle.link_model.specs.declared.frames.Frame.{Frame}
 use Rattle.link_model.specs.Ledger.{payload_of}
-use Rattle.desk_model.specs.Desk.{Standing}
-use Rattle.desk_model.specs.Answers.{Head, head_of}
+use Rattle.port_model.specs.Desk.{Standing}
+use Rattle.port_model.specs.DeskAnswers.{Head, head_of}
 use Rattle.branch_line.specs.Words as lines
 use Rattle.branch_line.specs.Line.{Other}
-use Rattle.switch_model.specs.Requests.{asked_in}
-use Rattle.controller_model.specs.Controller.{default_channel}
-use Rattle.controller_model.specs.Cells.{same_channel}
+use Rattle.world_model.specs.Requests.{asked_in}
+use Rattle.world_model.specs.Controller.{default_channel}
+use Rattle.world_model.specs.Cells.{same_channel}
 use Rattle.world_model.specs.Ways.{gsmp_of, copy_of, copy_by}
 use Rattle.shown_cells.specs.Seen.{Seen, Nothing, Word, Unknown}
 

@@ -20,7 +20,7 @@ use Rattle.world_views.specs.Kept.{HasAddresses}
 use Rattle.lifetimes.specs.Aging.{HasEnded}
 use Rattle.lifetimes.specs.Law.{SendsNone, EndsByReset}
 use Rattle.lifetimes.specs.Run.{IsCountedIn, SetsIn, IsSetIn, acted_in, grant_in, comes_to, NotSetIn, IsConductIn, stays_in, IsLedIn, reaches_in}
-use Rattle.controller_model.specs.Controller.{Controller}
+use Rattle.world_model.specs.Controller.{Controller}
 use Rattle.script_model.specs.Script.{Script, script_of}
 use Rattle.script_model.specs.Documents.{document_script}
 use Rattle.script_model.specs.Drill.{drill_script}

@@ -16,18 +16,18 @@ use Rattle.frame_model.specs.Sending.{Sent}
 use Rattle.gsmp_wire.specs.declared.request.Request.{Request}
 use Rattle.gsmp_wire.specs.declared.request.Request.TheVariants.{MoveBranch}
 use Rattle.ordered_lists.specs.Ordered.{Every}
-use Rattle.desk_model.specs.Desk.{asked, is_led_home, last_transaction}
+use Rattle.port_model.specs.Desk.{asked, is_led_home, last_transaction}
 use Rattle.port_model.specs.declared.action.Action.{Action}
 use Rattle.port_model.specs.declared.action.Action.TheVariants.{Say, Ask, Note, CutChain, TakeBack, Withdraw, Reset}
 use Rattle.port_model.specs.Port.{Work}
 use Rattle.port_model.specs.Resets.{restarts}
 use Rattle.port_model.specs.Setup.{home_of}
-use Rattle.controller_model.specs.Asking.{asks, asks_next, takes_back}
-use Rattle.controller_model.specs.Changes.{begins_change, changed_joins, takes_join_back}
-use Rattle.controller_model.specs.Controller.{Acted, Controller, Linked, free_slots, linked_at, ports_of, with_desk}
-use Rattle.controller_model.specs.Joins.{Join, output_of}
-use Rattle.controller_model.specs.Resets.{begins, closes_by, cuts_of, node_resets, port_restarts, port_restarts_of, resets_gsmp, with_work}
-use Rattle.controller_model.specs.Sending.{sends, with_cells}
+use Rattle.world_model.specs.Asking.{asks, asks_next, takes_back}
+use Rattle.world_model.specs.Changes.{begins_change, changed_joins, takes_join_back}
+use Rattle.world_model.specs.Controller.{Acted, Controller, Linked, free_slots, linked_at, ports_of, with_desk}
+use Rattle.world_model.specs.Joins.{Join, output_of}
+use Rattle.world_model.specs.Resets.{begins, closes_by, cuts_of, node_resets, port_restarts, port_restarts_of, resets_gsmp, with_work}
+use Rattle.world_model.specs.Sending.{sends, with_cells}
 use Rattle.join_list.specs.Joined.{joined_of}
 use Rattle.join_list.specs.declared.places.Joined.{Joined}
 use Rattle.join_facts.proofs.Ordered.{on_both}

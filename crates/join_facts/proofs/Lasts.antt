@@ -19,17 +19,17 @@ use Rattle.frame_model.specs.Sending.{Sent}
 use Rattle.gsmp_wire.specs.declared.request.Request.{Request}
 use Rattle.gsmp_wire.specs.declared.request.Request.TheVariants.{MoveBranch}
 use Rattle.keyed_lists.specs.Keyed.{at, put}
-use Rattle.desk_model.specs.Desk.{asked, is_led_home, last_transaction}
+use Rattle.port_model.specs.Desk.{asked, is_led_home, last_transaction}
 use Rattle.port_model.specs.declared.action.Action.{Action}
 use Rattle.port_model.specs.declared.action.Action.TheVariants.{Say, Ask, Note, CutChain, TakeBack, Withdraw, Reset}
 use Rattle.port_model.specs.Port.{Port, Work, labels_of}
 use Rattle.port_model.specs.Resets.{left_of, restarts, resets}
 use Rattle.port_model.specs.Setup.{home_of}
-use Rattle.controller_model.specs.Controller.{Acted, Controller, Linked, free_slots, linked_at, port_key, ports_of, with_desk}
-use Rattle.controller_model.specs.Sending.{sends, with_cells}
-use Rattle.controller_model.specs.Asking.{asks, asks_next, takes_back, withdraws_input}
-use Rattle.controller_model.specs.Resets.{begins, closes_by, cuts_of, node_resets, port_restarts, port_restarts_of, resets_gsmp, with_work}
-use Rattle.controller_model.specs.Performing.{Rule, at_port, does, does_in_estab, performs, performs_in_estab, resets_as, resets_of, resets_port, works, works_as}
+use Rattle.world_model.specs.Controller.{Acted, Controller, Linked, free_slots, linked_at, port_key, ports_of, with_desk}
+use Rattle.world_model.specs.Sending.{sends, with_cells}
+use Rattle.world_model.specs.Asking.{asks, asks_next, takes_back, withdraws_input}
+use Rattle.world_model.specs.Resets.{begins, closes_by, cuts_of, node_resets, port_restarts, port_restarts_of, resets_gsmp, with_work}
+use Rattle.world_model.specs.Performing.{Rule, at_port, does, does_in_estab, performs, performs_in_estab, resets_as, resets_of, resets_port, works, works_as}
 use Rattle.join_list.specs.declared.places.Joined.{Joined}
 use Rattle.join_facts.specs.Joins.{Differ, HaveNumbers, joined_at}
 use Rattle.join_facts.proofs.Ordered.{on_both, on_each}

@@ -5,8 +5,8 @@ use Rattle.std.specs.Option.{option_map_or}
 use Rattle.net_types.specs.declared.channel.End.{End}
 use Rattle.net_types.specs.declared.node.PortNo.{PortNo}
 use Rattle.ordered_lists.specs.Ordered.{InOrder}
-use Rattle.controller_model.specs.Controller.{Controller, Linked, linked_at, ports_of}
-use Rattle.controller_model.specs.Joins.{inputs_at, joins_at, joins_of}
+use Rattle.world_model.specs.Controller.{Controller, Linked, linked_at, ports_of}
+use Rattle.world_model.specs.Joins.{inputs_at, joins_at, joins_of}
 use Rattle.join_list.specs.Joined.{joined_of}
 use Rattle.join_list.specs.declared.places.Joined.{Joined}
 

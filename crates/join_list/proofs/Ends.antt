@@ -9,7 +9,7 @@ use Rattle.std.specs.Cmp.{tied_itself}
 use Rattle.net_types.specs.declared.channel.End.{End}
 use Rattle.crossbar_model.specs.Channels.{end_cmp}
 use Rattle.crossbar_model.specs.Crossbar.{same_end}
-use Rattle.controller_model.specs.Joins.{end_le}
+use Rattle.world_model.specs.Joins.{end_le}
 use Rattle.branch_desk.proofs.Ends.{end_cmp_total, end_from_same}
 
 -- *The order of ends*

@@ -12,7 +12,7 @@ use Rattle.keyed_lists.specs.Keyed.{entered}
 use Rattle.net_types.specs.declared.channel.End.{End}
 use Rattle.crossbar_model.specs.Channels.{end_cmp}
 use Rattle.crossbar_model.specs.Crossbar.{same_end}
-use Rattle.controller_model.specs.Joins.{end_le}
+use Rattle.world_model.specs.Joins.{end_le}
 use Rattle.branch_desk.proofs.Ends.{end_cmp_total, same_itself}
 use Rattle.join_list.specs.declared.places.Joined.{Joined}
 use Rattle.join_list.specs.Joined.{AreInOrder, IsPlaceOf, IsGapFor}

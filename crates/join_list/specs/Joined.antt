@@ -5,7 +5,7 @@ use Rattle.std.specs.List.{AllPairs}
 use Rattle.std.specs.declared.cmp.Ordering.TheVariants.{Less, Greater}
 use Rattle.net_types.specs.declared.channel.End.{End}
 use Rattle.crossbar_model.specs.Channels.{end_cmp}
-use Rattle.controller_model.specs.Joins.{Join}
+use Rattle.world_model.specs.Joins.{Join}
 use Rattle.join_list.specs.declared.places.Joined.{Joined}
 
 -- a join by its input, and by the port and the label of its grant

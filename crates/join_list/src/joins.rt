@@ -4,7 +4,7 @@ ghost use Rattle.std.specs.Prelude.{◌≡◌, ◌==◌, ◌↔◌, [], not, fal
 ghost use Rattle.std.specs.List.{list_any};
 ghost use Rattle.crossbar_model.specs.Crossbar.{same_end};
 ghost use Rattle.keyed_lists.specs.Keyed.{entered};
-ghost use Rattle.controller_model.specs.Joins.{end_le};
+ghost use Rattle.world_model.specs.Joins.{end_le};
 ghost use Rattle.join_list.specs.Joined.{AreInOrder};
 
 use crate::places::{Joined, first_from, place_of};

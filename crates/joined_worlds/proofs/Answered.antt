@@ -14,13 +14,13 @@ use Rattle.link_model.specs.declared.frames.Frame.{Frame}
 use Rattle.link_model.specs.Ledger.{payload_of}
 use Rattle.link_model.specs.Notes.{Journal}
 use Rattle.crossbar_model.specs.Crossbar.{queue_of}
-use Rattle.desk_model.specs.Desk.{Standing}
-use Rattle.desk_model.specs.Answers.{Head, head_of, is_of_type, Answered, Unknown, Done, Ports, Failed, succeeded, outcome, answered_with, answered, without_request}
-use Rattle.switch_model.specs.declared.request.Asked.{Asked}
-use Rattle.switch_model.specs.Switch.{control_port}
-use Rattle.switch_model.specs.Requests.{asked_in}
-use Rattle.controller_model.specs.Controller.{Acted, default_channel}
-use Rattle.controller_model.specs.Cells.{same_channel}
+use Rattle.port_model.specs.Desk.{Standing}
+use Rattle.port_model.specs.DeskAnswers.{Head, head_of, is_of_type, Answered, Unknown, Done, Ports, Failed, succeeded, outcome, answered_with, answered, without_request}
+use Rattle.world_model.specs.declared.request.Asked.{Asked}
+use Rattle.world_model.specs.Switch.{control_port}
+use Rattle.world_model.specs.Requests.{asked_in}
+use Rattle.world_model.specs.Controller.{Acted, default_channel}
+use Rattle.world_model.specs.Cells.{same_channel}
 use Rattle.branch_line.specs.Words.{ToController, SwitchGreets, Answer, Success}
 use Rattle.branch_line.specs.Words as words
 use Rattle.branch_line.specs.Line.{Line}

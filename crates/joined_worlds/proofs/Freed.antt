@@ -19,17 +19,17 @@ use Rattle.gsmp_wire.specs.declared.request.Request.TheVariants.{AddBranch, Move
 use Rattle.ordered_lists.specs.Ordered.{Every, InOrder}
 use Rattle.link_model.specs.Ledger.{payload_of}
 use Rattle.crossbar_model.specs.Crossbar.{queue_of, output_of}
-use Rattle.desk_model.specs.Desk.{Standing}
-use Rattle.desk_model.specs.Requests.{leads_home}
-use Rattle.desk_model.specs.Answers.{Head, head_of, is_of_type, Done, Unknown, Ports, Failed, outcome, answered_with, answered, after_answer, without_request}
-use Rattle.switch_model.specs.Switch.{control_port}
+use Rattle.port_model.specs.Desk.{Standing}
+use Rattle.port_model.specs.Requests.{leads_home}
+use Rattle.port_model.specs.DeskAnswers.{Head, head_of, is_of_type, Done, Unknown, Ports, Failed, outcome, answered_with, answered, after_answer, without_request}
+use Rattle.world_model.specs.Switch.{control_port}
 use Rattle.port_model.specs.Setup.{Setup, home_of}
 use Rattle.port_model.specs.Grants.{Grant, input_of}
 use Rattle.port_facts.specs.Port.{IsLabelEnd, IsShaped, asks_ports, empties_control, empties_port, opens_input, opens_output, leads_label, leads_grant, joins_label, parts_label, frees_label}
 use Rattle.port_facts.proofs.Found.{find_passes}
-use Rattle.controller_model.specs.Controller.{Acted, Linked, default_channel}
-use Rattle.controller_model.specs.Cells.{same_channel}
-use Rattle.controller_model.specs.Meeting.{is_deleting, has_emptied}
+use Rattle.world_model.specs.Controller.{Acted, Linked, default_channel}
+use Rattle.world_model.specs.Cells.{same_channel}
+use Rattle.world_model.specs.Meeting.{is_deleting, has_emptied}
 use Rattle.controller_facts.specs.Sound.{IsSound, IsEarlier}
 use Rattle.controller_facts.proofs.Laws.{has_ports}
 use Rattle.controller_law.specs.Match.{lent_in, lent_at}

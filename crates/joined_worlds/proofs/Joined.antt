@@ -22,18 +22,18 @@ use Rattle.ordered_lists.specs.Ordered.{Every}
 use Rattle.frame_model.specs.Frame.{octets_of, payload_in}
 use Rattle.frame_model.specs.Reassembly.{taken}
 use Rattle.link_model.specs.declared.record.Refusal.{Refusal}
-use Rattle.desk_model.specs.Desk.{Standing}
-use Rattle.desk_model.specs.Requests.{leads_home}
-use Rattle.desk_model.specs.Answers.{Done, answered}
+use Rattle.port_model.specs.Desk.{Standing}
+use Rattle.port_model.specs.Requests.{leads_home}
+use Rattle.port_model.specs.DeskAnswers.{Done, answered}
 use Rattle.port_model.specs.Setup.{Policy, Setup, home_of}
 use Rattle.port_model.specs.Grants.{Grant, grant_label, input_of}
 use Rattle.port_facts.specs.Port.{IsLabelEnd}
-use Rattle.controller_model.specs.Controller.{Controller, Acted, Linked, default_channel, free_slots, linked_at}
-use Rattle.controller_model.specs.Joins.{inputs_at, tries_join, tries_joins}
-use Rattle.controller_model.specs.Gsmp.{steps}
-use Rattle.controller_model.specs.Packets.{inject_refusal, injected}
-use Rattle.controller_model.specs.Cells.{same_channel, cell_comes}
-use Rattle.controller_model.specs.Ticks.{sends_again, ticks_ports, ticks_by, ticks}
+use Rattle.world_model.specs.Controller.{Controller, Acted, Linked, default_channel, free_slots, linked_at}
+use Rattle.world_model.specs.Joins.{inputs_at, tries_join, tries_joins}
+use Rattle.world_model.specs.Gsmp.{steps}
+use Rattle.world_model.specs.Packets.{inject_refusal, injected}
+use Rattle.world_model.specs.Cells.{same_channel, cell_comes}
+use Rattle.world_model.specs.Ticks.{sends_again, ticks_ports, ticks_by, ticks}
 use Rattle.controller_facts.specs.Inputs.{Input, CellComes, PacketEnters, Ticks, Restarts, ChangeComes, FrameIsForged, CellLeaves, Meanwhile, takes_input, enters_unless}
 use Rattle.controller_facts.specs.Sound.{IsSound}
 use Rattle.controller_facts.proofs.Laws.{has_ports, moves_sound}

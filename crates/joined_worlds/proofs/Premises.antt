@@ -18,14 +18,14 @@ use Rattle.link_model.specs.Notes.{Journal}
 use Rattle.frame_model.specs.Frame.{octets_of, last_mark, payload_in}
 use Rattle.frame_model.specs.Reassembly.{Reassembly, Taken, taken, most_cells, passed_over, without_slot, too_long, joined}
 use Rattle.crossbar_model.specs.Crossbar.{queue_of}
-use Rattle.switch_model.specs.Switch as switches
-use Rattle.switch_model.specs.Switch.{control_port}
+use Rattle.world_model.specs.Switch as switches
+use Rattle.world_model.specs.Switch.{control_port}
 use Rattle.port_model.specs.Setup.{Policy, Setup}
 use Rattle.port_facts.proofs.Keyed.{on_each}
-use Rattle.controller_model.specs.Controller.{Acted, Linked, default_channel}
-use Rattle.controller_model.specs.Controller as controllers
-use Rattle.controller_model.specs.Cells.{Taker, ForGsmp, ForDefault, ForLabel, same_channel, taker_of, reassembly_of, taker_at, label_taker, port_on, on_link}
-use Rattle.controller_model.specs.Packets.{is_control}
+use Rattle.world_model.specs.Controller.{Acted, Linked, default_channel}
+use Rattle.world_model.specs.Controller as controllers
+use Rattle.world_model.specs.Cells.{Taker, ForGsmp, ForDefault, ForLabel, same_channel, taker_of, reassembly_of, taker_at, label_taker, port_on, on_link}
+use Rattle.world_model.specs.Packets.{is_control}
 use Rattle.world_model.specs.declared.event.Event.{Event}
 use Rattle.world_model.specs.declared.event.Event.TheVariants.{Inject, Carry, Lose, Tick, TickSwitch, Restart, RestartSwitch, Forge, Route}
 use Rattle.world_model.specs.declared.link.LinkEnd.{LinkEnd}

@@ -11,15 +11,15 @@ use Rattle.gsmp_wire.specs.declared.message.Message.{Message}
 use Rattle.link_model.specs.declared.frames.Frame.{Frame}
 use Rattle.link_model.specs.Ledger.{payload_of}
 use Rattle.crossbar_model.specs.Crossbar.{queue_of}
-use Rattle.desk_model.specs.Desk.{Standing}
-use Rattle.desk_model.specs.Requests.{leads_home}
-use Rattle.desk_model.specs.Answers.{Done, answered, after_answer}
-use Rattle.switch_model.specs.Switch.{control_port}
+use Rattle.port_model.specs.Desk.{Standing}
+use Rattle.port_model.specs.Requests.{leads_home}
+use Rattle.port_model.specs.DeskAnswers.{Done, answered, after_answer}
+use Rattle.world_model.specs.Switch.{control_port}
 use Rattle.port_model.specs.Setup.{Policy, home_of, label_end}
 use Rattle.port_model.specs.Port.{label_at}
-use Rattle.controller_model.specs.Controller.{Controller, Linked, linked_at, default_channel}
-use Rattle.controller_model.specs.Cells.{Taker, ForGsmp, ForDefault, ForLabel, same_channel, taker_of, taker_at, label_taker, port_on, on_link}
-use Rattle.controller_model.specs.Meeting.{is_deleting, has_emptied}
+use Rattle.world_model.specs.Controller.{Controller, Linked, linked_at, default_channel}
+use Rattle.world_model.specs.Cells.{Taker, ForGsmp, ForDefault, ForLabel, same_channel, taker_of, taker_at, label_taker, port_on, on_link}
+use Rattle.world_model.specs.Meeting.{is_deleting, has_emptied}
 use Rattle.label_line.specs.Cells.{Downstream, Upstream}
 use Rattle.port_views.specs.Link.{LinkLabel}
 use Rattle.world_model.specs.declared.event.Event.{Event}

@@ -13,10 +13,10 @@ use Rattle.link_model.specs.Ledger.{payload_of}
 use Rattle.frame_model.specs.Frame.{octets_of, last_mark, payload_in}
 use Rattle.frame_model.specs.Reassembly.{Reassembly, taken}
 use Rattle.crossbar_model.specs.Crossbar.{queue_of}
-use Rattle.switch_model.specs.Switch.{control_port}
+use Rattle.world_model.specs.Switch.{control_port}
 use Rattle.port_model.specs.Setup.{Policy}
-use Rattle.controller_model.specs.Controller.{Controller, Acted, default_channel, free_slots}
-use Rattle.controller_model.specs.Cells.{same_channel}
+use Rattle.world_model.specs.Controller.{Controller, Acted, default_channel, free_slots}
+use Rattle.world_model.specs.Cells.{same_channel}
 use Rattle.controller_facts.specs.Inputs.{Input, CellComes, PacketEnters, Ticks, Restarts, ChangeComes, FrameIsForged, CellLeaves, Meanwhile, takes_input}
 use Rattle.world_model.specs.declared.event.Event.{Event}
 use Rattle.world_model.specs.declared.event.Event.TheVariants.{Inject, Carry, Lose, Tick, TickSwitch, Restart, RestartSwitch, Forge, Route}

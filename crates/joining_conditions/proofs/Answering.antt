@@ -14,20 +14,20 @@ use Rattle.gsmp_wire.specs.declared.request.Request.{Request}
 use Rattle.gsmp_wire.specs.declared.request.Request.TheVariants.{AddBranch, MoveBranch, DeleteTree, VerifyTree, DeleteAll, PortManagement, AllPorts}
 use Rattle.gsmp_wire.specs.declared.rows.PortRow.{PortRow}
 use Rattle.ordered_lists.specs.Ordered.{Every}
-use Rattle.desk_model.specs.Requests.{is_delete_all}
-use Rattle.desk_model.specs.Desk.{Desk, Standing}
-use Rattle.desk_model.specs.Answers.{Head, head_of, is_of_type, Answered, Unknown, Done, Ports, Failed, succeeded, outcome, answered_with, answered, after_answer}
+use Rattle.port_model.specs.Requests.{is_delete_all}
+use Rattle.port_model.specs.Desk.{Desk, Standing}
+use Rattle.port_model.specs.DeskAnswers.{Head, head_of, is_of_type, Answered, Unknown, Done, Ports, Failed, succeeded, outcome, answered_with, answered, after_answer}
 use Rattle.port_model.specs.Setup.{Setup}
 use Rattle.port_model.specs.Answers as port_answers
 use Rattle.port_facts.specs.Port.{IsShaped}
 use Rattle.port_facts.proofs.Found.{find_every, find_passes}
 use Rattle.port_facts.proofs.Keyed.{on_both}
 use Rattle.port_facts.proofs.Rules.{and_second, done_goes}
-use Rattle.controller_model.specs.Controller.{Acted, Linked, with_desk}
-use Rattle.controller_model.specs.Resets.{begins}
-use Rattle.controller_model.specs.Joins.{releases}
-use Rattle.controller_model.specs.Meeting.{is_clearing, causes, causes_in_estab, clears, done, takes_answer, answer_comes}
-use Rattle.controller_model.specs.Gsmp.{told}
+use Rattle.world_model.specs.Controller.{Acted, Linked, with_desk}
+use Rattle.world_model.specs.Resets.{begins}
+use Rattle.world_model.specs.Joins.{releases}
+use Rattle.world_model.specs.Meeting.{is_clearing, causes, causes_in_estab, clears, done, takes_answer, answer_comes}
+use Rattle.world_model.specs.Gsmp.{told}
 use Rattle.controller_facts.specs.Conditions.{MovesLabels}
 use Rattle.controller_facts.specs.Said.{HasFlowsAt}
 use Rattle.controller_facts.proofs.Conditions.{shaped_moves}

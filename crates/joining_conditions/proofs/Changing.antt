@@ -12,9 +12,9 @@ use Rattle.ordered_lists.proofs.Every.{every_map}
 use Rattle.port_model.specs.Setup.{Setup}
 use Rattle.port_facts.specs.Port.{IsLabelEnd, parts_label}
 use Rattle.port_facts.proofs.Keyed.{on_both}
-use Rattle.controller_model.specs.Controller.{Acted, Linked, note}
-use Rattle.controller_model.specs.Joins.{Join, joins_of, output_of}
-use Rattle.controller_model.specs.Changes.{is_changed, changed_joins, takes_join_back, begins_change, takes_change, may_take, takes_each, takes_changes}
+use Rattle.world_model.specs.Controller.{Acted, Linked, note}
+use Rattle.world_model.specs.Joins.{Join, joins_of, output_of}
+use Rattle.world_model.specs.Changes.{is_changed, changed_joins, takes_join_back, begins_change, takes_change, may_take, takes_each, takes_changes}
 use Rattle.controller_facts.proofs.Moves.{routing, Moves, moves_to, stays, further, moves_ports, HasPorts}
 use Rattle.controller_facts.proofs.Performing.{takes_back_goes}
 use Rattle.controller_facts.proofs.Joining.{IsJoin, joins_are, join_input, join_output, begins_change_goes, takes_change_goes, every_filter}

@@ -3,7 +3,7 @@
 use Rattle.std.proofs.Common.{refl, subst}
 use Rattle.port_facts.proofs.Rules.{counts_goes}
 use Rattle.port_facts.proofs.Hearings.{hears_goes}
-use Rattle.controller_model.specs.Resets.{begins}
+use Rattle.world_model.specs.Resets.{begins}
 use Rattle.controller_facts.specs.Inputs.{Ticks, Restarts, ChangeComes}
 use Rattle.controller_facts.proofs.Moves.{found_port}
 use Rattle.router.specs.Meeting.{with_change}

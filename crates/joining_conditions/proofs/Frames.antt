@@ -15,10 +15,10 @@ use Rattle.ifmp_wire.specs.declared.reader.Fault.{Fault as IfmpFault}
 use Rattle.ifmp_wire.specs.Fields.{decoded as ifmp_decoded}
 use Rattle.link_model.specs.Notes.{Journal}
 use Rattle.frame_model.specs.Reassembly.{Reassembly}
-use Rattle.controller_model.specs.Controller.{Acted}
-use Rattle.controller_model.specs.Packets.{routes}
-use Rattle.controller_model.specs.Gsmp.{gsmp_holds}
-use Rattle.controller_model.specs.Cells.{Taker, ForGsmp, ForDefault, ForLabel, with_reassembly, ifmp_holds, counted_at, packet_holds, default_holds, frame_holds, opened_frame}
+use Rattle.world_model.specs.Controller.{Acted}
+use Rattle.world_model.specs.Packets.{routes}
+use Rattle.world_model.specs.Gsmp.{gsmp_holds}
+use Rattle.world_model.specs.Cells.{Taker, ForGsmp, ForDefault, ForLabel, with_reassembly, ifmp_holds, counted_at, packet_holds, default_holds, frame_holds, opened_frame}
 use Rattle.controller_facts.specs.Inputs.{CellComes}
 use Rattle.controller_conditions.specs.Kept.{IsKept, AreIn}
 use Rattle.router.specs.Cells.{gathered, receipt}

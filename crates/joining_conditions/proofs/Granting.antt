@@ -9,8 +9,8 @@ use Rattle.port_model.specs.Setup.{Setup}
 use Rattle.port_model.specs.Grants.{Grant, grant_label}
 use Rattle.port_facts.specs.Port.{IsApart}
 use Rattle.port_facts.proofs.Keyed.{by_eq}
-use Rattle.controller_model.specs.Controller.{Acted, Linked, linked_at}
-use Rattle.controller_model.specs.Joins.{Join, joins_of}
+use Rattle.world_model.specs.Controller.{Acted, Linked, linked_at}
+use Rattle.world_model.specs.Joins.{Join, joins_of}
 use Rattle.controller_facts.proofs.Moves.{HasPorts, found_port}
 use Rattle.controller_facts.proofs.Joining.{IsJoin, joins_are}
 use Rattle.joining_router.specs.Conditions.{IsGrantOf, HasGrants}

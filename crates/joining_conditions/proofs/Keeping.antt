@@ -17,7 +17,7 @@ use Rattle.ifmp_wire.specs.declared.message.Message.TheVariants.{Adjacency}
 use Rattle.link_model.specs.declared.record.Record.TheVariants.{Bind, Free, Opened, Join as JoinRecord}
 use Rattle.ordered_lists.specs.Ordered.{Every, InOrder}
 use Rattle.keyed_lists.specs.Keyed.{at, put, without, entered, key_le}
-use Rattle.desk_model.specs.Desk.{Desk, on_input}
+use Rattle.port_model.specs.Desk.{Desk, on_input}
 use Rattle.port_model.specs.declared.action.Action.{Action}
 use Rattle.port_model.specs.declared.action.Action.TheVariants as actions
 use Rattle.port_model.specs.declared.action.Action.TheVariants.{Say, Ask, Note, CutChain, TakeBack}
@@ -33,10 +33,10 @@ use Rattle.port_facts.specs.Port.{setup_port, IsWork}
 use Rattle.port_facts.proofs.Keyed.{on_both, by_eq, at_key}
 use Rattle.port_facts.proofs.Steps.{Step, Goes, greeting, telling, closing, noting, turning, heard, minding, relabelling, wiring, binding, quitting, unwiring, freeing, accepting, granting, regranting, starting, ending, taking_back, goes_keeps}
 use Rattle.port_facts.proofs.Kept.{step_kept}
-use Rattle.controller_model.specs.Controller.{Acted, Linked, linked_at}
-use Rattle.controller_model.specs.Resets.{begins}
-use Rattle.controller_model.specs.Performing.{Rule}
-use Rattle.controller_model.specs.Joins.{Join, join_to}
+use Rattle.world_model.specs.Controller.{Acted, Linked, linked_at}
+use Rattle.world_model.specs.Resets.{begins}
+use Rattle.world_model.specs.Performing.{Rule}
+use Rattle.world_model.specs.Joins.{Join, join_to}
 use Rattle.controller_facts.proofs.Moves.{found_setup, found_at_own, begun}
 use Rattle.controller_law.proofs.Releasing.{tells_parts}
 use Rattle.controller_conditions.proofs.Ready.{Ready, ready_ports}

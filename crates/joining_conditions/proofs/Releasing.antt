@@ -10,8 +10,8 @@ use Rattle.gsmp_wire.specs.declared.request.Request.{Request}
 use Rattle.ordered_lists.specs.Ordered.{Every}
 use Rattle.ordered_lists.proofs.Every.{every_map, every_map2, every_mapped}
 use Rattle.keyed_lists.specs.Keyed.{at}
-use Rattle.desk_model.specs.Requests.{leads_home}
-use Rattle.desk_model.specs.Desk.{Desk, on_input}
+use Rattle.port_model.specs.Requests.{leads_home}
+use Rattle.port_model.specs.Desk.{Desk, on_input}
 use Rattle.port_model.specs.declared.action.Action.{Action}
 use Rattle.port_model.specs.declared.action.Action.TheVariants as actions
 use Rattle.port_model.specs.declared.action.Action.TheVariants.{Say, Ask, Note, CutChain, TakeBack, Withdraw}
@@ -23,10 +23,10 @@ use Rattle.port_model.specs.Joins.{given_back}
 use Rattle.port_facts.specs.Port.{setup_port, IsLabelEnd, IsAction}
 use Rattle.port_facts.proofs.Found.{filter_passes, find_every}
 use Rattle.port_facts.proofs.Keyed.{at_key}
-use Rattle.controller_model.specs.Controller.{Acted, Linked, port_key, linked_at, ports_of}
-use Rattle.controller_model.specs.Resets.{begins, with_work}
-use Rattle.controller_model.specs.Performing.{performs, performs_in_estab, works}
-use Rattle.controller_model.specs.Joins.{Join, joins_of, join_of, parts, gives_back, releases_join, releases_input, released_inputs, releases}
+use Rattle.world_model.specs.Controller.{Acted, Linked, port_key, linked_at, ports_of}
+use Rattle.world_model.specs.Resets.{begins, with_work}
+use Rattle.world_model.specs.Performing.{performs, performs_in_estab, works}
+use Rattle.world_model.specs.Joins.{Join, joins_of, join_of, parts, gives_back, releases_join, releases_input, released_inputs, releases}
 use Rattle.controller_facts.proofs.Moves.{by_giving_back, Found, placing, Moves, moves_to, stays, further, moves_fold, moves_ports, HasPorts, found_setup, found_at_own, found_port}
 use Rattle.controller_facts.proofs.Performing.{performs_in_estab_goes}
 use Rattle.controller_facts.proofs.Conditions.{of_label}

@@ -15,17 +15,17 @@ use Rattle.gsmp_wire.specs.declared.message.Message.{Message}
 use Rattle.gsmp_wire.specs.declared.message.Message.TheVariants as messages
 use Rattle.gsmp_wire.specs.declared.request.Request.TheVariants.{AllPorts}
 use Rattle.ordered_lists.specs.Ordered.{Every}
-use Rattle.desk_model.specs.Desk.{empty_desk}
+use Rattle.port_model.specs.Desk.{empty_desk}
 use Rattle.port_model.specs.Setup.{Setup}
 use Rattle.port_model.specs.Ticks as port_ticks
 use Rattle.port_facts.proofs.Hearings.{ticks_goes}
-use Rattle.controller_model.specs.Controller.{Acted, ports_of, with_desk}
-use Rattle.controller_model.specs.Sending.{says_gsmp}
-use Rattle.controller_model.specs.Resets.{begins, node_resets}
-use Rattle.controller_model.specs.Meeting.{meets}
-use Rattle.controller_model.specs.Gsmp.{answers, steps}
-use Rattle.controller_model.specs.Joins.{tries_joins}
-use Rattle.controller_model.specs.Ticks.{sends_again, ticks_port, ticks_ports, ticks_by, ticks}
+use Rattle.world_model.specs.Controller.{Acted, ports_of, with_desk}
+use Rattle.world_model.specs.Sending.{says_gsmp}
+use Rattle.world_model.specs.Resets.{begins, node_resets}
+use Rattle.world_model.specs.Meeting.{meets}
+use Rattle.world_model.specs.Gsmp.{answers, steps}
+use Rattle.world_model.specs.Joins.{tries_joins}
+use Rattle.world_model.specs.Ticks.{sends_again, ticks_port, ticks_ports, ticks_by, ticks}
 use Rattle.controller_facts.specs.Said.{HasFlowsAt}
 use Rattle.controller_facts.proofs.Moves.{IsGsmpTurn, ages, Moves, further}
 use Rattle.controller_facts.proofs.Entering.{tries_joins_goes}

@@ -18,7 +18,7 @@ use Rattle.gsmp_wire.specs.declared.request.Request.TheVariants.{MoveBranch}
 use Rattle.ordered_lists.specs.Ordered.{Every}
 use Rattle.ordered_lists.proofs.Every.{every_map}
 use Rattle.keyed_lists.specs.Keyed.{at}
-use Rattle.desk_model.specs.Desk.{on_input, most_asked}
+use Rattle.port_model.specs.Desk.{on_input, most_asked}
 use Rattle.port_model.specs.Setup.{Setup, home_of, label_end}
 use Rattle.port_model.specs.Labels.{Label, Offered, label_number}
 use Rattle.port_model.specs.Grants.{Grant, ByController, grant_label, grant_for, is_by_controller}
@@ -29,9 +29,9 @@ use Rattle.port_facts.proofs.Keyed.{on_each, at_every, apart_at}
 use Rattle.port_facts.proofs.Found.{find_passes}
 use Rattle.port_facts.proofs.Rules.{and_first, and_second}
 use Rattle.port_facts.proofs.Weighed.{labels_count}
-use Rattle.controller_model.specs.Controller.{Acted, Linked, linked_at}
-use Rattle.controller_model.specs.Joins.{Join, joins_of, output_of, port_by, join_through, join_by, join_for, is_offered, may_join, enters_grant, joins, tries_label, label_on, tries_join, inputs_at, tries_joins}
-use Rattle.controller_model.specs.Routes.{route_stays}
+use Rattle.world_model.specs.Controller.{Acted, Linked, linked_at}
+use Rattle.world_model.specs.Joins.{Join, joins_of, output_of, port_by, join_through, join_by, join_for, is_offered, may_join, enters_grant, joins, tries_label, label_on, tries_join, inputs_at, tries_joins}
+use Rattle.world_model.specs.Routes.{route_stays}
 use Rattle.controller_facts.proofs.Moves.{by_lending, by_joining, Found, Moves, stays, further, moves_ports, HasPorts, found_setup, found_at_own, found_port}
 use Rattle.controller_facts.proofs.Performing.{at_port_goes}
 use Rattle.controller_facts.proofs.Joining.{image_is, every_flat_map, each_there}

@@ -12,9 +12,9 @@ use Rattle.gsmp_wire.specs.Fields.{decoded as gsmp_decoded}
 use Rattle.ifmp_wire.specs.declared.message.Message.{Message as IfmpMessage}
 use Rattle.ifmp_wire.specs.Message.{InRange}
 use Rattle.ifmp_wire.specs.Fields.{decoded as ifmp_decoded}
-use Rattle.controller_model.specs.Controller.{Acted}
-use Rattle.controller_model.specs.Packets.{routes, control_protocol}
-use Rattle.controller_model.specs.Cells.{Taker, ForGsmp, ForDefault, ForLabel, taker_of}
+use Rattle.world_model.specs.Controller.{Acted}
+use Rattle.world_model.specs.Packets.{routes, control_protocol}
+use Rattle.world_model.specs.Cells.{Taker, ForGsmp, ForDefault, ForLabel, taker_of}
 use Rattle.router.specs.Conditions.{HasMark}
 use Rattle.router.specs.Cells.{gathered, receipt}
 use Rattle.joining_router.specs.Conditions.{CanWorkOn}

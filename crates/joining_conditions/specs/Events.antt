@@ -8,9 +8,9 @@ use Rattle.ipv4_forward.specs.declared.change.RouteChange.{RouteChange}
 use Rattle.gsmp_wire.specs.declared.message.Message.{Message}
 use Rattle.ifmp_wire.specs.declared.message.Message.{Message as IfmpMessage}
 use Rattle.ifmp_wire.specs.Message.{InRange}
-use Rattle.controller_model.specs.Controller.{Acted}
-use Rattle.controller_model.specs.Performing.{at_port}
-use Rattle.controller_model.specs.Gsmp.{told}
+use Rattle.world_model.specs.Controller.{Acted}
+use Rattle.world_model.specs.Performing.{at_port}
+use Rattle.world_model.specs.Gsmp.{told}
 use Rattle.router.specs.Conditions.{CanResetNode}
 use Rattle.router.specs.Meeting.{with_change}
 use Rattle.joining_router.specs.Conditions.{CanTick, CanTakeChanges, CanWorkOn}

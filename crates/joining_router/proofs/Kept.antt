@@ -6,7 +6,7 @@ use Rattle.net_types.specs.declared.node.PortNo.{PortNo}
 use Rattle.ordered_lists.specs.Ordered.{Every, InOrder}
 use Rattle.keyed_lists.specs.Keyed.{in_order}
 use Rattle.crossbar_model.specs.Channels.{ArePorts}
-use Rattle.controller_model.specs.Controller.{Acted, Controller, ports_of}
+use Rattle.world_model.specs.Controller.{Acted, Controller, ports_of}
 use Rattle.join_list.specs.declared.places.Joined.{Joined}
 use Rattle.join_facts.specs.Joins.{Differ, HaveNumbers, joined_in}
 use Rattle.join_facts.proofs.Comes.{le}

@@ -12,14 +12,14 @@ use Rattle.gsmp_wire.specs.declared.request.Request.{Request}
 use Rattle.gsmp_wire.specs.declared.request.Request.TheVariants.{DeleteAll, DeleteTree, MoveBranch}
 use Rattle.crossbar_model.specs.Crossbar.{same_end}
 use Rattle.branch_desk.proofs.Ends.{end_from_same, same_itself}
-use Rattle.desk_model.specs.Requests.{leads_home}
+use Rattle.port_model.specs.Requests.{leads_home}
 use Rattle.grant_table.specs.Table as table
 use Rattle.port_model.specs.Setup.{home_of}
 use Rattle.port_model.specs.Grants.{Grant, grant_label, input_of}
 use Rattle.port_model.specs.Joins.{given_back}
-use Rattle.controller_model.specs.Controller.{Acted, Controller, Linked, linked_at}
-use Rattle.controller_model.specs.Joins.{Join, join_of, joins_of, parts, released_inputs, releases_input, releases_join}
-use Rattle.controller_model.specs.Performing.{at_port}
+use Rattle.world_model.specs.Controller.{Acted, Controller, Linked, linked_at}
+use Rattle.world_model.specs.Joins.{Join, join_of, joins_of, parts, released_inputs, releases_input, releases_join}
+use Rattle.world_model.specs.Performing.{at_port}
 use Rattle.join_list.specs.Joined.{joined_of}
 use Rattle.join_list.specs.declared.places.Joined.{Joined}
 use Rattle.join_facts.specs.Joins.{joined_in}

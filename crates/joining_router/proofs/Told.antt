@@ -2,9 +2,9 @@
 
 use Rattle.std.proofs.Common.{◌≡◌, ℕ, List, refl, sym}
 use Rattle.gsmp_wire.specs.declared.rows.PortRow.{PortRow}
-use Rattle.desk_model.specs.Answers as meaning
-use Rattle.desk_model.specs.Answers.{Answered}
-use Rattle.desk_model.specs.Desk.{Standing}
+use Rattle.port_model.specs.DeskAnswers as meaning
+use Rattle.port_model.specs.DeskAnswers.{Answered}
+use Rattle.port_model.specs.Desk.{Standing}
 use Rattle.request_book.specs.Answers.{told}
 use Rattle.request_book.specs.declared.answer.Answer.TheVariants.{Unknown, Done, Ports, Failed}
 

@@ -14,17 +14,17 @@ use Rattle.flow_ids.specs.Parts.{flow_destination, same_flow}
 use Rattle.gsmp_wire.specs.declared.request.Request.TheVariants.{MoveBranch}
 use Rattle.ordered_lists.specs.Ordered.{InOrder}
 use Rattle.keyed_lists.specs.Keyed.{at}
-use Rattle.desk_model.specs.Desk.{most_asked, on_input}
+use Rattle.port_model.specs.Desk.{most_asked, on_input}
 use Rattle.port_model.specs.Setup.{home_of, label_end}
 use Rattle.port_model.specs.Grants.{Grant, GrantState, Idle, ByController, ByInput, Leaving, grant_for, grant_label, is_by_controller}
 use Rattle.port_model.specs.Joins as port_joins
 use Rattle.port_model.specs.Labels.{Label, LabelState, Wiring, Offered, Recalled, Wired}
 use Rattle.port_model.specs.Port.{label_at}
-use Rattle.controller_model.specs.Asking.{asks}
-use Rattle.controller_model.specs.Controller.{Acted, Controller, Linked, linked_at, port_key}
-use Rattle.controller_model.specs.Joins.{Join, enters_grant, enters_label, is_offered, join_by, join_for, join_through, joins, label_on, may_join, output_of, port_by, tries_join, tries_label}
-use Rattle.controller_model.specs.Performing.{at_port}
-use Rattle.controller_model.specs.Routes.{route_stays}
+use Rattle.world_model.specs.Asking.{asks}
+use Rattle.world_model.specs.Controller.{Acted, Controller, Linked, linked_at, port_key}
+use Rattle.world_model.specs.Joins.{Join, enters_grant, enters_label, is_offered, join_by, join_for, join_through, joins, label_on, may_join, output_of, port_by, tries_join, tries_label}
+use Rattle.world_model.specs.Performing.{at_port}
+use Rattle.world_model.specs.Routes.{route_stays}
 use Rattle.cut_through.specs.Plan.{way_of}
 use Rattle.join_list.specs.Joined.{joined_of}
 use Rattle.join_list.specs.declared.places.Joined.{Joined}

@@ -9,11 +9,11 @@ use Rattle.adjacency_table.specs.Side.{is_estab}
 use Rattle.gsmp_wire.specs.declared.message.Message.{Message}
 use Rattle.gsmp_wire.specs.declared.message.Message.TheVariants.{Adjacency}
 use Rattle.gsmp_wire.specs.declared.request.Request.{Request}
-use Rattle.desk_model.specs.Answers.{Answered, Unknown, Done, Ports, Failed, after_answer, answered}
+use Rattle.port_model.specs.DeskAnswers.{Answered, Unknown, Done, Ports, Failed, after_answer, answered}
 use Rattle.port_model.specs.Answers as port_answers
-use Rattle.controller_model.specs.Controller.{Acted, with_desk}
-use Rattle.controller_model.specs.Joins.{releases}
-use Rattle.controller_model.specs.Meeting.{causes, clears, port_of}
+use Rattle.world_model.specs.Controller.{Acted, with_desk}
+use Rattle.world_model.specs.Joins.{releases}
+use Rattle.world_model.specs.Meeting.{causes, clears, port_of}
 use Rattle.router.specs.Conditions.{CanFollow, CanResetNode, turned_to}
 use Rattle.router.specs.Engine.{CanBeDone}
 use Rattle.router.specs.Meeting.{CanCause, CanEmpty, with_change}

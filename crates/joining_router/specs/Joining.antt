@@ -3,7 +3,7 @@
 use Rattle.std.specs.Prelude.{◌≡◌, List}
 use Rattle.net_types.specs.Number.{GivenOut}
 use Rattle.link_model.specs.Notes.{Journal}
-use Rattle.controller_model.specs.Controller.{Acted, Controller}
+use Rattle.world_model.specs.Controller.{Acted, Controller}
 use Rattle.gsmp_client.specs.Client.{PortEnd}
 use Rattle.join_list.specs.declared.places.Joined.{Joined}
 use Rattle.join_facts.specs.Joins.{joined_in}

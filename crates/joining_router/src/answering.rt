@@ -3,9 +3,9 @@
 ghost use Rattle.std.specs.Prelude.{◌≡◌, ◌≢◌, OnOk};
 ghost use Rattle.gsmp_wire.specs.declared.message.Message.TheVariants as messages;
 ghost use Rattle.adjacency_table.specs.declared.message.Answer.TheVariants.{Reset};
-ghost use Rattle.desk_model.specs.Answers.{answered};
-ghost use Rattle.controller_model.specs.Gsmp.{answers, told};
-ghost use Rattle.controller_model.specs.Meeting.{answer_comes, done as finished};
+ghost use Rattle.port_model.specs.DeskAnswers.{answered};
+ghost use Rattle.world_model.specs.Gsmp.{answers, told};
+ghost use Rattle.world_model.specs.Meeting.{answer_comes, done as finished};
 ghost use Rattle.router.specs.Conditions.{CanFollow};
 ghost use Rattle.joining_router.specs.Answers.{CanBeTold, CanFinish, CanTakeAnswer};
 ghost use Rattle.joining_router.specs.Joining.{AreJoined, acted};

@@ -4,8 +4,8 @@
 ghost use Rattle.std.specs.Prelude.{◌≡◌, fold, true, OnOk, if◌then◌else◌};
 ghost use Rattle.std.specs.List.{list_any};
 ghost use Rattle.port_model.specs.Setup.{label_end};
-ghost use Rattle.controller_model.specs.Changes.{begins_change, change_comes, changed_joins, is_changed, takes_changes, takes_join_back};
-ghost use Rattle.controller_model.specs.Joins.{Join, joins_of, output_of};
+ghost use Rattle.world_model.specs.Changes.{begins_change, change_comes, changed_joins, is_changed, takes_changes, takes_join_back};
+ghost use Rattle.world_model.specs.Joins.{Join, joins_of, output_of};
 ghost use Rattle.join_facts.specs.Joins.{HaveNumbers};
 ghost use Rattle.join_list.specs.Joined.{joined_of};
 ghost use Rattle.router.specs.Conditions.{CanTakeBack};

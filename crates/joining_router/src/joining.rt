@@ -2,7 +2,7 @@
 
 ghost use Rattle.std.specs.Prelude.{◌≡◌, ◌&&◌, [], not, if◌then◌else◌};
 ghost use Rattle.adjacency_table.specs.Side.{is_estab};
-ghost use Rattle.controller_model.specs.Controller.{ports_of};
+ghost use Rattle.world_model.specs.Controller.{ports_of};
 ghost use Rattle.join_facts.specs.Joins.{HaveNumbers};
 ghost use Rattle.router.specs.Node.{ports_in};
 ghost use Rattle.joining_router.specs.Joining.{controller_of};

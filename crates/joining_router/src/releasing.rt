@@ -4,9 +4,9 @@
 ghost use Rattle.std.specs.Prelude.{◌≡◌, find, fold, true, OnOk, Some};
 ghost use Rattle.crossbar_model.specs.Crossbar.{same_end};
 ghost use Rattle.gsmp_wire.specs.declared.request.Request.TheVariants.{DeleteAll};
-ghost use Rattle.desk_model.specs.Requests.{leads_home};
+ghost use Rattle.port_model.specs.Requests.{leads_home};
 ghost use Rattle.port_model.specs.Setup.{home_of};
-ghost use Rattle.controller_model.specs.Joins.{released_inputs, releases, releases_input};
+ghost use Rattle.world_model.specs.Joins.{released_inputs, releases, releases_input};
 ghost use Rattle.join_list.specs.Joined.{AreInOrder};
 ghost use Rattle.joining_router.specs.Conditions.{CanRelease, CanReleaseInput, EachCanBeReleased};
 ghost use Rattle.joining_router.specs.Joining.{AreJoined, acted, controller_of};

@@ -5,7 +5,7 @@ ghost use Rattle.std.specs.Prelude.{◌≡◌, ◌≤◌, fold, length, option_m
 ghost use Rattle.net_types.specs.Label.{is_label_number};
 ghost use Rattle.label_book.specs.Read.{label_of};
 ghost use Rattle.port_model.specs.Setup.{label_end};
-ghost use Rattle.controller_model.specs.Joins.{Join, join_for, joins, label_on, may_join, tries_join, tries_joins};
+ghost use Rattle.world_model.specs.Joins.{Join, join_for, joins, label_on, may_join, tries_join, tries_joins};
 ghost use Rattle.join_facts.specs.Joins.{HaveNumbers, inputs_on};
 ghost use Rattle.join_list.specs.Joined.{joined_of};
 ghost use Rattle.router.specs.Node.{ports_in};

@@ -19,8 +19,8 @@ use Rattle.crossbar_model.specs.declared.branch.Branch.{Branch}
 use Rattle.crossbar_model.specs.Crossbar.{Crossbar, queue_of, on_channel_of, route_on, input_of, output_of, switched_on, sent}
 use Rattle.label_line.specs.Cells.{Role, Downstream, Upstream}
 use Rattle.label_line.specs.Line.{Line}
-use Rattle.switch_model.specs.Switch.{Acted, control_port, free_slots}
-use Rattle.switch_model.specs.Conduct.{gsmp_cell, passed, switched_cell, is_gsmp, cell_comes}
+use Rattle.world_model.specs.Switch.{Acted, control_port, free_slots}
+use Rattle.world_model.specs.Conduct.{gsmp_cell, passed, switched_cell, is_gsmp, cell_comes}
 use Rattle.port_model.specs.Setup.{label_end}
 use Rattle.world_model.specs.declared.link.LinkEnd.{LinkEnd}
 use Rattle.world_model.specs.World.{World, Site, site_key, site_at, with_site, switch_acts}

@@ -4,8 +4,8 @@ use Rattle.std.proofs.Common.{◌≡◌, [], Some}
 use Rattle.net_types.specs.declared.node.NodeId.{NodeId}
 use Rattle.ipv4_forward.specs.declared.change.RouteChange.{RouteChange}
 use Rattle.label_line.specs.Line.{Line}
-use Rattle.controller_model.specs.Changes.{change_comes}
-use Rattle.controller_model.specs.Ticks.{ticks}
+use Rattle.world_model.specs.Changes.{change_comes}
+use Rattle.world_model.specs.Ticks.{ticks}
 use Rattle.controller_facts.proofs.Laws.{has_ports}
 use Rattle.world_model.specs.World.{World, Site, site_at, at_controller}
 use Rattle.world_model.specs.Step.{tallied}

@@ -10,9 +10,9 @@ use Rattle.port_facts.proofs.Keyed.{at_key, at_put_same}
 use Rattle.label_line.specs.Cells.{Role, Downstream, Upstream}
 use Rattle.label_line.specs.Line.{Line}
 use Rattle.crossbar_model.specs.Crossbar.{queue_of}
-use Rattle.switch_model.specs.Switch.{control_port}
-use Rattle.controller_model.specs.Controller.{Acted}
-use Rattle.controller_model.specs.Cells.{cell_comes}
+use Rattle.world_model.specs.Switch.{control_port}
+use Rattle.world_model.specs.Controller.{Acted}
+use Rattle.world_model.specs.Cells.{cell_comes}
 use Rattle.actor_pace.proofs.Paces.{Follows}
 use Rattle.actor_pace.proofs.Controllers.{cell_follows}
 use Rattle.world_model.specs.World.{World, Site, site_key, site_at, with_site, controller_acts, at_controller}

@@ -20,10 +20,10 @@ use Rattle.crossbar_model.specs.declared.branch.Branch.{Branch}
 use Rattle.crossbar_model.specs.Crossbar.{Crossbar, queue_of, on_channel_of, route_on, input_of, switched_on, sent}
 use Rattle.label_line.specs.Cells.{Role, Downstream, Upstream}
 use Rattle.label_line.specs.Line.{Line}
-use Rattle.switch_model.specs.Switch.{Acted, control_port, free_slots}
-use Rattle.switch_model.specs.Conduct.{gsmp_cell, passed, switched_cell, is_gsmp, cell_comes}
-use Rattle.controller_model.specs.Controller.{default_channel}
-use Rattle.controller_model.specs.Cells.{same_channel}
+use Rattle.world_model.specs.Switch.{Acted, control_port, free_slots}
+use Rattle.world_model.specs.Conduct.{gsmp_cell, passed, switched_cell, is_gsmp, cell_comes}
+use Rattle.world_model.specs.Controller.{default_channel}
+use Rattle.world_model.specs.Cells.{same_channel}
 use Rattle.world_model.specs.World.{World, Site, site_key, site_at, with_site, switch_acts, at_switch}
 use Rattle.world_model.specs.Places.{queue_at, with_queue_of}
 use Rattle.world_model.specs.Topology.{Topology}

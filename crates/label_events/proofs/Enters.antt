@@ -24,9 +24,9 @@ use Rattle.frame_model.specs.Frame.{next_mark}
 use Rattle.port_facts.proofs.Keyed.{on_both}
 use Rattle.label_line.specs.Line.{Line}
 use Rattle.port_model.specs.Grants.{Grant}
-use Rattle.controller_model.specs.Controller.{Acted, default_home}
-use Rattle.controller_model.specs.Sending.{sends, sends_control}
-use Rattle.controller_model.specs.Packets.{is_control, sends_next, goes_by, grant_by, forwarded, routes, control_protocol, refused_by, inject_refusal, injected}
+use Rattle.world_model.specs.Controller.{Acted, default_home}
+use Rattle.world_model.specs.Sending.{sends, sends_control}
+use Rattle.world_model.specs.Packets.{is_control, sends_next, goes_by, grant_by, forwarded, routes, control_protocol, refused_by, inject_refusal, injected}
 use Rattle.world_model.specs.World.{World, Site, site_at}
 use Rattle.world_model.specs.Step.{note, injects_by, injects}
 use Rattle.port_views.specs.Link.{LinkLabel}

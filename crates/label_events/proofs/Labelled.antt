@@ -13,8 +13,8 @@ use Rattle.label_line.specs.Cells.{Role, Downstream, Upstream}
 use Rattle.label_line.specs.Line.{Line, Grant, NoGrant, Idle, ByController, ByInput, Leaving}
 use Rattle.label_line.specs.Upstream.{joins, switches_labelled}
 use Rattle.label_line.specs.Moves.{SwitchLabelled}
-use Rattle.controller_model.specs.Controller.{default_channel}
-use Rattle.controller_model.specs.Cells.{same_channel}
+use Rattle.world_model.specs.Controller.{default_channel}
+use Rattle.world_model.specs.Cells.{same_channel}
 use Rattle.port_views.specs.Link.{LinkLabel, other}
 use Rattle.port_views.specs.Shown.{IsLent}
 use Rattle.shown_cells.specs.Seen.{Nothing, Word}

@@ -13,7 +13,7 @@ use Rattle.port_facts.proofs.Keyed.{by_eq, at_key}
 use Rattle.crossbar_model.specs.Crossbar.{queue_of, sent}
 use Rattle.label_line.specs.Cells.{Role, Downstream, Upstream}
 use Rattle.label_line.specs.Line.{Line}
-use Rattle.switch_model.specs.Switch.{Acted, control_port}
+use Rattle.world_model.specs.Switch.{Acted, control_port}
 use Rattle.world_model.specs.World.{World, Site, site_key, with_site}
 use Rattle.world_model.specs.Places.{with_queue_in}
 use Rattle.world_model.proofs.Lists.{index_set, index_here, length_set}

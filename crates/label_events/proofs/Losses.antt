@@ -13,7 +13,7 @@ use Rattle.port_facts.proofs.Keyed.{by_eq}
 use Rattle.label_line.specs.Cells.{Role, Downstream, Upstream}
 use Rattle.label_line.specs.Line.{Line}
 use Rattle.crossbar_model.specs.Crossbar.{Crossbar, queue_of}
-use Rattle.switch_model.specs.Switch.{control_port}
+use Rattle.world_model.specs.Switch.{control_port}
 use Rattle.world_model.specs.World.{World, Site, site_key, site_at, with_site}
 use Rattle.world_model.specs.Places.{place_node, queue_in, queue_at, with_port_queue, with_queue_in, with_queue_of}
 use Rattle.world_model.specs.Step.{note, loses_head}

@@ -8,15 +8,15 @@ use Rattle.net_types.specs.declared.node.Place.TheVariants.{Down, Up, Out}
 use Rattle.atm_cells.specs.declared.cell.Cell.{Cell}
 use Rattle.link_model.specs.Ledger.{payload_of}
 use Rattle.crossbar_model.specs.Crossbar.{queue_of}
-use Rattle.switch_model.specs.Switch.{control_port}
-use Rattle.switch_model.specs.Conduct.{tick_comes, restarted}
+use Rattle.world_model.specs.Switch.{control_port}
+use Rattle.world_model.specs.Conduct.{tick_comes, restarted}
 use Rattle.ipv4_forward.specs.declared.change.RouteChange.{RouteChange}
 use Rattle.label_line.specs.Cells.{Upstream}
 use Rattle.label_line.specs.Line.{Line}
 use Rattle.port_model.specs.Setup.{label_end}
-use Rattle.controller_model.specs.Changes.{change_comes}
-use Rattle.controller_model.specs.Resets.{node_restarts}
-use Rattle.controller_model.specs.Ticks.{ticks}
+use Rattle.world_model.specs.Changes.{change_comes}
+use Rattle.world_model.specs.Resets.{node_restarts}
+use Rattle.world_model.specs.Ticks.{ticks}
 use Rattle.world_model.specs.declared.event.Event.TheVariants.{Inject, Carry, Lose, Tick, TickSwitch, Restart, RestartSwitch, Route}
 use Rattle.world_model.specs.declared.link.LinkEnd.{LinkEnd}
 use Rattle.world_model.specs.Topology.{Topology, peer_of}

@@ -9,8 +9,8 @@ use Rattle.frame_model.specs.Reassembly.{nothing_taken, cut}
 use Rattle.port_facts.proofs.Keyed.{by_eq, at_key}
 use Rattle.label_line.specs.Cells.{Role, Downstream, Upstream}
 use Rattle.label_line.specs.Line.{Line}
-use Rattle.controller_model.specs.Controller.{Acted, Linked, port_key, linked_at, ports_of, with_linked}
-use Rattle.controller_model.specs.Resets.{cuts_default_of, cuts_default, cuts_gsmp, node_resets, node_restarts}
+use Rattle.world_model.specs.Controller.{Acted, Linked, port_key, linked_at, ports_of, with_linked}
+use Rattle.world_model.specs.Resets.{cuts_default_of, cuts_default, cuts_gsmp, node_resets, node_restarts}
 use Rattle.world_model.specs.World.{World, at_controller}
 use Rattle.port_views.specs.Link.{LinkLabel, other}
 use Rattle.shown_cells.specs.Seen.{nothing}

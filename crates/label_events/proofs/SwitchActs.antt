@@ -5,9 +5,9 @@ use Rattle.std.specs.FinMap.{keys}
 use Rattle.net_types.specs.declared.node.NodeId.{NodeId}
 use Rattle.label_line.specs.Cells.{Role, Downstream, Upstream}
 use Rattle.label_line.specs.Line.{Line}
-use Rattle.switch_model.specs.Switch.{Acted}
-use Rattle.switch_model.specs.Requests.{Changed, all_ended}
-use Rattle.switch_model.specs.Conduct.{tick_comes, restarted}
+use Rattle.world_model.specs.Switch.{Acted}
+use Rattle.world_model.specs.Requests.{Changed, all_ended}
+use Rattle.world_model.specs.Conduct.{tick_comes, restarted}
 use Rattle.world_model.specs.World.{World, Site, site_at, with_site, switch_acts, at_switch}
 use Rattle.port_views.specs.Link.{LinkLabel, other}
 use Rattle.shown_cells.specs.Seen.{IsUnmade, Extends}

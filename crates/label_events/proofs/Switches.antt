@@ -32,13 +32,13 @@ use Rattle.crossbar_model.specs.Crossbar.{queue_of, cut_by_move}
 use Rattle.port_facts.proofs.Keyed.{on_both}
 use Rattle.label_line.specs.Cells as lines
 use Rattle.label_line.specs.Cells.{Role}
-use Rattle.switch_model.specs.declared.request.Asked.{Asked}
-use Rattle.switch_model.specs.declared.request.Failure.{Failure}
-use Rattle.switch_model.specs.Switch.{Switch, Acted, control_port, gsmp_channel, free_slots}
-use Rattle.switch_model.specs.Requests.{Changed, asked_in, is_request, noted_cut, moved_by, ended_by, ended, all_ended, inputs_on, cleared, branches_after}
-use Rattle.switch_model.specs.Failures.{failure_of}
-use Rattle.switch_model.specs.Answers.{Handled, handled_by, handled_asked, handled}
-use Rattle.switch_model.specs.Conduct.{with_cells, says, reset, answers, steps, replied, requested, told, read, opened_frame, ends_frame, gsmp_cell, tick_comes}
+use Rattle.world_model.specs.declared.request.Asked.{Asked}
+use Rattle.world_model.specs.declared.request.Failure.{Failure}
+use Rattle.world_model.specs.Switch.{Switch, Acted, control_port, gsmp_channel, free_slots}
+use Rattle.world_model.specs.Requests.{Changed, asked_in, is_request, noted_cut, moved_by, ended_by, ended, all_ended, inputs_on, cleared, branches_after}
+use Rattle.world_model.specs.Failures.{failure_of}
+use Rattle.world_model.specs.Answers.{Handled, handled_by, handled_asked, handled}
+use Rattle.world_model.specs.Conduct.{with_cells, says, reset, answers, steps, replied, requested, told, read, opened_frame, ends_frame, gsmp_cell, tick_comes}
 use Rattle.port_views.specs.Link.{LinkLabel, other}
 use Rattle.shown_cells.specs.Seen.{IsUnmade, Extends}
 use Rattle.shown_cells.specs.Label.{OnControl}

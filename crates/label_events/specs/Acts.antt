@@ -6,7 +6,7 @@ use Rattle.net_types.specs.declared.node.NodeId.{NodeId}
 use Rattle.atm_cells.specs.declared.cell.Cell.{Cell}
 use Rattle.label_line.specs.Cells.{Role}
 use Rattle.port_model.specs.Setup.{Setup}
-use Rattle.controller_model.specs.Cells.{cell_comes}
+use Rattle.world_model.specs.Cells.{cell_comes}
 use Rattle.port_views.specs.Link.{LinkLabel}
 use Rattle.controller_views.specs.Lifted.{Growing}
 use Rattle.arrival_views.specs.Cells.{CanArrive}

@@ -11,7 +11,7 @@ use Rattle.net_types.specs.Label.{is_label_number}
 use Rattle.atm_cells.specs.declared.cell.Cell.{Cell}
 use Rattle.crossbar_model.specs.declared.branch.Branch.{Branch}
 use Rattle.crossbar_model.specs.Crossbar.{input_of, output_of}
-use Rattle.switch_model.specs.Switch.{control_port}
+use Rattle.world_model.specs.Switch.{control_port}
 use Rattle.port_model.specs.Setup.{home_of, label_end}
 use Rattle.label_line.specs.Cells.{Role}
 use Rattle.world_model.specs.declared.link.LinkEnd.{LinkEnd}

@@ -13,7 +13,7 @@ ghost use Rattle.net_types.specs.declared.node.Place.TheVariants.{Down, Up, Out}
 ghost use Rattle.atm_cells.specs.declared.cell.Cell.{Cell};
 ghost use Rattle.link_model.specs.Ledger.{payload_of};
 ghost use Rattle.crossbar_model.specs.Crossbar.{queue_of};
-ghost use Rattle.switch_model.specs.Switch.{control_port};
+ghost use Rattle.world_model.specs.Switch.{control_port};
 ghost use Rattle.ipv4_forward.specs.declared.change.RouteChange.{RouteChange};
 ghost use Rattle.label_line.specs.Cells.{Upstream};
 ghost use Rattle.label_line.specs.Line.{Line};

@@ -13,7 +13,7 @@ use Rattle.flow_ids.specs.Parts.{same_flow}
 use Rattle.gsmp_wire.specs.declared.request.Request.TheVariants.{AddBranch}
 use Rattle.ordered_lists.specs.Ordered.{InOrder}
 use Rattle.keyed_lists.specs.Keyed.{at}
-use Rattle.desk_model.specs.Desk.{Desk}
+use Rattle.port_model.specs.Desk.{Desk}
 use Rattle.label_line.specs.Cells.{Role, Downstream, Upstream, Cell}
 use Rattle.label_line.specs.Line as lines
 use Rattle.label_line.specs.Line.{Line}

@@ -15,7 +15,7 @@ use Rattle.gsmp_wire.specs.declared.request.Request.TheVariants.{AddBranch, Move
 use Rattle.link_model.specs.declared.record.Record.TheVariants.{Bind, Free, Join}
 use Rattle.ifmp_wire.specs.declared.message.Message.{Message}
 use Rattle.ifmp_wire.specs.declared.message.Message.TheVariants.{Adjacency, Redirect, Reclaim, ReclaimAck, LabelRange, Error}
-use Rattle.desk_model.specs.Desk.{Desk}
+use Rattle.port_model.specs.Desk.{Desk}
 use Rattle.keyed_lists.specs.Keyed.{put}
 use Rattle.port_facts.proofs.Keyed.{on_both}
 use Rattle.port_model.specs.declared.action.Action.TheVariants.{CutChain, Note, TakeBack}

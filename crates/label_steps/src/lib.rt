@@ -14,7 +14,7 @@ ghost use Rattle.net_types.specs.Label.{is_label_number};
 ghost use Rattle.gsmp_wire.specs.declared.request.Request.{Request};
 ghost use Rattle.ordered_lists.specs.Ordered.{InOrder};
 ghost use Rattle.keyed_lists.specs.Keyed.{at};
-ghost use Rattle.desk_model.specs.Desk.{Desk};
+ghost use Rattle.port_model.specs.Desk.{Desk};
 ghost use Rattle.port_model.specs.Setup.{Setup};
 ghost use Rattle.port_model.specs.Grants.{Grant, ByController, grant_label};
 ghost use Rattle.port_model.specs.Port.{Work, labels_of};

@@ -20,9 +20,9 @@ use Rattle.link_model.specs.declared.record.Record.TheVariants.{Bad}
 use Rattle.link_model.specs.declared.record.Layer.TheVariants.{Gsmp}
 use Rattle.refusal_names.specs.Names.{gsmp_refusal}
 use Rattle.keyed_lists.specs.Keyed.{at}
-use Rattle.desk_model.specs.Messages.{is_up}
-use Rattle.desk_model.specs.Desk.{Desk, Standing}
-use Rattle.desk_model.specs.Answers.{Answered, Unknown, Done, Ports, Failed, answered, after_answer}
+use Rattle.port_model.specs.Messages.{is_up}
+use Rattle.port_model.specs.Desk.{Desk, Standing}
+use Rattle.port_model.specs.DeskAnswers.{Answered, Unknown, Done, Ports, Failed, answered, after_answer}
 use Rattle.port_facts.proofs.Keyed.{on_both, on_each, by_eq, at_key}
 use Rattle.port_facts.proofs.Rules.{and_first, and_second}
 use Rattle.label_line.specs.Cells.{Role}
@@ -33,12 +33,12 @@ use Rattle.port_model.specs.Setup.{Setup}
 use Rattle.port_model.specs.Grants.{Grant}
 use Rattle.port_model.specs.Answers as port_answers
 use Rattle.port_model.specs.Resets.{cleared}
-use Rattle.controller_model.specs.Controller.{Controller, Acted, Linked, port_key, linked_at, ports_of, with_linked, with_desk, default_end, default_home}
-use Rattle.controller_model.specs.Resets.{begins, node_resets}
-use Rattle.controller_model.specs.Asking.{asks}
-use Rattle.controller_model.specs.Meeting.{ends_meeting, is_deleting, has_emptied, port_of_input, tells_port, behind_delete_all, causes_in_estab, causes, is_clearing, awaits_nothing, may_clear, clears_of, clears_port, clears, done, takes_answer, answer_comes}
-use Rattle.controller_model.specs.Joins.{releases}
-use Rattle.controller_model.specs.Gsmp.{told, gsmp_holds}
+use Rattle.world_model.specs.Controller.{Controller, Acted, Linked, port_key, linked_at, ports_of, with_linked, with_desk, default_end, default_home}
+use Rattle.world_model.specs.Resets.{begins, node_resets}
+use Rattle.world_model.specs.Asking.{asks}
+use Rattle.world_model.specs.Meeting.{ends_meeting, is_deleting, has_emptied, port_of_input, tells_port, behind_delete_all, causes_in_estab, causes, is_clearing, awaits_nothing, may_clear, clears_of, clears_port, clears, done, takes_answer, answer_comes}
+use Rattle.world_model.specs.Joins.{releases}
+use Rattle.world_model.specs.Gsmp.{told, gsmp_holds}
 use Rattle.controller_facts.proofs.Moves.{HasPorts, moves_to, answering}
 use Rattle.controller_facts.proofs.Laws.{has_ports}
 use Rattle.controller_law.specs.Match.{lent_in, lent_at}

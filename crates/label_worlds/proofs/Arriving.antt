@@ -31,9 +31,9 @@ use Rattle.refusal_names.specs.Names.{encaps_refusal, packet_refusal, ifmp_refus
 use Rattle.link_model.specs.Ledger.{payload_of}
 use Rattle.ordered_lists.specs.Ordered.{Every}
 use Rattle.keyed_lists.specs.Keyed.{at, put}
-use Rattle.desk_model.specs.Desk.{Standing}
+use Rattle.port_model.specs.Desk.{Standing}
 use Rattle.crossbar_model.specs.Crossbar.{queue_of}
-use Rattle.switch_model.specs.Switch.{control_port}
+use Rattle.world_model.specs.Switch.{control_port}
 use Rattle.port_facts.specs.Port.{IsPort, IsGrant}
 use Rattle.port_facts.proofs.Keyed.{on_each, at_key, at_every, at_put_same}
 use Rattle.port_facts.proofs.Rules.{and_first}
@@ -48,11 +48,11 @@ use Rattle.port_model.specs.Grants as grants
 use Rattle.port_model.specs.Grants.{Grant, grant_label}
 use Rattle.port_model.specs.Counting.{counts, used}
 use Rattle.port_model.specs.Hearing.{hears}
-use Rattle.controller_model.specs.Controller.{Controller, Acted, Linked, port_key, linked_at, with_linked, note, chains_with, default_channel}
-use Rattle.controller_model.specs.Resets.{begins}
-use Rattle.controller_model.specs.Packets.{routes, control_protocol}
-use Rattle.controller_model.specs.Gsmp.{gsmp_holds}
-use Rattle.controller_model.specs.Cells.{Taker, ForGsmp, ForDefault, ForLabel, port_on, on_link, same_channel, label_taker, taker_at, taker_of, reassembly_of, label_holds, ifmp_holds, counted_at, packet_holds, default_holds, frame_holds, cell_comes}
+use Rattle.world_model.specs.Controller.{Controller, Acted, Linked, port_key, linked_at, with_linked, note, chains_with, default_channel}
+use Rattle.world_model.specs.Resets.{begins}
+use Rattle.world_model.specs.Packets.{routes, control_protocol}
+use Rattle.world_model.specs.Gsmp.{gsmp_holds}
+use Rattle.world_model.specs.Cells.{Taker, ForGsmp, ForDefault, ForLabel, port_on, on_link, same_channel, label_taker, taker_at, taker_of, reassembly_of, label_holds, ifmp_holds, counted_at, packet_holds, default_holds, frame_holds, cell_comes}
 use Rattle.controller_facts.specs.Sound.{IsSound, linked_setup}
 use Rattle.controller_facts.proofs.Moves.{gathering, chaining, moves_to, found_at_own}
 use Rattle.controller_facts.proofs.Laws.{has_ports}

@@ -11,9 +11,9 @@ use Rattle.port_facts.proofs.Halting.{closes_once, parted_none, given_back_none}
 use Rattle.port_facts.proofs.Instances.{closes_gave, parted_gave, given_back_gave}
 use Rattle.port_model.specs.Saying.{closes}
 use Rattle.port_model.specs.Joins.{parted, given_back}
-use Rattle.controller_model.specs.Controller.{Acted, ports_of, note}
-use Rattle.controller_model.specs.Resets.{begins}
-use Rattle.controller_model.specs.Joins.{Join, join_of, parts, gives_back, releases_join, releases_input, released_inputs, resets_spent, releases}
+use Rattle.world_model.specs.Controller.{Acted, ports_of, note}
+use Rattle.world_model.specs.Resets.{begins}
+use Rattle.world_model.specs.Joins.{Join, join_of, parts, gives_back, releases_join, releases_input, released_inputs, resets_spent, releases}
 use Rattle.controller_facts.proofs.Draws.{left_by, Draws, calm, itself, more, draws_then, then_none, none_then, none_fold, ports_count, at_port_draws}
 
 nothing : (n : ℕ) → n ≡ 0 → n ≤ 0

@@ -15,7 +15,7 @@ use Rattle.port_facts.proofs.Keyed.{at_every, at_key}
 use Rattle.crossbar_model.specs.Channels.{IsLinkPort}
 use Rattle.crossbar_model.specs.declared.branch.Branch.{Branch}
 use Rattle.crossbar_model.specs.Crossbar.{input_of, output_of}
-use Rattle.switch_model.specs.Switch.{control_port}
+use Rattle.world_model.specs.Switch.{control_port}
 use Rattle.port_model.specs.Setup.{Setup}
 use Rattle.port_facts.specs.Port.{setup_port, IsLinked, IsLabelEnd}
 use Rattle.label_line.specs.Cells.{Role, Downstream, Upstream}

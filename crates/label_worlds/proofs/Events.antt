@@ -16,7 +16,7 @@ use Rattle.port_facts.specs.Port.{IsGrant}
 use Rattle.crossbar_model.specs.Channels.{IsLinkPort}
 use Rattle.port_model.specs.Setup.{Setup}
 use Rattle.port_model.specs.Grants.{Grant}
-use Rattle.controller_model.specs.Controller.{port_key}
+use Rattle.world_model.specs.Controller.{port_key}
 use Rattle.controller_facts.specs.Sound.{IsSound, IsLinkedPort}
 use Rattle.label_line.specs.Line.{Line}
 use Rattle.world_model.specs.declared.event.Event.{Event}

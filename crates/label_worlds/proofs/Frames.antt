@@ -35,12 +35,12 @@ use Rattle.port_facts.proofs.Keyed.{by_eq, at_key, at_every}
 use Rattle.port_model.specs.Labels.{Label, LabelState, Wiring, is_bound, label_number}
 use Rattle.port_model.specs.Port.{label_at, labels_of}
 use Rattle.port_model.specs.Counting.{packet_flow}
-use Rattle.controller_model.specs.Controller.{Controller, Linked, port_key, linked_at, default_channel}
-use Rattle.controller_model.specs.Packets.{is_control, control_protocol}
-use Rattle.controller_model.specs.Cells.{Taker, ForGsmp, ForDefault, ForLabel, port_on, on_link, same_channel, label_taker, taker_at, taker_of}
+use Rattle.world_model.specs.Controller.{Controller, Linked, port_key, linked_at, default_channel}
+use Rattle.world_model.specs.Packets.{is_control, control_protocol}
+use Rattle.world_model.specs.Cells.{Taker, ForGsmp, ForDefault, ForLabel, port_on, on_link, same_channel, label_taker, taker_at, taker_of}
 use Rattle.controller_bindings.specs.Bindings.{HasBoundLabels, IsBoundLast}
 use Rattle.crossbar_model.specs.Crossbar.{queue_of}
-use Rattle.switch_model.specs.Switch.{control_port}
+use Rattle.world_model.specs.Switch.{control_port}
 use Rattle.shown_cells.specs.Label.{Told, told_in, told_of}
 use Rattle.controller_views.proofs.Works.{port_is}
 use Rattle.arrival_views.specs.Packets.{IsFree, of_control, of_packet, IsPlain}

@@ -28,8 +28,8 @@ use Rattle.link_model.specs.declared.record.Cause.TheVariants.{PoolFull, Unbound
 use Rattle.link_model.specs.Ledger.{is_frame}
 use Rattle.frame_model.specs.Reassembly.{Reassembly, Taken, marks_of, most_cells, broken, passed_over, without_slot, too_long, joined}
 use Rattle.frame_model.specs.Frame.{octets_of, last_mark, payload_in, passed, tested_by}
-use Rattle.desk_model.specs.Desk.{empty_desk}
-use Rattle.desk_model.specs.Answers.{Answered, Unknown, Done, Ports, Failed, answered, after_answer}
+use Rattle.port_model.specs.Desk.{empty_desk}
+use Rattle.port_model.specs.DeskAnswers.{Answered, Unknown, Done, Ports, Failed, answered, after_answer}
 use Rattle.port_facts.proofs.Keyed.{on_both, on_each}
 use Rattle.port_facts.proofs.Instances.{goes_gave, closes_gave, parted_gave, given_back_gave}
 use Rattle.port_facts.proofs.Rules.{used_goes, counts_goes, done_goes}
@@ -42,13 +42,13 @@ use Rattle.port_model.specs.Answers as port_answers
 use Rattle.port_model.specs.Counting.{counts, used}
 use Rattle.port_model.specs.Hearing.{hears}
 use Rattle.port_model.specs.Resets.{cleared}
-use Rattle.controller_model.specs.Controller.{Acted, Linked, free_slots, linked_at, ports_of, with_linked, with_desk, note}
-use Rattle.controller_model.specs.Resets.{begins, node_resets}
-use Rattle.controller_model.specs.Packets.{routes, control_protocol}
-use Rattle.controller_model.specs.Joins.{Join, join_of, parts, releases_join, releases_input, released_inputs, resets_spent, releases}
-use Rattle.controller_model.specs.Meeting.{port_of_input, tells_port, causes_in_estab, causes, may_clear, clears_of, clears_port, clears, done, takes_answer}
-use Rattle.controller_model.specs.Gsmp.{told, gsmp_holds}
-use Rattle.controller_model.specs.Cells.{Taker, ForGsmp, ForDefault, ForLabel, taker_of, reassembly_of, with_reassembly, label_holds, ifmp_holds, counted_at, packet_holds, default_holds, frame_holds, after_test, after_cell, takes_cell, cell_comes}
+use Rattle.world_model.specs.Controller.{Acted, Linked, free_slots, linked_at, ports_of, with_linked, with_desk, note}
+use Rattle.world_model.specs.Resets.{begins, node_resets}
+use Rattle.world_model.specs.Packets.{routes, control_protocol}
+use Rattle.world_model.specs.Joins.{Join, join_of, parts, releases_join, releases_input, released_inputs, resets_spent, releases}
+use Rattle.world_model.specs.Meeting.{port_of_input, tells_port, causes_in_estab, causes, may_clear, clears_of, clears_port, clears, done, takes_answer}
+use Rattle.world_model.specs.Gsmp.{told, gsmp_holds}
+use Rattle.world_model.specs.Cells.{Taker, ForGsmp, ForDefault, ForLabel, taker_of, reassembly_of, with_reassembly, label_holds, ifmp_holds, counted_at, packet_holds, default_holds, frame_holds, after_test, after_cell, takes_cell, cell_comes}
 use Rattle.controller_facts.proofs.Moves.{HasPorts, found_port, moves_ports}
 use Rattle.controller_facts.proofs.Lifetimes.{decoded_lives}
 use Rattle.controller_facts.proofs.Events.{routes_goes}

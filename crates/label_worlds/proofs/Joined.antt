@@ -33,11 +33,11 @@ use Rattle.port_views.specs.Shown.{Part, part_of, ShownAt}
 use Rattle.port_views.specs.Reaching.{Reaches}
 use Rattle.port_views.proofs.Answering.{joined_leads, lent_leads}
 use Rattle.port_views.proofs.Reach.{run_join}
-use Rattle.controller_model.specs.Controller.{Acted, Linked, port_key, linked_at}
-use Rattle.controller_model.specs.Resets.{begins, with_work}
-use Rattle.controller_model.specs.Performing.{works}
-use Rattle.controller_model.specs.Asking.{asks}
-use Rattle.controller_model.specs.Joins.{Join, port_by, join_through, join_by, join_for, may_join, enters_grant, output_of, enters_label, joins, tries_label, label_on, tries_join}
+use Rattle.world_model.specs.Controller.{Acted, Linked, port_key, linked_at}
+use Rattle.world_model.specs.Resets.{begins, with_work}
+use Rattle.world_model.specs.Performing.{works}
+use Rattle.world_model.specs.Asking.{asks}
+use Rattle.world_model.specs.Joins.{Join, port_by, join_through, join_by, join_for, may_join, enters_grant, output_of, enters_label, joins, tries_label, label_on, tries_join}
 use Rattle.controller_facts.proofs.Moves.{HasPorts, found_at_own, found_port, moves_ports}
 use Rattle.controller_facts.proofs.Entering.{by_controller, tries_join_goes}
 use Rattle.shown_cells.specs.Seen.{IsUnmade}

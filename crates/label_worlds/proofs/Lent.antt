@@ -17,7 +17,7 @@ use Rattle.link_model.specs.declared.record.Record.TheVariants.{Part}
 use Rattle.frame_model.specs.Reassembly.{nothing_taken}
 use Rattle.ordered_lists.specs.Ordered.{Every}
 use Rattle.keyed_lists.specs.Keyed.{at, put}
-use Rattle.desk_model.specs.Desk.{asked, is_led_home, sent_again, last_transaction}
+use Rattle.port_model.specs.Desk.{asked, is_led_home, sent_again, last_transaction}
 use Rattle.port_model.specs.declared.action.Action.{Action}
 use Rattle.port_model.specs.declared.action.Action.TheVariants.{Say, Ask, Note, CutChain, TakeBack, Withdraw, Reset}
 use Rattle.port_model.specs.Setup.{Setup, home_of}
@@ -34,15 +34,15 @@ use Rattle.port_facts.specs.Port.{IsAction}
 use Rattle.port_facts.proofs.Keyed.{on_both, by_eq, at_put_other}
 use Rattle.port_facts.proofs.Found.{find_passes, session_grants, closes_port}
 use Rattle.port_facts.proofs.Rules.{IsTree, done_goes}
-use Rattle.controller_model.specs.Controller.{Acted, Linked, port_key, linked_at, with_linked, with_desk, note, chains_with, default_channel}
-use Rattle.controller_model.specs.Sending.{sends_control}
-use Rattle.controller_model.specs.Asking.{sends_request, asks_next, asks, takes_back}
-use Rattle.controller_model.specs.Resets.{begins, with_work, cuts_of, node_resets}
-use Rattle.controller_model.specs.Performing.{does, does_in_estab, resets_of, resets_port, performs, performs_in_estab, Rule, works, at_port}
-use Rattle.controller_model.specs.Joins.{Join, join_of, joins_of, parts, gives_back, releases_join, releases_input, resets_spent}
-use Rattle.controller_model.specs.Meeting.{tells_port, may_clear, clears_of, clears_port}
+use Rattle.world_model.specs.Controller.{Acted, Linked, port_key, linked_at, with_linked, with_desk, note, chains_with, default_channel}
+use Rattle.world_model.specs.Sending.{sends_control}
+use Rattle.world_model.specs.Asking.{sends_request, asks_next, asks, takes_back}
+use Rattle.world_model.specs.Resets.{begins, with_work, cuts_of, node_resets}
+use Rattle.world_model.specs.Performing.{does, does_in_estab, resets_of, resets_port, performs, performs_in_estab, Rule, works, at_port}
+use Rattle.world_model.specs.Joins.{Join, join_of, joins_of, parts, gives_back, releases_join, releases_input, resets_spent}
+use Rattle.world_model.specs.Meeting.{tells_port, may_clear, clears_of, clears_port}
 use Rattle.controller_facts.proofs.Moves.{Worked, worked_kept, by_rule, by_closing, by_parting, by_giving_back, Found, placing, moves_to, HasPorts, found_setup, found_at_own, found_port, begun, moves_ports, noting}
-use Rattle.controller_model.specs.Ticks.{sends_again, ticks_port}
+use Rattle.world_model.specs.Ticks.{sends_again, ticks_port}
 use Rattle.port_model.specs.Ticks as port_ticks
 use Rattle.port_facts.proofs.Hearings.{ticks_goes}
 use Rattle.controller_facts.proofs.Events.{ticks_port_goes}

@@ -14,9 +14,9 @@ use Rattle.crossbar_model.specs.Crossbar.{Crossbar, queue_of}
 use Rattle.ordered_lists.specs.Ordered.{Every}
 use Rattle.port_facts.proofs.Keyed.{at_every, every_more}
 use Rattle.port_model.specs.Setup.{Policy, Setup}
-use Rattle.controller_model.specs.declared.range.PortRange.{PortRange}
-use Rattle.controller_model.specs.Controller.{Linked, port_key, linked_at}
-use Rattle.controller_model.specs.Opening.{setup_of, opens_ports}
+use Rattle.world_model.specs.declared.range.PortRange.{PortRange}
+use Rattle.world_model.specs.Controller.{Linked, port_key, linked_at}
+use Rattle.world_model.specs.Opening.{setup_of, opens_ports}
 use Rattle.world_model.specs.Topology.{Topology, Node, ranges_of, timers_of}
 use Rattle.world_model.specs.World.{World, Site, site_key, site_at, empty_world, opened, opened_site, with_opened, opens_each}
 

@@ -21,12 +21,12 @@ use Rattle.port_facts.proofs.Keyed.{at_key}
 use Rattle.crossbar_model.specs.Channels.{end_cmp}
 use Rattle.crossbar_model.specs.declared.branch.Branch.{Branch}
 use Rattle.crossbar_model.specs.Crossbar.{Branches, output_of, queue_of}
-use Rattle.switch_model.specs.Switch.{control_port}
+use Rattle.world_model.specs.Switch.{control_port}
 use Rattle.port_model.specs.Setup.{Policy}
 use Rattle.port_model.specs.Labels.{label_number}
 use Rattle.port_model.specs.Grants.{Grant, grant_label}
 use Rattle.port_model.specs.Port.{Session}
-use Rattle.controller_model.specs.Controller.{Controller, Linked, port_key, linked_at, default_channel}
+use Rattle.world_model.specs.Controller.{Controller, Linked, port_key, linked_at, default_channel}
 use Rattle.label_line.specs.Cells.{Role, Downstream, Upstream}
 use Rattle.label_line.specs.Line.{Line, NoGrant, start}
 use Rattle.world_model.specs.declared.link.LinkEnd.{LinkEnd}

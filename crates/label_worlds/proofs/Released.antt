@@ -10,7 +10,7 @@ use Rattle.gsmp_wire.specs.declared.request.Request.{Request}
 use Rattle.link_model.specs.declared.record.Record.TheVariants.{Part}
 use Rattle.ordered_lists.specs.Ordered.{Every}
 use Rattle.keyed_lists.specs.Keyed.{at}
-use Rattle.desk_model.specs.Requests.{leads_home}
+use Rattle.port_model.specs.Requests.{leads_home}
 use Rattle.port_facts.proofs.Keyed.{on_both, at_every}
 use Rattle.port_facts.proofs.Found.{filter_passes}
 use Rattle.port_facts.proofs.Instances.{closes_gave, parted_gave, given_back_gave}
@@ -26,10 +26,10 @@ use Rattle.port_model.specs.Grants.{Grant, grant_label}
 use Rattle.port_model.specs.Port.{Session, Work, halts, label_at}
 use Rattle.port_model.specs.Saying.{is_spent, closes}
 use Rattle.port_model.specs.Joins.{parted, given_back}
-use Rattle.controller_model.specs.Controller.{Controller, Acted, Linked, port_key, linked_at, ports_of, note}
-use Rattle.controller_model.specs.Resets.{begins}
-use Rattle.controller_model.specs.Performing.{works_as, works}
-use Rattle.controller_model.specs.Joins.{Join, join_of, joins_of, parts, releases_join, releases_input, released_inputs, resets_spent, releases}
+use Rattle.world_model.specs.Controller.{Controller, Acted, Linked, port_key, linked_at, ports_of, note}
+use Rattle.world_model.specs.Resets.{begins}
+use Rattle.world_model.specs.Performing.{works_as, works}
+use Rattle.world_model.specs.Joins.{Join, join_of, joins_of, parts, releases_join, releases_input, released_inputs, resets_spent, releases}
 use Rattle.controller_facts.specs.Sound.{IsSound, IsShutLinked}
 use Rattle.controller_facts.proofs.Moves.{HasPorts, moves_ports}
 use Rattle.controller_facts.proofs.Laws.{has_ports, moves_sound}

@@ -19,12 +19,12 @@ use Rattle.port_model.specs.Labels.{Label}
 use Rattle.port_model.specs.Port.{Session, Port}
 use Rattle.port_model.specs.Ticks as port_ticks
 use Rattle.port_views.specs.Link.{LinkLabel}
-use Rattle.controller_model.specs.Controller.{Acted, Linked, ports_of}
-use Rattle.controller_model.specs.Resets.{node_resets}
-use Rattle.controller_model.specs.Joins.{Join, joins, label_on, tries_join, inputs_at, tries_joins}
-use Rattle.controller_model.specs.Gsmp.{answers, steps}
+use Rattle.world_model.specs.Controller.{Acted, Linked, ports_of}
+use Rattle.world_model.specs.Resets.{node_resets}
+use Rattle.world_model.specs.Joins.{Join, joins, label_on, tries_join, inputs_at, tries_joins}
+use Rattle.world_model.specs.Gsmp.{answers, steps}
 use Rattle.adjacency_table.specs.Greeting.{gsmp_answer}
-use Rattle.controller_model.specs.Ticks.{sends_again, ticks_port, ticks_ports, ticks_by, ticks}
+use Rattle.world_model.specs.Ticks.{sends_again, ticks_port, ticks_ports, ticks_by, ticks}
 use Rattle.controller_facts.proofs.Moves.{ages, Found, HasPorts, moves_ports, further}
 use Rattle.controller_facts.specs.Sound.{IsSound, IsShutLinked}
 use Rattle.controller_facts.proofs.Laws.{has_ports, moves_sound}

@@ -7,8 +7,8 @@ use Rattle.port_facts.proofs.Keyed.{by_eq, at_key}
 use Rattle.label_line.specs.Cells.{Role, Downstream, Upstream}
 use Rattle.label_line.specs.Line.{Line}
 use Rattle.port_model.specs.Setup.{Setup, label_end}
-use Rattle.controller_model.specs.Controller.{Controller, Acted}
-use Rattle.controller_model.specs.Ticks.{ticks}
+use Rattle.world_model.specs.Controller.{Controller, Acted}
+use Rattle.world_model.specs.Ticks.{ticks}
 use Rattle.controller_facts.proofs.Laws.{has_ports}
 use Rattle.port_views.specs.Link.{LinkLabel, other}
 use Rattle.shown_cells.specs.Label.{OnLink, OnControl, ShowsCells}

@@ -8,9 +8,9 @@ use Rattle.ordered_lists.specs.Ordered.{Every}
 use Rattle.ordered_lists.proofs.Every.{every_unmapped}
 use Rattle.port_facts.proofs.Keyed.{at_every}
 use Rattle.port_model.specs.Setup.{Policy, Setup}
-use Rattle.controller_model.specs.declared.range.PortRange.{PortRange}
-use Rattle.controller_model.specs.Controller.{Linked, port_key}
-use Rattle.controller_model.specs.Opening.{setup_of}
+use Rattle.world_model.specs.declared.range.PortRange.{PortRange}
+use Rattle.world_model.specs.Controller.{Linked, port_key}
+use Rattle.world_model.specs.Opening.{setup_of}
 use Rattle.label_line.specs.Cells.{Role, Downstream, Upstream}
 use Rattle.world_model.specs.declared.link.LinkEnd.{LinkEnd}
 use Rattle.world_model.specs.Topology.{Topology, Node, ranges_of, timers_of}

@@ -9,8 +9,8 @@ use Rattle.net_types.specs.declared.node.NodeId.{NodeId}
 use Rattle.net_types.specs.declared.node.Place.TheVariants.{Up}
 use Rattle.label_line.specs.Cells.{Upstream}
 use Rattle.port_model.specs.Setup.{Policy, label_end}
-use Rattle.controller_model.specs.Cells.{Taker, taker_of, reassembly_of}
-use Rattle.controller_model.specs.Ticks.{ticks}
+use Rattle.world_model.specs.Cells.{Taker, taker_of, reassembly_of}
+use Rattle.world_model.specs.Ticks.{ticks}
 use Rattle.controller_facts.specs.Sound.{linked_setup}
 use Rattle.controller_facts.proofs.Drawn.{ticks_few}
 use Rattle.arrival_views.specs.Cells.{PassesByRight, EndsFrame}

@@ -4,8 +4,8 @@ use Rattle.std.specs.Prelude.{◌≡◌, List, flat_map, Some}
 use Rattle.net_types.specs.declared.channel.End.{End}
 use Rattle.net_types.specs.declared.node.NodeId.{NodeId}
 use Rattle.port_model.specs.Setup.{label_end}
-use Rattle.controller_model.specs.Controller.{Acted}
-use Rattle.controller_model.specs.Joins.{inputs_at}
+use Rattle.world_model.specs.Controller.{Acted}
+use Rattle.world_model.specs.Joins.{inputs_at}
 use Rattle.label_line.specs.Cells.{Upstream}
 use Rattle.port_views.specs.Link.{LinkLabel}
 use Rattle.world_model.specs.World.{World, Site, site_at}

@@ -20,9 +20,9 @@ use Rattle.gsmp_wire.specs.Fields.{decoded as gsmp_decoded}
 use Rattle.frame_model.specs.Frame.{octets_of, last_mark, payload_in, tested_by}
 use Rattle.frame_model.specs.Reassembly.{Taken, taken}
 use Rattle.ordered_lists.specs.Ordered.{Every}
-use Rattle.desk_model.specs.Desk.{Desk, Standing}
-use Rattle.desk_model.specs.Requests.{leads_home}
-use Rattle.desk_model.specs.Answers.{Answered, Unknown, Done, Ports, Failed, answered, after_answer, without_request}
+use Rattle.port_model.specs.Desk.{Desk, Standing}
+use Rattle.port_model.specs.Requests.{leads_home}
+use Rattle.port_model.specs.DeskAnswers.{Answered, Unknown, Done, Ports, Failed, answered, after_answer, without_request}
 use Rattle.port_model.specs.Setup.{Setup, home_of}
 use Rattle.port_model.specs.Labels.{Label}
 use Rattle.port_model.specs.Grants as grants
@@ -30,15 +30,15 @@ use Rattle.port_model.specs.Grants.{Grant}
 use Rattle.port_model.specs.Port.{Session, Work, halts}
 use Rattle.port_model.specs.Saying.{is_spent, closes}
 use Rattle.port_facts.proofs.Keyed.{at_every, on_each}
-use Rattle.controller_model.specs.Controller.{Controller, Acted, Linked, port_key, default_channel, default_end, default_home, free_slots, linked_at, ports_of, with_desk}
-use Rattle.controller_model.specs.Asking.{asks}
-use Rattle.controller_model.specs.Resets.{begins, node_resets}
-use Rattle.controller_model.specs.Performing.{works_as, works}
-use Rattle.controller_model.specs.Joins.{Join, joins_of, releases_input, released_inputs, resets_spent, releases}
-use Rattle.controller_model.specs.Meeting.{port_of_input, is_deleting, has_emptied, ends_meeting, empties, causes_in_estab, causes, clears_port, clears, done, takes_answer, answer_comes}
-use Rattle.controller_model.specs.Changes.{takes_changes}
-use Rattle.controller_model.specs.Gsmp.{told, gsmp_holds}
-use Rattle.controller_model.specs.Cells.{Taker, ForGsmp, ForDefault, ForLabel, same_channel, reassembly_of, with_reassembly, frame_holds, opened_frame, ends_frame, takes_cell, cell_comes}
+use Rattle.world_model.specs.Controller.{Controller, Acted, Linked, port_key, default_channel, default_end, default_home, free_slots, linked_at, ports_of, with_desk}
+use Rattle.world_model.specs.Asking.{asks}
+use Rattle.world_model.specs.Resets.{begins, node_resets}
+use Rattle.world_model.specs.Performing.{works_as, works}
+use Rattle.world_model.specs.Joins.{Join, joins_of, releases_input, released_inputs, resets_spent, releases}
+use Rattle.world_model.specs.Meeting.{port_of_input, is_deleting, has_emptied, ends_meeting, empties, causes_in_estab, causes, clears_port, clears, done, takes_answer, answer_comes}
+use Rattle.world_model.specs.Changes.{takes_changes}
+use Rattle.world_model.specs.Gsmp.{told, gsmp_holds}
+use Rattle.world_model.specs.Cells.{Taker, ForGsmp, ForDefault, ForLabel, same_channel, reassembly_of, with_reassembly, frame_holds, opened_frame, ends_frame, takes_cell, cell_comes}
 use Rattle.controller_facts.specs.Sound.{IsSound, IsShutLinked}
 use Rattle.controller_facts.proofs.Laws.{has_ports, moves_sound}
 use Rattle.controller_facts.proofs.Moves.{HasPorts, Found, answering, moves_to, moves_ports}

@@ -15,7 +15,7 @@ use Rattle.flow_ids.specs.Parts.{same_flow, flow_destination}
 use Rattle.gsmp_wire.specs.declared.request.Request.TheVariants.{MoveBranch}
 use Rattle.ordered_lists.specs.Ordered.{Every}
 use Rattle.keyed_lists.specs.Keyed.{at, put}
-use Rattle.desk_model.specs.Desk.{on_input, most_asked}
+use Rattle.port_model.specs.Desk.{on_input, most_asked}
 use Rattle.port_model.specs.Setup.{Setup, home_of, label_end}
 use Rattle.port_model.specs.Labels.{Label, Offered, label_number}
 use Rattle.port_model.specs.Grants as grants
@@ -26,11 +26,11 @@ use Rattle.port_facts.specs.Port.{IsLabelEnd, IsGrant, joins_label}
 use Rattle.port_facts.proofs.Keyed.{at_key, at_every, apart_at, at_put_same}
 use Rattle.port_facts.proofs.Found.{find_passes}
 use Rattle.port_facts.proofs.Rules.{and_first}
-use Rattle.controller_model.specs.Controller.{Controller, Acted, Linked, port_key, linked_at}
-use Rattle.controller_model.specs.Resets.{begins}
-use Rattle.controller_model.specs.Performing.{works, at_port}
-use Rattle.controller_model.specs.Routes.{route_stays}
-use Rattle.controller_model.specs.Joins.{Join, output_of, join_through, join_by, port_by, join_for, is_offered, may_join, enters_grant, enters_label, joins, label_on, tries_label, tries_join}
+use Rattle.world_model.specs.Controller.{Controller, Acted, Linked, port_key, linked_at}
+use Rattle.world_model.specs.Resets.{begins}
+use Rattle.world_model.specs.Performing.{works, at_port}
+use Rattle.world_model.specs.Routes.{route_stays}
+use Rattle.world_model.specs.Joins.{Join, output_of, join_through, join_by, port_by, join_for, is_offered, may_join, enters_grant, enters_label, joins, label_on, tries_label, tries_join}
 use Rattle.controller_facts.specs.Sound.{IsSound, IsShutLinked, IsLinkedPort}
 use Rattle.controller_facts.proofs.Laws.{has_ports, moves_sound}
 use Rattle.controller_facts.proofs.Moves.{HasPorts, Found, by_joining, by_lending, found_setup, found_at_own, found_port, moves_ports}

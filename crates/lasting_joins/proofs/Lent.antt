@@ -18,7 +18,7 @@ use Rattle.link_model.specs.declared.record.Record.TheVariants.{Part}
 use Rattle.frame_model.specs.Reassembly.{nothing_taken}
 use Rattle.ordered_lists.specs.Ordered.{Every}
 use Rattle.keyed_lists.specs.Keyed.{at, put, without}
-use Rattle.desk_model.specs.Desk.{Desk, asked, is_led_home, last_transaction}
+use Rattle.port_model.specs.Desk.{Desk, asked, is_led_home, last_transaction}
 use Rattle.port_model.specs.declared.action.Action.{Action}
 use Rattle.port_model.specs.declared.action.Action.TheVariants.{Say, Ask, Note, CutChain, TakeBack, Withdraw, Reset}
 use Rattle.port_model.specs.Setup.{Setup, home_of}
@@ -41,13 +41,13 @@ use Rattle.link_model.specs.declared.record.Cause.TheVariants.{PoolFull}
 use Rattle.link_model.specs.Notes.{noted}
 use Rattle.frame_model.specs.Frame.{frame_cells, made}
 use Rattle.frame_model.specs.Sending.{Sent}
-use Rattle.controller_model.specs.Controller.{Controller, free_slots, Acted, Linked, port_key, linked_at, with_linked, with_desk, note, chain_of, chains_with, default_channel}
-use Rattle.controller_model.specs.Sending.{with_cells, sends, sends_control}
-use Rattle.controller_model.specs.Asking.{asks_next, asks, takes_back}
-use Rattle.controller_model.specs.Resets.{begins, with_work, cuts_of, node_resets}
-use Rattle.controller_model.specs.Performing.{does, does_in_estab, resets_of, resets_port, performs, performs_in_estab, Rule, works, at_port}
-use Rattle.controller_model.specs.Joins.{Join, join_of, joins_of, parts, gives_back, releases_join, releases_input, resets_spent}
-use Rattle.controller_model.specs.Meeting.{tells_port, may_clear, clears_of, clears_port}
+use Rattle.world_model.specs.Controller.{Controller, free_slots, Acted, Linked, port_key, linked_at, with_linked, with_desk, note, chain_of, chains_with, default_channel}
+use Rattle.world_model.specs.Sending.{with_cells, sends, sends_control}
+use Rattle.world_model.specs.Asking.{asks_next, asks, takes_back}
+use Rattle.world_model.specs.Resets.{begins, with_work, cuts_of, node_resets}
+use Rattle.world_model.specs.Performing.{does, does_in_estab, resets_of, resets_port, performs, performs_in_estab, Rule, works, at_port}
+use Rattle.world_model.specs.Joins.{Join, join_of, joins_of, parts, gives_back, releases_join, releases_input, resets_spent}
+use Rattle.world_model.specs.Meeting.{tells_port, may_clear, clears_of, clears_port}
 use Rattle.controller_facts.proofs.Moves.{Worked, worked_kept, by_rule, by_closing, by_parting, by_giving_back, Found, placing, moves_to, HasPorts, found_setup, found_at_own, found_port, begun, moves_ports, noting}
 use Rattle.controller_facts.proofs.Performing.{performs_in_estab_goes}
 use Rattle.controller_facts.proofs.Joining.{IsJoin, joins_are, granted_there, parts_grants, parts_goes}

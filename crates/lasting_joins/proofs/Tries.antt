@@ -23,7 +23,7 @@ use Rattle.frame_model.specs.Frame.{octets_of, last_mark, payload_in, Tested, te
 use Rattle.frame_model.specs.Reassembly.{Taken, taken, nothing_taken}
 use Rattle.ordered_lists.specs.Ordered.{Every}
 use Rattle.keyed_lists.specs.Keyed.{at, put}
-use Rattle.desk_model.specs.Desk.{on_input, most_asked}
+use Rattle.port_model.specs.Desk.{on_input, most_asked}
 use Rattle.port_model.specs.Setup.{Setup, home_of, label_end}
 use Rattle.port_model.specs.Labels.{Label, Offered, label_number, is_bound}
 use Rattle.port_model.specs.Grants as grants
@@ -34,16 +34,16 @@ use Rattle.port_facts.specs.Port.{IsLabelEnd, IsGrant, joins_label}
 use Rattle.port_facts.proofs.Keyed.{on_both, on_each, by_eq, at_every, apart_at, at_put_other}
 use Rattle.port_facts.proofs.Found.{find_passes}
 use Rattle.port_facts.proofs.Rules.{and_first}
-use Rattle.controller_model.specs.Controller.{Acted, Linked, port_key, default_channel, free_slots, linked_at, note, ports_of}
-use Rattle.controller_model.specs.Asking.{asks}
-use Rattle.controller_model.specs.Routes.{route_stays}
-use Rattle.controller_model.specs.Resets.{begins, with_work, cuts_default_of, cuts_default, cuts_gsmp, node_resets, node_restarts}
-use Rattle.controller_model.specs.Performing.{at_port}
-use Rattle.controller_model.specs.Joins.{Join, output_of, join_through, join_by, port_by, join_for, is_offered, may_join, enters_grant, enters_label, joins, tries_label, label_on, tries_join, inputs_at, tries_joins}
-use Rattle.controller_model.specs.Gsmp.{steps}
-use Rattle.controller_model.specs.Controller.{chains_with}
-use Rattle.controller_model.specs.Cells.{Taker, ForGsmp, ForDefault, ForLabel, same_channel, label_taker, taker_at, port_on, on_link, reassembly_of, with_reassembly, opened_frame, ends_frame, after_cell, takes_cell, cell_comes}
-use Rattle.controller_model.specs.Ticks.{sends_again, ticks_ports, ticks_by, ticks}
+use Rattle.world_model.specs.Controller.{Acted, Linked, port_key, default_channel, free_slots, linked_at, note, ports_of}
+use Rattle.world_model.specs.Asking.{asks}
+use Rattle.world_model.specs.Routes.{route_stays}
+use Rattle.world_model.specs.Resets.{begins, with_work, cuts_default_of, cuts_default, cuts_gsmp, node_resets, node_restarts}
+use Rattle.world_model.specs.Performing.{at_port}
+use Rattle.world_model.specs.Joins.{Join, output_of, join_through, join_by, port_by, join_for, is_offered, may_join, enters_grant, enters_label, joins, tries_label, label_on, tries_join, inputs_at, tries_joins}
+use Rattle.world_model.specs.Gsmp.{steps}
+use Rattle.world_model.specs.Controller.{chains_with}
+use Rattle.world_model.specs.Cells.{Taker, ForGsmp, ForDefault, ForLabel, same_channel, label_taker, taker_at, port_on, on_link, reassembly_of, with_reassembly, opened_frame, ends_frame, after_cell, takes_cell, cell_comes}
+use Rattle.world_model.specs.Ticks.{sends_again, ticks_ports, ticks_by, ticks}
 use Rattle.controller_facts.proofs.Moves.{HasPorts, Found, Worked, by_joining, by_lending, ages, found_setup, found_at_own, found_port, moves_ports}
 use Rattle.controller_facts.proofs.Performing.{at_port_goes}
 use Rattle.controller_facts.proofs.Joining.{every_flat_map, each_there, image_is}

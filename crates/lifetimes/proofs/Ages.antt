@@ -13,7 +13,7 @@ use Rattle.adjacency_table.specs.Hello.{ifmp_answer, hello_of}
 use Rattle.ifmp_wire.specs.declared.message.Message.TheVariants.{Adjacency}
 use Rattle.link_model.specs.declared.record.Record.TheVariants.{Opened}
 use Rattle.keyed_lists.specs.Keyed.{at, put, without}
-use Rattle.desk_model.specs.Desk.{Desk}
+use Rattle.port_model.specs.Desk.{Desk}
 use Rattle.port_model.specs.declared.action.Action.{Action}
 use Rattle.port_model.specs.declared.action.Action.TheVariants.{Say, Note, TakeBack}
 use Rattle.port_model.specs.Setup.{Setup, label_end}

@@ -7,7 +7,7 @@ use Rattle.net_types.specs.declared.channel.End.{End}
 use Rattle.adjacency_table.specs.Side.{ticked}
 use Rattle.ordered_lists.specs.Ordered.{Every}
 use Rattle.keyed_lists.specs.Keyed.{at}
-use Rattle.desk_model.specs.Desk.{Desk}
+use Rattle.port_model.specs.Desk.{Desk}
 use Rattle.port_model.specs.declared.action.Action.{Action}
 use Rattle.port_model.specs.declared.action.Action.TheVariants.{TakeBack}
 use Rattle.port_model.specs.Setup.{Setup, label_end}

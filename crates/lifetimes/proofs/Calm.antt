@@ -21,7 +21,7 @@ use Rattle.gsmp_wire.specs.declared.request.Request.TheVariants.{AddBranch, Dele
 use Rattle.ifmp_wire.specs.declared.message.Message.TheVariants.{Adjacency}
 use Rattle.link_model.specs.declared.record.Record.TheVariants.{Opened, Bind, Free, Join}
 use Rattle.keyed_lists.specs.Keyed.{put, without, entered, key_le}
-use Rattle.desk_model.specs.Desk.{Desk, on_input}
+use Rattle.port_model.specs.Desk.{Desk, on_input}
 use Rattle.port_model.specs.declared.action.Action.{Action}
 use Rattle.port_model.specs.declared.action.Action.TheVariants as actions
 use Rattle.port_model.specs.declared.action.Action.TheVariants.{Say, Ask, Note, CutChain, TakeBack, Withdraw}

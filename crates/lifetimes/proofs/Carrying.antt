@@ -24,7 +24,7 @@ use Rattle.frame_model.specs.Reassembly.{cut, nothing_taken}
 use Rattle.ordered_lists.specs.Ordered.{Every}
 use Rattle.ordered_lists.proofs.Every.{every_join}
 use Rattle.keyed_lists.specs.Keyed.{at}
-use Rattle.desk_model.specs.Desk.{Standing, asked, is_led_home, message_at, last_transaction}
+use Rattle.port_model.specs.Desk.{Standing, asked, is_led_home, message_at, last_transaction}
 use Rattle.port_model.specs.declared.action.Action.{Action}
 use Rattle.port_model.specs.declared.action.Action.TheVariants as actions
 use Rattle.port_model.specs.declared.action.Action.TheVariants.{Say, Ask, Note, CutChain, TakeBack, Withdraw}
@@ -34,11 +34,11 @@ use Rattle.port_model.specs.Grants.{Grant, GrantState, Idle, ByController, ByInp
 use Rattle.port_model.specs.Port.{Session, Work}
 use Rattle.port_model.specs.Resets.{closing, withdrawing_in, withdrawing_of, withdrawing, taking_back_in, taking_back, resets}
 use Rattle.port_facts.proofs.Keyed.{on_both, on_each, at_key}
-use Rattle.controller_model.specs.Controller.{Controller, Acted, Linked, LabelChain, port_key, free_slots, linked_at, with_linked, with_desk, chain_of, chains_with, default_channel, default_home}
-use Rattle.controller_model.specs.Sending.{with_cells, sends, sends_control}
-use Rattle.controller_model.specs.Asking.{sends_request, asks_next, asks, takes_back, withdraws_input}
-use Rattle.controller_model.specs.Resets.{begins, with_work, cuts_of, node_resets}
-use Rattle.controller_model.specs.Performing.{does, does_in_estab, resets_of, performs, performs_in_estab, Rule, works, at_port}
+use Rattle.world_model.specs.Controller.{Controller, Acted, Linked, LabelChain, port_key, free_slots, linked_at, with_linked, with_desk, chain_of, chains_with, default_channel, default_home}
+use Rattle.world_model.specs.Sending.{with_cells, sends, sends_control}
+use Rattle.world_model.specs.Asking.{sends_request, asks_next, asks, takes_back, withdraws_input}
+use Rattle.world_model.specs.Resets.{begins, with_work, cuts_of, node_resets}
+use Rattle.world_model.specs.Performing.{does, does_in_estab, resets_of, performs, performs_in_estab, Rule, works, at_port}
 use Rattle.controller_facts.proofs.Joining.{every_flat_map}
 use Rattle.controller_law.proofs.Holding.{node_closed}
 use Rattle.lifetimes.proofs.Calm.{LeadsBack, IsTame}

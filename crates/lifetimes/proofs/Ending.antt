@@ -10,8 +10,8 @@ use Rattle.port_model.specs.Setup.{Setup}
 use Rattle.port_model.specs.Grants.{Grant, grant_label, is_leaving}
 use Rattle.port_facts.specs.Port.{IsGrant}
 use Rattle.port_facts.proofs.Keyed.{by_eq, at_key, at_every}
-use Rattle.controller_model.specs.Controller.{Controller, Acted, Linked, port_key, linked_at}
-use Rattle.controller_model.specs.Ticks as controller_ticks
+use Rattle.world_model.specs.Controller.{Controller, Acted, Linked, port_key, linked_at}
+use Rattle.world_model.specs.Ticks as controller_ticks
 use Rattle.controller_facts.specs.Inputs.{Input, CellComes, PacketEnters, Ticks, Restarts, ChangeComes, FrameIsForged, CellLeaves, Meanwhile, takes_input, takes_inputs}
 use Rattle.controller_facts.specs.Sound.{IsSound, IsLinkedPort, Opening, opened_by, setups_by}
 use Rattle.controller_facts.proofs.Laws.{input_sound, inputs_sound, always_sound}

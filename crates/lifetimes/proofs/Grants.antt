@@ -15,7 +15,7 @@ use Rattle.ifmp_wire.specs.declared.message.Message.{Message}
 use Rattle.ifmp_wire.specs.declared.message.Message.TheVariants.{Adjacency, Redirect, Reclaim, ReclaimAck, LabelRange, Error}
 use Rattle.ordered_lists.specs.Ordered.{Every}
 use Rattle.keyed_lists.specs.Keyed.{at, put, without}
-use Rattle.desk_model.specs.Desk.{Desk, empty_desk, most_asked}
+use Rattle.port_model.specs.Desk.{Desk, empty_desk, most_asked}
 use Rattle.adjacency_table.specs.Side.{ticked}
 use Rattle.port_model.specs.declared.action.Action.{Action}
 use Rattle.port_model.specs.declared.action.Action.TheVariants.{TakeBack}

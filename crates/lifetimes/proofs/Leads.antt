@@ -9,8 +9,8 @@ use Rattle.net_types.specs.declared.node.PortNo.{PortNo}
 use Rattle.crossbar_model.specs.Crossbar.{same_end}
 use Rattle.gsmp_wire.specs.declared.request.Request.{Request}
 use Rattle.gsmp_wire.specs.declared.request.Request.TheVariants.{AddBranch, MoveBranch, DeleteTree, VerifyTree, DeleteAll, PortManagement, AllPorts}
-use Rattle.desk_model.specs.Requests.{is_on, is_on_port, is_delete_all, withdraws, leads_home}
-use Rattle.desk_model.specs.Desk.{Desk, Standing, asked, withdrawn, is_led_home, on_input, all_on}
+use Rattle.port_model.specs.Requests.{is_on, is_on_port, is_delete_all, withdraws, leads_home}
+use Rattle.port_model.specs.Desk.{Desk, Standing, asked, withdrawn, is_led_home, on_input, all_on}
 use Rattle.port_model.specs.Setup.{home_of}
 use Rattle.port_facts.proofs.Keyed.{on_each}
 use Rattle.controller_law.proofs.Lists.{either}

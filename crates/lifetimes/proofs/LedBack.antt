@@ -26,7 +26,7 @@ use Rattle.gsmp_wire.specs.declared.request.Request.TheVariants.{MoveBranch, All
 use Rattle.ordered_lists.specs.Ordered.{Every}
 use Rattle.ordered_lists.proofs.Every.{every_mapped}
 use Rattle.keyed_lists.specs.Keyed.{at}
-use Rattle.desk_model.specs.Desk.{Desk, empty_desk, sent_again, is_led_home, on_input, all_on, most_asked, asked}
+use Rattle.port_model.specs.Desk.{Desk, empty_desk, sent_again, is_led_home, on_input, all_on, most_asked, asked}
 use Rattle.port_model.specs.declared.action.Action.TheVariants.{TakeBack}
 use Rattle.port_model.specs.Setup.{Setup, home_of, label_end}
 use Rattle.port_model.specs.Labels.{Label}
@@ -39,17 +39,17 @@ use Rattle.port_facts.specs.Port.{setup_port, IsLabelEnd, IsGrant, IsPort}
 use Rattle.port_facts.proofs.Keyed.{on_both, on_each, by_eq, at_key, at_every, at_map, put_every, apart_at}
 use Rattle.port_facts.proofs.Found.{find_passes}
 use Rattle.port_facts.proofs.Rules.{and_first, and_second}
-use Rattle.controller_model.specs.Controller.{Controller, Acted, Linked, port_key, linked_at, ports_of, with_desk, default_channel}
-use Rattle.controller_model.specs.Sending.{says_gsmp}
-use Rattle.controller_model.specs.Asking.{sends_request, asks}
-use Rattle.controller_model.specs.Resets.{begins, with_work, node_resets}
-use Rattle.controller_model.specs.Performing.{performs, works, works_as}
-use Rattle.controller_model.specs.Joins.{Join, port_by, join_through, join_by, join_for, is_offered, may_join, enters_grant, output_of, enters_label, joins, tries_label, label_on, tries_join, inputs_at, tries_joins}
-use Rattle.controller_model.specs.Routes.{route_stays}
-use Rattle.controller_model.specs.Meeting.{meets}
-use Rattle.controller_model.specs.Gsmp.{answers, steps}
-use Rattle.controller_model.specs.Opening.{setup_of}
-use Rattle.controller_model.specs.Ticks.{sends_again, ticks_port, ticks_ports, ticks_by, ticks}
+use Rattle.world_model.specs.Controller.{Controller, Acted, Linked, port_key, linked_at, ports_of, with_desk, default_channel}
+use Rattle.world_model.specs.Sending.{says_gsmp}
+use Rattle.world_model.specs.Asking.{sends_request, asks}
+use Rattle.world_model.specs.Resets.{begins, with_work, node_resets}
+use Rattle.world_model.specs.Performing.{performs, works, works_as}
+use Rattle.world_model.specs.Joins.{Join, port_by, join_through, join_by, join_for, is_offered, may_join, enters_grant, output_of, enters_label, joins, tries_label, label_on, tries_join, inputs_at, tries_joins}
+use Rattle.world_model.specs.Routes.{route_stays}
+use Rattle.world_model.specs.Meeting.{meets}
+use Rattle.world_model.specs.Gsmp.{answers, steps}
+use Rattle.world_model.specs.Opening.{setup_of}
+use Rattle.world_model.specs.Ticks.{sends_again, ticks_port, ticks_ports, ticks_by, ticks}
 use Rattle.controller_facts.specs.Inputs.{takes_input, takes_inputs}
 use Rattle.controller_facts.specs.Sound.{IsSound, IsLinkedPort, linked_setup, Opening, opened_by, setups_by}
 use Rattle.controller_facts.proofs.Moves.{Found, HasPorts, ages, found_setup, found_at_own, found_port}

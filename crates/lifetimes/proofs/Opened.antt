@@ -13,7 +13,7 @@ use Rattle.crossbar_model.specs.Channels.{IsLinkPort}
 use Rattle.ordered_lists.specs.Ordered.{Every, InOrder}
 use Rattle.port_model.specs.Setup.{Policy}
 use Rattle.port_facts.proofs.Keyed.{every_more}
-use Rattle.controller_model.specs.declared.range.PortRange.{PortRange}
+use Rattle.world_model.specs.declared.range.PortRange.{PortRange}
 use Rattle.controller_facts.specs.Inputs.{Input, takes_inputs}
 use Rattle.controller_facts.specs.Sound.{Opening, DifferInPort, opened_by}
 use Rattle.controller_law.specs.Law.{IsOpening}

@@ -22,7 +22,7 @@ use Rattle.frame_model.specs.Sending.{Sent}
 use Rattle.frame_model.specs.Frame.{frame_cells, made}
 use Rattle.frame_model.specs.Reassembly.{cut, nothing_taken}
 use Rattle.ordered_lists.specs.Ordered.{Every}
-use Rattle.desk_model.specs.Desk.{Standing, asked, is_led_home, message_at, last_transaction}
+use Rattle.port_model.specs.Desk.{Standing, asked, is_led_home, message_at, last_transaction}
 use Rattle.port_model.specs.declared.action.Action.{Action}
 use Rattle.port_model.specs.declared.action.Action.TheVariants as actions
 use Rattle.port_model.specs.declared.action.Action.TheVariants.{Say, Ask, Note, CutChain, TakeBack, Withdraw}
@@ -30,11 +30,11 @@ use Rattle.port_model.specs.Setup.{Setup, home_of}
 use Rattle.port_model.specs.Port.{Port, Work}
 use Rattle.port_model.specs.Resets.{resets, restarts}
 use Rattle.port_facts.proofs.Keyed.{on_both, at_every, put_every}
-use Rattle.controller_model.specs.Controller.{Controller, Acted, Linked, port_key, free_slots, linked_at, ports_of, with_linked, with_desk, chain_of, chains_with, default_channel, default_home}
-use Rattle.controller_model.specs.Sending.{with_cells, sends, sends_control}
-use Rattle.controller_model.specs.Asking.{sends_request, asks_next, asks, takes_back}
-use Rattle.controller_model.specs.Resets.{begins, with_work, cuts_of, closes_by, port_restarts_of, port_restarts, resets_gsmp, node_resets}
-use Rattle.controller_model.specs.Performing.{does, does_in_estab, resets_of, performs, performs_in_estab, Rule, works_as, works, at_port}
+use Rattle.world_model.specs.Controller.{Controller, Acted, Linked, port_key, free_slots, linked_at, ports_of, with_linked, with_desk, chain_of, chains_with, default_channel, default_home}
+use Rattle.world_model.specs.Sending.{with_cells, sends, sends_control}
+use Rattle.world_model.specs.Asking.{sends_request, asks_next, asks, takes_back}
+use Rattle.world_model.specs.Resets.{begins, with_work, cuts_of, closes_by, port_restarts_of, port_restarts, resets_gsmp, node_resets}
+use Rattle.world_model.specs.Performing.{does, does_in_estab, resets_of, performs, performs_in_estab, Rule, works_as, works, at_port}
 
 -- what the resets of a port keep of it, and control frames of the queue
 pub record IsKept (K : Setup → Port → Type 0) (Q : List Cell → Type 0) : Type 0 where

@@ -13,8 +13,8 @@ use Rattle.atm_cells.specs.declared.cell.Cell.{Cell}
 use Rattle.ordered_lists.specs.Ordered.{Every}
 use Rattle.port_model.specs.Setup.{Policy, control_end}
 use Rattle.port_facts.proofs.Keyed.{at_every}
-use Rattle.controller_model.specs.Controller.{Controller, Acted}
-use Rattle.controller_model.specs.Ticks.{ticks}
+use Rattle.world_model.specs.Controller.{Controller, Acted}
+use Rattle.world_model.specs.Ticks.{ticks}
 use Rattle.controller_facts.specs.Inputs.{Input, Ticks, Meanwhile, takes_input, takes_inputs}
 use Rattle.controller_facts.specs.Sound.{Opening, opened_by}
 use Rattle.controller_law.specs.Law.{IsOpening}

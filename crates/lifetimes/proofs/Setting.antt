@@ -31,7 +31,7 @@ use Rattle.gsmp_wire.specs.declared.request.Request.TheVariants.{AddBranch}
 use Rattle.ordered_lists.specs.Ordered.{Every, InOrder}
 use Rattle.ordered_lists.proofs.Every.{every_map}
 use Rattle.keyed_lists.specs.Keyed.{at, put}
-use Rattle.desk_model.specs.Desk.{Desk, most_asked, asked, message_at, last_transaction}
+use Rattle.port_model.specs.Desk.{Desk, most_asked, asked, message_at, last_transaction}
 use Rattle.port_model.specs.declared.action.Action.TheVariants.{Ask}
 use Rattle.port_model.specs.Setup.{Setup, is_in_range, control_end, label_end}
 use Rattle.port_model.specs.Grants.{Grant, Idle, grant_label, is_leaving, most_grants, Acceptance, New, Refreshed, OutOfRange, Taken as TakenBy, IsLeaving, GrantsFull, acceptance_beside, acceptance_of, acceptance}
@@ -39,13 +39,13 @@ use Rattle.port_model.specs.Port.{Work, with_grant, Session}
 use Rattle.port_model.specs.Redirection.{expects, accepts, grants_label, redirected, is_from_peer, is_due}
 use Rattle.port_model.specs.Hearing.{hears}
 use Rattle.port_facts.proofs.Keyed.{on_both, on_each, at_key, at_put_same, put_order, every_more}
-use Rattle.controller_model.specs.Controller.{Controller, Acted, Linked, port_key, free_slots, linked_at, with_linked, with_desk, default_channel}
-use Rattle.controller_model.specs.Sending.{with_cells, sends}
-use Rattle.controller_model.specs.Asking.{asks_next, asks}
-use Rattle.controller_model.specs.Resets.{begins, with_work, node_resets}
-use Rattle.controller_model.specs.Performing.{performs, performs_in_estab, works, works_as, at_port}
-use Rattle.controller_model.specs.Packets.{routes}
-use Rattle.controller_model.specs.Cells.{Taker, ForDefault, port_on, taker_of, ifmp_holds, counted_at, packet_holds, default_holds, opened_frame, ends_frame, takes_cell, cell_comes}
+use Rattle.world_model.specs.Controller.{Controller, Acted, Linked, port_key, free_slots, linked_at, with_linked, with_desk, default_channel}
+use Rattle.world_model.specs.Sending.{with_cells, sends}
+use Rattle.world_model.specs.Asking.{asks_next, asks}
+use Rattle.world_model.specs.Resets.{begins, with_work, node_resets}
+use Rattle.world_model.specs.Performing.{performs, performs_in_estab, works, works_as, at_port}
+use Rattle.world_model.specs.Packets.{routes}
+use Rattle.world_model.specs.Cells.{Taker, ForDefault, port_on, taker_of, ifmp_holds, counted_at, packet_holds, default_holds, opened_frame, ends_frame, takes_cell, cell_comes}
 use Rattle.controller_facts.specs.Inputs.{Input, CellComes, takes_input}
 use Rattle.controller_facts.specs.Sound.{IsSound}
 use Rattle.controller_facts.proofs.Moves.{found_port}

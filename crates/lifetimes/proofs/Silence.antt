@@ -17,8 +17,8 @@ use Rattle.ordered_lists.proofs.Every.{every_all, every_join, every_mapped}
 use Rattle.port_model.specs.Setup.{Setup, is_in_range, control_end}
 use Rattle.port_model.specs.Grants.{Grant, is_leaving, is_by_controller, New, Refreshed, OutOfRange, Taken as TakenBy, IsLeaving, GrantsFull, Acceptance, acceptance}
 use Rattle.port_facts.specs.Port.{IsGrant, IsPort}
-use Rattle.controller_model.specs.Controller.{Acted, Linked}
-use Rattle.controller_model.specs.Cells.{same_channel, ForDefault, port_on}
+use Rattle.world_model.specs.Controller.{Acted, Linked}
+use Rattle.world_model.specs.Cells.{same_channel, ForDefault, port_on}
 use Rattle.controller_facts.specs.Inputs.{Input, CellComes, PacketEnters, Ticks, Restarts, ChangeComes, FrameIsForged, CellLeaves, Meanwhile, takes_input, takes_inputs}
 use Rattle.controller_facts.specs.Sound.{IsSound, IsLinkedPort, opened_by, setups_by}
 use Rattle.controller_facts.proofs.Laws.{has_ports, always_sound}

@@ -30,7 +30,7 @@ use Rattle.link_model.specs.declared.record.Cause.TheVariants.{PoolFull}
 use Rattle.link_model.specs.Notes.{noted}
 use Rattle.frame_model.specs.Sending.{Sent}
 use Rattle.frame_model.specs.Frame.{frame_cells, made}
-use Rattle.desk_model.specs.Desk.{empty_desk, asked, is_led_home, message_at, sent_again, last_transaction}
+use Rattle.port_model.specs.Desk.{empty_desk, asked, is_led_home, message_at, sent_again, last_transaction}
 use Rattle.port_model.specs.declared.action.Action.{Action}
 use Rattle.port_model.specs.declared.action.Action.TheVariants as actions
 use Rattle.port_model.specs.declared.action.Action.TheVariants.{Say, Ask, Note, CutChain, TakeBack, Withdraw}
@@ -43,15 +43,15 @@ use Rattle.port_model.specs.Ticks as port_ticks
 use Rattle.port_facts.proofs.Keyed.{on_both, at_every}
 use Rattle.port_facts.proofs.Hearings.{ticks_goes}
 use Rattle.port_facts.proofs.Instances.{goes_gave, lent_gave, joined_gave}
-use Rattle.controller_model.specs.Controller.{Controller, Acted, Linked, port_key, free_slots, linked_at, ports_of, with_desk, default_channel, default_home}
-use Rattle.controller_model.specs.Sending.{with_cells, sends, sends_control, says_gsmp}
-use Rattle.controller_model.specs.Asking.{sends_request, asks_next, asks, takes_back}
-use Rattle.controller_model.specs.Resets.{cuts_of, begins, with_work, closes_by, port_restarts_of, port_restarts, resets_gsmp, node_resets}
-use Rattle.controller_model.specs.Performing.{does, does_in_estab, resets_of, performs, performs_in_estab, Rule, works, at_port}
-use Rattle.controller_model.specs.Joins.{Join, join_for, may_join, enters_grant, output_of, enters_label, joins, tries_label, label_on, tries_join, inputs_at, tries_joins}
-use Rattle.controller_model.specs.Meeting.{meets}
-use Rattle.controller_model.specs.Gsmp.{answers, steps}
-use Rattle.controller_model.specs.Ticks.{sends_again, ticks_port, ticks_ports, ticks_by, ticks}
+use Rattle.world_model.specs.Controller.{Controller, Acted, Linked, port_key, free_slots, linked_at, ports_of, with_desk, default_channel, default_home}
+use Rattle.world_model.specs.Sending.{with_cells, sends, sends_control, says_gsmp}
+use Rattle.world_model.specs.Asking.{sends_request, asks_next, asks, takes_back}
+use Rattle.world_model.specs.Resets.{cuts_of, begins, with_work, closes_by, port_restarts_of, port_restarts, resets_gsmp, node_resets}
+use Rattle.world_model.specs.Performing.{does, does_in_estab, resets_of, performs, performs_in_estab, Rule, works, at_port}
+use Rattle.world_model.specs.Joins.{Join, join_for, may_join, enters_grant, output_of, enters_label, joins, tries_label, label_on, tries_join, inputs_at, tries_joins}
+use Rattle.world_model.specs.Meeting.{meets}
+use Rattle.world_model.specs.Gsmp.{answers, steps}
+use Rattle.world_model.specs.Ticks.{sends_again, ticks_port, ticks_ports, ticks_by, ticks}
 use Rattle.controller_facts.specs.Sound.{IsSound, IsShutLinked}
 use Rattle.lifetimes.specs.Aging.{is_over, reaches, reaches_at, has_switch}
 use Rattle.lifetimes.specs.Law.{IsReset}

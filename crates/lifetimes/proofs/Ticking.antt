@@ -25,7 +25,7 @@ use Rattle.ordered_lists.specs.Ordered.{Every, InOrder}
 use Rattle.ordered_lists.proofs.Every.{every_all, every_map, every_map2}
 use Rattle.ordered_lists.proofs.InOrder.{order_unmapped}
 use Rattle.keyed_lists.specs.Keyed.{at, put}
-use Rattle.desk_model.specs.Desk.{empty_desk, sent_again}
+use Rattle.port_model.specs.Desk.{empty_desk, sent_again}
 use Rattle.port_model.specs.Setup.{Setup, control_end}
 use Rattle.port_model.specs.Grants.{Grant, GrantState, Idle, ByController, ByInput, Leaving, grant_label, is_leaving, is_by_controller}
 use Rattle.port_model.specs.Port.{Port, Work}
@@ -35,15 +35,15 @@ use Rattle.port_facts.specs.Port.{IsWork}
 use Rattle.port_facts.proofs.Keyed.{on_both, by_eq, at_key, at_every, each_found}
 use Rattle.port_facts.proofs.Hearings.{ticks_goes}
 use Rattle.port_facts.proofs.Kept.{goes_kept}
-use Rattle.controller_model.specs.Controller.{Acted, Linked, port_key, linked_at, ports_of, with_desk, default_channel}
-use Rattle.controller_model.specs.Sending.{says_gsmp}
-use Rattle.controller_model.specs.Asking.{sends_request}
-use Rattle.controller_model.specs.Resets.{begins, with_work}
-use Rattle.controller_model.specs.Performing.{performs, performs_in_estab, works, works_as}
-use Rattle.controller_model.specs.Joins.{tries_joins}
-use Rattle.controller_model.specs.Meeting.{meets}
-use Rattle.controller_model.specs.Gsmp.{answers, steps}
-use Rattle.controller_model.specs.Ticks.{sends_again, ticks_port, ticks_ports, ticks_by, ticks}
+use Rattle.world_model.specs.Controller.{Acted, Linked, port_key, linked_at, ports_of, with_desk, default_channel}
+use Rattle.world_model.specs.Sending.{says_gsmp}
+use Rattle.world_model.specs.Asking.{sends_request}
+use Rattle.world_model.specs.Resets.{begins, with_work}
+use Rattle.world_model.specs.Performing.{performs, performs_in_estab, works, works_as}
+use Rattle.world_model.specs.Joins.{tries_joins}
+use Rattle.world_model.specs.Meeting.{meets}
+use Rattle.world_model.specs.Gsmp.{answers, steps}
+use Rattle.world_model.specs.Ticks.{sends_again, ticks_port, ticks_ports, ticks_by, ticks}
 use Rattle.controller_facts.specs.Sound.{IsSound, linked_setup, AreApart}
 use Rattle.controller_facts.proofs.Moves.{ages, found_setup, found_at_own, begun}
 use Rattle.controller_facts.proofs.Joining.{every_flat_map}

@@ -8,7 +8,7 @@ use Rattle.adjacency_table.specs.declared.message.Answer.TheVariants.{Reset}
 use Rattle.adjacency_table.specs.Side.{is_estab, ticked}
 use Rattle.keyed_lists.specs.Keyed.{at}
 use Rattle.port_model.specs.Grants.{Grant, grant_label, is_leaving}
-use Rattle.controller_model.specs.Controller.{Controller, Acted, Linked, linked_at}
+use Rattle.world_model.specs.Controller.{Controller, Acted, Linked, linked_at}
 use Rattle.controller_facts.specs.Inputs.{Input, Ticks, takes_input, takes_inputs}
 use Rattle.controller_facts.specs.Sound.{Opening, opened_by}
 use Rattle.lifetimes.specs.Setting.{Sets}

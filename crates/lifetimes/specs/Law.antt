@@ -6,12 +6,12 @@ use Rattle.net_types.specs.declared.channel.Channel.{Channel}
 use Rattle.net_types.specs.declared.channel.End.{End}
 use Rattle.atm_cells.specs.declared.cell.Cell.{Cell}
 use Rattle.ordered_lists.specs.Ordered.{Every}
-use Rattle.desk_model.specs.Desk.{is_led_home}
+use Rattle.port_model.specs.Desk.{is_led_home}
 use Rattle.port_model.specs.Setup.{home_of, control_end}
 use Rattle.port_model.specs.Grants.{Grant, ByInput, is_leaving}
-use Rattle.controller_model.specs.Controller.{Acted}
-use Rattle.controller_model.specs.Cells.{same_channel}
-use Rattle.controller_model.specs.Ticks.{ticks}
+use Rattle.world_model.specs.Controller.{Acted}
+use Rattle.world_model.specs.Cells.{same_channel}
+use Rattle.world_model.specs.Ticks.{ticks}
 use Rattle.controller_facts.specs.Inputs.{Input, FrameIsForged, CellLeaves, takes_input, takes_inputs}
 use Rattle.controller_facts.specs.Sound.{Opening, opened_by}
 use Rattle.controller_law.specs.Law.{IsOpening}

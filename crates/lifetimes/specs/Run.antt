@@ -9,10 +9,10 @@ use Rattle.net_types.specs.declared.node.Place.TheVariants.{Down, Up, Out}
 use Rattle.net_types.specs.declared.channel.End.{End}
 use Rattle.net_types.specs.Number.{next_control}
 use Rattle.atm_cells.specs.declared.cell.Cell.{Cell}
-use Rattle.desk_model.specs.Desk.{is_led_home}
+use Rattle.port_model.specs.Desk.{is_led_home}
 use Rattle.port_model.specs.Setup.{Policy, home_of, control_end}
 use Rattle.port_model.specs.Grants.{Grant, ByInput}
-use Rattle.controller_model.specs.Controller.{Controller, Acted}
+use Rattle.world_model.specs.Controller.{Controller, Acted}
 use Rattle.controller_facts.specs.Inputs.{Input, CellComes, PacketEnters, Ticks, Restarts, ChangeComes, FrameIsForged, CellLeaves}
 use Rattle.world_model.specs.declared.event.Event.{Event}
 use Rattle.world_model.specs.declared.event.Event.TheVariants.{Inject, Carry, Lose, Tick, Restart, Forge, Route}

@@ -15,12 +15,12 @@ use Rattle.ifmp_wire.specs.Fields.{decoded}
 use Rattle.link_model.specs.Notes.{Journal}
 use Rattle.frame_model.specs.Reassembly.{Taken, taken}
 use Rattle.frame_model.specs.Frame.{tested}
-use Rattle.desk_model.specs.Desk.{most_asked}
+use Rattle.port_model.specs.Desk.{most_asked}
 use Rattle.port_model.specs.Grants.{Grant, Acceptance, New, Refreshed, acceptance}
 use Rattle.port_model.specs.Redirection.{takes}
-use Rattle.controller_model.specs.Controller.{Controller, Acted, Linked, free_slots}
-use Rattle.controller_model.specs.Packets.{control_protocol}
-use Rattle.controller_model.specs.Cells.{ForDefault, taker_of}
+use Rattle.world_model.specs.Controller.{Controller, Acted, Linked, free_slots}
+use Rattle.world_model.specs.Packets.{control_protocol}
+use Rattle.world_model.specs.Cells.{ForDefault, taker_of}
 use Rattle.controller_facts.specs.Inputs.{Input, CellComes}
 
 -- the payload of the frame that a cell has ended on a port's default channel, where it passes its test

@@ -7,9 +7,9 @@ use Rattle.gsmp_wire.specs.declared.request.Request.{Request}
 use Rattle.gsmp_wire.specs.declared.request.Request.TheVariants.{AddBranch, MoveBranch, DeleteTree, VerifyTree, DeleteAll, PortManagement, AllPorts}
 use Rattle.crossbar_model.specs.Crossbar.{same_end}
 use Rattle.ordered_lists.specs.Ordered.{Every}
-use Rattle.desk_model.specs.Requests.{input_of}
+use Rattle.port_model.specs.Requests.{input_of}
 use Rattle.port_model.specs.Setup.{home_of}
-use Rattle.controller_model.specs.Controller.{Linked}
+use Rattle.world_model.specs.Controller.{Linked}
 use Rattle.controller_facts.specs.Inputs.{takes_inputs}
 use Rattle.controller_facts.specs.Sound.{opened_by}
 use Rattle.controller_law.specs.Order.{is_lent, is_default, is_unlent, stands_unlent, one_if, count_of, IsLentMove, MovesLent}

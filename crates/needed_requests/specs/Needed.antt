@@ -4,9 +4,9 @@ use Rattle.std.specs.Prelude.{◌≤◌, Bool, true, false, List}
 use Rattle.gsmp_wire.specs.declared.request.Request.{Request}
 use Rattle.gsmp_wire.specs.declared.request.Request.TheVariants.{AddBranch, MoveBranch, DeleteTree, DeleteAll, AllPorts}
 use Rattle.crossbar_model.specs.Crossbar.{same_end}
-use Rattle.desk_model.specs.Desk.{Standing}
+use Rattle.port_model.specs.Desk.{Standing}
 use Rattle.port_model.specs.Setup.{home_of}
-use Rattle.controller_model.specs.Controller.{Controller, Linked}
+use Rattle.world_model.specs.Controller.{Controller, Linked}
 use Rattle.controller_law.specs.Order.{is_lent, is_default, count_of}
 use Rattle.controller_law.specs.Law as law
 

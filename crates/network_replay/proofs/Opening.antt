@@ -9,7 +9,7 @@ use Rattle.net_types.specs.declared.node.PortNo.{PortNo}
 use Rattle.net_types.specs.declared.node.Place.{Place}
 use Rattle.net_types.specs.declared.node.Place.TheVariants.{Out}
 use Rattle.port_model.specs.Setup.{Policy}
-use Rattle.controller_model.specs.declared.range.PortRange.{PortRange}
+use Rattle.world_model.specs.declared.range.PortRange.{PortRange}
 use Rattle.world_model.specs.declared.event.Event.{Event}
 use Rattle.world_model.specs.declared.event.Event.TheVariants.{Carry, Tick, TickSwitch}
 use Rattle.world_model.specs.Places.{places_of}

@@ -18,8 +18,8 @@ use Rattle.port_model.specs.Grants.{Grant, input_of}
 use Rattle.port_model.specs.Port.{Session, labels_of}
 use Rattle.port_facts.specs.Port.{IsLabelEnd, IsLabel, IsShut, setup_port}
 use Rattle.port_facts.proofs.Keyed.{at_every}
-use Rattle.controller_model.specs.Controller.{Controller, Linked, linked_at, port_key}
-use Rattle.controller_model.specs.Meeting.{is_clearing}
+use Rattle.world_model.specs.Controller.{Controller, Linked, linked_at, port_key}
+use Rattle.world_model.specs.Meeting.{is_clearing}
 use Rattle.controller_facts.specs.Sound.{IsLinkedPort, IsShutLinked}
 use Rattle.controller_law.specs.Match.{joined_in, joined_at, lent_in, lent_at, clearing_at, end_at}
 use Rattle.world_model.specs.World.{Site, site_at}

@@ -6,7 +6,7 @@ use Rattle.std.specs.Option.{option_map, option_and_then}
 use Rattle.net_types.specs.declared.adjacency.Peer.{Peer}
 use Rattle.adjacency_table.specs.Side.{Side, IsSide, knows_peer}
 use Rattle.port_facts.proofs.Keyed.{at_every}
-use Rattle.controller_model.specs.Controller.{Linked, linked_at, port_key}
+use Rattle.world_model.specs.Controller.{Linked, linked_at, port_key}
 use Rattle.controller_facts.specs.Sound.{IsLinkedPort}
 use Rattle.world_model.specs.declared.link.LinkEnd.{LinkEnd}
 use Rattle.world_model.specs.World.{Site, site_at}

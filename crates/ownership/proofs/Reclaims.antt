@@ -22,7 +22,7 @@ use Rattle.port_model.specs.Labels.{Label, LabelState, Wiring, Offered, Recalled
 use Rattle.port_model.specs.Grants.{Grant, Leaving, grant_label}
 use Rattle.port_model.specs.Port.{Session}
 use Rattle.port_facts.proofs.Keyed.{at_every, each_found}
-use Rattle.controller_model.specs.Controller.{Controller, Linked, linked_at, port_key}
+use Rattle.world_model.specs.Controller.{Controller, Linked, linked_at, port_key}
 use Rattle.controller_facts.specs.Sound.{IsLinkedPort}
 use Rattle.crossbar_model.specs.Crossbar.{queue_of}
 use Rattle.label_line.specs.Cells as lines

@@ -13,10 +13,10 @@ use Rattle.net_types.specs.declared.channel.Channel.{Channel}
 use Rattle.net_types.specs.declared.channel.End.{End}
 use Rattle.net_types.specs.Label.{is_label_number, is_label_channel, label_channel_of, number_of_channel}
 use Rattle.atm_cells.specs.declared.cell.Cell.{Cell}
-use Rattle.desk_model.specs.Desk.{Standing}
+use Rattle.port_model.specs.Desk.{Standing}
 use Rattle.port_model.specs.Setup.{control_end, label_end}
-use Rattle.controller_model.specs.Controller.{default_channel}
-use Rattle.controller_model.specs.Cells.{same_channel, port_on, on_link}
+use Rattle.world_model.specs.Controller.{default_channel}
+use Rattle.world_model.specs.Cells.{same_channel, port_on, on_link}
 use Rattle.world_model.specs.declared.link.LinkEnd.{LinkEnd}
 use Rattle.world_model.specs.Places.{queue_at}
 use Rattle.world_model.specs.Conditions.{IsTopology}

@@ -23,9 +23,9 @@ use Rattle.gsmp_wire.specs.declared.message.Message.{Message as GsmpMessage}
 use Rattle.gsmp_wire.specs.Layout.{octets_of as gsmp_octets}
 use Rattle.link_model.specs.declared.frames.Frame.{Frame}
 use Rattle.link_model.specs.Ledger.{payload_of}
-use Rattle.desk_model.specs.Desk.{Standing}
-use Rattle.controller_model.specs.Controller.{default_channel, default_home}
-use Rattle.controller_model.specs.Cells.{same_channel, port_on, on_link}
+use Rattle.port_model.specs.Desk.{Standing}
+use Rattle.world_model.specs.Controller.{default_channel, default_home}
+use Rattle.world_model.specs.Cells.{same_channel, port_on, on_link}
 use Rattle.controller_views.specs.Lifted.{payload_by}
 use Rattle.world_model.specs.declared.link.LinkEnd.{LinkEnd}
 use Rattle.world_model.specs.Topology.{Topology, peer_of}

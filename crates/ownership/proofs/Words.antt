@@ -15,8 +15,8 @@ use Rattle.ipv4_packet.specs.Packet.{source_of}
 use Rattle.link_model.specs.declared.frames.Frame.{Frame}
 use Rattle.link_model.specs.Ledger.{payload_of}
 use Rattle.ordered_lists.specs.Ordered.{Every}
-use Rattle.controller_model.specs.Controller.{default_channel, default_home}
-use Rattle.controller_model.specs.Cells.{same_channel}
+use Rattle.world_model.specs.Controller.{default_channel, default_home}
+use Rattle.world_model.specs.Cells.{same_channel}
 use Rattle.label_line.specs.Cells as lines
 use Rattle.label_line.specs.Cells.{Role}
 use Rattle.label_line.specs.Law.{IsNoReclaim}

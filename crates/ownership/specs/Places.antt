@@ -6,8 +6,8 @@ use Rattle.net_types.specs.declared.node.Place.TheVariants.{Down, Up}
 use Rattle.atm_cells.specs.declared.cell.Cell.{Cell}
 use Rattle.gsmp_wire.specs.declared.message.Message.{Message}
 use Rattle.port_model.specs.Setup.{Policy}
-use Rattle.controller_model.specs.Controller.{default_channel}
-use Rattle.controller_model.specs.Cells.{same_channel, port_on}
+use Rattle.world_model.specs.Controller.{default_channel}
+use Rattle.world_model.specs.Cells.{same_channel, port_on}
 use Rattle.world_model.specs.declared.event.Event.{Event}
 use Rattle.world_model.specs.Topology.{Topology}
 use Rattle.world_model.specs.Lines.{is_linked}

@@ -20,8 +20,8 @@ use Rattle.ordered_lists.specs.Ordered.{Every}
 use Rattle.plain_laws.proofs.Lists.{count_by-append}
 use Rattle.port_model.specs.Setup.{Policy}
 use Rattle.run_model.specs.Fates.{Fate, IsDelivered, IsDropped, is_fate_of, has_loss_of}
-use Rattle.controller_model.specs.Controller.{default_channel}
-use Rattle.controller_model.specs.Cells.{port_on, on_link, same_channel}
+use Rattle.world_model.specs.Controller.{default_channel}
+use Rattle.world_model.specs.Cells.{port_on, on_link, same_channel}
 use Rattle.world_model.specs.declared.event.Event.{Event}
 use Rattle.world_model.specs.declared.link.LinkEnd.{LinkEnd}
 use Rattle.world_model.specs.Topology.{Topology, peer_of}

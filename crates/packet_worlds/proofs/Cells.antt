@@ -20,8 +20,8 @@ use Rattle.ordered_lists.specs.Ordered.{Every}
 use Rattle.port_model.specs.Labels.{Label, is_bound}
 use Rattle.port_model.specs.Port.{label_at}
 use Rattle.port_facts.proofs.Keyed.{on_each, at_key, at_every, put_every}
-use Rattle.controller_model.specs.Controller.{Controller, Acted, Linked, port_key, free_slots, linked_at, note, chains_with, default_channel}
-use Rattle.controller_model.specs.Cells.{Taker, ForGsmp, ForDefault, ForLabel, port_on, on_link, same_channel, label_taker, taker_at, taker_of, reassembly_of, with_reassembly, frame_holds, opened_frame, after_test, ends_frame, after_cell, takes_cell, cell_comes}
+use Rattle.world_model.specs.Controller.{Controller, Acted, Linked, port_key, free_slots, linked_at, note, chains_with, default_channel}
+use Rattle.world_model.specs.Cells.{Taker, ForGsmp, ForDefault, ForLabel, port_on, on_link, same_channel, label_taker, taker_at, taker_of, reassembly_of, with_reassembly, frame_holds, opened_frame, after_test, ends_frame, after_cell, takes_cell, cell_comes}
 use Rattle.world_model.specs.Topology.{peer_of}
 use Rattle.world_model.specs.Past.{last_bound}
 use Rattle.world_model.specs.Headline.{IsTame}

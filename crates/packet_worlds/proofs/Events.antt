@@ -15,16 +15,16 @@ use Rattle.link_model.specs.declared.record.Cause.TheVariants.{Lost}
 use Rattle.ordered_lists.specs.Ordered.{Every}
 use Rattle.ordered_lists.proofs.Every.{every_map}
 use Rattle.crossbar_model.specs.Crossbar.{input_of}
-use Rattle.switch_model.specs.Switch as switches
-use Rattle.switch_model.specs.Switch.{control_port}
-use Rattle.switch_model.specs.Conduct as switch
-use Rattle.controller_model.specs.Controller.{Acted, ports_of}
-use Rattle.controller_model.specs.Cells as takes
-use Rattle.controller_model.specs.Cells.{same_channel}
-use Rattle.controller_model.specs.Packets.{injected}
-use Rattle.controller_model.specs.Changes.{change_comes}
-use Rattle.controller_model.specs.Resets.{node_restarts}
-use Rattle.controller_model.specs.Ticks.{ticks}
+use Rattle.world_model.specs.Switch as switches
+use Rattle.world_model.specs.Switch.{control_port}
+use Rattle.world_model.specs.Conduct as switch
+use Rattle.world_model.specs.Controller.{Acted, ports_of}
+use Rattle.world_model.specs.Cells as takes
+use Rattle.world_model.specs.Cells.{same_channel}
+use Rattle.world_model.specs.Packets.{injected}
+use Rattle.world_model.specs.Changes.{change_comes}
+use Rattle.world_model.specs.Resets.{node_restarts}
+use Rattle.world_model.specs.Ticks.{ticks}
 use Rattle.world_model.specs.declared.link.LinkEnd.{LinkEnd}
 use Rattle.world_model.specs.Topology.{peer_of}
 use Rattle.world_model.specs.Conditions.{IsTopology, IsNode, IsPlace}

@@ -18,8 +18,8 @@ use Rattle.flow_ids.specs.Parts.{same_flow}
 use Rattle.port_model.specs.Grants.{Grant, is_by_controller, grant_for, grant_of_kind, grant_matching}
 use Rattle.port_facts.proofs.Found.{find_passes}
 use Rattle.port_views.proofs.Flows.{flow_is}
-use Rattle.controller_model.specs.Controller.{default_channel}
-use Rattle.controller_model.specs.Cells.{port_on, on_link, same_channel}
+use Rattle.world_model.specs.Controller.{default_channel}
+use Rattle.world_model.specs.Cells.{port_on, on_link, same_channel}
 use Rattle.world_model.specs.declared.link.LinkEnd.{LinkEnd}
 use Rattle.world_model.specs.Topology.{Topology, peer_of}
 use Rattle.world_views.specs.Marks.{Heading, own_end, heading_at}

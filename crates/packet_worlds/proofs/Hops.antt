@@ -14,7 +14,7 @@ use Rattle.ipv4_packet.proofs.RouteLemmas.{canonical-canonical, protocol_of-rero
 use Rattle.plain_laws.proofs.Packets.{fault_onward}
 use Rattle.link_model.specs.declared.record.Refusal.{Refusal}
 use Rattle.link_model.specs.declared.record.Refusal.TheVariants.{ControlProtocol}
-use Rattle.controller_model.specs.Packets.{control_protocol, refused_by, inject_refusal}
+use Rattle.world_model.specs.Packets.{control_protocol, refused_by, inject_refusal}
 use Rattle.ipv4_forward.specs.Best.{best}
 use Rattle.ipv4_forward.specs.Hop.{hop_by, hop_of, onward}
 use Rattle.ipv4_forward.specs.declared.table.Next.{Next}

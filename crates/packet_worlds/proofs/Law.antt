@@ -19,11 +19,11 @@ use Rattle.frame_model.specs.Frame.{made, frame_cells}
 use Rattle.frame_model.specs.Sending.{Sent as SentFrame}
 use Rattle.port_facts.proofs.Keyed.{on_both}
 use Rattle.port_model.specs.Setup.{Policy}
-use Rattle.switch_model.specs.Switch as switches
-use Rattle.switch_model.specs.Conduct as switch
-use Rattle.controller_model.specs.Controller.{Controller, Acted, free_slots}
-use Rattle.controller_model.specs.Sending.{with_cells, sends}
-use Rattle.controller_model.specs.Packets.{inject_refusal, injected}
+use Rattle.world_model.specs.Switch as switches
+use Rattle.world_model.specs.Conduct as switch
+use Rattle.world_model.specs.Controller.{Controller, Acted, free_slots}
+use Rattle.world_model.specs.Sending.{with_cells, sends}
+use Rattle.world_model.specs.Packets.{inject_refusal, injected}
 use Rattle.world_model.specs.declared.event.Event.{Event}
 use Rattle.world_model.specs.declared.event.Event.TheVariants.{Inject, Carry, Lose, Tick, TickSwitch, Restart, RestartSwitch, Forge, Route}
 use Rattle.world_model.specs.Topology.{Topology}

@@ -22,16 +22,16 @@ use Rattle.link_model.specs.Notes.{noted}
 use Rattle.frame_model.specs.Frame.{made, frame_cells}
 use Rattle.frame_model.specs.Sending.{Sent}
 use Rattle.port_model.specs.Setup.{Policy}
-use Rattle.switch_model.specs.Switch as switches
-use Rattle.switch_model.specs.Switch.{control_port}
-use Rattle.switch_model.specs.Conduct as switch
-use Rattle.controller_model.specs.Controller.{Controller, Acted, Linked, port_key, ports_of, free_slots}
-use Rattle.controller_model.specs.Sending.{with_cells, sends}
-use Rattle.controller_model.specs.Cells as takes
-use Rattle.controller_model.specs.Packets.{inject_refusal, injected}
-use Rattle.controller_model.specs.Changes.{change_comes}
-use Rattle.controller_model.specs.Resets.{node_restarts}
-use Rattle.controller_model.specs.Ticks.{ticks}
+use Rattle.world_model.specs.Switch as switches
+use Rattle.world_model.specs.Switch.{control_port}
+use Rattle.world_model.specs.Conduct as switch
+use Rattle.world_model.specs.Controller.{Controller, Acted, Linked, port_key, ports_of, free_slots}
+use Rattle.world_model.specs.Sending.{with_cells, sends}
+use Rattle.world_model.specs.Cells as takes
+use Rattle.world_model.specs.Packets.{inject_refusal, injected}
+use Rattle.world_model.specs.Changes.{change_comes}
+use Rattle.world_model.specs.Resets.{node_restarts}
+use Rattle.world_model.specs.Ticks.{ticks}
 use Rattle.link_model.specs.declared.record.Refusal.{Refusal}
 use Rattle.world_model.specs.declared.event.Event.{Event}
 use Rattle.world_model.specs.declared.event.Event.TheVariants.{Inject, Carry, Lose, Tick, TickSwitch, Restart, RestartSwitch, Forge, Route}

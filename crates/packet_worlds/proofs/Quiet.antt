@@ -24,7 +24,7 @@ use Rattle.link_model.specs.declared.record.Record.TheVariants.{Delivered, Dropp
 use Rattle.world_model.specs.Headline.{is_bind}
 use Rattle.ordered_lists.specs.Ordered.{Every}
 use Rattle.ordered_lists.proofs.Every.{every_join}
-use Rattle.desk_model.specs.Desk.{Desk, on_input}
+use Rattle.port_model.specs.Desk.{Desk, on_input}
 use Rattle.port_model.specs.declared.action.Action.{Action}
 use Rattle.port_model.specs.declared.action.Action.TheVariants as actions
 use Rattle.port_model.specs.Setup.{Setup, label_end}

@@ -23,9 +23,9 @@ use Rattle.ordered_lists.proofs.Every.{every_join, every_map}
 use Rattle.port_facts.proofs.Keyed.{on_both}
 use Rattle.plain_laws.proofs.Lists.{none_join, count_by-skip}
 use Rattle.run_model.specs.Fates.{is_fate_of}
-use Rattle.controller_model.specs.Controller.{Controller, Acted, free_slots, default_channel, default_home}
-use Rattle.controller_model.specs.Sending.{with_cells, sends}
-use Rattle.controller_model.specs.Cells.{same_channel, on_link}
+use Rattle.world_model.specs.Controller.{Controller, Acted, free_slots, default_channel, default_home}
+use Rattle.world_model.specs.Sending.{with_cells, sends}
+use Rattle.world_model.specs.Cells.{same_channel, on_link}
 use Rattle.controller_views.specs.Lifted.{payload_by}
 use Rattle.world_model.specs.Topology.{peer_of}
 use Rattle.world_model.specs.Past.{Past}

@@ -43,9 +43,9 @@ use Rattle.port_model.specs.Setup.{control_end}
 use Rattle.port_model.specs.Grants.{Grant, is_by_controller, grant_for, grant_of_kind, grant_matching}
 use Rattle.port_facts.proofs.Found.{find_every}
 use Rattle.port_facts.proofs.Keyed.{at_key, at_every}
-use Rattle.controller_model.specs.Controller.{Controller, Acted, Linked, free_slots, linked_at, port_key, default_channel, default_home}
-use Rattle.controller_model.specs.Sending.{with_cells, sends, sends_control, says_gsmp, says_ifmp}
-use Rattle.controller_model.specs.Packets.{is_control, sends_next, goes_by, grant_by, forwarded, routes}
+use Rattle.world_model.specs.Controller.{Controller, Acted, Linked, free_slots, linked_at, port_key, default_channel, default_home}
+use Rattle.world_model.specs.Sending.{with_cells, sends, sends_control, says_gsmp, says_ifmp}
+use Rattle.world_model.specs.Packets.{is_control, sends_next, goes_by, grant_by, forwarded, routes}
 use Rattle.controller_views.specs.Lifted.{payload_by}
 use Rattle.world_model.specs.declared.link.LinkEnd.{LinkEnd}
 use Rattle.world_model.specs.Topology.{peer_of}

@@ -33,8 +33,8 @@ use Rattle.port_model.specs.Port.{labels_of, label_at}
 use Rattle.port_facts.specs.Port.{setup_port, IsLinked, IsLabelEnd, IsGrant}
 use Rattle.port_facts.proofs.Keyed.{at_key, at_every, at_map, each_found}
 use Rattle.port_facts.proofs.Found.{find_every}
-use Rattle.controller_model.specs.Controller.{Linked, port_key, linked_at, default_channel}
-use Rattle.controller_model.specs.Cells.{same_channel}
+use Rattle.world_model.specs.Controller.{Linked, port_key, linked_at, default_channel}
+use Rattle.world_model.specs.Cells.{same_channel}
 use Rattle.controller_facts.specs.Sound.{linked_setup, IsLinkedPort, AreApart}
 use Rattle.controller_bindings.specs.Bindings.{IsBoundLast}
 use Rattle.world_model.specs.declared.link.LinkEnd.{LinkEnd}

@@ -18,8 +18,8 @@ use Rattle.link_model.specs.Notes.{noted}
 use Rattle.crossbar_model.specs.declared.branch.Branch.{Branch}
 use Rattle.crossbar_model.specs.declared.routed.Routed.TheVariants as routes
 use Rattle.crossbar_model.specs.Crossbar.{Crossbar, queue_of, input_of, on_channel_of, route_on, switched_on, switched}
-use Rattle.switch_model.specs.Switch.{Acted, control_port, free_slots}
-use Rattle.switch_model.specs.Conduct.{passed, switched_cell, gsmp_cell, is_gsmp, cell_comes, tick_comes, restarted}
+use Rattle.world_model.specs.Switch.{Acted, control_port, free_slots}
+use Rattle.world_model.specs.Conduct.{passed, switched_cell, gsmp_cell, is_gsmp, cell_comes, tick_comes, restarted}
 use Rattle.world_model.specs.Topology.{peer_of}
 use Rattle.world_model.specs.Conditions.{IsTopology}
 use Rattle.world_model.specs.World.{World, Site, site_at, with_site}

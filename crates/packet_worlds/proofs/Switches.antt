@@ -40,13 +40,13 @@ use Rattle.frame_model.specs.Sending.{Sent}
 use Rattle.ordered_lists.proofs.Every.{every_join}
 use Rattle.plain_laws.proofs.Lists.{if_cases, count_by-append}
 use Rattle.port_facts.proofs.Keyed.{on_both}
-use Rattle.switch_model.specs.declared.request.Asked.{Asked}
-use Rattle.switch_model.specs.declared.request.Failure.{Failure}
-use Rattle.switch_model.specs.Requests.{Changed, noted_cut, moved_by, ended_by, ended, all_ended, inputs_on, cleared, branches_after, asked_in, is_request}
-use Rattle.switch_model.specs.Failures.{failure_of}
-use Rattle.switch_model.specs.Answers.{Handled, handled_by, handled_asked, handled}
-use Rattle.switch_model.specs.Switch.{Switch, Acted, control_port, gsmp_channel, free_slots}
-use Rattle.switch_model.specs.Conduct.{with_cells, says, reset, answers, steps, replied, requested, told, read, after_test, ends_frame, after_cell, gsmp_cell, tick_comes, restarted}
+use Rattle.world_model.specs.declared.request.Asked.{Asked}
+use Rattle.world_model.specs.declared.request.Failure.{Failure}
+use Rattle.world_model.specs.Requests.{Changed, noted_cut, moved_by, ended_by, ended, all_ended, inputs_on, cleared, branches_after, asked_in, is_request}
+use Rattle.world_model.specs.Failures.{failure_of}
+use Rattle.world_model.specs.Answers.{Handled, handled_by, handled_asked, handled}
+use Rattle.world_model.specs.Switch.{Switch, Acted, control_port, gsmp_channel, free_slots}
+use Rattle.world_model.specs.Conduct.{with_cells, says, reset, answers, steps, replied, requested, told, read, after_test, ends_frame, after_cell, gsmp_cell, tick_comes, restarted}
 use Rattle.world_model.proofs.Lists.{index_here, length_set}
 use Rattle.world_model.specs.Past.{Past}
 use Rattle.world_views.specs.Marks.{Heading, heading_at, Means, early, control, local, plain, labelled, ends}

@@ -35,9 +35,9 @@ use Rattle.plain_laws.proofs.Lists.{if_cases, none_front, any_back}
 use Rattle.wire_laws.proofs.Packets.{protocol_is}
 use Rattle.port_model.specs.Labels.{Label, is_bound}
 use Rattle.port_model.specs.Port.{label_at}
-use Rattle.controller_model.specs.Controller.{Acted, Linked, default_channel}
-use Rattle.controller_model.specs.Packets.{control_protocol, routes}
-use Rattle.controller_model.specs.Cells.{Taker, ForGsmp, ForDefault, ForLabel, port_on, on_link, same_channel, label_holds, ifmp_holds, counted_at, packet_holds, default_holds, frame_holds, opened_frame, after_test, ends_frame}
+use Rattle.world_model.specs.Controller.{Acted, Linked, default_channel}
+use Rattle.world_model.specs.Packets.{control_protocol, routes}
+use Rattle.world_model.specs.Cells.{Taker, ForGsmp, ForDefault, ForLabel, port_on, on_link, same_channel, label_holds, ifmp_holds, counted_at, packet_holds, default_holds, frame_holds, opened_frame, after_test, ends_frame}
 use Rattle.controller_views.specs.Lifted.{payload_by}
 use Rattle.world_model.specs.declared.link.LinkEnd.{LinkEnd}
 use Rattle.world_model.specs.Topology.{peer_of}

@@ -24,9 +24,9 @@ use Rattle.plain_laws.proofs.Lists.{count_by-append, count_by-cons, count_by-ski
 use Rattle.port_facts.proofs.Keyed.{at_key}
 use Rattle.run_model.specs.Fates.{is_fate_of}
 use Rattle.crossbar_model.specs.Crossbar.{output_of}
-use Rattle.switch_model.specs.Switch as switches
-use Rattle.controller_model.specs.Controller.{Acted, ports_of, default_channel}
-use Rattle.controller_model.specs.Cells.{same_channel}
+use Rattle.world_model.specs.Switch as switches
+use Rattle.world_model.specs.Controller.{Acted, ports_of, default_channel}
+use Rattle.world_model.specs.Cells.{same_channel}
 use Rattle.world_model.specs.declared.link.LinkEnd.{LinkEnd}
 use Rattle.world_model.specs.Topology.{Topology, peer_of}
 use Rattle.world_model.specs.Lines.{is_linked}

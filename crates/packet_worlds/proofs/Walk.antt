@@ -31,8 +31,8 @@ use Rattle.link_model.specs.declared.record.Layer.TheVariants as layers
 use Rattle.refusal_names.specs.Names.{ifmp_refusal, gsmp_refusal}
 use Rattle.frame_model.specs.Reassembly.{Reassembly, cut, noted_all, distinct, marks_of}
 use Rattle.ordered_lists.specs.Ordered.{Every}
-use Rattle.desk_model.specs.Desk.{Desk, Standing, asked, withdrawn, is_led_home, message_at, last_transaction, empty_desk, sent_again}
-use Rattle.desk_model.specs.Answers.{Answered, Unknown, Done, Ports, Failed, answered, after_answer}
+use Rattle.port_model.specs.Desk.{Desk, Standing, asked, withdrawn, is_led_home, message_at, last_transaction, empty_desk, sent_again}
+use Rattle.port_model.specs.DeskAnswers.{Answered, Unknown, Done, Ports, Failed, answered, after_answer}
 use Rattle.port_model.specs.declared.action.Action.{Action}
 use Rattle.port_model.specs.declared.action.Action.TheVariants as actions
 use Rattle.port_model.specs.Setup.{home_of}
@@ -47,17 +47,17 @@ use Rattle.port_model.specs.Saying.{closes}
 use Rattle.port_model.specs.Ticks as port_ticks
 use Rattle.port_facts.proofs.Keyed.{on_both}
 use Rattle.controller_facts.proofs.Lifetimes.{decoded_lives}
-use Rattle.controller_model.specs.Controller.{Acted, Linked, linked_at, ports_of, with_linked, with_desk, note, chain_of, default_end, default_home}
-use Rattle.controller_model.specs.Sending.{says_gsmp, says_ifmp}
-use Rattle.controller_model.specs.Asking.{sends_request, asks_next, asks, takes_back}
-use Rattle.controller_model.specs.Resets.{cuts_of, cuts_label, cuts_default_of, cuts_default, cuts_gsmp, begins, with_work, closes_by, port_restarts_of, port_restarts, resets_gsmp, node_resets, node_restarts}
-use Rattle.controller_model.specs.Performing.{does, does_in_estab, resets_of, resets_port, performs, performs_in_estab, Rule, works, at_port}
-use Rattle.controller_model.specs.Joins.{Join, join_of, parts, gives_back, releases_join, releases_input, released_inputs, resets_spent, releases, join_for, may_join, enters_grant, output_of, enters_label, joins, tries_label, label_on, tries_join, inputs_at, tries_joins}
-use Rattle.controller_model.specs.Changes.{changed_joins, takes_join_back, begins_change, takes_change, may_take, takes_each, takes_changes, change_comes}
-use Rattle.controller_model.specs.Meeting.{meets, up_ports, default_branches, ends_meeting, has_emptied, port_of, tells_port, behind_delete_all, causes_in_estab, causes, may_clear, clears_of, clears_port, clears, done, takes_answer, answer_comes}
-use Rattle.controller_model.specs.Gsmp.{answers, steps, told, gsmp_holds}
-use Rattle.controller_model.specs.Cells.{ifmp_holds, counted_at}
-use Rattle.controller_model.specs.Ticks.{sends_again, ticks_port, ticks_ports, ticks_by, ticks}
+use Rattle.world_model.specs.Controller.{Acted, Linked, linked_at, ports_of, with_linked, with_desk, note, chain_of, default_end, default_home}
+use Rattle.world_model.specs.Sending.{says_gsmp, says_ifmp}
+use Rattle.world_model.specs.Asking.{sends_request, asks_next, asks, takes_back}
+use Rattle.world_model.specs.Resets.{cuts_of, cuts_label, cuts_default_of, cuts_default, cuts_gsmp, begins, with_work, closes_by, port_restarts_of, port_restarts, resets_gsmp, node_resets, node_restarts}
+use Rattle.world_model.specs.Performing.{does, does_in_estab, resets_of, resets_port, performs, performs_in_estab, Rule, works, at_port}
+use Rattle.world_model.specs.Joins.{Join, join_of, parts, gives_back, releases_join, releases_input, released_inputs, resets_spent, releases, join_for, may_join, enters_grant, output_of, enters_label, joins, tries_label, label_on, tries_join, inputs_at, tries_joins}
+use Rattle.world_model.specs.Changes.{changed_joins, takes_join_back, begins_change, takes_change, may_take, takes_each, takes_changes, change_comes}
+use Rattle.world_model.specs.Meeting.{meets, up_ports, default_branches, ends_meeting, has_emptied, port_of, tells_port, behind_delete_all, causes_in_estab, causes, may_clear, clears_of, clears_port, clears, done, takes_answer, answer_comes}
+use Rattle.world_model.specs.Gsmp.{answers, steps, told, gsmp_holds}
+use Rattle.world_model.specs.Cells.{ifmp_holds, counted_at}
+use Rattle.world_model.specs.Ticks.{sends_again, ticks_port, ticks_ports, ticks_by, ticks}
 use Rattle.packet_worlds.proofs.Quiet.{Allows, AllowsBinding, IsCalmAction, Calm, hears_calm, ticks_calm, done_calm, used_calm, counts_calm, closes_calm, joined_calm, parted_calm, lent_calm, given_back_calm, resets_calm, restarts_calm}
 
 -- what bears on frames, queues and notes is the same

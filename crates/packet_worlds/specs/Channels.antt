@@ -4,8 +4,8 @@ use Rattle.std.specs.Prelude.{◌≡◌, true, false, Contains, Some}
 use Rattle.net_types.specs.declared.node.Place.{Place}
 use Rattle.net_types.specs.Label.{is_label_channel}
 use Rattle.atm_cells.specs.declared.cell.Cell.{Cell}
-use Rattle.controller_model.specs.Controller.{default_channel}
-use Rattle.controller_model.specs.Cells.{same_channel}
+use Rattle.world_model.specs.Controller.{default_channel}
+use Rattle.world_model.specs.Cells.{same_channel}
 use Rattle.world_model.specs.declared.link.LinkEnd.{LinkEnd}
 use Rattle.world_model.specs.Lines.{is_linked}
 use Rattle.world_model.specs.Conditions.{IsPlace}

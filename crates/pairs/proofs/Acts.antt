@@ -14,9 +14,9 @@ use Rattle.ordered_lists.specs.Ordered.{Every}
 use Rattle.keyed_lists.specs.Keyed.{at, put}
 use Rattle.port_facts.proofs.Keyed.{at_key}
 use Rattle.port_model.specs.Setup.{Setup}
-use Rattle.desk_model.specs.Desk.{Standing}
-use Rattle.switch_model.specs.Switch as switches
-use Rattle.controller_model.specs.Controller.{Controller, Acted}
+use Rattle.port_model.specs.Desk.{Standing}
+use Rattle.world_model.specs.Switch as switches
+use Rattle.world_model.specs.Controller.{Controller, Acted}
 use Rattle.world_model.specs.World.{World, Site, site_key, site_at, with_site, controller_acts, at_controller, switch_acts, at_switch}
 use Rattle.world_model.specs.Places.{place_node, queue_in, queue_at, with_queue_in, with_queue_of, with_queue}
 use Rattle.world_model.specs.Ways.{copy_under}

@@ -38,14 +38,14 @@ use Rattle.crossbar_model.specs.declared.branch.Branch.{Branch}
 use Rattle.crossbar_model.specs.declared.routed.Routed.{Routed}
 use Rattle.crossbar_model.specs.declared.routed.Routed.TheVariants as routes
 use Rattle.crossbar_model.specs.Crossbar.{Branches, Crossbar, same_end, new_branch, cut_by_move, output_of, input_of, unfinished_after, routed, switched_on}
-use Rattle.desk_model.specs.Desk.{Standing}
-use Rattle.switch_model.specs.declared.request.Asked.{Asked}
-use Rattle.switch_model.specs.declared.request.Failure.{Failure}
-use Rattle.switch_model.specs.Switch.{Switch, Acted, control_port, gsmp_channel, free_slots}
-use Rattle.switch_model.specs.Requests.{Changed, noted_cut, added_by, added, moved_by, moved_to, ended_by, ended, all_ended, inputs_on, cleared, branches_after, asked_in, is_request}
-use Rattle.switch_model.specs.Failures.{failure_of}
-use Rattle.switch_model.specs.Answers.{handled_by, handled_asked, handled}
-use Rattle.switch_model.specs.Conduct.{sends, with_cells, says, reset, answers, steps, replied, requested, told, read, after_test, ends_frame, after_cell, gsmp_cell, passed as passed_cell, switched_cell, is_gsmp, cell_comes, tick_comes, restarted}
+use Rattle.port_model.specs.Desk.{Standing}
+use Rattle.world_model.specs.declared.request.Asked.{Asked}
+use Rattle.world_model.specs.declared.request.Failure.{Failure}
+use Rattle.world_model.specs.Switch.{Switch, Acted, control_port, gsmp_channel, free_slots}
+use Rattle.world_model.specs.Requests.{Changed, noted_cut, added_by, added, moved_by, moved_to, ended_by, ended, all_ended, inputs_on, cleared, branches_after, asked_in, is_request}
+use Rattle.world_model.specs.Failures.{failure_of}
+use Rattle.world_model.specs.Answers.{handled_by, handled_asked, handled}
+use Rattle.world_model.specs.Conduct.{sends, with_cells, says, reset, answers, steps, replied, requested, told, read, after_test, ends_frame, after_cell, gsmp_cell, passed as passed_cell, switched_cell, is_gsmp, cell_comes, tick_comes, restarted}
 use Rattle.port_facts.proofs.Keyed.{on_both}
 use Rattle.causes.proofs.Maps.{same_input, insert_here, insert_away, remove_here, remove_away}
 use Rattle.world_model.specs.Ways.{told as heard, gsmp_of, copy_by, copy_of, copy_under}

@@ -21,18 +21,18 @@ use Rattle.frame_model.specs.Reassembly.{taken}
 use Rattle.keyed_lists.specs.Keyed.{at, put}
 use Rattle.port_facts.proofs.Keyed.{at_key}
 use Rattle.port_model.specs.Setup.{Setup}
-use Rattle.desk_model.specs.Desk.{Standing}
-use Rattle.switch_model.specs.Switch as switches
-use Rattle.switch_model.specs.Switch.{control_port, free_slots}
-use Rattle.switch_model.specs.Conduct as conduct
-use Rattle.controller_model.specs.Controller.{Acted, default_channel}
-use Rattle.controller_model.specs.Cells as controller_cells
-use Rattle.controller_model.specs.Cells.{same_channel}
-use Rattle.controller_model.specs.Joins.{inputs_at}
-use Rattle.controller_model.specs.Packets.{inject_refusal, injected}
-use Rattle.controller_model.specs.Ticks as controller_ticks
-use Rattle.controller_model.specs.Resets.{node_restarts}
-use Rattle.controller_model.specs.Changes.{change_comes}
+use Rattle.port_model.specs.Desk.{Standing}
+use Rattle.world_model.specs.Switch as switches
+use Rattle.world_model.specs.Switch.{control_port, free_slots}
+use Rattle.world_model.specs.Conduct as conduct
+use Rattle.world_model.specs.Controller.{Acted, default_channel}
+use Rattle.world_model.specs.Cells as controller_cells
+use Rattle.world_model.specs.Cells.{same_channel}
+use Rattle.world_model.specs.Joins.{inputs_at}
+use Rattle.world_model.specs.Packets.{inject_refusal, injected}
+use Rattle.world_model.specs.Ticks as controller_ticks
+use Rattle.world_model.specs.Resets.{node_restarts}
+use Rattle.world_model.specs.Changes.{change_comes}
 use Rattle.controller_facts.proofs.Moves.{HasPorts, Moves}
 use Rattle.controller_facts.proofs.Performing.{node_restarts_goes}
 use Rattle.controller_facts.proofs.Joining.{change_comes_goes}

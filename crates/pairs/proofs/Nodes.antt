@@ -11,8 +11,8 @@ use Rattle.frame_model.specs.Frame.{frame_cells, made}
 use Rattle.frame_model.specs.Sending.{Sent}
 use Rattle.port_facts.proofs.Keyed.{on_both}
 use Rattle.port_model.specs.Setup.{Setup}
-use Rattle.controller_model.specs.Controller.{Controller, Acted}
-use Rattle.controller_model.specs.Sending.{with_cells}
+use Rattle.world_model.specs.Controller.{Controller, Acted}
+use Rattle.world_model.specs.Sending.{with_cells}
 use Rattle.controller_facts.proofs.Moves.{Move, noting, taking_notes, sending, sending_control, asking, withdrawing, answering, meeting, ending_meeting, turning, placing, clearing, gathering, chaining, routing, popping, Moves, moves_keep}
 
 -- *A controller* keeps its node

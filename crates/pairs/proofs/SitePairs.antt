@@ -12,9 +12,9 @@ use Rattle.link_model.specs.declared.frames.Frame.{Frame}
 use Rattle.keyed_lists.specs.Keyed.{at, put}
 use Rattle.port_facts.proofs.Keyed.{at_key, at_put_same}
 use Rattle.crossbar_model.specs.Crossbar.{output_of}
-use Rattle.desk_model.specs.Desk.{Standing}
-use Rattle.controller_model.specs.Controller.{Controller, default_channel}
-use Rattle.controller_model.specs.Cells.{same_channel}
+use Rattle.port_model.specs.Desk.{Standing}
+use Rattle.world_model.specs.Controller.{Controller, default_channel}
+use Rattle.world_model.specs.Cells.{same_channel}
 use Rattle.world_model.specs.World.{World, Site, site_key, site_at, with_site}
 use Rattle.world_model.specs.Places.{queue_in, queue_at}
 use Rattle.world_model.specs.Ways.{standing_at, output_at, requests_chain_at, on_channel, gsmp_to_switch, copy_under}

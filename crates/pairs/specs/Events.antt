@@ -11,9 +11,9 @@ use Rattle.link_model.specs.Ledger.{payload_of}
 use Rattle.frame_model.specs.Frame.{octets_of, payload_in}
 use Rattle.frame_model.specs.Reassembly.{taken}
 use Rattle.ordered_lists.specs.Ordered.{Every}
-use Rattle.desk_model.specs.Desk.{Standing, last_transaction}
-use Rattle.switch_model.specs.Switch.{control_port, free_slots}
-use Rattle.switch_model.specs.Conduct.{is_gsmp}
+use Rattle.port_model.specs.Desk.{Standing, last_transaction}
+use Rattle.world_model.specs.Switch.{control_port, free_slots}
+use Rattle.world_model.specs.Conduct.{is_gsmp}
 use Rattle.controller_facts.specs.Sound.{ArePorts, AreShaped}
 use Rattle.quiet_controllers.specs.Quiet.{AreRead}
 use Rattle.quiet_controllers.specs.Heard.{LeadsToLinks, CanCome}

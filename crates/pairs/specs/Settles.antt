@@ -6,13 +6,13 @@ use Rattle.net_types.specs.declared.channel.End.{End}
 use Rattle.atm_cells.specs.declared.cell.Cell.{Cell}
 use Rattle.gsmp_wire.specs.declared.message.Message.{Message}
 use Rattle.link_model.specs.declared.frames.Frame.{Frame}
-use Rattle.desk_model.specs.Requests.{leads_home}
-use Rattle.desk_model.specs.Desk.{Standing}
-use Rattle.desk_model.specs.Answers.{Done, answered, after_answer}
+use Rattle.port_model.specs.Requests.{leads_home}
+use Rattle.port_model.specs.Desk.{Standing}
+use Rattle.port_model.specs.DeskAnswers.{Done, answered, after_answer}
 use Rattle.port_model.specs.Setup.{home_of, label_end}
-use Rattle.controller_model.specs.Controller.{Controller}
-use Rattle.controller_model.specs.Cells.{ForGsmp, taker_of}
-use Rattle.controller_model.specs.Meeting.{is_deleting, has_emptied}
+use Rattle.world_model.specs.Controller.{Controller}
+use Rattle.world_model.specs.Cells.{ForGsmp, taker_of}
+use Rattle.world_model.specs.Meeting.{is_deleting, has_emptied}
 use Rattle.label_line.specs.Cells.{Upstream}
 use Rattle.port_views.specs.Link.{LinkLabel}
 use Rattle.world_model.specs.Ways.{gsmp_under}

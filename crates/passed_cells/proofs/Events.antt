@@ -25,18 +25,18 @@ use Rattle.keyed_lists.specs.Keyed.{at}
 use Rattle.port_facts.proofs.Keyed.{at_key}
 use Rattle.port_model.specs.Setup.{Setup, label_end, home_of, control_end}
 use Rattle.port_model.specs.Grants.{Grant}
-use Rattle.desk_model.specs.Desk.{Standing}
-use Rattle.switch_model.specs.Switch as switches
-use Rattle.switch_model.specs.Switch.{control_port, free_slots}
-use Rattle.switch_model.specs.Conduct as conduct
-use Rattle.controller_model.specs.Controller as controllers
-use Rattle.controller_model.specs.Controller.{Controller, Acted, default_channel}
-use Rattle.controller_model.specs.Cells as controller_cells
-use Rattle.controller_model.specs.Cells.{Taker, ForGsmp, ForDefault, ForLabel, same_channel, taker_of, reassembly_of, with_reassembly}
-use Rattle.controller_model.specs.Packets.{inject_refusal, injected, grant_by, control_protocol}
-use Rattle.controller_model.specs.Ticks as controller_ticks
-use Rattle.controller_model.specs.Resets.{node_restarts}
-use Rattle.controller_model.specs.Changes.{change_comes}
+use Rattle.port_model.specs.Desk.{Standing}
+use Rattle.world_model.specs.Switch as switches
+use Rattle.world_model.specs.Switch.{control_port, free_slots}
+use Rattle.world_model.specs.Conduct as conduct
+use Rattle.world_model.specs.Controller as controllers
+use Rattle.world_model.specs.Controller.{Controller, Acted, default_channel}
+use Rattle.world_model.specs.Cells as controller_cells
+use Rattle.world_model.specs.Cells.{Taker, ForGsmp, ForDefault, ForLabel, same_channel, taker_of, reassembly_of, with_reassembly}
+use Rattle.world_model.specs.Packets.{inject_refusal, injected, grant_by, control_protocol}
+use Rattle.world_model.specs.Ticks as controller_ticks
+use Rattle.world_model.specs.Resets.{node_restarts}
+use Rattle.world_model.specs.Changes.{change_comes}
 use Rattle.controller_facts.proofs.Moves.{HasPorts, Moves}
 use Rattle.controller_facts.proofs.Performing.{node_restarts_goes}
 use Rattle.controller_facts.proofs.Joining.{change_comes_goes}

@@ -17,9 +17,9 @@ use Rattle.port_facts.specs.Port.{IsGrant}
 use Rattle.port_model.specs.Setup.{Setup, control_end}
 use Rattle.port_model.specs.Port.{Port}
 use Rattle.port_model.specs.Grants.{Grant, GrantState, Idle, ByController, ByInput, Leaving, grant_label, is_by_controller, input_of, grant_matching}
-use Rattle.controller_model.specs.Controller.{Controller, Acted, Linked, port_key, linked_at, with_linked, chains_with}
-use Rattle.controller_model.specs.Cells.{Taker, ForGsmp, ForDefault, ForLabel, same_channel, port_on, taker_of, with_reassembly}
-use Rattle.controller_model.specs.Packets.{grant_by}
+use Rattle.world_model.specs.Controller.{Controller, Acted, Linked, port_key, linked_at, with_linked, chains_with}
+use Rattle.world_model.specs.Cells.{Taker, ForGsmp, ForDefault, ForLabel, same_channel, port_on, taker_of, with_reassembly}
+use Rattle.world_model.specs.Packets.{grant_by}
 use Rattle.controller_facts.specs.Sound.{IsSound, IsLinkedPort, IsShutLinked}
 use Rattle.lifetimes.proofs.Joining.{IsUsed, matching_used}
 use Rattle.lifetimes.proofs.Events.{Belongs, taker_belongs}

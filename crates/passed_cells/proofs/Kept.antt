@@ -10,9 +10,9 @@ use Rattle.net_types.specs.Label.{number_of_channel}
 use Rattle.link_model.specs.Ledger.{payload_of}
 use Rattle.frame_model.specs.Reassembly.{taken}
 use Rattle.port_model.specs.Setup.{Policy}
-use Rattle.switch_model.specs.Switch as switches
-use Rattle.controller_model.specs.Controller as controllers
-use Rattle.controller_model.specs.Cells.{reassembly_of}
+use Rattle.world_model.specs.Switch as switches
+use Rattle.world_model.specs.Controller as controllers
+use Rattle.world_model.specs.Cells.{reassembly_of}
 use Rattle.controller_facts.proofs.Laws.{has_ports}
 use Rattle.world_model.specs.declared.event.Event.{Event}
 use Rattle.world_model.specs.declared.event.Event.TheVariants.{Inject, Carry, Lose, Tick, TickSwitch, Restart, RestartSwitch, Forge, Route}

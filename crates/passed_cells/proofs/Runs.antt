@@ -8,11 +8,11 @@ use Rattle.net_types.specs.declared.node.Place.TheVariants.{Down}
 use Rattle.net_types.specs.Label.{is_label_number}
 use Rattle.atm_cells.specs.declared.cell.Cell.{Cell}
 use Rattle.gsmp_wire.specs.declared.request.Request.{Request}
-use Rattle.desk_model.specs.Desk.{Standing}
+use Rattle.port_model.specs.Desk.{Standing}
 use Rattle.port_facts.specs.Port.{IsLabelEnd, IsShaped, asks_ports, empties_control, empties_port, opens_input, opens_output, leads_label, leads_grant, joins_label, parts_label, frees_label}
 use Rattle.port_model.specs.Setup.{Setup, home_of, label_end}
-use Rattle.controller_model.specs.Controller.{default_channel}
-use Rattle.controller_model.specs.Cells.{same_channel}
+use Rattle.world_model.specs.Controller.{default_channel}
+use Rattle.world_model.specs.Cells.{same_channel}
 use Rattle.world_model.specs.World.{World, Site, site_at}
 use Rattle.world_model.specs.Places.{queue_at}
 use Rattle.world_model.specs.Ways.{requests_chain_at, on_channel, copy_under}

@@ -43,11 +43,11 @@ use Rattle.port_facts.proofs.Keyed.{on_both, on_each}
 use Rattle.port_model.specs.Setup.{control_end}
 use Rattle.port_model.specs.Grants.{Grant}
 use Rattle.port_model.specs.Labels.{Label}
-use Rattle.desk_model.specs.Desk.{Standing}
-use Rattle.controller_model.specs.Controller.{Controller, Acted, Linked, free_slots, note, default_channel, default_home}
-use Rattle.controller_model.specs.Sending.{with_cells, sends, sends_control}
-use Rattle.controller_model.specs.Packets.{is_control, sends_next, goes_by, grant_by, forwarded, routes, control_protocol}
-use Rattle.controller_model.specs.Cells.{Taker, ForGsmp, ForDefault, ForLabel, same_channel, taker_of, reassembly_of, with_reassembly, label_holds, ifmp_holds, counted_at, packet_holds, default_holds, frame_holds, opened_frame, ends_frame, takes_cell, cell_comes}
+use Rattle.port_model.specs.Desk.{Standing}
+use Rattle.world_model.specs.Controller.{Controller, Acted, Linked, free_slots, note, default_channel, default_home}
+use Rattle.world_model.specs.Sending.{with_cells, sends, sends_control}
+use Rattle.world_model.specs.Packets.{is_control, sends_next, goes_by, grant_by, forwarded, routes, control_protocol}
+use Rattle.world_model.specs.Cells.{Taker, ForGsmp, ForDefault, ForLabel, same_channel, taker_of, reassembly_of, with_reassembly, label_holds, ifmp_holds, counted_at, packet_holds, default_holds, frame_holds, opened_frame, ends_frame, takes_cell, cell_comes}
 use Rattle.packet_worlds.proofs.Walk.{Kept, used_kept, counted_kept, ifmp_holds_kept, gsmp_holds_kept}
 use Rattle.world_model.specs.Ways.{told, gsmp_of, copy_of, copy_under}
 use Rattle.quiet_controllers.specs.Quiet.{AskTheSame, asked_by}

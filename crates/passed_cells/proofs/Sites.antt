@@ -9,11 +9,11 @@ use Rattle.atm_cells.specs.declared.cell.Cell.{Cell}
 use Rattle.link_model.specs.declared.frames.Frame.{Frame}
 use Rattle.ordered_lists.specs.Ordered.{Every}
 use Rattle.crossbar_model.specs.Crossbar.{output_of}
-use Rattle.desk_model.specs.Desk.{Standing}
+use Rattle.port_model.specs.Desk.{Standing}
 use Rattle.port_model.specs.Setup.{home_of}
-use Rattle.switch_model.specs.Switch as switches
-use Rattle.controller_model.specs.Controller.{Controller, default_channel}
-use Rattle.controller_model.specs.Cells.{same_channel}
+use Rattle.world_model.specs.Switch as switches
+use Rattle.world_model.specs.Controller.{Controller, default_channel}
+use Rattle.world_model.specs.Cells.{same_channel}
 use Rattle.world_model.specs.World.{Site}
 use Rattle.world_model.specs.Places.{queue_in, with_queue_in}
 use Rattle.world_model.specs.Ways.{copy_under}

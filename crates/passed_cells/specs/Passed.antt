@@ -5,10 +5,10 @@ use Rattle.std.specs.Prelude.{◌≡◌, true, List, ◌++◌, Contains, Some}
 use Rattle.net_types.specs.declared.node.NodeId.{NodeId}
 use Rattle.net_types.specs.declared.node.Place.TheVariants.{Down}
 use Rattle.atm_cells.specs.declared.cell.Cell.{Cell}
-use Rattle.desk_model.specs.Desk.{Standing}
+use Rattle.port_model.specs.Desk.{Standing}
 use Rattle.port_model.specs.Setup.{Policy}
-use Rattle.controller_model.specs.Controller.{default_channel}
-use Rattle.controller_model.specs.Cells.{same_channel}
+use Rattle.world_model.specs.Controller.{default_channel}
+use Rattle.world_model.specs.Cells.{same_channel}
 use Rattle.world_model.specs.declared.event.Event.{Event}
 use Rattle.world_model.specs.Topology.{Topology}
 use Rattle.world_model.specs.Places.{queue_at}

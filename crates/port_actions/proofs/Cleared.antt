@@ -10,9 +10,9 @@ use Rattle.net_types.specs.declared.channel.End.{End}
 use Rattle.gsmp_wire.specs.declared.request.Request.{Request}
 use Rattle.gsmp_wire.specs.declared.request.Request.TheVariants.{DeleteAll}
 use Rattle.crossbar_model.specs.Crossbar.{same_end}
-use Rattle.desk_model.specs.Desk.{Desk, Standing, asked, withdrawn}
-use Rattle.desk_model.specs.Requests.{input_of, is_delete_all, is_on, is_on_port, withdraws}
-use Rattle.desk_model.specs.Messages.{all_of}
+use Rattle.port_model.specs.Desk.{Desk, Standing, asked, withdrawn}
+use Rattle.port_model.specs.Requests.{input_of, is_delete_all, is_on, is_on_port, withdraws}
+use Rattle.port_model.specs.Messages.{all_of}
 use Rattle.branch_desk.specs.Requests.{AreApart, deleted_of}
 use Rattle.branch_desk.proofs.Apart.{any_agree, apart_deletes, delete_is_key, has_key}
 use Rattle.branch_desk.proofs.Ends.{end_from_same, same_itself}

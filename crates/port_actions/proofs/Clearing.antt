@@ -8,8 +8,8 @@ use Rattle.std.proofs.lemmas.Bool.{cases_lt}
 use Rattle.net_types.specs.declared.node.PortNo.{PortNo}
 use Rattle.net_types.specs.declared.channel.End.{End}
 use Rattle.crossbar_model.specs.Crossbar.{same_end}
-use Rattle.desk_model.specs.Desk.{Desk, Standing}
-use Rattle.desk_model.specs.Requests.{input_of}
+use Rattle.port_model.specs.Desk.{Desk, Standing}
+use Rattle.port_model.specs.Requests.{input_of}
 use Rattle.branch_desk.proofs.Ends.{end_from_same, same_itself}
 use Rattle.port_model.specs.declared.action.Action.{Action}
 use Rattle.port_model.specs.Port.{desk_with}

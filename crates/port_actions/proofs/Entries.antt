@@ -8,7 +8,7 @@ use Rattle.net_types.specs.declared.node.PortNo.{PortNo}
 use Rattle.net_types.specs.declared.channel.End.{End}
 use Rattle.std.proofs.lemmas.Bool.{eqb-true}
 use Rattle.crossbar_model.specs.Crossbar.{same_end}
-use Rattle.desk_model.specs.Desk.{Desk, on_input}
+use Rattle.port_model.specs.Desk.{Desk, on_input}
 use Rattle.branch_desk.proofs.Ends.{end_from_same, same_itself}
 use Rattle.port_actions.specs.Outlook.{Outlook, stands}
 

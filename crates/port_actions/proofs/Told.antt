@@ -12,8 +12,8 @@ use Rattle.net_types.specs.declared.channel.End.{End}
 use Rattle.gsmp_wire.specs.declared.request.Request.{Request}
 use Rattle.gsmp_wire.specs.declared.request.Request.TheVariants.{AddBranch, MoveBranch, DeleteTree, VerifyTree, DeleteAll, PortManagement, AllPorts}
 use Rattle.crossbar_model.specs.Crossbar.{same_end}
-use Rattle.desk_model.specs.Desk.{Desk, Standing, all_on, asked, is_led_home, taken_back, withdrawn}
-use Rattle.desk_model.specs.Requests.{input_of, is_delete_all, is_on, leads_home, withdraws}
+use Rattle.port_model.specs.Desk.{Desk, Standing, all_on, asked, is_led_home, taken_back, withdrawn}
+use Rattle.port_model.specs.Requests.{input_of, is_delete_all, is_on, leads_home, withdraws}
 use Rattle.branch_desk.specs.Requests.{AreApart}
 use Rattle.branch_desk.proofs.Apart.{apart_inputs, found_any, led_home_is}
 use Rattle.branch_desk.proofs.Ends.{end_from_same, same_itself}

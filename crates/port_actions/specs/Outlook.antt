@@ -6,8 +6,8 @@ use Rattle.std.specs.Map.{lookup}
 use Rattle.net_types.specs.declared.node.PortNo.{PortNo}
 use Rattle.net_types.specs.declared.channel.End.{End}
 use Rattle.crossbar_model.specs.Crossbar.{same_end}
-use Rattle.desk_model.specs.Desk.{Desk, on_input, all_on}
-use Rattle.desk_model.specs.Requests.{is_on_port}
+use Rattle.port_model.specs.Desk.{Desk, on_input, all_on}
+use Rattle.port_model.specs.Requests.{is_on_port}
 use Rattle.branch_desk.specs.Requests.{AreApart}
 use Rattle.port_model.specs.declared.action.Action.{Action}
 use Rattle.port_model.specs.Port.{desk_with}

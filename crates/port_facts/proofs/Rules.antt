@@ -26,7 +26,7 @@ use Rattle.gsmp_wire.specs.declared.request.Request.TheVariants.{AddBranch, Move
 use Rattle.link_model.specs.declared.record.Record.TheVariants.{Bind}
 use Rattle.ordered_lists.specs.Ordered.{InOrder}
 use Rattle.keyed_lists.specs.Keyed.{at}
-use Rattle.desk_model.specs.Desk.{Desk}
+use Rattle.port_model.specs.Desk.{Desk}
 use Rattle.port_model.specs.declared.action.Action.TheVariants.{Note, CutChain}
 use Rattle.port_model.specs.Setup.{Setup, is_in_range, is_between, label_numbers, label_end}
 use Rattle.port_model.specs.Labels.{Label, LabelState, Wiring, Offered, Recalled, Wired, label_number, is_bound, serves, is_spare, lowest_spare, label_for}

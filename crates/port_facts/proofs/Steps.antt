@@ -16,7 +16,7 @@ use Rattle.adjacency_table.specs.Hello.{ifmp_received}
 use Rattle.flow_ids.specs.declared.flow.FlowId.{FlowId}
 use Rattle.link_model.specs.declared.record.Record.TheVariants.{Bind, Free, Join}
 use Rattle.keyed_lists.specs.Keyed.{at}
-use Rattle.desk_model.specs.Desk.{Desk}
+use Rattle.port_model.specs.Desk.{Desk}
 use Rattle.port_model.specs.declared.action.Action.TheVariants.{Note, CutChain, TakeBack}
 use Rattle.port_model.specs.Setup.{Setup, is_in_range, label_end}
 use Rattle.port_model.specs.Labels.{Label, Wiring, Offered, Recalled, Wired, is_bound, is_spare}

@@ -18,7 +18,7 @@ use Rattle.ifmp_wire.specs.declared.message.Message.TheVariants.{Adjacency, Redi
 use Rattle.ordered_lists.specs.Ordered.{Every, InOrder}
 use Rattle.ordered_lists.proofs.Every.{every_map}
 use Rattle.keyed_lists.specs.Keyed.{at}
-use Rattle.desk_model.specs.Desk.{Desk}
+use Rattle.port_model.specs.Desk.{Desk}
 use Rattle.gsmp_wire.specs.declared.request.Request.TheVariants.{DeleteAll}
 use Rattle.port_model.specs.declared.action.Action.{Action}
 use Rattle.port_model.specs.declared.action.Action.TheVariants.{Ask, CutChain}

@@ -10,7 +10,7 @@ use Rattle.flow_ids.specs.declared.flow.FlowId.{FlowId}
 use Rattle.ifmp_wire.specs.declared.message.Message.{Message}
 use Rattle.ifmp_wire.specs.declared.message.Message.TheVariants.{Redirect, Reclaim, ReclaimAck, LabelRange, Error}
 use Rattle.keyed_lists.specs.Keyed.{at}
-use Rattle.desk_model.specs.Desk.{Desk}
+use Rattle.port_model.specs.Desk.{Desk}
 use Rattle.port_model.specs.declared.action.Action.{Action}
 use Rattle.port_model.specs.Setup.{Setup}
 use Rattle.port_model.specs.Labels.{Label, label_number}

@@ -7,7 +7,7 @@ use Rattle.flow_ids.specs.declared.flow.FlowId.{FlowId}
 use Rattle.flow_ids.specs.Parts.{same_flow}
 use Rattle.gsmp_wire.specs.declared.request.Request.TheVariants.{AddBranch}
 use Rattle.keyed_lists.specs.Keyed.{at}
-use Rattle.desk_model.specs.Desk.{Desk, most_asked}
+use Rattle.port_model.specs.Desk.{Desk, most_asked}
 use Rattle.grant_table.specs.Table.{told}
 use Rattle.grant_table.specs.declared.table.Accepted.TheVariants as accepts
 use Rattle.grant_table.specs.declared.table.AcceptFault.TheVariants as faults

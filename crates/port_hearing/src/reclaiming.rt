@@ -3,7 +3,7 @@
 
 ghost use Rattle.std.specs.Prelude.{◌≡◌, ◌++◌, ℕ, false, option_map, None, Some, IsTrue, OnOk};
 ghost use Rattle.net_types.specs.Label.{is_label_number, label_number_of};
-ghost use Rattle.desk_model.specs.Desk.{Desk as DeskValue};
+ghost use Rattle.port_model.specs.Desk.{Desk as DeskValue};
 ghost use Rattle.grant_table.specs.Table.{view_of};
 ghost use Rattle.keyed_lists.specs.Keyed.{at};
 ghost use Rattle.label_book.specs.Book.{is_recalled};

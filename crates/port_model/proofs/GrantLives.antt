@@ -6,7 +6,7 @@ use Rattle.net_types.specs.Label.{label_channel_of}
 use Rattle.gsmp_wire.specs.declared.request.Request.TheVariants.{AddBranch}
 use Rattle.ifmp_wire.specs.declared.message.Message.TheVariants.{Redirect, Reclaim, ReclaimAck, LabelRange}
 use Rattle.port_model.specs.declared.action.Action.TheVariants.{Say, Ask, TakeBack}
-use Rattle.desk_model.specs.Desk.{empty_desk}
+use Rattle.port_model.specs.Desk.{empty_desk}
 use Rattle.port_model.specs.Setup.{label_end, control_end}
 use Rattle.port_model.specs.Grants.{Grant, GrantState, Idle, ByController, ByInput, Leaving}
 use Rattle.port_model.specs.Port.{Port, Work}

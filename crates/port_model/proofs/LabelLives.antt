@@ -7,7 +7,7 @@ use Rattle.ifmp_wire.specs.declared.message.Message.TheVariants.{Redirect, Recla
 use Rattle.link_model.specs.declared.record.Record.TheVariants.{Bind, Free, Closed}
 use Rattle.gsmp_wire.specs.declared.request.Request.TheVariants.{DeleteAll}
 use Rattle.port_model.specs.declared.action.Action.TheVariants.{Say, Ask, Note, CutChain}
-use Rattle.desk_model.specs.Desk.{empty_desk}
+use Rattle.port_model.specs.Desk.{empty_desk}
 use Rattle.port_model.specs.Setup.{label_end, control_end}
 use Rattle.port_model.specs.Labels.{Label, LabelState, Wiring, Offered, Recalled, Wired, lowest_spare}
 use Rattle.port_model.specs.Counts.{Counted, counted_once, packets_in, moved}

@@ -1,3 +1,4 @@
+mod DeskLives
 mod Sample
 mod LabelLives
 mod GrantLives

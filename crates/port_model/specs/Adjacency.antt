@@ -18,7 +18,7 @@ use Rattle.gsmp_wire.specs.declared.request.Request.TheVariants.{DeleteTree}
 use Rattle.link_model.specs.declared.record.Record.TheVariants.{Opened}
 use Rattle.net_types.specs.declared.adjacency.Peer.{Peer}
 use Rattle.adjacency_table.specs.Hello.{same_peer, heard_from, ifmp_answer, ifmp_received}
-use Rattle.desk_model.specs.Desk.{Desk, on_input}
+use Rattle.port_model.specs.Desk.{Desk, on_input}
 use Rattle.port_model.specs.declared.action.Action.TheVariants.{Ask, Note, CutChain}
 use Rattle.port_model.specs.Setup.{Setup, label_end}
 use Rattle.port_model.specs.Labels.{Label, LabelState, Recalled, Wired, label_number}

@@ -8,7 +8,7 @@ use Rattle.gsmp_wire.specs.declared.request.Request.TheVariants.{AddBranch}
 use Rattle.flow_ids.specs.declared.flow.FlowKind.TheVariants.{One, Two}
 use Rattle.flow_ids.specs.declared.flow.FlowId.{FlowId}
 use Rattle.flow_ids.specs.Flow.{flow_of}
-use Rattle.desk_model.specs.Desk.{Desk}
+use Rattle.port_model.specs.Desk.{Desk}
 use Rattle.port_model.specs.declared.action.Action.TheVariants.{Ask}
 use Rattle.port_model.specs.Setup.{Setup, label_end, control_end}
 use Rattle.port_model.specs.Labels.{Label, Wiring, label_for, lowest_spare}

@@ -5,7 +5,7 @@ use Rattle.net_types.specs.declared.prefix.Addr.{Addr}
 use Rattle.net_types.specs.Label.{label_number_of}
 use Rattle.ifmp_wire.specs.declared.message.Message.{Message}
 use Rattle.ifmp_wire.specs.declared.message.Message.TheVariants.{Adjacency, Redirect, Reclaim, ReclaimAck, LabelRange, Error}
-use Rattle.desk_model.specs.Desk.{Desk}
+use Rattle.port_model.specs.Desk.{Desk}
 use Rattle.port_model.specs.Setup.{Setup}
 use Rattle.port_model.specs.Labels.{Label}
 use Rattle.port_model.specs.Grants.{acceptance, grant_on}

@@ -1,3 +1,7 @@
+pub mod Requests
+pub mod Messages
+pub mod Desk
+pub mod DeskAnswers
 pub mod Setup
 pub mod Labels
 pub mod Grants

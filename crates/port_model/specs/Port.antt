@@ -6,7 +6,7 @@ use Rattle.net_types.specs.declared.channel.Channel.{Channel}
 use Rattle.adjacency_table.specs.Side.{Side}
 use Rattle.net_types.specs.declared.adjacency.Peer.{Peer}
 use Rattle.keyed_lists.specs.Keyed.{at, put, without, entered, key_le}
-use Rattle.desk_model.specs.Desk.{Desk, asked, taken_back, withdrawn, most_asked}
+use Rattle.port_model.specs.Desk.{Desk, asked, taken_back, withdrawn, most_asked}
 use Rattle.port_model.specs.declared.action.Action.{Action}
 use Rattle.port_model.specs.declared.action.Action.TheVariants.{Ask, TakeBack, Withdraw, Reset}
 use Rattle.port_model.specs.Setup.{home_of}

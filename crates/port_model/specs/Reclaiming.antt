@@ -5,7 +5,7 @@ use Rattle.std.specs.Prelude.{ℕ, Bool, true, false, not, ◌==◌, min, map, f
 use Rattle.net_types.specs.declared.channel.Channel.{Channel}
 use Rattle.net_types.specs.declared.channel.End.{End}
 use Rattle.net_types.specs.Label.{label_channel_of}
-use Rattle.desk_model.specs.Desk.{Desk}
+use Rattle.port_model.specs.Desk.{Desk}
 use Rattle.flow_ids.specs.declared.flow.FlowId.{FlowId}
 use Rattle.flow_ids.specs.Parts.{same_flow}
 use Rattle.port_model.specs.declared.action.Action.TheVariants.{TakeBack}

@@ -10,7 +10,7 @@ use Rattle.gsmp_wire.specs.declared.request.Request.TheVariants.{AddBranch}
 use Rattle.flow_ids.specs.declared.flow.FlowId.{FlowId}
 use Rattle.net_types.specs.declared.adjacency.Peer.{Peer}
 use Rattle.adjacency_table.specs.Hello.{same_peer}
-use Rattle.desk_model.specs.Desk.{Desk}
+use Rattle.port_model.specs.Desk.{Desk}
 use Rattle.port_model.specs.declared.action.Action.TheVariants.{Ask}
 use Rattle.port_model.specs.Setup.{Setup, label_end, control_end}
 use Rattle.port_model.specs.Grants.{Idle, Acceptance, New, Refreshed, OutOfRange, Taken, IsLeaving, GrantsFull}

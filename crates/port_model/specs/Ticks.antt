@@ -4,7 +4,7 @@
 use Rattle.std.specs.Prelude.{ℕ, Bool, true, false, ◌+◌, ◌-◌, ◌==◌, nat_le, is_none, min, map, fold, Option, None, Some, if◌then◌else◌}
 use Rattle.std.specs.List.{list_any}
 use Rattle.adjacency_table.specs.Side.{ticked}
-use Rattle.desk_model.specs.Desk.{Desk, on_input}
+use Rattle.port_model.specs.Desk.{Desk, on_input}
 use Rattle.port_model.specs.declared.action.Action.TheVariants.{TakeBack}
 use Rattle.port_model.specs.Setup.{Setup, label_end}
 use Rattle.port_model.specs.Labels.{Label, LabelState, Offered, Recalled, Wired, label_number}

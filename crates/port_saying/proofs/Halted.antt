@@ -3,7 +3,7 @@
 use Rattle.std.proofs.Common.{◌≡◌, ℕ, Bool, true, false, List, refl, ap, ◌∙◌, Option, None, Some, if◌then◌else◌}
 use Rattle.std.specs.Prelude.{nat_lt, map, fold}
 use Rattle.net_types.specs.declared.channel.End.{End}
-use Rattle.desk_model.specs.Desk.{Desk}
+use Rattle.port_model.specs.Desk.{Desk}
 use Rattle.port_model.specs.declared.action.Action.{Action}
 use Rattle.port_model.specs.Setup.{Setup}
 use Rattle.port_model.specs.Labels.{Label, LabelState, Wiring, Offered, Recalled, Wired, label_number}

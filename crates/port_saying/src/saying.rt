@@ -2,7 +2,7 @@
 
 ghost use Rattle.std.specs.Prelude.{◌≡◌, ◌++◌, ◌∷◌, ℕ, [], IsTrue, OnOk};
 ghost use Rattle.net_types.specs.Label.{is_label_number};
-ghost use Rattle.desk_model.specs.Desk.{Desk as DeskValue};
+ghost use Rattle.port_model.specs.Desk.{Desk as DeskValue};
 ghost use Rattle.ifmp_wire.specs.declared.message.Message.TheVariants.{Adjacency};
 ghost use Rattle.port_actions.specs.Outlook.{Foresees, Outlook as OutlookValue};
 ghost use Rattle.port_model.specs.declared.action.Action.TheVariants.{Say};

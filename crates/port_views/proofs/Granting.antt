@@ -15,7 +15,7 @@ use Rattle.flow_ids.specs.declared.flow.FlowId.{FlowId}
 use Rattle.flow_ids.specs.Parts.{same_flow}
 use Rattle.ifmp_wire.specs.declared.message.Message.TheVariants.{Redirect, Reclaim}
 use Rattle.gsmp_wire.specs.declared.request.Request.TheVariants.{AddBranch}
-use Rattle.desk_model.specs.Desk.{Desk}
+use Rattle.port_model.specs.Desk.{Desk}
 use Rattle.keyed_lists.specs.Keyed.{at}
 use Rattle.port_facts.proofs.Keyed.{on_both, on_each, at_key}
 use Rattle.label_line.specs.Cells as lines

@@ -16,7 +16,7 @@ use Rattle.adjacency_table.specs.Instances.{SideByInstances, row_for, enters, af
 use Rattle.adjacency_table.specs.Ends.{router, side_of, said_by, step_by}
 use Rattle.adjacency_table.specs.Hello.{next_in}
 use Rattle.ifmp_wire.specs.declared.message.Message.TheVariants.{Adjacency}
-use Rattle.desk_model.specs.Desk.{Desk}
+use Rattle.port_model.specs.Desk.{Desk}
 use Rattle.port_facts.proofs.Keyed.{on_both}
 use Rattle.label_line.specs.Cells as lines
 use Rattle.label_line.specs.Cells.{Role, Downstream, Upstream, Cell}

@@ -9,7 +9,7 @@ use Rattle.adjacency_table.specs.Table.{Reply, Silent, Says, Resets}
 use Rattle.adjacency_table.specs.Instances.{SideByInstances}
 use Rattle.ifmp_wire.specs.declared.message.Message.TheVariants.{Adjacency}
 use Rattle.link_model.specs.declared.record.Record.TheVariants.{Opened}
-use Rattle.desk_model.specs.Desk.{Desk, on_input}
+use Rattle.port_model.specs.Desk.{Desk, on_input}
 use Rattle.gsmp_wire.specs.declared.request.Request.TheVariants.{DeleteTree}
 use Rattle.port_facts.proofs.Keyed.{on_both, on_each, by_eq, at_key}
 use Rattle.keyed_lists.specs.Keyed.{at}

@@ -8,7 +8,7 @@ use Rattle.net_types.specs.Label.{is_label_number}
 use Rattle.flow_ids.specs.declared.flow.FlowId.{FlowId}
 use Rattle.ifmp_wire.specs.declared.message.Message.{Message}
 use Rattle.ifmp_wire.specs.declared.message.Message.TheVariants.{Adjacency, Redirect, Reclaim, ReclaimAck, LabelRange, Error}
-use Rattle.desk_model.specs.Desk.{Desk}
+use Rattle.port_model.specs.Desk.{Desk}
 use Rattle.label_line.specs.Cells.{Role, Downstream, Upstream, Cell}
 use Rattle.label_line.specs.Line.{Line}
 use Rattle.port_model.specs.Setup.{Setup}

@@ -12,7 +12,7 @@ use Rattle.net_types.specs.Label.{label_number_of, is_label_number}
 use Rattle.flow_ids.specs.declared.flow.FlowId.{FlowId}
 use Rattle.flow_ids.specs.Parts.{same_flow}
 use Rattle.ifmp_wire.specs.declared.message.Message.TheVariants.{ReclaimAck, LabelRange, Error}
-use Rattle.desk_model.specs.Desk.{Desk}
+use Rattle.port_model.specs.Desk.{Desk}
 use Rattle.keyed_lists.specs.Keyed.{put}
 use Rattle.port_facts.proofs.Keyed.{on_both, on_each, by_eq, at_key}
 use Rattle.label_line.specs.Cells as lines

@@ -5,7 +5,7 @@ use Rattle.std.specs.Prelude.{◌||◌, min, nat_le, is_none}
 use Rattle.std.specs.Option.{option_map_or}
 use Rattle.net_types.specs.Label.{is_label_number}
 use Rattle.adjacency_table.specs.Side.{ticked}
-use Rattle.desk_model.specs.Desk.{Desk, on_input}
+use Rattle.port_model.specs.Desk.{Desk, on_input}
 use Rattle.keyed_lists.specs.Keyed.{at, put}
 use Rattle.port_facts.proofs.Keyed.{on_both, by_eq, at_key}
 use Rattle.label_line.specs.Cells as lines

@@ -17,7 +17,7 @@ ghost use Rattle.flow_ids.specs.declared.flow.FlowId.{FlowId};
 ghost use Rattle.flow_ids.specs.Parts.{same_flow};
 ghost use Rattle.ifmp_wire.specs.declared.message.Message.{Message};
 ghost use Rattle.gsmp_wire.specs.declared.request.Request.{Request};
-ghost use Rattle.desk_model.specs.Desk.{Desk};
+ghost use Rattle.port_model.specs.Desk.{Desk};
 ghost use Rattle.keyed_lists.specs.Keyed.{at};
 ghost use Rattle.label_line.specs.Cells as lines;
 ghost use Rattle.label_line.specs.Cells.{Role, Cell, Downstream, Upstream, frame};

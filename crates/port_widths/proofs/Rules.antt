@@ -34,7 +34,7 @@ use Rattle.ordered_lists.proofs.Every.{every_join}
 use Rattle.keyed_lists.specs.Keyed.{at, entered, key_le}
 use Rattle.port_facts.proofs.Keyed.{on_both, on_each, at_every, entered_every, every_more}
 use Rattle.port_facts.proofs.Found.{find_every}
-use Rattle.desk_model.specs.Desk.{Desk, on_input}
+use Rattle.port_model.specs.Desk.{Desk, on_input}
 use Rattle.port_model.specs.declared.action.Action.TheVariants.{Say, Ask, Note, CutChain, TakeBack}
 use Rattle.port_model.specs.Setup.{Setup, label_end, control_end}
 use Rattle.port_model.specs.Labels.{Label, LabelState, Wiring, Offered, Recalled, Wired, label_number, label_for, lowest_spare}

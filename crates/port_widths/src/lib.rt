@@ -12,7 +12,7 @@ ghost use Rattle.flow_ids.specs.Identifier.{FitsFields};
 ghost use Rattle.gsmp_wire.specs.declared.request.Request.{Request};
 ghost use Rattle.ifmp_wire.specs.declared.message.Message.{Message};
 ghost use Rattle.ifmp_wire.specs.Message.{FitsMessage};
-ghost use Rattle.desk_model.specs.Desk.{Desk};
+ghost use Rattle.port_model.specs.Desk.{Desk};
 ghost use Rattle.port_model.specs.Setup.{Setup};
 ghost use Rattle.port_model.specs.Grants.{Grant};
 ghost use Rattle.port_model.specs.Port.{Port, Work};

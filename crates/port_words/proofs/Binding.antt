@@ -24,10 +24,10 @@ use Rattle.port_model.specs.Saying.{last_number, own_of, peer_of, spent_number, 
 use Rattle.port_model.specs.Answers.{bound_in, bound}
 use Rattle.port_model.specs.Hearing.{label_by}
 use Rattle.port_facts.proofs.Keyed.{on_both, at_every, put_every, every_more}
-use Rattle.controller_model.specs.Controller.{Acted, Linked, linked_at, note}
-use Rattle.controller_model.specs.Sending.{says_ifmp}
-use Rattle.controller_model.specs.Resets.{begins, with_work}
-use Rattle.controller_model.specs.Performing.{performs_in_estab, works_as}
+use Rattle.world_model.specs.Controller.{Acted, Linked, linked_at, note}
+use Rattle.world_model.specs.Sending.{says_ifmp}
+use Rattle.world_model.specs.Resets.{begins, with_work}
+use Rattle.world_model.specs.Performing.{performs_in_estab, works_as}
 use Rattle.port_words.specs.Words.{Terms, StandsAs, Stands, IsSteady, IsFair, IsSteadily}
 use Rattle.port_words.proofs.Voices.{session_steady}
 use Rattle.port_words.proofs.Sending.{note_h, bound_h}

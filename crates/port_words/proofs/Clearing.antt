@@ -6,7 +6,7 @@ use Rattle.net_types.specs.Label.{label_number_of}
 use Rattle.gsmp_wire.specs.declared.request.Request.TheVariants.{AddBranch, DeleteTree, VerifyTree, PortManagement, AllPorts}
 use Rattle.link_model.specs.declared.record.Record.TheVariants.{Bind, Free, Join, Part}
 use Rattle.keyed_lists.specs.Keyed.{put, without}
-use Rattle.desk_model.specs.Messages.{is_up}
+use Rattle.port_model.specs.Messages.{is_up}
 use Rattle.port_model.specs.Labels.{Label, LabelState, Wiring, Offered, Recalled, Wired, label_number}
 use Rattle.port_model.specs.Grants.{Grant, GrantState, Idle, ByController, ByInput, Leaving, grant_label, grant_on}
 use Rattle.port_model.specs.Port.{Session, acts, halts, with_session, with_label, without_label, with_grants, without_grant, label_at}
@@ -17,9 +17,9 @@ use Rattle.port_model.specs.Answers.{bound_in, bound, freed_in, freed, started_i
 use Rattle.port_model.specs.Joins as port_joins
 use Rattle.port_model.specs.Joins.{joins_label, parted, given_back_in, given_back}
 use Rattle.port_model.specs.Resets.{cleared}
-use Rattle.controller_model.specs.Controller.{note, default_end, default_home}
-use Rattle.controller_model.specs.Joins.{Join as ControllerJoin, join_of, parts, releases_join, releases_input, released_inputs, resets_spent, releases}
-use Rattle.controller_model.specs.Meeting.{up_ports, default_branches, ends_meeting, has_emptied, port_of, tells_port, behind_delete_all, causes_in_estab, causes, is_clearing, awaits_nothing, may_clear, clears_of}
+use Rattle.world_model.specs.Controller.{note, default_end, default_home}
+use Rattle.world_model.specs.Joins.{Join as ControllerJoin, join_of, parts, releases_join, releases_input, released_inputs, resets_spent, releases}
+use Rattle.world_model.specs.Meeting.{up_ports, default_branches, ends_meeting, has_emptied, port_of, tells_port, behind_delete_all, causes_in_estab, causes, is_clearing, awaits_nothing, may_clear, clears_of}
 use Rattle.port_words.proofs.Joining.{Clears, unclear, cleared_on}
 use Rattle.std.specs.Prelude.{◌⊎◌, ◌+◌, ◌==◌, nat_lt, flat_map}
 use Rattle.std.specs.Option.{option_map}
@@ -34,7 +34,7 @@ use Rattle.gsmp_wire.specs.declared.request.Request.{Request}
 use Rattle.gsmp_wire.specs.declared.request.Request.TheVariants.{MoveBranch, DeleteAll}
 use Rattle.ordered_lists.specs.Ordered.{Every}
 use Rattle.ordered_lists.proofs.Every.{every_map, every_all}
-use Rattle.desk_model.specs.Desk.{all_on, asked, is_led_home, last_transaction}
+use Rattle.port_model.specs.Desk.{all_on, asked, is_led_home, last_transaction}
 use Rattle.port_model.specs.declared.action.Action.{Action}
 use Rattle.port_model.specs.declared.action.Action.TheVariants as actions
 use Rattle.port_model.specs.declared.action.Action.TheVariants.{Say, Ask, Note, CutChain, TakeBack, Withdraw}
@@ -42,11 +42,11 @@ use Rattle.port_model.specs.Setup.{Setup, home_of}
 use Rattle.port_model.specs.Port.{Work}
 use Rattle.port_model.specs.Resets.{resets, restarts, closing, withdrawing, taking_back}
 use Rattle.port_facts.proofs.Keyed.{on_both, on_each, at_every, put_every}
-use Rattle.controller_model.specs.Controller.{Controller, Acted, Linked, port_key, linked_at, ports_of, with_linked, with_desk, chains_with}
-use Rattle.controller_model.specs.Sending.{sends_control}
-use Rattle.controller_model.specs.Asking.{asks_next, asks, takes_back}
-use Rattle.controller_model.specs.Resets.{begins, with_work, cuts_of, closes_by, port_restarts_of, port_restarts, resets_gsmp, node_resets}
-use Rattle.controller_model.specs.Performing.{does, does_in_estab, resets_of, performs, performs_in_estab, Rule, works, at_port}
+use Rattle.world_model.specs.Controller.{Controller, Acted, Linked, port_key, linked_at, ports_of, with_linked, with_desk, chains_with}
+use Rattle.world_model.specs.Sending.{sends_control}
+use Rattle.world_model.specs.Asking.{asks_next, asks, takes_back}
+use Rattle.world_model.specs.Resets.{begins, with_work, cuts_of, closes_by, port_restarts_of, port_restarts, resets_gsmp, node_resets}
+use Rattle.world_model.specs.Performing.{does, does_in_estab, resets_of, performs, performs_in_estab, Rule, works, at_port}
 use Rattle.frame_model.specs.Reassembly.{nothing_taken}
 use Rattle.controller_law.proofs.Desk.{asked_all, withdrawn_all, asked_of}
 use Rattle.controller_views.proofs.Sends.{sent_cases}

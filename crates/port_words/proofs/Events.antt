@@ -42,8 +42,8 @@ use Rattle.link_model.specs.Notes.{Journal, noted}
 use Rattle.frame_model.specs.Reassembly.{Reassembly, Taken, taken, passed_over, without_slot, too_long, joined, most_cells, marks_of}
 use Rattle.frame_model.specs.Frame.{tested, tested_by, last_mark, next_mark, octets_of, payload_in}
 use Rattle.ordered_lists.specs.Ordered.{Every}
-use Rattle.desk_model.specs.Answers.{Answered, Unknown, Done, Ports, Failed, answered, after_answer}
-use Rattle.desk_model.specs.Desk.{sent_again}
+use Rattle.port_model.specs.DeskAnswers.{Answered, Unknown, Done, Ports, Failed, answered, after_answer}
+use Rattle.port_model.specs.Desk.{sent_again}
 use Rattle.port_model.specs.Setup.{Setup, control_end}
 use Rattle.port_model.specs.Labels.{Label}
 use Rattle.port_model.specs.Grants.{Grant}
@@ -53,17 +53,17 @@ use Rattle.port_model.specs.Hearing.{hears}
 use Rattle.port_model.specs.Answers as port_answers
 use Rattle.port_model.specs.Ticks as port_ticks
 use Rattle.port_facts.proofs.Keyed.{on_both, on_each, every_more}
-use Rattle.controller_model.specs.Controller.{Controller, Acted, Linked, free_slots, linked_at, ports_of, with_desk, chains_with, default_home}
-use Rattle.controller_model.specs.Sending.{sends, says_gsmp}
-use Rattle.controller_model.specs.Asking.{sends_request}
-use Rattle.controller_model.specs.Resets.{begins}
-use Rattle.controller_model.specs.Performing.{works_as}
-use Rattle.controller_model.specs.Joins.{tries_joins, releases}
-use Rattle.controller_model.specs.Gsmp.{answers, steps, told, gsmp_holds}
-use Rattle.controller_model.specs.Meeting.{port_of_input, causes, causes_in_estab, clears, done, answers_desk, answer_comes}
-use Rattle.controller_model.specs.Packets.{is_control, sends_next, goes_by, grant_by, forwarded, routes, control_protocol}
-use Rattle.controller_model.specs.Cells.{Taker, ForGsmp, ForDefault, ForLabel, port_on, taker_of, reassembly_of, with_reassembly, label_holds, ifmp_holds, counted_at, packet_holds, default_holds, frame_holds, opened_frame, ends_frame, after_cell, takes_cell, cell_comes}
-use Rattle.controller_model.specs.Ticks.{sends_again, ticks_port, ticks_ports, ticks_by, ticks}
+use Rattle.world_model.specs.Controller.{Controller, Acted, Linked, free_slots, linked_at, ports_of, with_desk, chains_with, default_home}
+use Rattle.world_model.specs.Sending.{sends, says_gsmp}
+use Rattle.world_model.specs.Asking.{sends_request}
+use Rattle.world_model.specs.Resets.{begins}
+use Rattle.world_model.specs.Performing.{works_as}
+use Rattle.world_model.specs.Joins.{tries_joins, releases}
+use Rattle.world_model.specs.Gsmp.{answers, steps, told, gsmp_holds}
+use Rattle.world_model.specs.Meeting.{port_of_input, causes, causes_in_estab, clears, done, answers_desk, answer_comes}
+use Rattle.world_model.specs.Packets.{is_control, sends_next, goes_by, grant_by, forwarded, routes, control_protocol}
+use Rattle.world_model.specs.Cells.{Taker, ForGsmp, ForDefault, ForLabel, port_on, taker_of, reassembly_of, with_reassembly, label_holds, ifmp_holds, counted_at, packet_holds, default_holds, frame_holds, opened_frame, ends_frame, after_cell, takes_cell, cell_comes}
+use Rattle.world_model.specs.Ticks.{sends_again, ticks_port, ticks_ports, ticks_by, ticks}
 use Rattle.controller_bindings.proofs.Lasts.{taken_grows, tested_grows}
 use Rattle.lifetimes.proofs.Events.{Belongs, taker_belongs, put_there}
 use Rattle.shown_cells.proofs.Tested.{broken_frames, passed_frames, last_is}
@@ -73,10 +73,10 @@ use Rattle.link_model.specs.declared.record.Record.{Record}
 use Rattle.link_model.specs.declared.record.Record.TheVariants.{Refused, Chance, Forged, Opened, Closed, Bind, Free, Join, Part, Routes}
 use Rattle.ifmp_wire.specs.declared.message.Message.TheVariants as ifmp
 use Rattle.ordered_lists.proofs.Every.{every_map}
-use Rattle.desk_model.specs.Desk.{Standing}
+use Rattle.port_model.specs.Desk.{Standing}
 use Rattle.port_model.specs.Grants.{grant_on}
 use Rattle.port_model.specs.Hearing.{label_by}
-use Rattle.controller_model.specs.Performing.{works}
+use Rattle.world_model.specs.Performing.{works}
 use Rattle.port_words.specs.Words.{Terms, IsOfHeld, IsWord, IsNoted, IsSent, waited, of_packet, away, said, bound, IsSteady, IsSteadyAt, IsSteadily}
 use Rattle.port_words.proofs.Clearing.{Waits, OldOrFresh, releases_j, causes_j, clears_j, cleared_old}
 use Rattle.port_words.proofs.Rules.{ticks_v, used_v}

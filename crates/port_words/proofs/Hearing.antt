@@ -16,7 +16,7 @@ use Rattle.link_model.specs.declared.record.Record.TheVariants.{Free, Join}
 use Rattle.ordered_lists.specs.Ordered.{Every}
 use Rattle.ordered_lists.proofs.Every.{every_join, every_mapped, every_all}
 use Rattle.keyed_lists.specs.Keyed.{at, without, entered, key_le}
-use Rattle.desk_model.specs.Desk.{Desk}
+use Rattle.port_model.specs.Desk.{Desk}
 use Rattle.port_model.specs.declared.action.Action.{Action}
 use Rattle.port_model.specs.declared.action.Action.TheVariants.{Ask, Note, CutChain, TakeBack}
 use Rattle.port_model.specs.Setup.{Setup, label_end, control_end, is_in_range}

@@ -19,7 +19,7 @@ use Rattle.link_model.specs.declared.record.Record.TheVariants.{Part}
 use Rattle.crossbar_model.specs.Crossbar.{same_end}
 use Rattle.ordered_lists.specs.Ordered.{Every}
 use Rattle.keyed_lists.specs.Keyed.{in_order}
-use Rattle.desk_model.specs.Desk.{empty_desk}
+use Rattle.port_model.specs.Desk.{empty_desk}
 use Rattle.port_model.specs.Setup.{home_of}
 use Rattle.port_model.specs.Labels.{Label}
 use Rattle.port_model.specs.Grants.{Grant, is_by_controller, input_of, grant_for}
@@ -29,24 +29,24 @@ use Rattle.port_model.specs.Answers as port_answers
 use Rattle.port_model.specs.Resets.{cleared}
 use Rattle.port_facts.proofs.Keyed.{on_both, at_key, entered_every}
 use Rattle.port_facts.proofs.Found.{find_every}
-use Rattle.controller_model.specs.Controller.{Acted, Linked, port_key, linked_at, ports_of, with_linked, with_desk, note, default_end, default_home}
-use Rattle.controller_model.specs.Asking.{asks}
-use Rattle.controller_model.specs.Resets.{begins}
-use Rattle.controller_model.specs.Performing.{at_port}
-use Rattle.controller_model.specs.Joins.{Join, join_to, joins_at, end_le, joins_of, join_of, parts, releases_join, releases_input, released_inputs, resets_spent, releases, port_by, join_through, join_by, join_for, may_join, enters_grant, output_of, enters_label, joins, tries_label, label_on, tries_join, inputs_at, tries_joins}
-use Rattle.controller_model.specs.Meeting.{meets, up_ports, empties, default_branches, ends_meeting, has_emptied, port_of, tells_port, behind_delete_all, causes_in_estab, causes, may_clear, clears_of, clears_port}
-use Rattle.controller_model.specs.Changes.{changed_joins, takes_join_back, begins_change, takes_change, may_take, takes_each, takes_changes, change_comes}
+use Rattle.world_model.specs.Controller.{Acted, Linked, port_key, linked_at, ports_of, with_linked, with_desk, note, default_end, default_home}
+use Rattle.world_model.specs.Asking.{asks}
+use Rattle.world_model.specs.Resets.{begins}
+use Rattle.world_model.specs.Performing.{at_port}
+use Rattle.world_model.specs.Joins.{Join, join_to, joins_at, end_le, joins_of, join_of, parts, releases_join, releases_input, released_inputs, resets_spent, releases, port_by, join_through, join_by, join_for, may_join, enters_grant, output_of, enters_label, joins, tries_label, label_on, tries_join, inputs_at, tries_joins}
+use Rattle.world_model.specs.Meeting.{meets, up_ports, empties, default_branches, ends_meeting, has_emptied, port_of, tells_port, behind_delete_all, causes_in_estab, causes, may_clear, clears_of, clears_port}
+use Rattle.world_model.specs.Changes.{changed_joins, takes_join_back, begins_change, takes_change, may_take, takes_each, takes_changes, change_comes}
 use Rattle.controller_facts.proofs.Joining.{every_flat_map}
 use Rattle.std.specs.Prelude.{◌+◌, ◌==◌, length}
 use Rattle.std.proofs.Common.{ap}
-use Rattle.desk_model.specs.Messages.{is_up}
+use Rattle.port_model.specs.Messages.{is_up}
 use Rattle.port_facts.proofs.Keyed.{on_each}
 use Rattle.adjacency_table.specs.declared.State.{State}
 use Rattle.adjacency_table.specs.declared.State.TheVariants.{Clearing, SynSent, SynRcvd, Estab}
 use Rattle.link_model.specs.declared.record.Record.TheVariants.{Routes}
 use Rattle.ipv4_forward.specs.Change.{changed}
 use Rattle.port_model.specs.Port.{Session}
-use Rattle.controller_model.specs.Meeting.{is_clearing, awaits_nothing}
+use Rattle.world_model.specs.Meeting.{is_clearing, awaits_nothing}
 use Rattle.port_words.specs.Words.{Terms, IsGranted, IsSteady, IsSteadyAt, IsSteadily}
 use Rattle.port_words.proofs.Voices.{closes_v}
 use Rattle.port_words.proofs.Rules.{parted_v, joined_v, lent_v, given_back_v}

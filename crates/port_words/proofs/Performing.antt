@@ -11,7 +11,7 @@ use Rattle.link_model.specs.declared.record.Record.{Record}
 use Rattle.link_model.specs.declared.record.Record.TheVariants.{Delivered, Dropped, Refused, Loss, Chance, Forged, Bad, Opened, Closed, Bind, Free, Join, Part, Routes}
 use Rattle.frame_model.specs.Reassembly.{cut}
 use Rattle.ordered_lists.specs.Ordered.{Every}
-use Rattle.desk_model.specs.Desk.{Standing, asked, is_led_home, message_at, last_transaction}
+use Rattle.port_model.specs.Desk.{Standing, asked, is_led_home, message_at, last_transaction}
 use Rattle.port_model.specs.declared.action.Action.{Action}
 use Rattle.port_model.specs.declared.action.Action.TheVariants as actions
 use Rattle.port_model.specs.declared.action.Action.TheVariants.{Say, Ask, Note, CutChain, TakeBack, Withdraw}
@@ -19,10 +19,10 @@ use Rattle.port_model.specs.Setup.{home_of}
 use Rattle.port_model.specs.Port.{Work}
 use Rattle.port_model.specs.Resets.{resets, restarts}
 use Rattle.port_facts.proofs.Keyed.{on_both}
-use Rattle.controller_model.specs.Controller.{Acted, Linked, linked_at, ports_of, with_desk}
-use Rattle.controller_model.specs.Asking.{sends_request, asks_next, asks, takes_back}
-use Rattle.controller_model.specs.Resets.{begins, with_work, closes_by, port_restarts_of, port_restarts, resets_gsmp, node_resets, cuts_default, cuts_gsmp, node_restarts}
-use Rattle.controller_model.specs.Performing.{does, does_in_estab, resets_of, performs, performs_in_estab, Rule, works_as, works, at_port}
+use Rattle.world_model.specs.Controller.{Acted, Linked, linked_at, ports_of, with_desk}
+use Rattle.world_model.specs.Asking.{sends_request, asks_next, asks, takes_back}
+use Rattle.world_model.specs.Resets.{begins, with_work, closes_by, port_restarts_of, port_restarts, resets_gsmp, node_resets, cuts_default, cuts_gsmp, node_restarts}
+use Rattle.world_model.specs.Performing.{does, does_in_estab, resets_of, performs, performs_in_estab, Rule, works_as, works, at_port}
 use Rattle.controller_bindings.proofs.Lasts.{cut_grows}
 use Rattle.controller_views.proofs.Works.{cut_frames}
 use Rattle.port_words.specs.Words.{Terms, IsSteady, BindsNone, IsFair, IsNoted, IsSteadyAt, IsSteadily}

@@ -15,7 +15,7 @@ use Rattle.adjacency_table.specs.Hello.{heard_from, ifmp_received}
 use Rattle.flow_ids.specs.declared.flow.FlowId.{FlowId}
 use Rattle.gsmp_wire.specs.declared.request.Request.TheVariants.{DeleteTree}
 use Rattle.keyed_lists.specs.Keyed.{at}
-use Rattle.desk_model.specs.Desk.{Desk, on_input}
+use Rattle.port_model.specs.Desk.{Desk, on_input}
 use Rattle.port_model.specs.declared.action.Action.TheVariants.{Ask, CutChain, TakeBack}
 use Rattle.port_model.specs.Setup.{Setup, label_end}
 use Rattle.port_model.specs.Labels.{Label, LabelState, Wiring, Offered, Recalled, Wired, label_number}

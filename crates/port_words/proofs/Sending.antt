@@ -32,10 +32,10 @@ use Rattle.frame_model.specs.Reassembly.{cut, nothing_taken}
 use Rattle.ordered_lists.specs.Ordered.{Every}
 use Rattle.ordered_lists.proofs.Every.{every_join, every_map, every_mapped, every_all}
 use Rattle.port_facts.proofs.Keyed.{at_every, put_every}
-use Rattle.controller_model.specs.Controller.{Acted, Linked, port_key, linked_at, with_linked, note, chain_of, chains_with, default_channel, default_home}
-use Rattle.controller_model.specs.Cells.{same_channel}
-use Rattle.controller_model.specs.Sending.{sends, sends_control, says_gsmp, says_ifmp}
-use Rattle.controller_model.specs.Resets.{cuts_of, cuts_label, cuts_default_of, cuts_default}
+use Rattle.world_model.specs.Controller.{Acted, Linked, port_key, linked_at, with_linked, note, chain_of, chains_with, default_channel, default_home}
+use Rattle.world_model.specs.Cells.{same_channel}
+use Rattle.world_model.specs.Sending.{sends, sends_control, says_gsmp, says_ifmp}
+use Rattle.world_model.specs.Resets.{cuts_of, cuts_label, cuts_default_of, cuts_default}
 use Rattle.world_model.specs.Past.{last_bound, bound_by}
 use Rattle.controller_bindings.specs.Bindings.{site}
 use Rattle.controller_bindings.proofs.Lasts.{BindNothing, Grows, cut_grows}

@@ -25,8 +25,8 @@ use Rattle.port_model.specs.Setup.{Setup}
 use Rattle.port_model.specs.Labels.{Label, LabelState, Wiring, Offered, Recalled, Wired}
 use Rattle.port_model.specs.Grants.{Grant}
 use Rattle.port_model.specs.Port.{Session, Port, labels_of}
-use Rattle.controller_model.specs.Controller.{Acted, Linked, default_home}
-use Rattle.controller_model.specs.Cells.{same_channel}
+use Rattle.world_model.specs.Controller.{Acted, Linked, default_home}
+use Rattle.world_model.specs.Cells.{same_channel}
 use Rattle.controller_views.specs.Lifted.{payload_by}
 use Rattle.world_views.specs.Tied.{tells_its_own}
 

@@ -26,9 +26,9 @@ use Rattle.link_model.specs.declared.record.Layer.TheVariants as layers
 use Rattle.link_model.specs.declared.record.Record.TheVariants.{Bad}
 use Rattle.refusal_names.specs.Names.{gsmp_refusal}
 use Rattle.ordered_lists.specs.Ordered.{Every}
-use Rattle.desk_model.specs.Messages.{is_up}
-use Rattle.desk_model.specs.Desk.{Standing, empty_desk}
-use Rattle.desk_model.specs.Answers.{Head, head_of, is_of_type, Answered, Unknown, Ports, Failed, succeeded, outcome, answered_with, after_answer, without_request}
+use Rattle.port_model.specs.Messages.{is_up}
+use Rattle.port_model.specs.Desk.{Standing, empty_desk}
+use Rattle.port_model.specs.DeskAnswers.{Head, head_of, is_of_type, Answered, Unknown, Ports, Failed, succeeded, outcome, answered_with, after_answer, without_request}
 use Rattle.port_model.specs.Setup.{Setup}
 use Rattle.port_model.specs.Answers as port_answers
 use Rattle.port_model.specs.Resets.{cleared}
@@ -36,12 +36,12 @@ use Rattle.port_facts.specs.Port.{IsShaped, IsLinked, IsDefaultEnd, MovesNone, a
 use Rattle.port_facts.proofs.Keyed.{on_both, on_each}
 use Rattle.port_facts.proofs.Found.{find_every}
 use Rattle.port_facts.proofs.Rules.{done_goes}
-use Rattle.controller_model.specs.Controller.{Acted, Linked, linked_at, ports_of, with_linked, with_desk, note, default_end, default_home}
-use Rattle.controller_model.specs.Sending.{says_gsmp}
-use Rattle.controller_model.specs.Asking.{asks}
-use Rattle.controller_model.specs.Joins.{releases}
-use Rattle.controller_model.specs.Meeting.{meets, up_ports, empties, default_branches, ends_meeting, has_emptied, port_of_input, tells_port, behind_delete_all, causes_in_estab, causes, may_clear, clears_of, clears_port, clears, done, takes_answer, answer_comes}
-use Rattle.controller_model.specs.Gsmp.{answers, steps, told, gsmp_holds}
+use Rattle.world_model.specs.Controller.{Acted, Linked, linked_at, ports_of, with_linked, with_desk, note, default_end, default_home}
+use Rattle.world_model.specs.Sending.{says_gsmp}
+use Rattle.world_model.specs.Asking.{asks}
+use Rattle.world_model.specs.Joins.{releases}
+use Rattle.world_model.specs.Meeting.{meets, up_ports, empties, default_branches, ends_meeting, has_emptied, port_of_input, tells_port, behind_delete_all, causes_in_estab, causes, may_clear, clears_of, clears_port, clears, done, takes_answer, answer_comes}
+use Rattle.world_model.specs.Gsmp.{answers, steps, told, gsmp_holds}
 use Rattle.controller_facts.proofs.Moves.{HasPorts, by_rule, moves_ports}
 use Rattle.controller_facts.proofs.Performing.{ports_linked}
 use Rattle.controller_facts.proofs.Joining.{every_filter}

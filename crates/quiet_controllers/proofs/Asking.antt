@@ -28,9 +28,9 @@ use Rattle.link_model.specs.declared.record.Record.TheVariants.{Loss}
 use Rattle.link_model.specs.declared.record.Cause.TheVariants.{Cut}
 use Rattle.ordered_lists.specs.Ordered.{Every}
 use Rattle.ordered_lists.proofs.Every.{every_join, every_map}
-use Rattle.desk_model.specs.Desk.{Desk, Standing, asked, is_led_home, message_at, last_transaction}
-use Rattle.desk_model.specs.Messages.{message_of}
-use Rattle.desk_model.specs.Requests.{withdraws, is_on}
+use Rattle.port_model.specs.Desk.{Desk, Standing, asked, is_led_home, message_at, last_transaction}
+use Rattle.port_model.specs.Messages.{message_of}
+use Rattle.port_model.specs.Requests.{withdraws, is_on}
 use Rattle.port_model.specs.declared.action.Action.{Action}
 use Rattle.port_model.specs.declared.action.Action.TheVariants.{Say, Ask, Note, CutChain, TakeBack, Withdraw, Reset}
 use Rattle.port_model.specs.Setup.{Setup, home_of}
@@ -39,10 +39,10 @@ use Rattle.port_model.specs.Resets.{resets, restarts}
 use Rattle.port_facts.specs.Port.{IsShaped, IsAction, parts_label}
 use Rattle.port_facts.proofs.Keyed.{on_both, on_each}
 use Rattle.port_facts.proofs.Joins.{resets_kept}
-use Rattle.controller_model.specs.Controller.{Acted, Linked, linked_at, ports_of, with_desk, chain_of}
-use Rattle.controller_model.specs.Asking.{sends_request, asks_next, asks, takes_back, withdraws_input}
-use Rattle.controller_model.specs.Resets.{cuts_of, cuts_label, begins, with_work, closes_by, port_restarts_of, port_restarts, port_restarts_as, resets_gsmp, node_resets}
-use Rattle.controller_model.specs.Performing.{does, does_in_estab, resets_of, performs, performs_in_estab, Rule, works_as, works, at_port}
+use Rattle.world_model.specs.Controller.{Acted, Linked, linked_at, ports_of, with_desk, chain_of}
+use Rattle.world_model.specs.Asking.{sends_request, asks_next, asks, takes_back, withdraws_input}
+use Rattle.world_model.specs.Resets.{cuts_of, cuts_label, begins, with_work, closes_by, port_restarts_of, port_restarts, port_restarts_as, resets_gsmp, node_resets}
+use Rattle.world_model.specs.Performing.{does, does_in_estab, resets_of, performs, performs_in_estab, Rule, works_as, works, at_port}
 use Rattle.controller_facts.proofs.Moves.{HasPorts, Found, Worked, by_reset, asking, withdrawing, placing, moves_to, moves_ports, found_setup, found_at_own, begun, worked_kept}
 use Rattle.controller_facts.proofs.Performing.{node_resets_goes, cuts_label_goes}
 use Rattle.controller_facts.proofs.Joining.{every_filter}

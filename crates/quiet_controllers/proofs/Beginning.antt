@@ -3,9 +3,9 @@
 use Rattle.std.proofs.Common.{◌≡◌, ◌≢◌, ℕ, zero, suc, ◌<◌, ◌≤◌, List, [], ◌∷◌, length, refl, sym, ◌∙◌, subst, arith, Contains, slice_index_or, ◌⊎◌, inl, inr}
 use Rattle.net_types.specs.declared.channel.End.{End}
 use Rattle.ordered_lists.specs.Ordered.{Every}
-use Rattle.desk_model.specs.Desk.{Standing}
+use Rattle.port_model.specs.Desk.{Standing}
 use Rattle.port_model.specs.Setup.{Setup}
-use Rattle.controller_model.specs.Controller.{Acted}
+use Rattle.world_model.specs.Controller.{Acted}
 use Rattle.quiet_controllers.specs.Quiet.{IsFine, IsMeant, waited, fresh, carries, elsewhere, IsQuiet}
 use Rattle.quiet_controllers.specs.Law.{IsAtWork, Asks, by_desk, by_cell, PacketsAskNothing}
 

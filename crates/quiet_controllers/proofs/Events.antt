@@ -42,7 +42,7 @@ use Rattle.refusal_names.specs.Names.{encaps_refusal, packet_refusal, ifmp_refus
 use Rattle.frame_model.specs.Frame.{octets_of, last_mark, payload_in, passed, tested_by, next_mark}
 use Rattle.frame_model.specs.Reassembly.{Reassembly, Taken, taken, marks_of, broken, most_cells, passed_over, without_slot, too_long, joined}
 use Rattle.ordered_lists.specs.Ordered.{Every}
-use Rattle.desk_model.specs.Desk.{Standing, sent_again, last_transaction}
+use Rattle.port_model.specs.Desk.{Standing, sent_again, last_transaction}
 use Rattle.port_model.specs.Setup.{Setup, control_end}
 use Rattle.port_model.specs.Labels.{Label, is_bound}
 use Rattle.port_model.specs.Grants.{Grant}
@@ -54,15 +54,15 @@ use Rattle.port_facts.specs.Port.{IsShaped, Lives}
 use Rattle.port_facts.proofs.Keyed.{on_both, on_each}
 use Rattle.port_facts.proofs.Rules.{used_goes, counts_goes}
 use Rattle.port_facts.proofs.Hearings.{hears_goes, ticks_goes}
-use Rattle.controller_model.specs.Controller.{Acted, Linked, free_slots, linked_at, ports_of, note, default_channel, default_home}
-use Rattle.controller_model.specs.Sending.{sends, sends_control}
-use Rattle.controller_model.specs.Asking.{sends_request}
-use Rattle.controller_model.specs.Resets.{cuts_default_of, cuts_default, cuts_gsmp, node_resets, node_restarts}
-use Rattle.controller_model.specs.Joins.{inputs_at, tries_joins}
-use Rattle.controller_model.specs.Gsmp.{steps}
-use Rattle.controller_model.specs.Packets.{is_control, sends_next, goes_by, grant_by, forwarded, routes, injected, control_protocol}
-use Rattle.controller_model.specs.Cells.{Taker, ForGsmp, ForDefault, ForLabel, port_on, on_link, same_channel, label_taker, taker_at, taker_of, reassembly_of, with_reassembly, label_holds, ifmp_holds, counted_at, packet_holds, default_holds, frame_holds, opened_frame, ends_frame, takes_cell, cell_comes}
-use Rattle.controller_model.specs.Ticks.{sends_again, ticks_port, ticks_ports, ticks_by, ticks}
+use Rattle.world_model.specs.Controller.{Acted, Linked, free_slots, linked_at, ports_of, note, default_channel, default_home}
+use Rattle.world_model.specs.Sending.{sends, sends_control}
+use Rattle.world_model.specs.Asking.{sends_request}
+use Rattle.world_model.specs.Resets.{cuts_default_of, cuts_default, cuts_gsmp, node_resets, node_restarts}
+use Rattle.world_model.specs.Joins.{inputs_at, tries_joins}
+use Rattle.world_model.specs.Gsmp.{steps}
+use Rattle.world_model.specs.Packets.{is_control, sends_next, goes_by, grant_by, forwarded, routes, injected, control_protocol}
+use Rattle.world_model.specs.Cells.{Taker, ForGsmp, ForDefault, ForLabel, port_on, on_link, same_channel, label_taker, taker_at, taker_of, reassembly_of, with_reassembly, label_holds, ifmp_holds, counted_at, packet_holds, default_holds, frame_holds, opened_frame, ends_frame, takes_cell, cell_comes}
+use Rattle.world_model.specs.Ticks.{sends_again, ticks_port, ticks_ports, ticks_by, ticks}
 use Rattle.controller_facts.proofs.Lifetimes.{decoded_lives}
 use Rattle.controller_facts.proofs.Moves.{HasPorts, by_rule, Found, found_at_own, found_port, moves_ports}
 use Rattle.controller_facts.proofs.Performing.{Any, any_ports, node_restarts_goes}

@@ -3,12 +3,12 @@
 use Rattle.std.proofs.Common.{List, ◌⊎◌, inl, inr}
 use Rattle.net_types.specs.declared.channel.End.{End}
 use Rattle.port_model.specs.Setup.{Setup}
-use Rattle.controller_model.specs.Controller.{Acted}
-use Rattle.controller_model.specs.Resets.{node_restarts}
-use Rattle.controller_model.specs.Changes.{change_comes}
-use Rattle.controller_model.specs.Packets.{injected}
-use Rattle.controller_model.specs.Cells.{cell_comes}
-use Rattle.controller_model.specs.Ticks.{ticks}
+use Rattle.world_model.specs.Controller.{Acted}
+use Rattle.world_model.specs.Resets.{node_restarts}
+use Rattle.world_model.specs.Changes.{change_comes}
+use Rattle.world_model.specs.Packets.{injected}
+use Rattle.world_model.specs.Cells.{cell_comes}
+use Rattle.world_model.specs.Ticks.{ticks}
 use Rattle.quiet_controllers.specs.Quiet.{IsQuiet}
 use Rattle.quiet_controllers.specs.Law.{IsAtWork, Asks, AsksNoMore, NoJoin, TickEnters, StaysQuiet}
 use Rattle.quiet_controllers.proofs.Beginning.{begins_quiet, asked_may}

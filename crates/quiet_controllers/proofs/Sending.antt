@@ -23,13 +23,13 @@ use Rattle.frame_model.specs.Frame.{frame_cells, made}
 use Rattle.frame_model.specs.Sending.{Sent}
 use Rattle.ordered_lists.specs.Ordered.{Every}
 use Rattle.ordered_lists.proofs.Every.{every_join, every_map}
-use Rattle.desk_model.specs.Desk.{Desk, Standing, last_transaction}
+use Rattle.port_model.specs.Desk.{Desk, Standing, last_transaction}
 use Rattle.port_model.specs.Setup.{Setup, home_of}
 use Rattle.port_facts.specs.Port.{IsShaped, asks_ports, empties_control, empties_port, opens_input, opens_output, leads_label, leads_grant, joins_label, parts_label, frees_label, MovesNone}
 use Rattle.port_facts.proofs.Keyed.{on_both}
-use Rattle.controller_model.specs.Controller.{Controller, Acted, free_slots, default_channel}
-use Rattle.controller_model.specs.Cells.{same_channel}
-use Rattle.controller_model.specs.Sending.{with_cells, sends, sends_control}
+use Rattle.world_model.specs.Controller.{Controller, Acted, free_slots, default_channel}
+use Rattle.world_model.specs.Cells.{same_channel}
+use Rattle.world_model.specs.Sending.{with_cells, sends, sends_control}
 use Rattle.controller_facts.proofs.Moves.{HasPorts, sending, moves_to, moves_ports}
 use Rattle.world_model.specs.Ways.{gsmp_of, copy_of, copy_under}
 use Rattle.quiet_controllers.specs.Quiet.{May, asked_by, AreRead, IsFine, IsMeant, waited, fresh, carries, elsewhere, AskTheSame, IsQuiet}

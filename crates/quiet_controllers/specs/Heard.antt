@@ -13,9 +13,9 @@ use Rattle.gsmp_wire.specs.declared.message.Message.TheVariants.{AllPorts}
 use Rattle.frame_model.specs.Frame.{octets_of, payload_in}
 use Rattle.frame_model.specs.Reassembly.{taken}
 use Rattle.port_model.specs.Setup.{Setup}
-use Rattle.controller_model.specs.Controller.{Controller, Acted, free_slots}
-use Rattle.controller_model.specs.Packets.{is_control}
-use Rattle.controller_model.specs.Cells.{Taker, ForGsmp, ForDefault, ForLabel, taker_of, reassembly_of}
+use Rattle.world_model.specs.Controller.{Controller, Acted, free_slots}
+use Rattle.world_model.specs.Packets.{is_control}
+use Rattle.world_model.specs.Cells.{Taker, ForGsmp, ForDefault, ForLabel, taker_of, reassembly_of}
 use Rattle.quiet_controllers.specs.Quiet.{AreRead}
 
 abbrev pub RowsAreRead : List Setup → Message → Type 0

@@ -9,16 +9,16 @@ use Rattle.adjacency_table.specs.declared.message.Answer.TheVariants.{Reset}
 use Rattle.adjacency_table.specs.Side.{ticked}
 use Rattle.ipv4_forward.specs.declared.change.RouteChange.{RouteChange}
 use Rattle.ordered_lists.specs.Ordered.{Every}
-use Rattle.desk_model.specs.Desk.{Standing, last_transaction}
+use Rattle.port_model.specs.Desk.{Standing, last_transaction}
 use Rattle.port_model.specs.Setup.{Setup}
-use Rattle.controller_model.specs.Controller.{Acted, default_channel}
-use Rattle.controller_model.specs.Resets.{node_restarts}
-use Rattle.controller_model.specs.Joins.{inputs_at}
-use Rattle.controller_model.specs.Gsmp.{steps}
-use Rattle.controller_model.specs.Changes.{change_comes}
-use Rattle.controller_model.specs.Packets.{injected}
-use Rattle.controller_model.specs.Cells.{same_channel, cell_comes}
-use Rattle.controller_model.specs.Ticks.{sends_again, ticks_ports, ticks}
+use Rattle.world_model.specs.Controller.{Acted, default_channel}
+use Rattle.world_model.specs.Resets.{node_restarts}
+use Rattle.world_model.specs.Joins.{inputs_at}
+use Rattle.world_model.specs.Gsmp.{steps}
+use Rattle.world_model.specs.Changes.{change_comes}
+use Rattle.world_model.specs.Packets.{injected}
+use Rattle.world_model.specs.Cells.{same_channel, cell_comes}
+use Rattle.world_model.specs.Ticks.{sends_again, ticks_ports, ticks}
 use Rattle.controller_facts.specs.Sound.{ArePorts, AreShaped}
 use Rattle.world_model.specs.Ways.{copy_under}
 use Rattle.world_model.specs.Users.{leads}

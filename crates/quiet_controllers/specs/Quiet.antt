@@ -10,14 +10,14 @@ use Rattle.gsmp_wire.specs.declared.rows.PortRow.{PortRow}
 use Rattle.gsmp_wire.specs.Layout.{octets_of}
 use Rattle.link_model.specs.declared.frames.Frame.{Frame}
 use Rattle.ordered_lists.specs.Ordered.{Every}
-use Rattle.desk_model.specs.Desk.{Standing, last_transaction}
-use Rattle.desk_model.specs.Messages.{message_of}
+use Rattle.port_model.specs.Desk.{Standing, last_transaction}
+use Rattle.port_model.specs.Messages.{message_of}
 use Rattle.port_model.specs.Setup.{Setup}
 use Rattle.port_facts.specs.Port.{IsShaped}
 use Rattle.port_model.specs.Labels.{Label}
-use Rattle.controller_model.specs.Controller.{Controller, Acted, default_channel}
-use Rattle.controller_model.specs.Cells.{same_channel}
-use Rattle.controller_model.specs.Joins.{Join, join_for, may_join, label_on, tries_join, output_of}
+use Rattle.world_model.specs.Controller.{Controller, Acted, default_channel}
+use Rattle.world_model.specs.Cells.{same_channel}
+use Rattle.world_model.specs.Joins.{Join, join_for, may_join, label_on, tries_join, output_of}
 use Rattle.controller_facts.specs.Sound.{ArePorts, AreShaped}
 use Rattle.world_model.specs.Ways.{gsmp_of, copy_of, copy_under}
 use Rattle.world_model.specs.Users.{leads}

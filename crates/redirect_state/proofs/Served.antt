@@ -6,7 +6,7 @@ use Rattle.std.specs.List.{AllByRecursion}
 use Rattle.std.specs.Option.{option_map_or}
 use Rattle.flow_ids.specs.declared.flow.FlowId.{FlowId}
 use Rattle.keyed_lists.specs.Keyed.{at}
-use Rattle.desk_model.specs.Desk.{Desk}
+use Rattle.port_model.specs.Desk.{Desk}
 use Rattle.label_book.specs.Book.{Book, IsBook, Rises}
 use Rattle.label_book.proofs.Numbered.{at_here, at_there}
 use Rattle.port_model.specs.declared.action.Action.{Action}

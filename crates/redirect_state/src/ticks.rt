@@ -3,7 +3,7 @@
 
 ghost use Rattle.std.specs.Prelude.{◌≡◌, ◌<◌, ℕ, false, List, length, slice_get, map as map_list, fold, Some, IsTrue, IfOk, OnOk};
 ghost use Rattle.net_types.specs.Label.{is_label_number};
-ghost use Rattle.desk_model.specs.Desk.{Desk as DeskValue};
+ghost use Rattle.port_model.specs.Desk.{Desk as DeskValue};
 ghost use Rattle.label_book.specs.Read.{label_of};
 ghost use Rattle.port_actions.specs.Outlook.{Foresees, Outlook as OutlookValue};
 ghost use Rattle.port_model.specs.declared.action.Action.{Action as ActionValue};

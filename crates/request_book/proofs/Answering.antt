@@ -4,9 +4,9 @@ use Rattle.std.proofs.Common.{◌≡◌, ℕ, ◌==◌, ◌&&◌, Bool, true, fa
 use Rattle.gsmp_wire.specs.declared.message.Message.{Message}
 use Rattle.gsmp_wire.specs.declared.message.Message.TheVariants as messages
 use Rattle.gsmp_wire.specs.declared.rows.PortRow.{PortRow}
-use Rattle.desk_model.specs.Desk.{Desk, Standing}
-use Rattle.desk_model.specs.Answers.{Answered, Head, head_of, is_of_type, answered, outcome, succeeded}
-use Rattle.desk_model.specs.Answers.Answered.{Unknown, Done, Ports, Failed}
+use Rattle.port_model.specs.Desk.{Desk, Standing}
+use Rattle.port_model.specs.DeskAnswers.{Answered, Head, head_of, is_of_type, answered, outcome, succeeded}
+use Rattle.port_model.specs.DeskAnswers.Answered.{Unknown, Done, Ports, Failed}
 use Rattle.branch_desk.specs.Answers.{told}
 use Rattle.branch_desk.specs.declared.answered.Answered.TheVariants as desk
 use Rattle.request_book.proofs.Lists.{found_contains}

@@ -1,6 +1,6 @@
 -- What a book answers, as the definitions of an answer's meaning have it.
 
-use Rattle.desk_model.specs.Answers as meaning
+use Rattle.port_model.specs.DeskAnswers as meaning
 use Rattle.request_book.specs.declared.answer.Answer.{Answer}
 use Rattle.request_book.specs.declared.answer.Answer.TheVariants.{Unknown, Done, Ports, Failed}
 

@@ -5,7 +5,7 @@ use Rattle.net_types.specs.declared.prefix.Addr.{Addr}
 use Rattle.ipv4_forward.specs.Change.{change_fault, changed}
 use Rattle.ipv4_forward.specs.declared.change.RouteChange.{RouteChange}
 use Rattle.ipv4_forward.specs.declared.table.Route.{Route}
-use Rattle.controller_model.specs.Routes.{stays_in}
+use Rattle.world_model.specs.Routes.{stays_in}
 
 -- the table held, the changes that wait in order, whether the first of them is begun, and how many were taken
 pub record Routes : Type 0 where

@@ -2,7 +2,7 @@
 
 ghost use Rattle.std.specs.Prelude.{◌≡◌};
 ghost use Rattle.flow_ids.specs.Parts.{flow_destination};
-ghost use Rattle.controller_model.specs.Routes.{differs, same_next};
+ghost use Rattle.world_model.specs.Routes.{differs, same_next};
 
 use flow_ids::FlowId;
 use ipv4_forward::{Next, RouteChange, Table};

@@ -4,7 +4,7 @@ ghost use Rattle.std.specs.Prelude.{◌≡◌, ◌≢◌, ◌<◌, ◌+◌, ◌^
 ghost use Rattle.flow_ids.specs.Parts.{flow_destination};
 ghost use Rattle.ipv4_forward.specs.Change.{change_fault, changed};
 ghost use Rattle.ipv4_forward.specs.declared.change.RouteChange.{RouteChange as ChangeValue};
-ghost use Rattle.controller_model.specs.Routes.{differs};
+ghost use Rattle.world_model.specs.Routes.{differs};
 ghost use Rattle.route_changes.specs.Routes.{stays};
 
 use crate::differs::{destination_of, differs};

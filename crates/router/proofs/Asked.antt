@@ -15,16 +15,16 @@ use Rattle.gsmp_wire.specs.declared.request.Request.{Request}
 use Rattle.gsmp_wire.specs.declared.request.Request.TheVariants.{DeleteAll}
 use Rattle.gsmp_wire.specs.declared.rows.PortRow.{PortRow}
 use Rattle.adjacency_table.specs.Side.{is_estab}
-use Rattle.desk_model.specs.Messages.{is_up}
-use Rattle.desk_model.specs.Desk.{asked, last_transaction}
+use Rattle.port_model.specs.Messages.{is_up}
+use Rattle.port_model.specs.Desk.{asked, last_transaction}
 use Rattle.port_model.specs.Resets.{restarts}
 use Rattle.port_model.specs.declared.action.Action.{Action}
 use Rattle.port_model.specs.declared.action.Action.TheVariants.{Say, Ask, Note, CutChain, TakeBack, Withdraw, Reset}
-use Rattle.controller_model.specs.Controller.{Acted, Controller, Linked, free_slots, linked_at, ports_of, with_desk}
-use Rattle.controller_model.specs.Sending.{sends, with_cells}
-use Rattle.controller_model.specs.Asking.{asks, asks_next}
-use Rattle.controller_model.specs.Resets.{begins, closes_by, cuts_of, node_resets, port_restarts, port_restarts_of, resets_gsmp, with_work}
-use Rattle.controller_model.specs.Meeting.{default_branches}
+use Rattle.world_model.specs.Controller.{Acted, Controller, Linked, free_slots, linked_at, ports_of, with_desk}
+use Rattle.world_model.specs.Sending.{sends, with_cells}
+use Rattle.world_model.specs.Asking.{asks, asks_next}
+use Rattle.world_model.specs.Resets.{begins, closes_by, cuts_of, node_resets, port_restarts, port_restarts_of, resets_gsmp, with_work}
+use Rattle.world_model.specs.Meeting.{default_branches}
 use Rattle.router.specs.Conditions.{EachCanBeAsked}
 use Rattle.router.specs.Meeting.{emptying, opening}
 

@@ -13,22 +13,22 @@ use Rattle.port_model.specs.Counting.{used, used_label}
 use Rattle.port_state.specs.Engine.{flow_at}
 use Rattle.port_model.specs.Ticks as port_ticks
 use Rattle.adjacency_table.specs.Side.{is_estab}
-use Rattle.desk_model.specs.Messages.{is_up}
+use Rattle.port_model.specs.Messages.{is_up}
 use Rattle.port_model.specs.Saying.{closes, is_spent}
-use Rattle.controller_model.specs.Ticks.{ticks_port}
-use Rattle.controller_model.specs.Joins.{resets_spent}
-use Rattle.controller_model.specs.Meeting.{awaits_nothing, clears_of, clears_port, is_clearing, may_clear}
+use Rattle.world_model.specs.Ticks.{ticks_port}
+use Rattle.world_model.specs.Joins.{resets_spent}
+use Rattle.world_model.specs.Meeting.{awaits_nothing, clears_of, clears_port, is_clearing, may_clear}
 use Rattle.router.specs.Meeting.{CanResetSpent}
 use Rattle.port_model.specs.Resets.{cleared, resets, restarts}
 use Rattle.std.proofs.lemmas.List.{length-map}
 use Rattle.crossbar_model.specs.Channels.{ArePorts, IsLinkPort}
 use Rattle.control_link.specs.Cells.{ControlCells, is_channel, ranges_of}
 use Rattle.control_link.specs.declared.taker.Taker.TheVariants.{Default}
-use Rattle.controller_model.specs.declared.range.PortRange.{PortRange}
-use Rattle.controller_model.specs.Controller as model
-use Rattle.controller_model.specs.Controller.{Acted, Linked, linked_at, with_linked}
-use Rattle.controller_model.specs.Resets.{closes_by, port_restarts, port_restarts_of, resets_gsmp, with_work}
-use Rattle.controller_model.specs.Performing.{Rule, at_port, does_in_estab, performs_in_estab, resets_of, resets_port, works}
+use Rattle.world_model.specs.declared.range.PortRange.{PortRange}
+use Rattle.world_model.specs.Controller as model
+use Rattle.world_model.specs.Controller.{Acted, Linked, linked_at, with_linked}
+use Rattle.world_model.specs.Resets.{closes_by, port_restarts, port_restarts_of, resets_gsmp, with_work}
+use Rattle.world_model.specs.Performing.{Rule, at_port, does_in_estab, performs_in_estab, resets_of, resets_port, works}
 use Rattle.gsmp_client.specs.Client as client
 use Rattle.gsmp_client.specs.Client.{PortEnd, Router, end_key, linked_of}
 use Rattle.keyed_lists.specs.Keyed.{at, put}

@@ -8,9 +8,9 @@ use Rattle.net_types.specs.declared.number.Mark.{Mark}
 use Rattle.net_types.specs.Number.{GivenOut, next_control, with_control}
 use Rattle.frame_model.specs.Frame.{next_mark}
 use Rattle.port_model.specs.Grants.{Grant}
-use Rattle.controller_model.specs.Controller.{Acted}
-use Rattle.controller_model.specs.Packets.{goes_by, is_control, sends_next}
-use Rattle.controller_model.specs.Sending.{sends}
+use Rattle.world_model.specs.Controller.{Acted}
+use Rattle.world_model.specs.Packets.{goes_by, is_control, sends_next}
+use Rattle.world_model.specs.Sending.{sends}
 use Rattle.router.specs.Packets.{granted, payload_by, way_by}
 
 -- the numbers and the mark of a packet's next frame

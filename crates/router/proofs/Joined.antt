@@ -11,8 +11,8 @@ use Rattle.port_model.specs.Joins.{given_back, joined, joins_label, lent, parted
 use Rattle.port_model.specs.Labels.{Label}
 use Rattle.port_model.specs.Port.{Port, label_at}
 use Rattle.port_model.specs.declared.action.Action.{Action}
-use Rattle.controller_model.specs.Controller.{Linked, linked_at}
-use Rattle.controller_model.specs.Performing.{at_port, performs_in_estab}
+use Rattle.world_model.specs.Controller.{Linked, linked_at}
+use Rattle.world_model.specs.Performing.{at_port, performs_in_estab}
 use Rattle.gsmp_client.specs.Client.{PortEnd, linked_of}
 use Rattle.router.specs.Conditions.{CanWork, EachCanBePerformed}
 use Rattle.router.specs.Engine.{HasDone, begun}

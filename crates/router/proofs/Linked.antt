@@ -17,10 +17,10 @@ use Rattle.control_link.specs.Cells as cells
 use Rattle.control_link.specs.Cells.{ControlCells, PortCells, is_channel, ranges_of}
 use Rattle.control_link.specs.declared.taker.Taker.{Taker}
 use Rattle.control_link.specs.declared.taker.Taker.TheVariants.{Default}
-use Rattle.controller_model.specs.declared.range.PortRange.{PortRange}
-use Rattle.controller_model.specs.Controller as model
-use Rattle.controller_model.specs.Controller.{Acted, Linked, linked_at}
-use Rattle.controller_model.specs.Resets.{with_work}
+use Rattle.world_model.specs.declared.range.PortRange.{PortRange}
+use Rattle.world_model.specs.Controller as model
+use Rattle.world_model.specs.Controller.{Acted, Linked, linked_at}
+use Rattle.world_model.specs.Resets.{with_work}
 use Rattle.gsmp_client.specs.Client.{AreOneNode, Client, PortEnd, Router, acted, controller_of, end_key, end_port, linked_of, linked_ports}
 use Rattle.gsmp_client.proofs.Zipped as zipped
 use Rattle.gsmp_client.proofs.Zipped.{At, at_both, nowhere}

@@ -13,10 +13,10 @@ use Rattle.keyed_lists.specs.Keyed.{at}
 use Rattle.control_link.specs.Cells as cells
 use Rattle.control_link.specs.Cells.{ControlCells, PortCells}
 use Rattle.control_link.specs.declared.taker.Taker as control
-use Rattle.controller_model.specs.Controller as model
-use Rattle.controller_model.specs.Controller.{Linked, chain_of, chains_with, linked_at}
-use Rattle.controller_model.specs.Cells as takers
-use Rattle.controller_model.specs.Cells.{Taker, ForGsmp, ForDefault, ForLabel}
+use Rattle.world_model.specs.Controller as model
+use Rattle.world_model.specs.Controller.{Linked, chain_of, chains_with, linked_at}
+use Rattle.world_model.specs.Cells as takers
+use Rattle.world_model.specs.Cells.{Taker, ForGsmp, ForDefault, ForLabel}
 use Rattle.gsmp_client.specs.Client.{AreOneNode, Client, PortEnd, Router, acted, controller_of, end_key, linked_of}
 use Rattle.gsmp_client.proofs.Sums.{free_is}
 use Rattle.gsmp_client.proofs.Zipped as zipped

@@ -13,8 +13,8 @@ use Rattle.control_link.specs.declared.taker.Taker.TheVariants as takers
 use Rattle.port_model.specs.Labels.{Label, is_bound, label_number}
 use Rattle.port_model.specs.Port.{label_at, labels_of}
 use Rattle.port_state.specs.Engine.{bound_flow, flow_at}
-use Rattle.controller_model.specs.Controller.{Linked, default_channel}
-use Rattle.controller_model.specs.Cells.{ForLabel, label_taker, same_channel, taker_at}
+use Rattle.world_model.specs.Controller.{Linked, default_channel}
+use Rattle.world_model.specs.Cells.{ForLabel, label_taker, same_channel, taker_at}
 use Rattle.gsmp_client.proofs.Zipped.{key_of_found}
 use Rattle.router.specs.Cells.{channel_of}
 

@@ -5,7 +5,7 @@ use Rattle.std.specs.List.{sum_by}
 use Rattle.std.proofs.lemmas.List.Sums.{sum_by-cons, sum_by_more}
 use Rattle.control_link.specs.Cells.{PortCells}
 use Rattle.control_link.specs.Cells as cells
-use Rattle.controller_model.specs.Controller.{Linked}
+use Rattle.world_model.specs.Controller.{Linked}
 use Rattle.gsmp_client.specs.Client.{PortEnd, linked_of, linked_ports}
 use Rattle.router.specs.Node.{AreLinked, range_of}
 

@@ -7,8 +7,8 @@ use Rattle.control_link.specs.declared.taker.Taker as control
 use Rattle.control_link.specs.declared.taker.Taker.TheVariants.{Gsmp, Default, Label}
 use Rattle.port_model.specs.Labels as labels
 use Rattle.port_model.specs.Port.{label_at}
-use Rattle.controller_model.specs.Controller.{Acted, Controller, Linked, free_slots, linked_at}
-use Rattle.controller_model.specs.Cells.{Taker, ForGsmp, ForDefault, ForLabel, reassembly_of, with_reassembly}
+use Rattle.world_model.specs.Controller.{Acted, Controller, Linked, free_slots, linked_at}
+use Rattle.world_model.specs.Cells.{Taker, ForGsmp, ForDefault, ForLabel, reassembly_of, with_reassembly}
 
 -- its channel
 abbrev pub channel_of : Taker → control.Taker

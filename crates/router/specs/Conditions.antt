@@ -14,7 +14,7 @@ use Rattle.ifmp_wire.specs.Message.{InRange}
 use Rattle.gsmp_wire.specs.declared.request.Request.{Request}
 use Rattle.gsmp_wire.specs.declared.request.Request.TheVariants.{MoveBranch, AllPorts}
 use Rattle.gsmp_wire.specs.declared.message.Message.TheVariants.{Adjacency}
-use Rattle.desk_model.specs.Desk.{empty_desk, is_led_home, last_transaction}
+use Rattle.port_model.specs.Desk.{empty_desk, is_led_home, last_transaction}
 use Rattle.branch_desk.specs.Requests.{has_function}
 use Rattle.control_link.specs.Cells.{is_channel}
 use Rattle.control_link.specs.declared.taker.Taker.TheVariants.{Label}
@@ -23,14 +23,14 @@ use Rattle.port_model.specs.declared.action.Action.TheVariants.{Say, Ask, Note, 
 use Rattle.port_model.specs.Setup.{home_of}
 use Rattle.port_model.specs.Resets.{resets, restarts}
 use Rattle.port_model.specs.Ticks as port_ticks
-use Rattle.controller_model.specs.declared.range.PortRange.{PortRange}
-use Rattle.controller_model.specs.Controller.{Acted, Controller, Linked, linked_at, ports_of, with_desk}
-use Rattle.controller_model.specs.Asking.{asks}
-use Rattle.controller_model.specs.Sending.{says_gsmp}
-use Rattle.controller_model.specs.Ticks.{ticks_port}
-use Rattle.controller_model.specs.Resets.{begins, port_restarts, resets_gsmp, with_work}
+use Rattle.world_model.specs.declared.range.PortRange.{PortRange}
+use Rattle.world_model.specs.Controller.{Acted, Controller, Linked, linked_at, ports_of, with_desk}
+use Rattle.world_model.specs.Asking.{asks}
+use Rattle.world_model.specs.Sending.{says_gsmp}
+use Rattle.world_model.specs.Ticks.{ticks_port}
+use Rattle.world_model.specs.Resets.{begins, port_restarts, resets_gsmp, with_work}
 use Rattle.router.specs.Node.{linked_range}
-use Rattle.controller_model.specs.Performing.{Rule, does_in_estab, performs_in_estab}
+use Rattle.world_model.specs.Performing.{Rule, does_in_estab, performs_in_estab}
 
 -- one instance more is left
 abbrev pub HasInstance : Acted → Type 0

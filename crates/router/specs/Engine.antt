@@ -12,7 +12,7 @@ use Rattle.port_model.specs.Labels.{Label, Offered}
 use Rattle.port_model.specs.Grants.{Grant, GrantState, ByController, grant_label, input_of}
 use Rattle.port_model.specs.Port.{Port, Work, label_at}
 use Rattle.port_model.specs.Setup.{Setup}
-use Rattle.controller_model.specs.Opening.{opens_port}
+use Rattle.world_model.specs.Opening.{opens_port}
 use Rattle.gsmp_client.specs.Client.{PortEnd}
 
 -- a port at work that hasn't asked to be reset

@@ -6,13 +6,13 @@ use Rattle.ipv4_forward.specs.declared.change.RouteChange.{RouteChange}
 use Rattle.gsmp_wire.specs.declared.request.Request.{Request}
 use Rattle.gsmp_wire.specs.declared.request.Request.TheVariants.{AddBranch, DeleteAll}
 use Rattle.gsmp_wire.specs.declared.rows.PortRow.{PortRow}
-use Rattle.desk_model.specs.Messages.{is_up}
+use Rattle.port_model.specs.Messages.{is_up}
 use Rattle.adjacency_table.specs.Side.{is_estab}
 use Rattle.port_model.specs.Answers.{done as answer_done}
 use Rattle.port_model.specs.Saying.{is_spent}
-use Rattle.controller_model.specs.Controller.{Acted, Linked, default_end, default_home, linked_at}
-use Rattle.controller_model.specs.Joins.{resets_spent}
-use Rattle.controller_model.specs.Meeting.{default_branches, has_emptied, port_of, up_ports}
+use Rattle.world_model.specs.Controller.{Acted, Linked, default_end, default_home, linked_at}
+use Rattle.world_model.specs.Joins.{resets_spent}
+use Rattle.world_model.specs.Meeting.{default_branches, has_emptied, port_of, up_ports}
 use Rattle.router.specs.Conditions.{CanAsk, CanResetPort, CanWork, EachCanBeAsked}
 
 abbrev pub emptying : List PortRow → PortNo → List Request

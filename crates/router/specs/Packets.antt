@@ -10,7 +10,7 @@ use Rattle.flow_encaps.specs.Default.{default_payload}
 use Rattle.flow_encaps.specs.Labelled.{labelled_payload}
 use Rattle.port_model.specs.Setup.{control_end}
 use Rattle.port_model.specs.Grants.{Grant}
-use Rattle.controller_model.specs.Controller.{default_home}
+use Rattle.world_model.specs.Controller.{default_home}
 use Rattle.router.specs.declared.packets.Permit.{Permit}
 
 pub record Named : Type 0 where

@@ -3,8 +3,8 @@
 
 ghost use Rattle.std.specs.Prelude.{◌≡◌, ◌<◌, ◌+◌, ◌^◌, true, OnOk};
 ghost use Rattle.adjacency_table.specs.Side.{is_estab};
-ghost use Rattle.controller_model.specs.Asking.{asks, takes_back};
-ghost use Rattle.controller_model.specs.Ticks.{sends_again};
+ghost use Rattle.world_model.specs.Asking.{asks, takes_back};
+ghost use Rattle.world_model.specs.Ticks.{sends_again};
 ghost use Rattle.router.specs.Conditions.{CanAsk, CanTakeBack};
 ghost use Rattle.router.specs.Node.{acted, ports_in};
 

@@ -5,8 +5,8 @@ ghost use Rattle.std.specs.Prelude.{◌≡◌, ◌≤◌, drop, length, slice_ge
 ghost use Rattle.std.specs.Option.{option_map};
 ghost use Rattle.net_types.specs.Number.{GivenOut};
 ghost use Rattle.control_link.specs.Cells.{is_channel};
-ghost use Rattle.controller_model.specs.Cells.{Taker as TakerValue, same_channel, taker_at, taker_of};
-ghost use Rattle.controller_model.specs.Controller.{default_channel, linked_at};
+ghost use Rattle.world_model.specs.Cells.{Taker as TakerValue, same_channel, taker_at, taker_of};
+ghost use Rattle.world_model.specs.Controller.{default_channel, linked_at};
 ghost use Rattle.router.specs.Cells.{IsFound, channel_of, gathered, receipt};
 ghost use Rattle.router.specs.Node.{acted, controller_of, ranges_in};
 

@@ -6,10 +6,10 @@ ghost use Rattle.net_types.specs.Number.{GivenOut};
 ghost use Rattle.ipv4_forward.specs.Change.{change_fault, changed};
 ghost use Rattle.ipv4_forward.specs.declared.change.RouteChange.{RouteChange as ChangeValue};
 ghost use Rattle.link_model.specs.Notes.{Journal};
-ghost use Rattle.desk_model.specs.Answers.{after_answer, answered};
+ghost use Rattle.port_model.specs.DeskAnswers.{after_answer, answered};
 ghost use Rattle.request_book.specs.Answers.{told};
-ghost use Rattle.controller_model.specs.Changes.{takes_change};
-ghost use Rattle.controller_model.specs.Controller.{with_desk};
+ghost use Rattle.world_model.specs.Changes.{takes_change};
+ghost use Rattle.world_model.specs.Controller.{with_desk};
 ghost use Rattle.router.specs.Meeting.{with_begun, with_change};
 ghost use Rattle.router.specs.Node.{acted};
 

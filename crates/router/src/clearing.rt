@@ -4,10 +4,10 @@
 ghost use Rattle.std.specs.Prelude.{◌≡◌, ◌≤◌, ◌&&◌, ◌==◌, fold, length, OnOk};
 ghost use Rattle.net_types.specs.Number.{GivenOut};
 ghost use Rattle.link_model.specs.Notes.{Journal};
-ghost use Rattle.desk_model.specs.Messages.{is_up};
-ghost use Rattle.controller_model.specs.Controller.{ports_of};
-ghost use Rattle.controller_model.specs.Joins.{resets_spent};
-ghost use Rattle.controller_model.specs.Meeting.{awaits_nothing, clears, clears_port, is_clearing};
+ghost use Rattle.port_model.specs.Messages.{is_up};
+ghost use Rattle.world_model.specs.Controller.{ports_of};
+ghost use Rattle.world_model.specs.Joins.{resets_spent};
+ghost use Rattle.world_model.specs.Meeting.{awaits_nothing, clears, clears_port, is_clearing};
 ghost use Rattle.router.specs.Meeting.{CanResetSpent, EachCanResetSpent};
 ghost use Rattle.router.specs.Node.{acted, controller_of, ports_in};
 

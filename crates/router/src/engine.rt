@@ -1,7 +1,7 @@
 //! What a router asks of the engine of a port, and what opens one.
 
 use branch_desk::{BranchDone, Desk};
-use controller_model::PortRange;
+use world_model::PortRange;
 use flow_ids::FlowId;
 use grant_table::GrantTable;
 use ifmp_wire::Message;
@@ -29,7 +29,7 @@ pub trait PortEngine {
     ghost use Rattle.port_model.specs.Resets.{cleared, resets, restarts};
     ghost use Rattle.port_model.specs.Saying.{is_spent};
     ghost use Rattle.port_model.specs.Ticks.{ticks};
-    ghost use Rattle.controller_model.specs.Meeting.{is_clearing};
+    ghost use Rattle.world_model.specs.Meeting.{is_clearing};
     ghost use Rattle.port_state.specs.Engine.{flow_at};
     ghost use Rattle.gsmp_client.specs.Client.{PortEnd};
     ghost use Rattle.router.specs.Engine.{CanBeDone, HasDone, IsFree, IsReleased, IsSentUnder, begun};
@@ -164,7 +164,7 @@ pub trait OpenEngine: PortEngine {
     ghost use Rattle.net_types.specs.Label.{is_label_number};
     ghost use Rattle.port_model.specs.Setup.{Policy as Rule};
     ghost use Rattle.port_state.specs.Engine.{AreTimes};
-    ghost use Rattle.controller_model.specs.Opening.{setup_of};
+    ghost use Rattle.world_model.specs.Opening.{setup_of};
     ghost use Rattle.router.specs.Engine.{opened_end};
 
     /// The policy of a port: which flows are offered a label, and which keep it.

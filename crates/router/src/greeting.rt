@@ -6,9 +6,9 @@ ghost use Rattle.link_model.specs.Notes.{Journal};
 ghost use Rattle.adjacency_table.specs.Greeting.{gsmp_answer, gsmp_received};
 ghost use Rattle.adjacency_table.specs.Side.{ticked};
 ghost use Rattle.gsmp_wire.specs.declared.message.Message.TheVariants as messages;
-ghost use Rattle.controller_model.specs.Gsmp.{answers, steps};
-ghost use Rattle.controller_model.specs.Meeting.{meets};
-ghost use Rattle.controller_model.specs.Sending.{says_gsmp};
+ghost use Rattle.world_model.specs.Gsmp.{answers, steps};
+ghost use Rattle.world_model.specs.Meeting.{meets};
+ghost use Rattle.world_model.specs.Sending.{says_gsmp};
 ghost use Rattle.router.specs.Conditions.{CanFollow, CanMeet, HasMark, turned_to};
 ghost use Rattle.router.specs.Node.{acted, ports_in};
 

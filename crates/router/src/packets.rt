@@ -15,9 +15,9 @@ ghost use Rattle.flow_ids.specs.Flow.{flow_of, kind_of};
 ghost use Rattle.frame_model.specs.Frame.{next_mark};
 ghost use Rattle.port_model.specs.Grants.{grant_matching, grant_of_kind};
 ghost use Rattle.port_model.specs.Setup.{control_end};
-ghost use Rattle.controller_model.specs.Controller.{default_home};
-ghost use Rattle.controller_model.specs.Packets.{forwarded, grant_by, injected, is_control, routes};
-ghost use Rattle.controller_model.specs.Sending.{sends};
+ghost use Rattle.world_model.specs.Controller.{default_home};
+ghost use Rattle.world_model.specs.Packets.{forwarded, grant_by, injected, is_control, routes};
+ghost use Rattle.world_model.specs.Sending.{sends};
 ghost use Rattle.router.specs.Node.{acted, controller_of};
 ghost use Rattle.router.specs.Packets.{granted, payload_by, shown, way_by};
 

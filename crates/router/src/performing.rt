@@ -3,7 +3,7 @@
 
 ghost use Rattle.std.specs.Prelude.{◌≡◌, fold, true, OnOk};
 ghost use Rattle.adjacency_table.specs.Side.{is_estab};
-ghost use Rattle.controller_model.specs.Performing.{does, does_in_estab, performs, performs_in_estab, resets_port};
+ghost use Rattle.world_model.specs.Performing.{does, does_in_estab, performs, performs_in_estab, resets_port};
 ghost use Rattle.router.specs.Conditions.{CanDo, CanPerform, CanResetPort, EachCanBeDone, EachCanBePerformed};
 ghost use Rattle.router.specs.Node.{acted, ports_in};
 

@@ -9,7 +9,7 @@ ghost use Rattle.label_book.specs.Read.{label_of};
 ghost use Rattle.port_model.specs.Port.{label_at, labels_of};
 ghost use Rattle.port_model.specs.Redirection.{greatest_tally};
 ghost use Rattle.port_state.specs.Engine.{flow_at};
-ghost use Rattle.controller_model.specs.Controller.{free_slots, linked_at, redirects_of};
+ghost use Rattle.world_model.specs.Controller.{free_slots, linked_at, redirects_of};
 ghost use Rattle.router.specs.Node.{controller_of, end_at, end_of};
 
 use crate::engine::PortEngine;

@@ -4,8 +4,8 @@
 ghost use Rattle.std.specs.Prelude.{◌≡◌, ◌<◌, ◌+◌, ◌^◌, fold, length, OnOk};
 ghost use Rattle.net_types.specs.Number.{GivenOut};
 ghost use Rattle.link_model.specs.Notes.{Journal};
-ghost use Rattle.controller_model.specs.Controller.{ports_of};
-ghost use Rattle.controller_model.specs.Resets.{closes_by, cuts_default, node_resets, node_restarts, port_restarts, resets_gsmp};
+ghost use Rattle.world_model.specs.Controller.{ports_of};
+ghost use Rattle.world_model.specs.Resets.{closes_by, cuts_default, node_resets, node_restarts, port_restarts, resets_gsmp};
 ghost use Rattle.router.specs.Conditions.{AllCanClose, CanClose, CanResetNode, CanRestart};
 ghost use Rattle.router.specs.Node.{acted, controller_of, ports_in, ranges_in};
 

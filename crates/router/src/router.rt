@@ -2,7 +2,7 @@
 
 ghost use Rattle.std.specs.Prelude.{◌≡◌, ◌<◌, ◌≤◌, [], length, slice_index_or, IfSome, IfNone, None};
 ghost use Rattle.net_types.specs.declared.node.PortNo.{PortNo as PortValue};
-ghost use Rattle.controller_model.specs.Controller.{ports_of};
+ghost use Rattle.world_model.specs.Controller.{ports_of};
 ghost use Rattle.crossbar_model.specs.Channels.{ArePorts};
 ghost use Rattle.router.specs.Node.{IsPlaceOf, controller_of, end_at, ports_in};
 

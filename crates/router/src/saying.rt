@@ -5,8 +5,8 @@ ghost use Rattle.net_types.specs.Number.{GivenOut};
 ghost use Rattle.ifmp_wire.specs.Message.{InRange};
 ghost use Rattle.control_link.specs.Cells.{is_channel};
 ghost use Rattle.control_link.specs.declared.taker.Taker.TheVariants.{Default, Label};
-ghost use Rattle.controller_model.specs.Resets.{cuts_default, cuts_gsmp, cuts_label};
-ghost use Rattle.controller_model.specs.Sending.{says_ifmp, sends};
+ghost use Rattle.world_model.specs.Resets.{cuts_default, cuts_gsmp, cuts_label};
+ghost use Rattle.world_model.specs.Sending.{says_ifmp, sends};
 ghost use Rattle.router.specs.Conditions.{CanSay};
 ghost use Rattle.router.specs.Node.{acted, ranges_in};
 

@@ -5,7 +5,7 @@ ghost use Rattle.std.specs.Option.{option_map_or};
 ghost use Rattle.port_model.specs.Port.{label_at};
 
 use branch_desk::{BranchDone, Desk};
-use controller_model::PortRange;
+use world_model::PortRange;
 use flow_classifier::Policy;
 use flow_ids::FlowId;
 use grant_table::GrantTable;

@@ -12,10 +12,10 @@ use Rattle.ordered_lists.specs.Ordered.{Every}
 use Rattle.keyed_lists.specs.Keyed.{at}
 use Rattle.port_facts.proofs.Keyed.{on_both, at_key, at_every, put_every}
 use Rattle.port_model.specs.Setup.{Setup}
-use Rattle.switch_model.specs.Switch as switches
-use Rattle.switch_model.specs.Switch.{control_port}
-use Rattle.controller_model.specs.Controller.{Controller, Acted, free_slots}
-use Rattle.controller_model.specs.Sending.{with_cells, sends_control}
+use Rattle.world_model.specs.Switch as switches
+use Rattle.world_model.specs.Switch.{control_port}
+use Rattle.world_model.specs.Controller.{Controller, Acted, free_slots}
+use Rattle.world_model.specs.Sending.{with_cells, sends_control}
 use Rattle.std.specs.Prelude.{nat_le}
 use Rattle.net_types.specs.declared.number.Mark.{Mark}
 use Rattle.frame_model.specs.Sending.{Sent}
@@ -25,7 +25,7 @@ use Rattle.controller_facts.specs.Inputs.{Input, takes_input}
 use Rattle.controller_facts.specs.Sound.{IsSound, IsOwn, setups_by}
 use Rattle.controller_facts.proofs.Laws.{always_sound, input_draws, input_draws_marks}
 use Rattle.std.proofs.lemmas.List.{length-map}
-use Rattle.controller_model.specs.Opening.{setup_of}
+use Rattle.world_model.specs.Opening.{setup_of}
 use Rattle.run_facts.specs.Inputs.{SwitchInput, switch_takes}
 use Rattle.run_facts.specs.Frames.{IsFree}
 use Rattle.run_facts.proofs.Switches as switching

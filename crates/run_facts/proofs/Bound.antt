@@ -10,7 +10,7 @@ use Rattle.link_model.specs.Notes.{Journal}
 use Rattle.ordered_lists.specs.Ordered.{Every}
 use Rattle.keyed_lists.specs.Keyed.{at}
 use Rattle.port_model.specs.Setup.{Policy}
-use Rattle.controller_model.specs.Controller.{Controller, Acted}
+use Rattle.world_model.specs.Controller.{Controller, Acted}
 use Rattle.controller_facts.specs.Inputs.{Input, Meanwhile, takes_input, takes_inputs}
 use Rattle.controller_facts.specs.Sound.{IsOwn, Opening, opened_by}
 use Rattle.controller_bindings.specs.Bindings as bindings

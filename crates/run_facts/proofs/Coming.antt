@@ -33,10 +33,10 @@ use Rattle.port_model.specs.Grants.{Grant}
 use Rattle.port_model.specs.Hearing.{hears}
 use Rattle.port_model.specs.Counting.{counts, used}
 use Rattle.port_facts.proofs.Keyed.{on_both, on_each}
-use Rattle.controller_model.specs.Controller.{Acted, Linked, free_slots, chain_of, chains_with, default_channel, default_home}
-use Rattle.controller_model.specs.Sending.{sends, sends_control}
-use Rattle.controller_model.specs.Packets.{is_control, sends_next, goes_by, grant_by, forwarded, routes, control_protocol}
-use Rattle.controller_model.specs.Cells.{Taker, ForGsmp, ForDefault, ForLabel, taker_of, reassembly_of, with_reassembly, label_holds, ifmp_holds, counted_at, packet_holds, default_holds, frame_holds, opened_frame, ends_frame, takes_cell, cell_comes, same_channel}
+use Rattle.world_model.specs.Controller.{Acted, Linked, free_slots, chain_of, chains_with, default_channel, default_home}
+use Rattle.world_model.specs.Sending.{sends, sends_control}
+use Rattle.world_model.specs.Packets.{is_control, sends_next, goes_by, grant_by, forwarded, routes, control_protocol}
+use Rattle.world_model.specs.Cells.{Taker, ForGsmp, ForDefault, ForLabel, taker_of, reassembly_of, with_reassembly, label_holds, ifmp_holds, counted_at, packet_holds, default_holds, frame_holds, opened_frame, ends_frame, takes_cell, cell_comes, same_channel}
 use Rattle.run_facts.proofs.Taking.{taken_frames, tested_frames, taken_chain, ended_by_last}
 use Rattle.run_facts.proofs.Takers.{gsmp_of, taker_at_port}
 use Rattle.actor_pace.proofs.Cells.{ended_last}

@@ -25,10 +25,10 @@ use Rattle.frame_model.specs.Sending.{Sent}
 use Rattle.ordered_lists.specs.Ordered.{Every}
 use Rattle.ordered_lists.proofs.Every.{every_join, every_map, every_mapped, every_all}
 use Rattle.port_facts.proofs.Keyed.{on_both}
-use Rattle.controller_model.specs.Controller.{Controller, Acted, Linked, free_slots, default_home, default_channel}
-use Rattle.controller_model.specs.Cells.{ForDefault, taker_of, same_channel}
-use Rattle.controller_model.specs.Sending.{with_cells, sends, sends_control}
-use Rattle.controller_model.specs.Packets.{is_control, inject_refusal}
+use Rattle.world_model.specs.Controller.{Controller, Acted, Linked, free_slots, default_home, default_channel}
+use Rattle.world_model.specs.Cells.{ForDefault, taker_of, same_channel}
+use Rattle.world_model.specs.Sending.{with_cells, sends, sends_control}
+use Rattle.world_model.specs.Packets.{is_control, inject_refusal}
 use Rattle.controller_facts.specs.Inputs.{Input, CellComes, PacketEnters, Ticks, Restarts, ChangeComes, FrameIsForged, CellLeaves, Meanwhile, enters_unless, takes_input}
 use Rattle.controller_facts.proofs.Joining.{every_filter}
 use Rattle.actor_pace.proofs.Cells.{every_drop}

@@ -34,18 +34,18 @@ use Rattle.port_facts.proofs.Keyed.{on_both, on_each}
 use Rattle.crossbar_model.specs.declared.routed.Routed.{Routed}
 use Rattle.crossbar_model.specs.declared.routed.Routed.TheVariants as routes_of
 use Rattle.crossbar_model.specs.Crossbar.{routed}
-use Rattle.switch_model.specs.declared.request.Asked.{Asked}
-use Rattle.switch_model.specs.declared.request.Failure.{Failure}
-use Rattle.switch_model.specs.Switch as switches
-use Rattle.switch_model.specs.Switch.{Switch, control_port, gsmp_channel}
-use Rattle.switch_model.specs.Requests.{asked_in, is_request}
-use Rattle.switch_model.specs.Failures.{failure_of}
-use Rattle.switch_model.specs.Answers.{handled, handled_asked, handled_by}
-use Rattle.switch_model.specs.Conduct as switch
-use Rattle.controller_model.specs.Controller.{Controller, Acted, Linked, free_slots, default_channel}
-use Rattle.controller_model.specs.Cells.{same_channel}
-use Rattle.controller_model.specs.Packets.{inject_refusal}
-use Rattle.controller_model.specs.Sending.{with_cells, sends, sends_control}
+use Rattle.world_model.specs.declared.request.Asked.{Asked}
+use Rattle.world_model.specs.declared.request.Failure.{Failure}
+use Rattle.world_model.specs.Switch as switches
+use Rattle.world_model.specs.Switch.{Switch, control_port, gsmp_channel}
+use Rattle.world_model.specs.Requests.{asked_in, is_request}
+use Rattle.world_model.specs.Failures.{failure_of}
+use Rattle.world_model.specs.Answers.{handled, handled_asked, handled_by}
+use Rattle.world_model.specs.Conduct as switch
+use Rattle.world_model.specs.Controller.{Controller, Acted, Linked, free_slots, default_channel}
+use Rattle.world_model.specs.Cells.{same_channel}
+use Rattle.world_model.specs.Packets.{inject_refusal}
+use Rattle.world_model.specs.Sending.{with_cells, sends, sends_control}
 use Rattle.controller_facts.specs.Inputs.{Input, CellComes, PacketEnters, Ticks, Restarts, ChangeComes, FrameIsForged, CellLeaves, Meanwhile, enters_unless, takes_input}
 use Rattle.run_facts.specs.Inputs as turns
 use Rattle.run_facts.specs.Inputs.{SwitchInput, switch_takes}

@@ -19,16 +19,16 @@ use Rattle.link_model.specs.Ledger.{payload_of}
 use Rattle.link_model.specs.Notes.{Journal}
 use Rattle.frame_model.specs.Frame.{next_mark}
 use Rattle.port_model.specs.Setup.{Policy}
-use Rattle.switch_model.specs.Switch as switches
-use Rattle.switch_model.specs.Switch.{control_port}
-use Rattle.switch_model.specs.Conduct as switch
-use Rattle.controller_model.specs.Controller.{Acted}
-use Rattle.controller_model.specs.Packets.{is_control, inject_refusal, injected}
-use Rattle.controller_model.specs.Sending.{sends}
-use Rattle.controller_model.specs.Cells as controller
-use Rattle.controller_model.specs.Ticks as controller_ticks
-use Rattle.controller_model.specs.Resets.{node_restarts}
-use Rattle.controller_model.specs.Changes.{change_comes}
+use Rattle.world_model.specs.Switch as switches
+use Rattle.world_model.specs.Switch.{control_port}
+use Rattle.world_model.specs.Conduct as switch
+use Rattle.world_model.specs.Controller.{Acted}
+use Rattle.world_model.specs.Packets.{is_control, inject_refusal, injected}
+use Rattle.world_model.specs.Sending.{sends}
+use Rattle.world_model.specs.Cells as controller
+use Rattle.world_model.specs.Ticks as controller_ticks
+use Rattle.world_model.specs.Resets.{node_restarts}
+use Rattle.world_model.specs.Changes.{change_comes}
 use Rattle.controller_facts.specs.Inputs.{Input, CellComes, PacketEnters, Ticks, Restarts, ChangeComes, enters_unless, takes_input}
 use Rattle.run_facts.specs.Inputs as turns
 use Rattle.run_facts.specs.Inputs.{SwitchInput, switch_takes}

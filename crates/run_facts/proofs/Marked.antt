@@ -14,8 +14,8 @@ use Rattle.ordered_lists.specs.Ordered.{Every}
 use Rattle.ordered_lists.proofs.Every.{every_map}
 use Rattle.keyed_lists.specs.Keyed.{at, put}
 use Rattle.port_facts.proofs.Keyed.{by_eq, at_key, at_every, at_put_same, at_put_other, put_every}
-use Rattle.controller_model.specs.Controller.{Linked, linked_at, default_home}
-use Rattle.controller_model.specs.Cells.{same_channel}
+use Rattle.world_model.specs.Controller.{Linked, linked_at, default_home}
+use Rattle.world_model.specs.Cells.{same_channel}
 use Rattle.actor_pace.proofs.Cells.{every_at, every_set}
 use Rattle.run_facts.specs.Inputs.{IsMarked}
 use Rattle.run_facts.specs.Frames.{IsFree}

@@ -14,17 +14,17 @@ use Rattle.ipv4_forward.specs.declared.table.Route.{Route}
 use Rattle.link_model.specs.declared.record.Record.{Record}
 use Rattle.ordered_lists.specs.Ordered.{Every}
 use Rattle.ordered_lists.proofs.Every.{every_join, every_map, every_mapped}
-use Rattle.switch_model.specs.Switch.{control_port}
+use Rattle.world_model.specs.Switch.{control_port}
 use Rattle.crossbar_model.specs.Channels.{IsLinkPort, ArePorts}
 use Rattle.port_facts.proofs.Keyed.{at_every}
 use Rattle.port_facts.specs.Port.{IsRanged}
 use Rattle.port_widths.specs.Widths.{FitsSetup}
 use Rattle.port_model.specs.Setup.{Policy, Setup}
 use Rattle.port_model.specs.Port.{labels_of}
-use Rattle.controller_model.specs.declared.range.PortRange.{PortRange}
-use Rattle.controller_model.specs.Controller.{Controller, Acted, Linked, linked_at}
-use Rattle.controller_model.specs.Joins.{joins_of}
-use Rattle.controller_model.specs.Opening.{setup_of}
+use Rattle.world_model.specs.declared.range.PortRange.{PortRange}
+use Rattle.world_model.specs.Controller.{Controller, Acted, Linked, linked_at}
+use Rattle.world_model.specs.Joins.{joins_of}
+use Rattle.world_model.specs.Opening.{setup_of}
 use Rattle.controller_facts.specs.Inputs.{takes_inputs}
 use Rattle.controller_facts.specs.Sound.{IsSound, Opening, opened_by, setups_by}
 use Rattle.controller_facts.specs.Said.{HasFlowingPorts}

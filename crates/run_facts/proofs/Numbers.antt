@@ -13,8 +13,8 @@ use Rattle.ordered_lists.proofs.InOrder.{order_unmapped}
 use Rattle.keyed_lists.specs.Keyed.{at}
 use Rattle.port_facts.proofs.Keyed.{at_every, at_key, each_found}
 use Rattle.port_model.specs.Setup.{Policy}
-use Rattle.controller_model.specs.Controller.{Controller, Linked, linked_at, port_key, default_home}
-use Rattle.controller_model.specs.Cells.{same_channel}
+use Rattle.world_model.specs.Controller.{Controller, Linked, linked_at, port_key, default_home}
+use Rattle.world_model.specs.Cells.{same_channel}
 use Rattle.controller_facts.specs.Sound.{IsSound, AreApart, linked_setup, setups_by}
 use Rattle.controller_facts.proofs.Laws.{always_sound}
 use Rattle.run_facts.specs.Inputs.{IsMarked}

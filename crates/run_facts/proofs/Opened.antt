@@ -13,7 +13,7 @@ use Rattle.crossbar_model.specs.Channels.{IsLinkPort}
 use Rattle.ordered_lists.specs.Ordered.{Every, InOrder}
 use Rattle.port_model.specs.Setup.{Policy}
 use Rattle.port_facts.proofs.Keyed.{on_both}
-use Rattle.controller_model.specs.declared.range.PortRange.{PortRange}
+use Rattle.world_model.specs.declared.range.PortRange.{PortRange}
 use Rattle.std.specs.Prelude.{nat_le}
 use Rattle.net_types.specs.declared.prefix.Addr.{Addr}
 use Rattle.net_types.specs.declared.channel.Channel.{Channel}
@@ -25,8 +25,8 @@ use Rattle.link_model.specs.Notes.{noted}
 use Rattle.frame_model.specs.Sending.{Sent}
 use Rattle.frame_model.specs.Frame.{frame_cells, made}
 use Rattle.port_model.specs.Setup.{Setup}
-use Rattle.controller_model.specs.Controller.{Controller, Acted, free_slots}
-use Rattle.controller_model.specs.Sending.{with_cells, sends}
+use Rattle.world_model.specs.Controller.{Controller, Acted, free_slots}
+use Rattle.world_model.specs.Sending.{with_cells, sends}
 use Rattle.controller_facts.specs.Inputs.{Input, CellComes, PacketEnters, Ticks, Restarts, ChangeComes, FrameIsForged, CellLeaves, Meanwhile, takes_input, takes_inputs}
 use Rattle.controller_facts.specs.Sound.{IsSound, IsOwn, Opening, DifferInPort, opened_by, setups_by}
 use Rattle.controller_facts.proofs.Moves.{Move, noting, taking_notes, sending, sending_control, asking, withdrawing, answering, meeting, ending_meeting, turning, placing, clearing, gathering, chaining, routing, popping, moves_keep}

@@ -12,10 +12,10 @@ use Rattle.keyed_lists.specs.Keyed.{at}
 use Rattle.port_facts.proofs.Keyed.{by_eq, at_every}
 use Rattle.atm_cells.specs.declared.cell.Cell.{Cell}
 use Rattle.port_model.specs.Setup.{Policy, Setup}
-use Rattle.controller_model.specs.declared.range.PortRange.{PortRange}
-use Rattle.controller_model.specs.Controller.{Linked, port_key, default_home}
-use Rattle.controller_model.specs.Cells.{same_channel}
-use Rattle.controller_model.specs.Opening.{setup_of, opens_port, opens_ports}
+use Rattle.world_model.specs.declared.range.PortRange.{PortRange}
+use Rattle.world_model.specs.Controller.{Linked, port_key, default_home}
+use Rattle.world_model.specs.Cells.{same_channel}
+use Rattle.world_model.specs.Opening.{setup_of, opens_port, opens_ports}
 use Rattle.run_facts.specs.Inputs.{IsMarked}
 use Rattle.run_facts.proofs.Owns.{own_in, port_own}
 use Rattle.run_facts.proofs.Controllers.{Table}

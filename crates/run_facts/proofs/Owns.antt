@@ -15,15 +15,15 @@ use Rattle.link_model.specs.Notes.{noted}
 use Rattle.frame_model.specs.Sending.{Sent}
 use Rattle.frame_model.specs.Frame.{frame_cells, made}
 use Rattle.keyed_lists.specs.Keyed.{at, put}
-use Rattle.desk_model.specs.Desk.{Desk}
+use Rattle.port_model.specs.Desk.{Desk}
 use Rattle.port_model.specs.Setup.{Setup}
 use Rattle.port_model.specs.Port.{Work}
 use Rattle.port_model.specs.Resets.{cleared}
 use Rattle.port_facts.proofs.Keyed.{on_both, by_eq, at_put_same, at_put_other}
 use Rattle.port_facts.proofs.Instances.{goes_gave, closes_gave, parted_gave, joined_gave, lent_gave, given_back_gave}
-use Rattle.controller_model.specs.Controller.{Controller, Acted, Linked, port_key, free_slots}
-use Rattle.controller_model.specs.Sending.{with_cells, sends}
-use Rattle.controller_model.specs.Resets.{begins, with_work, resets_gsmp}
+use Rattle.world_model.specs.Controller.{Controller, Acted, Linked, port_key, free_slots}
+use Rattle.world_model.specs.Sending.{with_cells, sends}
+use Rattle.world_model.specs.Resets.{begins, with_work, resets_gsmp}
 use Rattle.controller_facts.specs.Inputs.{Input, takes_input}
 use Rattle.controller_facts.specs.Sound.{IsSound, IsOwn}
 use Rattle.controller_facts.proofs.Moves.{IsGsmpTurn, hears, ages, Worked, by_rule, by_closing, by_reset, by_restart, by_parting, by_joining, by_lending, by_giving_back, Move, noting, taking_notes, sending, sending_control, asking, withdrawing, answering, meeting, ending_meeting, turning, placing, clearing, gathering, chaining, routing, popping, moves_keep}

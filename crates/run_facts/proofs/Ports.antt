@@ -8,7 +8,7 @@ use Rattle.net_types.specs.declared.node.NodeId.{NodeId}
 use Rattle.net_types.specs.declared.node.PortNo.{PortNo}
 use Rattle.keyed_lists.specs.Keyed.{at}
 use Rattle.port_facts.proofs.Keyed.{by_eq}
-use Rattle.controller_model.specs.Controller.{Controller, Linked, port_key, ports_of}
+use Rattle.world_model.specs.Controller.{Controller, Linked, port_key, ports_of}
 use Rattle.world_model.specs.Topology as topologies
 use Rattle.world_model.specs.Topology.{Topology, peer_of}
 use Rattle.world_model.specs.Lines.{is_linked}

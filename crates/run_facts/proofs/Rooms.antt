@@ -12,9 +12,9 @@ use Rattle.net_types.specs.Number.{GivenOut, next_instance}
 use Rattle.ordered_lists.specs.Ordered.{Every}
 use Rattle.keyed_lists.specs.Keyed.{at}
 use Rattle.port_facts.proofs.Keyed.{by_eq}
-use Rattle.switch_model.specs.Switch.{control_port, numbers_of, begun}
+use Rattle.world_model.specs.Switch.{control_port, numbers_of, begun}
 use Rattle.port_model.specs.Setup.{Policy}
-use Rattle.controller_model.specs.Opening.{after_opening}
+use Rattle.world_model.specs.Opening.{after_opening}
 use Rattle.actor_pace.specs.Pace.{IsUpTo}
 use Rattle.world_model.specs.declared.event.Event.{Event}
 use Rattle.world_model.specs.Topology as topologies

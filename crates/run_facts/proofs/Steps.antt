@@ -11,17 +11,17 @@ use Rattle.ipv4_packet.specs.Packet.{destination_of}
 use Rattle.link_model.specs.declared.record.Refusal.{Refusal}
 use Rattle.port_model.specs.Setup.{Policy}
 use Rattle.run_model.specs.Fates.{Fate}
-use Rattle.switch_model.specs.Switch as switches
-use Rattle.controller_model.specs.Controller as controllers
-use Rattle.controller_model.specs.Packets.{inject_refusal}
-use Rattle.controller_model.specs.Ticks.{ticks}
-use Rattle.switch_model.specs.Conduct.{tick_comes, restarted, forged}
-use Rattle.controller_model.specs.Resets.{node_restarts}
+use Rattle.world_model.specs.Switch as switches
+use Rattle.world_model.specs.Controller as controllers
+use Rattle.world_model.specs.Packets.{inject_refusal}
+use Rattle.world_model.specs.Ticks.{ticks}
+use Rattle.world_model.specs.Conduct.{tick_comes, restarted, forged}
+use Rattle.world_model.specs.Resets.{node_restarts}
 use Rattle.link_model.specs.declared.record.Record.TheVariants.{Forged}
 use Rattle.net_types.specs.Number.{next_control, with_control}
-use Rattle.controller_model.specs.Sending.{sends}
-use Rattle.switch_model.specs.Switch.{control_port}
-use Rattle.controller_model.specs.Changes.{change_comes}
+use Rattle.world_model.specs.Sending.{sends}
+use Rattle.world_model.specs.Switch.{control_port}
+use Rattle.world_model.specs.Changes.{change_comes}
 use Rattle.world_model.specs.declared.event.Event.{Event}
 use Rattle.world_model.specs.declared.event.Event.TheVariants.{Inject, Carry, Lose, Tick, TickSwitch, Restart, RestartSwitch, Forge, Route}
 use Rattle.world_model.specs.declared.link.LinkEnd.{LinkEnd}

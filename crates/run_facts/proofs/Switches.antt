@@ -41,13 +41,13 @@ use Rattle.crossbar_model.specs.declared.branch.Branch.{Branch}
 use Rattle.crossbar_model.specs.declared.routed.Routed.{Routed}
 use Rattle.crossbar_model.specs.declared.routed.Routed.TheVariants as routes
 use Rattle.crossbar_model.specs.Crossbar.{Crossbar, queue_of, sent, switched_on, input_of, on_channel_of, routed, cut_by_move}
-use Rattle.switch_model.specs.declared.request.Asked.{Asked}
-use Rattle.switch_model.specs.declared.request.Failure.{Failure}
-use Rattle.switch_model.specs.Switch.{Switch, Acted, control_port, gsmp_channel, free_slots}
-use Rattle.switch_model.specs.Requests.{Changed, asked_in, is_request, noted_cut, moved_by, ended_by, ended, all_ended, inputs_on, branches_after}
-use Rattle.switch_model.specs.Failures.{failure_of}
-use Rattle.switch_model.specs.Answers.{Handled, handled, handled_asked, handled_by}
-use Rattle.switch_model.specs.Conduct.{with_cells, sends, says, reset, answers, steps, replied, requested, told, read, opened_frame, ends_frame, gsmp_cell, passed, switched_cell, is_gsmp, cell_comes, restarted}
+use Rattle.world_model.specs.declared.request.Asked.{Asked}
+use Rattle.world_model.specs.declared.request.Failure.{Failure}
+use Rattle.world_model.specs.Switch.{Switch, Acted, control_port, gsmp_channel, free_slots}
+use Rattle.world_model.specs.Requests.{Changed, asked_in, is_request, noted_cut, moved_by, ended_by, ended, all_ended, inputs_on, branches_after}
+use Rattle.world_model.specs.Failures.{failure_of}
+use Rattle.world_model.specs.Answers.{Handled, handled, handled_asked, handled_by}
+use Rattle.world_model.specs.Conduct.{with_cells, sends, says, reset, answers, steps, replied, requested, told, read, opened_frame, ends_frame, gsmp_cell, passed, switched_cell, is_gsmp, cell_comes, restarted}
 use Rattle.actor_pace.proofs.Cells.{every_set, every_at}
 use Rattle.run_facts.specs.Inputs.{IsMark, IsMarked, SwitchInput, CellComes, Ticks, Restarts, switch_takes}
 use Rattle.run_facts.specs.Frames.{IsFree, Stay, BindsNone}

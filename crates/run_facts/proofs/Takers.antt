@@ -10,8 +10,8 @@ use Rattle.ordered_lists.specs.Ordered.{Every}
 use Rattle.port_model.specs.Labels.{Label, is_bound}
 use Rattle.port_model.specs.Port.{label_at}
 use Rattle.port_facts.proofs.Keyed.{at_every, at_key}
-use Rattle.controller_model.specs.Controller.{Controller, Linked, linked_at, port_key, default_channel, default_home}
-use Rattle.controller_model.specs.Cells.{Taker, ForGsmp, ForDefault, ForLabel, taker_of, taker_at, label_taker, port_on, on_link, same_channel}
+use Rattle.world_model.specs.Controller.{Controller, Linked, linked_at, port_key, default_channel, default_home}
+use Rattle.world_model.specs.Cells.{Taker, ForGsmp, ForDefault, ForLabel, taker_of, taker_at, label_taker, port_on, on_link, same_channel}
 
 -- what is so of every port is so of the one that takes
 abbrev pub OfTaker : (Linked → Type 0) → Taker → Type 0

@@ -15,15 +15,15 @@ use Rattle.link_model.specs.declared.record.Record.TheVariants.{Forged}
 use Rattle.link_model.specs.declared.record.Refusal.{Refusal}
 use Rattle.keyed_lists.specs.Keyed.{at, put}
 use Rattle.port_facts.proofs.Keyed.{at_key, at_every, at_put_same, put_every}
-use Rattle.switch_model.specs.Switch.{control_port}
-use Rattle.switch_model.specs.Conduct as switch
-use Rattle.controller_model.specs.Controller.{Acted}
-use Rattle.controller_model.specs.Packets.{inject_refusal, injected}
-use Rattle.controller_model.specs.Sending.{sends, sends_control}
-use Rattle.controller_model.specs.Cells as controller
-use Rattle.controller_model.specs.Ticks as controller_ticks
-use Rattle.controller_model.specs.Resets.{node_restarts}
-use Rattle.controller_model.specs.Changes.{change_comes}
+use Rattle.world_model.specs.Switch.{control_port}
+use Rattle.world_model.specs.Conduct as switch
+use Rattle.world_model.specs.Controller.{Acted}
+use Rattle.world_model.specs.Packets.{inject_refusal, injected}
+use Rattle.world_model.specs.Sending.{sends, sends_control}
+use Rattle.world_model.specs.Cells as controller
+use Rattle.world_model.specs.Ticks as controller_ticks
+use Rattle.world_model.specs.Resets.{node_restarts}
+use Rattle.world_model.specs.Changes.{change_comes}
 use Rattle.controller_facts.specs.Inputs.{Input, CellComes, PacketEnters, Ticks, Restarts, ChangeComes, enters_unless, takes_input}
 use Rattle.controller_facts.specs.Sound.{IsOwn}
 use Rattle.run_facts.specs.Inputs as turns

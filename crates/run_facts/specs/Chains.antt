@@ -4,8 +4,8 @@ use Rattle.std.specs.Prelude.{◌≡◌, true, List, ◌++◌, Contains}
 use Rattle.net_types.specs.declared.node.NodeId.{NodeId}
 use Rattle.atm_cells.specs.declared.cell.Cell.{Cell}
 use Rattle.port_model.specs.Setup.{Policy}
-use Rattle.controller_model.specs.Controller.{default_channel}
-use Rattle.controller_model.specs.Cells.{same_channel}
+use Rattle.world_model.specs.Controller.{default_channel}
+use Rattle.world_model.specs.Cells.{same_channel}
 use Rattle.world_model.specs.declared.event.Event.{Event}
 use Rattle.world_model.specs.Topology.{Topology}
 use Rattle.world_model.specs.World.{World}

@@ -4,8 +4,8 @@ use Rattle.std.specs.Prelude.{◌≡◌, ℕ, ◌<◌, ◌≤◌}
 use Rattle.net_types.specs.declared.node.PortNo.{PortNo}
 use Rattle.net_types.specs.declared.number.Mark.{Mark}
 use Rattle.atm_cells.specs.declared.cell.Cell.{Cell}
-use Rattle.switch_model.specs.Switch.{Acted}
-use Rattle.switch_model.specs.Conduct.{cell_comes, tick_comes, restarted}
+use Rattle.world_model.specs.Switch.{Acted}
+use Rattle.world_model.specs.Conduct.{cell_comes, tick_comes, restarted}
 
 -- a cell comes on a port, a tick, a restart
 pub data SwitchInput : Type 0 where

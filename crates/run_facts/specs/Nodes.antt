@@ -10,12 +10,12 @@ use Rattle.ipv4_forward.specs.declared.change.RouteChange.{RouteChange}
 use Rattle.ipv4_forward.specs.declared.table.Route.{Route}
 use Rattle.ordered_lists.specs.Ordered.{Every}
 use Rattle.crossbar_model.specs.Channels.{IsLinkPort, ArePorts}
-use Rattle.switch_model.specs.Switch.{control_port, numbers_of}
+use Rattle.world_model.specs.Switch.{control_port, numbers_of}
 use Rattle.port_model.specs.Setup.{Policy, Setup}
 use Rattle.port_facts.specs.Port.{IsRanged}
 use Rattle.port_widths.specs.Widths.{FitsSetup}
-use Rattle.controller_model.specs.Controller.{Controller, Linked, linked_at, ports_of}
-use Rattle.controller_model.specs.Opening.{setup_of}
+use Rattle.world_model.specs.Controller.{Controller, Linked, linked_at, ports_of}
+use Rattle.world_model.specs.Opening.{setup_of}
 use Rattle.controller_facts.specs.Sound.{IsSound}
 use Rattle.controller_facts.specs.Said.{HasFlowingPorts}
 use Rattle.controller_facts.specs.Conditions.{HasGrantedJoins, HasMovingRequests}

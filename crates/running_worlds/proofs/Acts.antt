@@ -12,10 +12,10 @@ use Rattle.link_model.specs.declared.frames.Frame.{Frame}
 use Rattle.link_model.specs.Ledger.{payload_of}
 use Rattle.link_model.specs.Notes.{Journal}
 use Rattle.ordered_lists.specs.Ordered.{Every}
-use Rattle.switch_model.specs.Switch as switches
-use Rattle.switch_model.specs.Switch.{control_port, numbers_of}
+use Rattle.world_model.specs.Switch as switches
+use Rattle.world_model.specs.Switch.{control_port, numbers_of}
 use Rattle.port_model.specs.Setup.{Setup}
-use Rattle.controller_model.specs.Controller.{Acted, ports_of}
+use Rattle.world_model.specs.Controller.{Acted, ports_of}
 use Rattle.controller_facts.specs.Sound.{IsSound}
 use Rattle.controller_law.specs.Order.{IsOrderly}
 use Rattle.controller_law.specs.Match.{IsMatched}

@@ -15,17 +15,17 @@ use Rattle.gsmp_wire.specs.declared.request.Request.{Request}
 use Rattle.gsmp_wire.specs.declared.request.Request.TheVariants as requests
 use Rattle.gsmp_reading.specs.Said.{HasResult, succeeds, fails, HasBranches, no_branch, one_branch, NamesEnds, HasRows, all_told, all_failed, IsSaid}
 use Rattle.link_model.specs.Notes.{Journal}
-use Rattle.desk_model.specs.Desk.{Standing}
+use Rattle.port_model.specs.Desk.{Standing}
 use Rattle.port_model.specs.Setup.{Setup}
 use Rattle.port_facts.specs.Port.{IsShaped, asks_ports, empties_control, empties_port, opens_input, opens_output, leads_label, leads_grant, joins_label, parts_label, frees_label}
-use Rattle.desk_model.specs.Answers.{head_of}
-use Rattle.switch_model.specs.declared.port.PortState.{PortState}
-use Rattle.switch_model.specs.declared.request.Failure.{Failure}
-use Rattle.switch_model.specs.declared.request.Failure.TheVariants.{NoPort, BadSession, PortDown, OutOfRange, Busy, NoConnection, SessionsSpent}
-use Rattle.switch_model.specs.Switch.{Switch}
-use Rattle.switch_model.specs.Requests.{asked_in, is_request, end_at}
-use Rattle.switch_model.specs.Failures.{failure_of}
-use Rattle.switch_model.specs.Answers.{failure_code, row_of, count_of, handled, handled_by}
+use Rattle.port_model.specs.DeskAnswers.{head_of}
+use Rattle.world_model.specs.declared.port.PortState.{PortState}
+use Rattle.world_model.specs.declared.request.Failure.{Failure}
+use Rattle.world_model.specs.declared.request.Failure.TheVariants.{NoPort, BadSession, PortDown, OutOfRange, Busy, NoConnection, SessionsSpent}
+use Rattle.world_model.specs.Switch.{Switch}
+use Rattle.world_model.specs.Requests.{asked_in, is_request, end_at}
+use Rattle.world_model.specs.Failures.{failure_of}
+use Rattle.world_model.specs.Answers.{failure_code, row_of, count_of, handled, handled_by}
 use Rattle.world_model.specs.Ways.{copy_of, copy_by}
 use Rattle.running_worlds.proofs.Asked.{IsWritten}
 

@@ -34,17 +34,17 @@ use Rattle.net_types.specs.Number.{next_control, with_control}
 use Rattle.ordered_lists.specs.Ordered.{Every}
 use Rattle.ordered_lists.proofs.Parts.{part_filtered, every_part}
 use Rattle.refusal_names.specs.Names.{gsmp_refusal}
-use Rattle.desk_model.specs.Desk.{Standing}
-use Rattle.desk_model.specs.Answers.{Head, head_of, is_branch_of, is_of_type, succeeded, outcome, answered_with, after_answer, Answered, Unknown, Done, Ports, Failed}
+use Rattle.port_model.specs.Desk.{Standing}
+use Rattle.port_model.specs.DeskAnswers.{Head, head_of, is_branch_of, is_of_type, succeeded, outcome, answered_with, after_answer, Answered, Unknown, Done, Ports, Failed}
 use Rattle.port_model.specs.Setup.{Setup}
 use Rattle.port_facts.specs.Port.{IsShaped}
 use Rattle.port_facts.proofs.Keyed.{on_both}
 use Rattle.port_facts.proofs.Found.{find_every, find_passes}
 use Rattle.port_facts.proofs.Turns.{IsTurned, received_turns}
-use Rattle.controller_model.specs.Controller.{Controller, Acted, Linked, free_slots, ports_of, with_desk, default_channel}
-use Rattle.controller_model.specs.Sending.{with_cells, says_gsmp}
-use Rattle.controller_model.specs.Meeting.{takes_answer}
-use Rattle.controller_model.specs.Gsmp.{answers, steps, told, gsmp_holds}
+use Rattle.world_model.specs.Controller.{Controller, Acted, Linked, free_slots, ports_of, with_desk, default_channel}
+use Rattle.world_model.specs.Sending.{with_cells, says_gsmp}
+use Rattle.world_model.specs.Meeting.{takes_answer}
+use Rattle.world_model.specs.Gsmp.{answers, steps, told, gsmp_holds}
 use Rattle.controller_facts.specs.Sound.{linked_setup}
 use Rattle.controller_facts.proofs.Moves.{answering, moves_to, moves_ports}
 use Rattle.controller_facts.proofs.Laws.{has_ports}

@@ -30,7 +30,7 @@ use Rattle.gsmp_wire.specs.declared.rows.PortRow.{PortRow}
 use Rattle.gsmp_reading.specs.Said.{asks, no_branch, all_asked, IsSaid}
 use Rattle.ordered_lists.specs.Ordered.{Every}
 use Rattle.keyed_lists.specs.Keyed.{at}
-use Rattle.desk_model.specs.Messages.{row_of, session_of, message_of}
+use Rattle.port_model.specs.Messages.{row_of, session_of, message_of}
 use Rattle.port_model.specs.Setup.{Setup, home_of}
 use Rattle.port_facts.specs.Port.{setup_port, IsLabelEnd, IsLinked, IsDefaultEnd, IsShaped, asks_ports, empties_control, empties_port, opens_input, opens_output, leads_label, leads_grant, joins_label, parts_label, frees_label}
 use Rattle.port_facts.proofs.Keyed.{on_both, at_key, at_every}

@@ -28,8 +28,8 @@ use Rattle.link_model.specs.declared.record.Record.TheVariants.{Loss}
 use Rattle.link_model.specs.Notes.{noted}
 use Rattle.frame_model.specs.Frame.{frame_cells, made}
 use Rattle.frame_model.specs.Sending.{Sent}
-use Rattle.desk_model.specs.Desk.{Desk, Standing, asked, is_led_home, last_transaction, message_at}
-use Rattle.desk_model.specs.Requests.{withdraws}
+use Rattle.port_model.specs.Desk.{Desk, Standing, asked, is_led_home, last_transaction, message_at}
+use Rattle.port_model.specs.Requests.{withdraws}
 use Rattle.port_model.specs.declared.action.Action.{Action}
 use Rattle.port_model.specs.declared.action.Action.TheVariants as actions
 use Rattle.port_model.specs.declared.action.Action.TheVariants.{Say, Ask, Note, CutChain, TakeBack, Withdraw}
@@ -39,11 +39,11 @@ use Rattle.port_model.specs.Resets.{resets}
 use Rattle.port_facts.specs.Port.{setup_port, IsAction, IsShaped, parts_label}
 use Rattle.port_facts.proofs.Keyed.{on_both, on_each, at_every}
 use Rattle.port_facts.proofs.Joins.{resets_kept}
-use Rattle.controller_model.specs.Controller.{Controller, Acted, Linked, free_slots, linked_at, ports_of, with_desk, default_channel, default_home}
-use Rattle.controller_model.specs.Sending.{with_cells, sends, sends_control, says_gsmp}
-use Rattle.controller_model.specs.Asking.{asks_next, asks, takes_back}
-use Rattle.controller_model.specs.Resets.{begins, with_work, resets_gsmp, port_restarts, node_resets}
-use Rattle.controller_model.specs.Performing.{does, does_in_estab, resets_of, performs, performs_in_estab, Rule, works, works_as, at_port}
+use Rattle.world_model.specs.Controller.{Controller, Acted, Linked, free_slots, linked_at, ports_of, with_desk, default_channel, default_home}
+use Rattle.world_model.specs.Sending.{with_cells, sends, sends_control, says_gsmp}
+use Rattle.world_model.specs.Asking.{asks_next, asks, takes_back}
+use Rattle.world_model.specs.Resets.{begins, with_work, resets_gsmp, port_restarts, node_resets}
+use Rattle.world_model.specs.Performing.{does, does_in_estab, resets_of, performs, performs_in_estab, Rule, works, works_as, at_port}
 use Rattle.controller_facts.proofs.Moves.{Moves, HasPorts, Found, Worked, by_reset, placing, moves_to, moves_ports, found_setup, found_at_own, begun, worked_kept}
 use Rattle.controller_facts.proofs.Performing.{does_in_estab_goes, performs_in_estab_goes}
 use Rattle.input_steps.proofs.Resets.{IsStill, still_fold, restarts_still, cuts_still, note_still}

@@ -9,8 +9,8 @@ use Rattle.ordered_lists.proofs.Every.{every_join, every_map}
 use Rattle.link_model.specs.declared.frames.Frame.{Frame}
 use Rattle.link_model.specs.Ledger.{payload_of}
 use Rattle.frame_model.specs.Frame.{frame_cells}
-use Rattle.controller_model.specs.Controller.{default_channel}
-use Rattle.controller_model.specs.Cells.{same_channel}
+use Rattle.world_model.specs.Controller.{default_channel}
+use Rattle.world_model.specs.Cells.{same_channel}
 use Rattle.shown_cells.proofs.Made.{made_is, made_elsewhere}
 use Rattle.shown_cells.proofs.Frames.{IsOf, IsCut, frame_is_cut, differ}
 use Rattle.running_worlds.specs.New.{is_on_gsmp, control_mark, IsNew, SinceThen}

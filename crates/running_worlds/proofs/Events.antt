@@ -33,7 +33,7 @@ use Rattle.frame_model.specs.Frame.{octets_of, last_mark, payload_in, next_mark,
 use Rattle.frame_model.specs.Reassembly.{Reassembly, Taken, taken, marks_of, most_cells, passed_over, without_slot, too_long, joined, nothing_taken, cut}
 use Rattle.ordered_lists.specs.Ordered.{Every}
 use Rattle.ordered_lists.proofs.Every.{every_join}
-use Rattle.desk_model.specs.Desk.{Standing, last_transaction, sent_again}
+use Rattle.port_model.specs.Desk.{Standing, last_transaction, sent_again}
 use Rattle.port_model.specs.Setup.{Setup, control_end}
 use Rattle.port_model.specs.Grants.{Grant}
 use Rattle.port_model.specs.Ticks as port_ticks
@@ -42,16 +42,16 @@ use Rattle.port_facts.proofs.Hearings.{ticks_goes}
 use Rattle.port_facts.proofs.Keyed.{on_both, on_each}
 use Rattle.port_facts.proofs.Steps.{Goes}
 use Rattle.port_facts.proofs.Turns.{ticked_turns}
-use Rattle.controller_model.specs.Controller.{Acted, Linked, free_slots, linked_at, ports_of, default_channel, default_home}
-use Rattle.controller_model.specs.Sending.{sends, sends_control}
-use Rattle.controller_model.specs.Asking.{sends_request}
-use Rattle.controller_model.specs.Resets.{begins, cuts_default_of, cuts_default, cuts_gsmp, node_resets, node_restarts}
-use Rattle.controller_model.specs.Performing.{Rule, at_port}
-use Rattle.controller_model.specs.Joins.{tries_joins}
-use Rattle.controller_model.specs.Packets.{is_control, sends_next, goes_by, grant_by, forwarded, routes}
-use Rattle.controller_model.specs.Gsmp.{steps}
-use Rattle.controller_model.specs.Cells.{ForGsmp, port_on, on_link, same_channel, taker_at, after_test, ends_frame, after_cell, takes_cell, cell_comes}
-use Rattle.controller_model.specs.Ticks.{sends_again, ticks_port, ticks_ports, ticks_by, ticks}
+use Rattle.world_model.specs.Controller.{Acted, Linked, free_slots, linked_at, ports_of, default_channel, default_home}
+use Rattle.world_model.specs.Sending.{sends, sends_control}
+use Rattle.world_model.specs.Asking.{sends_request}
+use Rattle.world_model.specs.Resets.{begins, cuts_default_of, cuts_default, cuts_gsmp, node_resets, node_restarts}
+use Rattle.world_model.specs.Performing.{Rule, at_port}
+use Rattle.world_model.specs.Joins.{tries_joins}
+use Rattle.world_model.specs.Packets.{is_control, sends_next, goes_by, grant_by, forwarded, routes}
+use Rattle.world_model.specs.Gsmp.{steps}
+use Rattle.world_model.specs.Cells.{ForGsmp, port_on, on_link, same_channel, taker_at, after_test, ends_frame, after_cell, takes_cell, cell_comes}
+use Rattle.world_model.specs.Ticks.{sends_again, ticks_port, ticks_ports, ticks_by, ticks}
 use Rattle.controller_facts.proofs.Moves.{ages, by_rule, gathering, moves_to, moves_ports}
 use Rattle.controller_facts.proofs.Laws.{has_ports, moves_sound}
 use Rattle.controller_facts.proofs.Events.{ticks_ports_goes}

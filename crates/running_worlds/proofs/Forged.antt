@@ -17,11 +17,11 @@ use Rattle.link_model.specs.Notes.{noted}
 use Rattle.frame_model.specs.Frame.{frame_cells, made}
 use Rattle.frame_model.specs.Sending.{Sent}
 use Rattle.port_facts.proofs.Keyed.{on_both}
-use Rattle.switch_model.specs.Switch as switches
-use Rattle.switch_model.specs.Switch.{Switch, control_port}
-use Rattle.switch_model.specs.Conduct as switch
-use Rattle.controller_model.specs.Controller.{Controller, free_slots}
-use Rattle.controller_model.specs.Sending.{with_cells, sends}
+use Rattle.world_model.specs.Switch as switches
+use Rattle.world_model.specs.Switch.{Switch, control_port}
+use Rattle.world_model.specs.Conduct as switch
+use Rattle.world_model.specs.Controller.{Controller, free_slots}
+use Rattle.world_model.specs.Sending.{with_cells, sends}
 use Rattle.world_model.specs.World.{World, Site, site_at, controller_acts, at_controller, switch_acts, at_switch}
 use Rattle.world_model.specs.Step.{note, forges}
 use Rattle.world_model.specs.Headline.{is_wild, IsTame}

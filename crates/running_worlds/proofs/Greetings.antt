@@ -13,8 +13,8 @@ use Rattle.gsmp_wire.specs.declared.request.Request.TheVariants as requests
 use Rattle.gsmp_wire.specs.Fields.{decoded, decoded_by}
 use Rattle.gsmp_wire.specs.Layout.{octets_of}
 use Rattle.gsmp_wire.specs.Refusal.{refusal, type_of}
-use Rattle.desk_model.specs.Desk.{Standing}
-use Rattle.desk_model.specs.Messages.{message_of}
+use Rattle.port_model.specs.Desk.{Standing}
+use Rattle.port_model.specs.Messages.{message_of}
 use Rattle.port_model.specs.Setup.{Setup}
 use Rattle.port_facts.specs.Port.{IsShaped}
 use Rattle.world_model.specs.Ways.{told, gsmp_of, copy_of}

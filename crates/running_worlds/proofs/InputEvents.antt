@@ -14,16 +14,16 @@ use Rattle.crossbar_model.specs.Crossbar.{input_of, queue_of}
 use Rattle.gsmp_wire.specs.declared.message.Message.{Message}
 use Rattle.link_model.specs.declared.frames.Frame.{Frame}
 use Rattle.link_model.specs.declared.record.Refusal.{Refusal}
-use Rattle.switch_model.specs.Switch as switches
-use Rattle.switch_model.specs.Switch.{control_port}
-use Rattle.switch_model.specs.Conduct as conduct
+use Rattle.world_model.specs.Switch as switches
+use Rattle.world_model.specs.Switch.{control_port}
+use Rattle.world_model.specs.Conduct as conduct
 use Rattle.port_model.specs.Setup.{Setup}
-use Rattle.controller_model.specs.Controller.{Acted, free_slots, default_channel}
-use Rattle.controller_model.specs.Cells.{same_channel, cell_comes}
-use Rattle.controller_model.specs.Changes.{change_comes}
-use Rattle.controller_model.specs.Packets.{inject_refusal, injected}
-use Rattle.controller_model.specs.Resets.{node_restarts}
-use Rattle.controller_model.specs.Ticks.{ticks}
+use Rattle.world_model.specs.Controller.{Acted, free_slots, default_channel}
+use Rattle.world_model.specs.Cells.{same_channel, cell_comes}
+use Rattle.world_model.specs.Changes.{change_comes}
+use Rattle.world_model.specs.Packets.{inject_refusal, injected}
+use Rattle.world_model.specs.Resets.{node_restarts}
+use Rattle.world_model.specs.Ticks.{ticks}
 use Rattle.controller_facts.specs.Inputs.{Input, CellComes, PacketEnters, Ticks, Restarts, ChangeComes, enters_unless, takes_input}
 use Rattle.controller_facts.specs.Sound.{IsOwn}
 use Rattle.controller_facts.proofs.Laws.{has_ports, input_goes, moves_sound}

@@ -19,13 +19,13 @@ use Rattle.gsmp_wire.specs.declared.rows.PortRow.{PortRow}
 use Rattle.link_model.specs.declared.frames.Frame.{Frame}
 use Rattle.link_model.specs.Ledger.{payload_of}
 use Rattle.ordered_lists.specs.Ordered.{Every}
-use Rattle.desk_model.specs.Desk.{Standing, all_on}
-use Rattle.desk_model.specs.Requests.{is_delete_all}
-use Rattle.switch_model.specs.Switch.{control_port}
+use Rattle.port_model.specs.Desk.{Standing, all_on}
+use Rattle.port_model.specs.Requests.{is_delete_all}
+use Rattle.world_model.specs.Switch.{control_port}
 use Rattle.port_model.specs.Setup.{Setup}
 use Rattle.port_facts.specs.Port.{IsShaped}
-use Rattle.controller_model.specs.Controller.{Controller, Linked, ports_of, default_channel}
-use Rattle.controller_model.specs.Cells.{same_channel}
+use Rattle.world_model.specs.Controller.{Controller, Linked, ports_of, default_channel}
+use Rattle.world_model.specs.Cells.{same_channel}
 use Rattle.world_model.specs.World.{World, Site, site_at}
 use Rattle.world_model.specs.Places.{queue_in, queue_at}
 use Rattle.world_model.specs.Ways.{gsmp_of, gsmp_under, copy_of, copy_under, on_channel, requests_chain_at, answers_chain_at}

@@ -20,15 +20,15 @@ use Rattle.crossbar_model.specs.Channels.{end_cmp}
 use Rattle.crossbar_model.specs.Crossbar.{output_of, queue_of}
 use Rattle.ordered_lists.specs.Ordered.{Every}
 use Rattle.ordered_lists.proofs.Every.{every_join}
-use Rattle.desk_model.specs.Desk.{Standing}
-use Rattle.desk_model.specs.Requests.{is_delete_all}
-use Rattle.switch_model.specs.declared.port.PortState.{PortState}
-use Rattle.switch_model.specs.Switch.{control_port, numbers_of, begun}
+use Rattle.port_model.specs.Desk.{Standing}
+use Rattle.port_model.specs.Requests.{is_delete_all}
+use Rattle.world_model.specs.declared.port.PortState.{PortState}
+use Rattle.world_model.specs.Switch.{control_port, numbers_of, begun}
 use Rattle.port_model.specs.Setup.{Policy}
 use Rattle.port_facts.specs.Port.{IsShaped}
 use Rattle.port_facts.proofs.Keyed.{at_key, at_every}
-use Rattle.controller_model.specs.Controller.{Controller, ports_of, default_channel}
-use Rattle.controller_model.specs.Opening.{after_opening}
+use Rattle.world_model.specs.Controller.{Controller, ports_of, default_channel}
+use Rattle.world_model.specs.Opening.{after_opening}
 use Rattle.branch_line.specs.Line.{Line, start}
 use Rattle.world_model.specs.Topology as topologies
 use Rattle.world_model.specs.Topology.{Topology, Node}

@@ -24,9 +24,9 @@ use Rattle.frame_model.specs.Sending.{Sent}
 use Rattle.gsmp_wire.specs.Layout.{octets_of as gsmp_octets}
 use Rattle.ordered_lists.specs.Ordered.{Every}
 use Rattle.ordered_lists.proofs.Every.{every_map, every_right}
-use Rattle.desk_model.specs.Desk.{Desk, Standing, asked, last_transaction, empty_desk, message_at}
-use Rattle.desk_model.specs.Messages.{is_up}
-use Rattle.desk_model.specs.Requests.{withdraws}
+use Rattle.port_model.specs.Desk.{Desk, Standing, asked, last_transaction, empty_desk, message_at}
+use Rattle.port_model.specs.Messages.{is_up}
+use Rattle.port_model.specs.Requests.{withdraws}
 use Rattle.port_model.specs.Setup.{Setup, home_of}
 use Rattle.port_model.specs.Labels.{Label}
 use Rattle.port_model.specs.Saying.{closes}
@@ -37,13 +37,13 @@ use Rattle.port_facts.specs.Port.{IsDefaultEnd, IsLabelEnd, IsLinked, IsPort, Is
 use Rattle.port_facts.proofs.Keyed.{on_both, on_each}
 use Rattle.port_facts.proofs.Found.{find_every}
 use Rattle.port_facts.proofs.Rules.{done_goes}
-use Rattle.controller_model.specs.Controller.{Controller, Acted, Linked, free_slots, linked_at, ports_of, with_desk, with_linked, note, default_channel, default_end, default_home}
-use Rattle.controller_model.specs.Sending.{with_cells, sends}
-use Rattle.controller_model.specs.Asking.{asks}
-use Rattle.controller_model.specs.Resets.{begins}
-use Rattle.controller_model.specs.Joins.{Join, join_of, joins_of, parts, releases_join, releases_input, released_inputs, resets_spent, releases, output_of, enters_grant, enters_label, joins, join_for, may_join, tries_label, label_on, tries_join, inputs_at, tries_joins}
-use Rattle.controller_model.specs.Meeting.{meets, up_ports, empties, default_branches, ends_meeting, has_emptied, port_of_input, tells_port, behind_delete_all, causes_in_estab, causes, may_clear, clears_of, clears_port, clears}
-use Rattle.controller_model.specs.Changes.{changed_joins, is_changed, takes_join_back, begins_change, takes_change, may_take, takes_each, takes_changes, change_comes}
+use Rattle.world_model.specs.Controller.{Controller, Acted, Linked, free_slots, linked_at, ports_of, with_desk, with_linked, note, default_channel, default_end, default_home}
+use Rattle.world_model.specs.Sending.{with_cells, sends}
+use Rattle.world_model.specs.Asking.{asks}
+use Rattle.world_model.specs.Resets.{begins}
+use Rattle.world_model.specs.Joins.{Join, join_of, joins_of, parts, releases_join, releases_input, released_inputs, resets_spent, releases, output_of, enters_grant, enters_label, joins, join_for, may_join, tries_label, label_on, tries_join, inputs_at, tries_joins}
+use Rattle.world_model.specs.Meeting.{meets, up_ports, empties, default_branches, ends_meeting, has_emptied, port_of_input, tells_port, behind_delete_all, causes_in_estab, causes, may_clear, clears_of, clears_port, clears}
+use Rattle.world_model.specs.Changes.{changed_joins, is_changed, takes_join_back, begins_change, takes_change, may_take, takes_each, takes_changes, change_comes}
 use Rattle.controller_facts.proofs.Moves.{HasPorts, Found, by_rule, by_giving_back, by_closing, moves_ports, moves_to, ending_meeting, routing, IsShapedStanding}
 use Rattle.controller_facts.proofs.Performing.{Any, any_ports, asks_goes, takes_back_goes, ports_linked}
 use Rattle.controller_facts.proofs.Joining.{IsJoin, joins_are, join_input, join_output, parts_grants, granted_there, parts_goes, releases_input_goes, resets_spent_goes, releases_goes, AnyEnd, any_ends, begins_change_goes, takes_change_goes, every_filter, every_flat_map, each_there}

@@ -17,15 +17,15 @@ use Rattle.gsmp_wire.specs.Fields.{decoded}
 use Rattle.link_model.specs.declared.frames.Frame.{Frame}
 use Rattle.link_model.specs.Ledger.{payload_of}
 use Rattle.frame_model.specs.Frame.{octets_of, last_mark, payload_in}
-use Rattle.desk_model.specs.Desk.{Standing}
-use Rattle.switch_model.specs.Switch as switches
-use Rattle.switch_model.specs.Switch.{control_port, numbers_of}
-use Rattle.switch_model.specs.declared.port.PortState.{PortState}
-use Rattle.switch_model.specs.Answers.{row_of}
-use Rattle.switch_model.specs.Conduct.{is_gsmp}
+use Rattle.port_model.specs.Desk.{Standing}
+use Rattle.world_model.specs.Switch as switches
+use Rattle.world_model.specs.Switch.{control_port, numbers_of}
+use Rattle.world_model.specs.declared.port.PortState.{PortState}
+use Rattle.world_model.specs.Answers.{row_of}
+use Rattle.world_model.specs.Conduct.{is_gsmp}
 use Rattle.port_model.specs.Setup.{Policy}
-use Rattle.controller_model.specs.Controller.{free_slots, Linked, default_channel, ports_of}
-use Rattle.controller_model.specs.Cells.{Taker, ForGsmp, ForDefault, ForLabel, same_channel, taker_of, reassembly_of}
+use Rattle.world_model.specs.Controller.{free_slots, Linked, default_channel, ports_of}
+use Rattle.world_model.specs.Cells.{Taker, ForGsmp, ForDefault, ForLabel, same_channel, taker_of, reassembly_of}
 use Rattle.causes.proofs.Shown.{peer_back}
 use Rattle.world_model.specs.declared.event.Event.{Event}
 use Rattle.world_model.specs.declared.event.Event.TheVariants.{Inject, Carry, Lose, Tick, TickSwitch, Restart, RestartSwitch, Forge, Route}

@@ -19,8 +19,8 @@ use Rattle.ordered_lists.specs.Ordered.{Every}
 use Rattle.port_model.specs.Labels.{Label, LabelState, Wiring, Offered, Recalled, Wired, is_bound, label_number}
 use Rattle.port_model.specs.Port.{label_at, labels_of}
 use Rattle.port_facts.proofs.Keyed.{at_key, at_every}
-use Rattle.controller_model.specs.Controller.{Controller, Acted, Linked, port_key, linked_at, default_channel}
-use Rattle.controller_model.specs.Cells.{Taker, ForGsmp, ForDefault, ForLabel, port_on, on_link, same_channel, label_taker, taker_at, taker_of}
+use Rattle.world_model.specs.Controller.{Controller, Acted, Linked, port_key, linked_at, default_channel}
+use Rattle.world_model.specs.Cells.{Taker, ForGsmp, ForDefault, ForLabel, port_on, on_link, same_channel, label_taker, taker_at, taker_of}
 use Rattle.controller_bindings.specs.Bindings.{site, IsBoundLast, HasBoundLabels}
 use Rattle.world_model.specs.declared.link.LinkEnd.{LinkEnd}
 use Rattle.world_model.specs.Past.{Past, frames_of, last_bound}

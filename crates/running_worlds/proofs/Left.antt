@@ -9,7 +9,7 @@ use Rattle.link_model.specs.declared.frames.Frame.{Frame}
 use Rattle.link_model.specs.Ledger.{payload_of}
 use Rattle.ordered_lists.specs.Ordered.{Every}
 use Rattle.crossbar_model.specs.Crossbar.{queue_of}
-use Rattle.switch_model.specs.Switch.{control_port}
+use Rattle.world_model.specs.Switch.{control_port}
 use Rattle.port_model.specs.Setup.{Setup}
 use Rattle.port_facts.proofs.Keyed.{by_eq}
 use Rattle.world_model.specs.World.{World, Site, site_at, with_site}

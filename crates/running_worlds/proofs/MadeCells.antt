@@ -42,13 +42,13 @@ use Rattle.port_model.specs.Port.{Port, label_at}
 use Rattle.port_model.specs.Grants.{Grant}
 use Rattle.port_facts.proofs.Keyed.{on_each, at_every, put_every}
 use Rattle.port_facts.proofs.Rules.{and_first}
-use Rattle.controller_model.specs.Controller.{Acted, Linked, port_key, free_slots, linked_at, ports_of, with_linked, chains_with, default_channel, default_home}
-use Rattle.controller_model.specs.Sending.{sends, sends_control}
-use Rattle.controller_model.specs.Packets.{is_control, sends_next, goes_by, grant_by, forwarded, routes, injected, control_protocol}
-use Rattle.controller_model.specs.Gsmp.{gsmp_holds}
-use Rattle.controller_model.specs.Resets.{cuts_default_of, cuts_default, cuts_gsmp, node_resets, node_restarts}
+use Rattle.world_model.specs.Controller.{Acted, Linked, port_key, free_slots, linked_at, ports_of, with_linked, chains_with, default_channel, default_home}
+use Rattle.world_model.specs.Sending.{sends, sends_control}
+use Rattle.world_model.specs.Packets.{is_control, sends_next, goes_by, grant_by, forwarded, routes, injected, control_protocol}
+use Rattle.world_model.specs.Gsmp.{gsmp_holds}
+use Rattle.world_model.specs.Resets.{cuts_default_of, cuts_default, cuts_gsmp, node_resets, node_restarts}
 use Rattle.controller_facts.proofs.Performing.{Any, any_ports}
-use Rattle.controller_model.specs.Cells.{port_on, on_link, same_channel, label_taker, taker_at, taker_of, after_test, Taker, ForGsmp, ForDefault, ForLabel, reassembly_of, with_reassembly, label_holds, ifmp_holds, counted_at, packet_holds, default_holds, frame_holds, ends_frame, after_cell, takes_cell, cell_comes}
+use Rattle.world_model.specs.Cells.{port_on, on_link, same_channel, label_taker, taker_at, taker_of, after_test, Taker, ForGsmp, ForDefault, ForLabel, reassembly_of, with_reassembly, label_holds, ifmp_holds, counted_at, packet_holds, default_holds, frame_holds, ends_frame, after_cell, takes_cell, cell_comes}
 use Rattle.controller_facts.proofs.Moves.{Found, taking_notes, gathering, chaining, moves_to, HasPorts, found_at_own}
 use Rattle.controller_facts.proofs.Events.{IsTaker}
 use Rattle.controller_lifts.proofs.Kept.{Of}

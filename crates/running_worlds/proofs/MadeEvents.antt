@@ -9,14 +9,14 @@ use Rattle.net_types.specs.declared.node.Place.{Place}
 use Rattle.net_types.specs.declared.node.Place.TheVariants.{Down, Up, Out}
 use Rattle.atm_cells.specs.declared.cell.Cell.{Cell}
 use Rattle.link_model.specs.declared.record.Refusal.{Refusal}
-use Rattle.switch_model.specs.Switch.{control_port}
-use Rattle.switch_model.specs.Conduct as switch_conduct
-use Rattle.controller_model.specs.Packets.{inject_refusal, injected}
-use Rattle.controller_model.specs.Cells as controller_cells
-use Rattle.controller_model.specs.Cells.{Taker, taker_of}
-use Rattle.controller_model.specs.Ticks.{ticks}
-use Rattle.controller_model.specs.Resets.{node_restarts}
-use Rattle.controller_model.specs.Changes.{change_comes}
+use Rattle.world_model.specs.Switch.{control_port}
+use Rattle.world_model.specs.Conduct as switch_conduct
+use Rattle.world_model.specs.Packets.{inject_refusal, injected}
+use Rattle.world_model.specs.Cells as controller_cells
+use Rattle.world_model.specs.Cells.{Taker, taker_of}
+use Rattle.world_model.specs.Ticks.{ticks}
+use Rattle.world_model.specs.Resets.{node_restarts}
+use Rattle.world_model.specs.Changes.{change_comes}
 use Rattle.controller_facts.proofs.Moves.{HasPorts}
 use Rattle.controller_facts.proofs.Laws.{has_ports}
 use Rattle.world_model.specs.declared.event.Event.{Event}

@@ -18,7 +18,7 @@ use Rattle.link_model.specs.declared.record.Record.TheVariants.{Part, Routes}
 use Rattle.crossbar_model.specs.Crossbar.{same_end}
 use Rattle.ordered_lists.proofs.Every.{every_map}
 use Rattle.keyed_lists.specs.Keyed.{at}
-use Rattle.desk_model.specs.Desk.{on_input, most_asked}
+use Rattle.port_model.specs.Desk.{on_input, most_asked}
 use Rattle.port_model.specs.Setup.{Setup, home_of}
 use Rattle.port_model.specs.Labels.{Label, Offered, label_number}
 use Rattle.port_model.specs.Grants.{Grant, ByController, grant_label, grant_for, is_by_controller}
@@ -27,10 +27,10 @@ use Rattle.port_facts.specs.Port.{IsLabelEnd, IsGrant, IsPort, parts_label, join
 use Rattle.port_facts.proofs.Keyed.{on_both, on_each, at_every, apart_at}
 use Rattle.port_facts.proofs.Found.{find_every, find_passes}
 use Rattle.port_facts.proofs.Rules.{and_first}
-use Rattle.controller_model.specs.Controller.{Acted, Linked, linked_at, ports_of, note}
-use Rattle.controller_model.specs.Routes.{route_stays}
-use Rattle.controller_model.specs.Joins.{Join, joins_of, join_of, parts, releases_join, releases_input, released_inputs, resets_spent, releases, port_by, join_through, join_by, join_for, is_offered, may_join, enters_grant, output_of, enters_label, joins, tries_label, label_on, tries_join, inputs_at, tries_joins}
-use Rattle.controller_model.specs.Changes.{is_changed, changed_joins, takes_join_back, begins_change, takes_change, may_take, takes_each, takes_changes, change_comes}
+use Rattle.world_model.specs.Controller.{Acted, Linked, linked_at, ports_of, note}
+use Rattle.world_model.specs.Routes.{route_stays}
+use Rattle.world_model.specs.Joins.{Join, joins_of, join_of, parts, releases_join, releases_input, released_inputs, resets_spent, releases, port_by, join_through, join_by, join_for, is_offered, may_join, enters_grant, output_of, enters_label, joins, tries_label, label_on, tries_join, inputs_at, tries_joins}
+use Rattle.world_model.specs.Changes.{is_changed, changed_joins, takes_join_back, begins_change, takes_change, may_take, takes_each, takes_changes, change_comes}
 use Rattle.controller_facts.proofs.Moves.{Found, routing, moves_to, HasPorts, found_setup, found_at_own, found_port}
 use Rattle.controller_facts.proofs.Joining.{every_filter, every_flat_map, IsJoin, each_there, joins_are, join_input, join_output, parts_grants, granted_there, image_is}
 use Rattle.controller_facts.proofs.Entering.{OnPort, on_port, is_offered_by, by_controller, lends_labels, inputs_of_port}

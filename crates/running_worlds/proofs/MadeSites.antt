@@ -10,9 +10,9 @@ use Rattle.atm_cells.specs.declared.cell.Cell.{Cell}
 use Rattle.ordered_lists.specs.Ordered.{Every}
 use Rattle.keyed_lists.specs.Keyed.{at, put}
 use Rattle.crossbar_model.specs.Channels.{IsLinkPort}
-use Rattle.switch_model.specs.Switch as switches
+use Rattle.world_model.specs.Switch as switches
 use Rattle.port_model.specs.Setup.{Setup}
-use Rattle.controller_model.specs.Controller.{Acted, Linked}
+use Rattle.world_model.specs.Controller.{Acted, Linked}
 use Rattle.controller_facts.proofs.Moves.{popping, moves_to}
 use Rattle.controller_views.specs.Ready.{IsReadyPort, IsReady}
 use Rattle.controller_lifts.proofs.Kept.{Of}

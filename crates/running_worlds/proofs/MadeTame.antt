@@ -8,9 +8,9 @@ use Rattle.link_model.specs.Notes.{Journal}
 use Rattle.frame_model.specs.Frame.{last_mark}
 use Rattle.frame_model.specs.Reassembly.{Reassembly, Taken, taken, most_cells, passed_over, without_slot, too_long, joined}
 use Rattle.port_facts.proofs.Keyed.{on_each}
-use Rattle.switch_model.specs.Switch as switches
-use Rattle.controller_model.specs.Controller.{free_slots}
-use Rattle.controller_model.specs.Cells.{reassembly_of}
+use Rattle.world_model.specs.Switch as switches
+use Rattle.world_model.specs.Controller.{free_slots}
+use Rattle.world_model.specs.Cells.{reassembly_of}
 use Rattle.world_model.specs.declared.event.Event.TheVariants.{Carry}
 use Rattle.world_model.specs.World.{World}
 use Rattle.world_model.specs.Run.{put_away}

@@ -31,8 +31,8 @@ use Rattle.link_model.proofs.Marks.{same_mark-Decides}
 use Rattle.port_model.specs.Grants.{Grant, is_by_controller, grant_for, grant_of_kind, grant_matching}
 use Rattle.port_facts.proofs.Found.{find_passes}
 use Rattle.port_facts.proofs.Rules.{and_second}
-use Rattle.controller_model.specs.Controller.{Controller, Linked, linked_at}
-use Rattle.controller_model.specs.Packets.{control_protocol, refused_by, grant_by}
+use Rattle.world_model.specs.Controller.{Controller, Linked, linked_at}
+use Rattle.world_model.specs.Packets.{control_protocol, refused_by, grant_by}
 use Rattle.port_views.proofs.Flows.{flow_is}
 use Rattle.frame_readings.proofs.Packets.{is_forwarded, whole_packet}
 use Rattle.world_views.specs.Made.{IsFit, IsMadeAs, AreMade}

@@ -17,22 +17,22 @@ use Rattle.gsmp_wire.specs.declared.rows.PortRow.{PortRow}
 use Rattle.gsmp_wire.specs.declared.request.Request.{Request}
 use Rattle.gsmp_wire.specs.declared.request.Request.TheVariants.{AddBranch, MoveBranch, DeleteTree, VerifyTree, DeleteAll, PortManagement, AllPorts}
 use Rattle.ordered_lists.specs.Ordered.{Every}
-use Rattle.desk_model.specs.Messages.{is_up}
-use Rattle.desk_model.specs.Desk.{Standing, empty_desk, sent_again, last_transaction}
-use Rattle.desk_model.specs.Answers.{Head, head_of, is_of_type, Answered, Unknown, Done, Ports, Failed, succeeded, outcome, answered_with, after_answer}
+use Rattle.port_model.specs.Messages.{is_up}
+use Rattle.port_model.specs.Desk.{Standing, empty_desk, sent_again, last_transaction}
+use Rattle.port_model.specs.DeskAnswers.{Head, head_of, is_of_type, Answered, Unknown, Done, Ports, Failed, succeeded, outcome, answered_with, after_answer}
 use Rattle.port_model.specs.Setup.{Setup}
 use Rattle.port_model.specs.Resets.{cleared}
 use Rattle.port_facts.specs.Port.{IsLinked, IsDefaultEnd, IsShaped, asks_ports, empties_control, empties_port, opens_input, opens_output}
 use Rattle.port_facts.proofs.Keyed.{on_both, on_each, at_every, put_every}
 use Rattle.port_facts.proofs.Found.{find_every}
 use Rattle.port_widths.proofs.Rules.{cleared_fit}
-use Rattle.controller_model.specs.Controller.{Acted, Linked, port_key, linked_at, ports_of, with_linked, with_desk, default_end, default_home}
-use Rattle.controller_model.specs.Sending.{says_gsmp}
-use Rattle.controller_model.specs.Asking.{asks, sends_request}
-use Rattle.controller_model.specs.Joins.{releases, tries_joins}
-use Rattle.controller_model.specs.Meeting.{meets, up_ports, empties, default_branches, ends_meeting, has_emptied, port_of_input, tells_port, behind_delete_all, causes_in_estab, causes, may_clear, clears_of, clears_port, clears, done, takes_answer, answer_comes}
-use Rattle.controller_model.specs.Gsmp.{answers, steps, told}
-use Rattle.controller_model.specs.Ticks.{sends_again, ticks_port, ticks_ports, ticks_by, ticks}
+use Rattle.world_model.specs.Controller.{Acted, Linked, port_key, linked_at, ports_of, with_linked, with_desk, default_end, default_home}
+use Rattle.world_model.specs.Sending.{says_gsmp}
+use Rattle.world_model.specs.Asking.{asks, sends_request}
+use Rattle.world_model.specs.Joins.{releases, tries_joins}
+use Rattle.world_model.specs.Meeting.{meets, up_ports, empties, default_branches, ends_meeting, has_emptied, port_of_input, tells_port, behind_delete_all, causes_in_estab, causes, may_clear, clears_of, clears_port, clears, done, takes_answer, answer_comes}
+use Rattle.world_model.specs.Gsmp.{answers, steps, told}
+use Rattle.world_model.specs.Ticks.{sends_again, ticks_port, ticks_ports, ticks_by, ticks}
 use Rattle.controller_facts.proofs.Moves.{IsGsmpTurn, hears as hears_greeting, ages, answering, meeting, ending_meeting, turning, clearing, moves_to, HasPorts, IsShapedStanding, found_at_own}
 use Rattle.controller_facts.proofs.Performing.{Any, any_ports, ports_linked}
 use Rattle.controller_facts.specs.Sound.{IsSound}

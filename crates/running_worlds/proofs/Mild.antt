@@ -6,7 +6,7 @@ use Rattle.net_types.specs.declared.node.PortNo.{PortNo}
 use Rattle.gsmp_wire.specs.declared.request.Request.TheVariants.{AddBranch, MoveBranch, DeleteTree, VerifyTree, DeleteAll, PortManagement, AllPorts}
 use Rattle.ordered_lists.specs.Ordered.{Every}
 use Rattle.ordered_lists.proofs.Every.{every_all}
-use Rattle.desk_model.specs.Desk.{Desk}
+use Rattle.port_model.specs.Desk.{Desk}
 use Rattle.port_model.specs.declared.action.Action.{Action}
 use Rattle.port_model.specs.declared.action.Action.TheVariants as actions
 use Rattle.port_model.specs.declared.action.Action.TheVariants.{Say, Ask, Note, CutChain, TakeBack, Withdraw}
@@ -14,8 +14,8 @@ use Rattle.port_model.specs.Setup.{Setup}
 use Rattle.port_model.specs.Port.{Work, labels_of, desk_with}
 use Rattle.port_facts.proofs.Keyed.{at_every}
 use Rattle.port_facts.proofs.Steps.{Goes}
-use Rattle.controller_model.specs.Controller.{Acted, Linked, linked_at, port_key}
-use Rattle.controller_model.specs.Resets.{begins}
+use Rattle.world_model.specs.Controller.{Acted, Linked, linked_at, port_key}
+use Rattle.world_model.specs.Resets.{begins}
 use Rattle.controller_facts.specs.Sound.{IsShutLinked}
 use Rattle.controller_facts.proofs.Moves.{HasPorts, found_at_own, found_setup, begun}
 use Rattle.controller_facts.proofs.Laws.{has_ports}

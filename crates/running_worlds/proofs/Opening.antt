@@ -11,16 +11,16 @@ use Rattle.link_model.specs.declared.frames.Frame.{Frame}
 use Rattle.link_model.specs.Ledger.{payload_of}
 use Rattle.ordered_lists.specs.Ordered.{Every}
 use Rattle.crossbar_model.specs.Channels.{IsLinkPort}
-use Rattle.switch_model.specs.declared.port.PortState.{PortState}
-use Rattle.switch_model.specs.Switch.{control_port, numbers_of, begun}
-use Rattle.switch_model.specs.Answers.{row_of}
+use Rattle.world_model.specs.declared.port.PortState.{PortState}
+use Rattle.world_model.specs.Switch.{control_port, numbers_of, begun}
+use Rattle.world_model.specs.Answers.{row_of}
 use Rattle.port_model.specs.Setup.{Policy, Setup}
 use Rattle.port_model.specs.Saying.{is_spent}
 use Rattle.port_facts.proofs.Keyed.{at_every, every_more}
 use Rattle.port_widths.specs.Widths.{FitsPort, FitsSetup}
-use Rattle.controller_model.specs.declared.range.PortRange.{PortRange}
-use Rattle.controller_model.specs.Controller.{Linked, ports_of}
-use Rattle.controller_model.specs.Opening.{setup_of, opens_ports}
+use Rattle.world_model.specs.declared.range.PortRange.{PortRange}
+use Rattle.world_model.specs.Controller.{Linked, ports_of}
+use Rattle.world_model.specs.Opening.{setup_of, opens_ports}
 use Rattle.controller_views.specs.Ready.{IsReadyPort}
 use Rattle.world_model.specs.declared.event.Event.{Event}
 use Rattle.world_model.specs.Topology.{Topology, Node, ranges_of, timers_of}

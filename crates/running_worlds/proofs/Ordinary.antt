@@ -22,12 +22,12 @@ use Rattle.link_model.specs.Ledger.{payload_of}
 use Rattle.frame_model.specs.Frame.{frame_cells, made}
 use Rattle.frame_model.specs.Sending.{Sent}
 use Rattle.port_facts.proofs.Keyed.{on_both}
-use Rattle.switch_model.specs.Switch as switches
-use Rattle.switch_model.specs.Conduct as switch
-use Rattle.controller_model.specs.Controller.{Controller, Acted, free_slots, linked_at, default_channel}
-use Rattle.controller_model.specs.Cells.{same_channel, ForGsmp, port_on, on_link, taker_at}
-use Rattle.controller_model.specs.Packets.{is_control}
-use Rattle.controller_model.specs.Sending.{with_cells, sends}
+use Rattle.world_model.specs.Switch as switches
+use Rattle.world_model.specs.Conduct as switch
+use Rattle.world_model.specs.Controller.{Controller, Acted, free_slots, linked_at, default_channel}
+use Rattle.world_model.specs.Cells.{same_channel, ForGsmp, port_on, on_link, taker_at}
+use Rattle.world_model.specs.Packets.{is_control}
+use Rattle.world_model.specs.Sending.{with_cells, sends}
 use Rattle.world_model.specs.declared.event.Event.{Event}
 use Rattle.world_model.specs.declared.event.Event.TheVariants.{Inject, Carry, Lose, Tick, TickSwitch, Restart, RestartSwitch, Forge, Route}
 use Rattle.world_model.specs.declared.link.LinkEnd.{LinkEnd}

@@ -9,7 +9,7 @@ use Rattle.gsmp_wire.specs.declared.request.Request.{Request}
 use Rattle.gsmp_wire.specs.declared.request.Request.TheVariants.{MoveBranch}
 use Rattle.ordered_lists.specs.Ordered.{Every}
 use Rattle.ordered_lists.proofs.Every.{every_join}
-use Rattle.desk_model.specs.Desk.{Standing, asked, is_led_home, message_at, last_transaction}
+use Rattle.port_model.specs.Desk.{Standing, asked, is_led_home, message_at, last_transaction}
 use Rattle.port_model.specs.declared.action.Action.{Action}
 use Rattle.port_model.specs.declared.action.Action.TheVariants.{Say, Ask, Note, CutChain, TakeBack, Withdraw, Reset}
 use Rattle.port_model.specs.Setup.{Setup, home_of}
@@ -23,10 +23,10 @@ use Rattle.port_facts.proofs.Keyed.{on_both, on_each, at_every}
 use Rattle.port_facts.proofs.Joins.{resets_kept}
 use Rattle.port_widths.specs.Widths.{FitsAction, FitsWork}
 use Rattle.port_widths.proofs.Rules.{resets_fit}
-use Rattle.controller_model.specs.Controller.{Acted, Linked, port_key, linked_at, with_desk}
-use Rattle.controller_model.specs.Asking.{sends_request, asks_next, asks, takes_back}
-use Rattle.controller_model.specs.Resets.{begins, with_work, node_resets}
-use Rattle.controller_model.specs.Performing.{does, does_in_estab, resets_as, resets_of, resets_port, performs, performs_in_estab, Rule, works_as, works, at_port}
+use Rattle.world_model.specs.Controller.{Acted, Linked, port_key, linked_at, with_desk}
+use Rattle.world_model.specs.Asking.{sends_request, asks_next, asks, takes_back}
+use Rattle.world_model.specs.Resets.{begins, with_work, node_resets}
+use Rattle.world_model.specs.Performing.{does, does_in_estab, resets_as, resets_of, resets_port, performs, performs_in_estab, Rule, works_as, works, at_port}
 use Rattle.controller_facts.proofs.Moves.{Worked, by_reset, Found, asking, placing, Moves, moves_to, HasPorts, found_setup, found_at_own, begun, moves_ports, worked_kept}
 use Rattle.controller_facts.proofs.Performing.{resets_port_goes, works_as_goes}
 use Rattle.controller_facts.proofs.Joining.{every_flat_map}

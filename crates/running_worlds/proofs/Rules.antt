@@ -20,7 +20,7 @@ use Rattle.ifmp_wire.specs.Message.{InRange, FitsMessage}
 use Rattle.gsmp_wire.specs.declared.request.Request.{Request}
 use Rattle.ordered_lists.specs.Ordered.{Every}
 use Rattle.keyed_lists.specs.Keyed.{at}
-use Rattle.desk_model.specs.Desk.{Desk}
+use Rattle.port_model.specs.Desk.{Desk}
 use Rattle.port_model.specs.declared.action.Action.TheVariants.{Ask}
 use Rattle.port_model.specs.Setup.{Setup}
 use Rattle.port_model.specs.Labels.{Label, Offered, label_for, lowest_spare}
@@ -44,9 +44,9 @@ use Rattle.port_widths.proofs.Rules.{hears_fit, counts_fit, used_fit, done_fit, 
 use Rattle.label_steps.specs.Follows.{IsUnspent}
 use Rattle.label_steps.proofs.Follow.{unspent_session, unspent_label}
 use Rattle.label_steps.proofs.Unspent.{hears_unspent, used_unspent, done_unspent}
-use Rattle.controller_model.specs.Controller.{Acted, Linked, linked_at}
-use Rattle.controller_model.specs.Resets.{begins}
-use Rattle.controller_model.specs.Performing.{at_port}
+use Rattle.world_model.specs.Controller.{Acted, Linked, linked_at}
+use Rattle.world_model.specs.Resets.{begins}
+use Rattle.world_model.specs.Performing.{at_port}
 use Rattle.controller_facts.proofs.Flows.{says_in_range}
 use Rattle.controller_facts.proofs.Moves.{by_rule, by_closing, by_parting, by_joining, by_lending, by_giving_back, HasPorts, found_port}
 use Rattle.controller_lifts.proofs.Lifts.{heard_any}

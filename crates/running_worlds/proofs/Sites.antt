@@ -29,16 +29,16 @@ use Rattle.crossbar_model.specs.Crossbar.{queue_of}
 use Rattle.ordered_lists.specs.Ordered.{Every, InOrder}
 use Rattle.ordered_lists.proofs.Every.{every_map, every_unmapped}
 use Rattle.keyed_lists.specs.Keyed.{at}
-use Rattle.desk_model.specs.Desk.{Standing}
-use Rattle.switch_model.specs.declared.port.PortState.{PortState}
-use Rattle.switch_model.specs.Switch.{control_port, numbers_of}
-use Rattle.switch_model.specs.Answers.{row_of}
+use Rattle.port_model.specs.Desk.{Standing}
+use Rattle.world_model.specs.declared.port.PortState.{PortState}
+use Rattle.world_model.specs.Switch.{control_port, numbers_of}
+use Rattle.world_model.specs.Answers.{row_of}
 use Rattle.port_model.specs.Setup.{Setup, Policy, home_of}
 use Rattle.port_facts.specs.Port.{setup_port, IsLinked, IsLabelEnd, IsShaped}
 use Rattle.port_facts.proofs.Found.{find_every}
 use Rattle.port_facts.proofs.Keyed.{at_key, at_every}
-use Rattle.controller_model.specs.Controller.{Controller, Linked, linked_at, ports_of, port_key, default_channel}
-use Rattle.controller_model.specs.Cells.{same_channel}
+use Rattle.world_model.specs.Controller.{Controller, Linked, linked_at, ports_of, port_key, default_channel}
+use Rattle.world_model.specs.Cells.{same_channel}
 use Rattle.controller_facts.proofs.Conditions.{label_has_home}
 use Rattle.world_model.specs.Conditions.{IsLinkedNext}
 use Rattle.world_model.specs.World.{World, Site, site_at}

@@ -10,10 +10,10 @@ use Rattle.port_model.specs.Port.{Session, Port, Work, halts}
 use Rattle.port_model.specs.Saying.{is_spent, closes}
 use Rattle.port_model.specs.Resets.{resets}
 use Rattle.port_facts.proofs.Keyed.{on_each, at_key}
-use Rattle.controller_model.specs.Controller.{Acted, Linked, port_key, linked_at, ports_of}
-use Rattle.controller_model.specs.Resets.{begins, with_work}
-use Rattle.controller_model.specs.Performing.{does_in_estab, resets_as, resets_of, resets_port, works_as, works}
-use Rattle.controller_model.specs.Joins.{resets_spent}
+use Rattle.world_model.specs.Controller.{Acted, Linked, port_key, linked_at, ports_of}
+use Rattle.world_model.specs.Resets.{begins, with_work}
+use Rattle.world_model.specs.Performing.{does_in_estab, resets_as, resets_of, resets_port, works_as, works}
+use Rattle.world_model.specs.Joins.{resets_spent}
 use Rattle.controller_facts.specs.Sound.{IsSound, IsShutLinked}
 use Rattle.controller_facts.proofs.Moves.{by_closing, placing, Moves, moves_to, found_at_own}
 use Rattle.controller_facts.proofs.Joining.{resets_spent_goes}

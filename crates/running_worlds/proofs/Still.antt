@@ -17,8 +17,8 @@ use Rattle.port_model.specs.declared.action.Action.TheVariants.{Say, Ask, Note, 
 use Rattle.port_model.specs.Port.{Work}
 use Rattle.port_model.specs.Resets.{restarts}
 use Rattle.port_facts.proofs.Keyed.{on_both}
-use Rattle.controller_model.specs.Controller.{Acted, Linked, linked_at, ports_of, chain_of}
-use Rattle.controller_model.specs.Resets.{cuts_of, begins, with_work, closes_by, port_restarts_as, port_restarts_of, port_restarts, resets_gsmp, node_resets}
+use Rattle.world_model.specs.Controller.{Acted, Linked, linked_at, ports_of, chain_of}
+use Rattle.world_model.specs.Resets.{cuts_of, begins, with_work, closes_by, port_restarts_as, port_restarts_of, port_restarts, resets_gsmp, node_resets}
 
 -- *The notes*: no frame is made while cells are gathered, cut and tested
 all_frames : (items : List Record) (notes : Journal) → (noted_all notes items).frames ≡ notes.frames

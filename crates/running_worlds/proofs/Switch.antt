@@ -35,18 +35,18 @@ use Rattle.crossbar_model.specs.declared.routed.Routed.{Routed}
 use Rattle.crossbar_model.specs.declared.routed.Routed.TheVariants as routes
 use Rattle.crossbar_model.specs.declared.branch.Branch.{Branch as BranchOf}
 use Rattle.crossbar_model.specs.Crossbar.{routed, cut_by_move}
-use Rattle.desk_model.specs.Desk.{Standing}
-use Rattle.desk_model.specs.Answers.{Head, head_of}
+use Rattle.port_model.specs.Desk.{Standing}
+use Rattle.port_model.specs.DeskAnswers.{Head, head_of}
 use Rattle.port_facts.proofs.Keyed.{on_both, on_each}
 use Rattle.port_facts.proofs.Rules.{and_first}
-use Rattle.switch_model.specs.declared.port.PortState.{PortState}
-use Rattle.switch_model.specs.declared.request.Asked.{Asked}
-use Rattle.switch_model.specs.declared.request.Failure.{Failure}
-use Rattle.switch_model.specs.Switch.{Switch, Acted, control_port, gsmp_channel, free_slots, begun}
-use Rattle.switch_model.specs.Requests.{Changed, noted_cut, moved_by, moved_to, ended_by, ended, all_ended, inputs_on, cleared, branches_after, asked_in, is_request, ports_after}
-use Rattle.switch_model.specs.Failures.{failure_of}
-use Rattle.switch_model.specs.Answers.{row_of, Handled, handled_by, handled_asked, handled}
-use Rattle.switch_model.specs.Conduct.{with_cells, says, answers, steps, replied, requested, told, read, after_test, ends_frame, gsmp_cell, passed, switched_cell, is_gsmp, cell_comes, tick_comes, restarted}
+use Rattle.world_model.specs.declared.port.PortState.{PortState}
+use Rattle.world_model.specs.declared.request.Asked.{Asked}
+use Rattle.world_model.specs.declared.request.Failure.{Failure}
+use Rattle.world_model.specs.Switch.{Switch, Acted, control_port, gsmp_channel, free_slots, begun}
+use Rattle.world_model.specs.Requests.{Changed, noted_cut, moved_by, moved_to, ended_by, ended, all_ended, inputs_on, cleared, branches_after, asked_in, is_request, ports_after}
+use Rattle.world_model.specs.Failures.{failure_of}
+use Rattle.world_model.specs.Answers.{row_of, Handled, handled_by, handled_asked, handled}
+use Rattle.world_model.specs.Conduct.{with_cells, says, answers, steps, replied, requested, told, read, after_test, ends_frame, gsmp_cell, passed, switched_cell, is_gsmp, cell_comes, tick_comes, restarted}
 use Rattle.world_model.specs.Ways.{copy_by, copy_of}
 use Rattle.world_views.specs.Made.{said, AreMade}
 use Rattle.world_views.specs.Ready.{FitsSide}

@@ -41,19 +41,19 @@ use Rattle.frame_model.specs.Reassembly.{Reassembly, Taken, marks_of, most_cells
 use Rattle.frame_model.specs.Sending.{Sent}
 use Rattle.ordered_lists.specs.Ordered.{Every}
 use Rattle.ordered_lists.proofs.Every.{every_join, every_map, every_mapped}
-use Rattle.desk_model.specs.Messages.{is_up}
+use Rattle.port_model.specs.Messages.{is_up}
 use Rattle.port_model.specs.Setup.{Setup}
 use Rattle.port_facts.specs.Port.{IsShaped, asks_ports, empties_control, empties_port, opens_input, opens_output, leads_label, leads_grant, joins_label, parts_label, frees_label}
 use Rattle.port_facts.proofs.Keyed.{on_both, on_each}
-use Rattle.switch_model.specs.declared.port.PortState.{PortState}
-use Rattle.switch_model.specs.declared.request.Asked.{Asked}
-use Rattle.switch_model.specs.declared.request.Failure.{Failure}
-use Rattle.switch_model.specs.Switch.{Switch, Acted, control_port, gsmp_channel, free_slots, numbers_of, begun}
-use Rattle.switch_model.specs.Requests.{Changed, end_at, branch_request, noted_cut, ended_by, moved_by, branches_after, ports_after, cleared, inputs_on, asked_in, is_request}
-use Rattle.switch_model.specs.Failures.{failure_of}
-use Rattle.switch_model.specs.Answers.{row_of, handled, handled_asked, handled_by}
-use Rattle.switch_model.specs.Conduct.{with_cells, says, answers, steps, replied, requested, told, read, after_test, ends_frame, after_cell, gsmp_cell, passed as passed_cell, switched_cell, tick_comes, restarted}
-use Rattle.controller_model.specs.Controller.{default_channel}
+use Rattle.world_model.specs.declared.port.PortState.{PortState}
+use Rattle.world_model.specs.declared.request.Asked.{Asked}
+use Rattle.world_model.specs.declared.request.Failure.{Failure}
+use Rattle.world_model.specs.Switch.{Switch, Acted, control_port, gsmp_channel, free_slots, numbers_of, begun}
+use Rattle.world_model.specs.Requests.{Changed, end_at, branch_request, noted_cut, ended_by, moved_by, branches_after, ports_after, cleared, inputs_on, asked_in, is_request}
+use Rattle.world_model.specs.Failures.{failure_of}
+use Rattle.world_model.specs.Answers.{row_of, handled, handled_asked, handled_by}
+use Rattle.world_model.specs.Conduct.{with_cells, says, answers, steps, replied, requested, told, read, after_test, ends_frame, after_cell, gsmp_cell, passed as passed_cell, switched_cell, tick_comes, restarted}
+use Rattle.world_model.specs.Controller.{default_channel}
 use Rattle.world_model.specs.Ways.{gsmp_of, gsmp_under, copy_by, copy_of, told as heard}
 use Rattle.input_steps.specs.Asking.{IsReadable}
 use Rattle.input_steps.specs.Hearing.{IsEnded, LeadsAway, PassesTrue}

@@ -22,9 +22,9 @@ use Rattle.port_model.specs.Setup.{Setup}
 use Rattle.port_model.specs.Labels.{Label, is_bound}
 use Rattle.port_model.specs.Port.{label_at}
 use Rattle.port_facts.proofs.Found.{by_number as label_there}
-use Rattle.controller_model.specs.Controller.{Controller, Acted, Linked, free_slots, linked_at, chains_with, default_channel}
-use Rattle.controller_model.specs.Opening.{opens_ports, setup_of}
-use Rattle.controller_model.specs.Cells.{Taker, ForGsmp, ForDefault, ForLabel, port_on, on_link, same_channel, label_taker, taker_at, taker_of, reassembly_of, with_reassembly, frame_holds, ends_frame, after_test, after_cell, takes_cell, cell_comes}
+use Rattle.world_model.specs.Controller.{Controller, Acted, Linked, free_slots, linked_at, chains_with, default_channel}
+use Rattle.world_model.specs.Opening.{opens_ports, setup_of}
+use Rattle.world_model.specs.Cells.{Taker, ForGsmp, ForDefault, ForLabel, port_on, on_link, same_channel, label_taker, taker_at, taker_of, reassembly_of, with_reassembly, frame_holds, ends_frame, after_test, after_cell, takes_cell, cell_comes}
 use Rattle.controller_facts.specs.Inputs.{takes_inputs}
 use Rattle.controller_facts.specs.Sound.{Opening, opened_by, setups_by}
 use Rattle.controller_facts.proofs.Laws.{always_sound, has_ports, moves_sound}
@@ -36,7 +36,7 @@ use Rattle.controller_bindings.specs.Bindings.{noted_by_all}
 use Rattle.controller_bindings.proofs.Anew.{IsNew}
 use Rattle.controller_facts.proofs.Unmet.{ports_apart}
 use Rattle.controller_facts.specs.Inputs.{Input}
-use Rattle.controller_model.specs.declared.range.PortRange.{PortRange}
+use Rattle.world_model.specs.declared.range.PortRange.{PortRange}
 use Rattle.net_types.specs.declared.channel.Channel.{Channel}
 use Rattle.controller_bindings.proofs.Tied.{Tied, NoCut, Settled, anew_tied}
 use Rattle.controller_bindings.proofs.Events.{IsTiedTo, IsBoundAt, IsTakerOf, inputs_told, frame_bound, gathered_bound}

@@ -20,16 +20,16 @@ use Rattle.link_model.specs.declared.frames.Frame.{Frame}
 use Rattle.link_model.specs.declared.record.Record.{Record}
 use Rattle.ordered_lists.specs.Ordered.{Every}
 use Rattle.keyed_lists.specs.Keyed.{at}
-use Rattle.desk_model.specs.Desk.{Desk}
+use Rattle.port_model.specs.Desk.{Desk}
 use Rattle.port_model.specs.Setup.{Setup}
 use Rattle.port_model.specs.Port.{Work}
 use Rattle.port_facts.specs.Port.{setup_port, IsRanged}
 use Rattle.port_facts.proofs.Keyed.{at_key, at_every, put_every}
 use Rattle.port_widths.specs.Widths.{FitsSetup, FitsWork}
-use Rattle.controller_model.specs.Controller.{Acted, Linked, port_key, linked_at, note, default_channel, default_home}
-use Rattle.controller_model.specs.Sending.{sends, sends_control, says_gsmp, says_ifmp}
-use Rattle.controller_model.specs.Asking.{withdraws_input}
-use Rattle.controller_model.specs.Resets.{begins, with_work, cuts_label, resets_gsmp, node_resets}
+use Rattle.world_model.specs.Controller.{Acted, Linked, port_key, linked_at, note, default_channel, default_home}
+use Rattle.world_model.specs.Sending.{sends, sends_control, says_gsmp, says_ifmp}
+use Rattle.world_model.specs.Asking.{withdraws_input}
+use Rattle.world_model.specs.Resets.{begins, with_work, cuts_label, resets_gsmp, node_resets}
 use Rattle.adjacency_table.specs.Side.{Side}
 use Rattle.net_types.specs.declared.adjacency.Party.{Party}
 use Rattle.crossbar_model.specs.Channels.{IsLinkPort}

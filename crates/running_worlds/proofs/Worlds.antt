@@ -16,11 +16,11 @@ use Rattle.frame_model.specs.Frame.{octets_of, last_mark, payload_in}
 use Rattle.frame_model.specs.Reassembly.{Reassembly, Taken, taken, most_cells, passed_over, without_slot, too_long, joined}
 use Rattle.port_facts.proofs.Keyed.{at_every}
 use Rattle.port_model.specs.Setup.{Policy}
-use Rattle.switch_model.specs.Switch as switches
-use Rattle.switch_model.specs.Switch.{control_port}
-use Rattle.switch_model.specs.Conduct as switch
-use Rattle.controller_model.specs.Controller.{Controller, Acted, free_slots, default_channel}
-use Rattle.controller_model.specs.Cells.{Taker, same_channel, taker_of, reassembly_of, cell_comes}
+use Rattle.world_model.specs.Switch as switches
+use Rattle.world_model.specs.Switch.{control_port}
+use Rattle.world_model.specs.Conduct as switch
+use Rattle.world_model.specs.Controller.{Controller, Acted, free_slots, default_channel}
+use Rattle.world_model.specs.Cells.{Taker, same_channel, taker_of, reassembly_of, cell_comes}
 use Rattle.controller_facts.specs.Inputs.{takes_inputs}
 use Rattle.controller_facts.specs.Sound.{Opening, opened_by}
 use Rattle.world_model.specs.declared.event.Event.{Event}

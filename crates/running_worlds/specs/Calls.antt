@@ -6,11 +6,11 @@ use Rattle.crossbar_model.specs.Crossbar.{queue_of}
 use Rattle.ordered_lists.specs.Ordered.{Every}
 use Rattle.link_model.specs.declared.frames.Frame.{Frame}
 use Rattle.port_model.specs.Setup.{Setup}
-use Rattle.switch_model.specs.declared.port.PortState.{PortState}
-use Rattle.switch_model.specs.Switch.{Acted, control_port, numbers_of}
-use Rattle.switch_model.specs.Conduct.{tick_comes, restarted}
-use Rattle.controller_model.specs.Controller as controllers
-use Rattle.controller_model.specs.Ticks.{ticks}
+use Rattle.world_model.specs.declared.port.PortState.{PortState}
+use Rattle.world_model.specs.Switch.{Acted, control_port, numbers_of}
+use Rattle.world_model.specs.Conduct.{tick_comes, restarted}
+use Rattle.world_model.specs.Controller as controllers
+use Rattle.world_model.specs.Ticks.{ticks}
 use Rattle.input_premises.specs.Steady.{IsSteady}
 use Rattle.running_worlds.specs.Mode.{Mode}
 use Rattle.running_worlds.specs.New.{TellsUp, SinceThen}

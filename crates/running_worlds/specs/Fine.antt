@@ -6,12 +6,12 @@ use Rattle.crossbar_model.specs.Channels.{IsLinkPort}
 use Rattle.gsmp_wire.specs.declared.request.Request.{Request}
 use Rattle.ordered_lists.specs.Ordered.{Every}
 use Rattle.link_model.specs.declared.frames.Frame.{Frame}
-use Rattle.desk_model.specs.Desk.{last_transaction}
+use Rattle.port_model.specs.Desk.{last_transaction}
 use Rattle.port_model.specs.Setup.{Setup}
 use Rattle.port_facts.specs.Port.{IsShaped}
-use Rattle.controller_model.specs.Controller.{Acted}
-use Rattle.controller_model.specs.Asking.{asks}
-use Rattle.controller_model.specs.Resets.{node_resets}
+use Rattle.world_model.specs.Controller.{Acted}
+use Rattle.world_model.specs.Asking.{asks}
+use Rattle.world_model.specs.Resets.{node_resets}
 use Rattle.input_premises.specs.Read.{AreRead}
 use Rattle.running_worlds.specs.Mode.{Mode, Told, Untold, IsMild, Knows}
 use Rattle.running_worlds.specs.New.{AsksShaped, SinceThen}

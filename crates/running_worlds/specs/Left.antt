@@ -8,12 +8,12 @@ use Rattle.gsmp_wire.specs.declared.rows.PortRow.{PortRow}
 use Rattle.ordered_lists.specs.Ordered.{Every}
 use Rattle.link_model.specs.declared.frames.Frame.{Frame}
 use Rattle.crossbar_model.specs.Crossbar.{queue_of}
-use Rattle.desk_model.specs.Desk.{Standing}
-use Rattle.switch_model.specs.declared.port.PortState.{PortState}
-use Rattle.switch_model.specs.Switch.{control_port}
+use Rattle.port_model.specs.Desk.{Standing}
+use Rattle.world_model.specs.declared.port.PortState.{PortState}
+use Rattle.world_model.specs.Switch.{control_port}
 use Rattle.port_model.specs.Setup.{Setup}
 use Rattle.port_facts.specs.Port.{IsShaped}
-use Rattle.controller_model.specs.Controller.{Controller}
+use Rattle.world_model.specs.Controller.{Controller}
 use Rattle.world_model.specs.World.{Site}
 use Rattle.world_model.specs.Ways.{gsmp_under, copy_under}
 use Rattle.world_views.specs.Between.{AreUp, setups_of}

@@ -4,10 +4,10 @@ use Rattle.std.specs.Prelude.{◌≡◌, true, nat_lt, List, [], ◌∷◌, ◌+
 use Rattle.net_types.specs.declared.node.NodeId.{NodeId}
 use Rattle.net_types.specs.declared.node.Place.TheVariants.{Down, Up}
 use Rattle.atm_cells.specs.declared.cell.Cell.{Cell}
-use Rattle.switch_model.specs.Switch as switches
+use Rattle.world_model.specs.Switch as switches
 use Rattle.port_model.specs.Setup.{Policy}
-use Rattle.controller_model.specs.Controller.{free_slots, default_channel}
-use Rattle.controller_model.specs.Cells.{Taker, same_channel, taker_of, reassembly_of}
+use Rattle.world_model.specs.Controller.{free_slots, default_channel}
+use Rattle.world_model.specs.Cells.{Taker, same_channel, taker_of, reassembly_of}
 use Rattle.world_model.specs.declared.event.Event.{Event}
 use Rattle.world_model.specs.declared.event.Event.TheVariants.{Carry}
 use Rattle.world_model.specs.Topology.{Topology}

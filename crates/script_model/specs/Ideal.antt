@@ -7,7 +7,7 @@ use Rattle.lab_text.specs.Text.{line_of}
 use Rattle.link_model.specs.declared.record.Record.{Record}
 use Rattle.link_model.specs.declared.record.Record.TheVariants.{Delivered, Dropped, Refused}
 use Rattle.link_model.specs.declared.record.Refusal.{Refusal}
-use Rattle.controller_model.specs.Packets.{inject_refusal}
+use Rattle.world_model.specs.Packets.{inject_refusal}
 use Rattle.world_model.specs.declared.event.Event.{Event}
 use Rattle.world_model.specs.declared.event.Event.TheVariants.{Inject}
 use Rattle.world_model.specs.Topology.{Topology}

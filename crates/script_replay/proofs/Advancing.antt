@@ -11,7 +11,7 @@ use Rattle.lab_text.specs.Line.{input_limit}
 use Rattle.lab_text.specs.Lines.{lines_of}
 use Rattle.lab_text.proofs.LineLemmas.{only_line}
 use Rattle.port_model.specs.Setup.{Policy}
-use Rattle.controller_model.specs.Controller.{Controller}
+use Rattle.world_model.specs.Controller.{Controller}
 use Rattle.world_model.specs.Topology.{Topology}
 use Rattle.script_model.specs.declared.refusal.LineRefusal.{LineRefusal}
 use Rattle.script_model.specs.declared.refusal.LineRefusal.TheVariants.{LineTooLong, ScriptTooLong}

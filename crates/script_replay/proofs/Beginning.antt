@@ -5,7 +5,7 @@ use Rattle.std.specs.Io.KnownBytes.{Appends, Consumes}
 use Rattle.lab_io.specs.Report.{Writer}
 use Rattle.lab_text.specs.Line.{input_limit}
 use Rattle.port_model.specs.Setup.{Policy}
-use Rattle.controller_model.specs.Controller.{Controller}
+use Rattle.world_model.specs.Controller.{Controller}
 use Rattle.world_model.specs.Topology.{Topology}
 use Rattle.script_model.specs.Reading.{line_says}
 use Rattle.script_model.specs.State.{ScriptState}

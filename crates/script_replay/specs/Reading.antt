@@ -7,7 +7,7 @@ use Rattle.lab_io.specs.Lines.{feed}
 use Rattle.lab_io.specs.Report.{IsPut, Writer}
 use Rattle.lab_text.specs.Lines.{lines_of}
 use Rattle.port_model.specs.Setup.{Policy}
-use Rattle.controller_model.specs.Controller.{Controller}
+use Rattle.world_model.specs.Controller.{Controller}
 use Rattle.world_model.specs.Topology.{Topology}
 use Rattle.world_model.specs.World.{opened}
 use Rattle.script_model.specs.declared.refusal.Refused.{Refused}

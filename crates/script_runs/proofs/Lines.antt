@@ -12,7 +12,7 @@ use Rattle.ordered_lists.specs.Ordered.{Every}
 use Rattle.ordered_lists.proofs.Every.{every_join, every_mapped, every_map}
 use Rattle.port_facts.proofs.Keyed.{every_more}
 use Rattle.ipv4_forward.specs.declared.table.Next.TheVariants.{Local, Via}
-use Rattle.controller_model.specs.Controller.{ports_of}
+use Rattle.world_model.specs.Controller.{ports_of}
 use Rattle.world_model.specs.declared.event.Event.{Event}
 use Rattle.world_model.specs.declared.event.Event.TheVariants.{Carry, Tick, TickSwitch}
 use Rattle.world_model.specs.declared.line.TopologyLine.{TopologyLine}

@@ -18,8 +18,8 @@ use Rattle.ordered_lists.specs.Ordered.{Every}
 use Rattle.ordered_lists.proofs.Every.{every_join}
 use Rattle.label_line.specs.Cells as lines
 use Rattle.label_line.specs.Cells.{Role}
-use Rattle.controller_model.specs.Controller.{default_channel}
-use Rattle.controller_model.specs.Cells.{same_channel}
+use Rattle.world_model.specs.Controller.{default_channel}
+use Rattle.world_model.specs.Cells.{same_channel}
 use Rattle.port_views.specs.Link.{LinkLabel}
 use Rattle.shown_cells.specs.Seen.{Nothing, Word, nothing, hidden, word}
 use Rattle.shown_cells.specs.Label.{Where, seen_payload, on_label, seen, ShowsCells, channel_at}

@@ -10,8 +10,8 @@ use Rattle.link_model.proofs.Marks.{same_mark-Decides}
 use Rattle.label_line.specs.Cells as lines
 use Rattle.label_line.specs.Cells.{Role}
 use Rattle.net_types.specs.Label.{label_channel_of}
-use Rattle.controller_model.specs.Controller.{default_channel}
-use Rattle.controller_model.specs.Cells.{same_channel}
+use Rattle.world_model.specs.Controller.{default_channel}
+use Rattle.world_model.specs.Cells.{same_channel}
 use Rattle.port_views.specs.Link.{LinkLabel}
 use Rattle.shown_cells.specs.Seen.{Seen, Nothing, Unknown, Extends, IsUnmade}
 use Rattle.shown_cells.specs.Label.{Where, seen_payload, on_label, seen, ShowsCells, channel_at}

@@ -16,7 +16,7 @@ ghost use Rattle.link_model.specs.Ledger.{payload_of};
 ghost use Rattle.frame_model.specs.Frame.{frame_cells};
 ghost use Rattle.label_line.specs.Cells as lines;
 ghost use Rattle.label_line.specs.Cells.{Role};
-ghost use Rattle.controller_model.specs.Controller.{default_channel};
+ghost use Rattle.world_model.specs.Controller.{default_channel};
 ghost use Rattle.port_views.specs.Link.{LinkLabel};
 ghost use Rattle.shown_cells.specs.Seen.{Nothing, Word, Extends};
 ghost use Rattle.shown_cells.specs.Label.{Where, channel_at, seen_payload, ShowsCells};

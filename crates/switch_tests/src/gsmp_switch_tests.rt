@@ -2,7 +2,7 @@
 
 ghost use Rattle.std.specs.Prelude.{◌≡◌, ◌≤◌, true, length};
 ghost use Rattle.gsmp_wire.specs.Range.{IsInRange};
-ghost use Rattle.switch_model.specs.Requests.{is_request};
+ghost use Rattle.world_model.specs.Requests.{is_request};
 
 use aal5_frames::segment;
 use atm_cells::{Cell, Header};

@@ -17,14 +17,14 @@ use Rattle.link_model.specs.Ledger.{payload_of, is_frame}
 use Rattle.frame_model.specs.Frame.{tested, tested_by, payload_in, octets_of}
 use Rattle.frame_model.specs.Reassembly.{Reassembly, taken}
 use Rattle.ordered_lists.specs.Ordered.{Every}
-use Rattle.desk_model.specs.Desk.{Standing}
-use Rattle.desk_model.specs.Requests.{leads_home}
-use Rattle.desk_model.specs.Answers.{Done, answered, after_answer}
+use Rattle.port_model.specs.Desk.{Standing}
+use Rattle.port_model.specs.Requests.{leads_home}
+use Rattle.port_model.specs.DeskAnswers.{Done, answered, after_answer}
 use Rattle.port_model.specs.Setup.{Policy, Setup, home_of}
 use Rattle.port_facts.specs.Port.{IsShaped}
-use Rattle.controller_model.specs.Controller.{Controller, Acted, free_slots, with_desk}
-use Rattle.controller_model.specs.Meeting.{is_deleting, has_emptied}
-use Rattle.controller_model.specs.Cells.{Taker, ForGsmp, ForDefault, ForLabel, taker_of, reassembly_of}
+use Rattle.world_model.specs.Controller.{Controller, Acted, free_slots, with_desk}
+use Rattle.world_model.specs.Meeting.{is_deleting, has_emptied}
+use Rattle.world_model.specs.Cells.{Taker, ForGsmp, ForDefault, ForLabel, taker_of, reassembly_of}
 use Rattle.controller_facts.specs.Sound.{IsSound}
 use Rattle.controller_facts.proofs.Moves.{HasPorts, moves_to, further, gathering, answering, moves_ports}
 use Rattle.controller_facts.proofs.Laws.{has_ports, moves_sound}

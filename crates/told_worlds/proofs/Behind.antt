@@ -14,8 +14,8 @@ use Rattle.ordered_lists.specs.Ordered.{Every}
 use Rattle.port_facts.proofs.Keyed.{at_key, at_every}
 use Rattle.port_facts.specs.Port.{IsLabelEnd}
 use Rattle.port_model.specs.Setup.{Setup, home_of, is_in_range}
-use Rattle.controller_model.specs.Controller.{Acted, Linked, linked_at, port_key, default_channel, default_home}
-use Rattle.controller_model.specs.Cells.{same_channel}
+use Rattle.world_model.specs.Controller.{Acted, Linked, linked_at, port_key, default_channel, default_home}
+use Rattle.world_model.specs.Cells.{same_channel}
 use Rattle.world_model.specs.declared.link.LinkEnd.{LinkEnd}
 use Rattle.world_model.specs.Topology.{peer_of}
 use Rattle.world_model.specs.World.{World, Site, site_at, site_key, with_site}

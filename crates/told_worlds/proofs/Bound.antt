@@ -14,15 +14,15 @@ use Rattle.link_model.specs.declared.record.Record.TheVariants as kinds
 use Rattle.link_model.specs.declared.record.Record.TheVariants.{Bind}
 use Rattle.ordered_lists.proofs.Every.{every_map}
 use Rattle.port_model.specs.Setup.{Policy}
-use Rattle.controller_model.specs.Controller.{Acted, Linked, linked_at}
+use Rattle.world_model.specs.Controller.{Acted, Linked, linked_at}
 use Rattle.controller_facts.proofs.Moves.{Found}
 use Rattle.port_facts.specs.Port.{IsPort}
 use Rattle.ipv4_forward.specs.declared.change.RouteChange.{RouteChange}
-use Rattle.controller_model.specs.Cells.{Taker, ForGsmp, ForDefault, ForLabel, taker_of, cell_comes}
-use Rattle.controller_model.specs.Ticks.{ticks}
-use Rattle.controller_model.specs.Resets.{node_restarts}
-use Rattle.controller_model.specs.Changes.{change_comes}
-use Rattle.controller_model.specs.Packets.{injected}
+use Rattle.world_model.specs.Cells.{Taker, ForGsmp, ForDefault, ForLabel, taker_of, cell_comes}
+use Rattle.world_model.specs.Ticks.{ticks}
+use Rattle.world_model.specs.Resets.{node_restarts}
+use Rattle.world_model.specs.Changes.{change_comes}
+use Rattle.world_model.specs.Packets.{injected}
 use Rattle.controller_facts.proofs.Joining.{each_there}
 use Rattle.world_model.specs.declared.event.Event.{Event}
 use Rattle.world_model.specs.declared.event.Event.TheVariants.{Carry}

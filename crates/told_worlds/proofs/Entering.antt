@@ -29,8 +29,8 @@ use Rattle.frame_model.specs.Frame.{frame_cells, Tested, tested, tested_by, last
 use Rattle.crossbar_model.specs.Crossbar.{same_end}
 use Rattle.ordered_lists.specs.Ordered.{Every}
 use Rattle.keyed_lists.specs.Keyed.{in_order, at}
-use Rattle.desk_model.specs.Desk.{empty_desk, sent_again, Standing, on_input, most_asked}
-use Rattle.desk_model.specs.Answers.{Answered, Unknown, Done, Ports, Failed, answered, after_answer}
+use Rattle.port_model.specs.Desk.{empty_desk, sent_again, Standing, on_input, most_asked}
+use Rattle.port_model.specs.DeskAnswers.{Answered, Unknown, Done, Ports, Failed, answered, after_answer}
 use Rattle.port_model.specs.Setup.{Setup, home_of, control_end, label_end}
 use Rattle.port_model.specs.Labels.{Label, LabelState, Offered, label_number}
 use Rattle.port_model.specs.Grants.{Grant, GrantState, Idle, ByController, ByInput, Leaving, is_by_controller, is_leaving, input_of, grant_for, grant_of_kind, grant_matching, grant_on}
@@ -40,15 +40,15 @@ use Rattle.port_model.specs.Resets.{cleared}
 use Rattle.port_facts.proofs.Keyed.{on_both, at_key, entered_every, on_each, every_more, at_every}
 use Rattle.port_facts.proofs.Found.{find_every, find_passes}
 use Rattle.port_facts.proofs.Rules.{and_first}
-use Rattle.controller_model.specs.Controller.{Acted, Linked, port_key, linked_at, ports_of, with_linked, with_desk, note, default_end, default_home, Controller, free_slots, chains_with}
-use Rattle.controller_model.specs.Asking.{asks, sends_request}
-use Rattle.controller_model.specs.Resets.{begins, node_resets}
-use Rattle.controller_model.specs.Performing.{at_port, works_as, works}
-use Rattle.controller_model.specs.Joins.{Join, join_to, joins_at, end_le, joins_of, join_of, parts, releases_join, releases_input, released_inputs, resets_spent, releases, port_by, join_through, join_by, join_for, may_join, enters_grant, output_of, enters_label, joins, tries_label, label_on, tries_join, inputs_at, tries_joins, is_offered}
-use Rattle.controller_model.specs.Meeting.{meets, up_ports, empties, default_branches, ends_meeting, has_emptied, port_of, tells_port, behind_delete_all, causes_in_estab, causes, may_clear, clears_of, clears_port, clears, done, answers_desk, answer_comes, is_clearing, awaits_nothing, port_of_input}
-use Rattle.controller_model.specs.Changes.{changed_joins, takes_join_back, begins_change, takes_change, may_take, takes_each, takes_changes, change_comes}
+use Rattle.world_model.specs.Controller.{Acted, Linked, port_key, linked_at, ports_of, with_linked, with_desk, note, default_end, default_home, Controller, free_slots, chains_with}
+use Rattle.world_model.specs.Asking.{asks, sends_request}
+use Rattle.world_model.specs.Resets.{begins, node_resets}
+use Rattle.world_model.specs.Performing.{at_port, works_as, works}
+use Rattle.world_model.specs.Joins.{Join, join_to, joins_at, end_le, joins_of, join_of, parts, releases_join, releases_input, released_inputs, resets_spent, releases, port_by, join_through, join_by, join_for, may_join, enters_grant, output_of, enters_label, joins, tries_label, label_on, tries_join, inputs_at, tries_joins, is_offered}
+use Rattle.world_model.specs.Meeting.{meets, up_ports, empties, default_branches, ends_meeting, has_emptied, port_of, tells_port, behind_delete_all, causes_in_estab, causes, may_clear, clears_of, clears_port, clears, done, answers_desk, answer_comes, is_clearing, awaits_nothing, port_of_input}
+use Rattle.world_model.specs.Changes.{changed_joins, takes_join_back, begins_change, takes_change, may_take, takes_each, takes_changes, change_comes}
 use Rattle.controller_facts.proofs.Joining.{every_flat_map}
-use Rattle.desk_model.specs.Messages.{is_up}
+use Rattle.port_model.specs.Messages.{is_up}
 use Rattle.adjacency_table.specs.declared.State.{State}
 use Rattle.adjacency_table.specs.declared.State.TheVariants.{Clearing, SynSent, SynRcvd, Estab}
 use Rattle.ipv4_forward.specs.Change.{changed}
@@ -84,18 +84,18 @@ use Rattle.link_model.specs.Notes.{Journal, noted}
 use Rattle.frame_model.specs.Reassembly.{Reassembly, Taken, taken, passed_over, without_slot, too_long, skipping_from, most_cells, marks_of}
 use Rattle.port_model.specs.Counting.{counts, used}
 use Rattle.port_model.specs.Hearing.{hears, label_by}
-use Rattle.controller_model.specs.Sending.{sends, says_gsmp}
-use Rattle.controller_model.specs.Gsmp.{answers, steps, gsmp_holds}
-use Rattle.controller_model.specs.Packets.{is_control, sends_next, goes_by, grant_by, forwarded, routes, control_protocol, injected}
-use Rattle.controller_model.specs.Cells.{Taker, ForGsmp, ForDefault, ForLabel, port_on, taker_of, reassembly_of, with_reassembly, label_holds, ifmp_holds, counted_at, packet_holds, default_holds, frame_holds, opened_frame, after_test, ends_frame, after_cell, takes_cell, cell_comes}
-use Rattle.controller_model.specs.Ticks.{sends_again, ticks_port, ticks_ports, ticks_by, ticks}
+use Rattle.world_model.specs.Sending.{sends, says_gsmp}
+use Rattle.world_model.specs.Gsmp.{answers, steps, gsmp_holds}
+use Rattle.world_model.specs.Packets.{is_control, sends_next, goes_by, grant_by, forwarded, routes, control_protocol, injected}
+use Rattle.world_model.specs.Cells.{Taker, ForGsmp, ForDefault, ForLabel, port_on, taker_of, reassembly_of, with_reassembly, label_holds, ifmp_holds, counted_at, packet_holds, default_holds, frame_holds, opened_frame, after_test, ends_frame, after_cell, takes_cell, cell_comes}
+use Rattle.world_model.specs.Ticks.{sends_again, ticks_port, ticks_ports, ticks_by, ticks}
 use Rattle.link_model.specs.declared.frames.Frame.{Frame}
 use Rattle.link_model.specs.declared.record.Record.{Record}
 use Rattle.ordered_lists.proofs.Every.{every_map}
 use Rattle.ipv4_forward.specs.declared.table.Next.{Next}
 use Rattle.ipv4_forward.specs.declared.table.Next.TheVariants.{Local, Via}
 use Rattle.ipv4_forward.specs.declared.table.Route.{Route}
-use Rattle.controller_model.specs.Routes.{route_stays}
+use Rattle.world_model.specs.Routes.{route_stays}
 use Rattle.controller_facts.proofs.Entering.{is_offered_by}
 use Rattle.controller_bindings.proofs.Flows.{one_flow}
 use Rattle.quiet_controllers.specs.Quiet.{Enters, here, later, entered, entered_for}

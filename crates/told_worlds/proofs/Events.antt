@@ -13,16 +13,16 @@ use Rattle.crossbar_model.specs.Crossbar.{queue_of, output_of, input_of}
 use Rattle.link_model.specs.declared.record.Refusal.{Refusal}
 use Rattle.ordered_lists.specs.Ordered.{Every}
 use Rattle.port_model.specs.Setup.{Policy}
-use Rattle.controller_model.specs.Controller.{Acted, default_channel, default_home}
-use Rattle.controller_model.specs.Cells.{cell_comes, same_channel}
-use Rattle.controller_model.specs.Ticks.{ticks}
-use Rattle.controller_model.specs.Resets.{node_restarts}
-use Rattle.controller_model.specs.Changes.{change_comes}
-use Rattle.controller_model.specs.Packets.{injected, inject_refusal}
+use Rattle.world_model.specs.Controller.{Acted, default_channel, default_home}
+use Rattle.world_model.specs.Cells.{cell_comes, same_channel}
+use Rattle.world_model.specs.Ticks.{ticks}
+use Rattle.world_model.specs.Resets.{node_restarts}
+use Rattle.world_model.specs.Changes.{change_comes}
+use Rattle.world_model.specs.Packets.{injected, inject_refusal}
 use Rattle.shown_cells.proofs.Frames.{same_self}
-use Rattle.switch_model.specs.Switch.{control_port, gsmp_channel}
-use Rattle.switch_model.specs.Switch as switches
-use Rattle.switch_model.specs.Conduct as switch
+use Rattle.world_model.specs.Switch.{control_port, gsmp_channel}
+use Rattle.world_model.specs.Switch as switches
+use Rattle.world_model.specs.Conduct as switch
 use Rattle.world_model.specs.declared.link.LinkEnd.{LinkEnd}
 use Rattle.world_model.specs.declared.event.Event.{Event}
 use Rattle.world_model.specs.declared.event.Event.TheVariants.{Inject, Carry, Lose, Tick, TickSwitch, Restart, RestartSwitch, Forge, Route}
@@ -48,7 +48,7 @@ use Rattle.way_words.proofs.Switching.{BindsNone, IsPassed, of_gsmp, crossed, Wa
 use Rattle.way_words.proofs.Switching as switching
 use Rattle.input_events.proofs.Sites.{put_at}
 use Rattle.port_words.specs.Words.{IsSteadily}
-use Rattle.controller_model.specs.Controller.{Linked}
+use Rattle.world_model.specs.Controller.{Linked}
 use Rattle.told_worlds.proofs.Wired.{then_is, tame, node_of}
 use Rattle.told_worlds.proofs.Bound.{ticks_so, restarts_so, changes_so, injects_so, CellSo, on_gsmp, elsewhere, cell_so}
 use Rattle.told_worlds.proofs.Ways.{OnWay, in_chain, in_up, in_out, in_down, Less, popped_less}

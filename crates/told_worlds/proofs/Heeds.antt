@@ -28,9 +28,9 @@ use Rattle.port_model.specs.Port.{label_at}
 use Rattle.port_model.specs.Labels.{Label}
 use Rattle.port_facts.proofs.Keyed.{on_both, on_each}
 use Rattle.port_facts.specs.Port.{IsPort}
-use Rattle.controller_model.specs.Controller.{Controller, Acted, Linked, linked_at, free_slots, default_channel, default_home}
-use Rattle.controller_model.specs.Cells.{Taker, ForGsmp, ForDefault, ForLabel, port_on, on_link, same_channel, label_taker, taker_at, taker_of, reassembly_of}
-use Rattle.controller_model.specs.Packets.{control_protocol}
+use Rattle.world_model.specs.Controller.{Controller, Acted, Linked, linked_at, free_slots, default_channel, default_home}
+use Rattle.world_model.specs.Cells.{Taker, ForGsmp, ForDefault, ForLabel, port_on, on_link, same_channel, label_taker, taker_at, taker_of, reassembly_of}
+use Rattle.world_model.specs.Packets.{control_protocol}
 use Rattle.controller_facts.proofs.Moves.{found_port, found_at_own}
 use Rattle.lifetimes.proofs.Events.{taker_belongs}
 use Rattle.run_facts.proofs.Takers.{default_of}

@@ -26,9 +26,9 @@ use Rattle.link_model.specs.declared.record.Record.TheVariants.{Bind}
 use Rattle.ordered_lists.specs.Ordered.{Every}
 use Rattle.keyed_lists.specs.Keyed.{at}
 use Rattle.crossbar_model.specs.Crossbar.{queue_of}
-use Rattle.desk_model.specs.Desk.{Standing}
-use Rattle.desk_model.specs.Answers.{Done, answered}
-use Rattle.switch_model.specs.Switch.{control_port}
+use Rattle.port_model.specs.Desk.{Standing}
+use Rattle.port_model.specs.DeskAnswers.{Done, answered}
+use Rattle.world_model.specs.Switch.{control_port}
 use Rattle.port_model.specs.Setup.{Policy, Setup, label_end, is_in_range}
 use Rattle.port_model.specs.Labels.{Label, Wiring, label_number}
 use Rattle.port_model.specs.Grants as grants
@@ -36,13 +36,13 @@ use Rattle.port_model.specs.Grants.{Grant, grant_label}
 use Rattle.port_model.specs.Port.{Session, labels_of}
 use Rattle.port_facts.specs.Port.{IsPort, IsLabel, IsLabelEnd}
 use Rattle.port_facts.proofs.Keyed.{at_every, at_key}
-use Rattle.controller_model.specs.Controller.{Controller, Acted, Linked, port_key, linked_at}
-use Rattle.controller_model.specs.Joins.{Join, inputs_at, tries_join}
-use Rattle.controller_model.specs.Cells.{ForGsmp, taker_of, cell_comes, same_channel}
-use Rattle.controller_model.specs.Controller.{default_channel}
-use Rattle.controller_model.specs.Changes.{change_comes}
-use Rattle.controller_model.specs.Meeting.{is_clearing}
-use Rattle.controller_model.specs.Ticks.{ticks}
+use Rattle.world_model.specs.Controller.{Controller, Acted, Linked, port_key, linked_at}
+use Rattle.world_model.specs.Joins.{Join, inputs_at, tries_join}
+use Rattle.world_model.specs.Cells.{ForGsmp, taker_of, cell_comes, same_channel}
+use Rattle.world_model.specs.Controller.{default_channel}
+use Rattle.world_model.specs.Changes.{change_comes}
+use Rattle.world_model.specs.Meeting.{is_clearing}
+use Rattle.world_model.specs.Ticks.{ticks}
 use Rattle.controller_facts.specs.Sound.{IsSound, IsShutLinked}
 use Rattle.controller_facts.proofs.Moves.{HasPorts, found_port}
 use Rattle.controller_law.specs.Match.{lent_in, lent_at, joined_in, joined_at, clearing_at}
@@ -95,9 +95,9 @@ use Rattle.told_worlds.proofs.HopBound.{bound_same}
 use Rattle.told_worlds.proofs.Worlds.{stays_routed}
 use Rattle.actor_pace.proofs.Paces.{Paces, paces_then, paces_fold, at_port_paces}
 use Rattle.told_worlds.proofs.Pacing.{steps_paces, sends_again_paces}
-use Rattle.controller_model.specs.Ticks.{sends_again, ticks_port}
-use Rattle.controller_model.specs.Gsmp.{steps}
-use Rattle.controller_model.specs.Controller.{ports_of}
+use Rattle.world_model.specs.Ticks.{sends_again, ticks_port}
+use Rattle.world_model.specs.Gsmp.{steps}
+use Rattle.world_model.specs.Controller.{ports_of}
 use Rattle.port_model.specs.Ticks as port_ticks
 
 node_is : (m n : NodeId) → m.0 ≡ n.0 → m ≡ n

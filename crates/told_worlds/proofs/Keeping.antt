@@ -35,9 +35,9 @@ use Rattle.gsmp_wire.specs.declared.rows.PortRow.{PortRow}
 use Rattle.gsmp_wire.specs.Fields.{decoded as gsmp_decoded}
 use Rattle.gsmp_wire.specs.Layout.{octets_of as gsmp_octets}
 use Rattle.ordered_lists.specs.Ordered.{Every}
-use Rattle.desk_model.specs.Desk.{Desk, Standing, empty_desk, sent_again, message_at}
-use Rattle.desk_model.specs.Requests.{leads_home}
-use Rattle.desk_model.specs.Answers.{Answered, Unknown, Done, Ports, Failed, answered, after_answer, without_request}
+use Rattle.port_model.specs.Desk.{Desk, Standing, empty_desk, sent_again, message_at}
+use Rattle.port_model.specs.Requests.{leads_home}
+use Rattle.port_model.specs.DeskAnswers.{Answered, Unknown, Done, Ports, Failed, answered, after_answer, without_request}
 use Rattle.port_model.specs.Setup.{Setup, home_of}
 use Rattle.port_model.specs.Labels.{Label}
 use Rattle.port_model.specs.Port.{Work, label_at}
@@ -50,19 +50,19 @@ use Rattle.port_facts.proofs.Found.{find_every}
 use Rattle.port_facts.proofs.Rules.{used_goes, counts_goes}
 use Rattle.port_facts.proofs.Hearings.{hears_goes, ticks_goes}
 use Rattle.port_facts.proofs.Steps.{GoesOn, Goes}
-use Rattle.controller_model.specs.Controller.{Acted, Linked, linked_at, with_linked, with_desk, note, ports_of, chains_with}
-use Rattle.controller_model.specs.Sending.{sends, sends_control, says_gsmp}
-use Rattle.controller_model.specs.Asking.{sends_request, asks, takes_back}
-use Rattle.controller_model.specs.Resets.{begins, node_resets}
-use Rattle.controller_model.specs.Performing.{Rule, at_port}
-use Rattle.controller_model.specs.Joins.{Join, joins_of, releases_input, released_inputs, resets_spent, releases, output_of}
-use Rattle.controller_model.specs.Meeting.{meets, up_ports, empties, tells_port, behind_delete_all, ends_meeting, has_emptied, causes_in_estab, causes, clears_port, clears, done, answers_desk, takes_answer, answer_comes, port_of_input, port_of, default_branches}
-use Rattle.controller_model.specs.Gsmp.{answers, steps, told, gsmp_holds}
-use Rattle.controller_model.specs.Changes.{changed_joins, takes_join_back, begins_change, takes_change, may_take, takes_each, takes_changes, change_comes}
-use Rattle.controller_model.specs.Packets.{is_control, sends_next, goes_by, grant_by, forwarded, routes, injected, control_protocol}
-use Rattle.controller_model.specs.Cells.{Taker, ForGsmp, ForDefault, ForLabel, label_holds, ifmp_holds, counted_at, packet_holds, default_holds, frame_holds, opened_frame, with_reassembly}
-use Rattle.controller_model.specs.Controller.{default_end, default_home}
-use Rattle.controller_model.specs.Ticks.{sends_again, ticks_port, ticks_ports}
+use Rattle.world_model.specs.Controller.{Acted, Linked, linked_at, with_linked, with_desk, note, ports_of, chains_with}
+use Rattle.world_model.specs.Sending.{sends, sends_control, says_gsmp}
+use Rattle.world_model.specs.Asking.{sends_request, asks, takes_back}
+use Rattle.world_model.specs.Resets.{begins, node_resets}
+use Rattle.world_model.specs.Performing.{Rule, at_port}
+use Rattle.world_model.specs.Joins.{Join, joins_of, releases_input, released_inputs, resets_spent, releases, output_of}
+use Rattle.world_model.specs.Meeting.{meets, up_ports, empties, tells_port, behind_delete_all, ends_meeting, has_emptied, causes_in_estab, causes, clears_port, clears, done, answers_desk, takes_answer, answer_comes, port_of_input, port_of, default_branches}
+use Rattle.world_model.specs.Gsmp.{answers, steps, told, gsmp_holds}
+use Rattle.world_model.specs.Changes.{changed_joins, takes_join_back, begins_change, takes_change, may_take, takes_each, takes_changes, change_comes}
+use Rattle.world_model.specs.Packets.{is_control, sends_next, goes_by, grant_by, forwarded, routes, injected, control_protocol}
+use Rattle.world_model.specs.Cells.{Taker, ForGsmp, ForDefault, ForLabel, label_holds, ifmp_holds, counted_at, packet_holds, default_holds, frame_holds, opened_frame, with_reassembly}
+use Rattle.world_model.specs.Controller.{default_end, default_home}
+use Rattle.world_model.specs.Ticks.{sends_again, ticks_port, ticks_ports}
 use Rattle.controller_facts.proofs.Lifetimes.{decoded_lives}
 use Rattle.controller_facts.proofs.Moves.{HasPorts, Found, by_rule, found_setup, found_at_own, found_port, begun, moves_ports}
 use Rattle.controller_facts.proofs.Performing.{Any, any_ports}

@@ -31,8 +31,8 @@ use Rattle.port_model.specs.Setup.{Policy}
 use Rattle.port_model.specs.Grants.{Grant}
 use Rattle.port_model.specs.Labels.{Label}
 use Rattle.port_model.specs.Port.{Session}
-use Rattle.controller_model.specs.Controller.{Linked, default_home}
-use Rattle.controller_model.specs.Cells.{same_channel}
+use Rattle.world_model.specs.Controller.{Linked, default_home}
+use Rattle.world_model.specs.Cells.{same_channel}
 use Rattle.controller_bindings.proofs.Lasts.{last_more}
 use Rattle.controller_views.specs.Lifted.{payload_by, IsProper}
 use Rattle.label_line.specs.Cells.{Role, Downstream, Upstream}

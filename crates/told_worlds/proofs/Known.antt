@@ -17,8 +17,8 @@ use Rattle.link_model.specs.declared.record.Record.TheVariants as kinds
 use Rattle.link_model.specs.declared.record.Record.TheVariants.{Bind}
 use Rattle.link_model.specs.Ledger.{payload_of}
 use Rattle.ordered_lists.specs.Ordered.{Every}
-use Rattle.controller_model.specs.Controller.{Controller, Linked, linked_at, default_channel}
-use Rattle.controller_model.specs.Cells.{same_channel}
+use Rattle.world_model.specs.Controller.{Controller, Linked, linked_at, default_channel}
+use Rattle.world_model.specs.Cells.{same_channel}
 use Rattle.label_line.specs.Cells as lines
 use Rattle.label_line.specs.Cells.{Role, Downstream, Upstream}
 use Rattle.world_model.specs.declared.link.LinkEnd.{LinkEnd}

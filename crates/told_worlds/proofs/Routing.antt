@@ -25,7 +25,7 @@ use Rattle.gsmp_wire.specs.declared.request.Request.TheVariants.{MoveBranch, Add
 use Rattle.link_model.specs.declared.record.Record.TheVariants.{Part, Routes, Loss}
 use Rattle.ordered_lists.specs.Ordered.{Every}
 use Rattle.ordered_lists.proofs.Every.{every_map, every_map2, every_left, every_right}
-use Rattle.desk_model.specs.Desk.{on_input, most_asked, asked, is_led_home, last_transaction, message_at}
+use Rattle.port_model.specs.Desk.{on_input, most_asked, asked, is_led_home, last_transaction, message_at}
 use Rattle.port_model.specs.Setup.{Setup, home_of}
 use Rattle.port_model.specs.Labels.{Label, Offered, label_number}
 use Rattle.port_model.specs.Grants.{Grant, grant_for, is_by_controller, input_of, GrantState, Idle, ByController, ByInput, Leaving, grant_label}
@@ -35,11 +35,11 @@ use Rattle.port_facts.specs.Port.{setup_port, IsLabelEnd, IsPort}
 use Rattle.port_facts.proofs.Keyed.{on_both, on_each, at_key, at_every}
 use Rattle.port_facts.proofs.Found.{find_passes, find_every}
 use Rattle.port_facts.proofs.Rules.{and_first, and_second, done_goes}
-use Rattle.controller_model.specs.Controller.{Acted, Linked, port_key, linked_at, note, ports_of, Controller, free_slots, with_linked, with_desk, default_channel, default_end, default_home}
-use Rattle.controller_model.specs.Resets.{begins, with_work, cuts_of, closes_by, port_restarts_of, port_restarts, resets_gsmp, node_resets}
-use Rattle.controller_model.specs.Joins.{Join, join_to, joins_at, joins_of, end_le, join_of, parts, gives_back, releases_join, releases_input, released_inputs, resets_spent, releases, output_of, port_by, join_through, join_by, join_for, is_offered, may_join, enters_grant, enters_label, joins, tries_label, label_on, tries_join, inputs_at, tries_joins}
-use Rattle.controller_model.specs.Routes.{same_next, differs, route_stays}
-use Rattle.controller_model.specs.Changes.{is_changed, changed_joins, takes_join_back, begins_change, takes_change, may_take, takes_each, takes_changes, change_comes}
+use Rattle.world_model.specs.Controller.{Acted, Linked, port_key, linked_at, note, ports_of, Controller, free_slots, with_linked, with_desk, default_channel, default_end, default_home}
+use Rattle.world_model.specs.Resets.{begins, with_work, cuts_of, closes_by, port_restarts_of, port_restarts, resets_gsmp, node_resets}
+use Rattle.world_model.specs.Joins.{Join, join_to, joins_at, joins_of, end_le, join_of, parts, gives_back, releases_join, releases_input, released_inputs, resets_spent, releases, output_of, port_by, join_through, join_by, join_for, is_offered, may_join, enters_grant, enters_label, joins, tries_label, label_on, tries_join, inputs_at, tries_joins}
+use Rattle.world_model.specs.Routes.{same_next, differs, route_stays}
+use Rattle.world_model.specs.Changes.{is_changed, changed_joins, takes_join_back, begins_change, takes_change, may_take, takes_each, takes_changes, change_comes}
 use Rattle.controller_facts.specs.Sound.{IsSound, linked_setup, IsLinkedPort}
 use Rattle.controller_facts.proofs.Moves.{Found, HasPorts, found_setup, by_rule, by_closing, by_parting, by_giving_back, begun, moves_ports, moves_fold}
 use Rattle.controller_facts.proofs.Entering.{is_offered_by, inputs_of_port}
@@ -55,12 +55,12 @@ use Rattle.net_types.specs.Number.{next_control, with_control}
 use Rattle.adjacency_table.specs.Side.{is_estab}
 use Rattle.frame_model.specs.Frame.{frame_cells, made}
 use Rattle.frame_model.specs.Sending.{Sent}
-use Rattle.desk_model.specs.Requests.{leads_home}
-use Rattle.desk_model.specs.Messages.{is_up}
+use Rattle.port_model.specs.Requests.{leads_home}
+use Rattle.port_model.specs.Messages.{is_up}
 use Rattle.port_model.specs.Resets.{cleared, restarts}
-use Rattle.controller_model.specs.Sending.{with_cells, sends}
-use Rattle.controller_model.specs.Asking.{asks, asks_next}
-use Rattle.controller_model.specs.Meeting.{up_ports, default_branches, ends_meeting, has_emptied, port_of_input, tells_port, behind_delete_all, causes_in_estab, causes, may_clear, clears_of}
+use Rattle.world_model.specs.Sending.{with_cells, sends}
+use Rattle.world_model.specs.Asking.{asks, asks_next}
+use Rattle.world_model.specs.Meeting.{up_ports, default_branches, ends_meeting, has_emptied, port_of_input, tells_port, behind_delete_all, causes_in_estab, causes, may_clear, clears_of}
 use Rattle.gsmp_wire.specs.Layout.{octets_of as gsmp_octets}
 use Rattle.link_model.specs.declared.record.Cause.TheVariants.{PoolFull}
 use Rattle.link_model.specs.Notes.{noted}

@@ -22,8 +22,8 @@ use Rattle.port_facts.specs.Port.{IsPort, IsLabel, IsBefore, IsGrant, HasFlows}
 use Rattle.flow_ids.specs.Flow.{IsFlow}
 use Rattle.port_facts.proofs.Keyed.{at_every, each_found}
 use Rattle.port_widths.specs.Widths.{FitsLabel}
-use Rattle.controller_model.specs.Controller.{Controller, Acted, Linked, linked_at, port_key}
-use Rattle.controller_model.specs.Opening.{setup_of}
+use Rattle.world_model.specs.Controller.{Controller, Acted, Linked, linked_at, port_key}
+use Rattle.world_model.specs.Opening.{setup_of}
 use Rattle.controller_facts.proofs.Moves.{Found}
 use Rattle.controller_facts.proofs.Joining.{each_there}
 use Rattle.controller_bindings.specs.Bindings.{IsBoundLast}

@@ -18,11 +18,11 @@ use Rattle.port_model.specs.Grants.{Grant, grant_label, grant_on}
 use Rattle.port_model.specs.Hearing.{label_by}
 use Rattle.port_model.specs.Answers as port_answers
 use Rattle.port_facts.proofs.Keyed.{on_each, at_every, at_key}
-use Rattle.controller_model.specs.Controller.{Acted, Linked, port_key, linked_at, ports_of}
-use Rattle.controller_model.specs.Resets.{begins}
-use Rattle.controller_model.specs.Performing.{works, works_as}
-use Rattle.controller_model.specs.Joins.{releases}
-use Rattle.controller_model.specs.Meeting.{port_of_input, causes, causes_in_estab, clears}
+use Rattle.world_model.specs.Controller.{Acted, Linked, port_key, linked_at, ports_of}
+use Rattle.world_model.specs.Resets.{begins}
+use Rattle.world_model.specs.Performing.{works, works_as}
+use Rattle.world_model.specs.Joins.{releases}
+use Rattle.world_model.specs.Meeting.{port_of_input, causes, causes_in_estab, clears}
 use Rattle.controller_law.specs.Match.{lent_in, lent_at}
 use Rattle.port_words.specs.Words.{Terms, IsGranted, IsSteady, IsSteadyAt, IsSteadily}
 use Rattle.port_words.proofs.Sending.{found_h}

@@ -12,14 +12,14 @@ use Rattle.atm_cells.specs.declared.cell.Cell.{Cell}
 use Rattle.crossbar_model.specs.Channels.{IsLinkPort}
 use Rattle.crossbar_model.specs.Crossbar.{queue_of, output_of, input_of}
 use Rattle.ordered_lists.specs.Ordered.{Every}
-use Rattle.switch_model.specs.Switch.{control_port, gsmp_channel}
-use Rattle.switch_model.specs.Switch as switches
+use Rattle.world_model.specs.Switch.{control_port, gsmp_channel}
+use Rattle.world_model.specs.Switch as switches
 use Rattle.keyed_lists.specs.Keyed.{at}
 use Rattle.port_facts.proofs.Keyed.{at_key, at_every}
 use Rattle.port_facts.specs.Port.{setup_port}
 use Rattle.port_model.specs.Setup.{Setup}
-use Rattle.controller_model.specs.Controller.{Controller, Linked, linked_at, default_channel, default_home}
-use Rattle.controller_model.specs.Cells.{same_channel}
+use Rattle.world_model.specs.Controller.{Controller, Linked, linked_at, default_channel, default_home}
+use Rattle.world_model.specs.Cells.{same_channel}
 use Rattle.shown_cells.proofs.Frames.{same_is}
 use Rattle.world_model.specs.declared.link.LinkEnd.{LinkEnd}
 use Rattle.world_model.specs.Topology.{peer_of}

@@ -28,22 +28,22 @@ use Rattle.link_model.specs.Ledger.{payload_of, is_frame}
 use Rattle.link_model.specs.Notes.{Journal}
 use Rattle.frame_model.specs.Frame.{Tested, tested, tested_by, payload_in, octets_of, last_mark}
 use Rattle.frame_model.specs.Reassembly.{Reassembly, Taken, taken, passed_over, without_slot, too_long, joined, most_cells}
-use Rattle.desk_model.specs.Desk.{Standing}
-use Rattle.desk_model.specs.Answers.{Answered, Unknown, Done, Ports, Failed, answered, after_answer}
+use Rattle.port_model.specs.Desk.{Standing}
+use Rattle.port_model.specs.DeskAnswers.{Answered, Unknown, Done, Ports, Failed, answered, after_answer}
 use Rattle.port_facts.proofs.Keyed.{on_both, on_each}
-use Rattle.controller_model.specs.Controller.{Controller, Acted, Linked, free_slots, ports_of, with_desk}
-use Rattle.controller_model.specs.Asking.{asks}
-use Rattle.controller_model.specs.Resets.{node_resets}
-use Rattle.controller_model.specs.Joins.{releases}
-use Rattle.controller_model.specs.Meeting.{up_ports, clears, clears_port, causes, done, takes_answer, answer_comes}
-use Rattle.controller_model.specs.Changes.{takes_changes}
-use Rattle.controller_model.specs.Gsmp.{steps, told, gsmp_holds}
-use Rattle.controller_model.specs.Cells.{Taker, ForGsmp, ForDefault, ForLabel, taker_of, takes_cell, reassembly_of, with_reassembly, label_holds, default_holds, frame_holds, opened_frame, ends_frame, after_cell, cell_comes}
+use Rattle.world_model.specs.Controller.{Controller, Acted, Linked, free_slots, ports_of, with_desk}
+use Rattle.world_model.specs.Asking.{asks}
+use Rattle.world_model.specs.Resets.{node_resets}
+use Rattle.world_model.specs.Joins.{releases}
+use Rattle.world_model.specs.Meeting.{up_ports, clears, clears_port, causes, done, takes_answer, answer_comes}
+use Rattle.world_model.specs.Changes.{takes_changes}
+use Rattle.world_model.specs.Gsmp.{steps, told, gsmp_holds}
+use Rattle.world_model.specs.Cells.{Taker, ForGsmp, ForDefault, ForLabel, taker_of, takes_cell, reassembly_of, with_reassembly, label_holds, default_holds, frame_holds, opened_frame, ends_frame, after_cell, cell_comes}
 use Rattle.input_steps.specs.Hearing.{IsEnded}
 use Rattle.actor_pace.proofs.Paces.{Paces, paces_then, paces_fold, asks_paces, node_resets_paces}
 use Rattle.told_worlds.proofs.Pacing.{releases_paces, causes_paces, clears_of_paces, steps_paces, label_holds_paces, default_paces, with_reassembly_paces, noted_paces}
 use Rattle.told_worlds.proofs.Routing.{IsLent, changes_keep}
-use Rattle.controller_model.specs.Controller.{linked_at}
+use Rattle.world_model.specs.Controller.{linked_at}
 
 -- *A chain is ended* by a last cell that is taken
 pub record IsWhole (slot : Bool) (r : Reassembly) (cell : Cell) (ended : List Cell) : Type 0 where

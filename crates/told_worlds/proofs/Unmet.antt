@@ -8,17 +8,17 @@ use Rattle.net_types.specs.declared.channel.End.{End}
 use Rattle.net_types.specs.Label.{number_of_channel}
 use Rattle.ordered_lists.specs.Ordered.{Every}
 use Rattle.keyed_lists.specs.Keyed.{at}
-use Rattle.desk_model.specs.Requests.{leads_home}
+use Rattle.port_model.specs.Requests.{leads_home}
 use Rattle.port_facts.proofs.Keyed.{on_both, on_each, at_every}
 use Rattle.port_model.specs.Setup.{Setup, home_of}
 use Rattle.port_model.specs.Grants as grants
 use Rattle.port_model.specs.Grants.{Grant, grant_label}
 use Rattle.port_model.specs.Port.{Session, Work, halts, label_at}
 use Rattle.port_model.specs.Saying.{is_spent, closes}
-use Rattle.controller_model.specs.Controller.{Controller, Acted, Linked, port_key, linked_at, ports_of, note}
-use Rattle.controller_model.specs.Resets.{begins}
-use Rattle.controller_model.specs.Performing.{works_as, works}
-use Rattle.controller_model.specs.Joins.{Join, join_of, joins_of, parts, releases_join, releases_input, released_inputs, resets_spent, releases}
+use Rattle.world_model.specs.Controller.{Controller, Acted, Linked, port_key, linked_at, ports_of, note}
+use Rattle.world_model.specs.Resets.{begins}
+use Rattle.world_model.specs.Performing.{works_as, works}
+use Rattle.world_model.specs.Joins.{Join, join_of, joins_of, parts, releases_join, releases_input, released_inputs, resets_spent, releases}
 use Rattle.controller_facts.specs.Sound.{IsSound, IsShutLinked}
 use Rattle.controller_facts.proofs.Moves.{HasPorts, moves_ports}
 use Rattle.controller_facts.proofs.Laws.{has_ports, moves_sound}
@@ -29,10 +29,10 @@ use Rattle.std.specs.List.{list_any}
 use Rattle.adjacency_table.specs.Side.{is_estab}
 use Rattle.gsmp_wire.specs.declared.request.Request.{Request}
 use Rattle.gsmp_wire.specs.declared.request.Request.TheVariants.{AddBranch, MoveBranch, DeleteTree, VerifyTree, DeleteAll, PortManagement, AllPorts}
-use Rattle.desk_model.specs.Desk.{Desk, Standing}
-use Rattle.controller_model.specs.Controller.{default_end, default_home}
-use Rattle.controller_model.specs.Asking.{asks}
-use Rattle.controller_model.specs.Meeting.{is_deleting, has_emptied, ends_meeting, port_of_input, causes_in_estab, causes, clears}
+use Rattle.port_model.specs.Desk.{Desk, Standing}
+use Rattle.world_model.specs.Controller.{default_end, default_home}
+use Rattle.world_model.specs.Asking.{asks}
+use Rattle.world_model.specs.Meeting.{is_deleting, has_emptied, ends_meeting, port_of_input, causes_in_estab, causes, clears}
 use Rattle.lasting_joins.proofs.Lent.{Keeps, tells_keep}
 use Rattle.told_worlds.proofs.Keeping.{releases_keep, clears_last}
 

@@ -21,16 +21,16 @@ use Rattle.port_facts.specs.Port.{IsPort, IsLabel}
 use Rattle.port_model.specs.Setup.{Policy}
 use Rattle.port_model.specs.Labels.{label_number}
 use Rattle.port_model.specs.Port.{Session}
-use Rattle.controller_model.specs.Controller.{Controller, Acted, Linked, linked_at}
-use Rattle.controller_model.specs.Cells.{cell_comes}
-use Rattle.controller_model.specs.Ticks.{ticks}
-use Rattle.controller_model.specs.Resets.{node_restarts}
-use Rattle.controller_model.specs.Changes.{change_comes}
-use Rattle.controller_model.specs.Packets.{injected, inject_refusal}
+use Rattle.world_model.specs.Controller.{Controller, Acted, Linked, linked_at}
+use Rattle.world_model.specs.Cells.{cell_comes}
+use Rattle.world_model.specs.Ticks.{ticks}
+use Rattle.world_model.specs.Resets.{node_restarts}
+use Rattle.world_model.specs.Changes.{change_comes}
+use Rattle.world_model.specs.Packets.{injected, inject_refusal}
 use Rattle.controller_facts.proofs.Moves.{found_port}
-use Rattle.switch_model.specs.Switch.{control_port}
-use Rattle.switch_model.specs.Switch as switches
-use Rattle.switch_model.specs.Conduct as switch
+use Rattle.world_model.specs.Switch.{control_port}
+use Rattle.world_model.specs.Switch as switches
+use Rattle.world_model.specs.Conduct as switch
 use Rattle.world_model.specs.declared.link.LinkEnd.{LinkEnd}
 use Rattle.world_model.specs.declared.event.Event.{Event}
 use Rattle.world_model.specs.declared.event.Event.TheVariants.{Inject, Carry, Lose, Tick, TickSwitch, Restart, RestartSwitch, Forge, Route}

@@ -17,15 +17,15 @@ use Rattle.ipv4_forward.specs.declared.table.Next.TheVariants.{Via}
 use Rattle.ipv4_forward.specs.declared.table.Route.{Route as TableRoute}
 use Rattle.link_model.specs.declared.record.Refusal.{Refusal}
 use Rattle.port_facts.proofs.Keyed.{by_eq}
-use Rattle.controller_model.specs.Controller.{Acted}
-use Rattle.controller_model.specs.Cells.{cell_comes}
-use Rattle.controller_model.specs.Ticks.{ticks}
-use Rattle.controller_model.specs.Resets.{node_restarts}
-use Rattle.controller_model.specs.Changes.{change_comes}
-use Rattle.controller_model.specs.Packets.{injected, inject_refusal}
-use Rattle.switch_model.specs.Switch.{control_port}
-use Rattle.switch_model.specs.Switch as switches
-use Rattle.switch_model.specs.Conduct as switch
+use Rattle.world_model.specs.Controller.{Acted}
+use Rattle.world_model.specs.Cells.{cell_comes}
+use Rattle.world_model.specs.Ticks.{ticks}
+use Rattle.world_model.specs.Resets.{node_restarts}
+use Rattle.world_model.specs.Changes.{change_comes}
+use Rattle.world_model.specs.Packets.{injected, inject_refusal}
+use Rattle.world_model.specs.Switch.{control_port}
+use Rattle.world_model.specs.Switch as switches
+use Rattle.world_model.specs.Conduct as switch
 use Rattle.world_model.specs.declared.link.LinkEnd.{LinkEnd}
 use Rattle.world_model.specs.declared.event.Event.{Event}
 use Rattle.world_model.specs.declared.event.Event.TheVariants.{Inject, Carry, Lose, Tick, TickSwitch, Restart, RestartSwitch, Forge, Route}

@@ -11,7 +11,7 @@ use Rattle.flow_ids.specs.Flow.{IsFlow}
 use Rattle.net_types.specs.Label.{is_label_number}
 use Rattle.port_model.specs.Labels.{Label, Wiring}
 use Rattle.port_model.specs.Port.{Session}
-use Rattle.controller_model.specs.Controller.{default_home}
+use Rattle.world_model.specs.Controller.{default_home}
 use Rattle.world_model.specs.declared.link.LinkEnd.{LinkEnd}
 use Rattle.world_model.specs.Topology.{peer_of}
 use Rattle.world_model.specs.World.{World}

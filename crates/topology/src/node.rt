@@ -5,7 +5,7 @@ ghost use Rattle.world_model.specs.Lines.{first_of, route_refusal, with_route};
 ghost use Rattle.world_model.specs.Topology.{new_node, range_among};
 
 use crate::routes::RouteList;
-use controller_model::PortRange;
+use world_model::PortRange;
 use ipv4_forward::Next;
 use net_types::{Addr, Octets, OutOfMemory, PortNo, Prefix};
 use std::alloc::Global;

@@ -8,7 +8,7 @@ ghost use Rattle.world_model.specs.Topology.{new_node, node_in};
 ghost use Rattle.topology.specs.Indexes.{changed_in};
 
 use crate::node::Node;
-use controller_model::PortRange;
+use world_model::PortRange;
 use indexmap::IndexSet;
 use ipv4_forward::Next;
 use net_types::{Addr, NodeId, Octets, OutOfMemory, Prefix};

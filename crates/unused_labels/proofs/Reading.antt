@@ -18,13 +18,13 @@ use Rattle.flow_ids.specs.declared.flow.FlowId.{FlowId}
 use Rattle.ordered_lists.specs.Ordered.{Every}
 use Rattle.ordered_lists.proofs.Every.{every_left, every_right}
 use Rattle.keyed_lists.specs.Keyed.{at}
-use Rattle.desk_model.specs.Desk.{Standing}
+use Rattle.port_model.specs.Desk.{Standing}
 use Rattle.port_model.specs.Setup.{label_end, control_end}
 use Rattle.port_model.specs.Labels.{Label, LabelState, Wiring, Offered, Recalled, Wired, label_number}
 use Rattle.port_model.specs.Grants.{Grant, GrantState, Idle, ByController, ByInput, Leaving, grant_label}
 use Rattle.port_model.specs.Port.{Session}
-use Rattle.controller_model.specs.Controller.{Controller, Linked, linked_at, default_channel, default_home}
-use Rattle.controller_model.specs.Cells.{same_channel}
+use Rattle.world_model.specs.Controller.{Controller, Linked, linked_at, default_channel, default_home}
+use Rattle.world_model.specs.Cells.{same_channel}
 use Rattle.crossbar_model.specs.Crossbar.{queue_of}
 use Rattle.label_line.specs.Cells as lines
 use Rattle.label_line.specs.Cells.{Role, Downstream, Upstream}

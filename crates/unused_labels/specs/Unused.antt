@@ -5,10 +5,10 @@ use Rattle.net_types.specs.declared.node.Place.TheVariants.{Down}
 use Rattle.net_types.specs.Label.{is_label_number}
 use Rattle.atm_cells.specs.declared.cell.Cell.{Cell}
 use Rattle.flow_ids.specs.declared.flow.FlowId.{FlowId}
-use Rattle.desk_model.specs.Desk.{Standing}
+use Rattle.port_model.specs.Desk.{Standing}
 use Rattle.port_model.specs.Port.{Session}
-use Rattle.controller_model.specs.Controller.{default_channel}
-use Rattle.controller_model.specs.Cells.{same_channel}
+use Rattle.world_model.specs.Controller.{default_channel}
+use Rattle.world_model.specs.Cells.{same_channel}
 use Rattle.world_model.specs.Conditions.{IsTopology}
 use Rattle.world_model.specs.World.{World}
 use Rattle.world_model.specs.Places.{queue_at}

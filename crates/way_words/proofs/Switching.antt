@@ -36,13 +36,13 @@ use Rattle.frame_model.specs.Reassembly.{Reassembly, Taken, taken, passed_over, 
 use Rattle.frame_model.specs.Sending.{Sent}
 use Rattle.ordered_lists.specs.Ordered.{Every}
 use Rattle.port_facts.proofs.Keyed.{on_both}
-use Rattle.switch_model.specs.declared.request.Asked.{Asked}
-use Rattle.switch_model.specs.declared.request.Failure.{Failure}
-use Rattle.switch_model.specs.Requests.{Changed, noted_cut, moved_by, ended_by, ended, all_ended, inputs_on, cleared, branches_after, asked_in, is_request}
-use Rattle.switch_model.specs.Failures.{failure_of}
-use Rattle.switch_model.specs.Answers.{Handled, handled_by, handled_asked, handled}
-use Rattle.switch_model.specs.Switch.{Switch, Acted, control_port, gsmp_channel, free_slots}
-use Rattle.switch_model.specs.Conduct.{with_cells, sends, says, reset, answers, steps, replied, requested, told, read, opened_frame, after_test, ends_frame, after_cell, gsmp_cell, tick_comes, restarted}
+use Rattle.world_model.specs.declared.request.Asked.{Asked}
+use Rattle.world_model.specs.declared.request.Failure.{Failure}
+use Rattle.world_model.specs.Requests.{Changed, noted_cut, moved_by, ended_by, ended, all_ended, inputs_on, cleared, branches_after, asked_in, is_request}
+use Rattle.world_model.specs.Failures.{failure_of}
+use Rattle.world_model.specs.Answers.{Handled, handled_by, handled_asked, handled}
+use Rattle.world_model.specs.Switch.{Switch, Acted, control_port, gsmp_channel, free_slots}
+use Rattle.world_model.specs.Conduct.{with_cells, sends, says, reset, answers, steps, replied, requested, told, read, opened_frame, after_test, ends_frame, after_cell, gsmp_cell, tick_comes, restarted}
 use Rattle.std.specs.Prelude.{◌⊎◌, Contains, slice_set, slice_index_or, zero, suc}
 use Rattle.std.proofs.Common.{inl, inr}
 use Rattle.std.specs.Option.{option_map}
@@ -54,7 +54,7 @@ use Rattle.crossbar_model.specs.declared.routed.Routed.TheVariants as routes
 use Rattle.crossbar_model.specs.Crossbar.{output_of, input_of, routed, switched_on}
 use Rattle.link_model.specs.declared.record.Record.TheVariants as kinds
 use Rattle.link_model.specs.declared.record.Cause.TheVariants as causes
-use Rattle.switch_model.specs.Conduct as conduct
+use Rattle.world_model.specs.Conduct as conduct
 use Rattle.port_facts.proofs.Keyed.{on_each, every_more}
 use Rattle.ordered_lists.proofs.Every.{every_mapped, every_all}
 use Rattle.std.specs.List.{range_with_len}

@@ -14,15 +14,15 @@ use Rattle.link_model.specs.Notes.{Journal, noted}
 use Rattle.link_model.specs.declared.record.Record.{Record}
 use Rattle.link_model.specs.declared.record.Record.TheVariants.{Forged, Loss}
 use Rattle.link_model.specs.declared.record.Cause.TheVariants.{Lost}
-use Rattle.controller_model.specs.Sending.{sends}
-use Rattle.switch_model.specs.Conduct as switch
+use Rattle.world_model.specs.Sending.{sends}
+use Rattle.world_model.specs.Conduct as switch
 use Rattle.world_model.specs.Step.{arrives, carries_head, forges, forges_at, loses_head, note}
 use Rattle.world_model.specs.Topology.{Topology}
 use Rattle.keyed_lists.specs.Keyed.{at, put}
-use Rattle.switch_model.specs.Switch as switches
-use Rattle.switch_model.specs.Switch.{Switch, control_port}
-use Rattle.controller_model.specs.Controller as controllers
-use Rattle.controller_model.specs.Controller.{Controller, redirects_of}
+use Rattle.world_model.specs.Switch as switches
+use Rattle.world_model.specs.Switch.{Switch, control_port}
+use Rattle.world_model.specs.Controller as controllers
+use Rattle.world_model.specs.Controller.{Controller, redirects_of}
 use Rattle.net_types.specs.declared.node.Place.{Place}
 use Rattle.net_types.specs.declared.node.Place.TheVariants.{Down, Up, Out}
 use Rattle.atm_cells.specs.declared.cell.Cell.{Cell}

@@ -17,11 +17,11 @@ use Rattle.ordered_lists.specs.Ordered.{Every}
 use Rattle.port_model.specs.declared.timers.Timers.{Timers}
 use Rattle.port_model.specs.Setup.{Policy, Setup}
 use Rattle.port_model.specs.Redirection.{greatest_tally}
-use Rattle.switch_model.specs.Switch as switches
-use Rattle.switch_model.specs.Switch.{Switch, begun, control_port, numbers_of}
-use Rattle.controller_model.specs.declared.range.PortRange.{PortRange}
-use Rattle.controller_model.specs.Controller.{Controller, Linked}
-use Rattle.controller_model.specs.Opening.{after_opening, opened as opened_controller, opens_port, opens_ports}
+use Rattle.world_model.specs.Switch as switches
+use Rattle.world_model.specs.Switch.{Switch, begun, control_port, numbers_of}
+use Rattle.world_model.specs.declared.range.PortRange.{PortRange}
+use Rattle.world_model.specs.Controller.{Controller, Linked}
+use Rattle.world_model.specs.Opening.{after_opening, opened as opened_controller, opens_port, opens_ports}
 use Rattle.world_model.specs.Conditions.{ArePolicyNumbers, IsLinkedNext, IsNode, IsNodeOf, IsRange, IsTopology}
 use Rattle.world_model.specs.Topology as topologies
 use Rattle.world_model.specs.Topology.{Topology, Node, PolicyLine, Xy, Never, default_range, node_at, node_in, peer_of, range_among, ranges_of, timers_of, vpis_of, window_of}

@@ -9,8 +9,8 @@ use Rattle.net_types.specs.declared.node.Place.{Place}
 use Rattle.net_types.specs.declared.node.Place.TheVariants.{Down, Up, Out}
 use Rattle.net_types.specs.Number.{GivenOut}
 use Rattle.port_model.specs.Setup.{Policy}
-use Rattle.controller_model.specs.declared.range.PortRange.{PortRange}
-use Rattle.controller_model.specs.Controller.{Controller}
+use Rattle.world_model.specs.declared.range.PortRange.{PortRange}
+use Rattle.world_model.specs.Controller.{Controller}
 use Rattle.world_model.specs.declared.link.LinkEnd.{LinkEnd}
 use Rattle.world_model.specs.Conditions.{IsNode, IsTopology}
 use Rattle.world_model.specs.Topology.{Topology, Node, node_at, node_in, ranges_of}

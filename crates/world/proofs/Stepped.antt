@@ -2,7 +2,7 @@
 
 use Rattle.std.proofs.Common.{◌≡◌, ℕ, ◌+◌, ◌*◌, ◌≤◌, length, map, sym, ◌∙◌, ap, subst, arith}
 use Rattle.link_model.specs.Notes.{Journal}
-use Rattle.controller_model.specs.Controller.{Controller}
+use Rattle.world_model.specs.Controller.{Controller}
 use Rattle.world_model.specs.declared.event.Event.{Event}
 use Rattle.world_model.specs.Conditions.{CanCome}
 use Rattle.world_model.specs.Step.{acts}

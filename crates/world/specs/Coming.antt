@@ -11,14 +11,14 @@ use Rattle.atm_cells.specs.declared.cell.Cell.{Cell}
 use Rattle.ipv4_forward.specs.Change.{change_fault}
 use Rattle.ipv4_forward.specs.declared.change.RouteChange.{RouteChange}
 use Rattle.link_model.specs.Notes.{Journal}
-use Rattle.switch_model.specs.Switch.{control_port, has_port}
-use Rattle.controller_model.specs.Controller.{Controller}
+use Rattle.world_model.specs.Switch.{control_port, has_port}
+use Rattle.world_model.specs.Controller.{Controller}
 use Rattle.world_model.specs.Conditions.{IsPlace, IsTopology, table_to_be}
 use Rattle.world_model.specs.Topology.{Topology}
 use Rattle.world.specs.Running.{HavePeers}
 use Rattle.world_model.specs.Places.{queue_at, with_queue}
 use Rattle.link_model.specs.declared.record.Refusal.{Refusal}
-use Rattle.controller_model.specs.Packets.{injected}
+use Rattle.world_model.specs.Packets.{injected}
 use Rattle.world_model.specs.declared.link.LinkEnd.{LinkEnd}
 use Rattle.world_model.specs.World.{World, Site, at_controller, site_key, redirects_at, switched_at}
 use Rattle.actor_pace.specs.Pace.{changes_of}

@@ -5,8 +5,8 @@ use Rattle.std.specs.Prelude.{◌≡◌, ℕ, suc, ◌+◌, ◌*◌, ◌^◌, �
 use Rattle.std.specs.List.{sum_by}
 use Rattle.net_types.specs.declared.node.NodeId.{NodeId}
 use Rattle.net_types.specs.declared.node.PortNo.{PortNo}
-use Rattle.switch_model.specs.Switch.{control_port, numbers_of}
-use Rattle.controller_model.specs.Controller.{Controller, ports_of}
+use Rattle.world_model.specs.Switch.{control_port, numbers_of}
+use Rattle.world_model.specs.Controller.{Controller, ports_of}
 use Rattle.world_model.specs.declared.link.LinkEnd.{LinkEnd}
 use Rattle.world_model.specs.Conditions.{IsTopology}
 use Rattle.world_model.specs.Places.{places}

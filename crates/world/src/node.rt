@@ -1,7 +1,7 @@
 //! What a network asks of the controllers of its nodes.
 
 use atm_cells::Cell;
-use controller_model::PortRange;
+use world_model::PortRange;
 use ipv4_forward::{RouteChange, Table};
 use ipv4_packet::PacketFault;
 use link_model::Notes;
@@ -21,7 +21,7 @@ pub enum InjectFault {
 }
 
 /// The controller of a node: a router that drives the node's switch. Each call is a rule of
-/// `controller_model`. After want of memory it can only be given up.
+/// `world_model`. After want of memory it can only be given up.
 pub trait NodeController {
     ghost use Rattle.std.specs.Prelude.{◌≡◌, ◌≤◌, ◌<◌, ◌+◌, ◌^◌, ◌↔◌, ℕ, drop, length, map, slice_get, All, IfOk, IsSome, OnOk, None, Some};
     ghost use Rattle.std.specs.Option.{option_map_or};
@@ -30,14 +30,14 @@ pub trait NodeController {
     ghost use Rattle.link_model.specs.declared.record.Refusal.{Refusal as RefusalValue};
     ghost use Rattle.crossbar_model.specs.Channels.{ArePorts};
     ghost use Rattle.port_model.specs.Setup.{Policy as Rule};
-    ghost use Rattle.controller_model.specs.Controller.{Controller, redirects_of};
-    ghost use Rattle.controller_model.specs.Opening.{after_opening, opened};
-    ghost use Rattle.controller_model.specs.Cells.{cell_comes};
-    ghost use Rattle.controller_model.specs.Packets.{inject_refusal, injected};
-    ghost use Rattle.controller_model.specs.Ticks.{ticks};
-    ghost use Rattle.controller_model.specs.Resets.{node_restarts};
-    ghost use Rattle.controller_model.specs.Changes.{change_comes};
-    ghost use Rattle.controller_model.specs.Sending.{sends};
+    ghost use Rattle.world_model.specs.Controller.{Controller, redirects_of};
+    ghost use Rattle.world_model.specs.Opening.{after_opening, opened};
+    ghost use Rattle.world_model.specs.Cells.{cell_comes};
+    ghost use Rattle.world_model.specs.Packets.{inject_refusal, injected};
+    ghost use Rattle.world_model.specs.Ticks.{ticks};
+    ghost use Rattle.world_model.specs.Resets.{node_restarts};
+    ghost use Rattle.world_model.specs.Changes.{change_comes};
+    ghost use Rattle.world_model.specs.Sending.{sends};
     ghost use Rattle.world.specs.Nodes.{AreRoutesOf, AreTimes, IsLabelRange, NamesLinked, acted, changes_of, popped, refusal_of, table_to_be};
     ghost use Rattle.ipv4_forward.specs.Change.{change_fault};
 

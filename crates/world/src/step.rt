@@ -2,13 +2,13 @@
 
 ghost use Rattle.std.specs.Prelude.{◌≡◌, ◌≤◌, ◌<◌, ◌+◌, ◌^◌, ◌∷◌, drop, length, true, IfOk, IfSome, OnErr, OnOk, None, Some};
 ghost use Rattle.net_types.specs.Number.{HasNumbersLeft};
-ghost use Rattle.switch_model.specs.Conduct as switch;
-ghost use Rattle.controller_model.specs.Packets.{inject_refusal};
-ghost use Rattle.controller_model.specs.Sending.{sends};
-ghost use Rattle.controller_model.specs.Cells as controller;
-ghost use Rattle.controller_model.specs.Ticks.{ticks};
-ghost use Rattle.controller_model.specs.Resets.{node_restarts};
-ghost use Rattle.controller_model.specs.Changes.{change_comes};
+ghost use Rattle.world_model.specs.Conduct as switch;
+ghost use Rattle.world_model.specs.Packets.{inject_refusal};
+ghost use Rattle.world_model.specs.Sending.{sends};
+ghost use Rattle.world_model.specs.Cells as controller;
+ghost use Rattle.world_model.specs.Ticks.{ticks};
+ghost use Rattle.world_model.specs.Resets.{node_restarts};
+ghost use Rattle.world_model.specs.Changes.{change_comes};
 ghost use Rattle.world_model.specs.Conditions.{CanCome, IsPlace};
 ghost use Rattle.world_model.specs.Limits.{event_limit};
 ghost use Rattle.world_model.specs.Places.{place_node, queue_at, queue_number, with_queue};

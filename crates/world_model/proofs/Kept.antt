@@ -14,7 +14,7 @@ use Rattle.ipv4_forward.specs.declared.table.Next.{Next}
 use Rattle.ipv4_forward.specs.declared.table.Next.TheVariants.{Local, Via}
 use Rattle.ipv4_forward.specs.declared.table.Route.{Route}
 use Rattle.ipv4_forward.proofs.Passing.{distinct_push}
-use Rattle.controller_model.specs.declared.range.PortRange.{PortRange}
+use Rattle.world_model.specs.declared.range.PortRange.{PortRange}
 use Rattle.world_model.specs.declared.link.LinkEnd.{LinkEnd}
 use Rattle.world_model.specs.declared.line.TopologyLine.{TopologyLine}
 use Rattle.world_model.specs.declared.line.TopologyLine.TheVariants as lines

@@ -1,3 +1,4 @@
+mod ControllerLives
 pub mod Lists
 pub mod Queues
 pub mod Made

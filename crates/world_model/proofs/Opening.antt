@@ -10,9 +10,9 @@ use Rattle.net_types.specs.declared.node.PortNo.{PortNo}
 use Rattle.net_types.specs.Number.{GivenOut}
 use Rattle.crossbar_model.specs.Channels.{IsLinkPort, ArePorts}
 use Rattle.port_model.specs.Setup.{Policy, Setup}
-use Rattle.controller_model.specs.declared.range.PortRange.{PortRange}
-use Rattle.controller_model.specs.Controller.{Linked, ports_of}
-use Rattle.controller_model.specs.Opening.{opens_ports}
+use Rattle.world_model.specs.declared.range.PortRange.{PortRange}
+use Rattle.world_model.specs.Controller.{Linked, ports_of}
+use Rattle.world_model.specs.Opening.{opens_ports}
 use Rattle.world_model.specs.Topology as topologies
 use Rattle.world_model.specs.Topology.{Topology, Node, peer_of, default_range, range_among, ranges_of}
 use Rattle.world_model.specs.World.{World, Site, empty_world, opened, opened_site, with_opened, opens_each}

@@ -14,7 +14,7 @@ use Rattle.net_types.specs.declared.node.Place.TheVariants.{Down, Up, Out}
 use Rattle.atm_cells.specs.declared.cell.Cell.{Cell}
 use Rattle.keyed_lists.specs.Keyed.{at, put}
 use Rattle.crossbar_model.specs.Channels.{ArePorts}
-use Rattle.controller_model.specs.Controller.{ports_of}
+use Rattle.world_model.specs.Controller.{ports_of}
 use Rattle.world_model.specs.World.{World, Site, site_key, site_at, with_site}
 use Rattle.world_model.specs.Places.{place_node, queue_in, queue_at, with_queue, with_queue_of, with_queue_in, queue_number, same_queue, places_of, places, IsShapedSite, AreShaped, IsShaped, IsPlaceOf, IsPlaceIn}
 use Rattle.world_model.proofs.Lists.{by_eq, at_key, at_put_same, at_put_other, index_set, index_here, length_set, count_append, count_here, count_there, sum_once}

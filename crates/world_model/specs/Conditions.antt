@@ -13,8 +13,8 @@ use Rattle.ipv4_forward.specs.declared.change.RouteChange.{RouteChange}
 use Rattle.ipv4_forward.specs.declared.table.Next.{Next}
 use Rattle.ipv4_forward.specs.declared.table.Next.TheVariants.{Local, Via}
 use Rattle.ipv4_forward.specs.declared.table.Route.{Route}
-use Rattle.controller_model.specs.Controller.{Controller}
-use Rattle.controller_model.specs.declared.range.PortRange.{PortRange}
+use Rattle.world_model.specs.Controller.{Controller}
+use Rattle.world_model.specs.declared.range.PortRange.{PortRange}
 use Rattle.world_model.specs.declared.event.Event.{Event}
 use Rattle.world_model.specs.declared.event.Event.TheVariants.{Inject, Carry, Lose, Tick, TickSwitch, Restart, RestartSwitch, Forge, Route as RouteEvent}
 use Rattle.world_model.specs.declared.line.TopologyLine.{TopologyLine}

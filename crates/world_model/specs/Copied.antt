@@ -14,11 +14,11 @@ use Rattle.gsmp_wire.specs.declared.message.Message.{Message}
 use Rattle.gsmp_wire.specs.declared.request.Request.{Request}
 use Rattle.link_model.specs.declared.frames.Frame.{Frame}
 use Rattle.link_model.specs.Ledger.{same_mark}
-use Rattle.desk_model.specs.Requests.{is_on, is_delete_all, withdraws}
-use Rattle.desk_model.specs.Desk.{Standing}
-use Rattle.desk_model.specs.Answers.{Head, head_of, is_of_type}
-use Rattle.switch_model.specs.Switch.{gsmp_channel}
-use Rattle.switch_model.specs.Requests.{is_request}
+use Rattle.port_model.specs.Requests.{is_on, is_delete_all, withdraws}
+use Rattle.port_model.specs.Desk.{Standing}
+use Rattle.port_model.specs.DeskAnswers.{Head, head_of, is_of_type}
+use Rattle.world_model.specs.Switch.{gsmp_channel}
+use Rattle.world_model.specs.Requests.{is_request}
 use Rattle.world_model.specs.declared.event.Event.TheVariants.{Carry}
 use Rattle.world_model.specs.World.{World}
 use Rattle.world_model.specs.Places.{queue_at}

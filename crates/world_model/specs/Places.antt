@@ -10,8 +10,8 @@ use Rattle.net_types.specs.declared.node.Place.TheVariants.{Down, Up, Out}
 use Rattle.atm_cells.specs.declared.cell.Cell.{Cell}
 use Rattle.crossbar_model.specs.Channels.{ArePorts}
 use Rattle.crossbar_model.specs.Crossbar.{Crossbar, queue_of}
-use Rattle.switch_model.specs.Switch.{control_port}
-use Rattle.controller_model.specs.Controller.{ports_of}
+use Rattle.world_model.specs.Switch.{control_port}
+use Rattle.world_model.specs.Controller.{ports_of}
 use Rattle.world_model.specs.World.{World, Site, site_at, with_site}
 
 abbrev pub place_node : Place → NodeId

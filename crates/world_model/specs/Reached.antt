@@ -12,7 +12,7 @@ use Rattle.ipv4_forward.specs.declared.table.Next.TheVariants.{Local, Via}
 use Rattle.ipv4_forward.specs.declared.table.Route.{Route}
 use Rattle.link_model.specs.declared.record.DropCause.TheVariants.{NoRoute, Expired}
 use Rattle.run_model.specs.Fates.{Fate, IsDelivered, IsDropped}
-use Rattle.controller_model.specs.Packets.{inject_refusal}
+use Rattle.world_model.specs.Packets.{inject_refusal}
 use Rattle.world_model.specs.declared.event.Event.{Event}
 use Rattle.world_model.specs.declared.event.Event.TheVariants.{Inject}
 use Rattle.world_model.specs.declared.link.LinkEnd.{LinkEnd}

@@ -15,7 +15,7 @@ use Rattle.ifmp_wire.specs.declared.message.Message.TheVariants.{Adjacency, Redi
 use Rattle.link_model.specs.declared.frames.Frame.{Frame}
 use Rattle.frame_model.specs.Frame.{frame_cells}
 use Rattle.port_model.specs.Port.{Session}
-use Rattle.controller_model.specs.Controller.{default_channel}
+use Rattle.world_model.specs.Controller.{default_channel}
 use Rattle.world_model.specs.declared.link.LinkEnd.{LinkEnd}
 use Rattle.world_model.specs.World.{World}
 use Rattle.world_model.specs.Ways.{session_at, side_at, on_the_way, on_default_channel, gsmp_to_switch, gsmp_to_controller, ifmp_of, ifmp_under}

@@ -9,7 +9,7 @@ use Rattle.net_types.specs.declared.node.PortNo.{PortNo}
 use Rattle.ipv4_forward.specs.declared.table.Route.{Route}
 use Rattle.port_model.specs.declared.timers.Timers.{Timers}
 use Rattle.port_model.specs.Setup.{Policy}
-use Rattle.controller_model.specs.declared.range.PortRange.{PortRange}
+use Rattle.world_model.specs.declared.range.PortRange.{PortRange}
 use Rattle.world_model.specs.declared.link.LinkEnd.{LinkEnd}
 
 -- a node's name, its address, the slots of each of its two regions, the ranges of labels that were given to

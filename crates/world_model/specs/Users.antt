@@ -21,7 +21,7 @@ use Rattle.ifmp_wire.specs.declared.message.Message.TheVariants.{Redirect}
 use Rattle.ipv4_forward.specs.Best.{best}
 use Rattle.ipv4_forward.specs.declared.table.Next.TheVariants.{Via}
 use Rattle.link_model.specs.Ledger.{payload_of}
-use Rattle.desk_model.specs.Desk.{Standing}
+use Rattle.port_model.specs.Desk.{Standing}
 use Rattle.port_model.specs.Setup.{label_end, control_end}
 use Rattle.port_model.specs.Grants.{Grant}
 use Rattle.world_model.specs.declared.link.LinkEnd.{LinkEnd}

@@ -10,11 +10,11 @@ use Rattle.link_model.specs.Notes.{Journal}
 use Rattle.keyed_lists.specs.Keyed.{at, put}
 use Rattle.port_model.specs.Setup.{Policy}
 use Rattle.port_model.specs.Redirection.{greatest_tally}
-use Rattle.switch_model.specs.Switch as switches
-use Rattle.switch_model.specs.Switch.{Switch}
-use Rattle.controller_model.specs.Controller as controllers
-use Rattle.controller_model.specs.Controller.{Controller, redirects_of}
-use Rattle.controller_model.specs.Opening.{opened as opened_controller, after_opening}
+use Rattle.world_model.specs.Switch as switches
+use Rattle.world_model.specs.Switch.{Switch}
+use Rattle.world_model.specs.Controller as controllers
+use Rattle.world_model.specs.Controller.{Controller, redirects_of}
+use Rattle.world_model.specs.Opening.{opened as opened_controller, after_opening}
 use Rattle.world_model.specs.Topology.{Topology, Node, ports_of, ranges_of, vpis_of, timers_of}
 
 pub record Site : Type 0 where

@@ -7,7 +7,7 @@ use Rattle.port_facts.proofs.Keyed.{by_eq, at_key, at_put_same, at_put_other}
 use Rattle.label_line.specs.Cells.{Role, Downstream, Upstream}
 use Rattle.label_line.specs.Line.{Line}
 use Rattle.label_line.specs.Moves.{run}
-use Rattle.controller_model.specs.Controller.{Controller, Acted}
+use Rattle.world_model.specs.Controller.{Controller, Acted}
 use Rattle.world_model.specs.World.{World, Site, site_key, site_at, with_site, controller_acts, at_controller}
 use Rattle.port_views.specs.Link.{LinkLabel, other}
 use Rattle.port_views.proofs.Reach.{run_join}

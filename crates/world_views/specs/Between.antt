@@ -15,14 +15,14 @@ use Rattle.ordered_lists.specs.Ordered.{Every}
 use Rattle.link_model.specs.Ledger.{payload_of}
 use Rattle.run_model.specs.Fates.{has_loss_of}
 use Rattle.crossbar_model.specs.Crossbar.{output_of}
-use Rattle.desk_model.specs.Desk.{Standing, all_on}
-use Rattle.desk_model.specs.Messages.{is_up}
-use Rattle.switch_model.specs.declared.port.PortState.{PortState}
-use Rattle.switch_model.specs.Switch.{control_port, numbers_of}
+use Rattle.port_model.specs.Desk.{Standing, all_on}
+use Rattle.port_model.specs.Messages.{is_up}
+use Rattle.world_model.specs.declared.port.PortState.{PortState}
+use Rattle.world_model.specs.Switch.{control_port, numbers_of}
 use Rattle.port_model.specs.Setup.{Setup, home_of}
 use Rattle.port_facts.specs.Port.{IsLinked, IsLabelEnd, IsShaped}
-use Rattle.controller_model.specs.Controller.{Controller, Linked, ports_of, default_channel, default_home}
-use Rattle.controller_model.specs.Cells.{same_channel}
+use Rattle.world_model.specs.Controller.{Controller, Linked, ports_of, default_channel, default_home}
+use Rattle.world_model.specs.Cells.{same_channel}
 use Rattle.label_line.specs.Cells.{Role}
 use Rattle.label_line.specs.Line as labels
 use Rattle.label_line.specs.Law as labels_law

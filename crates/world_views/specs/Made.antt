@@ -14,7 +14,7 @@ use Rattle.gsmp_wire.specs.Range.{Fits}
 use Rattle.gsmp_reading.specs.Said.{IsSaid}
 use Rattle.link_model.specs.declared.frames.Frame.{Frame}
 use Rattle.link_model.specs.Ledger.{payload_of}
-use Rattle.controller_model.specs.Packets.{inject_refusal}
+use Rattle.world_model.specs.Packets.{inject_refusal}
 use Rattle.controller_views.specs.Lifted.{payload_by}
 use Rattle.world_model.specs.Conditions.{AreOctets}
 

@@ -17,8 +17,8 @@ use Rattle.flow_encaps.specs.Labelled.{Carries}
 use Rattle.ifmp_wire.specs.declared.message.Message.{Message}
 use Rattle.link_model.specs.declared.frames.Frame.{Frame}
 use Rattle.link_model.specs.Ledger.{payload_of}
-use Rattle.controller_model.specs.Controller.{default_channel}
-use Rattle.controller_model.specs.Cells.{same_channel, port_on, on_link}
+use Rattle.world_model.specs.Controller.{default_channel}
+use Rattle.world_model.specs.Cells.{same_channel, port_on, on_link}
 use Rattle.controller_views.specs.Lifted.{payload_by}
 use Rattle.world_model.specs.declared.link.LinkEnd.{LinkEnd}
 use Rattle.world_model.specs.Topology.{Topology, peer_of}

@@ -6,10 +6,10 @@ use Rattle.net_types.specs.declared.node.NodeId.{NodeId}
 use Rattle.net_types.specs.Label.{number_of_channel}
 use Rattle.atm_cells.specs.declared.cell.Cell.{Cell}
 use Rattle.keyed_lists.specs.Keyed.{at}
-use Rattle.desk_model.specs.Desk.{Standing}
+use Rattle.port_model.specs.Desk.{Standing}
 use Rattle.port_model.specs.Setup.{label_end}
 use Rattle.port_model.specs.Grants.{Grant, grant_label, input_of}
-use Rattle.controller_model.specs.Controller.{Controller, Linked, linked_at}
+use Rattle.world_model.specs.Controller.{Controller, Linked, linked_at}
 use Rattle.label_line.specs.Cells.{Upstream}
 use Rattle.world_model.specs.World.{World}
 use Rattle.world_model.specs.Ways.{standing_at, output_at, gsmp_to_switch, copy_under}

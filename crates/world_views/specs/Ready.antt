@@ -4,8 +4,8 @@ use Rattle.std.specs.Prelude.{List, map, Option, None, Some}
 use Rattle.net_types.specs.declared.adjacency.Party.{Party}
 use Rattle.adjacency_table.specs.Side.{Side}
 use Rattle.gsmp_wire.specs.Range.{FitsParty, FitsRows}
-use Rattle.switch_model.specs.Answers.{row_of}
-use Rattle.controller_model.specs.Controller.{Controller, Linked}
+use Rattle.world_model.specs.Answers.{row_of}
+use Rattle.world_model.specs.Controller.{Controller, Linked}
 use Rattle.port_model.specs.Setup.{Setup}
 use Rattle.controller_views.specs.Ready.{IsReady}
 use Rattle.world_model.specs.World.{Site}

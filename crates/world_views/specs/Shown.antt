@@ -2,11 +2,11 @@
 
 use Rattle.std.specs.Prelude.{◌≡◌, ◌≢◌, List, Some}
 use Rattle.crossbar_model.specs.Crossbar.{queue_of}
-use Rattle.switch_model.specs.Switch.{control_port}
+use Rattle.world_model.specs.Switch.{control_port}
 use Rattle.label_line.specs.Cells.{Role, Downstream, Upstream}
 use Rattle.label_line.specs.Line.{Line}
 use Rattle.label_line.specs.Moves.{Move, run}
-use Rattle.controller_model.specs.Controller.{Acted}
+use Rattle.world_model.specs.Controller.{Acted}
 use Rattle.world_model.specs.declared.link.LinkEnd.{LinkEnd}
 use Rattle.world_model.specs.World.{World, Site, site_at}
 use Rattle.world_model.specs.Users.{Way}

@@ -17,7 +17,7 @@ use Rattle.flow_ids.specs.declared.flow.FlowId.{FlowId}
 use Rattle.ifmp_wire.specs.declared.message.Message.{Message}
 use Rattle.ifmp_wire.specs.declared.message.Message.TheVariants.{Adjacency, Redirect}
 use Rattle.ifmp_wire.specs.Message.{names_of}
-use Rattle.desk_model.specs.Desk.{Standing}
+use Rattle.port_model.specs.Desk.{Standing}
 use Rattle.port_model.specs.Setup.{home_of, label_end}
 use Rattle.port_model.specs.Grants.{Grant}
 use Rattle.label_line.specs.Cells.{Downstream, Upstream}

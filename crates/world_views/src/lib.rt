@@ -10,7 +10,7 @@ ghost use Rattle.std.specs.Prelude.{◌≡◌, [], Some};
 ghost use Rattle.net_types.specs.declared.node.NodeId.{NodeId};
 ghost use Rattle.label_line.specs.Cells.{Role};
 ghost use Rattle.label_line.specs.Line.{Line};
-ghost use Rattle.controller_model.specs.Controller.{Acted};
+ghost use Rattle.world_model.specs.Controller.{Acted};
 ghost use Rattle.world_model.specs.World.{World, Site, site_at, at_controller};
 ghost use Rattle.port_views.specs.Link.{LinkLabel};
 ghost use Rattle.controller_views.specs.Ends.{EndLeads};

@@ -1,5 +1,5 @@
 use Rattle.port_facts.proofs.Hearings.{hears_goes}
-use Rattle.controller_model.specs.Resets.{begins}
+use Rattle.world_model.specs.Resets.{begins}
 use Rattle.controller_law.proofs.Whole.{holds_of}
 use Rattle.input_premises.proofs.Reading.{are_read}
 use Rattle.input_premises.proofs.Steady.{steady_whole, steady_read}

@@ -2,8 +2,8 @@ use Rattle.std.proofs.Common.{◌≡◌, true, map, take, ap, sym, subst, ◌∙
 use Rattle.std.specs.Option.{option_map}
 use Rattle.control_link.specs.Cells.{is_channel}
 use Rattle.control_link.specs.declared.taker.Taker as control
-use Rattle.controller_model.specs.Controller.{Acted}
-use Rattle.controller_model.specs.Cells.{frame_holds, taker_of}
+use Rattle.world_model.specs.Controller.{Acted}
+use Rattle.world_model.specs.Cells.{frame_holds, taker_of}
 use Rattle.router.specs.Cells.{channel_of, receipt}
 use Rattle.router.specs.Node as node
 use Rattle.router.specs.Node.{Node, linked_range}

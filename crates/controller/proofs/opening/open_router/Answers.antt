@@ -1,6 +1,6 @@
 use Rattle.std.proofs.Common.{map, ap, sym, subst, ◌∙◌}
 use Rattle.net_types.specs.Number.{GivenOut}
-use Rattle.controller_model.specs.Opening.{setup_of}
+use Rattle.world_model.specs.Opening.{setup_of}
 use Rattle.gsmp_client.specs.Client.{Client}
 use Rattle.router.specs.Node.{AreLinked}
 use Rattle.joining_router.specs.Joining.{Joining, controller_of}

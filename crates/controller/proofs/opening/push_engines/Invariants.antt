@@ -1,5 +1,5 @@
 use Rattle.std.proofs.Common.{◌≡◌, ◌+◌, ◌++◌, drop, map}
-use Rattle.controller_model.specs.Opening.{setup_of}
+use Rattle.world_model.specs.Opening.{setup_of}
 use Rattle.controller.specs.Opening.{opened_ends}
 use Rattle.controller.proofs.opening.push_engines.Given as goal
 

@@ -5,9 +5,9 @@ use Rattle.ifmp_wire.specs.Message.{Tells}
 use Rattle.ifmp_wire.specs.Tests.{first_fault}
 use Rattle.link_model.specs.declared.record.Layer.TheVariants.{Ifmp}
 use Rattle.link_model.specs.declared.record.Record.TheVariants.{Bad}
-use Rattle.controller_model.specs.Cells.{ifmp_holds}
-use Rattle.controller_model.specs.Controller.{note}
-use Rattle.controller_model.specs.Performing.{at_port}
+use Rattle.world_model.specs.Cells.{ifmp_holds}
+use Rattle.world_model.specs.Controller.{note}
+use Rattle.world_model.specs.Performing.{at_port}
 use Rattle.joining_router.specs.Conditions.{CanWorkOn}
 use Rattle.joining_router.specs.Joining.{acted}
 use Rattle.joining_router.proofs.Kept.{ok_onward}

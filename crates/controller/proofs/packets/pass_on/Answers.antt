@@ -1,6 +1,6 @@
 use Rattle.std.proofs.Common.{ℕ, List, ap, sym, subst, ◌∙◌}
-use Rattle.controller_model.specs.Controller.{Acted}
-use Rattle.controller_model.specs.Packets.{routes}
+use Rattle.world_model.specs.Controller.{Acted}
+use Rattle.world_model.specs.Packets.{routes}
 use Rattle.joining_router.specs.Conditions.{CanWorkOn}
 use Rattle.joining_router.specs.Joining.{acted, controller_of}
 use Rattle.controller_conditions.specs.Calls.{counting}

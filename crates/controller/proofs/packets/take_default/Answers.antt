@@ -3,8 +3,8 @@ use Rattle.std.specs.Result.{result_err}
 use Rattle.flow_encaps.specs.Default.{default_fault}
 use Rattle.link_model.specs.declared.record.Layer.TheVariants.{Encaps}
 use Rattle.link_model.specs.declared.record.Record.TheVariants.{Bad}
-use Rattle.controller_model.specs.Cells.{default_holds}
-use Rattle.controller_model.specs.Controller.{note}
+use Rattle.world_model.specs.Cells.{default_holds}
+use Rattle.world_model.specs.Controller.{note}
 use Rattle.joining_router.specs.Joining.{acted}
 use Rattle.joining_router.proofs.Kept.{ok_onward}
 use Rattle.controller.proofs.Unwrapped.{default_found, default_refused}

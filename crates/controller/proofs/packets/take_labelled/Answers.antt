@@ -8,8 +8,8 @@ use Rattle.flow_encaps.specs.Labelled.{Carries, unwrap_fault}
 use Rattle.link_model.specs.declared.record.Layer.TheVariants.{Encaps}
 use Rattle.link_model.specs.declared.record.Record.TheVariants.{Bad}
 use Rattle.port_state.specs.Engine.{flow_at}
-use Rattle.controller_model.specs.Cells.{label_holds}
-use Rattle.controller_model.specs.Controller.{Linked, linked_at, note}
+use Rattle.world_model.specs.Cells.{label_holds}
+use Rattle.world_model.specs.Controller.{Linked, linked_at, note}
 use Rattle.router.specs.Node as node
 use Rattle.router.specs.Node.{Node}
 use Rattle.joining_router.specs.Joining.{acted}

@@ -1,5 +1,5 @@
 use Rattle.std.proofs.Common.{ap, ◌∙◌}
-use Rattle.controller_model.specs.Controller.{Acted}
+use Rattle.world_model.specs.Controller.{Acted}
 use Rattle.joining_router.specs.Joining.{acted, controller_of}
 use Rattle.controller_conditions.proofs.Leading.{routes_lead_to_links}
 use Rattle.controller.specs.Frames.{used_at}

@@ -1,6 +1,6 @@
 use Rattle.std.proofs.Common.{◌≡◌, ◌+◌, map, take, arith}
 use Rattle.std.proofs.lemmas.Grind.{common_steps}
-use Rattle.switch_model.specs.Answers.{row_of}
+use Rattle.world_model.specs.Answers.{row_of}
 use Rattle.gsmp_switch.proofs.Ranges.{rows_fit}
 use Rattle.gsmp_switch.proofs.answer.rows_of.Goals as goal
 

@@ -1,6 +1,6 @@
 use Rattle.std.proofs.Common.{◌≡◌, map, take}
 use Rattle.gsmp_wire.specs.Range.{FitsRows}
-use Rattle.switch_model.specs.Answers.{row_of}
+use Rattle.world_model.specs.Answers.{row_of}
 use Rattle.gsmp_switch.proofs.answer.rows_of.Given as goal
 
 abbrev pub invariant-loop-state : goal.invariant-loop-state

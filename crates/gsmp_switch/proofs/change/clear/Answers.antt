@@ -1,7 +1,7 @@
 use Rattle.std.proofs.Common.{◌≡◌, ◌∙◌, Some, None, refl, sym, ap}
 use Rattle.crossbar_model.specs.Crossbar.{first_on}
 use Rattle.gsmp_switch.specs.Exchange.{changed_in, with_changed}
-use Rattle.switch_model.specs.Requests.{Changed}
+use Rattle.world_model.specs.Requests.{Changed}
 use Rattle.gsmp_switch.proofs.Inputs.{cleared_next, cleared_none, fewer_inputs}
 use Rattle.gsmp_switch.proofs.change.clear.Goals as goal
 

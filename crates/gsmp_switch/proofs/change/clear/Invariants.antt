@@ -1,6 +1,6 @@
 use Rattle.std.proofs.Common.{◌≡◌, length}
 use Rattle.gsmp_switch.specs.Exchange.{changed_in, with_changed}
-use Rattle.switch_model.specs.Requests.{cleared, inputs_on}
+use Rattle.world_model.specs.Requests.{cleared, inputs_on}
 use Rattle.gsmp_switch.proofs.change.clear.Given as goal
 
 abbrev pub invariant-loop-input : goal.invariant-loop-input

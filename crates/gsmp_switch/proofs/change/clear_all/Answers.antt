@@ -2,7 +2,7 @@ use Rattle.std.proofs.Common.{◌≡◌, ◌∙◌, refl, sym, ap, arith}
 use Rattle.std.specs.FinMap.{keys}
 use Rattle.net_types.specs.declared.node.PortNo.{PortNo}
 use Rattle.gsmp_switch.specs.Exchange.{changed_in, with_changed}
-use Rattle.switch_model.specs.Requests.{Changed, all_ended}
+use Rattle.world_model.specs.Requests.{Changed, all_ended}
 use Rattle.gsmp_switch.proofs.Restarts.{all_are_ended, from_all, port_by_port}
 use Rattle.gsmp_switch.proofs.change.clear_all.Goals as goal
 

@@ -3,7 +3,7 @@ use Rattle.std.specs.List.{list_all}
 use Rattle.std.specs.FinMap.{keys}
 use Rattle.gsmp_switch.specs.Exchange.{changed_in, with_changed}
 use Rattle.gsmp_switch.proofs.Restarts.{inputs_from}
-use Rattle.switch_model.specs.Requests.{all_ended}
+use Rattle.world_model.specs.Requests.{all_ended}
 use Rattle.gsmp_switch.proofs.change.clear_all.Given as goal
 
 abbrev pub invariant-loop-number : goal.invariant-loop-number

@@ -1,5 +1,5 @@
 use Rattle.std.proofs.Common.{◌≡◌, ◌++◌, map, take, drop, length}
-use Rattle.switch_model.specs.Switch.{begun}
+use Rattle.world_model.specs.Switch.{begun}
 use Rattle.gsmp_switch.proofs.ports.begin.Given as goal
 
 abbrev pub invariant-loop-place : goal.invariant-loop-place

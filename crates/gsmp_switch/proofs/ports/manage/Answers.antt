@@ -1,6 +1,6 @@
 use Rattle.std.proofs.Common.{◌<◌, List, length, ap, arith}
-use Rattle.switch_model.specs.declared.port.PortState.{PortState}
-use Rattle.switch_model.specs.Requests.{managed}
+use Rattle.world_model.specs.declared.port.PortState.{PortState}
+use Rattle.world_model.specs.Requests.{managed}
 use Rattle.gsmp_switch.proofs.PortStates.{changed_at}
 use Rattle.gsmp_switch.proofs.ports.manage.Goals as goal
 

@@ -1,6 +1,6 @@
 use Rattle.std.proofs.Common.{◌≡◌, ◌++◌, take, drop}
-use Rattle.switch_model.specs.Switch.{port_of, with_port}
-use Rattle.switch_model.specs.Requests.{managed}
+use Rattle.world_model.specs.Switch.{port_of, with_port}
+use Rattle.world_model.specs.Requests.{managed}
 use Rattle.gsmp_switch.proofs.ports.manage.Given as goal
 
 abbrev pub invariant-loop-place : goal.invariant-loop-place

@@ -1,5 +1,5 @@
 use Rattle.std.proofs.Common.{◌≡◌, ◌∷◌, map, take}
-use Rattle.switch_model.specs.Switch.{begun, control_port}
+use Rattle.world_model.specs.Switch.{begun, control_port}
 use Rattle.gsmp_switch.proofs.ports.opened_ports.Given as goal
 
 abbrev pub invariant-loop-port : goal.invariant-loop-port

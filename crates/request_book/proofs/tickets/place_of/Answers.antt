@@ -2,7 +2,7 @@ use Rattle.std.proofs.Common.{◌≡◌, ◌==◌, ◌∙◌, false, rules, sym}
 use Rattle.std.specs.Ordering.{nat_cmp}
 use Rattle.std.specs.List.{list_any}
 use Rattle.std.proofs.lemmas.Fn.{always_returns_same}
-use Rattle.desk_model.specs.Desk.{Standing}
+use Rattle.port_model.specs.Desk.{Standing}
 use Rattle.branch_desk.proofs.Numbers.{searched}
 use Rattle.request_book.proofs.tickets.place_of.Goals as goal
 

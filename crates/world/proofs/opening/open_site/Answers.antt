@@ -1,7 +1,7 @@
 use Rattle.std.proofs.Common.{◌∙◌, ap, sym, subst, arith}
 use Rattle.net_types.specs.Number.{GivenOut, next_instance}
 use Rattle.crossbar_model.specs.Channels.{ArePorts}
-use Rattle.switch_model.specs.Switch as switches
+use Rattle.world_model.specs.Switch as switches
 use Rattle.world_model.specs.Topology.{node_at}
 use Rattle.world_model.proofs.Opening.{ports_are}
 use Rattle.world.specs.Nodes.{AreTimes}

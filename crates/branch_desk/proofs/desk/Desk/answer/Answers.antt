@@ -1,9 +1,9 @@
 use Rattle.std.proofs.Common.{◌≡◌, ◌∙◌, ◌<◌, ◌==◌, not, filter, sym, ap, Some}
 use Rattle.std.proofs.lemmas.List.Elements.{All-filter}
 use Rattle.gsmp_wire.specs.declared.message.Message.{Message}
-use Rattle.desk_model.specs.Desk.{Desk, Standing}
-use Rattle.desk_model.specs.Answers.{Head, head_of, succeeded, answered, after_answer}
-use Rattle.desk_model.specs.Answers as meaning
+use Rattle.port_model.specs.Desk.{Desk, Standing}
+use Rattle.port_model.specs.DeskAnswers.{Head, head_of, succeeded, answered, after_answer}
+use Rattle.port_model.specs.DeskAnswers as meaning
 use Rattle.branch_desk.specs.Answers.{told}
 use Rattle.branch_desk.specs.declared.answered.Answered.TheVariants.{Unknown, Done, Ports}
 use Rattle.branch_desk.proofs.Answering.{unknown_is, succeeded_is, failed_is, done_is}

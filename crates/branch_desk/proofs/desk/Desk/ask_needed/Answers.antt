@@ -1,6 +1,6 @@
 use Rattle.std.proofs.Common.{◌≡◌, false, refl}
 use Rattle.std.specs.List.{list_any}
-use Rattle.desk_model.specs.Requests.{withdraws}
+use Rattle.port_model.specs.Requests.{withdraws}
 use Rattle.branch_desk.proofs.Numbers.{none_left}
 use Rattle.branch_desk.proofs.desk.Desk.ask_needed.Goals as goal
 

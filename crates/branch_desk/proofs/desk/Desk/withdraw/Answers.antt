@@ -1,6 +1,6 @@
 use Rattle.std.proofs.Common.{◌<◌}
 use Rattle.std.proofs.lemmas.List.Elements.{All-filter}
-use Rattle.desk_model.specs.Desk.{Standing}
+use Rattle.port_model.specs.Desk.{Standing}
 use Rattle.branch_desk.proofs.Gone.{gone_withdrawn, gone-calls}
 use Rattle.branch_desk.proofs.desk.Desk.withdraw.Goals as goal
 

@@ -1,6 +1,6 @@
 use Rattle.std.proofs.Common.{◌∙◌, ap, sym, option_map}
-use Rattle.desk_model.specs.Desk.{Standing}
-use Rattle.desk_model.specs.Messages.{all_of}
+use Rattle.port_model.specs.Desk.{Standing}
+use Rattle.port_model.specs.Messages.{all_of}
 use Rattle.branch_desk.specs.Requests.{deleted_of}
 use Rattle.branch_desk.proofs.Apart.{apart_deletes}
 use Rattle.branch_desk.proofs.Keys.{deletes_told, told_number}

@@ -1,5 +1,5 @@
 use Rattle.std.proofs.Common.{◌≡◌, ◌∙◌, sym, true, false}
-use Rattle.desk_model.specs.Answers.{is_of_type}
+use Rattle.port_model.specs.DeskAnswers.{is_of_type}
 use Rattle.branch_desk.proofs.Numbers.{found_of, none_found}
 use Rattle.branch_desk.proofs.requests.Requests.answered_by.Goals as goal
 

@@ -1,7 +1,7 @@
 use Rattle.std.proofs.Common.{◌≡◌, ◌∙◌, sym, true, false, is_some}
 use Rattle.std.specs.List.{list_any}
-use Rattle.desk_model.specs.Desk.{Standing}
-use Rattle.desk_model.specs.Requests.{is_delete_all}
+use Rattle.port_model.specs.Desk.{Standing}
+use Rattle.port_model.specs.Requests.{is_delete_all}
 use Rattle.branch_desk.proofs.Apart.{found_any_mapped, led_by_delete, led_by_none, led_by_one}
 use Rattle.branch_desk.proofs.requests.Requests.is_led_home.Goals as goal
 

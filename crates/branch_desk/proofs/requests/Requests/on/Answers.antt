@@ -1,5 +1,5 @@
 use Rattle.std.proofs.Common.{◌∙◌, sym}
-use Rattle.desk_model.specs.Requests.{input_of}
+use Rattle.port_model.specs.Requests.{input_of}
 use Rattle.branch_desk.proofs.Apart.{apart_inputs}
 use Rattle.branch_desk.proofs.Keys.{absent_key, keyed_number}
 use Rattle.branch_desk.proofs.requests.Requests.on.Goals as goal

@@ -1,8 +1,8 @@
 use Rattle.std.proofs.Common.{◌≡◌, true, false, ◌<◌, length, ap, arith}
 use Rattle.std.proofs.lemmas.List.Quantifiers.{all_pairs_push}
 use Rattle.std.proofs.lemmas.List.Elements.{All-push}
-use Rattle.desk_model.specs.Desk.{Standing}
-use Rattle.desk_model.specs.Requests.{input_of, withdraws}
+use Rattle.port_model.specs.Desk.{Standing}
+use Rattle.port_model.specs.Requests.{input_of, withdraws}
 use Rattle.branch_desk.specs.Requests.{deleted_of, has_function}
 use Rattle.branch_desk.proofs.Keys.{keys-le, keys_push, none_passes}
 use Rattle.branch_desk.proofs.requests.Requests.push.Goals as goal

@@ -2,8 +2,8 @@ use Rattle.std.proofs.Common.{◌≡◌, true, false, ◌<◌, ◌∙◌, ap, sy
 use Rattle.std.proofs.lemmas.List.Quantifiers.{all_pairs_remove}
 use Rattle.std.proofs.lemmas.List.Elements.{All-tail}
 use Rattle.std.proofs.lemmas.List.Sorted.{All-permutation, IsPermutation-remove}
-use Rattle.desk_model.specs.Desk.{Standing}
-use Rattle.desk_model.specs.Requests.{input_of, withdraws}
+use Rattle.port_model.specs.Desk.{Standing}
+use Rattle.port_model.specs.Requests.{input_of, withdraws}
 use Rattle.branch_desk.specs.Requests.{deleted_of, has_function}
 use Rattle.branch_desk.specs.ByEnd.{IsUnder}
 use Rattle.branch_desk.proofs.Numbers.{has, none_left, left_at}

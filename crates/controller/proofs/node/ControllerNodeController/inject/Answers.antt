@@ -1,7 +1,7 @@
 use Rattle.std.proofs.Common.{◌≢◌, ℕ, ap, sym, subst, ◌∙◌}
 use Rattle.std.specs.Result.{result_err}
 use Rattle.net_types.specs.Number.{GivenOut}
-use Rattle.controller_model.specs.Packets.{control_protocol}
+use Rattle.world_model.specs.Packets.{control_protocol}
 use Rattle.controller_facts.specs.Inputs.{PacketEnters}
 use Rattle.joining_router.specs.Joining.{acted, controller_of}
 use Rattle.joining_router.proofs.Kept.{ok_onward}

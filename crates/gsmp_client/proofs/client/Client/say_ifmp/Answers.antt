@@ -5,8 +5,8 @@ use Rattle.ipv4_packet.specs.Packet.{ifmp_packet_of}
 use Rattle.ipv4_packet.proofs.MessageLemmas.{length-ifmp_packet_of, take-front}
 use Rattle.flow_encaps.specs.Default.{default_payload}
 use Rattle.ifmp_wire.specs.Message.{octets_of}
-use Rattle.controller_model.specs.Controller.{Acted, default_home}
-use Rattle.controller_model.specs.Sending.{sends_control}
+use Rattle.world_model.specs.Controller.{Acted, default_home}
+use Rattle.world_model.specs.Sending.{sends_control}
 use Rattle.port_model.specs.Setup.{home_of}
 use Rattle.gsmp_client.specs.Client.{acted}
 use Rattle.gsmp_client.proofs.client.Client.say_ifmp.Goals as goal

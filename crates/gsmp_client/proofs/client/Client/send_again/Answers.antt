@@ -5,9 +5,9 @@ use Rattle.std.proofs.lemmas.List.Sums.{fold_more}
 use Rattle.std.proofs.lemmas.Option.{slice_get-get_or}
 use Rattle.net_types.specs.Number.{GivenOut}
 use Rattle.gsmp_wire.specs.declared.request.Request.TheVariants.{AllPorts}
-use Rattle.desk_model.specs.Desk.{Desk, Standing}
-use Rattle.controller_model.specs.Controller.{Acted}
-use Rattle.controller_model.specs.Asking.{sends_request}
+use Rattle.port_model.specs.Desk.{Desk, Standing}
+use Rattle.world_model.specs.Controller.{Acted}
+use Rattle.world_model.specs.Asking.{sends_request}
 use Rattle.gsmp_client.specs.Client.{Client, acted}
 use Rattle.gsmp_client.proofs.Sent.{rest_on, still_one}
 use Rattle.gsmp_client.proofs.client.Client.send_again.Goals as goal

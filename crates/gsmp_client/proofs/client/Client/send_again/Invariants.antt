@@ -1,5 +1,5 @@
 use Rattle.std.proofs.Common.{◌≡◌, ◌+◌, ◌≤◌, fold, length, take}
-use Rattle.controller_model.specs.Asking.{sends_request}
+use Rattle.world_model.specs.Asking.{sends_request}
 use Rattle.gsmp_client.specs.Client.{AreOneNode, Router, acted}
 use Rattle.gsmp_client.proofs.client.Client.send_again.Given as goal
 

@@ -1,7 +1,7 @@
 use Rattle.std.proofs.Common.{◌≡◌, ◌<◌, ◌^◌, ◌∙◌, None, ap, sym, rules}
-use Rattle.switch_model.specs.declared.request.Failure.TheVariants.{NoPort}
-use Rattle.switch_model.specs.Failures.{failure_of}
-use Rattle.switch_model.specs.Answers.{Handled}
+use Rattle.world_model.specs.declared.request.Failure.TheVariants.{NoPort}
+use Rattle.world_model.specs.Failures.{failure_of}
+use Rattle.world_model.specs.Answers.{Handled}
 use Rattle.gsmp_switch.proofs.Handling.{all_connectable, can_raise, handled_is, refused_unread}
 use Rattle.gsmp_switch.proofs.PortStates.{few_states, states_after}
 use Rattle.gsmp_switch.proofs.Ranges.{failure_in_range}

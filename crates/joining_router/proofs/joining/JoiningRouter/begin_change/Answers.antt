@@ -1,7 +1,7 @@
 use Rattle.std.proofs.Common.{Bool, fold, refl, ap, sym, subst, ◌∙◌, if◌then◌else◌}
 use Rattle.adjacency_table.specs.Side.{is_estab}
-use Rattle.controller_model.specs.Controller.{Acted}
-use Rattle.controller_model.specs.Changes.{changed_joins, takes_join_back}
+use Rattle.world_model.specs.Controller.{Acted}
+use Rattle.world_model.specs.Changes.{changed_joins, takes_join_back}
 use Rattle.join_facts.specs.Joins.{HaveNumbers, joined_in}
 use Rattle.join_facts.proofs.Changing.{Begun, begins_keeps, begins_lasts}
 use Rattle.join_facts.proofs.Lasts.{Lasts}

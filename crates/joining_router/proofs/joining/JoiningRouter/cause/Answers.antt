@@ -5,7 +5,7 @@ use Rattle.router.specs.Node as node
 use Rattle.router.specs.Node.{Node}
 use Rattle.joining_router.specs.Joining.{Joining, acted}
 use Rattle.joining_router.proofs.Kept.{settled_by}
-use Rattle.controller_model.specs.Meeting.{causes}
+use Rattle.world_model.specs.Meeting.{causes}
 use Rattle.join_facts.proofs.Spent.{causes_lasts}
 use Rattle.joining_router.proofs.joining.JoiningRouter.cause.Goals as goal
 

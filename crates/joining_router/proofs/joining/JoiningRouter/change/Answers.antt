@@ -1,6 +1,6 @@
 use Rattle.std.proofs.Common.{ap, sym, subst, ◌∙◌}
-use Rattle.controller_model.specs.Controller.{Acted}
-use Rattle.controller_model.specs.Changes.{takes_changes}
+use Rattle.world_model.specs.Controller.{Acted}
+use Rattle.world_model.specs.Changes.{takes_changes}
 use Rattle.join_facts.specs.Joins.{joined_in}
 use Rattle.router.specs.Meeting.{with_change}
 use Rattle.joining_router.specs.Conditions.{CanTakeChanges}

@@ -5,7 +5,7 @@ use Rattle.router.specs.Node as node
 use Rattle.router.specs.Node.{Node}
 use Rattle.joining_router.specs.Joining.{Joining, acted}
 use Rattle.joining_router.proofs.Kept.{settled_by}
-use Rattle.controller_model.specs.Cells.{counted_at}
+use Rattle.world_model.specs.Cells.{counted_at}
 use Rattle.port_model.specs.Counting.{counts}
 use Rattle.joining_router.proofs.joining.JoiningRouter.count.Goals as goal
 

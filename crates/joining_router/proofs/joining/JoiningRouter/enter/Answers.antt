@@ -1,6 +1,6 @@
 use Rattle.std.proofs.Common.{subst, sym}
 use Rattle.net_types.specs.Number.{GivenOut}
-use Rattle.controller_model.specs.Packets.{injected}
+use Rattle.world_model.specs.Packets.{injected}
 use Rattle.router.specs.Node as node
 use Rattle.joining_router.specs.Joining.{AreJoined}
 use Rattle.joining_router.proofs.Kept.{ok_joined, stayed}

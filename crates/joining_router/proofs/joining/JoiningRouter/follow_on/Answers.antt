@@ -1,6 +1,6 @@
 use Rattle.std.proofs.Common.{ap, sym, subst, ◌∙◌}
 use Rattle.adjacency_table.specs.Side.{is_estab}
-use Rattle.controller_model.specs.Gsmp.{answers}
+use Rattle.world_model.specs.Gsmp.{answers}
 use Rattle.join_facts.proofs.Lasts.{Lasts}
 use Rattle.join_facts.proofs.Spent.{answers_last}
 use Rattle.router.specs.Node as node

@@ -5,7 +5,7 @@ use Rattle.router.specs.Node as node
 use Rattle.router.specs.Node.{Node}
 use Rattle.joining_router.specs.Joining.{Joining, acted}
 use Rattle.joining_router.proofs.Kept.{settled_by}
-use Rattle.controller_model.specs.Performing.{at_port}
+use Rattle.world_model.specs.Performing.{at_port}
 use Rattle.port_model.specs.Hearing.{hears}
 use Rattle.joining_router.proofs.joining.JoiningRouter.hear.Goals as goal
 

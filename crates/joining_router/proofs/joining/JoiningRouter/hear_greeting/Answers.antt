@@ -1,7 +1,7 @@
 use Rattle.std.proofs.Common.{ap, sym, subst, ◌∙◌}
 use Rattle.adjacency_table.specs.Greeting.{gsmp_answer, gsmp_received}
-use Rattle.controller_model.specs.Controller.{Acted}
-use Rattle.controller_model.specs.Gsmp.{answers}
+use Rattle.world_model.specs.Controller.{Acted}
+use Rattle.world_model.specs.Gsmp.{answers}
 use Rattle.join_facts.specs.Joins.{joined_in}
 use Rattle.router.specs.Conditions.{CanFollow, turned_to}
 use Rattle.joining_router.specs.Joining.{Joining, acted}

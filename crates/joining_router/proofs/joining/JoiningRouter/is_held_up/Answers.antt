@@ -1,8 +1,8 @@
 use Rattle.std.proofs.Common.{suc, drop, ap, sym, ◌∙◌}
 use Rattle.std.specs.Prelude.{slice_get}
 use Rattle.std.specs.List.{list_any}
-use Rattle.controller_model.specs.Changes.{is_changed}
-use Rattle.controller_model.specs.Joins.{joins_of}
+use Rattle.world_model.specs.Changes.{is_changed}
+use Rattle.world_model.specs.Joins.{joins_of}
 use Rattle.joining_router.specs.Joining.{Joining, controller_of}
 use Rattle.joining_router.proofs.Changes.{any_first, any_rest, at_grant, at_joined, drop_next}
 use Rattle.joining_router.proofs.joining.JoiningRouter.is_held_up.Goals as goal

@@ -1,7 +1,7 @@
 use Rattle.std.proofs.Common.{◌≡◌, drop, length}
 use Rattle.std.specs.List.{list_any}
-use Rattle.controller_model.specs.Changes.{is_changed}
-use Rattle.controller_model.specs.Joins.{joins_of}
+use Rattle.world_model.specs.Changes.{is_changed}
+use Rattle.world_model.specs.Joins.{joins_of}
 use Rattle.joining_router.specs.Joining.{controller_of}
 use Rattle.joining_router.proofs.joining.JoiningRouter.is_held_up.Given as goal
 

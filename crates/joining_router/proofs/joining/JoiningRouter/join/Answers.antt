@@ -2,9 +2,9 @@ use Rattle.std.proofs.Common.{Some, refl, ap, sym, subst, ◌∙◌}
 use Rattle.keyed_lists.specs.Keyed.{entered as entered_in}
 use Rattle.adjacency_table.specs.Side.{is_estab}
 use Rattle.port_model.specs.Joins as port_joins
-use Rattle.controller_model.specs.Controller.{Acted, linked_at}
-use Rattle.controller_model.specs.Joins.{Join, enters_grant, joins}
-use Rattle.controller_model.specs.Performing.{at_port}
+use Rattle.world_model.specs.Controller.{Acted, linked_at}
+use Rattle.world_model.specs.Joins.{Join, enters_grant, joins}
+use Rattle.world_model.specs.Performing.{at_port}
 use Rattle.join_facts.proofs.Comes.{le}
 use Rattle.join_facts.proofs.Lasts.{Lasts}
 use Rattle.router.specs.Node as node

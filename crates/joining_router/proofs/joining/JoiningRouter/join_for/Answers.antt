@@ -1,7 +1,7 @@
 use Rattle.std.proofs.Common.{List, ap, sym, ◌∙◌}
 use Rattle.std.specs.Option.{option_map}
 use Rattle.ipv4_forward.specs.declared.table.Route.{Route}
-use Rattle.controller_model.specs.Controller.{Linked, linked_at}
+use Rattle.world_model.specs.Controller.{Linked, linked_at}
 use Rattle.cut_through.specs.Plan.{way_of}
 use Rattle.joining_router.specs.Joining.{Joining, controller_of}
 use Rattle.joining_router.proofs.Tried.{join_is}

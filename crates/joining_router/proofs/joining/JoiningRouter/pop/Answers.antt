@@ -1,5 +1,5 @@
 use Rattle.std.proofs.Common.{ap, subst, sym, ◌∙◌}
-use Rattle.controller_model.specs.Controller.{Controller}
+use Rattle.world_model.specs.Controller.{Controller}
 use Rattle.join_facts.specs.Joins.{joined_in}
 use Rattle.joining_router.specs.Joining.{AreJoined}
 use Rattle.joining_router.proofs.joining.JoiningRouter.pop.Goals as goal

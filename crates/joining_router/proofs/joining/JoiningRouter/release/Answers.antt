@@ -5,8 +5,8 @@ use Rattle.router.specs.Node as node
 use Rattle.router.specs.Node.{Node}
 use Rattle.joining_router.specs.Joining.{Joining, acted, controller_of}
 use Rattle.joining_router.proofs.Kept.{settled_by}
-use Rattle.controller_model.specs.Controller.{ports_of}
-use Rattle.controller_model.specs.Joins.{resets_spent}
+use Rattle.world_model.specs.Controller.{ports_of}
+use Rattle.world_model.specs.Joins.{resets_spent}
 use Rattle.join_facts.proofs.Spent.{all_spent_last}
 use Rattle.joining_router.proofs.joining.JoiningRouter.release.Goals as goal
 

@@ -1,5 +1,5 @@
 use Rattle.std.proofs.Common.{◌≡◌, fold, length}
-use Rattle.controller_model.specs.Joins.{released_inputs, releases_input}
+use Rattle.world_model.specs.Joins.{released_inputs, releases_input}
 use Rattle.joining_router.specs.Conditions.{EachCanBeReleased}
 use Rattle.joining_router.specs.Joining.{AreJoined, acted, controller_of}
 use Rattle.joining_router.proofs.joining.JoiningRouter.release_all.Given as goal

@@ -1,8 +1,8 @@
 use Rattle.std.proofs.Common.{◌≡◌, true, find, Some, ap, sym, subst, ◌∙◌}
 use Rattle.net_types.specs.declared.channel.End.{End}
-use Rattle.desk_model.specs.Requests.{leads_home}
+use Rattle.port_model.specs.Requests.{leads_home}
 use Rattle.port_model.specs.Setup.{home_of}
-use Rattle.controller_model.specs.Joins.{releases_input}
+use Rattle.world_model.specs.Joins.{releases_input}
 use Rattle.join_facts.proofs.Comes.{is_for}
 use Rattle.joining_router.specs.Conditions.{CanReleaseInput}
 use Rattle.joining_router.specs.Joining.{Joining, acted}

@@ -1,6 +1,6 @@
 use Rattle.std.proofs.Common.{ap, sym, filter, ◌∙◌}
-use Rattle.controller_model.specs.Controller.{Acted}
-use Rattle.controller_model.specs.Joins.{parts}
+use Rattle.world_model.specs.Controller.{Acted}
+use Rattle.world_model.specs.Joins.{parts}
 use Rattle.join_facts.specs.Joins.{joined_in}
 use Rattle.join_facts.proofs.Comes.{is_other, kept_apart}
 use Rattle.router.specs.Node as node

@@ -1,5 +1,5 @@
 use Rattle.std.proofs.Common.{subst, sym}
-use Rattle.controller_model.specs.Packets.{routes}
+use Rattle.world_model.specs.Packets.{routes}
 use Rattle.router.specs.Node as node
 use Rattle.joining_router.specs.Joining.{AreJoined}
 use Rattle.joining_router.proofs.Kept.{ok_joined, stayed}

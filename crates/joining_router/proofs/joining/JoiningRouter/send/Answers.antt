@@ -1,6 +1,6 @@
 use Rattle.std.proofs.Common.{subst, sym}
 use Rattle.net_types.specs.Number.{GivenOut}
-use Rattle.controller_model.specs.Sending.{sends}
+use Rattle.world_model.specs.Sending.{sends}
 use Rattle.join_facts.proofs.Lasts.{stays_sent}
 use Rattle.router.specs.Node as node
 use Rattle.joining_router.specs.Joining.{AreJoined}

@@ -1,5 +1,5 @@
 use Rattle.std.proofs.Common.{ap, sym, ◌∙◌}
-use Rattle.controller_model.specs.Ticks.{sends_again}
+use Rattle.world_model.specs.Ticks.{sends_again}
 use Rattle.join_facts.proofs.Spent.{again_stays}
 use Rattle.joining_router.specs.Joining.{Joining, acted}
 use Rattle.joining_router.proofs.Kept.{ok_joined, ok_onward, stayed}

@@ -1,11 +1,11 @@
 use Rattle.std.proofs.Common.{ap, sym, subst, ◌∙◌}
 use Rattle.gsmp_wire.specs.declared.request.Request.{Request}
-use Rattle.desk_model.specs.Answers.{after_answer, answered}
-use Rattle.desk_model.specs.Desk.{Standing}
+use Rattle.port_model.specs.DeskAnswers.{after_answer, answered}
+use Rattle.port_model.specs.Desk.{Standing}
 use Rattle.request_book.specs.Answers.{told}
-use Rattle.controller_model.specs.Controller.{Acted, with_desk}
-use Rattle.controller_model.specs.Meeting.{answers_desk, done, empties}
-use Rattle.controller_model.specs.Resets.{node_resets}
+use Rattle.world_model.specs.Controller.{Acted, with_desk}
+use Rattle.world_model.specs.Meeting.{answers_desk, done, empties}
+use Rattle.world_model.specs.Resets.{node_resets}
 use Rattle.join_facts.specs.Joins.{joined_in}
 use Rattle.router.specs.Conditions.{CanResetNode}
 use Rattle.router.specs.Meeting.{CanEmpty}

@@ -1,9 +1,9 @@
 use Rattle.std.proofs.Common.{drop, length, ap, sym, subst, ◌∙◌, arith}
 use Rattle.std.specs.Prelude.{slice_get}
 use Rattle.std.specs.List.{list_any}
-use Rattle.controller_model.specs.Controller.{Acted}
-use Rattle.controller_model.specs.Changes.{begins_change, is_changed, takes_change, takes_changes}
-use Rattle.controller_model.specs.Joins.{joins_of}
+use Rattle.world_model.specs.Controller.{Acted}
+use Rattle.world_model.specs.Changes.{begins_change, is_changed, takes_change, takes_changes}
+use Rattle.world_model.specs.Joins.{joins_of}
 use Rattle.join_facts.specs.Joins.{joined_in}
 use Rattle.joining_router.specs.Conditions.{CanTakeChanges}
 use Rattle.joining_router.specs.Joining.{Joining, acted, controller_of}

@@ -1,5 +1,5 @@
 use Rattle.std.proofs.Common.{◌≡◌, length}
-use Rattle.controller_model.specs.Changes.{takes_changes}
+use Rattle.world_model.specs.Changes.{takes_changes}
 use Rattle.joining_router.specs.Conditions.{CanTakeChanges}
 use Rattle.joining_router.specs.Joining.{AreJoined, acted}
 use Rattle.joining_router.proofs.joining.JoiningRouter.take_changes.Given as goal

@@ -1,7 +1,7 @@
 use Rattle.std.proofs.Common.{Bool, ap, sym, ◌∙◌, if◌then◌else◌}
 use Rattle.port_model.specs.Setup.{label_end}
-use Rattle.controller_model.specs.Asking.{takes_back}
-use Rattle.controller_model.specs.Changes.{takes_join_back}
+use Rattle.world_model.specs.Asking.{takes_back}
+use Rattle.world_model.specs.Changes.{takes_join_back}
 use Rattle.join_list.specs.declared.places.Joined.{Joined}
 use Rattle.joining_router.specs.Joining.{Joining, acted}
 use Rattle.joining_router.proofs.Kept.{ok_onward}

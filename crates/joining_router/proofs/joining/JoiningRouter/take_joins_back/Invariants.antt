@@ -1,5 +1,5 @@
 use Rattle.std.proofs.Common.{◌≡◌, drop, length}
-use Rattle.controller_model.specs.Joins.{joins_of}
+use Rattle.world_model.specs.Joins.{joins_of}
 use Rattle.joining_router.specs.Joining.{acted, controller_of}
 use Rattle.joining_router.proofs.Changes.{Taking}
 use Rattle.joining_router.proofs.joining.JoiningRouter.take_joins_back.Given as goal

@@ -5,8 +5,8 @@ use Rattle.router.specs.Node as node
 use Rattle.router.specs.Node.{Node}
 use Rattle.joining_router.specs.Joining.{Joining, acted}
 use Rattle.joining_router.proofs.Kept.{settled_by}
-use Rattle.controller_model.specs.Controller.{ports_of}
-use Rattle.controller_model.specs.Ticks.{ticks_ports}
+use Rattle.world_model.specs.Controller.{ports_of}
+use Rattle.world_model.specs.Ticks.{ticks_ports}
 use Rattle.router.specs.Conditions.{EachCanTick}
 use Rattle.joining_router.specs.Conditions.{EachCanTickOn}
 use Rattle.joining_router.proofs.Ticked.{all_ticked, each_can}

@@ -1,6 +1,6 @@
 use Rattle.std.proofs.Common.{◌≡◌, drop, length}
 use Rattle.std.specs.Prelude.{flat_map}
-use Rattle.controller_model.specs.Joins.{tries_joins}
+use Rattle.world_model.specs.Joins.{tries_joins}
 use Rattle.join_facts.specs.Joins.{inputs_on}
 use Rattle.router.specs.Node.{ports_in}
 use Rattle.joining_router.specs.Joining.{AreJoined, acted, controller_of}

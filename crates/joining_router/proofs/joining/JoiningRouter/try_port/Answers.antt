@@ -1,7 +1,7 @@
 use Rattle.std.proofs.Common.{fold, refl, ap, sym, ◌∙◌, arith}
 use Rattle.label_book.specs.Read.{label_of}
 use Rattle.std.specs.Option.{option_map}
-use Rattle.controller_model.specs.Joins.{tries_join}
+use Rattle.world_model.specs.Joins.{tries_join}
 use Rattle.join_facts.specs.Joins.{inputs_on}
 use Rattle.join_facts.proofs.Tries.{held_at}
 use Rattle.joining_router.specs.Joining.{Joining, acted, controller_of}

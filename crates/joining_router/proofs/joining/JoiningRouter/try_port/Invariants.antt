@@ -1,5 +1,5 @@
 use Rattle.std.proofs.Common.{◌≡◌, drop, fold}
-use Rattle.controller_model.specs.Joins.{tries_join}
+use Rattle.world_model.specs.Joins.{tries_join}
 use Rattle.join_facts.specs.Joins.{inputs_on}
 use Rattle.router.specs.Node.{ports_in}
 use Rattle.joining_router.specs.Joining.{AreJoined, acted, controller_of}

@@ -2,8 +2,8 @@ use Rattle.std.proofs.Common.{[], ap, subst, sym, ◌∙◌}
 use Rattle.net_types.specs.Number.{GivenOut}
 use Rattle.link_model.specs.Notes.{Journal}
 use Rattle.port_model.specs.Counting.{used}
-use Rattle.controller_model.specs.Controller.{Acted}
-use Rattle.controller_model.specs.Performing.{at_port}
+use Rattle.world_model.specs.Controller.{Acted}
+use Rattle.world_model.specs.Performing.{at_port}
 use Rattle.join_facts.specs.Joins.{joined_in}
 use Rattle.router.specs.Node as node
 use Rattle.joining_router.specs.Joining.{AreJoined}

@@ -2,7 +2,7 @@ use Rattle.std.proofs.Common.{◌≡◌, ◌+◌, ◌∙◌, ◌||◌, ◌==◌,
 use Rattle.std.specs.Map.{keys_of, lookup}
 use Rattle.net_types.specs.declared.node.PortNo.{PortNo}
 use Rattle.net_types.specs.declared.channel.End.{End}
-use Rattle.desk_model.specs.Desk.{all_on}
+use Rattle.port_model.specs.Desk.{all_on}
 use Rattle.port_actions.specs.Outlook.{Outlook, deletes, stands}
 use Rattle.port_actions.proofs.Cleared.{clears_trans, deleted_told, none_at_port}
 use Rattle.port_actions.proofs.Clearing.{IsFree, clearing_next, clearing_same, input_at, key_has_value, sweeping_next, sweeping_same, swept}

@@ -1,6 +1,6 @@
 use Rattle.std.proofs.Common.{◌≡◌, ◌∙◌, Bool, true, false, cond, rules, refl}
 use Rattle.crossbar_model.specs.Crossbar.{same_end}
-use Rattle.desk_model.specs.Desk.{withdrawn}
+use Rattle.port_model.specs.Desk.{withdrawn}
 use Rattle.port_actions.proofs.Cleared.{withdrawn_cleared}
 use Rattle.port_actions.proofs.outlook.Outlook.withdraw_at.Goals as goal
 

@@ -1,7 +1,7 @@
 use Rattle.std.proofs.Common.{◌≡◌, ◌∙◌, ap, sym, filter, not, Contains}
-use Rattle.desk_model.specs.Desk.{Desk, Standing}
-use Rattle.desk_model.specs.Answers.{answered, after_answer}
-use Rattle.desk_model.specs.Answers as meaning
+use Rattle.port_model.specs.Desk.{Desk, Standing}
+use Rattle.port_model.specs.DeskAnswers.{answered, after_answer}
+use Rattle.port_model.specs.DeskAnswers as meaning
 use Rattle.request_book.proofs.Answering.{IsFailure, named, named_stands, told_done, told_failed, told_ports}
 use Rattle.request_book.proofs.Books.{book_filter, failed_left, ticket_is, ticket_number}
 use Rattle.request_book.proofs.Lists.{number_there}

@@ -1,5 +1,5 @@
 use Rattle.std.proofs.Common.{◌∙◌, ◌++◌, ◌∷◌, [], List, ap, filter, not, sym}
-use Rattle.desk_model.specs.Desk.{Desk, Standing}
+use Rattle.port_model.specs.Desk.{Desk, Standing}
 use Rattle.branch_desk.specs.Requests.{AreRising}
 use Rattle.branch_desk.proofs.Numbers.{has}
 use Rattle.request_book.proofs.Lists.{last_left, rising_front}

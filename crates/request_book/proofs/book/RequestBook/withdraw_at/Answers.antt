@@ -1,6 +1,6 @@
 use Rattle.std.proofs.Common.{◌≡◌, ◌<◌, ◌∙◌, List, ap, sym, length, get_or}
 use Rattle.std.proofs.lemmas.Option.{get_or_from_slice_get}
-use Rattle.desk_model.specs.Desk.{Desk, Standing}
+use Rattle.port_model.specs.Desk.{Desk, Standing}
 use Rattle.request_book.proofs.Books.{book_remove, standing_removed}
 use Rattle.request_book.proofs.book.RequestBook.withdraw_at.Goals as goal
 

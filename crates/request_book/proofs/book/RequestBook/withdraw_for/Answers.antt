@@ -1,5 +1,5 @@
 use Rattle.std.proofs.Common.{◌≡◌, false, filter, inl, inr, not, refl, sym}
-use Rattle.desk_model.specs.Desk.{Standing}
+use Rattle.port_model.specs.Desk.{Standing}
 use Rattle.request_book.proofs.Lists.{all_kept}
 use Rattle.request_book.proofs.book.RequestBook.withdraw_for.Goals as goal
 

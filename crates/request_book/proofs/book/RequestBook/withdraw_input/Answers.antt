@@ -1,5 +1,5 @@
 use Rattle.std.proofs.Common.{◌∙◌, List, ap, sym}
-use Rattle.desk_model.specs.Desk.{Desk, Standing}
+use Rattle.port_model.specs.Desk.{Desk, Standing}
 use Rattle.branch_desk.specs.Requests.{AreApart, AreRising}
 use Rattle.branch_desk.specs.ByEnd.{IsUnder}
 use Rattle.request_book.proofs.Books.{found_number_there, found_on, none_on, on_taken}

@@ -1,6 +1,6 @@
 use Rattle.std.proofs.Common.{◌≡◌}
-use Rattle.desk_model.specs.Desk.{Standing}
-use Rattle.desk_model.specs.Requests.{withdraws}
+use Rattle.port_model.specs.Desk.{Standing}
+use Rattle.port_model.specs.Requests.{withdraws}
 use Rattle.gsmp_wire.specs.declared.request.Request.TheVariants.{DeleteAll}
 use Rattle.request_book.proofs.Lists.{IsSwept}
 use Rattle.request_book.proofs.book.RequestBook.withdraw_port.Given as goal

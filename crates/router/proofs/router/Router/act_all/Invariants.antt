@@ -1,5 +1,5 @@
 use Rattle.std.proofs.Common.{◌≡◌, fold, length}
-use Rattle.controller_model.specs.Performing.{does_in_estab}
+use Rattle.world_model.specs.Performing.{does_in_estab}
 use Rattle.router.specs.Conditions.{EachCanBeDone}
 use Rattle.router.specs.Node.{acted, ports_in}
 use Rattle.router.proofs.router.Router.act_all.Given as goal

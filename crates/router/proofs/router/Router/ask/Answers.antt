@@ -2,9 +2,9 @@ use Rattle.std.proofs.Common.{◌≡◌, ◌==◌, true, false, map, refl, sym, 
 use Rattle.std.proofs.lemmas.Result.{on_ok_weaker}
 use Rattle.adjacency_table.specs.Side.{is_estab}
 use Rattle.gsmp_wire.specs.declared.request.Request.{Request}
-use Rattle.desk_model.specs.Desk.{last_transaction}
-use Rattle.controller_model.specs.Controller.{Acted}
-use Rattle.controller_model.specs.Asking.{asks, asks_next}
+use Rattle.port_model.specs.Desk.{last_transaction}
+use Rattle.world_model.specs.Controller.{Acted}
+use Rattle.world_model.specs.Asking.{asks, asks_next}
 use Rattle.gsmp_client.specs.Client as client
 use Rattle.gsmp_client.specs.Client.{Router}
 use Rattle.router.proofs.Linked.{one_node}

@@ -1,6 +1,6 @@
 use Rattle.std.proofs.Common.{◌≡◌, ◌==◌, ◌&&◌, true, length, ap, sym, subst, ◌∙◌}
-use Rattle.desk_model.specs.Messages.{is_up}
-use Rattle.controller_model.specs.Meeting.{awaits_nothing, clears_of, is_clearing}
+use Rattle.port_model.specs.Messages.{is_up}
+use Rattle.world_model.specs.Meeting.{awaits_nothing, clears_of, is_clearing}
 use Rattle.router.specs.Node.{IsPlaceOf, Node, acted, controller_of, ports_in}
 use Rattle.router.proofs.AtWork.{cleared_done, linked_after, place_within, places_after, port_is_linked, ports_after, same_at, uncleared, unlinked}
 use Rattle.router.proofs.router.Router.clear_port.Goals as goal

@@ -1,7 +1,7 @@
 use Rattle.std.proofs.Common.{◌≡◌, drop, fold, length}
 use Rattle.net_types.specs.Number.{GivenOut}
 use Rattle.link_model.specs.Notes.{Journal}
-use Rattle.controller_model.specs.Meeting.{clears_port}
+use Rattle.world_model.specs.Meeting.{clears_port}
 use Rattle.router.specs.Node.{acted, ports_in}
 use Rattle.router.proofs.router.Router.clear_ports.Given as goal
 

@@ -1,6 +1,6 @@
 use Rattle.std.proofs.Common.{◌≡◌, fold, length}
 use Rattle.net_types.specs.Number.{GivenOut}
-use Rattle.controller_model.specs.Resets.{closes_by}
+use Rattle.world_model.specs.Resets.{closes_by}
 use Rattle.router.specs.Conditions.{AllCanClose}
 use Rattle.router.specs.Node.{acted, ranges_in}
 use Rattle.router.proofs.router.Router.close_all.Given as goal

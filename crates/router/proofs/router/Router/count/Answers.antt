@@ -1,7 +1,7 @@
 use Rattle.std.proofs.Common.{ap, sym, subst, ◌∙◌}
 use Rattle.std.proofs.lemmas.Result.{on_ok_weaker}
 use Rattle.port_model.specs.Counting.{counts}
-use Rattle.controller_model.specs.Performing.{works}
+use Rattle.world_model.specs.Performing.{works}
 use Rattle.router.specs.Conditions.{CanWork}
 use Rattle.router.specs.Node.{IsPlaceOf, Node, acted, ports_in}
 use Rattle.router.proofs.AtWork.{linked_after, places_after, ports_after, rule_can, rule_done, unlinked}

@@ -1,6 +1,6 @@
 use Rattle.std.proofs.Common.{◌≡◌, ◌+◌, ◌<◌, ◌∷◌, drop, fold, get_or, length, map, ap, sym, subst, ◌∙◌, arith}
-use Rattle.controller_model.specs.Controller.{Acted}
-use Rattle.controller_model.specs.Resets.{cuts_default}
+use Rattle.world_model.specs.Controller.{Acted}
+use Rattle.world_model.specs.Resets.{cuts_default}
 use Rattle.router.specs.Node.{AreLinked, acted, ports_in, ports_of}
 use Rattle.router.proofs.AtWork.{default_at, port_behind}
 use Rattle.router.proofs.router.Router.cut_defaults.Goals as goal

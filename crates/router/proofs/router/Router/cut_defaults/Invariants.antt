@@ -1,6 +1,6 @@
 use Rattle.std.proofs.Common.{◌≡◌, drop, fold, length}
 use Rattle.net_types.specs.Number.{GivenOut}
-use Rattle.controller_model.specs.Resets.{cuts_default}
+use Rattle.world_model.specs.Resets.{cuts_default}
 use Rattle.router.specs.Node.{acted, ports_in}
 use Rattle.router.proofs.router.Router.cut_defaults.Given as goal
 

@@ -1,9 +1,9 @@
 use Rattle.std.proofs.Common.{◌+◌, ◌<◌, drop, filter, flat_map, fold, length, map, ap, sym, subst, ◌∙◌, arith}
 use Rattle.net_types.specs.declared.node.PortNo.{PortNo}
 use Rattle.gsmp_wire.specs.declared.request.Request.TheVariants.{DeleteAll}
-use Rattle.desk_model.specs.Messages.{is_up}
-use Rattle.controller_model.specs.Controller.{Acted}
-use Rattle.controller_model.specs.Asking.{asks}
+use Rattle.port_model.specs.Messages.{is_up}
+use Rattle.world_model.specs.Controller.{Acted}
+use Rattle.world_model.specs.Asking.{asks}
 use Rattle.router.specs.Conditions.{EachCanBeAsked}
 use Rattle.router.specs.Meeting.{emptying}
 use Rattle.router.specs.Node.{acted, ports_in}

@@ -1,8 +1,8 @@
 use Rattle.std.proofs.Common.{◌+◌, ◌<◌, drop, filter, flat_map, fold, length, map, ap, sym, subst, ◌∙◌, arith}
-use Rattle.desk_model.specs.Messages.{is_up}
-use Rattle.controller_model.specs.Controller.{Acted}
-use Rattle.controller_model.specs.Asking.{asks}
-use Rattle.controller_model.specs.Meeting.{default_branches}
+use Rattle.port_model.specs.Messages.{is_up}
+use Rattle.world_model.specs.Controller.{Acted}
+use Rattle.world_model.specs.Asking.{asks}
+use Rattle.world_model.specs.Meeting.{default_branches}
 use Rattle.router.specs.Conditions.{EachCanBeAsked}
 use Rattle.router.specs.Meeting.{met, opening}
 use Rattle.router.specs.Node.{acted, ports_in, ports_of}

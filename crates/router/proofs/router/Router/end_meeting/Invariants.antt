@@ -1,6 +1,6 @@
 use Rattle.std.proofs.Common.{◌≡◌, drop, flat_map, fold, length}
-use Rattle.controller_model.specs.Asking.{asks}
-use Rattle.controller_model.specs.Meeting.{ends_meeting}
+use Rattle.world_model.specs.Asking.{asks}
+use Rattle.world_model.specs.Meeting.{ends_meeting}
 use Rattle.router.specs.Conditions.{EachCanBeAsked}
 use Rattle.router.specs.Meeting.{opening}
 use Rattle.router.specs.Node.{acted, ports_in}

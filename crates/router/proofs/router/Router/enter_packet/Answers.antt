@@ -1,5 +1,5 @@
 use Rattle.std.proofs.Common.{◌≡◌, ℕ, List, OnOk, subst}
-use Rattle.controller_model.specs.Packets.{injected}
+use Rattle.world_model.specs.Packets.{injected}
 use Rattle.router.specs.Node.{acted}
 use Rattle.router.proofs.router.Router.enter_packet.Goals as goal
 

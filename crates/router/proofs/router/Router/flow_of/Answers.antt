@@ -1,7 +1,7 @@
 use Rattle.std.proofs.Common.{ap, sym, subst, ◌∙◌}
 use Rattle.std.specs.Option.{option_and_then}
 use Rattle.port_state.specs.Engine.{flow_at}
-use Rattle.controller_model.specs.Controller.{Linked}
+use Rattle.world_model.specs.Controller.{Linked}
 use Rattle.router.specs.Node.{IsPlaceOf, Node, ports_in}
 use Rattle.router.proofs.AtWork.{node_found, unlinked}
 use Rattle.router.proofs.router.Router.flow_of.Goals as goal

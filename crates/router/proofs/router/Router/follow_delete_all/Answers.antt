@@ -3,9 +3,9 @@ use Rattle.std.proofs.lemmas.Result.{on_ok_weaker}
 use Rattle.net_types.specs.declared.node.PortNo.{PortNo}
 use Rattle.gsmp_wire.specs.declared.request.Request.TheVariants.{AddBranch}
 use Rattle.port_model.specs.Setup.{home_of}
-use Rattle.controller_model.specs.Controller.{Acted, default_end, default_home}
-use Rattle.controller_model.specs.Asking.{asks}
-use Rattle.controller_model.specs.Meeting.{behind_delete_all}
+use Rattle.world_model.specs.Controller.{Acted, default_end, default_home}
+use Rattle.world_model.specs.Asking.{asks}
+use Rattle.world_model.specs.Meeting.{behind_delete_all}
 use Rattle.router.specs.Node.{acted}
 use Rattle.router.proofs.router.Router.follow_delete_all.Goals as goal
 

@@ -4,8 +4,8 @@ use Rattle.keyed_lists.specs.Keyed.{at}
 use Rattle.port_model.specs.Grants.{Grant, grant_label}
 use Rattle.port_model.specs.Joins.{given_back}
 use Rattle.port_model.specs.Port.{Port}
-use Rattle.controller_model.specs.Controller.{Linked, linked_at}
-use Rattle.controller_model.specs.Performing.{works}
+use Rattle.world_model.specs.Controller.{Linked, linked_at}
+use Rattle.world_model.specs.Performing.{works}
 use Rattle.router.specs.Conditions.{CanWork}
 use Rattle.router.specs.Engine.{IsReleased}
 use Rattle.router.specs.Node.{IsPlaceOf, Node, acted, controller_of, ports_in}

@@ -4,7 +4,7 @@ use Rattle.ipv4_packet.proofs.MessageLemmas.{take-front}
 use Rattle.flow_ids.specs.Flow.{kind_of}
 use Rattle.flow_encaps.specs.Labelled.{labelled_payload}
 use Rattle.port_model.specs.Setup.{control_end, home_of}
-use Rattle.controller_model.specs.Sending.{sends}
+use Rattle.world_model.specs.Sending.{sends}
 use Rattle.router.specs.Node.{acted}
 use Rattle.router.proofs.Permits.{short_is}
 use Rattle.router.proofs.router.Router.go_labelled.Goals as goal

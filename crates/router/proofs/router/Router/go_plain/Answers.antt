@@ -3,8 +3,8 @@ use Rattle.std.proofs.lemmas.Result.{on_ok_weaker}
 use Rattle.ipv4_packet.proofs.MessageLemmas.{take-front}
 use Rattle.flow_encaps.specs.Default.{default_payload}
 use Rattle.port_model.specs.Setup.{home_of}
-use Rattle.controller_model.specs.Controller.{default_home}
-use Rattle.controller_model.specs.Sending.{sends}
+use Rattle.world_model.specs.Controller.{default_home}
+use Rattle.world_model.specs.Sending.{sends}
 use Rattle.router.specs.Node.{acted}
 use Rattle.router.proofs.router.Router.go_plain.Goals as goal
 

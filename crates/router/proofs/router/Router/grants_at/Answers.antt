@@ -1,6 +1,6 @@
 use Rattle.std.proofs.Common.{Some, ap, sym, subst, ◌∙◌}
 use Rattle.std.specs.Option.{option_map}
-use Rattle.controller_model.specs.Controller.{Linked}
+use Rattle.world_model.specs.Controller.{Linked}
 use Rattle.router.specs.Node.{IsPlaceOf, Node, ports_in}
 use Rattle.router.proofs.AtWork.{node_found, unlinked}
 use Rattle.router.proofs.router.Router.grants_at.Goals as goal

@@ -2,7 +2,7 @@ use Rattle.std.proofs.Common.{◌≡◌, sym, subst, ◌∙◌, Result}
 use Rattle.std.specs.Prelude.{OnOk}
 use Rattle.std.proofs.lemmas.Result.{on_ok_weaker}
 use Rattle.adjacency_table.specs.Greeting.{gsmp_answer, gsmp_received}
-use Rattle.controller_model.specs.Gsmp.{answers, steps}
+use Rattle.world_model.specs.Gsmp.{answers, steps}
 use Rattle.router.specs.Conditions.{CanFollow, turned_to}
 use Rattle.router.specs.Node.{Node, acted}
 use Rattle.router.proofs.router.Router.hear_greeting.Goals as goal

@@ -1,7 +1,7 @@
 use Rattle.std.proofs.Common.{◌≡◌, true, ◌&&◌, ap, sym, ◌∙◌}
-use Rattle.desk_model.specs.Desk.{Desk}
-use Rattle.desk_model.specs.Messages.{is_up}
-use Rattle.controller_model.specs.Meeting.{awaits_nothing}
+use Rattle.port_model.specs.Desk.{Desk}
+use Rattle.port_model.specs.Messages.{is_up}
+use Rattle.world_model.specs.Meeting.{awaits_nothing}
 use Rattle.router.specs.Node.{Node, controller_of, router_of}
 use Rattle.router.proofs.router.Router.is_ready.Goals as goal
 

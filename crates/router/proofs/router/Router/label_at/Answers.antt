@@ -3,7 +3,7 @@ use Rattle.std.specs.Prelude.{slice_get}
 use Rattle.std.proofs.lemmas.Option.{IfSome_then}
 use Rattle.std.specs.Option.{option_and_then}
 use Rattle.port_model.specs.Port.{label_at, labels_of}
-use Rattle.controller_model.specs.Controller.{Linked}
+use Rattle.world_model.specs.Controller.{Linked}
 use Rattle.router.specs.Node.{IsPlaceOf, Node, ports_in}
 use Rattle.router.proofs.AtWork.{node_found, unlinked}
 use Rattle.router.proofs.router.Router.label_at.Goals as goal

@@ -1,9 +1,9 @@
 use Rattle.std.proofs.Common.{◌≡◌, ap, sym, subst, ◌∙◌, Some}
 use Rattle.port_model.specs.Joins.{lent}
-use Rattle.controller_model.specs.Performing.{works}
+use Rattle.world_model.specs.Performing.{works}
 use Rattle.router.specs.Node.{IsPlaceOf, Node, acted, controller_of, ports_in}
 use Rattle.router.proofs.AtWork.{linked_after, places_after, ports_after, unlinked}
-use Rattle.controller_model.specs.Controller.{Linked, linked_at}
+use Rattle.world_model.specs.Controller.{Linked, linked_at}
 use Rattle.port_model.specs.Port.{Port}
 use Rattle.router.specs.Engine.{IsSentUnder}
 use Rattle.router.proofs.Joined.{at_engine, granted_at, lent_done}

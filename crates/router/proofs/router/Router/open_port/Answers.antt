@@ -2,12 +2,12 @@ use Rattle.std.proofs.Common.{◌≡◌, [], true, fold, ap, sym, subst, ◌∙�
 use Rattle.std.proofs.lemmas.Result.{on_ok_weaker}
 use Rattle.net_types.specs.declared.channel.End.{End}
 use Rattle.gsmp_wire.specs.declared.request.Request.TheVariants.{AddBranch}
-use Rattle.desk_model.specs.Messages.{is_up}
-use Rattle.desk_model.specs.Desk.{Desk}
+use Rattle.port_model.specs.Messages.{is_up}
+use Rattle.port_model.specs.Desk.{Desk}
 use Rattle.port_model.specs.Setup.{home_of}
-use Rattle.controller_model.specs.Controller.{Acted, default_end, default_home}
-use Rattle.controller_model.specs.Asking.{asks}
-use Rattle.controller_model.specs.Meeting.{default_branches}
+use Rattle.world_model.specs.Controller.{Acted, default_end, default_home}
+use Rattle.world_model.specs.Asking.{asks}
+use Rattle.world_model.specs.Meeting.{default_branches}
 use Rattle.router.specs.Conditions.{CanAsk, EachCanBeAsked}
 use Rattle.router.specs.Node.{acted}
 use Rattle.router.proofs.router.Router.open_port.Goals as goal

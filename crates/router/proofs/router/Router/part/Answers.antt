@@ -4,7 +4,7 @@ use Rattle.net_types.specs.Label.{is_label_channel, label_number_of, number_of_c
 use Rattle.link_model.specs.Notes.{noted}
 use Rattle.link_model.specs.declared.record.Record.TheVariants.{Part}
 use Rattle.port_model.specs.Joins.{parted}
-use Rattle.controller_model.specs.Performing.{at_port}
+use Rattle.world_model.specs.Performing.{at_port}
 use Rattle.router.specs.Node.{Node, acted}
 use Rattle.router.proofs.router.Router.part.Goals as goal
 

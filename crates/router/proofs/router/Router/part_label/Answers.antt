@@ -1,6 +1,6 @@
 use Rattle.std.proofs.Common.{ap, sym, subst, ◌∙◌}
 use Rattle.port_model.specs.Joins.{parted}
-use Rattle.controller_model.specs.Performing.{works}
+use Rattle.world_model.specs.Performing.{works}
 use Rattle.router.specs.Node.{IsPlaceOf, Node, acted, ports_in}
 use Rattle.router.proofs.AtWork.{linked_after, places_after, ports_after, unlinked}
 use Rattle.router.proofs.Joined.{parted_done}

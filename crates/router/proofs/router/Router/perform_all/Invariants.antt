@@ -1,5 +1,5 @@
 use Rattle.std.proofs.Common.{◌≡◌, fold, length}
-use Rattle.controller_model.specs.Performing.{performs_in_estab}
+use Rattle.world_model.specs.Performing.{performs_in_estab}
 use Rattle.router.specs.Conditions.{EachCanBePerformed}
 use Rattle.router.specs.Node.{acted, ports_in}
 use Rattle.router.proofs.router.Router.perform_all.Given as goal

@@ -1,6 +1,6 @@
 use Rattle.std.proofs.Common.{◌+◌, ◌<◌, drop, fold, length, ap, sym, subst, ◌∙◌, arith}
-use Rattle.controller_model.specs.Controller.{Acted}
-use Rattle.controller_model.specs.Joins.{resets_spent}
+use Rattle.world_model.specs.Controller.{Acted}
+use Rattle.world_model.specs.Joins.{resets_spent}
 use Rattle.router.specs.Meeting.{EachCanResetSpent}
 use Rattle.router.specs.Node.{acted, ports_in}
 use Rattle.router.proofs.Turns.{later, nothing_left}

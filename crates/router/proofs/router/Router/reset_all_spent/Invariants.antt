@@ -1,5 +1,5 @@
 use Rattle.std.proofs.Common.{◌≡◌, drop, fold, length}
-use Rattle.controller_model.specs.Joins.{resets_spent}
+use Rattle.world_model.specs.Joins.{resets_spent}
 use Rattle.router.specs.Meeting.{EachCanResetSpent}
 use Rattle.router.specs.Node.{acted, ports_in}
 use Rattle.router.proofs.router.Router.reset_all_spent.Given as goal

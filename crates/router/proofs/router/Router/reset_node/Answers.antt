@@ -1,7 +1,7 @@
 use Rattle.std.proofs.Common.{◌≡◌, ◌+◌, ◌<◌, ◌∷◌, drop, fold, get_or, length, map, ap, sym, subst, ◌∙◌, arith}
-use Rattle.controller_model.specs.Controller as model
-use Rattle.controller_model.specs.Controller.{Acted}
-use Rattle.controller_model.specs.Resets.{port_restarts}
+use Rattle.world_model.specs.Controller as model
+use Rattle.world_model.specs.Controller.{Acted}
+use Rattle.world_model.specs.Resets.{port_restarts}
 use Rattle.router.specs.Conditions.{EachCanRestart}
 use Rattle.router.specs.Node.{AreLinked, acted, ports_in, ports_of}
 use Rattle.router.proofs.AtWork.{length-ports_in, port_behind, ports_before}

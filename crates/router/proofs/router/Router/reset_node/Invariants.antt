@@ -1,5 +1,5 @@
 use Rattle.std.proofs.Common.{◌≡◌, drop, fold, length}
-use Rattle.controller_model.specs.Resets.{node_resets, port_restarts}
+use Rattle.world_model.specs.Resets.{node_resets, port_restarts}
 use Rattle.router.specs.Conditions.{EachCanRestart}
 use Rattle.router.specs.Node.{acted, ports_in}
 use Rattle.router.proofs.router.Router.reset_node.Given as goal

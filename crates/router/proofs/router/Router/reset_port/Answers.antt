@@ -1,6 +1,6 @@
 use Rattle.std.proofs.Common.{◌+◌, ◌<◌, ◌^◌, set, fold, ap, sym, subst, ◌∙◌, arith}
 use Rattle.std.proofs.lemmas.Result.{on_ok_weaker}
-use Rattle.controller_model.specs.Performing.{does_in_estab, resets_of}
+use Rattle.world_model.specs.Performing.{does_in_estab, resets_of}
 use Rattle.router.specs.Conditions.{CanResetPort, EachCanBeDone}
 use Rattle.router.specs.Node.{IsPlaceOf, Node, acted, ports_in}
 use Rattle.router.proofs.AtWork.{linked_after, places_after, ports_after, reset_can, reset_done, reset_instance, unlinked}

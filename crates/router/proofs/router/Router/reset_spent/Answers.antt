@@ -2,8 +2,8 @@ use Rattle.std.proofs.Common.{◌≡◌, ◌&&◌, ap, sym, subst, ◌∙◌}
 use Rattle.std.proofs.lemmas.Result.{on_ok_weaker}
 use Rattle.adjacency_table.specs.Side.{is_estab}
 use Rattle.port_model.specs.Saying.{closes}
-use Rattle.controller_model.specs.Joins.{resets_spent}
-use Rattle.controller_model.specs.Performing.{resets_port, works}
+use Rattle.world_model.specs.Joins.{resets_spent}
+use Rattle.world_model.specs.Performing.{resets_port, works}
 use Rattle.router.specs.Conditions.{CanResetPort}
 use Rattle.router.specs.Meeting.{CanResetSpent}
 use Rattle.router.specs.Node.{IsPlaceOf, Node, acted, ports_in}

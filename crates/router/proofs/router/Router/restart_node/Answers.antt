@@ -1,6 +1,6 @@
 use Rattle.std.proofs.Common.{fold, map, ap, sym, ◌∙◌}
 use Rattle.std.proofs.lemmas.Result.{on_ok_weaker}
-use Rattle.controller_model.specs.Resets.{cuts_default, cuts_gsmp}
+use Rattle.world_model.specs.Resets.{cuts_default, cuts_gsmp}
 use Rattle.router.specs.Node.{ports_of}
 use Rattle.router.proofs.router.Router.restart_node.Goals as goal
 

@@ -1,6 +1,6 @@
 use Rattle.std.proofs.Common.{set, map, fold, ap, sym, subst, ◌∙◌}
 use Rattle.std.proofs.lemmas.Result.{on_ok_weaker}
-use Rattle.controller_model.specs.Resets.{closes_by, port_restarts_of}
+use Rattle.world_model.specs.Resets.{closes_by, port_restarts_of}
 use Rattle.router.specs.Conditions.{CutsItsLabels}
 use Rattle.router.specs.Node.{IsPlaceOf, Node, acted, ports_in, ports_of}
 use Rattle.router.proofs.AtWork.{closes_its, linked_after, places_after, ports_after, restart_done, unlinked}

@@ -2,8 +2,8 @@ use Rattle.std.proofs.Common.{ap, ◌∙◌}
 use Rattle.std.specs.Option.{option_map}
 use Rattle.std.proofs.lemmas.Result.{on_ok_weaker}
 use Rattle.ipv4_forward.specs.Hop.{hop_of, onward}
-use Rattle.controller_model.specs.Packets.{forwarded, grant_by}
-use Rattle.controller_model.specs.Sending.{sends}
+use Rattle.world_model.specs.Packets.{forwarded, grant_by}
+use Rattle.world_model.specs.Sending.{sends}
 use Rattle.router.specs.Node.{acted, controller_of}
 use Rattle.router.specs.Packets.{granted, payload_by, way_by}
 use Rattle.router.proofs.Forwards.{goes_is}

@@ -1,10 +1,10 @@
 use Rattle.std.proofs.Common.{◌≡◌, true, false, fold, map, refl, sym, ap, ◌∙◌}
 use Rattle.std.proofs.lemmas.Result.{on_ok_weaker}
 use Rattle.adjacency_table.specs.Side.{is_estab}
-use Rattle.desk_model.specs.Desk.{sent_again}
-use Rattle.controller_model.specs.Asking.{sends_request}
-use Rattle.controller_model.specs.Controller.{Acted}
-use Rattle.controller_model.specs.Ticks.{sends_again}
+use Rattle.port_model.specs.Desk.{sent_again}
+use Rattle.world_model.specs.Asking.{sends_request}
+use Rattle.world_model.specs.Controller.{Acted}
+use Rattle.world_model.specs.Ticks.{sends_again}
 use Rattle.gsmp_client.specs.Client as client
 use Rattle.gsmp_client.specs.Client.{Router}
 use Rattle.router.specs.Node.{Node, acted}

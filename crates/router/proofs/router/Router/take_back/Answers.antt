@@ -2,10 +2,10 @@ use Rattle.std.proofs.Common.{◌≡◌, false, refl, sym, ap, ◌∙◌}
 use Rattle.std.proofs.lemmas.Result.{on_ok_weaker}
 use Rattle.net_types.specs.declared.channel.End.{End}
 use Rattle.gsmp_wire.specs.declared.request.Request.TheVariants.{MoveBranch}
-use Rattle.desk_model.specs.Desk.{is_led_home}
+use Rattle.port_model.specs.Desk.{is_led_home}
 use Rattle.port_model.specs.Setup.{home_of}
-use Rattle.controller_model.specs.Controller.{Acted}
-use Rattle.controller_model.specs.Asking.{asks, takes_back}
+use Rattle.world_model.specs.Controller.{Acted}
+use Rattle.world_model.specs.Asking.{asks, takes_back}
 use Rattle.router.specs.Node.{acted}
 use Rattle.router.proofs.router.Router.take_back.Goals as goal
 

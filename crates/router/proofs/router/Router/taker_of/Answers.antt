@@ -1,7 +1,7 @@
 use Rattle.std.proofs.Common.{Bool, Some, ap, map, sym, ◌∙◌, if◌then◌else◌}
 use Rattle.std.specs.Option.{option_map}
-use Rattle.controller_model.specs.Controller.{linked_at}
-use Rattle.controller_model.specs.Cells.{ForGsmp, on_link, port_on, taker_at}
+use Rattle.world_model.specs.Controller.{linked_at}
+use Rattle.world_model.specs.Cells.{ForGsmp, on_link, port_on, taker_at}
 use Rattle.router.specs.Cells.{channel_of}
 use Rattle.router.specs.Node.{controller_of}
 use Rattle.router.proofs.AtWork.{unlinked}

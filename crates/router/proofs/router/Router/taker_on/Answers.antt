@@ -1,6 +1,6 @@
 use Rattle.std.proofs.Common.{ap, sym, subst, ◌∙◌}
 use Rattle.std.specs.Option.{option_map}
-use Rattle.controller_model.specs.Cells.{taker_at}
+use Rattle.world_model.specs.Cells.{taker_at}
 use Rattle.gsmp_client.specs.Client.{linked_of}
 use Rattle.router.specs.Cells.{channel_of}
 use Rattle.router.specs.Node.{IsPlaceOf, Node, ports_in}

@@ -1,9 +1,9 @@
 use Rattle.std.proofs.Common.{◌≡◌, ap, sym, subst, ◌∙◌, Result}
 use Rattle.std.specs.Prelude.{OnOk}
-use Rattle.controller_model.specs.Ticks.{ticks_port}
+use Rattle.world_model.specs.Ticks.{ticks_port}
 use Rattle.std.proofs.lemmas.Result.{on_ok_weaker}
 use Rattle.port_model.specs.Ticks.{ticks}
-use Rattle.controller_model.specs.Performing.{works}
+use Rattle.world_model.specs.Performing.{works}
 use Rattle.router.specs.Conditions.{CanWork}
 use Rattle.router.specs.Node.{IsPlaceOf, Node, acted, ports_in}
 use Rattle.router.proofs.AtWork.{linked_after, places_after, ports_after, rule_can, tick_done, unlinked}

@@ -1,6 +1,6 @@
 use Rattle.std.proofs.Common.{◌+◌, ◌<◌, drop, fold, length, ap, sym, subst, ◌∙◌, arith}
-use Rattle.controller_model.specs.Controller.{Acted}
-use Rattle.controller_model.specs.Ticks.{ticks_port}
+use Rattle.world_model.specs.Controller.{Acted}
+use Rattle.world_model.specs.Ticks.{ticks_port}
 use Rattle.router.specs.Conditions.{EachCanTick}
 use Rattle.router.specs.Node.{acted, ports_in}
 use Rattle.router.proofs.Turns.{later, nothing_left}

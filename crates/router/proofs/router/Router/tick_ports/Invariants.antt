@@ -1,5 +1,5 @@
 use Rattle.std.proofs.Common.{◌≡◌, drop, fold, length}
-use Rattle.controller_model.specs.Ticks.{ticks_port}
+use Rattle.world_model.specs.Ticks.{ticks_port}
 use Rattle.router.specs.Conditions.{EachCanTick}
 use Rattle.router.specs.Node.{acted, ports_in}
 use Rattle.router.proofs.router.Router.tick_ports.Given as goal

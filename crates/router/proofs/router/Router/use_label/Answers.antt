@@ -1,8 +1,8 @@
 use Rattle.std.proofs.Common.{◌≡◌, ◌≢◌, None, Some, ap, sym, subst, ◌∙◌}
 use Rattle.port_model.specs.Counting.{used}
 use Rattle.port_state.specs.Engine.{flow_at}
-use Rattle.controller_model.specs.Performing.{works}
-use Rattle.controller_model.specs.Controller.{Linked, linked_at}
+use Rattle.world_model.specs.Performing.{works}
+use Rattle.world_model.specs.Controller.{Linked, linked_at}
 use Rattle.router.specs.Node.{IsPlaceOf, Node, acted, controller_of, ports_in}
 use Rattle.router.proofs.AtWork.{is_bound_at, linked_after, places_after, ports_after, unlinked, used_done}
 use Rattle.router.proofs.router.Router.use_label.Goals as goal

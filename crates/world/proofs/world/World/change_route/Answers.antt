@@ -1,5 +1,5 @@
 use Rattle.std.proofs.Common.{arith, refl, sym, subst}
-use Rattle.controller_model.specs.Changes.{change_comes}
+use Rattle.world_model.specs.Changes.{change_comes}
 use Rattle.actor_pace.proofs.Controllers.{change_changes}
 use Rattle.world.specs.declared.site.Site.{Site as Node}
 use Rattle.world.specs.Nodes.{NamesLinked}

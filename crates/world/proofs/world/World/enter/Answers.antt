@@ -1,7 +1,7 @@
 use Rattle.std.proofs.Common.{◌∙◌, sym, subst, ap, refl, arith, Option, Some, IsSome}
 use Rattle.link_model.specs.declared.record.Refusal.{Refusal}
 use Rattle.refusal_names.specs.Names.{packet_refusal}
-use Rattle.controller_model.specs.Packets.{inject_refusal, injected}
+use Rattle.world_model.specs.Packets.{inject_refusal, injected}
 use Rattle.actor_pace.proofs.Controllers.{injected_paces}
 use Rattle.world.specs.Coming.{entered_by}
 use Rattle.world.specs.Network.{world_of}

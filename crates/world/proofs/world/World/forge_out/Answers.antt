@@ -1,5 +1,5 @@
 use Rattle.std.proofs.Common.{arith, refl}
-use Rattle.switch_model.specs.Conduct.{forged}
+use Rattle.world_model.specs.Conduct.{forged}
 use Rattle.world.proofs.Acting.{switch_came, summand_switched, none_drawn}
 use Rattle.world.proofs.world.World.forge_out.Goals as goal
 

@@ -1,5 +1,5 @@
 use Rattle.std.proofs.Common.{arith, refl}
-use Rattle.controller_model.specs.Resets.{node_restarts}
+use Rattle.world_model.specs.Resets.{node_restarts}
 use Rattle.actor_pace.proofs.Controllers.{restarts_paces}
 use Rattle.world.proofs.Acting.{controller_came, summand_redirects}
 use Rattle.world.proofs.world.World.restart.Goals as goal

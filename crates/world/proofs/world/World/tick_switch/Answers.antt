@@ -1,5 +1,5 @@
 use Rattle.std.proofs.Common.{arith, refl}
-use Rattle.switch_model.specs.Conduct.{tick_comes}
+use Rattle.world_model.specs.Conduct.{tick_comes}
 use Rattle.world.proofs.Acting.{switch_came, summand_switched}
 use Rattle.world.proofs.world.World.tick_switch.Goals as goal
 

@@ -31,9 +31,9 @@ use Rattle.frame_model.specs.Sending.{Sent, sent_frame}
 use Rattle.crossbar_model.specs.declared.routed.Routed.{Routed}
 use Rattle.crossbar_model.specs.declared.routed.Routed.TheVariants as routes
 use Rattle.crossbar_model.specs.Crossbar.{routed, switched, sent}
-use Rattle.switch_model.specs.Switch.{Switch, Acted, control_port, gsmp_channel, free_slots, with_branches, begun}
-use Rattle.switch_model.specs.Requests.{Changed, all_ended, is_request}
-use Rattle.switch_model.specs.Answers.{Handled, handled}
+use Rattle.world_model.specs.Switch.{Switch, Acted, control_port, gsmp_channel, free_slots, with_branches, begun}
+use Rattle.world_model.specs.Requests.{Changed, all_ended, is_request}
+use Rattle.world_model.specs.Answers.{Handled, handled}
 
 -- *Sending*
 

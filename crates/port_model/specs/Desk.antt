@@ -9,8 +9,8 @@ use Rattle.gsmp_wire.specs.declared.message.Message.{Message}
 use Rattle.gsmp_wire.specs.declared.request.Request.{Request}
 use Rattle.gsmp_wire.specs.declared.request.Request.TheVariants.{MoveBranch}
 use Rattle.gsmp_wire.specs.declared.rows.PortRow.{PortRow}
-use Rattle.desk_model.specs.Requests.{is_on, is_delete_all, leads_home, withdraws}
-use Rattle.desk_model.specs.Messages.{message_of}
+use Rattle.port_model.specs.Requests.{is_on, is_delete_all, leads_home, withdraws}
+use Rattle.port_model.specs.Messages.{message_of}
 
 -- a request under its transaction number
 pub record Standing : Type 0 where

@@ -4,16 +4,16 @@
 use Rattle.std.specs.Prelude.{fold, Option, None, Some, if◌then◌else◌}
 use Rattle.net_types.specs.declared.node.PortNo.{PortNo}
 use Rattle.adjacency_table.specs.Side.{is_estab}
-use Rattle.desk_model.specs.Desk.{Desk}
+use Rattle.port_model.specs.Desk.{Desk}
 use Rattle.port_model.specs.declared.action.Action.{Action}
 use Rattle.port_model.specs.declared.action.Action.TheVariants.{Say, Ask, Note, CutChain, TakeBack, Withdraw, Reset}
 use Rattle.port_model.specs.Setup.{Setup}
 use Rattle.port_model.specs.Port.{Work}
 use Rattle.port_model.specs.Resets.{resets}
-use Rattle.controller_model.specs.Controller.{Acted, Linked, linked_at, note}
-use Rattle.controller_model.specs.Sending.{says_ifmp}
-use Rattle.controller_model.specs.Resets.{begins, with_work, cuts_label}
-use Rattle.controller_model.specs.Asking.{asks, takes_back, withdraws_input}
+use Rattle.world_model.specs.Controller.{Acted, Linked, linked_at, note}
+use Rattle.world_model.specs.Sending.{says_ifmp}
+use Rattle.world_model.specs.Resets.{begins, with_work, cuts_label}
+use Rattle.world_model.specs.Asking.{asks, takes_back, withdraws_input}
 
 -- *One action*, but a reset
 abbrev pub does : PortNo → Acted → Action → Acted

@@ -10,18 +10,18 @@ use Rattle.adjacency_table.specs.declared.State.TheVariants.{Clearing}
 use Rattle.adjacency_table.specs.Side.{is_estab}
 use Rattle.gsmp_wire.specs.declared.request.Request.{Request}
 use Rattle.gsmp_wire.specs.declared.request.Request.TheVariants.{AddBranch, MoveBranch, DeleteTree, VerifyTree, DeleteAll, PortManagement, AllPorts}
-use Rattle.desk_model.specs.Messages.{is_up}
-use Rattle.desk_model.specs.Desk.{empty_desk, on_input, all_on}
-use Rattle.desk_model.specs.Answers.{Answered, Unknown, Done, Ports, Failed, answered, after_answer}
+use Rattle.port_model.specs.Messages.{is_up}
+use Rattle.port_model.specs.Desk.{empty_desk, on_input, all_on}
+use Rattle.port_model.specs.DeskAnswers.{Answered, Unknown, Done, Ports, Failed, answered, after_answer}
 use Rattle.gsmp_wire.specs.declared.message.Message.{Message}
 use Rattle.port_model.specs.Answers as port_answers
 use Rattle.port_model.specs.Resets as port_resets
-use Rattle.controller_model.specs.Controller.{Controller, Acted, Linked, linked_at, ports_of, with_linked, with_desk, default_end, default_home}
-use Rattle.controller_model.specs.Resets.{node_resets}
-use Rattle.controller_model.specs.Asking.{asks}
-use Rattle.controller_model.specs.Performing.{at_port}
-use Rattle.controller_model.specs.Joins.{releases}
-use Rattle.controller_model.specs.Changes.{takes_changes}
+use Rattle.world_model.specs.Controller.{Controller, Acted, Linked, linked_at, ports_of, with_linked, with_desk, default_end, default_home}
+use Rattle.world_model.specs.Resets.{node_resets}
+use Rattle.world_model.specs.Asking.{asks}
+use Rattle.world_model.specs.Performing.{at_port}
+use Rattle.world_model.specs.Joins.{releases}
+use Rattle.world_model.specs.Changes.{takes_changes}
 
 -- *Meeting*: on entering Estab all ports are asked for; transaction numbers begin at 1
 abbrev pub meets : Acted → Acted

@@ -10,12 +10,12 @@ use Rattle.ipv4_forward.specs.declared.table.Route.{Route}
 use Rattle.adjacency_table.specs.declared.State.TheVariants.{SynSent}
 use Rattle.adjacency_table.specs.Side.{fresh}
 use Rattle.frame_model.specs.Reassembly.{nothing_taken}
-use Rattle.desk_model.specs.Desk.{empty_desk}
+use Rattle.port_model.specs.Desk.{empty_desk}
 use Rattle.port_model.specs.declared.timers.Timers.{Timers}
 use Rattle.port_model.specs.Setup.{Policy, Setup}
 use Rattle.port_model.specs.Resets.{next_side}
-use Rattle.controller_model.specs.declared.range.PortRange.{PortRange}
-use Rattle.controller_model.specs.Controller.{Controller, Linked}
+use Rattle.world_model.specs.declared.range.PortRange.{PortRange}
+use Rattle.world_model.specs.Controller.{Controller, Linked}
 
 -- *Opening*: the party of the i-th node's controller has the name 02 00 00 00 00 i and port 0
 abbrev pub controller_party : NodeId → Instance → Party

@@ -13,12 +13,12 @@ use Rattle.gsmp_wire.specs.declared.request.Request.TheVariants.{DeleteTree, Del
 use Rattle.link_model.specs.Notes.{Journal}
 use Rattle.port_model.specs.Setup.{Policy, label_end, home_of}
 use Rattle.port_model.specs.Grants.{Grant, GrantState, Idle, ByController, ByInput, Leaving}
-use Rattle.controller_model.specs.declared.range.PortRange.{PortRange}
-use Rattle.controller_model.specs.Controller.{Controller, Acted, Linked}
-use Rattle.controller_model.specs.Opening.{opened}
-use Rattle.controller_model.specs.Asking.{asks}
-use Rattle.controller_model.specs.Joins.{Join, join_for, joins_of, released_inputs}
-use Rattle.controller_model.specs.Routes.{differs}
+use Rattle.world_model.specs.declared.range.PortRange.{PortRange}
+use Rattle.world_model.specs.Controller.{Controller, Acted, Linked}
+use Rattle.world_model.specs.Opening.{opened}
+use Rattle.world_model.specs.Asking.{asks}
+use Rattle.world_model.specs.Joins.{Join, join_for, joins_of, released_inputs}
+use Rattle.world_model.specs.Routes.{differs}
 
 abbrev port : ℕ → PortNo
 port n = record { 0 = n }

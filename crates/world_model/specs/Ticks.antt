@@ -8,14 +8,14 @@ use Rattle.adjacency_table.specs.declared.message.Answer.TheVariants.{Reset}
 use Rattle.adjacency_table.specs.Side.{Step, is_estab, ticked}
 use Rattle.net_types.specs.declared.adjacency.Party.{Party}
 use Rattle.adjacency_table.specs.declared.message.Said.{Said}
-use Rattle.desk_model.specs.Desk.{sent_again}
+use Rattle.port_model.specs.Desk.{sent_again}
 use Rattle.port_model.specs.Ticks as port_ticks
-use Rattle.controller_model.specs.Controller.{Acted, ports_of}
-use Rattle.controller_model.specs.Resets.{node_resets}
-use Rattle.controller_model.specs.Asking.{sends_request}
-use Rattle.controller_model.specs.Performing.{at_port}
-use Rattle.controller_model.specs.Joins.{tries_joins}
-use Rattle.controller_model.specs.Gsmp.{steps}
+use Rattle.world_model.specs.Controller.{Acted, ports_of}
+use Rattle.world_model.specs.Resets.{node_resets}
+use Rattle.world_model.specs.Asking.{sends_request}
+use Rattle.world_model.specs.Performing.{at_port}
+use Rattle.world_model.specs.Joins.{tries_joins}
+use Rattle.world_model.specs.Gsmp.{steps}
 
 abbrev pub sends_again : Acted → Acted
 sends_again a =

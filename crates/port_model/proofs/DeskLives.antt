@@ -7,8 +7,8 @@ use Rattle.gsmp_wire.specs.declared.message.BranchKind.TheVariants as kinds
 use Rattle.gsmp_wire.specs.declared.message.Message.{Message}
 use Rattle.gsmp_wire.specs.declared.message.Message.TheVariants as messages
 use Rattle.gsmp_wire.specs.declared.request.Request.TheVariants.{AddBranch, MoveBranch, DeleteTree, DeleteAll, AllPorts}
-use Rattle.desk_model.specs.Desk.{Desk, empty_desk, asked, message_at}
-use Rattle.desk_model.specs.Answers.{Unknown, Done, Failed, answered, after_answer}
+use Rattle.port_model.specs.Desk.{Desk, empty_desk, asked, message_at}
+use Rattle.port_model.specs.DeskAnswers.{Unknown, Done, Failed, answered, after_answer}
 
 abbrev port : ℕ → PortNo
 port n = record { 0 = n }

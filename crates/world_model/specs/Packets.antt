@@ -22,8 +22,8 @@ use Rattle.refusal_names.specs.Names.{packet_refusal}
 use Rattle.frame_model.specs.Frame.{next_mark}
 use Rattle.port_model.specs.Setup.{control_end}
 use Rattle.port_model.specs.Grants.{Grant, grant_matching}
-use Rattle.controller_model.specs.Controller.{Controller, Acted, linked_at, note, default_home}
-use Rattle.controller_model.specs.Sending.{sends, sends_control}
+use Rattle.world_model.specs.Controller.{Controller, Acted, linked_at, note, default_home}
+use Rattle.world_model.specs.Sending.{sends, sends_control}
 
 -- a packet's next frame; one that came out of a control frame, whose numbers begin at 1, goes on in a control
 -- frame

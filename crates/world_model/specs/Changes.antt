@@ -9,10 +9,10 @@ use Rattle.ipv4_forward.specs.Change.{changed}
 use Rattle.ipv4_forward.specs.declared.change.RouteChange.{RouteChange}
 use Rattle.ipv4_forward.specs.declared.table.Route.{Route}
 use Rattle.link_model.specs.declared.record.Record.TheVariants.{Routes}
-use Rattle.controller_model.specs.Controller.{Controller, Acted, note}
-use Rattle.controller_model.specs.Asking.{takes_back}
-use Rattle.controller_model.specs.Joins.{Join, joins_of, output_of}
-use Rattle.controller_model.specs.Routes.{differs}
+use Rattle.world_model.specs.Controller.{Controller, Acted, note}
+use Rattle.world_model.specs.Asking.{takes_back}
+use Rattle.world_model.specs.Joins.{Join, joins_of, output_of}
+use Rattle.world_model.specs.Routes.{differs}
 
 -- a join whose flow has another route after the change; the flow is that of its grant
 abbrev pub is_changed : List Route → RouteChange → Join → Bool

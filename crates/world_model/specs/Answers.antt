@@ -11,15 +11,15 @@ use Rattle.gsmp_wire.specs.declared.message.Message.TheVariants.{Adjacency, Bran
 use Rattle.gsmp_wire.specs.declared.rows.PortRow.{PortRow}
 use Rattle.link_model.specs.Notes.{Journal}
 use Rattle.crossbar_model.specs.Crossbar.{Branches, output_of}
-use Rattle.switch_model.specs.declared.port.PortState.{PortState}
-use Rattle.switch_model.specs.declared.request.Asked.{Asked}
+use Rattle.world_model.specs.declared.port.PortState.{PortState}
+use Rattle.world_model.specs.declared.request.Asked.{Asked}
 use Rattle.gsmp_wire.specs.declared.request.Request.{Request}
 use Rattle.gsmp_wire.specs.declared.request.Request.TheVariants.{AddBranch, MoveBranch, DeleteTree, VerifyTree, PortManagement}
-use Rattle.switch_model.specs.declared.request.Failure.{Failure}
-use Rattle.switch_model.specs.declared.request.Failure.TheVariants.{NoPort, BadSession, PortDown, OutOfRange, Busy, NoConnection, SessionsSpent}
-use Rattle.switch_model.specs.Switch.{Switch, port_of, with_branches}
-use Rattle.switch_model.specs.Requests.{Changed, asked_in, branches_after, end_at, ports_after}
-use Rattle.switch_model.specs.Failures.{failure_of}
+use Rattle.world_model.specs.declared.request.Failure.{Failure}
+use Rattle.world_model.specs.declared.request.Failure.TheVariants.{NoPort, BadSession, PortDown, OutOfRange, Busy, NoConnection, SessionsSpent}
+use Rattle.world_model.specs.Switch.{Switch, port_of, with_branches}
+use Rattle.world_model.specs.Requests.{Changed, asked_in, branches_after, end_at, ports_after}
+use Rattle.world_model.specs.Failures.{failure_of}
 
 -- the Code of a failure answer
 abbrev pub failure_code : Failure → ℕ

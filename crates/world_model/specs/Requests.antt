@@ -16,11 +16,11 @@ use Rattle.link_model.specs.declared.record.Cause.TheVariants.{Cut}
 use Rattle.link_model.specs.Notes.{Journal, noted}
 use Rattle.crossbar_model.specs.declared.branch.Branch.{Branch}
 use Rattle.crossbar_model.specs.Crossbar.{Branches, new_branch, moved, cut_by_move}
-use Rattle.switch_model.specs.declared.port.PortState.{PortState}
-use Rattle.switch_model.specs.declared.request.Asked.{Asked}
+use Rattle.world_model.specs.declared.port.PortState.{PortState}
+use Rattle.world_model.specs.declared.request.Asked.{Asked}
 use Rattle.gsmp_wire.specs.declared.request.Request.{Request}
 use Rattle.gsmp_wire.specs.declared.request.Request.TheVariants.{AddBranch, MoveBranch, DeleteTree, VerifyTree, DeleteAll, PortManagement, AllPorts}
-use Rattle.switch_model.specs.Switch.{with_port}
+use Rattle.world_model.specs.Switch.{with_port}
 
 -- an end as a message names it
 abbrev pub end_at : (port : ℕ) → Channel → End

@@ -8,7 +8,7 @@ use Rattle.ipv4_forward.specs.declared.change.RouteChange.{RouteChange}
 use Rattle.ipv4_forward.specs.declared.table.Next.{Next}
 use Rattle.ipv4_forward.specs.declared.table.Next.TheVariants.{Local, Via}
 use Rattle.ipv4_forward.specs.declared.table.Route.{Route}
-use Rattle.controller_model.specs.Controller.{Controller}
+use Rattle.world_model.specs.Controller.{Controller}
 
 abbrev pub same_next : Option Next → Option Next → Bool
 same_next None None = true

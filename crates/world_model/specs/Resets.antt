@@ -7,12 +7,12 @@ use Rattle.net_types.specs.Number.{next_instance, with_instance}
 use Rattle.adjacency_table.specs.declared.State.TheVariants.{SynSent}
 use Rattle.adjacency_table.specs.Side.{fresh}
 use Rattle.frame_model.specs.Reassembly.{cut, nothing_taken}
-use Rattle.desk_model.specs.Desk.{emptied}
+use Rattle.port_model.specs.Desk.{emptied}
 use Rattle.port_model.specs.declared.action.Action.{Action}
 use Rattle.port_model.specs.declared.action.Action.TheVariants.{Note, CutChain}
 use Rattle.port_model.specs.Port.{Work}
 use Rattle.port_model.specs.Resets.{restarts}
-use Rattle.controller_model.specs.Controller.{Acted, Linked, linked_at, ports_of, with_linked, note, chain_of, chains_with}
+use Rattle.world_model.specs.Controller.{Acted, Linked, linked_at, ports_of, with_linked, note, chain_of, chains_with}
 
 -- *A chain is cut*: that of a label's channel, of a default channel, of the GSMP channel
 abbrev pub cuts_of : Acted → (label : ℕ) → Option Linked → Acted

@@ -6,11 +6,11 @@ use Rattle.net_types.specs.declared.channel.End.{End}
 use Rattle.adjacency_table.specs.Side.{is_estab}
 use Rattle.gsmp_wire.specs.declared.request.Request.{Request}
 use Rattle.gsmp_wire.specs.declared.request.Request.TheVariants.{MoveBranch}
-use Rattle.desk_model.specs.Desk.{Standing, asked, withdrawn, is_led_home, message_at, last_transaction}
+use Rattle.port_model.specs.Desk.{Standing, asked, withdrawn, is_led_home, message_at, last_transaction}
 use Rattle.port_model.specs.Setup.{home_of}
-use Rattle.controller_model.specs.Controller.{Acted, with_desk}
-use Rattle.controller_model.specs.Sending.{says_gsmp}
-use Rattle.controller_model.specs.Resets.{node_resets}
+use Rattle.world_model.specs.Controller.{Acted, with_desk}
+use Rattle.world_model.specs.Sending.{says_gsmp}
+use Rattle.world_model.specs.Resets.{node_resets}
 
 -- a request is sent, or sent again
 abbrev pub sends_request : Acted → Standing → Acted

@@ -16,7 +16,7 @@ use Rattle.adjacency_table.specs.Side.{Side, fresh}
 use Rattle.link_model.specs.Notes.{Journal}
 use Rattle.frame_model.specs.Reassembly.{Reassembly, nothing_taken}
 use Rattle.crossbar_model.specs.Crossbar.{Branches, Crossbar}
-use Rattle.switch_model.specs.declared.port.PortState.{PortState}
+use Rattle.world_model.specs.declared.port.PortState.{PortState}
 
 -- its ports, the control port 0 first and then those of links, ascending; its branches and the cells
 -- that wait at its ports; what it makes of the cells of the GSMP channel; its side of the adjacency

@@ -25,10 +25,10 @@ use Rattle.port_model.specs.Labels.{Label, is_bound}
 use Rattle.port_model.specs.Port.{label_at}
 use Rattle.port_model.specs.Counting.{counts, used}
 use Rattle.port_model.specs.Hearing.{hears}
-use Rattle.controller_model.specs.Controller.{Controller, Acted, Linked, free_slots, linked_at, with_linked, note, chain_of, chains_with, default_channel}
-use Rattle.controller_model.specs.Performing.{at_port}
-use Rattle.controller_model.specs.Packets.{routes, control_protocol}
-use Rattle.controller_model.specs.Gsmp.{gsmp_holds}
+use Rattle.world_model.specs.Controller.{Controller, Acted, Linked, free_slots, linked_at, with_linked, note, chain_of, chains_with, default_channel}
+use Rattle.world_model.specs.Performing.{at_port}
+use Rattle.world_model.specs.Packets.{routes, control_protocol}
+use Rattle.world_model.specs.Gsmp.{gsmp_holds}
 
 -- *Who takes the cells of a channel of the control link*: the GSMP channel, a port's default channel, or the
 -- channel of a label that is bound

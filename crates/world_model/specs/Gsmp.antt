@@ -13,10 +13,10 @@ use Rattle.gsmp_wire.specs.declared.message.Message.TheVariants.{Adjacency}
 use Rattle.link_model.specs.declared.record.Record.TheVariants.{Bad}
 use Rattle.link_model.specs.declared.record.Layer.TheVariants.{Gsmp}
 use Rattle.refusal_names.specs.Names.{gsmp_refusal}
-use Rattle.controller_model.specs.Controller.{Acted, note}
-use Rattle.controller_model.specs.Sending.{says_gsmp}
-use Rattle.controller_model.specs.Resets.{node_resets}
-use Rattle.controller_model.specs.Meeting.{meets, answer_comes}
+use Rattle.world_model.specs.Controller.{Acted, note}
+use Rattle.world_model.specs.Sending.{says_gsmp}
+use Rattle.world_model.specs.Resets.{node_resets}
+use Rattle.world_model.specs.Meeting.{meets, answer_comes}
 
 -- what the table answers is done; entering Estab begins the meeting
 abbrev pub answers : Acted → Answer Greeting Party → Acted

@@ -9,7 +9,7 @@ use Rattle.gsmp_wire.specs.declared.message.Message.TheVariants as messages
 use Rattle.gsmp_wire.specs.declared.request.Request.{Request}
 use Rattle.gsmp_wire.specs.declared.request.Request.TheVariants.{AddBranch, MoveBranch, DeleteTree, VerifyTree, DeleteAll, PortManagement, AllPorts}
 use Rattle.gsmp_wire.specs.declared.rows.PortRow.{PortRow}
-use Rattle.desk_model.specs.Desk.{Desk, Standing}
+use Rattle.port_model.specs.Desk.{Desk, Standing}
 
 -- a message and a request have one type
 abbrev pub is_branch_of : BranchKind → Request → Bool

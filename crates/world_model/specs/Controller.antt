@@ -18,7 +18,7 @@ use Rattle.link_model.specs.declared.record.Record.{Record}
 use Rattle.link_model.specs.Notes.{Journal, noted}
 use Rattle.frame_model.specs.Reassembly.{Reassembly, nothing_taken}
 use Rattle.keyed_lists.specs.Keyed.{at, put, without, entered, key_le}
-use Rattle.desk_model.specs.Desk.{Desk}
+use Rattle.port_model.specs.Desk.{Desk}
 use Rattle.port_model.specs.Setup.{Setup, home_of}
 use Rattle.port_model.specs.Port.{Port}
 use Rattle.port_model.specs.Redirection.{greatest_tally}

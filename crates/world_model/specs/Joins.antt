@@ -18,8 +18,8 @@ use Rattle.gsmp_wire.specs.declared.request.Request.{Request}
 use Rattle.gsmp_wire.specs.declared.request.Request.TheVariants.{MoveBranch}
 use Rattle.link_model.specs.declared.record.Record.TheVariants.{Part}
 use Rattle.keyed_lists.specs.Keyed.{in_order}
-use Rattle.desk_model.specs.Requests.{leads_home}
-use Rattle.desk_model.specs.Desk.{on_input, most_asked}
+use Rattle.port_model.specs.Requests.{leads_home}
+use Rattle.port_model.specs.Desk.{on_input, most_asked}
 use Rattle.crossbar_model.specs.Crossbar.{same_end}
 use Rattle.port_model.specs.Setup.{home_of, label_end, channel_le}
 use Rattle.port_model.specs.Labels.{Label, LabelState, Offered}
@@ -27,10 +27,10 @@ use Rattle.port_model.specs.Grants.{Grant, grant_for, input_of}
 use Rattle.port_model.specs.Port.{label_at, labels_of}
 use Rattle.port_model.specs.Joins as port_joins
 use Rattle.port_model.specs.Saying.{closes}
-use Rattle.controller_model.specs.Controller.{Controller, Acted, Linked, linked_at, ports_of, note}
-use Rattle.controller_model.specs.Asking.{asks}
-use Rattle.controller_model.specs.Performing.{at_port}
-use Rattle.controller_model.specs.Routes.{route_stays}
+use Rattle.world_model.specs.Controller.{Controller, Acted, Linked, linked_at, ports_of, note}
+use Rattle.world_model.specs.Asking.{asks}
+use Rattle.world_model.specs.Performing.{at_port}
+use Rattle.world_model.specs.Routes.{route_stays}
 
 -- an input that is joined to a grant's label at a port
 pub record Join : Type 0 where

@@ -13,7 +13,7 @@ use Rattle.ifmp_wire.specs.Message.{octets_of as ifmp_octets}
 use Rattle.gsmp_wire.specs.declared.message.Message.{Message as GsmpMessage}
 use Rattle.gsmp_wire.specs.Layout.{octets_of as gsmp_octets}
 use Rattle.frame_model.specs.Sending.{Sent, sent_frame}
-use Rattle.controller_model.specs.Controller.{Controller, Acted, free_slots, default_channel, default_home}
+use Rattle.world_model.specs.Controller.{Controller, Acted, free_slots, default_channel, default_home}
 
 abbrev pub with_cells : Controller → List Cell → Controller
 with_cells c cells = record c { queue = c.queue ++ cells }

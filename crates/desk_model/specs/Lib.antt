@@ -1,4 +1,0 @@
-pub mod Requests
-pub mod Messages
-pub mod Desk
-pub mod Answers
