@@ -21,10 +21,10 @@ use Rattle.arrival_views.specs.Packets.{IsFree, of_control, of_packet, IsPlain, 
 use Rattle.ipv4_forward.specs.Hop.{onward, hop_of}
 use Rattle.ipv4_forward.specs.declared.outcome.Hop.{Hop}
 use Rattle.ipv4_forward.specs.declared.outcome.Hop.TheVariants.{Here, On, NoRoute, Expired}
-use Rattle.flow_ids.specs.declared.flow.FlowKind.TheVariants.{One, Two}
-use Rattle.flow_ids.specs.declared.flow.FlowId.{FlowId}
-use Rattle.flow_ids.specs.Flow.{kind_of, flow_of}
-use Rattle.flow_ids.specs.Parts.{same_flow}
+use Rattle.ipv4_packet.specs.declared.flow.FlowKind.TheVariants.{One, Two}
+use Rattle.ipv4_packet.specs.declared.flow.FlowId.{FlowId}
+use Rattle.ipv4_packet.specs.Flow.{kind_of, flow_of}
+use Rattle.ipv4_packet.specs.Parts.{same_flow}
 use Rattle.flow_encaps.specs.Default.{default_payload}
 use Rattle.flow_encaps.specs.Labelled.{labelled_payload}
 use Rattle.link_model.specs.declared.frames.Frame.{Frame}

@@ -17,12 +17,12 @@ use Rattle.ipv4_packet.specs.declared.validate.PacketFault.TheVariants as faults
 use Rattle.ipv4_packet.specs.declared.validate.PacketFault.TheVariants.{Short, Version, Options, TooLong}
 use Rattle.ipv4_packet.proofs.HeaderLemmas.{on_header, length-canonical}
 use Rattle.ipv4_forward.specs.Hop.{onward}
-use Rattle.flow_ids.specs.declared.flow.FlowId.{FlowId}
-use Rattle.flow_ids.specs.declared.flow.FlowId.TheVariants.{One, Two}
-use Rattle.flow_ids.specs.declared.flow.FlowKind.{FlowKind}
-use Rattle.flow_ids.specs.declared.flow.FlowKind.TheVariants.{One as ConnectionKind, Two as HostsKind}
-use Rattle.flow_ids.specs.Flow.{kind_of}
-use Rattle.flow_ids.specs.Identifier.{identifier}
+use Rattle.ipv4_packet.specs.declared.flow.FlowId.{FlowId}
+use Rattle.ipv4_packet.specs.declared.flow.FlowId.TheVariants.{One, Two}
+use Rattle.ipv4_packet.specs.declared.flow.FlowKind.{FlowKind}
+use Rattle.ipv4_packet.specs.declared.flow.FlowKind.TheVariants.{One as ConnectionKind, Two as HostsKind}
+use Rattle.ipv4_packet.specs.Flow.{kind_of}
+use Rattle.ipv4_packet.specs.Identifier.{identifier}
 use Rattle.flow_encaps.specs.Default.{default_payload}
 use Rattle.flow_encaps.specs.Labelled.{labelled_payload, rebuilt, unwrap_fault, layout_fault, checksum_fault, head_size, left_out, said_length, has_zeros}
 use Rattle.flow_encaps.specs.Unwrapped.{unwrapped, unwrapped_by}

@@ -7,8 +7,8 @@ use Rattle.net_types.specs.declared.node.PortNo.{PortNo}
 use Rattle.net_types.specs.declared.number.Mark.{Mark}
 use Rattle.atm_cells.specs.declared.cell.Cell.{Cell}
 use Rattle.keyed_lists.specs.Keyed.{at}
-use Rattle.flow_ids.specs.declared.flow.FlowId.{FlowId}
-use Rattle.flow_ids.specs.Flow.{IsFlow}
+use Rattle.ipv4_packet.specs.declared.flow.FlowId.{FlowId}
+use Rattle.ipv4_packet.specs.Flow.{IsFlow}
 use Rattle.flow_encaps.specs.Unwrapped.{default_unwrapped, unwrapped}
 use Rattle.gsmp_wire.specs.Fields.{decoded}
 use Rattle.link_model.specs.declared.record.Record.TheVariants.{Loss}

@@ -4,8 +4,8 @@ ghost use Rattle.std.specs.Prelude.{◌≡◌, ◌<◌, ◌^◌, ℕ, List, drop
 ghost use Rattle.net_types.specs.Number.{GivenOut};
 ghost use Rattle.ipv4_packet.specs.Packet.{IsPacket, first_fault, source_of};
 ghost use Rattle.flow_encaps.specs.Unwrapped.{default_unwrapped, unwrapped};
-ghost use Rattle.flow_ids.specs.declared.flow.FlowId.{FlowId as FlowValue};
-ghost use Rattle.flow_ids.specs.Flow.{IsFlow};
+ghost use Rattle.ipv4_packet.specs.declared.flow.FlowId.{FlowId as FlowValue};
+ghost use Rattle.ipv4_packet.specs.Flow.{IsFlow};
 ghost use Rattle.ifmp_wire.specs.Fields.{decoded as ifmp_decoded};
 ghost use Rattle.ifmp_wire.specs.Message.{InRange};
 ghost use Rattle.ifmp_wire.specs.declared.message.Message.{Message as IfmpValue};

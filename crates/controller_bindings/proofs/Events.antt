@@ -12,7 +12,7 @@ use Rattle.ipv4_forward.specs.Hop.{hop_of, onward}
 use Rattle.ipv4_forward.specs.declared.outcome.Hop.{Hop}
 use Rattle.ipv4_forward.specs.declared.outcome.Hop.TheVariants.{Here, On, NoRoute, Expired}
 use Rattle.atm_cells.specs.declared.cell.Cell.{Cell}
-use Rattle.flow_ids.specs.Flow.{kind_of}
+use Rattle.ipv4_packet.specs.Flow.{kind_of}
 use Rattle.flow_encaps.specs.Default.{default_payload}
 use Rattle.flow_encaps.specs.Labelled.{labelled_payload}
 use Rattle.flow_encaps.specs.declared.default.EncapsFault.{EncapsFault}

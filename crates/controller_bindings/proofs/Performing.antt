@@ -9,7 +9,7 @@ use Rattle.net_types.specs.declared.node.NodeId.{NodeId}
 use Rattle.net_types.specs.declared.node.PortNo.{PortNo}
 use Rattle.net_types.specs.declared.channel.End.{End}
 use Rattle.net_types.specs.Label.{number_of_channel}
-use Rattle.flow_ids.specs.declared.flow.FlowId.{FlowId}
+use Rattle.ipv4_packet.specs.declared.flow.FlowId.{FlowId}
 use Rattle.flow_encaps.specs.Default.{default_payload}
 use Rattle.ifmp_wire.specs.Message.{octets_of as ifmp_octets}
 use Rattle.ipv4_forward.specs.declared.table.Route.{Route}

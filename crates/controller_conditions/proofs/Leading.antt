@@ -30,7 +30,7 @@ use Rattle.flow_encaps.specs.Default.{default_payload}
 use Rattle.flow_encaps.specs.Labelled.{labelled_payload}
 use Rattle.flow_encaps.specs.Unwrapped.{default_unwrapped, unwrapped}
 use Rattle.flow_encaps.specs.declared.default.EncapsFault.{EncapsFault}
-use Rattle.flow_ids.specs.Flow.{kind_of}
+use Rattle.ipv4_packet.specs.Flow.{kind_of}
 use Rattle.ifmp_wire.specs.declared.message.Message.{Message as IfmpMessage}
 use Rattle.ifmp_wire.specs.declared.reader.Fault.{Fault as IfmpFault}
 use Rattle.ifmp_wire.specs.Fields.{decoded as ifmp_decoded}

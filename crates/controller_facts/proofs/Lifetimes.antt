@@ -10,10 +10,10 @@ use Rattle.ifmp_wire.specs.declared.reader.Fault.{Fault}
 use Rattle.ifmp_wire.specs.declared.reader.Fault.TheVariants.{ZeroLifetime, Reserved, FlowFields}
 use Rattle.ifmp_wire.specs.Tests.{op_at, head_fault, kind_fault, kind_at, lifetime_fault, identifier_fault, flow_fault, body_fault, first_fault}
 use Rattle.ifmp_wire.specs.Fields.{decoded, decoded_by, message_at, flow_in, flow_at}
-use Rattle.flow_ids.specs.declared.flow.FlowKind.{FlowKind}
-use Rattle.flow_ids.specs.declared.flow.FlowKind.TheVariants.{One as ConnectionKind, Two as HostsKind}
-use Rattle.flow_ids.specs.Flow.{IsFlow, has_ports}
-use Rattle.flow_ids.specs.Identifier.{has_zeros, has_fields}
+use Rattle.ipv4_packet.specs.declared.flow.FlowKind.{FlowKind}
+use Rattle.ipv4_packet.specs.declared.flow.FlowKind.TheVariants.{One as ConnectionKind, Two as HostsKind}
+use Rattle.ipv4_packet.specs.Flow.{IsFlow, has_ports}
+use Rattle.ipv4_packet.specs.Identifier.{has_zeros, has_fields}
 use Rattle.port_facts.specs.Port.{Lives}
 use Rattle.port_facts.proofs.Keyed.{on_both, on_each}
 

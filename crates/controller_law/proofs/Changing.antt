@@ -5,9 +5,9 @@ use Rattle.std.specs.Prelude.{◌+◌, ◌&&◌, not, is_none, nat_lt, flat_map}
 use Rattle.std.specs.Option.{option_map}
 use Rattle.net_types.specs.declared.node.PortNo.{PortNo}
 use Rattle.net_types.specs.declared.channel.End.{End}
-use Rattle.flow_ids.specs.declared.flow.FlowId.{FlowId}
-use Rattle.flow_ids.specs.Flow.{next_hop_of}
-use Rattle.flow_ids.specs.Parts.{flow_destination, same_flow}
+use Rattle.ipv4_packet.specs.declared.flow.FlowId.{FlowId}
+use Rattle.ipv4_packet.specs.Flow.{next_hop_of}
+use Rattle.ipv4_packet.specs.Parts.{flow_destination, same_flow}
 use Rattle.ipv4_forward.specs.Best.{best}
 use Rattle.ipv4_forward.specs.Change.{changed}
 use Rattle.ipv4_forward.specs.declared.change.RouteChange.{RouteChange}

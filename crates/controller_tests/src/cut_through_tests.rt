@@ -6,7 +6,7 @@ ghost use Rattle.grant_table.specs.Table.{state_of};
 
 use branch_desk::{Answered, Desk, redeem};
 use cut_through::{Join, plan, route_of, undo};
-use flow_ids::FlowId;
+use ipv4_packet::FlowId;
 use grant_table::{Accepted, GrantTable};
 use gsmp_wire::{BranchKind, Message, Request};
 use ipv4_forward::{Next, Table};

@@ -1,7 +1,7 @@
 //! Counts of flows, and the answers of policies.
 
 use flow_classifier::{Classifier, NamedPolicy, Never, Policy, XyPolicy};
-use flow_ids::FlowId;
+use ipv4_packet::FlowId;
 use net_types::Addr;
 use std::test::Fail;
 

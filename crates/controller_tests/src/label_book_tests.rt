@@ -6,7 +6,7 @@ ghost use Rattle.port_model.specs.Labels as model;
 ghost use Rattle.label_book.specs.Book.{in_state, state_of, without_label};
 
 use branch_desk::{Answered, Desk, redeem};
-use flow_ids::FlowId;
+use ipv4_packet::FlowId;
 use gsmp_wire::{BranchKind, Message, Request};
 use ifmp_adjacency::{Adjacency, Answer, Established};
 use label_book::{HeldLabel, HeldState, LabelBook, LabelState, LabelView};

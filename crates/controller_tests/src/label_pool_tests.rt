@@ -5,7 +5,7 @@ ghost use Rattle.net_types.specs.Label.{is_label_number};
 ghost use Rattle.label_pool.specs.Pool.{opened as new_pool};
 
 use branch_desk::{Answered, Desk, redeem};
-use flow_ids::FlowId;
+use ipv4_packet::FlowId;
 use gsmp_wire::{BranchKind, Message, Request};
 use ifmp_adjacency::{Adjacency, Answer, Established};
 use label_pool::LabelPool;

@@ -7,9 +7,9 @@ use Rattle.std.proofs.lemmas.Bool.{cases_lt, cases_eq, cases_Bool, eqb-true, eq-
 use Rattle.net_types.specs.declared.node.PortNo.{PortNo}
 use Rattle.net_types.specs.declared.channel.End.{End}
 use Rattle.ipv4_forward.specs.Best.{best}
-use Rattle.flow_ids.specs.declared.flow.FlowId.{FlowId}
-use Rattle.flow_ids.specs.Flow.{flow_ttl, next_hop_of}
-use Rattle.flow_ids.specs.Parts.{flow_destination}
+use Rattle.ipv4_packet.specs.declared.flow.FlowId.{FlowId}
+use Rattle.ipv4_packet.specs.Flow.{flow_ttl, next_hop_of}
+use Rattle.ipv4_packet.specs.Parts.{flow_destination}
 use Rattle.keyed_lists.specs.Keyed.{at}
 use Rattle.port_model.specs.Grants.{Grant, grant_for}
 use Rattle.world_model.specs.Controller.{Controller, Linked, linked_at, port_key}

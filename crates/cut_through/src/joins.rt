@@ -1,10 +1,10 @@
 //! Joins of an input to an output.
 
 ghost use Rattle.std.specs.Prelude.{◌≡◌, ◌<◌, ◌≤◌};
-ghost use Rattle.flow_ids.specs.Parts.{flow_destination};
+ghost use Rattle.ipv4_packet.specs.Parts.{flow_destination};
 ghost use Rattle.cut_through.specs.Plan.{planned, undoing, way_of};
 
-use flow_ids::{FlowId, next_hop};
+use ipv4_packet::{FlowId, next_hop};
 use grant_table::GrantTable;
 use gsmp_wire::Request;
 use ipv4_forward::{Next, Table};

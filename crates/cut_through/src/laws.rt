@@ -4,7 +4,7 @@
 ghost use Rattle.std.specs.Prelude.{◌≡◌, true, None, Some, option_map};
 ghost use Rattle.net_types.specs.declared.channel.End.{End as EndValue};
 ghost use Rattle.net_types.specs.declared.node.PortNo.{PortNo as PortValue};
-ghost use Rattle.flow_ids.specs.declared.flow.FlowId.{FlowId as FlowValue};
+ghost use Rattle.ipv4_packet.specs.declared.flow.FlowId.{FlowId as FlowValue};
 ghost use Rattle.world_model.specs.Controller.{Controller, Linked, linked_at};
 ghost use Rattle.world_model.specs.Joins.{join_for};
 ghost use Rattle.cut_through.specs.Plan.{leads_to, planned, shown, way_of};

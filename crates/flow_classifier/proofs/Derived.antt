@@ -2,10 +2,10 @@
 
 use Rattle.std.proofs.Common.{◌≡◌, ℕ, ◌&&◌, nat_eq, Bool, true, false, ◌∙◌, refl, sym}
 use Rattle.std.proofs.lemmas.Bool.{eqb-true, eq-eqb}
-use Rattle.flow_ids.specs.declared.flow.FlowId.{FlowId}
-use Rattle.flow_ids.specs.declared.flow.FlowId.TheVariants.{One, Two}
-use Rattle.flow_ids.specs.contracts.flow.FlowIdPartialEq.TheImpl.{eq-value}
-use Rattle.flow_ids.specs.Parts.{same_flow}
+use Rattle.ipv4_packet.specs.declared.flow.FlowId.{FlowId}
+use Rattle.ipv4_packet.specs.declared.flow.FlowId.TheVariants.{One, Two}
+use Rattle.ipv4_packet.specs.contracts.flow.FlowIdPartialEq.TheImpl.{eq-value}
+use Rattle.ipv4_packet.specs.Parts.{same_flow}
 use Rattle.flow_classifier.proofs.Flows.{not_true}
 
 turned : (a b : ℕ) → nat_eq a b ≡ nat_eq b a

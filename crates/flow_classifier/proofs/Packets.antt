@@ -6,8 +6,8 @@ use Rattle.std.proofs.Math.Seq.{take-nil}
 use Rattle.std.proofs.lemmas.Bool.{eqb-true, eq-eqb, cases_lt}
 use Rattle.std.proofs.lemmas.List.{take_all}
 use Rattle.std.proofs.lemmas.List.Sums.{sum_by-cons}
-use Rattle.flow_ids.specs.declared.flow.FlowId.{FlowId}
-use Rattle.flow_ids.specs.Parts.{same_flow}
+use Rattle.ipv4_packet.specs.declared.flow.FlowId.{FlowId}
+use Rattle.ipv4_packet.specs.Parts.{same_flow}
 use Rattle.port_model.specs.Counts.{one_more, total, greatest_count}
 use Rattle.flow_classifier.specs.History.{Call, is_remembered, packets_since}
 use Rattle.flow_classifier.specs.History.Call.{Count, Tick, Clear}

@@ -3,8 +3,8 @@
 use Rattle.std.proofs.Common.{◌≡◌, ℕ, suc, ◌+◌, ◌-◌, ◌≤◌, ◌||◌, Bool, true, false, not, cond, if◌then◌else◌, List, [], ◌∷◌, ◌++◌, length, take, drop, map, filter, find, min, Option, None, Some, refl, sym, ap, ◌∙◌, arith}
 use Rattle.std.specs.List.{list_any}
 use Rattle.std.proofs.lemmas.List.{length-append, length-map, drop-map, map-append}
-use Rattle.flow_ids.specs.declared.flow.FlowId.{FlowId}
-use Rattle.flow_ids.specs.Parts.{same_flow}
+use Rattle.ipv4_packet.specs.declared.flow.FlowId.{FlowId}
+use Rattle.ipv4_packet.specs.Parts.{same_flow}
 use Rattle.port_model.specs.Counts.{Counted, counted_of, counted_once, greatest_count, last_of, most_flows, moved, one_more, packets_in, packets_of, total}
 use Rattle.flow_classifier.specs.History.{Call, counts_after, is_remembered, packets_since, recency}
 use Rattle.flow_classifier.specs.History.Call.{Count, Tick, Clear}

@@ -7,8 +7,8 @@ use Rattle.std.proofs.lemmas.List.Elements.{All-head, All-tail, All-cons}
 use Rattle.std.proofs.lemmas.Map.Keys.{IsDistinct-head, IsDistinct-tail}
 use Rattle.circular_buffer.specs.Buffer.{Buffer, buffer}
 use Rattle.indexmap.specs.IndexMap.{insert_entry}
-use Rattle.flow_ids.specs.declared.flow.FlowId.{FlowId}
-use Rattle.flow_ids.specs.Parts.{same_flow}
+use Rattle.ipv4_packet.specs.declared.flow.FlowId.{FlowId}
+use Rattle.ipv4_packet.specs.Parts.{same_flow}
 use Rattle.port_model.specs.Counts.{Counted, counted_of, packets_in, packets_of, total}
 use Rattle.flow_classifier.specs.Rows.{AreRows, Row, counted, summed}
 use Rattle.flow_classifier.proofs.Flows.{flow_from_same, same_itself}

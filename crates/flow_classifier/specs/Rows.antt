@@ -3,7 +3,7 @@
 
 use Rattle.std.specs.Prelude.{◌≡◌, ℕ, ◌≤◌, List, All, map, length, take, ◌∷◌, ◌+◌, min, fold}
 use Rattle.circular_buffer.specs.Buffer.{Buffer, buffer}
-use Rattle.flow_ids.specs.declared.flow.FlowId.{FlowId}
+use Rattle.ipv4_packet.specs.declared.flow.FlowId.{FlowId}
 use Rattle.port_model.specs.Counts.{Counted, greatest_count, most_flows}
 
 abbrev pub Row : Type 0

@@ -4,13 +4,13 @@ ghost use Rattle.std.specs.Prelude.{◌≡◌, ◌<◌, ◌≤◌, ◌++◌, ◌
 ghost use Rattle.std.specs.List.{list_any};
 ghost use Rattle.indexmap.specs.IndexMap.{spare};
 ghost use Rattle.circular_buffer.specs.Buffer.{buffer};
-ghost use Rattle.flow_ids.specs.Parts.{same_flow};
+ghost use Rattle.ipv4_packet.specs.Parts.{same_flow};
 ghost use Rattle.port_model.specs.Counts.{counted_of, counted_once, moved, one_more, packets_in, packets_of};
 ghost use Rattle.flow_classifier.specs.Rows.{AreRows, counted, ticked};
 
 use crate::window::{Window, count_one, total};
 use circular_buffer::HeapCircularBuffer;
-use flow_ids::FlowId;
+use ipv4_packet::FlowId;
 use indexmap::IndexMap;
 use net_types::OutOfMemory;
 use std::alloc::Global;

@@ -1,7 +1,7 @@
 //! The law of counts.
 
 ghost use Rattle.std.specs.Prelude.{◌≡◌, ◌≤◌, ℕ, List, min, if◌then◌else◌};
-ghost use Rattle.flow_ids.specs.declared.flow.FlowId.{FlowId};
+ghost use Rattle.ipv4_packet.specs.declared.flow.FlowId.{FlowId};
 ghost use Rattle.port_model.specs.Counts.{greatest_count, packets_in};
 ghost use Rattle.flow_classifier.specs.History.{Call, counts_after, is_remembered, packets_since};
 

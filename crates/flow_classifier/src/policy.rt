@@ -3,7 +3,7 @@
 ghost use Rattle.std.specs.Prelude.{◌≡◌};
 ghost use Rattle.flow_classifier.specs.Policies.{never, named, xy};
 
-use flow_ids::FlowId;
+use ipv4_packet::FlowId;
 
 /// When a flow is offered a label, and when an idle label is kept. Both answers depend on the
 /// arguments and the policy alone.

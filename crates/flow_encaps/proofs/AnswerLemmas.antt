@@ -5,7 +5,7 @@ use Rattle.std.specs.Prelude.{IfOk, OnOk}
 use Rattle.std.proofs.Math.ListN.{set}
 use Rattle.std.specs.Result.{result_err}
 use Rattle.std.proofs.lemmas.List.{length-take-le, length-drop, take_all}
-use Rattle.flow_ids.specs.declared.flow.FlowId.TheVariants.{One, Two}
+use Rattle.ipv4_packet.specs.declared.flow.FlowId.TheVariants.{One, Two}
 use Rattle.std.proofs.lemmas.Bool.Decides.{nat_tests}
 use Rattle.ipv4_packet.specs.Packet.{canonical, internet_sum_of}
 use Rattle.octet_fields.specs.Fields.{written}
@@ -13,9 +13,9 @@ use Rattle.std.specs.Int.{w16, to_be_bytes}
 use Rattle.octet_fields.proofs.FieldLemmas.{AreOctets, AreOctets-take}
 use Rattle.ipv4_packet.proofs.HeaderLemmas.{on_header, length-canonical}
 use Rattle.ipv4_packet.proofs.MessageLemmas.{take-front}
-use Rattle.flow_ids.specs.declared.flow.FlowId.{FlowId}
-use Rattle.flow_ids.specs.Flow.{kind_of, IsFlow}
-use Rattle.flow_ids.specs.Identifier.{FitsFields}
+use Rattle.ipv4_packet.specs.declared.flow.FlowId.{FlowId}
+use Rattle.ipv4_packet.specs.Flow.{kind_of, IsFlow}
+use Rattle.ipv4_packet.specs.Identifier.{FitsFields}
 use Rattle.flow_encaps.specs.declared.default.EncapsFault.{EncapsFault}
 use Rattle.flow_encaps.specs.declared.default.EncapsFault.TheVariants.{Checksum}
 use Rattle.flow_encaps.specs.Labelled.{Carries, rebuilt, head_size, left_out, said_checksum, checksum_at_ttl_zero, unwrap_fault, HasLayout}

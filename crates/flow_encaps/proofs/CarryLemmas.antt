@@ -12,12 +12,12 @@ use Rattle.ipv4_packet.specs.Packet.{tos_of, total_length_of, fragment_of, ttl_o
 use Rattle.octet_fields.proofs.FieldLemmas.{AreOctets, AreOctets-drop, AreOctets-take, u16-then, u32-then}
 use Rattle.ipv4_packet.proofs.HeaderLemmas.{on_header, IsPacket-with_ttl}
 use Rattle.ipv4_packet.proofs.RouteLemmas.{canonical-canonical}
-use Rattle.flow_ids.specs.declared.flow.FlowKind.{FlowKind}
-use Rattle.flow_ids.specs.declared.flow.FlowKind.TheVariants.{One as ConnectionKind, Two as HostsKind}
-use Rattle.flow_ids.specs.declared.flow.FlowId.{FlowId}
-use Rattle.flow_ids.specs.declared.flow.FlowId.TheVariants.{One, Two}
-use Rattle.flow_ids.specs.Flow.{kind_of, flow_ttl, at_ttl, has_ports, shows_ports, flow_of, next_hop_of}
-use Rattle.flow_ids.proofs.HopLemmas.{next_hop_of-flow_of}
+use Rattle.ipv4_packet.specs.declared.flow.FlowKind.{FlowKind}
+use Rattle.ipv4_packet.specs.declared.flow.FlowKind.TheVariants.{One as ConnectionKind, Two as HostsKind}
+use Rattle.ipv4_packet.specs.declared.flow.FlowId.{FlowId}
+use Rattle.ipv4_packet.specs.declared.flow.FlowId.TheVariants.{One, Two}
+use Rattle.ipv4_packet.specs.Flow.{kind_of, flow_ttl, at_ttl, has_ports, shows_ports, flow_of, next_hop_of}
+use Rattle.ipv4_packet.proofs.HopLemmas.{next_hop_of-flow_of}
 use Rattle.flow_encaps.specs.Labelled.{checksum_at_ttl_zero, labelled_payload, Carries, rebuilt, has_zeros, said_length, said_checksum, unwrap_fault, HasLayout}
 use Rattle.flow_encaps.proofs.RebuiltLemmas.{AreOctets-pair, checksum_at_ttl_zero-with_checksum, canonical-with_checksum, layout_fault-passed, unwrap_fault-none}
 

@@ -11,12 +11,12 @@ use Rattle.ipv4_packet.specs.Packet.{source_of, destination_of, with_checksum, c
 use Rattle.octet_fields.proofs.FieldLemmas.{AreOctets}
 use Rattle.ipv4_packet.proofs.HeaderLemmas.{on_header, IsPacket-canonical}
 use Rattle.ipv4_packet.proofs.RouteLemmas.{canonical-canonical}
-use Rattle.flow_ids.specs.declared.flow.FlowKind.{FlowKind}
-use Rattle.flow_ids.specs.declared.flow.FlowKind.TheVariants.{One as ConnectionKind, Two as HostsKind}
-use Rattle.flow_ids.specs.declared.flow.FlowId.{FlowId}
-use Rattle.flow_ids.specs.declared.flow.FlowId.TheVariants.{One, Two}
-use Rattle.flow_ids.specs.Flow.{kind_of, has_ports, IsFlow}
-use Rattle.flow_ids.specs.Identifier.{FitsFields}
+use Rattle.ipv4_packet.specs.declared.flow.FlowKind.{FlowKind}
+use Rattle.ipv4_packet.specs.declared.flow.FlowKind.TheVariants.{One as ConnectionKind, Two as HostsKind}
+use Rattle.ipv4_packet.specs.declared.flow.FlowId.{FlowId}
+use Rattle.ipv4_packet.specs.declared.flow.FlowId.TheVariants.{One, Two}
+use Rattle.ipv4_packet.specs.Flow.{kind_of, has_ports, IsFlow}
+use Rattle.ipv4_packet.specs.Identifier.{FitsFields}
 use Rattle.flow_encaps.specs.declared.default.EncapsFault.TheVariants.{Checksum}
 use Rattle.flow_encaps.specs.Labelled.{checksum_at_ttl_zero, Carries, rebuilt, head_size, left_out, has_zeros, said_length, said_checksum, layout_fault, unwrap_fault, HasLayout}
 

@@ -6,11 +6,11 @@ use Rattle.std.specs.Option.{option_or}
 use Rattle.std.specs.Int.{w16, w32, to_be_bytes}
 use Rattle.octet_fields.specs.Fields.{u16_at}
 use Rattle.ipv4_packet.specs.Packet.{tos_of, protocol_of, with_ttl, canonical, canonical_checksum, IsPacket}
-use Rattle.flow_ids.specs.declared.flow.FlowKind.{FlowKind}
-use Rattle.flow_ids.specs.declared.flow.FlowKind.TheVariants.{One as ConnectionKind, Two as HostsKind}
-use Rattle.flow_ids.specs.declared.flow.FlowId.{FlowId}
-use Rattle.flow_ids.specs.declared.flow.FlowId.TheVariants.{One, Two}
-use Rattle.flow_ids.specs.Flow.{kind_of, flow_of}
+use Rattle.ipv4_packet.specs.declared.flow.FlowKind.{FlowKind}
+use Rattle.ipv4_packet.specs.declared.flow.FlowKind.TheVariants.{One as ConnectionKind, Two as HostsKind}
+use Rattle.ipv4_packet.specs.declared.flow.FlowId.{FlowId}
+use Rattle.ipv4_packet.specs.declared.flow.FlowId.TheVariants.{One, Two}
+use Rattle.ipv4_packet.specs.Flow.{kind_of, flow_of}
 use Rattle.flow_encaps.specs.declared.default.EncapsFault.{EncapsFault}
 use Rattle.flow_encaps.specs.declared.default.EncapsFault.TheVariants.{Short, Reserved, Length, Checksum}
 

@@ -17,13 +17,12 @@
 ghost use Rattle.std.specs.Prelude.{◌≡◌, ℕ, List, ◌+◌, ◌<◌, ◌≤◌, ◌++◌, length, take, drop, Some, None, Ok, IfOk, OnOk, OnErr};
 ghost use Rattle.std.specs.Result.{result_err};
 ghost use Rattle.ipv4_packet.specs.Packet.{IsPacket, canonical};
-ghost use Rattle.flow_ids.specs.Flow.{IsFlow, kind_of, flow_of};
-ghost use Rattle.flow_ids.specs.Identifier.{FitsFields};
+ghost use Rattle.ipv4_packet.specs.Flow.{IsFlow, kind_of, flow_of};
+ghost use Rattle.ipv4_packet.specs.Identifier.{FitsFields};
 ghost use Rattle.flow_encaps.specs.Labelled.{checksum_at_ttl_zero as zero_ttl_checksum, labelled_payload, Carries, rebuilt, layout_fault, said_checksum as checksum_said, unwrap_fault, head_size as size_of_head, left_out, HasLayout};
 
 use crate::default::EncapsFault;
-use flow_ids::{FlowId, FlowKind};
-use ipv4_packet::{internet_sum, write_checksum};
+use ipv4_packet::{FlowId, FlowKind, internet_sum, write_checksum};
 use octet_fields::{put_octets, put_u16, put_u32, u16_at};
 
 /// Writes the payload of the packet's labelled frame to the front of `out` and gives its length in

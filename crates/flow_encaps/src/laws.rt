@@ -3,8 +3,8 @@
 
 ghost use Rattle.std.specs.Prelude.{◌≡◌, ℕ, ◌-◌, List, Some};
 ghost use Rattle.ipv4_packet.specs.Packet.{with_ttl, canonical};
-ghost use Rattle.flow_ids.specs.declared.flow.FlowId.{FlowId};
-ghost use Rattle.flow_ids.specs.Flow.{flow_ttl, next_hop_of};
+ghost use Rattle.ipv4_packet.specs.declared.flow.FlowId.{FlowId};
+ghost use Rattle.ipv4_packet.specs.Flow.{flow_ttl, next_hop_of};
 ghost use Rattle.flow_encaps.specs.Labelled.{Carries};
 
 /// A packet has one payload under the label of a flow.

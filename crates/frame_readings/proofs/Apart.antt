@@ -7,10 +7,10 @@ use Rattle.std.proofs.lemmas.List.{take-append-drop}
 use Rattle.std.proofs.lemmas.Slice.Eq.{bytes_eq-Decides}
 use Rattle.ipv4_packet.specs.Packet.{total_length_of}
 use Rattle.ipv4_packet.proofs.HeaderLemmas.{on_header}
-use Rattle.flow_ids.specs.declared.flow.FlowId.{FlowId}
-use Rattle.flow_ids.specs.declared.flow.FlowKind.{FlowKind}
-use Rattle.flow_ids.specs.declared.flow.FlowKind.TheVariants.{One as ConnectionKind, Two as HostsKind}
-use Rattle.flow_ids.specs.Flow.{kind_of}
+use Rattle.ipv4_packet.specs.declared.flow.FlowId.{FlowId}
+use Rattle.ipv4_packet.specs.declared.flow.FlowKind.{FlowKind}
+use Rattle.ipv4_packet.specs.declared.flow.FlowKind.TheVariants.{One as ConnectionKind, Two as HostsKind}
+use Rattle.ipv4_packet.specs.Flow.{kind_of}
 use Rattle.flow_encaps.specs.declared.default.EncapsFault.{EncapsFault}
 use Rattle.flow_encaps.specs.declared.default.EncapsFault.TheVariants.{Short, BadSnap}
 use Rattle.flow_encaps.specs.Default.{llc_snap, default_payload}

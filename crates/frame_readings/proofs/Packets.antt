@@ -8,9 +8,9 @@ use Rattle.ipv4_packet.specs.declared.validate.PacketFault.{PacketFault}
 use Rattle.ipv4_packet.specs.declared.validate.PacketFault.TheVariants.{Short, Version, Options, Length, TooLong, Checksum}
 use Rattle.ipv4_packet.specs.Packet.{protocol_of, total_length_of, header_sum, first_fault, ifmp_packet_of, IsPacket}
 use Rattle.ipv4_packet.proofs.MessageLemmas.{IsPacket-ifmp_packet_of}
-use Rattle.flow_ids.specs.declared.flow.FlowId.{FlowId}
-use Rattle.flow_ids.specs.declared.flow.FlowId.TheVariants.{One, Two}
-use Rattle.flow_ids.specs.Identifier.{identifier}
+use Rattle.ipv4_packet.specs.declared.flow.FlowId.{FlowId}
+use Rattle.ipv4_packet.specs.declared.flow.FlowId.TheVariants.{One, Two}
+use Rattle.ipv4_packet.specs.Identifier.{identifier}
 use Rattle.ifmp_wire.specs.declared.message.Message.{Message}
 use Rattle.ifmp_wire.specs.declared.message.Message.TheVariants.{Adjacency, Redirect, Reclaim, ReclaimAck, LabelRange, Error}
 use Rattle.ifmp_wire.specs.Message.{octets_of}

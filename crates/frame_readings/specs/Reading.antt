@@ -3,7 +3,7 @@
 use Rattle.std.specs.Prelude.{◌≡◌, ◌≢◌, ℕ, ◌<◌, ◌^◌, ◌==◌, true, false, List, drop, None, Some, Ok}
 use Rattle.net_types.specs.declared.number.Mark.{Mark}
 use Rattle.ipv4_packet.specs.Packet.{protocol_of, source_of, first_fault, ifmp_packet_of}
-use Rattle.flow_ids.specs.declared.flow.FlowId.{FlowId}
+use Rattle.ipv4_packet.specs.declared.flow.FlowId.{FlowId}
 use Rattle.flow_encaps.specs.Default.{default_payload}
 use Rattle.flow_encaps.specs.Labelled.{Carries}
 use Rattle.flow_encaps.specs.Unwrapped.{default_unwrapped, unwrapped}

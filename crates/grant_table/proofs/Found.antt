@@ -3,8 +3,8 @@
 use Rattle.std.proofs.Common.{◌≡◌, Bool, List, [], ◌∷◌, map, None, Some, refl, inl, inr}
 use Rattle.std.specs.Prelude.{find, option_map, ◌&&◌}
 use Rattle.std.proofs.lemmas.Bool.{cases_Bool}
-use Rattle.flow_ids.specs.declared.flow.FlowId.{FlowId}
-use Rattle.flow_ids.specs.Parts.{same_flow}
+use Rattle.ipv4_packet.specs.declared.flow.FlowId.{FlowId}
+use Rattle.ipv4_packet.specs.Parts.{same_flow}
 use Rattle.port_model.specs.Grants.{grant_label, grant_for, is_by_controller}
 use Rattle.grant_table.specs.declared.held.Held.{Held}
 use Rattle.grant_table.specs.Held.{shown}

@@ -5,8 +5,8 @@ use Rattle.std.specs.Prelude.{slice_get, option_map, IsTrue, IfSome, nat_le, ◌
 use Rattle.std.specs.List.{insert}
 use Rattle.std.proofs.lemmas.Bool.{and_parts, cases_eq}
 use Rattle.net_types.specs.Label.{is_label_number}
-use Rattle.flow_ids.specs.declared.flow.FlowId.{FlowId}
-use Rattle.flow_ids.specs.Parts.{same_flow}
+use Rattle.ipv4_packet.specs.declared.flow.FlowId.{FlowId}
+use Rattle.ipv4_packet.specs.Parts.{same_flow}
 use Rattle.keyed_lists.specs.Keyed.{at, put, without}
 use Rattle.port_model.specs.Grants.{Grant, grant_label, grant_for, is_by_controller}
 use Rattle.grant_table.specs.Table.{AreOfLabels}

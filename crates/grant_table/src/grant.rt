@@ -2,7 +2,7 @@
 
 ghost use Rattle.std.specs.Prelude.{◌≡◌, ◌-◌};
 
-use flow_ids::FlowId;
+use ipv4_packet::FlowId;
 use net_types::End;
 
 /// Its branch from the controller is being made.

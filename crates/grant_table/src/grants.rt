@@ -3,14 +3,14 @@
 ghost use Rattle.std.specs.Prelude.{◌≡◌, ◌<◌, ◌≤◌, ◌==◌, ◌&&◌, [], ◌∷◌, ◌++◌, length, map as map_list, slice_get, slice_set, option_map, find, position, IfSome, IfNone, IfOk, Some};
 ghost use Rattle.std.specs.List.{remove, insert};
 ghost use Rattle.keyed_lists.specs.Keyed.{at};
-ghost use Rattle.flow_ids.specs.Parts.{same_flow};
+ghost use Rattle.ipv4_packet.specs.Parts.{same_flow};
 ghost use Rattle.port_model.specs.Grants.{Grant as GrantValue, grant_label, grant_for, is_by_controller};
 ghost use Rattle.grant_table.specs.Held.{shown};
 ghost use Rattle.grant_table.specs.Places.{IsPlaceOf};
 
 use crate::grant::{Grant, Idle};
 use crate::held::Held;
-use flow_ids::FlowId;
+use ipv4_packet::FlowId;
 use net_types::OutOfMemory;
 use std::alloc::Global;
 use std::marker::Model;

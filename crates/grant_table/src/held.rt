@@ -1,14 +1,14 @@
 //! A grant in whichever state it is.
 
 ghost use Rattle.std.specs.Prelude.{◌≡◌, ◌∷◌, ◌&&◌, List};
-ghost use Rattle.flow_ids.specs.Parts.{same_flow};
+ghost use Rattle.ipv4_packet.specs.Parts.{same_flow};
 ghost use Rattle.port_model.specs.Grants.{is_by_controller, is_leaving};
 ghost use Rattle.grant_table.specs.Table.{ages, is_owed, view_of};
 ghost use Rattle.grant_table.specs.Held.{shown};
 
 use crate::grant::{ByController, ByInput, Grant, Idle, Leaving};
 use crate::table::{GrantState, GrantView};
-use flow_ids::FlowId;
+use ipv4_packet::FlowId;
 
 /// A grant in whichever state it is.
 #[derive(Debug)]

@@ -2,7 +2,7 @@
 //! of the definitions.
 
 ghost use Rattle.std.specs.Prelude.{◌≡◌, ℕ, Some};
-ghost use Rattle.flow_ids.specs.declared.flow.FlowId.{FlowId};
+ghost use Rattle.ipv4_packet.specs.declared.flow.FlowId.{FlowId};
 ghost use Rattle.port_model.specs.Setup.{Setup};
 ghost use Rattle.port_model.specs.Grants.{acceptance_of};
 ghost use Rattle.grant_table.specs.Table.{Table, acceptance_in};

@@ -11,7 +11,7 @@ use crate::grant::Grant;
 use crate::grants::{Grants, MOST_GRANTS};
 use crate::held::Held;
 use branch_desk::BranchDone;
-use flow_ids::{FlowId, FlowKind, of_packet};
+use ipv4_packet::{FlowId, FlowKind, of_packet};
 use net_types::{End, OutOfMemory};
 use std::alloc::Global;
 use std::marker::Model;

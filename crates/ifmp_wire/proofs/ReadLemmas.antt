@@ -10,9 +10,9 @@ use Rattle.net_types.specs.declared.number.Instance.{Instance}
 use Rattle.octet_fields.specs.Fields.{u16_at, u32_at}
 use Rattle.ipv4_packet.specs.Packet.{internet_sum_of}
 use Rattle.octet_fields.proofs.FieldLemmas.{AreOctets, octet-then, u16-then, u32-then, nothing-then, u16_at-fits, u32_at-fits}
-use Rattle.flow_ids.specs.declared.flow.FlowId.{FlowId}
-use Rattle.flow_ids.specs.Flow.{kind_of}
-use Rattle.flow_ids.specs.Identifier.{identifier, Identifies}
+use Rattle.ipv4_packet.specs.declared.flow.FlowId.{FlowId}
+use Rattle.ipv4_packet.specs.Flow.{kind_of}
+use Rattle.ipv4_packet.specs.Identifier.{identifier, Identifies}
 use Rattle.ifmp_wire.specs.declared.message.Names.{Names}
 use Rattle.ifmp_wire.specs.declared.message.Message.TheVariants.{Adjacency, Redirect, Reclaim, ReclaimAck, LabelRange, Error}
 use Rattle.ifmp_wire.specs.Message.{label_octets, label_number, hello_code, with_names, flow_octets, with_checksum, without_checksum, Tells}

@@ -8,11 +8,11 @@ use Rattle.net_types.specs.declared.adjacency.HelloKind.TheVariants.{Syn, Synack
 use Rattle.net_types.specs.declared.channel.Channel.{Channel}
 use Rattle.net_types.specs.declared.number.Instance.{Instance}
 use Rattle.ipv4_packet.specs.Packet.{internet_sum_of}
-use Rattle.flow_ids.specs.declared.flow.FlowKind.{FlowKind}
-use Rattle.flow_ids.specs.declared.flow.FlowKind.TheVariants.{One, Two}
-use Rattle.flow_ids.specs.declared.flow.FlowId.{FlowId}
-use Rattle.flow_ids.specs.Flow.{kind_of, IsFlow}
-use Rattle.flow_ids.specs.Identifier.{identifier, FitsFields}
+use Rattle.ipv4_packet.specs.declared.flow.FlowKind.{FlowKind}
+use Rattle.ipv4_packet.specs.declared.flow.FlowKind.TheVariants.{One, Two}
+use Rattle.ipv4_packet.specs.declared.flow.FlowId.{FlowId}
+use Rattle.ipv4_packet.specs.Flow.{kind_of, IsFlow}
+use Rattle.ipv4_packet.specs.Identifier.{identifier, FitsFields}
 use Rattle.ifmp_wire.specs.declared.message.Names.{Names}
 use Rattle.ifmp_wire.specs.declared.message.Message.{Message}
 use Rattle.ifmp_wire.specs.declared.message.Message.TheVariants.{Adjacency, Redirect, Reclaim, ReclaimAck, LabelRange, Error}

@@ -5,9 +5,9 @@ use Rattle.std.specs.Prelude.{◌≡◌, ℕ, ◌+◌, ◌-◌, ◌==◌, ◌&&�
 use Rattle.std.specs.Option.{option_or}
 use Rattle.octet_fields.specs.Fields.{u16_at, u32_at, written}
 use Rattle.ipv4_packet.specs.Packet.{internet_sum_of}
-use Rattle.flow_ids.specs.declared.flow.FlowKind.{FlowKind}
-use Rattle.flow_ids.specs.declared.flow.FlowKind.TheVariants.{One, Two}
-use Rattle.flow_ids.specs.Identifier.{identifier_size, has_zeros, has_fields}
+use Rattle.ipv4_packet.specs.declared.flow.FlowKind.{FlowKind}
+use Rattle.ipv4_packet.specs.declared.flow.FlowKind.TheVariants.{One, Two}
+use Rattle.ipv4_packet.specs.Identifier.{identifier_size, has_zeros, has_fields}
 use Rattle.ifmp_wire.specs.declared.reader.Fault.{Fault}
 use Rattle.ifmp_wire.specs.declared.reader.Fault.TheVariants.{Short, Version, OpCode, Size, Checksum, FlowType, FlowLength, ZeroLifetime, LabelReserved, RangeOrder, ErrorCode, Reserved, FlowFields}
 use Rattle.ifmp_wire.specs.Message.{flow_type, flow_words}

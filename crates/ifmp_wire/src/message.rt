@@ -1,6 +1,6 @@
 //! The messages as values.
 
-use flow_ids::FlowId;
+use ipv4_packet::FlowId;
 use net_types::{Channel, Hello, Instance};
 
 /// A message of the Ipsilon Flow Management Protocol.

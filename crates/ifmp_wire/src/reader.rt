@@ -2,15 +2,14 @@
 
 ghost use Rattle.std.specs.Prelude.{◌≡◌, ◌≢◌, ◌↔◌, ◌+◌, ◌<◌, ◌≤◌, length, drop, slice_index, Ok, IsTrue, IfOk, OnOk};
 ghost use Rattle.std.specs.Result.{result_err};
-ghost use Rattle.flow_ids.specs.Flow.{kind_of};
-ghost use Rattle.flow_ids.specs.Identifier.{identifier_size, Identifies};
+ghost use Rattle.ipv4_packet.specs.Flow.{kind_of};
+ghost use Rattle.ipv4_packet.specs.Identifier.{identifier_size, Identifies};
 ghost use Rattle.octet_fields.specs.Fields.{u16_at as number16};
 ghost use Rattle.ifmp_wire.specs.Message.{Tells, hello_code};
 ghost use Rattle.ifmp_wire.specs.Tests.{first_fault, head_fault, flow_fault, kind_fault, lifetime_fault, identifier_fault, range_fault, error_fault, op_at, checksum_of, has_size as fits_op, HasHead, HasKind};
 
 use crate::message::Message;
-use flow_ids::{FlowFault, FlowId, FlowKind};
-use ipv4_packet::internet_sum;
+use ipv4_packet::{FlowFault, FlowId, FlowKind, internet_sum};
 use net_types::{Addr, Channel, Hello, HelloKind, Instance};
 use octet_fields::{u16_at, u32_at};
 use thiserror::Error;
@@ -224,7 +223,7 @@ fn read_flow(kind: FlowKind, octets: &[u8]) -> Result<FlowId, Fault>
     ensures found { IfOk result (λ flow. Identifies kind octets.now flow) }
     ensures fault { result_err result ≡ identifier_fault kind octets.now }
 {
-    match flow_ids::read(kind, octets) {
+    match ipv4_packet::read_identifier(kind, octets) {
         Ok(flow) => Ok(flow),
         Err(FlowFault::Fields) => Err(Fault::FlowFields),
         Err(_) => Err(Fault::Reserved),

@@ -4,12 +4,11 @@ ghost use Rattle.std.specs.Prelude.{◌≡◌, ◌+◌, ◌-◌, ◌<◌, ◌≤
 ghost use Rattle.std.specs.Int.{w16, to_be_bytes};
 ghost use Rattle.octet_fields.specs.Fields.{written};
 ghost use Rattle.ipv4_packet.specs.Packet.{internet_sum_of};
-ghost use Rattle.flow_ids.specs.Identifier.{identifier};
+ghost use Rattle.ipv4_packet.specs.Identifier.{identifier};
 ghost use Rattle.ifmp_wire.specs.Message.{InRange, IsLabel, octets_of, op_code, names_of, with_names, rest_of, without_checksum, body, label_octets, hello_code, flow_octets, flow_type as type_of, flow_words as words_of};
 
 use crate::message::{Message, Names};
-use flow_ids::{FlowId, FlowKind};
-use ipv4_packet::internet_sum;
+use ipv4_packet::{FlowId, FlowKind, internet_sum};
 use net_types::{Channel, HelloKind};
 use octet_fields::{put_octets, put_u16, put_u32};
 
@@ -185,7 +184,7 @@ fn write_flow(lifetime: u16, label: Channel, flow: &FlowId, out: &mut [u8]) -> u
     ensures len { result ≡ 8 + length (identifier flow.now) }
 {
     write_label(flow.kind(), lifetime, label, out);
-    8 + flow_ids::write(flow, &mut out[8..])
+    8 + ipv4_packet::write_identifier(flow, &mut out[8..])
 }
 
 /// Writes what stands there before the identifier.

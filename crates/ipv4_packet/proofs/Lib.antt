@@ -1,3 +1,5 @@
+pub mod HopLemmas
+pub mod IdentifierLemmas
 pub mod HeaderLemmas
 pub mod MessageLemmas
 pub mod RouteLemmas

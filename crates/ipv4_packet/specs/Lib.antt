@@ -1,1 +1,4 @@
+pub mod Flow
+pub mod Identifier
+pub mod Parts
 pub mod Packet

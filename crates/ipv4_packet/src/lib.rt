@@ -1,5 +1,6 @@
 //! IPv4 packets with a header of 20 octets: which octets are one, their fields, and the two writes
-//! that a router makes.
+//! that a router makes; and their flows: which packets go one way together, and the octets that name
+//! them in messages.
 //!
 //! | Octets | Field (RFC 791 3.1) |
 //! |---|---|
@@ -16,11 +17,17 @@
 #![tactic(auto)]
 
 mod checksum;
+mod flow;
+mod identifier;
+mod laws;
 mod read;
 mod validate;
 mod write;
 
 pub use checksum::internet_sum;
+pub use flow::{FlowId, FlowKind, matches, next_hop, of_packet};
+pub use identifier::{FlowFault, read_identifier, write_identifier};
+pub use laws::flow_keeps_over_a_hop;
 pub use read::{destination, fragment, identification, protocol, source, tos, total_length, ttl};
 pub use validate::{PacketFault, check};
 pub use write::{ifmp_packet, set_ttl, write_checksum};

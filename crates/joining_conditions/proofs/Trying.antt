@@ -9,9 +9,9 @@ use Rattle.std.proofs.lemmas.List.{length-map}
 use Rattle.net_types.specs.declared.node.PortNo.{PortNo}
 use Rattle.net_types.specs.declared.channel.End.{End}
 use Rattle.net_types.specs.Label.{number_of_channel}
-use Rattle.flow_ids.specs.declared.flow.FlowId.{FlowId}
-use Rattle.flow_ids.specs.Flow.{next_hop_of}
-use Rattle.flow_ids.specs.Parts.{flow_destination, same_flow}
+use Rattle.ipv4_packet.specs.declared.flow.FlowId.{FlowId}
+use Rattle.ipv4_packet.specs.Flow.{next_hop_of}
+use Rattle.ipv4_packet.specs.Parts.{flow_destination, same_flow}
 use Rattle.ipv4_forward.specs.Best.{best}
 use Rattle.crossbar_model.specs.Crossbar.{same_end}
 use Rattle.gsmp_wire.specs.declared.request.Request.TheVariants.{MoveBranch}

@@ -15,7 +15,7 @@ ghost use Rattle.joining_router.specs.Joining.{AreJoined, acted, controller_of};
 use crate::changing::output_of;
 use crate::joining::JoiningRouter;
 use cut_through::{plans_are_the_controllers, route_of};
-use flow_ids::{FlowId, next_hop};
+use ipv4_packet::{FlowId, next_hop};
 use gsmp_client::{home_of, label_end};
 use gsmp_wire::Request;
 use join_list::Joined;

@@ -3,9 +3,9 @@
 use Rattle.std.proofs.Common.{◌≡◌, ℕ, cond, List, [], ◌∷◌, None, Some, refl, sym, ◌∙◌, inl, inr}
 use Rattle.std.specs.Map.{lookup}
 use Rattle.std.proofs.lemmas.Bool.{cases_Bool}
-use Rattle.flow_ids.specs.declared.flow.FlowId.{FlowId}
-use Rattle.flow_ids.specs.contracts.flow.FlowIdPartialEq.TheImpl.{eq-value}
-use Rattle.flow_ids.specs.Parts.{same_flow}
+use Rattle.ipv4_packet.specs.declared.flow.FlowId.{FlowId}
+use Rattle.ipv4_packet.specs.contracts.flow.FlowIdPartialEq.TheImpl.{eq-value}
+use Rattle.ipv4_packet.specs.Parts.{same_flow}
 use Rattle.flow_classifier.proofs.Flows.{flow_from_same, same_turned}
 use Rattle.flow_classifier.proofs.Derived.{eq_is}
 use Rattle.label_book.specs.Index.{Entry, IsEntered, IsRemoved, number_of}

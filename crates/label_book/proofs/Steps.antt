@@ -4,7 +4,7 @@ use Rattle.std.proofs.Common.{◌≡◌, ℕ, true, false, List, Option, None, S
 use Rattle.std.specs.Prelude.{nat_le, map, slice_get, option_map, IsTrue, IsSome, IfSome, if◌then◌else◌}
 use Rattle.std.specs.List.{AllByRecursion}
 use Rattle.std.specs.Option.{option_map_or}
-use Rattle.flow_ids.specs.Parts.{same_flow}
+use Rattle.ipv4_packet.specs.Parts.{same_flow}
 use Rattle.keyed_lists.specs.Keyed.{at, put, without, entered}
 use Rattle.port_model.specs.Labels.{Label, LabelState, Wiring, Offered, Recalled, Wired, label_number, label_for, serves}
 use Rattle.label_book.specs.Book.{Book, IsInRange, Rises, acknowledged, changed, held, holds_passed, holds_recalled, is_passed, is_recalled, reclaimed, state_of, with_label, with_new_label, without_label}

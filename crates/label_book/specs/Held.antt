@@ -4,7 +4,7 @@
 use Rattle.std.specs.Prelude.{◌≡◌, ℕ, ◌+◌, ◌≤◌, List, [], ◌∷◌, IsTrue, Option, None, Some}
 use Rattle.net_types.specs.declared.number.Instance.{Instance}
 use Rattle.net_types.specs.Label.{is_label_number}
-use Rattle.flow_ids.specs.declared.flow.FlowId.{FlowId}
+use Rattle.ipv4_packet.specs.declared.flow.FlowId.{FlowId}
 use Rattle.port_model.specs.Labels.{Label, LabelState, Wiring, Offered, Recalled, Wired}
 use Rattle.label_book.specs.Book.{Book, held}
 use Rattle.label_book.specs.declared.held.Stage.{Stage}

@@ -11,7 +11,7 @@ use crate::index::{Flows, enter, number_at, remove_flow, remove_number};
 use crate::places::Places;
 use crate::view::{HeldLabel, LabelView};
 use branch_desk::BranchDone;
-use flow_ids::FlowId;
+use ipv4_packet::FlowId;
 use indexmap::IndexMap;
 use label_pool::{Label, Spare};
 use net_types::{End, Instance, OutOfMemory};

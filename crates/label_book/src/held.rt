@@ -10,7 +10,7 @@ ghost use Rattle.label_book.specs.Held.{number_in, instance_in, flow_in, state_i
 
 use crate::view::{HeldLabel, HeldState};
 use branch_desk::BranchDone;
-use flow_ids::FlowId;
+use ipv4_packet::FlowId;
 use label_pool::{Label, Offered, Recalled, Spare, Wired};
 use net_types::End;
 

@@ -5,7 +5,7 @@ ghost use Rattle.std.specs.Vec.{vec_capacity, vec_len};
 ghost use Rattle.keyed_lists.specs.Keyed.{entered, without};
 ghost use Rattle.label_book.specs.Index.{AreAscending, IsEntered, IsRemoved};
 
-use flow_ids::FlowId;
+use ipv4_packet::FlowId;
 use indexmap::IndexMap;
 use net_types::OutOfMemory;
 

@@ -3,7 +3,7 @@
 ghost use Rattle.std.specs.Prelude.{◌≡◌};
 ghost use Rattle.label_book.specs.Read.{label_of, name_of, state_from, view_of};
 
-use flow_ids::FlowId;
+use ipv4_packet::FlowId;
 use net_types::End;
 
 /// The state of a label that is held.

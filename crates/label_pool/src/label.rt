@@ -2,11 +2,11 @@
 
 ghost use Rattle.std.specs.Prelude.{◌≡◌, ◌<◌, ◌↔◌, true, false, IsTrue, IsSome, IfSome, if◌then◌else◌};
 ghost use Rattle.net_types.specs.Label.{is_label_number};
-ghost use Rattle.flow_ids.specs.Parts.{same_flow};
+ghost use Rattle.ipv4_packet.specs.Parts.{same_flow};
 ghost use Rattle.label_pool.specs.Label.{in_state, wires, unwires, quit_of};
 
 use branch_desk::BranchDone;
-use flow_ids::FlowId;
+use ipv4_packet::FlowId;
 use net_types::Instance;
 use std::marker::Model;
 

@@ -8,8 +8,8 @@ use Rattle.net_types.specs.Label.{label_channel_of}
 use Rattle.adjacency_table.specs.declared.State.{State}
 use Rattle.adjacency_table.specs.declared.State.TheVariants.{Estab}
 use Rattle.adjacency_table.specs.Side.{is_estab}
-use Rattle.flow_ids.specs.declared.flow.FlowId.{FlowId}
-use Rattle.flow_ids.specs.Parts.{same_flow}
+use Rattle.ipv4_packet.specs.declared.flow.FlowId.{FlowId}
+use Rattle.ipv4_packet.specs.Parts.{same_flow}
 use Rattle.gsmp_wire.specs.declared.request.Request.TheVariants.{AddBranch}
 use Rattle.ordered_lists.specs.Ordered.{InOrder}
 use Rattle.keyed_lists.specs.Keyed.{at}

@@ -16,12 +16,12 @@ use Rattle.ipv4_packet.specs.Packet.{tos_of, ttl_of, protocol_of, source_of, des
 use Rattle.ipv4_packet.specs.declared.validate.PacketFault.{PacketFault}
 use Rattle.ipv4_packet.specs.declared.validate.PacketFault.TheVariants.{Short}
 use Rattle.atm_cells.specs.declared.cell.Cell.{Cell}
-use Rattle.flow_ids.specs.declared.flow.FlowId.{FlowId}
-use Rattle.flow_ids.specs.declared.flow.FlowId.TheVariants as flows
-use Rattle.flow_ids.specs.declared.flow.FlowKind.{FlowKind}
-use Rattle.flow_ids.specs.declared.flow.FlowKind.TheVariants.{One, Two}
-use Rattle.flow_ids.specs.Identifier.{FitsFields}
-use Rattle.flow_ids.specs.Flow.{shows_ports, flow_of}
+use Rattle.ipv4_packet.specs.declared.flow.FlowId.{FlowId}
+use Rattle.ipv4_packet.specs.declared.flow.FlowId.TheVariants as flows
+use Rattle.ipv4_packet.specs.declared.flow.FlowKind.{FlowKind}
+use Rattle.ipv4_packet.specs.declared.flow.FlowKind.TheVariants.{One, Two}
+use Rattle.ipv4_packet.specs.Identifier.{FitsFields}
+use Rattle.ipv4_packet.specs.Flow.{shows_ports, flow_of}
 use Rattle.flow_encaps.specs.declared.default.EncapsFault.{EncapsFault}
 use Rattle.flow_encaps.specs.Unwrapped.{default_unwrapped, unwrapped}
 use Rattle.ifmp_wire.specs.declared.message.Message.{Message}

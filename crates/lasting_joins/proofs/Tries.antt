@@ -14,9 +14,9 @@ use Rattle.adjacency_table.specs.declared.message.Answer.TheVariants.{Quiet, Sen
 use Rattle.adjacency_table.specs.declared.message.Said.{Said}
 use Rattle.adjacency_table.specs.Side.{Step, ticked}
 use Rattle.ipv4_forward.specs.Best.{best}
-use Rattle.flow_ids.specs.declared.flow.FlowId.{FlowId}
-use Rattle.flow_ids.specs.Flow.{next_hop_of}
-use Rattle.flow_ids.specs.Parts.{same_flow, flow_destination}
+use Rattle.ipv4_packet.specs.declared.flow.FlowId.{FlowId}
+use Rattle.ipv4_packet.specs.Flow.{next_hop_of}
+use Rattle.ipv4_packet.specs.Parts.{same_flow, flow_destination}
 use Rattle.gsmp_wire.specs.declared.request.Request.TheVariants.{MoveBranch}
 use Rattle.link_model.specs.Notes.{Journal}
 use Rattle.frame_model.specs.Frame.{octets_of, last_mark, payload_in, Tested, tested, tested_by}

@@ -15,9 +15,9 @@ use Rattle.adjacency_table.specs.Side as sides
 use Rattle.adjacency_table.specs.Side.{is_estab, ticked}
 use Rattle.adjacency_table.specs.Greeting.{gsmp_answer}
 use Rattle.ipv4_forward.specs.Best.{best}
-use Rattle.flow_ids.specs.declared.flow.FlowId.{FlowId}
-use Rattle.flow_ids.specs.Flow.{next_hop_of}
-use Rattle.flow_ids.specs.Parts.{flow_destination, same_flow}
+use Rattle.ipv4_packet.specs.declared.flow.FlowId.{FlowId}
+use Rattle.ipv4_packet.specs.Flow.{next_hop_of}
+use Rattle.ipv4_packet.specs.Parts.{flow_destination, same_flow}
 use Rattle.crossbar_model.specs.Channels.{IsLinkPort}
 use Rattle.crossbar_model.specs.Crossbar.{same_end}
 use Rattle.gsmp_wire.specs.Layout.{octets_of as gsmp_octets}

@@ -14,8 +14,8 @@ use Rattle.ipv4_packet.specs.Packet.{first_fault}
 use Rattle.ipv4_packet.specs.declared.validate.PacketFault.{PacketFault}
 use Rattle.atm_cells.specs.declared.cell.Cell.{Cell}
 use Rattle.adjacency_table.specs.Side.{is_estab}
-use Rattle.flow_ids.specs.declared.flow.FlowId.{FlowId}
-use Rattle.flow_ids.specs.Parts.{same_flow}
+use Rattle.ipv4_packet.specs.declared.flow.FlowId.{FlowId}
+use Rattle.ipv4_packet.specs.Parts.{same_flow}
 use Rattle.ifmp_wire.specs.declared.message.Message.{Message}
 use Rattle.ifmp_wire.specs.declared.message.Message.TheVariants.{Redirect}
 use Rattle.ifmp_wire.specs.Fields.{decoded}

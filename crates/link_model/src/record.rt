@@ -1,6 +1,6 @@
 //! The records of a run: what became of packets, frames and cells.
 
-use flow_ids::FlowId;
+use ipv4_packet::FlowId;
 use net_types::{Mark, NodeId, Octets, Place, PortNo};
 
 /// Why a frame may be gone: the cause of an entry of the loss ledger.

@@ -1,11 +1,10 @@
 //! A worked packet under both of its flows.
 
 ghost use Rattle.std.specs.Prelude.{◌≡◌, ◌<◌};
-ghost use Rattle.flow_ids.specs.Flow.{IsFlow, kind_of};
+ghost use Rattle.ipv4_packet.specs.Flow.{IsFlow, kind_of};
 
 use flow_encaps::*;
-use flow_ids::{FlowId, FlowKind};
-use ipv4_packet::{check, set_ttl};
+use ipv4_packet::{FlowId, FlowKind, check, set_ttl};
 use net_types::Addr;
 
 /// A datagram from 10.0.1.1, port 5001, to 10.0.3.1, port 5002, with Time To Live 4.
@@ -54,7 +53,7 @@ fn a_connection_keeps_its_payload(rt: HostRuntime) {
         let mut packet = PACKET;
         assert!(rt; check(&packet).is_ok());
         set_ttl(&mut packet, ttl);
-        assert!(rt; flow_ids::matches(&flow, &packet));
+        assert!(rt; ipv4_packet::matches(&flow, &packet));
         let mut out = [7; 1501];
         let size = wrap_flow(&flow, &packet, &mut out);
         assert!(rt; out.starts_with(&CONNECTION_PAYLOAD));
@@ -73,7 +72,7 @@ fn hosts_keep_tos_protocol_and_ports(rt: HostRuntime) {
         destination: DESTINATION,
     };
     assert!(rt; check(&PACKET).is_ok());
-    assert!(rt; flow_ids::matches(&flow, &PACKET));
+    assert!(rt; ipv4_packet::matches(&flow, &PACKET));
     let mut out = [7; 1500];
     assert_eq!(rt; wrap_flow(&flow, &PACKET, &mut out), 20);
     assert!(rt; out.starts_with(&HOSTS_PAYLOAD));

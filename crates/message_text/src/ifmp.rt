@@ -5,7 +5,7 @@ ghost use Rattle.ifmp_wire.specs.declared.message.Message.TheVariants.{Adjacency
 ghost use Rattle.message_text.specs.Ifmp.{ifmp_text, hello_word, between, head_text, use_text};
 
 use crate::fields::{write_address, write_channel, write_number, write_octets};
-use flow_ids::FlowId;
+use ipv4_packet::FlowId;
 use ifmp_wire::Message;
 use lab_text::Text;
 use net_types::{Channel, Hello, HelloKind, Instance, OutOfMemory};
@@ -54,7 +54,7 @@ fn write_use(out: &mut Text, label: Channel, flow: &FlowId) -> Result<(), OutOfM
     ensures { OnOk result (out.new ≡ out.old ++ use_text label flow.now) }
 {
     let mut identifier = [0; 16];
-    let size = flow_ids::write(flow, &mut identifier);
+    let size = ipv4_packet::write_identifier(flow, &mut identifier);
     write_channel(out, " label ", label)?;
     write_octets(out, " flow ", &identifier[..size])
 }

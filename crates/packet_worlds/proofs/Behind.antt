@@ -11,7 +11,7 @@ use Rattle.net_types.specs.declared.number.Mark.{Mark}
 use Rattle.net_types.specs.Channel.{channel_on_control}
 use Rattle.net_types.specs.Label.{number_of_channel, label_channel_of}
 use Rattle.atm_cells.specs.declared.cell.Cell.{Cell}
-use Rattle.flow_ids.specs.declared.flow.FlowId.{FlowId}
+use Rattle.ipv4_packet.specs.declared.flow.FlowId.{FlowId}
 use Rattle.link_model.specs.declared.frames.Frame.{Frame}
 use Rattle.link_model.specs.Ledger.{payload_of}
 use Rattle.link_model.specs.declared.record.Record.{Record}

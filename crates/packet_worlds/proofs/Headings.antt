@@ -10,11 +10,11 @@ use Rattle.net_types.specs.declared.node.Place.TheVariants.{Down, Up}
 use Rattle.net_types.specs.declared.channel.Channel.{Channel}
 use Rattle.net_types.specs.Channel.{channel_on_control}
 use Rattle.net_types.specs.Label.{label_channel_of, number_of_channel, is_label_channel}
-use Rattle.flow_ids.specs.declared.flow.FlowId.{FlowId}
-use Rattle.flow_ids.specs.declared.flow.FlowKind.{FlowKind}
-use Rattle.flow_ids.specs.declared.flow.FlowKind.TheVariants.{One, Two}
-use Rattle.flow_ids.specs.Flow.{kind_of, flow_of}
-use Rattle.flow_ids.specs.Parts.{same_flow}
+use Rattle.ipv4_packet.specs.declared.flow.FlowId.{FlowId}
+use Rattle.ipv4_packet.specs.declared.flow.FlowKind.{FlowKind}
+use Rattle.ipv4_packet.specs.declared.flow.FlowKind.TheVariants.{One, Two}
+use Rattle.ipv4_packet.specs.Flow.{kind_of, flow_of}
+use Rattle.ipv4_packet.specs.Parts.{same_flow}
 use Rattle.port_model.specs.Grants.{Grant, is_by_controller, grant_for, grant_of_kind, grant_matching}
 use Rattle.port_facts.proofs.Found.{find_passes}
 use Rattle.port_views.proofs.Flows.{flow_is}

@@ -23,11 +23,11 @@ use Rattle.ipv4_forward.specs.declared.table.Route.{Route}
 use Rattle.ipv4_forward.specs.declared.outcome.Hop.{Hop}
 use Rattle.ipv4_forward.specs.declared.outcome.Hop.TheVariants.{Here, NoRoute, On, Expired}
 use Rattle.net_types.specs.declared.node.PortNo.{PortNo}
-use Rattle.flow_ids.specs.declared.flow.FlowKind.{FlowKind}
-use Rattle.flow_ids.specs.declared.flow.FlowKind.TheVariants.{One as ConnectionKind, Two as HostsKind}
-use Rattle.flow_ids.specs.declared.flow.FlowId.{FlowId}
-use Rattle.flow_ids.specs.Parts.{flow_destination}
-use Rattle.flow_ids.specs.Flow.{kind_of, flow_ttl, at_ttl, flow_of, next_hop_of}
+use Rattle.ipv4_packet.specs.declared.flow.FlowKind.{FlowKind}
+use Rattle.ipv4_packet.specs.declared.flow.FlowKind.TheVariants.{One as ConnectionKind, Two as HostsKind}
+use Rattle.ipv4_packet.specs.declared.flow.FlowId.{FlowId}
+use Rattle.ipv4_packet.specs.Parts.{flow_destination}
+use Rattle.ipv4_packet.specs.Flow.{kind_of, flow_ttl, at_ttl, flow_of, next_hop_of}
 use Rattle.flow_encaps.specs.Default.{default_payload}
 use Rattle.flow_encaps.specs.Unwrapped.{default_unwrapped, unwrapped, unwrapped_by}
 use Rattle.flow_encaps.specs.Labelled.{labelled_payload, Carries}

@@ -19,7 +19,7 @@ use Rattle.ipv4_forward.specs.Hop.{onward}
 use Rattle.ipv4_forward.specs.declared.table.Next.{Next}
 use Rattle.ipv4_forward.specs.declared.table.Next.TheVariants.{Via}
 use Rattle.ipv4_forward.specs.declared.table.Route.{Route}
-use Rattle.flow_ids.specs.declared.flow.FlowId.{FlowId}
+use Rattle.ipv4_packet.specs.declared.flow.FlowId.{FlowId}
 use Rattle.flow_encaps.specs.Labelled.{Carries}
 use Rattle.link_model.specs.declared.record.Record.{Record}
 use Rattle.link_model.specs.declared.frames.Frame.{Frame}

@@ -14,7 +14,7 @@ use Rattle.net_types.specs.Label.{number_of_channel}
 use Rattle.ipv4_packet.specs.Packet.{protocol_of, first_fault, ifmp_packet_of}
 use Rattle.ipv4_packet.specs.declared.validate.PacketFault.{PacketFault}
 use Rattle.atm_cells.specs.declared.cell.Cell.{Cell}
-use Rattle.flow_ids.specs.declared.flow.FlowId.{FlowId}
+use Rattle.ipv4_packet.specs.declared.flow.FlowId.{FlowId}
 use Rattle.flow_encaps.specs.Default.{default_payload}
 use Rattle.flow_encaps.specs.Unwrapped.{default_unwrapped, unwrapped}
 use Rattle.flow_encaps.specs.declared.default.EncapsFault.{EncapsFault}

@@ -13,12 +13,12 @@ use Rattle.net_types.specs.declared.adjacency.Peer.{Peer}
 use Rattle.net_types.specs.Label.{label_channel_of, label_number_of}
 use Rattle.adjacency_table.specs.Side as sides
 use Rattle.adjacency_table.specs.Hello.{ifmp_received, heard_from}
-use Rattle.flow_ids.specs.declared.flow.FlowId.{FlowId}
-use Rattle.flow_ids.specs.declared.flow.FlowId.TheVariants.{One, Two}
-use Rattle.flow_ids.specs.declared.flow.FlowKind.{FlowKind}
-use Rattle.flow_ids.specs.declared.flow.FlowKind.TheVariants.{One as ConnectionKind, Two as HostsKind}
-use Rattle.flow_ids.specs.Flow.{IsFlow, has_ports, shows_ports, flow_of}
-use Rattle.flow_ids.specs.Parts.{same_flow}
+use Rattle.ipv4_packet.specs.declared.flow.FlowId.{FlowId}
+use Rattle.ipv4_packet.specs.declared.flow.FlowId.TheVariants.{One, Two}
+use Rattle.ipv4_packet.specs.declared.flow.FlowKind.{FlowKind}
+use Rattle.ipv4_packet.specs.declared.flow.FlowKind.TheVariants.{One as ConnectionKind, Two as HostsKind}
+use Rattle.ipv4_packet.specs.Flow.{IsFlow, has_ports, shows_ports, flow_of}
+use Rattle.ipv4_packet.specs.Parts.{same_flow}
 use Rattle.octet_fields.specs.Fields.{u16_at}
 use Rattle.ipv4_packet.specs.Packet.{tos_of, ttl_of, protocol_of, source_of, destination_of}
 use Rattle.gsmp_wire.specs.declared.request.Request.{Request}

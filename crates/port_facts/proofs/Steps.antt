@@ -5,7 +5,7 @@ use Rattle.std.proofs.Common.{◌≡◌, ℕ, ◌≤◌, ◌<◌, true, false, l
 use Rattle.net_types.specs.declared.prefix.Addr.{Addr}
 use Rattle.net_types.specs.declared.channel.Channel.{Channel}
 use Rattle.net_types.specs.declared.channel.End.{End}
-use Rattle.flow_ids.specs.Flow.{IsFlow}
+use Rattle.ipv4_packet.specs.Flow.{IsFlow}
 use Rattle.port_facts.specs.Port.{AnyChannel}
 use Rattle.net_types.specs.Label.{number_of_channel}
 use Rattle.net_types.specs.declared.adjacency.Hello.{Hello}
@@ -13,7 +13,7 @@ use Rattle.net_types.specs.declared.adjacency.Peer.{Peer}
 use Rattle.adjacency_table.specs.Side as sides
 use Rattle.adjacency_table.specs.Side.{Side, ticked}
 use Rattle.adjacency_table.specs.Hello.{ifmp_received}
-use Rattle.flow_ids.specs.declared.flow.FlowId.{FlowId}
+use Rattle.ipv4_packet.specs.declared.flow.FlowId.{FlowId}
 use Rattle.link_model.specs.declared.record.Record.TheVariants.{Bind, Free, Join}
 use Rattle.keyed_lists.specs.Keyed.{at}
 use Rattle.port_model.specs.Desk.{Desk}

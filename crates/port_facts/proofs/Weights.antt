@@ -14,8 +14,8 @@ use Rattle.adjacency_table.specs.declared.message.Answer.TheVariants.{Quiet, Sen
 use Rattle.adjacency_table.specs.Side as sides
 use Rattle.adjacency_table.specs.Side.{ticked}
 use Rattle.adjacency_table.specs.Hello.{hello_of, ifmp_answer}
-use Rattle.flow_ids.specs.declared.flow.FlowId.{FlowId}
-use Rattle.flow_ids.specs.Parts.{same_flow}
+use Rattle.ipv4_packet.specs.declared.flow.FlowId.{FlowId}
+use Rattle.ipv4_packet.specs.Parts.{same_flow}
 use Rattle.ifmp_wire.specs.declared.message.Message.TheVariants.{Adjacency}
 use Rattle.gsmp_wire.specs.declared.request.Request.{Request}
 use Rattle.gsmp_wire.specs.declared.request.Request.TheVariants.{AddBranch, MoveBranch, DeleteTree, VerifyTree, DeleteAll, PortManagement, AllPorts}

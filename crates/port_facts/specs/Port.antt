@@ -5,7 +5,7 @@ use Rattle.net_types.specs.declared.node.PortNo.{PortNo}
 use Rattle.net_types.specs.declared.channel.Channel.{Channel}
 use Rattle.net_types.specs.declared.channel.End.{End}
 use Rattle.net_types.specs.Label.{is_label_number}
-use Rattle.flow_ids.specs.Flow.{IsFlow}
+use Rattle.ipv4_packet.specs.Flow.{IsFlow}
 use Rattle.ifmp_wire.specs.Message.{InRange}
 use Rattle.gsmp_wire.specs.declared.request.Request.{Request}
 use Rattle.gsmp_wire.specs.declared.request.Request.TheVariants.{AddBranch, MoveBranch, DeleteTree, DeleteAll, AllPorts}

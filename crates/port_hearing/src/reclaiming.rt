@@ -24,7 +24,7 @@ ghost use Rattle.port_hearing.specs.Joins.{taken_back};
 use crate::hearing::label_by;
 use branch_desk::Desk;
 use flow_classifier::Policy;
-use flow_ids::FlowId;
+use ipv4_packet::FlowId;
 use grant_table::{GrantState, GrantView};
 use label_book::{HeldLabel, HeldState};
 use net_types::{Channel, End, OutOfMemory, label_number};

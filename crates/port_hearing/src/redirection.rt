@@ -1,7 +1,7 @@
 //! *Redirect* (RFC 1953). The refusals and the limits are this project's own.
 
 ghost use Rattle.std.specs.Prelude.{◌≡◌, ◌++◌, ◌∷◌, ◌&&◌, [], ℕ, false, not, Some, IsTrue, IfOk, OnOk};
-ghost use Rattle.flow_ids.specs.declared.flow.FlowId.{FlowId as FlowValue};
+ghost use Rattle.ipv4_packet.specs.declared.flow.FlowId.{FlowId as FlowValue};
 ghost use Rattle.net_types.specs.Label.{is_label_number};
 ghost use Rattle.gsmp_wire.specs.declared.request.Request.TheVariants.{AddBranch};
 ghost use Rattle.port_model.specs.declared.action.Action.TheVariants.{Ask};
@@ -16,7 +16,7 @@ ghost use Rattle.port_saying.specs.Rules.{Ends};
 
 use branch_desk::Desk;
 use flow_classifier::Policy;
-use flow_ids::FlowId;
+use ipv4_packet::FlowId;
 use grant_table::{AcceptFault, Accepted};
 use gsmp_wire::Request;
 use net_types::{Channel, OutOfMemory, label_number};

@@ -16,7 +16,7 @@ ghost use Rattle.port_saying.specs.Unnumbered.{code_number, unnumbered};
 
 use crate::stop::Stop;
 use flow_classifier::Policy;
-use flow_ids::FlowId;
+use ipv4_packet::FlowId;
 use ifmp_wire::Message;
 use net_types::{Channel, Hello, Instance, OutOfMemory, label_channel};
 use port_actions::Actions;

@@ -4,7 +4,7 @@ use Rattle.std.proofs.Common.{◌≡◌, ℕ, suc, zero, Bool, true, false, cond
 use Rattle.std.proofs.lemmas.Bool.{eqb-true}
 use Rattle.net_types.specs.Label.{is_label_number}
 use Rattle.keyed_lists.specs.Keyed.{at, put}
-use Rattle.flow_ids.specs.declared.flow.FlowId.{FlowId}
+use Rattle.ipv4_packet.specs.declared.flow.FlowId.{FlowId}
 use Rattle.grant_table.specs.Table.{AreOfLabels, Table, acceptance_in, told, view_of}
 use Rattle.grant_table.specs.Table as table
 use Rattle.grant_table.specs.declared.table.GrantView.{GrantView}

@@ -7,7 +7,7 @@ use Rattle.net_types.specs.declared.adjacency.Peer.{Peer}
 use Rattle.adjacency_table.specs.declared.message.Answer.{Answer}
 use Rattle.adjacency_table.specs.declared.message.Answer.TheVariants.{Open}
 use Rattle.adjacency_table.specs.Side.{Side}
-use Rattle.flow_ids.specs.declared.flow.FlowId.{FlowId}
+use Rattle.ipv4_packet.specs.declared.flow.FlowId.{FlowId}
 use Rattle.keyed_lists.specs.Keyed.{put, without, entered, key_le}
 use Rattle.label_book.specs.Book.{wiring}
 use Rattle.port_session.specs.Session.{next_number}

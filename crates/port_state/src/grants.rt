@@ -3,7 +3,7 @@
 ghost use Rattle.std.specs.Prelude.{◌≡◌, ◌<◌, ◌≤◌, [], false, option_map, IsTrue, IsSome, IfSome, None, Some, length, slice_get, if◌then◌else◌};
 ghost use Rattle.std.specs.Option.{option_map_or};
 ghost use Rattle.net_types.specs.Label.{is_label_number};
-ghost use Rattle.flow_ids.specs.declared.flow.FlowId.{FlowId as FlowValue};
+ghost use Rattle.ipv4_packet.specs.declared.flow.FlowId.{FlowId as FlowValue};
 ghost use Rattle.grant_table.specs.Table.{AreApart, aged, can_end, can_go_back, is_owed, makes_branch, runs_out, told, view_of};
 ghost use Rattle.keyed_lists.specs.Keyed.{at};
 ghost use Rattle.port_model.specs.Grants as grants;
@@ -15,7 +15,7 @@ ghost use Rattle.port_state.specs.Parts.{accepted, is_new, with_grant, with_gran
 use crate::state::PortState;
 use branch_desk::BranchDone;
 use flow_classifier::Policy;
-use flow_ids::FlowId;
+use ipv4_packet::FlowId;
 use grant_table::{AcceptFault, Accepted, GrantView};
 use net_types::End;
 

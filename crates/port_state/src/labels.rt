@@ -21,7 +21,7 @@ ghost use Rattle.port_state.specs.Parts.{changed_session, numbers_of, with_label
 use crate::state::PortState;
 use branch_desk::BranchDone;
 use flow_classifier::Policy;
-use flow_ids::FlowId;
+use ipv4_packet::FlowId;
 use label_book::{HeldLabel, HeldState};
 use net_types::{Channel, End, OutOfMemory, label_channel};
 use std::mem;

@@ -8,7 +8,7 @@ ghost use Rattle.port_model.specs.Port.{Session as SessionValue};
 ghost use Rattle.port_state.specs.Engine.{AreTimes, IsBookOf, IsPoolOf, IsTableOf};
 
 use flow_classifier::Policy;
-use flow_ids::FlowId;
+use ipv4_packet::FlowId;
 use grant_table::GrantTable;
 use ifmp_adjacency::{Adjacency, State};
 use label_book::LabelBook;

@@ -11,8 +11,8 @@ use Rattle.net_types.specs.Label.{label_number_of}
 use Rattle.adjacency_table.specs.declared.State.{State}
 use Rattle.adjacency_table.specs.declared.State.TheVariants.{Clearing}
 use Rattle.adjacency_table.specs.Side.{is_estab}
-use Rattle.flow_ids.specs.declared.flow.FlowId.{FlowId}
-use Rattle.flow_ids.specs.Parts.{same_flow}
+use Rattle.ipv4_packet.specs.declared.flow.FlowId.{FlowId}
+use Rattle.ipv4_packet.specs.Parts.{same_flow}
 use Rattle.ifmp_wire.specs.declared.message.Message.TheVariants.{Redirect, Reclaim}
 use Rattle.gsmp_wire.specs.declared.request.Request.TheVariants.{AddBranch}
 use Rattle.port_model.specs.Desk.{Desk}

@@ -9,8 +9,8 @@ use Rattle.net_types.specs.declared.number.Instance.{Instance}
 use Rattle.net_types.specs.declared.channel.Channel.{Channel}
 use Rattle.net_types.specs.Label.{label_channel_of, label_number_of, number_of_channel, is_label_channel, is_label_number}
 use Rattle.net_types.proofs.Labels.{number_of_channel-label_channel_of}
-use Rattle.flow_ids.specs.declared.flow.FlowId.{FlowId}
-use Rattle.flow_ids.specs.Parts.{same_flow}
+use Rattle.ipv4_packet.specs.declared.flow.FlowId.{FlowId}
+use Rattle.ipv4_packet.specs.Parts.{same_flow}
 use Rattle.ifmp_wire.specs.declared.message.Message.{Message}
 use Rattle.ifmp_wire.specs.declared.message.Message.TheVariants.{Redirect, Reclaim}
 use Rattle.gsmp_wire.specs.declared.request.Request.TheVariants.{AddBranch}

@@ -9,8 +9,8 @@ use Rattle.net_types.specs.declared.number.Instance.{Instance}
 use Rattle.net_types.specs.declared.channel.Channel.{Channel}
 use Rattle.net_types.specs.declared.channel.End.{End}
 use Rattle.net_types.specs.Label.{label_number_of, is_label_number}
-use Rattle.flow_ids.specs.declared.flow.FlowId.{FlowId}
-use Rattle.flow_ids.specs.Parts.{same_flow}
+use Rattle.ipv4_packet.specs.declared.flow.FlowId.{FlowId}
+use Rattle.ipv4_packet.specs.Parts.{same_flow}
 use Rattle.ifmp_wire.specs.declared.message.Message.TheVariants.{ReclaimAck, LabelRange, Error}
 use Rattle.port_model.specs.Desk.{Desk}
 use Rattle.keyed_lists.specs.Keyed.{put}

@@ -9,8 +9,8 @@ use Rattle.net_types.specs.declared.number.Instance.{Instance}
 use Rattle.net_types.specs.declared.adjacency.Peer.{Peer}
 use Rattle.net_types.specs.Label.{label_channel_of}
 use Rattle.adjacency_table.specs.Side.{Side}
-use Rattle.flow_ids.specs.declared.flow.FlowId.{FlowId}
-use Rattle.flow_ids.specs.Identifier.{FitsFields}
+use Rattle.ipv4_packet.specs.declared.flow.FlowId.{FlowId}
+use Rattle.ipv4_packet.specs.Identifier.{FitsFields}
 use Rattle.ifmp_wire.specs.Message.{FitsMessage}
 use Rattle.ordered_lists.specs.Ordered.{Every}
 use Rattle.keyed_lists.specs.Keyed.{at, put, without}

@@ -20,9 +20,9 @@ use Rattle.adjacency_table.specs.declared.message.Said.{Said}
 use Rattle.adjacency_table.specs.Side.{Side, Step, said, answer_to, answer_of, opened, is_entry, followed, followed_tick, ticked}
 use Rattle.adjacency_table.specs.Table.{Reply, Silent, Says, Resets, Row}
 use Rattle.adjacency_table.specs.Hello.{heard_from, next_in, hello_of, ifmp_answer, ifmp_received}
-use Rattle.flow_ids.specs.declared.flow.FlowId.{FlowId}
-use Rattle.flow_ids.specs.Parts.{same_flow}
-use Rattle.flow_ids.specs.Identifier.{FitsFields}
+use Rattle.ipv4_packet.specs.declared.flow.FlowId.{FlowId}
+use Rattle.ipv4_packet.specs.Parts.{same_flow}
+use Rattle.ipv4_packet.specs.Identifier.{FitsFields}
 use Rattle.gsmp_wire.specs.declared.request.Request.{Request}
 use Rattle.gsmp_wire.specs.declared.request.Request.TheVariants.{AddBranch, MoveBranch, DeleteTree, VerifyTree, DeleteAll, PortManagement, AllPorts}
 use Rattle.ifmp_wire.specs.declared.message.Message.{Message}

@@ -3,7 +3,7 @@
 use Rattle.std.specs.Prelude.{◌<◌, ◌^◌, Option, None, Some}
 use Rattle.std.specs.Option.{option_map_or}
 use Rattle.net_types.specs.declared.adjacency.Peer.{Peer}
-use Rattle.flow_ids.specs.Identifier.{FitsFields}
+use Rattle.ipv4_packet.specs.Identifier.{FitsFields}
 use Rattle.ifmp_wire.specs.Message.{FitsMessage}
 use Rattle.ordered_lists.specs.Ordered.{Every}
 use Rattle.port_model.specs.declared.action.Action.{Action}

@@ -7,8 +7,8 @@
 ghost use Rattle.std.specs.Prelude.{◌≡◌, ℕ, ◌<◌, ◌+◌, ◌^◌, List, Some};
 ghost use Rattle.net_types.specs.declared.prefix.Addr.{Addr};
 ghost use Rattle.net_types.specs.declared.channel.End.{End};
-ghost use Rattle.flow_ids.specs.declared.flow.FlowId.{FlowId};
-ghost use Rattle.flow_ids.specs.Identifier.{FitsFields};
+ghost use Rattle.ipv4_packet.specs.declared.flow.FlowId.{FlowId};
+ghost use Rattle.ipv4_packet.specs.Identifier.{FitsFields};
 ghost use Rattle.gsmp_wire.specs.declared.request.Request.{Request};
 ghost use Rattle.ifmp_wire.specs.declared.message.Message.{Message};
 ghost use Rattle.ifmp_wire.specs.Message.{FitsMessage};

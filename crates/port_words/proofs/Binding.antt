@@ -8,7 +8,7 @@ use Rattle.net_types.specs.declared.node.PortNo.{PortNo}
 use Rattle.net_types.specs.declared.number.Instance.{Instance}
 use Rattle.net_types.specs.Label.{label_channel_of}
 use Rattle.adjacency_table.specs.Side.{is_estab}
-use Rattle.flow_ids.specs.declared.flow.FlowId.{FlowId}
+use Rattle.ipv4_packet.specs.declared.flow.FlowId.{FlowId}
 use Rattle.ifmp_wire.specs.declared.message.Message.TheVariants.{Redirect}
 use Rattle.link_model.specs.declared.record.Record.{Record}
 use Rattle.link_model.specs.declared.record.Record.TheVariants.{Bind}

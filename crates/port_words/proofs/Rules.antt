@@ -12,7 +12,7 @@ use Rattle.net_types.specs.Label.{label_channel_of}
 use Rattle.adjacency_table.specs.Side as sides
 use Rattle.adjacency_table.specs.Side.{ticked}
 use Rattle.adjacency_table.specs.Hello.{heard_from, ifmp_received}
-use Rattle.flow_ids.specs.declared.flow.FlowId.{FlowId}
+use Rattle.ipv4_packet.specs.declared.flow.FlowId.{FlowId}
 use Rattle.gsmp_wire.specs.declared.request.Request.TheVariants.{DeleteTree}
 use Rattle.keyed_lists.specs.Keyed.{at}
 use Rattle.port_model.specs.Desk.{Desk, on_input}

@@ -16,7 +16,7 @@ use Rattle.net_types.specs.Number.{next_control, with_control}
 use Rattle.net_types.specs.Label.{label_channel_of}
 use Rattle.aal5_frames.specs.Frame.{cell_of, cells_with, pdu_of}
 use Rattle.atm_cells.specs.declared.cell.Cell.{Cell}
-use Rattle.flow_ids.specs.declared.flow.FlowId.{FlowId}
+use Rattle.ipv4_packet.specs.declared.flow.FlowId.{FlowId}
 use Rattle.gsmp_wire.specs.Layout.{octets_of as gsmp_octets}
 use Rattle.gsmp_wire.specs.declared.message.Message.{Message as GsmpMessage}
 use Rattle.ifmp_wire.specs.declared.message.Message.{Message as IfmpMessage}

@@ -1,13 +1,13 @@
 -- a flow is read from its identifier
 
 use Rattle.std.proofs.Common.{◌≡◌, ℕ, List, Option, None, Some, refl, ap, sym, ◌∙◌, subst}
-use Rattle.flow_ids.specs.declared.flow.FlowId.{FlowId}
-use Rattle.flow_ids.specs.declared.flow.FlowId.TheVariants.{One, Two}
-use Rattle.flow_ids.specs.declared.flow.FlowKind.{FlowKind}
-use Rattle.flow_ids.specs.declared.identifier.FlowFault.{FlowFault}
-use Rattle.flow_ids.specs.Flow.{kind_of}
-use Rattle.flow_ids.specs.Identifier.{identifier, FitsFields, Identifies, first_fault}
-use Rattle.flow_ids.proofs.IdentifierLemmas.{flow_at-identifier}
+use Rattle.ipv4_packet.specs.declared.flow.FlowId.{FlowId}
+use Rattle.ipv4_packet.specs.declared.flow.FlowId.TheVariants.{One, Two}
+use Rattle.ipv4_packet.specs.declared.flow.FlowKind.{FlowKind}
+use Rattle.ipv4_packet.specs.declared.identifier.FlowFault.{FlowFault}
+use Rattle.ipv4_packet.specs.Flow.{kind_of}
+use Rattle.ipv4_packet.specs.Identifier.{identifier, FitsFields, Identifies, first_fault}
+use Rattle.ipv4_packet.proofs.IdentifierLemmas.{flow_at-identifier}
 use Rattle.record_text.specs.Forms.{flow_at, flow_by}
 
 at_identifier : (flow : FlowId) → FitsFields flow → flow_at (kind_of flow) (identifier flow) ≡ flow

@@ -11,11 +11,11 @@ use Rattle.net_types.specs.declared.node.Place.{Place}
 use Rattle.net_types.specs.declared.node.Place.TheVariants.{Down, Up, Out}
 use Rattle.net_types.specs.declared.number.Mark.{Mark}
 use Rattle.net_types.specs.Label.{is_label_number, label_channel_of}
-use Rattle.flow_ids.specs.declared.flow.FlowId.{FlowId}
-use Rattle.flow_ids.specs.declared.flow.FlowId.TheVariants.{One, Two}
-use Rattle.flow_ids.specs.Flow.{IsFlow}
-use Rattle.flow_ids.specs.Identifier.{identifier, FitsFields}
-use Rattle.flow_ids.proofs.IdentifierLemmas.{flow_at-identifier, first_fault-identifier}
+use Rattle.ipv4_packet.specs.declared.flow.FlowId.{FlowId}
+use Rattle.ipv4_packet.specs.declared.flow.FlowId.TheVariants.{One, Two}
+use Rattle.ipv4_packet.specs.Flow.{IsFlow}
+use Rattle.ipv4_packet.specs.Identifier.{identifier, FitsFields}
+use Rattle.ipv4_packet.proofs.IdentifierLemmas.{flow_at-identifier, first_fault-identifier}
 use Rattle.lab_text.specs.Numeral.{is_number}
 use Rattle.world_model.specs.Topology.{Topology, vpis_of}
 use Rattle.world_model.specs.Lines.{is_linked}

@@ -13,12 +13,12 @@ use Rattle.net_types.specs.declared.node.Place.TheVariants.{Down, Up, Out}
 use Rattle.net_types.specs.declared.number.Mark.{Mark}
 use Rattle.net_types.specs.Label.{label_number_of}
 use Rattle.octet_fields.specs.Fields.{u16_at, u32_at}
-use Rattle.flow_ids.specs.declared.flow.FlowId.{FlowId}
-use Rattle.flow_ids.specs.declared.flow.FlowId.TheVariants.{One, Two}
-use Rattle.flow_ids.specs.declared.flow.FlowKind.{FlowKind}
-use Rattle.flow_ids.specs.declared.flow.FlowKind.TheVariants.{One as ConnectionKind, Two as HostsKind}
-use Rattle.flow_ids.specs.declared.identifier.FlowFault.{FlowFault}
-use Rattle.flow_ids.specs.Identifier.{first_fault}
+use Rattle.ipv4_packet.specs.declared.flow.FlowId.{FlowId}
+use Rattle.ipv4_packet.specs.declared.flow.FlowId.TheVariants.{One, Two}
+use Rattle.ipv4_packet.specs.declared.flow.FlowKind.{FlowKind}
+use Rattle.ipv4_packet.specs.declared.flow.FlowKind.TheVariants.{One as ConnectionKind, Two as HostsKind}
+use Rattle.ipv4_packet.specs.declared.identifier.FlowFault.{FlowFault}
+use Rattle.ipv4_packet.specs.Identifier.{first_fault}
 use Rattle.lab_text.specs.Forms.{number_in, parts}
 use Rattle.lab_text.specs.Numeral.{number, below}
 use Rattle.world_model.specs.Topology.{Topology}

@@ -1,10 +1,10 @@
 //! Which records have a line.
 
 ghost use Rattle.std.specs.Prelude.{◌≡◌, ◌↔◌, IsTrue};
-ghost use Rattle.flow_ids.specs.Flow.{IsFlow};
+ghost use Rattle.ipv4_packet.specs.Flow.{IsFlow};
 ghost use Rattle.script_model.specs.Records.{has_node, has_port, is_label, has_label, has_place, HasLine};
 
-use flow_ids::FlowId;
+use ipv4_packet::FlowId;
 use link_model::Record;
 use net_types::{Channel, NodeId, Place, PortNo, label_number};
 use topology::Topology;

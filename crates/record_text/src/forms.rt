@@ -2,10 +2,10 @@
 
 ghost use Rattle.std.specs.Prelude.{◌≡◌};
 ghost use Rattle.record_text.specs.Forms.{port_of, mark_of, channel_label, label_of, queue_of_port, queue_behind, place_of, flow_by, flow_of};
-ghost use Rattle.flow_ids.specs.Identifier.{first_fault};
+ghost use Rattle.ipv4_packet.specs.Identifier.{first_fault};
 
 use crate::numbers::read_long;
-use flow_ids::{FlowId, FlowKind};
+use ipv4_packet::{FlowId, FlowKind};
 use lab_text::read_number;
 use net_types::{Channel, Mark, NodeId, Place, PortNo, label_number};
 use script_words::{number_in, split_at_sign};
@@ -85,7 +85,7 @@ pub(crate) fn read_place(names: &Topology, word: &[u8]) -> Option<Place>
 fn read_flow_of(kind: FlowKind, octets: &[u8]) -> Option<FlowId>
     ensures { result ≡ flow_by kind octets.now (first_fault kind octets.now) }
 {
-    match flow_ids::read(kind, octets) {
+    match ipv4_packet::read_identifier(kind, octets) {
         Ok(flow) => Some(flow),
         Err(_fault) => None,
     }

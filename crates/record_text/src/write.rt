@@ -8,7 +8,7 @@ ghost use Rattle.script_model.specs.Texts.{name_of, label_text, port_text, mark_
 ghost use Rattle.lab_text.specs.Names.{cause_text};
 ghost use Rattle.value_text.specs.Kept.{GoesOn};
 
-use flow_ids::FlowId;
+use ipv4_packet::FlowId;
 use lab_text::{Text, cause_name, drop_name, layer_name, refusal_name};
 use link_model::{Cause, Layer, Record, Refusal};
 use net_types::{Mark, NodeId, OutOfMemory, Place, PortNo};
@@ -144,7 +144,7 @@ fn write_bind(
     ensures err { OnErr result (GoesOn out.old out.new) }
 {
     let mut identifier = [0; 16];
-    let size = flow_ids::write(flow, &mut identifier);
+    let size = ipv4_packet::write_identifier(flow, &mut identifier);
     write_node(out, "bind", names, node)?;
     write_port_label(out, names, port, vci, " ")?;
     out.hex(&identifier[..size])?;

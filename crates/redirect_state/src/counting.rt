@@ -11,7 +11,7 @@ ghost use Rattle.port_saying.specs.Rules.{begun};
 
 use branch_desk::Desk;
 use flow_classifier::Policy;
-use flow_ids::{FlowId, FlowKind, of_packet};
+use ipv4_packet::{FlowId, FlowKind, of_packet};
 use gsmp_wire::Request;
 use net_types::OutOfMemory;
 use port_actions::Actions;

@@ -12,7 +12,7 @@ ghost use Rattle.redirect_state.specs.Calls.{is_released_by};
 
 use branch_desk::BranchDone;
 use flow_classifier::Policy;
-use flow_ids::FlowId;
+use ipv4_packet::FlowId;
 use grant_table::GrantState;
 use net_types::{OutOfMemory, label_channel};
 use port_actions::Actions;

@@ -28,7 +28,7 @@ use crate::resets::{reset, restart};
 use crate::ticks::tick;
 use branch_desk::{BranchDone, Desk};
 use flow_classifier::Policy;
-use flow_ids::FlowId;
+use ipv4_packet::FlowId;
 use grant_table::GrantTable;
 use ifmp_adjacency::State;
 use ifmp_wire::Message;

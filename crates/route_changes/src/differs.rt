@@ -1,10 +1,10 @@
 //! The route of a flow before and after a change.
 
 ghost use Rattle.std.specs.Prelude.{◌≡◌};
-ghost use Rattle.flow_ids.specs.Parts.{flow_destination};
+ghost use Rattle.ipv4_packet.specs.Parts.{flow_destination};
 ghost use Rattle.world_model.specs.Routes.{differs, same_next};
 
-use flow_ids::FlowId;
+use ipv4_packet::FlowId;
 use ipv4_forward::{Next, RouteChange, Table};
 use net_types::Addr;
 

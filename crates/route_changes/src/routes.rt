@@ -1,14 +1,14 @@
 //! The routes, and the changes that wait.
 
 ghost use Rattle.std.specs.Prelude.{◌≡◌, ◌≢◌, ◌<◌, ◌+◌, ◌^◌, ◌∷◌, ◌++◌, [], List, fold, length, false, slice_get, true, None, OnOk, OnErr};
-ghost use Rattle.flow_ids.specs.Parts.{flow_destination};
+ghost use Rattle.ipv4_packet.specs.Parts.{flow_destination};
 ghost use Rattle.ipv4_forward.specs.Change.{change_fault, changed};
 ghost use Rattle.ipv4_forward.specs.declared.change.RouteChange.{RouteChange as ChangeValue};
 ghost use Rattle.world_model.specs.Routes.{differs};
 ghost use Rattle.route_changes.specs.Routes.{stays};
 
 use crate::differs::{destination_of, differs};
-use flow_ids::FlowId;
+use ipv4_packet::FlowId;
 use ipv4_forward::{RouteChange, Table};
 use net_types::OutOfMemory;
 use std::alloc::Global;

@@ -5,12 +5,12 @@ use Rattle.std.specs.Option.{option_map}
 use Rattle.std.proofs.lemmas.Bool.Decides.{nat_tests}
 use Rattle.ipv4_packet.specs.Packet.{destination_of, fragment_of, protocol_of, source_of, tos_of, ttl_of}
 use Rattle.octet_fields.specs.Fields.{u16_at}
-use Rattle.flow_ids.specs.declared.flow.FlowId.{FlowId}
-use Rattle.flow_ids.specs.declared.flow.FlowId.TheVariants.{One, Two}
-use Rattle.flow_ids.specs.declared.flow.FlowKind.{FlowKind}
-use Rattle.flow_ids.specs.declared.flow.FlowKind.TheVariants as kinds
-use Rattle.flow_ids.specs.Flow.{flow_of, has_ports, kind_of, shows_ports}
-use Rattle.flow_ids.specs.Parts.{same_flow}
+use Rattle.ipv4_packet.specs.declared.flow.FlowId.{FlowId}
+use Rattle.ipv4_packet.specs.declared.flow.FlowId.TheVariants.{One, Two}
+use Rattle.ipv4_packet.specs.declared.flow.FlowKind.{FlowKind}
+use Rattle.ipv4_packet.specs.declared.flow.FlowKind.TheVariants as kinds
+use Rattle.ipv4_packet.specs.Flow.{flow_of, has_ports, kind_of, shows_ports}
+use Rattle.ipv4_packet.specs.Parts.{same_flow}
 use Rattle.flow_encaps.specs.Labelled.{labelled_payload}
 use Rattle.flow_encaps.proofs.CarryLemmas.{length-labelled_connection, length-labelled_hosts}
 use Rattle.port_model.specs.Grants.{Grant, grant_for, grant_label, is_by_controller}

@@ -2,7 +2,7 @@
 
 use branch_desk::{BranchDone, Desk};
 use world_model::PortRange;
-use flow_ids::FlowId;
+use ipv4_packet::FlowId;
 use grant_table::GrantTable;
 use ifmp_wire::Message;
 use label_book::HeldLabel;

@@ -7,7 +7,7 @@ ghost use Rattle.port_model.specs.Port.{label_at};
 use branch_desk::{BranchDone, Desk};
 use world_model::PortRange;
 use flow_classifier::Policy;
-use flow_ids::FlowId;
+use ipv4_packet::FlowId;
 use grant_table::GrantTable;
 use ifmp_wire::Message;
 use label_book::HeldLabel;

@@ -17,7 +17,7 @@ use Rattle.crossbar_model.specs.Channels.{IsLinkPort}
 use Rattle.ipv4_forward.specs.Hop.{hop_of, onward}
 use Rattle.ipv4_forward.specs.declared.outcome.Hop.{Hop}
 use Rattle.ipv4_forward.specs.declared.outcome.Hop.TheVariants.{Here, On, NoRoute, Expired}
-use Rattle.flow_ids.specs.Flow.{kind_of}
+use Rattle.ipv4_packet.specs.Flow.{kind_of}
 use Rattle.flow_encaps.specs.Default.{default_payload}
 use Rattle.flow_encaps.specs.Labelled.{labelled_payload}
 use Rattle.gsmp_wire.specs.declared.fault.Fault.{Fault}

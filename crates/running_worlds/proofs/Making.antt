@@ -15,11 +15,11 @@ use Rattle.ipv4_packet.specs.Packet.{protocol_of, ttl_of, total_length_of, heade
 use Rattle.ipv4_packet.proofs.HeaderLemmas.{IsPacket-with_ttl}
 use Rattle.ipv4_packet.proofs.RouteLemmas.{protocol_of-rerouted, canonical-canonical}
 use Rattle.ipv4_forward.specs.Hop.{onward}
-use Rattle.flow_ids.specs.declared.flow.FlowId.{FlowId}
-use Rattle.flow_ids.specs.declared.flow.FlowKind.{FlowKind}
-use Rattle.flow_ids.specs.declared.flow.FlowKind.TheVariants.{One, Two}
-use Rattle.flow_ids.specs.Flow.{kind_of, flow_of}
-use Rattle.flow_ids.specs.Parts.{same_flow}
+use Rattle.ipv4_packet.specs.declared.flow.FlowId.{FlowId}
+use Rattle.ipv4_packet.specs.declared.flow.FlowKind.{FlowKind}
+use Rattle.ipv4_packet.specs.declared.flow.FlowKind.TheVariants.{One, Two}
+use Rattle.ipv4_packet.specs.Flow.{kind_of, flow_of}
+use Rattle.ipv4_packet.specs.Parts.{same_flow}
 use Rattle.flow_encaps.specs.Labelled.{labelled_payload, Carries}
 use Rattle.flow_encaps.proofs.RebuiltLemmas.{AreOctets-pair}
 use Rattle.link_model.specs.declared.frames.Frame.{Frame}

@@ -9,12 +9,12 @@ use Rattle.net_types.specs.declared.channel.End.{End}
 use Rattle.octet_fields.specs.Fields.{u16_at}
 use Rattle.octet_fields.proofs.FieldLemmas.{AreOctets, u16_at-fits, u32_at-fits}
 use Rattle.ipv4_packet.specs.Packet.{tos_of, ttl_of, protocol_of, source_of, destination_of}
-use Rattle.flow_ids.specs.declared.flow.FlowId.{FlowId}
-use Rattle.flow_ids.specs.declared.flow.FlowId.TheVariants as flows
-use Rattle.flow_ids.specs.declared.flow.FlowKind.{FlowKind}
-use Rattle.flow_ids.specs.declared.flow.FlowKind.TheVariants.{One, Two}
-use Rattle.flow_ids.specs.Flow.{shows_ports, flow_of}
-use Rattle.flow_ids.specs.Identifier.{FitsFields}
+use Rattle.ipv4_packet.specs.declared.flow.FlowId.{FlowId}
+use Rattle.ipv4_packet.specs.declared.flow.FlowId.TheVariants as flows
+use Rattle.ipv4_packet.specs.declared.flow.FlowKind.{FlowKind}
+use Rattle.ipv4_packet.specs.declared.flow.FlowKind.TheVariants.{One, Two}
+use Rattle.ipv4_packet.specs.Flow.{shows_ports, flow_of}
+use Rattle.ipv4_packet.specs.Identifier.{FitsFields}
 use Rattle.ifmp_wire.specs.declared.message.Message.{Message}
 use Rattle.ifmp_wire.specs.Message.{InRange, FitsMessage}
 use Rattle.gsmp_wire.specs.declared.request.Request.{Request}

@@ -6,8 +6,8 @@ use Rattle.net_types.specs.declared.node.PortNo.{PortNo}
 use Rattle.net_types.specs.declared.node.Place.{Place}
 use Rattle.net_types.specs.declared.node.Place.TheVariants.{Down, Up, Out}
 use Rattle.net_types.specs.Label.{is_label_number}
-use Rattle.flow_ids.specs.Flow.{IsFlow}
-use Rattle.flow_ids.specs.Identifier.{identifier}
+use Rattle.ipv4_packet.specs.Flow.{IsFlow}
+use Rattle.ipv4_packet.specs.Identifier.{identifier}
 use Rattle.link_model.specs.declared.record.Record.{Record}
 use Rattle.link_model.specs.declared.record.Record.TheVariants.{Delivered, Dropped, Refused, Loss, Chance, Bad, Opened, Closed, Bind, Free, Join, Part, Forged, Routes}
 use Rattle.lab_text.specs.Names.{cause_text, drop_text, layer_text, refusal_text}

@@ -18,10 +18,10 @@ use Rattle.atm_cells.specs.declared.cell.Cell.{Cell}
 use Rattle.adjacency_table.specs.Side.{is_estab, ticked}
 use Rattle.ipv4_forward.specs.Best.{best}
 use Rattle.ipv4_forward.specs.declared.change.RouteChange.{RouteChange}
-use Rattle.flow_ids.specs.declared.flow.FlowId.{FlowId}
-use Rattle.flow_ids.specs.declared.flow.FlowKind.TheVariants.{One, Two}
-use Rattle.flow_ids.specs.Flow.{flow_of, next_hop_of, kind_of}
-use Rattle.flow_ids.specs.Parts.{flow_destination, same_flow}
+use Rattle.ipv4_packet.specs.declared.flow.FlowId.{FlowId}
+use Rattle.ipv4_packet.specs.declared.flow.FlowKind.TheVariants.{One, Two}
+use Rattle.ipv4_packet.specs.Flow.{flow_of, next_hop_of, kind_of}
+use Rattle.ipv4_packet.specs.Parts.{flow_destination, same_flow}
 use Rattle.gsmp_wire.specs.declared.request.Request.{Request}
 use Rattle.gsmp_wire.specs.declared.request.Request.TheVariants.{AddBranch, MoveBranch, DeleteTree, VerifyTree, DeleteAll, PortManagement, AllPorts}
 use Rattle.gsmp_wire.specs.declared.message.Message.{Message}

@@ -13,7 +13,7 @@ use Rattle.net_types.specs.declared.channel.Channel.{Channel}
 use Rattle.net_types.specs.declared.number.Mark.{Mark}
 use Rattle.net_types.specs.Label.{label_number_of, label_channel_of, number_of_channel, is_label_channel, is_label_number}
 use Rattle.atm_cells.specs.declared.cell.Cell.{Cell}
-use Rattle.flow_ids.specs.declared.flow.FlowId.{FlowId}
+use Rattle.ipv4_packet.specs.declared.flow.FlowId.{FlowId}
 use Rattle.flow_encaps.specs.Unwrapped.{default_unwrapped}
 use Rattle.ipv4_packet.specs.Packet.{protocol_of}
 use Rattle.ifmp_wire.specs.declared.message.Message.{Message}

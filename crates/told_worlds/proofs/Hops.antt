@@ -13,9 +13,9 @@ use Rattle.adjacency_table.specs.declared.State.{State}
 use Rattle.adjacency_table.specs.declared.State.TheVariants.{Clearing, SynSent, SynRcvd, Estab}
 use Rattle.adjacency_table.specs.Side.{is_estab, ticked}
 use Rattle.atm_cells.specs.declared.cell.Cell.{Cell}
-use Rattle.flow_ids.specs.declared.flow.FlowId.{FlowId}
-use Rattle.flow_ids.specs.Flow.{next_hop_of}
-use Rattle.flow_ids.specs.Parts.{flow_destination}
+use Rattle.ipv4_packet.specs.declared.flow.FlowId.{FlowId}
+use Rattle.ipv4_packet.specs.Flow.{next_hop_of}
+use Rattle.ipv4_packet.specs.Parts.{flow_destination}
 use Rattle.gsmp_wire.specs.declared.message.Message.{Message}
 use Rattle.ipv4_forward.specs.Best.{best}
 use Rattle.ipv4_forward.specs.declared.change.RouteChange.{RouteChange}

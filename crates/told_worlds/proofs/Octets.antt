@@ -10,9 +10,9 @@ use Rattle.net_types.specs.declared.number.Instance.{Instance}
 use Rattle.net_types.specs.declared.number.Mark.{Mark}
 use Rattle.net_types.specs.declared.adjacency.HelloKind.{HelloKind}
 use Rattle.net_types.specs.declared.adjacency.HelloKind.TheVariants.{Syn, Synack, Rstack, Ack}
-use Rattle.flow_ids.specs.declared.flow.FlowId.{FlowId}
-use Rattle.flow_ids.specs.Flow.{IsFlow, kind_of}
-use Rattle.flow_ids.specs.Identifier.{FitsFields, identifier}
+use Rattle.ipv4_packet.specs.declared.flow.FlowId.{FlowId}
+use Rattle.ipv4_packet.specs.Flow.{IsFlow, kind_of}
+use Rattle.ipv4_packet.specs.Identifier.{FitsFields, identifier}
 use Rattle.ifmp_wire.specs.declared.message.Message.{Message}
 use Rattle.ifmp_wire.specs.declared.message.Message.TheVariants.{Adjacency, Redirect, Reclaim, ReclaimAck, LabelRange, Error}
 use Rattle.ifmp_wire.specs.Message.{octets_of, names_of, op_code, hello_code, flow_type, flow_words, flow_octets, label_octets, with_checksum, with_names, FitsMessage, InRange}

@@ -10,7 +10,7 @@ use Rattle.net_types.specs.Label.{is_label_number}
 use Rattle.adjacency_table.specs.declared.State.{State}
 use Rattle.adjacency_table.specs.declared.State.TheVariants.{Clearing}
 use Rattle.adjacency_table.specs.Side.{is_estab}
-use Rattle.flow_ids.specs.declared.flow.FlowId.{FlowId}
+use Rattle.ipv4_packet.specs.declared.flow.FlowId.{FlowId}
 use Rattle.ordered_lists.specs.Ordered.{Every, InOrder}
 use Rattle.ordered_lists.proofs.Every.{every_all, every_map, every_mapped, every_unmapped}
 use Rattle.keyed_lists.specs.Keyed.{at}
@@ -19,7 +19,7 @@ use Rattle.port_model.specs.Labels.{Label, LabelState, Wiring, Offered, Recalled
 use Rattle.port_model.specs.Grants.{Grant}
 use Rattle.port_model.specs.Port.{Session, labels_of}
 use Rattle.port_facts.specs.Port.{IsPort, IsLabel, IsBefore, IsGrant, HasFlows}
-use Rattle.flow_ids.specs.Flow.{IsFlow}
+use Rattle.ipv4_packet.specs.Flow.{IsFlow}
 use Rattle.port_facts.proofs.Keyed.{at_every, each_found}
 use Rattle.port_widths.specs.Widths.{FitsLabel}
 use Rattle.world_model.specs.Controller.{Controller, Acted, Linked, linked_at, port_key}

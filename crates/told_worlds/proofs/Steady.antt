@@ -7,8 +7,8 @@ use Rattle.net_types.specs.declared.node.PortNo.{PortNo}
 use Rattle.net_types.specs.declared.channel.End.{End}
 use Rattle.net_types.specs.Label.{label_number_of}
 use Rattle.adjacency_table.specs.Side.{is_estab}
-use Rattle.flow_ids.specs.declared.flow.FlowId.{FlowId}
-use Rattle.flow_ids.specs.Parts.{flow_destination}
+use Rattle.ipv4_packet.specs.declared.flow.FlowId.{FlowId}
+use Rattle.ipv4_packet.specs.Parts.{flow_destination}
 use Rattle.gsmp_wire.specs.declared.request.Request.{Request}
 use Rattle.gsmp_wire.specs.declared.request.Request.TheVariants.{AddBranch, MoveBranch, DeleteTree, VerifyTree, DeleteAll, PortManagement, AllPorts}
 use Rattle.ordered_lists.specs.Ordered.{Every}

@@ -11,8 +11,8 @@ use Rattle.net_types.specs.declared.number.Mark.{Mark}
 use Rattle.net_types.specs.declared.prefix.Addr.{Addr}
 use Rattle.adjacency_table.specs.Greeting.{gsmp_received}
 use Rattle.atm_cells.specs.declared.cell.Cell.{Cell}
-use Rattle.flow_ids.specs.declared.flow.FlowId.{FlowId}
-use Rattle.flow_ids.specs.Parts.{flow_destination}
+use Rattle.ipv4_packet.specs.declared.flow.FlowId.{FlowId}
+use Rattle.ipv4_packet.specs.Parts.{flow_destination}
 use Rattle.flow_encaps.specs.Unwrapped.{default_unwrapped, unwrapped}
 use Rattle.ipv4_forward.specs.Best.{best}
 use Rattle.ipv4_forward.specs.declared.table.Next.{Next}

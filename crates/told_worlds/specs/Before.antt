@@ -5,9 +5,9 @@ use Rattle.net_types.specs.declared.node.NodeId.{NodeId}
 use Rattle.net_types.specs.declared.node.PortNo.{PortNo}
 use Rattle.net_types.specs.declared.node.Place.TheVariants.{Down, Up}
 use Rattle.net_types.specs.declared.prefix.Addr.{Addr}
-use Rattle.flow_ids.specs.declared.flow.FlowId.{FlowId}
-use Rattle.flow_ids.specs.Identifier.{FitsFields}
-use Rattle.flow_ids.specs.Flow.{IsFlow}
+use Rattle.ipv4_packet.specs.declared.flow.FlowId.{FlowId}
+use Rattle.ipv4_packet.specs.Identifier.{FitsFields}
+use Rattle.ipv4_packet.specs.Flow.{IsFlow}
 use Rattle.net_types.specs.Label.{is_label_number}
 use Rattle.port_model.specs.Labels.{Label, Wiring}
 use Rattle.port_model.specs.Port.{Session}

@@ -3,7 +3,7 @@
 use Rattle.std.specs.Prelude.{ℕ, List, Contains}
 use Rattle.net_types.specs.declared.node.NodeId.{NodeId}
 use Rattle.net_types.specs.declared.node.PortNo.{PortNo}
-use Rattle.flow_ids.specs.declared.flow.FlowId.{FlowId}
+use Rattle.ipv4_packet.specs.declared.flow.FlowId.{FlowId}
 use Rattle.link_model.specs.declared.record.Record.TheVariants.{Bind}
 use Rattle.port_model.specs.Setup.{Policy}
 use Rattle.world_model.specs.declared.event.Event.{Event}

@@ -14,7 +14,7 @@ use Rattle.adjacency_table.specs.declared.State.TheVariants.{Clearing, SynSent, 
 use Rattle.adjacency_table.specs.declared.State.{State}
 use Rattle.adjacency_table.specs.Side.{is_estab}
 use Rattle.atm_cells.specs.declared.cell.Cell.{Cell}
-use Rattle.flow_ids.specs.declared.flow.FlowId.{FlowId}
+use Rattle.ipv4_packet.specs.declared.flow.FlowId.{FlowId}
 use Rattle.ordered_lists.specs.Ordered.{Every}
 use Rattle.ordered_lists.proofs.Every.{every_left, every_right}
 use Rattle.keyed_lists.specs.Keyed.{at}

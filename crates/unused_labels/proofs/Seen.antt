@@ -6,7 +6,7 @@ use Rattle.std.specs.Option.{option_map, option_and_then}
 use Rattle.net_types.specs.declared.number.Instance.{Instance}
 use Rattle.net_types.specs.Label.{is_label_number, label_channel_of}
 use Rattle.atm_cells.specs.declared.cell.Cell.{Cell}
-use Rattle.flow_ids.specs.declared.flow.FlowId.{FlowId}
+use Rattle.ipv4_packet.specs.declared.flow.FlowId.{FlowId}
 use Rattle.flow_encaps.specs.Unwrapped.{default_unwrapped}
 use Rattle.ifmp_wire.specs.declared.message.Message.{Message}
 use Rattle.ifmp_wire.specs.declared.message.Message.TheVariants.{Redirect}

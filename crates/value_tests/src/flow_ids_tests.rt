@@ -1,6 +1,6 @@
 //! Flows and identifiers of worked packets.
 
-use flow_ids::*;
+use ipv4_packet::*;
 use net_types::Addr;
 
 /// A datagram from 10.0.1.1, port 5001, to 10.0.3.1, port 5002, with Time To Live 4.
@@ -83,12 +83,12 @@ fn identifiers_of_the_flows(rt: HostRuntime) {
         0x45, 0x00, 0x04, 0x00, 0x0a, 0x00, 0x01, 0x01, 0x0a, 0x00, 0x03, 0x01,
     ];
     let mut out = [0; 16];
-    assert_eq!(rt; write(&CONNECTION, &mut out), 16);
+    assert_eq!(rt; write_identifier(&CONNECTION, &mut out), 16);
     assert_eq!(rt; out, connection);
-    assert_eq!(rt; write(&HOSTS, &mut out), 12);
+    assert_eq!(rt; write_identifier(&HOSTS, &mut out), 12);
     assert_eq!(rt; &out[..12], hosts.as_slice());
-    assert_eq!(rt; read(FlowKind::One, &connection), Ok(CONNECTION));
-    assert_eq!(rt; read(FlowKind::Two, &hosts), Ok(HOSTS));
+    assert_eq!(rt; read_identifier(FlowKind::One, &connection), Ok(CONNECTION));
+    assert_eq!(rt; read_identifier(FlowKind::Two, &hosts), Ok(HOSTS));
 }
 
 /// Each refusal, by octets that pass the tests before it.
@@ -97,7 +97,7 @@ fn identifiers_are_refused_by_cause(rt: HostRuntime) {
     let hosts = [
         0x45, 0x00, 0x04, 0x00, 0x0a, 0x00, 0x01, 0x01, 0x0a, 0x00, 0x03, 0x01,
     ];
-    assert_eq!(rt; read(FlowKind::One, &hosts), Err(FlowFault::Size));
+    assert_eq!(rt; read_identifier(FlowKind::One, &hosts), Err(FlowFault::Size));
     for (place, octet, fault) in [
         (1, 1, FlowFault::Reserved),
         (3, 17, FlowFault::Reserved),
@@ -106,10 +106,10 @@ fn identifiers_are_refused_by_cause(rt: HostRuntime) {
     ] {
         let mut changed = hosts;
         changed[place] = octet;
-        assert_eq!(rt; read(FlowKind::Two, &changed), Err(fault));
+        assert_eq!(rt; read_identifier(FlowKind::Two, &changed), Err(fault));
     }
     let mut connection = [0; 16];
-    assert_eq!(rt; read(FlowKind::One, &connection), Err(FlowFault::Fields));
+    assert_eq!(rt; read_identifier(FlowKind::One, &connection), Err(FlowFault::Fields));
     connection[..4].copy_from_slice(&[0x45, 0, 1, 1]);
-    assert_eq!(rt; read(FlowKind::One, &connection), Err(FlowFault::Fields));
+    assert_eq!(rt; read_identifier(FlowKind::One, &connection), Err(FlowFault::Fields));
 }

@@ -5,12 +5,12 @@ use Rattle.std.specs.Prelude.{nat_le, ◌==◌, if◌then◌else◌}
 use Rattle.std.proofs.lemmas.Nat.{from_be_bytes-to_be_bytes_2, from_be_bytes-to_be_bytes_4}
 use Rattle.net_types.specs.declared.adjacency.HelloKind.{HelloKind}
 use Rattle.net_types.specs.declared.adjacency.HelloKind.TheVariants.{Syn, Synack, Rstack, Ack}
-use Rattle.flow_ids.specs.declared.flow.FlowKind.TheVariants as kinds
-use Rattle.flow_ids.specs.declared.flow.FlowId.{FlowId}
-use Rattle.flow_ids.specs.declared.flow.FlowId.TheVariants.{One, Two}
-use Rattle.flow_ids.specs.Flow.{kind_of}
-use Rattle.flow_ids.specs.Identifier.{identifier, FitsFields}
-use Rattle.flow_ids.proofs.IdentifierLemmas.{flow_at-identifier}
+use Rattle.ipv4_packet.specs.declared.flow.FlowKind.TheVariants as kinds
+use Rattle.ipv4_packet.specs.declared.flow.FlowId.{FlowId}
+use Rattle.ipv4_packet.specs.declared.flow.FlowId.TheVariants.{One, Two}
+use Rattle.ipv4_packet.specs.Flow.{kind_of}
+use Rattle.ipv4_packet.specs.Identifier.{identifier, FitsFields}
+use Rattle.ipv4_packet.proofs.IdentifierLemmas.{flow_at-identifier}
 use Rattle.ifmp_wire.specs.declared.message.Message.{Message}
 use Rattle.ifmp_wire.specs.declared.message.Message.TheVariants.{Adjacency, Redirect, Reclaim, ReclaimAck, LabelRange, Error}
 use Rattle.ifmp_wire.specs.declared.reader.Fault.{Fault}

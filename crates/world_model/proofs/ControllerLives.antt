@@ -6,8 +6,8 @@ use Rattle.net_types.specs.declared.node.PortNo.{PortNo}
 use Rattle.net_types.specs.declared.channel.End.{End}
 use Rattle.ipv4_forward.specs.declared.table.Next.TheVariants.{Local, Via}
 use Rattle.ipv4_forward.specs.declared.table.Route.{Route}
-use Rattle.flow_ids.specs.declared.flow.FlowId.{FlowId}
-use Rattle.flow_ids.specs.declared.flow.FlowId.TheVariants.{One, Two}
+use Rattle.ipv4_packet.specs.declared.flow.FlowId.{FlowId}
+use Rattle.ipv4_packet.specs.declared.flow.FlowId.TheVariants.{One, Two}
 use Rattle.adjacency_table.specs.declared.State.TheVariants.{SynSent, Estab}
 use Rattle.gsmp_wire.specs.declared.request.Request.TheVariants.{DeleteTree, DeleteAll, MoveBranch}
 use Rattle.link_model.specs.Notes.{Journal}

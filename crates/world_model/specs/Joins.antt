@@ -11,9 +11,9 @@ use Rattle.net_types.specs.Label.{number_of_channel}
 use Rattle.ipv4_forward.specs.Best.{best}
 use Rattle.ipv4_forward.specs.declared.table.Next.{Next}
 use Rattle.ipv4_forward.specs.declared.table.Next.TheVariants.{Local, Via}
-use Rattle.flow_ids.specs.declared.flow.FlowId.{FlowId}
-use Rattle.flow_ids.specs.Flow.{next_hop_of}
-use Rattle.flow_ids.specs.Parts.{flow_destination}
+use Rattle.ipv4_packet.specs.declared.flow.FlowId.{FlowId}
+use Rattle.ipv4_packet.specs.Flow.{next_hop_of}
+use Rattle.ipv4_packet.specs.Parts.{flow_destination}
 use Rattle.gsmp_wire.specs.declared.request.Request.{Request}
 use Rattle.gsmp_wire.specs.declared.request.Request.TheVariants.{MoveBranch}
 use Rattle.link_model.specs.declared.record.Record.TheVariants.{Part}

@@ -8,7 +8,7 @@ use Rattle.net_types.specs.Label.{label_channel_of}
 use Rattle.adjacency_table.specs.declared.State.TheVariants.{Clearing, Estab}
 use Rattle.adjacency_table.specs.Side.{Side}
 use Rattle.atm_cells.specs.declared.cell.Cell.{Cell}
-use Rattle.flow_ids.specs.declared.flow.FlowId.{FlowId}
+use Rattle.ipv4_packet.specs.declared.flow.FlowId.{FlowId}
 use Rattle.ifmp_wire.specs.declared.message.Message.TheVariants.{Reclaim, ReclaimAck}
 use Rattle.keyed_lists.specs.Keyed.{at}
 use Rattle.port_model.specs.Setup.{label_end, control_end}

@@ -11,9 +11,9 @@ use Rattle.net_types.specs.declared.adjacency.Peer.{Peer}
 use Rattle.net_types.specs.Label.{label_channel_of, label_number_of}
 use Rattle.adjacency_table.specs.Side.{Side}
 use Rattle.atm_cells.specs.declared.cell.Cell.{Cell}
-use Rattle.flow_ids.specs.declared.flow.FlowId.{FlowId}
-use Rattle.flow_ids.specs.Flow.{next_hop_of}
-use Rattle.flow_ids.specs.Parts.{flow_destination}
+use Rattle.ipv4_packet.specs.declared.flow.FlowId.{FlowId}
+use Rattle.ipv4_packet.specs.Flow.{next_hop_of}
+use Rattle.ipv4_packet.specs.Parts.{flow_destination}
 use Rattle.flow_encaps.specs.Labelled.{Carries}
 use Rattle.gsmp_wire.specs.declared.request.Request.{Request}
 use Rattle.gsmp_wire.specs.declared.request.Request.TheVariants.{AddBranch, MoveBranch}

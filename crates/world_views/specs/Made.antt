@@ -3,7 +3,7 @@
 use Rattle.std.specs.Prelude.{◌≡◌, ◌≢◌, ℕ, ◌<◌, ◌^◌, List, Some, None}
 use Rattle.net_types.specs.declared.number.Mark.{Mark}
 use Rattle.net_types.specs.declared.prefix.Addr.{Addr}
-use Rattle.flow_ids.specs.declared.flow.FlowId.{FlowId}
+use Rattle.ipv4_packet.specs.declared.flow.FlowId.{FlowId}
 use Rattle.flow_encaps.specs.Default.{default_payload}
 use Rattle.flow_encaps.specs.Labelled.{Carries}
 use Rattle.ifmp_wire.specs.declared.message.Message.{Message as IfmpMessage}

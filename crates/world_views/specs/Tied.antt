@@ -13,7 +13,7 @@ use Rattle.net_types.specs.Label.{label_channel_of}
 use Rattle.adjacency_table.specs.declared.State.TheVariants.{Clearing}
 use Rattle.adjacency_table.specs.Side.{Side}
 use Rattle.atm_cells.specs.declared.cell.Cell.{Cell}
-use Rattle.flow_ids.specs.declared.flow.FlowId.{FlowId}
+use Rattle.ipv4_packet.specs.declared.flow.FlowId.{FlowId}
 use Rattle.ifmp_wire.specs.declared.message.Message.{Message}
 use Rattle.ifmp_wire.specs.declared.message.Message.TheVariants.{Adjacency, Redirect}
 use Rattle.ifmp_wire.specs.Message.{names_of}

@@ -3,7 +3,7 @@ use Rattle.std.specs.Prelude.{IsSome}
 use Rattle.std.specs.Option.{option_and_then}
 use Rattle.std.specs.Result.{result_err}
 use Rattle.std.proofs.lemmas.Result.{on_ok_weaker}
-use Rattle.flow_ids.specs.declared.flow.FlowId.{FlowId}
+use Rattle.ipv4_packet.specs.declared.flow.FlowId.{FlowId}
 use Rattle.flow_encaps.specs.Labelled.{Carries, unwrap_fault}
 use Rattle.link_model.specs.declared.record.Layer.TheVariants.{Encaps}
 use Rattle.link_model.specs.declared.record.Record.TheVariants.{Bad}

@@ -1,6 +1,6 @@
 use Rattle.std.proofs.Common.{◌≡◌, ◌≢◌, ℕ, ◌+◌, take, ap, sym, ◌∙◌, subst}
-use Rattle.flow_ids.specs.declared.flow.FlowKind.{FlowKind}
-use Rattle.flow_ids.specs.Flow.{kind_of}
+use Rattle.ipv4_packet.specs.declared.flow.FlowKind.{FlowKind}
+use Rattle.ipv4_packet.specs.Flow.{kind_of}
 use Rattle.flow_encaps.specs.Labelled.{rebuilt, head_size, left_out, said_checksum, checksum_at_ttl_zero, HasLayout}
 use Rattle.flow_encaps.proofs.RebuiltLemmas.{long-rebuilt, checksum_at_ttl_zero-front, layout_fault-passed, unwrap_fault-checksum, unwrap_fault-none}
 use Rattle.flow_encaps.proofs.AnswerLemmas.{packet-joined}

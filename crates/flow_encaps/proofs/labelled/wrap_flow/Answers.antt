@@ -1,7 +1,7 @@
 use Rattle.std.proofs.Common.{◌≡◌, ◌≤◌, length, Some, sym, ◌∙◌, subst, arith}
-use Rattle.flow_ids.specs.declared.flow.FlowKind.{FlowKind}
-use Rattle.flow_ids.specs.declared.flow.FlowKind.TheVariants.{One, Two}
-use Rattle.flow_ids.specs.Flow.{kind_of, flow_of}
+use Rattle.ipv4_packet.specs.declared.flow.FlowKind.{FlowKind}
+use Rattle.ipv4_packet.specs.declared.flow.FlowKind.TheVariants.{One, Two}
+use Rattle.ipv4_packet.specs.Flow.{kind_of, flow_of}
 use Rattle.flow_encaps.specs.Labelled.{labelled_payload}
 use Rattle.flow_encaps.proofs.CarryLemmas.{length-of_connection, length-labelled_connection, length-labelled_hosts}
 use Rattle.flow_encaps.proofs.labelled.wrap_flow.Goals as goal

@@ -1,8 +1,8 @@
 use Rattle.std.proofs.Common.{◌≡◌, ◌∷◌, ◌++◌, drop, refl, ap, ◌∙◌}
 use Rattle.std.specs.Int.{w16, to_be_bytes}
-use Rattle.flow_ids.specs.declared.flow.FlowKind.{FlowKind}
-use Rattle.flow_ids.specs.Flow.{kind_of}
-use Rattle.flow_ids.specs.Identifier.{identifier}
+use Rattle.ipv4_packet.specs.declared.flow.FlowKind.{FlowKind}
+use Rattle.ipv4_packet.specs.Flow.{kind_of}
+use Rattle.ipv4_packet.specs.Identifier.{identifier}
 use Rattle.octet_fields.specs.Fields.{written}
 use Rattle.ifmp_wire.specs.Message.{label_octets, flow_type, flow_words}
 use Rattle.ifmp_wire.proofs.WriteLemmas.{written-behind}

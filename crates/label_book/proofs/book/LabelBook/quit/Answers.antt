@@ -1,5 +1,5 @@
 use Rattle.std.proofs.Common.{◌≡◌, ◌∙◌, sym, ap, subst}
-use Rattle.flow_ids.specs.declared.flow.FlowId.{FlowId}
+use Rattle.ipv4_packet.specs.declared.flow.FlowId.{FlowId}
 use Rattle.port_model.specs.Labels.{Label, Wired, serves}
 use Rattle.label_book.specs.Held.{flow_in, shown, state_in}
 use Rattle.label_book.specs.Index.{IsRemoved}

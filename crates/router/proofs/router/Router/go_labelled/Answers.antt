@@ -1,7 +1,7 @@
 use Rattle.std.proofs.Common.{◌≡◌, ◌++◌, ℕ, List, length, take, ap, sym, ◌∙◌, arith}
 use Rattle.std.proofs.lemmas.Result.{on_ok_weaker}
 use Rattle.ipv4_packet.proofs.MessageLemmas.{take-front}
-use Rattle.flow_ids.specs.Flow.{kind_of}
+use Rattle.ipv4_packet.specs.Flow.{kind_of}
 use Rattle.flow_encaps.specs.Labelled.{labelled_payload}
 use Rattle.port_model.specs.Setup.{control_end, home_of}
 use Rattle.world_model.specs.Sending.{sends}

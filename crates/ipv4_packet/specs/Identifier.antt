@@ -3,13 +3,13 @@
 
 use Rattle.std.specs.Prelude.{◌≡◌, ℕ, ◌^◌, ◌<◌, ◌==◌, ◌&&◌, nat_lt, not, Bool, true, List, ◌∷◌, ◌++◌, length, slice_index, Option, Some, None, if◌then◌else◌}
 use Rattle.std.specs.Int.{w16, w32, to_be_bytes}
-use Rattle.flow_ids.specs.declared.flow.FlowKind.{FlowKind}
-use Rattle.flow_ids.specs.declared.flow.FlowKind.TheVariants.{One as ConnectionKind, Two as HostsKind}
-use Rattle.flow_ids.specs.declared.flow.FlowId.{FlowId}
-use Rattle.flow_ids.specs.declared.flow.FlowId.TheVariants.{One, Two}
-use Rattle.flow_ids.specs.declared.identifier.FlowFault.{FlowFault}
-use Rattle.flow_ids.specs.declared.identifier.FlowFault.TheVariants.{Size, Reserved, Fields}
-use Rattle.flow_ids.specs.Flow.{kind_of, has_ports, IsFlow}
+use Rattle.ipv4_packet.specs.declared.flow.FlowKind.{FlowKind}
+use Rattle.ipv4_packet.specs.declared.flow.FlowKind.TheVariants.{One as ConnectionKind, Two as HostsKind}
+use Rattle.ipv4_packet.specs.declared.flow.FlowId.{FlowId}
+use Rattle.ipv4_packet.specs.declared.flow.FlowId.TheVariants.{One, Two}
+use Rattle.ipv4_packet.specs.declared.identifier.FlowFault.{FlowFault}
+use Rattle.ipv4_packet.specs.declared.identifier.FlowFault.TheVariants.{Size, Reserved, Fields}
+use Rattle.ipv4_packet.specs.Flow.{kind_of, has_ports, IsFlow}
 
 -- version and header length, TOS, TTL, protocol, source, destination and ports, or zeros in place of
 -- TOS and protocol and no ports

@@ -2,9 +2,9 @@
 
 ghost use Rattle.std.specs.Prelude.{◌≡◌, ◌-◌, ◌<◌, List, ℕ, Some};
 ghost use Rattle.ipv4_packet.specs.Packet.{IsPacket, ttl_of, with_ttl, canonical};
-ghost use Rattle.flow_ids.specs.declared.flow.FlowId.{FlowId};
-ghost use Rattle.flow_ids.specs.declared.flow.FlowKind.{FlowKind};
-ghost use Rattle.flow_ids.specs.Flow.{flow_of, next_hop_of};
+ghost use Rattle.ipv4_packet.specs.declared.flow.FlowId.{FlowId};
+ghost use Rattle.ipv4_packet.specs.declared.flow.FlowKind.{FlowKind};
+ghost use Rattle.ipv4_packet.specs.Flow.{flow_of, next_hop_of};
 
 /// A router's packets keep their flow: the packet that goes on is of the flow one hop further.
 pub fn flow_keeps_over_a_hop()

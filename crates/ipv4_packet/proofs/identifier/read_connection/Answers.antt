@@ -1,8 +1,8 @@
 use Rattle.std.proofs.Common.{◌≡◌, ◌<◌, IsTrue, get_or, arith}
 use Rattle.std.proofs.lemmas.Bool.Decides.{nat_tests}
-use Rattle.flow_ids.specs.Flow.{has_ports}
-use Rattle.flow_ids.proofs.IdentifierLemmas.{identifies_connection}
-use Rattle.flow_ids.proofs.identifier.read_connection.Goals as goal
+use Rattle.ipv4_packet.specs.Flow.{has_ports}
+use Rattle.ipv4_packet.proofs.IdentifierLemmas.{identifies_connection}
+use Rattle.ipv4_packet.proofs.identifier.read_connection.Goals as goal
 
 pub returns-clause-found : goal.returns-clause-found
 returns-clause-found c =

@@ -7,11 +7,11 @@ use Rattle.std.proofs.lemmas.Bool.Decides.{nat_tests}
 use Rattle.octet_fields.specs.Fields.{u16_at}
 use Rattle.ipv4_packet.specs.Packet.{tos_of, ttl_of, protocol_of, source_of, destination_of, with_ttl, canonical, IsPacket}
 use Rattle.ipv4_packet.proofs.HeaderLemmas.{on_header}
-use Rattle.flow_ids.specs.declared.flow.FlowKind.{FlowKind}
-use Rattle.flow_ids.specs.declared.flow.FlowKind.TheVariants.{One as ConnectionKind, Two as HostsKind}
-use Rattle.flow_ids.specs.declared.flow.FlowId.{FlowId}
-use Rattle.flow_ids.specs.declared.flow.FlowId.TheVariants.{One, Two}
-use Rattle.flow_ids.specs.Flow.{shows_ports, flow_of, next_hop_of}
+use Rattle.ipv4_packet.specs.declared.flow.FlowKind.{FlowKind}
+use Rattle.ipv4_packet.specs.declared.flow.FlowKind.TheVariants.{One as ConnectionKind, Two as HostsKind}
+use Rattle.ipv4_packet.specs.declared.flow.FlowId.{FlowId}
+use Rattle.ipv4_packet.specs.declared.flow.FlowId.TheVariants.{One, Two}
+use Rattle.ipv4_packet.specs.Flow.{shows_ports, flow_of, next_hop_of}
 
 connection_hop : (shows : Bool) (tos ttl protocol : ℕ) (source destination : Addr) (source_port destination_port : ℕ) (flow : FlowId) → 1 < ttl
     → cond (not (eqb ttl 0) && shows) (Some (One tos ttl protocol source destination source_port destination_port)) None ≡ Some flow

@@ -1,6 +1,6 @@
 use Rattle.std.proofs.Common.{◌<◌, get_or, arith}
-use Rattle.flow_ids.proofs.IdentifierLemmas.{identifies_hosts}
-use Rattle.flow_ids.proofs.identifier.read_hosts.Goals as goal
+use Rattle.ipv4_packet.proofs.IdentifierLemmas.{identifies_hosts}
+use Rattle.ipv4_packet.proofs.identifier.read_hosts.Goals as goal
 
 pub returns-clause-found : goal.returns-clause-found
 returns-clause-found c =

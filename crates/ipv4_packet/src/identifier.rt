@@ -13,7 +13,7 @@
 
 ghost use Rattle.std.specs.Prelude.{◌≡◌, ◌↔◌, ◌≤◌, ◌++◌, length, drop, Ok, IfOk};
 ghost use Rattle.std.specs.Result.{result_err};
-ghost use Rattle.flow_ids.specs.Identifier.{identifier, Identifies, first_fault};
+ghost use Rattle.ipv4_packet.specs.Identifier.{identifier, Identifies, first_fault};
 
 use crate::flow::{FlowId, FlowKind, has_ports};
 use net_types::Addr;
@@ -36,7 +36,7 @@ pub enum FlowFault {
 
 /// Writes the flow's identifier to the front of `out` and gives its length in octets: 16 for type
 /// 1, 12 for type 2.
-pub fn write(flow: &FlowId, out: &mut [u8]) -> usize
+pub fn write_identifier(flow: &FlowId, out: &mut [u8]) -> usize
     requires { length (identifier flow.now) ≤ length out.old }
     ensures written { out.new ≡ identifier flow.now ++ drop result out.old }
     ensures len { result ≡ length (identifier flow.now) }
@@ -73,7 +73,7 @@ pub fn write(flow: &FlowId, out: &mut [u8]) -> usize
 
 /// The flow of this kind that the octets identify. Refuses, by the first test that fails: `Size`,
 /// `Reserved`, `Fields`.
-pub fn read(kind: FlowKind, octets: &[u8]) -> Result<FlowId, FlowFault>
+pub fn read_identifier(kind: FlowKind, octets: &[u8]) -> Result<FlowId, FlowFault>
     ensures ok { (flow : FlowId) → (result ≡ Ok flow) ↔ Identifies kind octets.now flow }
     ensures fault { result_err result ≡ first_fault kind octets.now }
 {

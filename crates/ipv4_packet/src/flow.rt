@@ -2,9 +2,9 @@
 
 ghost use Rattle.std.specs.Prelude.{◌≡◌, ◌↔◌, IsTrue, Some};
 ghost use Rattle.ipv4_packet.specs.Packet.{IsPacket};
-ghost use Rattle.flow_ids.specs.Flow.{kind_of, flow_ttl, at_ttl as with_ttl, flow_of, has_ports as shows, next_hop_of};
+ghost use Rattle.ipv4_packet.specs.Flow.{kind_of, flow_ttl, at_ttl as with_ttl, flow_of, has_ports as shows, next_hop_of};
 
-use ipv4_packet::{destination, fragment, protocol, source, tos, ttl};
+use crate::{destination, fragment, protocol, source, tos, ttl};
 use net_types::Addr;
 use octet_fields::u16_at;
 

@@ -2,8 +2,8 @@
 
 use Rattle.std.specs.Prelude.{Bool, false, ◌&&◌, ◌==◌}
 use Rattle.net_types.specs.declared.prefix.Addr.{Addr}
-use Rattle.flow_ids.specs.declared.flow.FlowId.{FlowId}
-use Rattle.flow_ids.specs.declared.flow.FlowId.TheVariants.{One, Two}
+use Rattle.ipv4_packet.specs.declared.flow.FlowId.{FlowId}
+use Rattle.ipv4_packet.specs.declared.flow.FlowId.TheVariants.{One, Two}
 
 abbrev pub flow_destination : FlowId → Addr
 flow_destination (One tos ttl protocol source destination source_port destination_port) = destination

@@ -8,13 +8,13 @@ use Rattle.std.proofs.lemmas.Nat.{from_be_bytes-to_be_bytes_2, from_be_bytes-to_
 use Rattle.std.proofs.lemmas.Bool.Decides.{nat_tests}
 use Rattle.octet_fields.specs.Fields.{u16_at, u32_at}
 use Rattle.octet_fields.proofs.FieldLemmas.{AreOctets, octet-then, u16-then, u32-then, nothing-then, u16_at-fits, u32_at-fits}
-use Rattle.flow_ids.specs.declared.flow.FlowKind.{FlowKind}
-use Rattle.flow_ids.specs.declared.flow.FlowKind.TheVariants.{One as ConnectionKind, Two as HostsKind}
-use Rattle.flow_ids.specs.declared.flow.FlowId.{FlowId}
-use Rattle.flow_ids.specs.declared.flow.FlowId.TheVariants.{One, Two}
-use Rattle.flow_ids.specs.declared.identifier.FlowFault.{FlowFault}
-use Rattle.flow_ids.specs.Flow.{kind_of, has_ports, IsFlow}
-use Rattle.flow_ids.specs.Identifier.{identifier, FitsFields, Identifies, first_fault}
+use Rattle.ipv4_packet.specs.declared.flow.FlowKind.{FlowKind}
+use Rattle.ipv4_packet.specs.declared.flow.FlowKind.TheVariants.{One as ConnectionKind, Two as HostsKind}
+use Rattle.ipv4_packet.specs.declared.flow.FlowId.{FlowId}
+use Rattle.ipv4_packet.specs.declared.flow.FlowId.TheVariants.{One, Two}
+use Rattle.ipv4_packet.specs.declared.identifier.FlowFault.{FlowFault}
+use Rattle.ipv4_packet.specs.Flow.{kind_of, has_ports, IsFlow}
+use Rattle.ipv4_packet.specs.Identifier.{identifier, FitsFields, Identifies, first_fault}
 
 -- the flow whose fields stand in these octets
 abbrev pub flow_at : FlowKind → List ℕ → FlowId

@@ -1,5 +1,0 @@
-use Rattle.flow_ids.proofs.HopLemmas.{next_hop_of-flow_of}
-use Rattle.flow_ids.proofs.laws.flow_keeps_over_a_hop.Goals as goal
-
-pub returns : goal.returns
-returns c = next_hop_of-flow_of
