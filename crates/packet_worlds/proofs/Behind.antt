@@ -17,7 +17,7 @@ use Rattle.link_model.specs.Ledger.{payload_of}
 use Rattle.link_model.specs.declared.record.Record.{Record}
 use Rattle.link_model.specs.declared.record.Record.TheVariants.{Delivered, Dropped, Bind}
 use Rattle.ordered_lists.specs.Ordered.{Every}
-use Rattle.plain_laws.proofs.Lists.{count_by-append}
+use Rattle.packet_worlds.proofs.Lists.{count_by-append}
 use Rattle.port_model.specs.Setup.{Policy}
 use Rattle.run_model.specs.Fates.{Fate, IsDelivered, IsDropped, is_fate_of, has_loss_of}
 use Rattle.world_model.specs.Controller.{default_channel}

@@ -12,7 +12,7 @@ use Rattle.link_model.specs.declared.record.Record.TheVariants.{Bind}
 use Rattle.net_types.specs.declared.node.NodeId.{NodeId}
 use Rattle.net_types.specs.declared.node.PortNo.{PortNo}
 use Rattle.ordered_lists.specs.Ordered.{Every}
-use Rattle.plain_laws.proofs.Lists.{or_left, or_right, count_by-skip}
+use Rattle.packet_worlds.proofs.Lists.{or_left, or_right, count_by-skip}
 use Rattle.world_model.specs.declared.link.LinkEnd.{LinkEnd}
 use Rattle.world_model.specs.Past.{bound_by, last_bound}
 use Rattle.world_model.specs.Headline.{is_bind}

@@ -12,7 +12,7 @@ use Rattle.aal5_frames.proofs.Cells.{cells_all, length-pdu_of}
 use Rattle.frame_model.specs.Frame.{frame_cells}
 use Rattle.ordered_lists.specs.Ordered.{Every}
 use Rattle.ordered_lists.proofs.Every.{every_join}
-use Rattle.plain_laws.proofs.Lists.{count_by-append, count_by-cons, count_by-skip}
+use Rattle.packet_worlds.proofs.Lists.{count_by-append, count_by-cons, count_by-skip}
 use Rattle.world_views.specs.Marks.{ends, ends_in}
 
 -- one where the numbers are the same, and else nothing

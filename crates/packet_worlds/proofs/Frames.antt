@@ -15,7 +15,7 @@ use Rattle.link_model.specs.Notes.{noted}
 use Rattle.frame_model.specs.Frame.{made, next_mark, frame_cells}
 use Rattle.ordered_lists.specs.Ordered.{Every}
 use Rattle.ordered_lists.proofs.Every.{every_join}
-use Rattle.plain_laws.proofs.Lists.{count_by-append}
+use Rattle.packet_worlds.proofs.Lists.{count_by-append}
 use Rattle.world_views.specs.Marks.{heading_at, IsNewest, Means, ends, ends_in}
 use Rattle.packet_worlds.proofs.Ledger.{payload_new, none_stays, other_packet, other_frame, own_entry, entered}
 use Rattle.packet_worlds.proofs.Cut.{one, IsCut, frame_is_cut, count_frame}

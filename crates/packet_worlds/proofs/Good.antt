@@ -19,7 +19,7 @@ use Rattle.frame_model.specs.Reassembly.{Reassembly, broken, noted_all, distinct
 use Rattle.frame_model.specs.Frame.{made}
 use Rattle.ordered_lists.specs.Ordered.{Every}
 use Rattle.ordered_lists.proofs.Every.{every_join, every_map2}
-use Rattle.plain_laws.proofs.Lists.{if_cases, count_by-append, none_front}
+use Rattle.packet_worlds.proofs.Lists.{if_cases, count_by-append, none_front}
 use Rattle.run_model.specs.Fates.{IsDelivered, IsDropped, is_fate_of, has_loss_of}
 use Rattle.world_model.specs.Places.{same_queue}
 use Rattle.world_model.specs.Conditions.{IsPlace}

@@ -11,7 +11,7 @@ use Rattle.octet_fields.proofs.FieldLemmas.{AreOctets, AreOctets-take, AreOctets
 use Rattle.flow_encaps.proofs.RebuiltLemmas.{AreOctets-pair}
 use Rattle.ipv4_packet.proofs.HeaderLemmas.{IsPacket-with_ttl}
 use Rattle.ipv4_packet.proofs.RouteLemmas.{canonical-canonical, protocol_of-rerouted}
-use Rattle.plain_laws.proofs.Packets.{fault_onward}
+use Rattle.packet_worlds.proofs.Onward.{fault_onward}
 use Rattle.link_model.specs.declared.record.Refusal.{Refusal}
 use Rattle.link_model.specs.declared.record.Refusal.TheVariants.{ControlProtocol}
 use Rattle.world_model.specs.Packets.{control_protocol, refused_by, inject_refusal}

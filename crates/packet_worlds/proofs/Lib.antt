@@ -1,3 +1,5 @@
+pub mod Lists
+pub mod Onward
 pub mod Hops
 pub mod Quiet
 pub mod Walk

@@ -12,7 +12,7 @@ use Rattle.link_model.specs.declared.frames.Frame.{Frame}
 use Rattle.link_model.specs.Ledger.{payload_of}
 use Rattle.ordered_lists.specs.Ordered.{Every}
 use Rattle.ordered_lists.proofs.Every.{every_join, every_map}
-use Rattle.plain_laws.proofs.Lists.{none_passes}
+use Rattle.packet_worlds.proofs.Lists.{none_passes}
 use Rattle.world_model.specs.Controller.{default_channel}
 use Rattle.world_model.specs.Cells.{same_channel}
 use Rattle.world_model.specs.declared.link.LinkEnd.{LinkEnd}

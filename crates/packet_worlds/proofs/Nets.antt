@@ -14,7 +14,7 @@ use Rattle.net_types.specs.Number.{next_control}
 use Rattle.atm_cells.specs.declared.cell.Cell.{Cell}
 use Rattle.keyed_lists.specs.Keyed.{at, put}
 use Rattle.port_facts.proofs.Keyed.{at_key, on_both}
-use Rattle.plain_laws.proofs.Lists.{any_back}
+use Rattle.packet_worlds.proofs.Lists.{any_back}
 use Rattle.crossbar_model.specs.Channels.{ArePorts}
 use Rattle.link_model.specs.declared.record.Record.TheVariants.{Loss}
 use Rattle.link_model.specs.declared.record.Cause.TheVariants.{PoolFull}

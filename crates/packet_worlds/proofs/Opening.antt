@@ -10,7 +10,7 @@ use Rattle.net_types.specs.declared.node.Place.TheVariants.{Down, Up, Out}
 use Rattle.atm_cells.specs.declared.cell.Cell.{Cell}
 use Rattle.ordered_lists.specs.Ordered.{Every}
 use Rattle.ordered_lists.proofs.Every.{every_join}
-use Rattle.plain_laws.proofs.Lists.{each_replicate}
+use Rattle.packet_worlds.proofs.Lists.{each_replicate}
 use Rattle.link_model.specs.Notes.{Journal}
 use Rattle.link_model.specs.Ledger.{payload_of}
 use Rattle.port_facts.proofs.Keyed.{at_every}

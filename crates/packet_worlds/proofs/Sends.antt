@@ -38,7 +38,7 @@ use Rattle.link_model.specs.Ledger.{payload_of}
 use Rattle.link_model.specs.Notes.{noted}
 use Rattle.frame_model.specs.Frame.{made, next_mark, frame_cells}
 use Rattle.frame_model.specs.Sending.{Sent}
-use Rattle.plain_laws.proofs.Lists.{if_cases}
+use Rattle.packet_worlds.proofs.Lists.{if_cases}
 use Rattle.port_model.specs.Setup.{control_end}
 use Rattle.port_model.specs.Grants.{Grant, is_by_controller, grant_for, grant_of_kind, grant_matching}
 use Rattle.port_facts.proofs.Found.{find_every}

@@ -38,7 +38,7 @@ use Rattle.frame_model.specs.Frame.{made, frame_cells, tested_by, passed as pass
 use Rattle.frame_model.specs.Reassembly.{Reassembly, Taken, broken, marks_of, distinct, noted_all, cut}
 use Rattle.frame_model.specs.Sending.{Sent}
 use Rattle.ordered_lists.proofs.Every.{every_join}
-use Rattle.plain_laws.proofs.Lists.{if_cases, count_by-append}
+use Rattle.packet_worlds.proofs.Lists.{if_cases, count_by-append}
 use Rattle.port_facts.proofs.Keyed.{on_both}
 use Rattle.world_model.specs.declared.request.Asked.{Asked}
 use Rattle.world_model.specs.declared.request.Failure.{Failure}

@@ -31,7 +31,7 @@ use Rattle.link_model.specs.Notes.{Journal, noted}
 use Rattle.refusal_names.specs.Names.{packet_refusal}
 use Rattle.frame_model.specs.Reassembly.{Reassembly, Taken, taken, passed_over, without_slot, too_long, most_cells, broken}
 use Rattle.frame_model.specs.Frame.{tested, passed}
-use Rattle.plain_laws.proofs.Lists.{if_cases, none_front, any_back}
+use Rattle.packet_worlds.proofs.Lists.{if_cases, none_front, any_back}
 use Rattle.wire_laws.proofs.Packets.{protocol_is}
 use Rattle.port_model.specs.Labels.{Label, is_bound}
 use Rattle.port_model.specs.Port.{label_at}

@@ -20,7 +20,7 @@ use Rattle.link_model.specs.Notes.{losses_of}
 use Rattle.ordered_lists.specs.Ordered.{Every}
 use Rattle.ordered_lists.proofs.Every.{every_join}
 use Rattle.keyed_lists.specs.Keyed.{at, put}
-use Rattle.plain_laws.proofs.Lists.{count_by-append, count_by-cons, count_by-skip, none_front}
+use Rattle.packet_worlds.proofs.Lists.{count_by-append, count_by-cons, count_by-skip, none_front}
 use Rattle.port_facts.proofs.Keyed.{at_key}
 use Rattle.run_model.specs.Fates.{is_fate_of}
 use Rattle.crossbar_model.specs.Crossbar.{output_of}

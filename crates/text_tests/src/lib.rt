@@ -12,8 +12,6 @@ mod lab_io_transfer_tests;
 #[cfg(test)]
 mod line_text_tests;
 #[cfg(test)]
-mod plain_replay_tests;
-#[cfg(test)]
 mod record_text_tests;
 #[cfg(test)]
 mod script_text_tests;

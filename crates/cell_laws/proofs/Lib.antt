@@ -1,9 +1,0 @@
-mod Lookups
-mod Pieces
-mod Frames
-mod Pipes
-mod Worlds
-mod Adds
-mod Passing
-mod Takes
-mod Runs

@@ -1,2 +1,0 @@
-pub mod Topology
-pub mod Network

@@ -1,3 +1,0 @@
-pub mod Frames
-pub mod Networks
-pub mod Traffic
