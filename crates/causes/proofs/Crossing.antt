@@ -31,7 +31,7 @@ use Rattle.world_model.specs.Run.{put_away}
 use Rattle.world_model.specs.Stretches.{Taker, cell_for, arrival}
 use Rattle.world_model.proofs.Lists.{length_set}
 use Rattle.port_facts.proofs.Keyed.{by_eq}
-use Rattle.run_model.specs.Causes.{is_broken}
+use Rattle.world_model.specs.Beside.{is_broken}
 use Rattle.cell_lists.proofs.Real.{IsReal, real_over}
 use Rattle.causes.specs.Feeding.{IsLed, branch_at}
 use Rattle.causes.proofs.Spots.{Spot, same_spot, yields, home, up, out}

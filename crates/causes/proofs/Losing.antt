@@ -28,7 +28,7 @@ use Rattle.world_model.specs.Stretches.{Taker, OfController, OfSwitch, reassembl
 use Rattle.world_model.proofs.Lists.{length_set}
 use Rattle.world_model.proofs.Queues.{Sets}
 use Rattle.port_facts.proofs.Keyed.{by_eq}
-use Rattle.run_model.specs.Causes.{is_broken}
+use Rattle.world_model.specs.Beside.{is_broken}
 use Rattle.cell_lists.specs.Causes.{has_cause, is_cause_of}
 use Rattle.cell_lists.proofs.Lists.{any_back}
 use Rattle.cell_lists.proofs.Real.{IsReal, real_grown, real_alike, real_loses}

@@ -23,7 +23,7 @@ use Rattle.frame_model.specs.Frame.{frame_cells, made}
 use Rattle.frame_model.specs.Sending.{Sent, sent_frame}
 use Rattle.frame_model.specs.Stretch.{Turn, Takes, IsCut, stretch_from, open_stretch}
 use Rattle.ordered_lists.specs.Ordered.{Every}
-use Rattle.run_model.specs.Causes.{StandsBesideCause, is_broken, has_mark}
+use Rattle.world_model.specs.Beside.{StandsBesideCause, is_broken, has_mark}
 use Rattle.world_model.specs.Switch as switches
 use Rattle.world_model.specs.Switch.{control_port}
 use Rattle.world_model.specs.Conduct as switch

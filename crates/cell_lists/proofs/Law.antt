@@ -4,7 +4,7 @@ use Rattle.std.proofs.Common.{◌≡◌, ℕ, zero, suc, ◌+◌, true, List, []
 use Rattle.atm_cells.specs.declared.cell.Cell.{Cell}
 use Rattle.link_model.specs.declared.entries.Entry.{Entry}
 use Rattle.link_model.specs.declared.record.Cause.TheVariants.{Broken}
-use Rattle.run_model.specs.Causes.{has_mark}
+use Rattle.world_model.specs.Beside.{has_mark}
 use Rattle.cell_lists.specs.Causes.{is_caused}
 use Rattle.cell_lists.proofs.Taking.{Beside, Adds}
 

@@ -16,7 +16,7 @@ use Rattle.frame_model.specs.Reassembly.{Reassembly, Taken, taken, broken, marks
 use Rattle.frame_model.specs.Frame.{payload_in, octets_of, tested, tested_by, passed, last_mark}
 use Rattle.ordered_lists.specs.Ordered.{Every}
 use Rattle.ordered_lists.proofs.Every.{every_map, every_left}
-use Rattle.run_model.specs.Causes.{has_mark}
+use Rattle.world_model.specs.Beside.{has_mark}
 use Rattle.cell_lists.specs.Causes.{has_cause, is_cause_of, is_caused, bare}
 use Rattle.cell_lists.proofs.Lists.{any_front, any_back, if_cases}
 use Rattle.cell_lists.proofs.Frames.{IsWhole, IsOf, marks_behind}

@@ -16,7 +16,7 @@ use Rattle.ipv4_forward.specs.declared.outcome.Hop.{Hop}
 use Rattle.ipv4_forward.specs.declared.outcome.Hop.TheVariants.{Here, On, NoRoute, Expired}
 use Rattle.ipv4_forward.specs.Hop.{hop_by, hop_of, onward}
 use Rattle.link_model.specs.declared.record.DropCause.TheVariants.{NoRoute as NoRouteCause, Expired as ExpiredCause}
-use Rattle.run_model.specs.Fates.{Fate, IsDelivered, IsDropped, by_route}
+use Rattle.world_model.specs.Fates.{Fate, IsDelivered, IsDropped, by_route}
 use Rattle.world_model.specs.declared.link.LinkEnd.{LinkEnd}
 use Rattle.world_model.specs.Conditions.{IsNode, IsLink, IsTopology}
 use Rattle.world_model.specs.Topology.{Topology, Link, same_link_end, peer_among, peer_of}

@@ -4,7 +4,7 @@ use Rattle.std.specs.Prelude.{◌≡◌, ℕ, ◌<◌, List, Result, Ok, Err}
 use Rattle.net_types.specs.declared.node.NodeId.{NodeId}
 use Rattle.ipv4_packet.specs.Packet.{IsPacket, ttl_of}
 use Rattle.ipv4_forward.specs.declared.table.Route.{Route}
-use Rattle.run_model.specs.Fates.{Fate, IsDelivered, IsDropped}
+use Rattle.world_model.specs.Fates.{Fate, IsDelivered, IsDropped}
 use Rattle.world_model.specs.Conditions.{IsNode}
 use Rattle.world_model.specs.Journey.{journey}
 use Rattle.world_model.specs.Topology.{Topology}

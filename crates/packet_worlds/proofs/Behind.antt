@@ -19,7 +19,7 @@ use Rattle.link_model.specs.declared.record.Record.TheVariants.{Delivered, Dropp
 use Rattle.ordered_lists.specs.Ordered.{Every}
 use Rattle.packet_worlds.proofs.Lists.{count_by-append}
 use Rattle.port_model.specs.Setup.{Policy}
-use Rattle.run_model.specs.Fates.{Fate, IsDelivered, IsDropped, is_fate_of, has_loss_of}
+use Rattle.world_model.specs.Fates.{Fate, IsDelivered, IsDropped, is_fate_of, has_loss_of}
 use Rattle.world_model.specs.Controller.{default_channel}
 use Rattle.world_model.specs.Cells.{port_on, on_link, same_channel}
 use Rattle.world_model.specs.declared.event.Event.{Event}

@@ -9,7 +9,7 @@ use Rattle.link_model.specs.declared.record.Record.TheVariants as records
 use Rattle.link_model.specs.Notes.{Journal}
 use Rattle.packet_worlds.proofs.Lists.{count_by-append}
 use Rattle.port_model.specs.Setup.{Policy}
-use Rattle.run_model.specs.Fates.{is_fate_of}
+use Rattle.world_model.specs.Fates.{is_fate_of}
 use Rattle.world_model.specs.declared.event.Event.{Event}
 use Rattle.world_model.specs.Topology.{Topology, Node}
 use Rattle.world_model.specs.World.{World, opened, opens_each, with_opened}

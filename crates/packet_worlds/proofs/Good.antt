@@ -20,7 +20,7 @@ use Rattle.frame_model.specs.Frame.{made}
 use Rattle.ordered_lists.specs.Ordered.{Every}
 use Rattle.ordered_lists.proofs.Every.{every_join, every_map2}
 use Rattle.packet_worlds.proofs.Lists.{if_cases, count_by-append, none_front}
-use Rattle.run_model.specs.Fates.{IsDelivered, IsDropped, is_fate_of, has_loss_of}
+use Rattle.world_model.specs.Fates.{IsDelivered, IsDropped, is_fate_of, has_loss_of}
 use Rattle.world_model.specs.Places.{same_queue}
 use Rattle.world_model.specs.Conditions.{IsPlace}
 use Rattle.world_model.specs.Headline.{WasAccepted, IsTrueFate}

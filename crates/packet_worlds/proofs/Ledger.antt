@@ -17,7 +17,7 @@ use Rattle.link_model.specs.Notes.{Journal, noted}
 use Rattle.link_model.proofs.Latest.{payload_of_push}
 use Rattle.frame_model.specs.Reassembly.{broken, marks_of}
 use Rattle.frame_model.specs.Frame.{last_mark}
-use Rattle.run_model.specs.Fates.{has_loss_of}
+use Rattle.world_model.specs.Fates.{has_loss_of}
 use Rattle.packet_worlds.proofs.Lists.{any_back}
 
 -- the parts of a conjunction of tests

@@ -15,7 +15,7 @@ use Rattle.link_model.specs.Notes.{Journal}
 use Rattle.link_model.specs.Ledger.{payload_of}
 use Rattle.port_facts.proofs.Keyed.{at_every}
 use Rattle.port_model.specs.Setup.{Policy}
-use Rattle.run_model.specs.Fates.{is_fate_of}
+use Rattle.world_model.specs.Fates.{is_fate_of}
 use Rattle.world_model.specs.Topology.{Topology, Node}
 use Rattle.world_model.specs.World.{World, Site, site_key, site_at, opened_site, opened, opens_each, with_opened, empty_world}
 use Rattle.world_model.specs.Places.{place_node, queue_in, queue_at, places}

@@ -22,7 +22,7 @@ use Rattle.ordered_lists.specs.Ordered.{Every}
 use Rattle.ordered_lists.proofs.Every.{every_join, every_map}
 use Rattle.port_facts.proofs.Keyed.{on_both}
 use Rattle.packet_worlds.proofs.Lists.{none_join, count_by-skip}
-use Rattle.run_model.specs.Fates.{is_fate_of}
+use Rattle.world_model.specs.Fates.{is_fate_of}
 use Rattle.world_model.specs.Controller.{Controller, Acted, free_slots, default_channel, default_home}
 use Rattle.world_model.specs.Sending.{with_cells, sends}
 use Rattle.world_model.specs.Cells.{same_channel, on_link}

@@ -15,7 +15,7 @@ use Rattle.link_model.specs.Notes.{Journal}
 use Rattle.ordered_lists.specs.Ordered.{Every}
 use Rattle.packet_worlds.proofs.Lists.{count_by-append}
 use Rattle.port_model.specs.Setup.{Policy}
-use Rattle.run_model.specs.Fates.{is_fate_of, has_loss_of}
+use Rattle.world_model.specs.Fates.{is_fate_of, has_loss_of}
 use Rattle.world_model.specs.Packets.{inject_refusal}
 use Rattle.world_model.specs.declared.event.Event.{Event}
 use Rattle.world_model.specs.Topology.{Topology, Node}

@@ -22,7 +22,7 @@ use Rattle.ordered_lists.proofs.Every.{every_join}
 use Rattle.keyed_lists.specs.Keyed.{at, put}
 use Rattle.packet_worlds.proofs.Lists.{count_by-append, count_by-cons, count_by-skip, none_front}
 use Rattle.port_facts.proofs.Keyed.{at_key}
-use Rattle.run_model.specs.Fates.{is_fate_of}
+use Rattle.world_model.specs.Fates.{is_fate_of}
 use Rattle.crossbar_model.specs.Crossbar.{output_of}
 use Rattle.world_model.specs.Switch as switches
 use Rattle.world_model.specs.Controller.{Acted, ports_of, default_channel}

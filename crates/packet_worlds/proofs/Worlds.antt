@@ -13,7 +13,7 @@ use Rattle.link_model.specs.Ledger.{payload_of}
 use Rattle.ordered_lists.specs.Ordered.{Every}
 use Rattle.keyed_lists.specs.Keyed.{at, put}
 use Rattle.port_facts.proofs.Keyed.{by_eq, at_key}
-use Rattle.run_model.specs.Fates.{is_fate_of, has_loss_of}
+use Rattle.world_model.specs.Fates.{is_fate_of, has_loss_of}
 use Rattle.world_model.specs.declared.link.LinkEnd.{LinkEnd}
 use Rattle.world_model.specs.Topology.{Topology, peer_of}
 use Rattle.world_model.specs.Conditions.{IsTopology, IsPlace}

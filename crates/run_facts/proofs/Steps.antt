@@ -10,7 +10,7 @@ use Rattle.ipv4_forward.specs.Best.{best}
 use Rattle.ipv4_packet.specs.Packet.{destination_of}
 use Rattle.link_model.specs.declared.record.Refusal.{Refusal}
 use Rattle.port_model.specs.Setup.{Policy}
-use Rattle.run_model.specs.Fates.{Fate}
+use Rattle.world_model.specs.Fates.{Fate}
 use Rattle.world_model.specs.Switch as switches
 use Rattle.world_model.specs.Controller as controllers
 use Rattle.world_model.specs.Packets.{inject_refusal}

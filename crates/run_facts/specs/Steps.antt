@@ -3,7 +3,7 @@
 use Rattle.std.specs.Prelude.{◌≡◌, ℕ, suc, ◌<◌, List, [], ◌∷◌, ◌++◌, length, slice_get, Some}
 use Rattle.net_types.specs.declared.node.NodeId.{NodeId}
 use Rattle.port_model.specs.Setup.{Policy}
-use Rattle.run_model.specs.Fates.{Fate}
+use Rattle.world_model.specs.Fates.{Fate}
 use Rattle.shown_cells.specs.Seen.{Extends}
 use Rattle.world_model.specs.declared.event.Event.{Event}
 use Rattle.world_model.specs.declared.link.LinkEnd.{LinkEnd}

@@ -11,7 +11,7 @@ use Rattle.world_model.specs.Packets.{inject_refusal}
 use Rattle.world_model.specs.declared.event.Event.{Event}
 use Rattle.world_model.specs.declared.event.Event.TheVariants.{Inject}
 use Rattle.world_model.specs.Topology.{Topology}
-use Rattle.run_model.specs.Fates.{fate_record}
+use Rattle.world_model.specs.Fates.{fate_record}
 use Rattle.world_model.specs.Journey.{journey}
 use Rattle.script_model.specs.State.{table_in, tables_after, opening_tables}
 use Rattle.script_model.specs.Script.{Script, script_of}

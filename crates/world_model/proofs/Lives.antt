@@ -11,7 +11,7 @@ use Rattle.world_model.specs.declared.event.Event.TheVariants.{Inject}
 use Rattle.world_model.specs.Topology.{Topology, Node, empty_topology, new_node, policy_of}
 use Rattle.world_model.specs.World.{World, opened}
 use Rattle.world_model.specs.Run.{next, world_after, round}
-use Rattle.run_model.specs.Fates.{IsDropped}
+use Rattle.world_model.specs.Fates.{IsDropped}
 use Rattle.world_model.specs.Journey.{journey}
 
 abbrev pub node : ℕ → NodeId

@@ -5,7 +5,7 @@ use Rattle.atm_cells.specs.declared.cell.Cell.{Cell}
 use Rattle.link_model.specs.declared.entries.Entry.{Entry}
 use Rattle.link_model.specs.declared.record.Cause.TheVariants.{Broken}
 use Rattle.frame_model.specs.Stretch.{open_stretch}
-use Rattle.run_model.specs.Causes.{StandsBesideCause}
+use Rattle.world_model.specs.Beside.{StandsBesideCause}
 use Rattle.port_model.specs.Setup.{Policy}
 use Rattle.world_model.specs.declared.event.Event.{Event}
 use Rattle.world_model.specs.Topology.{Topology}

@@ -8,7 +8,7 @@ use Rattle.ipv4_forward.specs.Best.{best}
 use Rattle.ipv4_forward.specs.Hop.{onward}
 use Rattle.ipv4_forward.specs.declared.table.Route.{Route}
 use Rattle.link_model.specs.declared.record.DropCause.TheVariants.{NoRoute, Expired}
-use Rattle.run_model.specs.Fates.{Fate, IsDropped, by_route}
+use Rattle.world_model.specs.Fates.{Fate, IsDropped, by_route}
 use Rattle.world_model.specs.declared.link.LinkEnd.{LinkEnd}
 use Rattle.world_model.specs.Topology.{Topology, peer_of}
 

@@ -1,3 +1,5 @@
+pub mod Fates
+pub mod Beside
 pub mod Controller
 pub mod Sending
 pub mod Resets

@@ -11,7 +11,7 @@ use Rattle.ipv4_forward.specs.Hop.{onward}
 use Rattle.ipv4_forward.specs.declared.table.Next.TheVariants.{Local, Via}
 use Rattle.ipv4_forward.specs.declared.table.Route.{Route}
 use Rattle.link_model.specs.declared.record.DropCause.TheVariants.{NoRoute, Expired}
-use Rattle.run_model.specs.Fates.{Fate, IsDelivered, IsDropped}
+use Rattle.world_model.specs.Fates.{Fate, IsDelivered, IsDropped}
 use Rattle.world_model.specs.Packets.{inject_refusal}
 use Rattle.world_model.specs.declared.event.Event.{Event}
 use Rattle.world_model.specs.declared.event.Event.TheVariants.{Inject}

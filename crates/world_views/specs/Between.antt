@@ -13,7 +13,7 @@ use Rattle.gsmp_wire.specs.declared.message.Message.TheVariants.{AllPorts}
 use Rattle.gsmp_wire.specs.declared.rows.PortRow.{PortRow}
 use Rattle.ordered_lists.specs.Ordered.{Every}
 use Rattle.link_model.specs.Ledger.{payload_of}
-use Rattle.run_model.specs.Fates.{has_loss_of}
+use Rattle.world_model.specs.Fates.{has_loss_of}
 use Rattle.crossbar_model.specs.Crossbar.{output_of}
 use Rattle.port_model.specs.Desk.{Standing, all_on}
 use Rattle.port_model.specs.Messages.{is_up}

@@ -1,6 +1,6 @@
 use Rattle.std.proofs.Common.{◌∙◌, ap}
 use Rattle.ipv4_forward.specs.Hop.{hop_of}
-use Rattle.run_model.specs.Fates.{IsDelivered}
+use Rattle.world_model.specs.Fates.{IsDelivered}
 use Rattle.script_model.specs.State.{table_in}
 use Rattle.ideal_fates.proofs.Hopping.{ends_here, ends_without_route, ends_expired, ends_unlinked, goes_on}
 use Rattle.ideal_fates.proofs.hops.hop_from.Goals as goal

@@ -1,4 +1,0 @@
-pub mod Topology
-pub mod Fates
-pub mod Causes
-pub mod Journey
