@@ -6,10 +6,10 @@ ghost use Rattle.control_link.specs.Cells.{IsRange, is_channel, range_at};
 ghost use Rattle.control_link.specs.Layout.{count_of, first_of, place_of, width};
 
 use crate::taker::Taker;
-use world_model::PortRange;
 use net_types::{OutOfMemory, PortNo};
 use std::alloc::Global;
 use std::marker::Model;
+use world_model::PortRange;
 
 /// The numbers of the ports, port 0 among them.
 const PORTS: usize = 9;

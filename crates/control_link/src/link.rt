@@ -14,12 +14,12 @@ use crate::store::Store;
 use crate::taker::Taker;
 use atm_cells::Cell;
 use cell_pool::Pool;
-use world_model::PortRange;
 use frame_model::Queues;
 use link_model::Notes;
 use net_types::OutOfMemory;
 use std::alloc::Global;
 use std::marker::Model;
+use world_model::PortRange;
 
 /// The queue of a controller to its switch, and the reassembly of each channel of the control link, in
 /// one region of slots. It must be given up by [`ControlLink::abandon`].

@@ -6,7 +6,6 @@ use crate::opening::open_router;
 use crate::packets::CONTROL_PROTOCOL;
 use aal5_frames::MAX_FRAME;
 use atm_cells::Cell;
-use world_model::PortRange;
 use ipv4_forward::{RouteChange, Table};
 use ipv4_packet::{check, protocol};
 use link_model::Notes;
@@ -15,6 +14,7 @@ use port_model::Timers;
 use router::OpenEngine;
 use std::alloc::Global;
 use world::{InjectFault, NodeController};
+use world_model::PortRange;
 
 impl<E: OpenEngine> NodeController for Controller<E> {
     ghost use Rattle.joining_router.specs.Joining.{controller_of};

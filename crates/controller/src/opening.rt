@@ -9,7 +9,6 @@ ghost use Rattle.joining_router.specs.Joining.{controller_of};
 ghost use Rattle.world.specs.Nodes.{AreTimes, IsLabelRange};
 ghost use Rattle.controller.specs.Opening.{opened_ends};
 
-use world_model::PortRange;
 use gsmp_client::Client;
 use ipv4_forward::Table;
 use joining_router::JoiningRouter;
@@ -19,6 +18,7 @@ use port_model::Timers;
 use route_changes::Routes;
 use router::{OpenEngine, PortEngine, Router};
 use std::alloc::Global;
+use world_model::PortRange;
 
 /// Gives engines up.
 fn abandon_all<E: PortEngine>(mut engines: Vec<E>) {

@@ -6,12 +6,12 @@ ghost use Rattle.control_link.specs.Cells.{is_channel, ranges_of};
 use aal5_frames::segment;
 use atm_cells::{BLANK_CELL, Cell};
 use control_link::{ControlLink, Taker};
-use world_model::PortRange;
 use frame_model::Queues;
 use link_model::Notes;
 use net_types::{Channel, Mark, PortNo};
 use std::process::Abort;
 use std::test::Fail;
+use world_model::PortRange;
 
 /// Ports 2 and 5, with the labels 32 to 95 and 40 to 41.
 const PORTS: [PortRange; 2] = [

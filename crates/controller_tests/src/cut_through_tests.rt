@@ -6,10 +6,10 @@ ghost use Rattle.grant_table.specs.Table.{state_of};
 
 use branch_desk::{Answered, Desk, redeem};
 use cut_through::{Join, plan, route_of, undo};
-use ipv4_packet::FlowId;
 use grant_table::{Accepted, GrantTable};
 use gsmp_wire::{BranchKind, Message, Request};
 use ipv4_forward::{Next, Table};
+use ipv4_packet::FlowId;
 use net_types::{Addr, Channel, End, PortNo, Prefix};
 use std::alloc::Global;
 use std::process::Abort;

@@ -1,9 +1,9 @@
 //! What a port makes of the labels that it is offered.
 
 use branch_desk::{Answered, Desk, redeem};
-use ipv4_packet::FlowId;
 use grant_table::{AcceptFault, Accepted, GrantState, GrantTable, GrantView};
 use gsmp_wire::{BranchKind, Message, Request};
+use ipv4_packet::FlowId;
 use net_types::{Addr, Channel, End, PortNo};
 use std::test::Fail;
 

@@ -6,9 +6,9 @@ ghost use Rattle.port_model.specs.Labels as model;
 ghost use Rattle.label_book.specs.Book.{in_state, state_of, without_label};
 
 use branch_desk::{Answered, Desk, redeem};
-use ipv4_packet::FlowId;
 use gsmp_wire::{BranchKind, Message, Request};
 use ifmp_adjacency::{Adjacency, Answer, Established};
+use ipv4_packet::FlowId;
 use label_book::{HeldLabel, HeldState, LabelBook, LabelState, LabelView};
 use label_pool::{Label, LabelPool, Spare};
 use net_types::{Addr, Channel, End, Hello, HelloKind, Instance, PortNo};

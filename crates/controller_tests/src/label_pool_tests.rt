@@ -5,9 +5,9 @@ ghost use Rattle.net_types.specs.Label.{is_label_number};
 ghost use Rattle.label_pool.specs.Pool.{opened as new_pool};
 
 use branch_desk::{Answered, Desk, redeem};
-use ipv4_packet::FlowId;
 use gsmp_wire::{BranchKind, Message, Request};
 use ifmp_adjacency::{Adjacency, Answer, Established};
+use ipv4_packet::FlowId;
 use label_pool::LabelPool;
 use net_types::{Addr, Channel, End, Hello, HelloKind, Instance, PortNo};
 use std::alloc::Global;

@@ -8,7 +8,6 @@ ghost use Rattle.world.specs.Nodes.{AreRoutesOf};
 use aal5_frames::{cells_of, check_pdu, segment};
 use atm_cells::{BLANK_CELL, Cell};
 use controller::Controller;
-use world_model::PortRange;
 use flow_classifier::XyPolicy;
 use ipv4_forward::{Next, Table};
 use link_model::{Notes, Record};
@@ -19,6 +18,7 @@ use std::alloc::Global;
 use std::process::Abort;
 use std::test::Fail;
 use world::NodeController;
+use world_model::PortRange;
 
 /// The controller.
 type Router = Controller<RouterPort<XyPolicy>>;

@@ -8,10 +8,10 @@ ghost use Rattle.ifmp_wire.specs.Message.{InRange};
 
 use branch_desk::{Answered, Desk, redeem};
 use flow_classifier::XyPolicy;
-use ipv4_packet::{FlowId, check};
 use grant_table::GrantState;
 use gsmp_wire::{BranchKind, Message as SwitchMessage, Request};
 use ifmp_wire::Message;
+use ipv4_packet::{FlowId, check};
 use link_model::Record;
 use net_types::{Addr, Channel, End, Hello, HelloKind, Instance, NodeId, OutOfMemory, PortNo};
 use redirect_state::{Action, Actions, Link, Timers};

@@ -4,10 +4,10 @@ ghost use Rattle.std.specs.Prelude.{◌≡◌, ◌<◌, ◌≤◌};
 ghost use Rattle.ipv4_packet.specs.Parts.{flow_destination};
 ghost use Rattle.cut_through.specs.Plan.{planned, undoing, way_of};
 
-use ipv4_packet::{FlowId, next_hop};
 use grant_table::GrantTable;
 use gsmp_wire::Request;
 use ipv4_forward::{Next, Table};
+use ipv4_packet::{FlowId, next_hop};
 use net_types::{Addr, End, PortNo, label_channel, on_control};
 
 /// An input that is led straight to an output.

@@ -10,8 +10,8 @@ ghost use Rattle.flow_classifier.specs.Rows.{AreRows, counted, ticked};
 
 use crate::window::{Window, count_one, total};
 use circular_buffer::HeapCircularBuffer;
-use ipv4_packet::FlowId;
 use indexmap::IndexMap;
+use ipv4_packet::FlowId;
 use net_types::OutOfMemory;
 use std::alloc::Global;
 use std::marker::Model;

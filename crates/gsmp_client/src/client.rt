@@ -13,13 +13,13 @@ ghost use Rattle.request_book.specs.Answers.{told};
 use adjacency_table::State;
 use cell_pool::Pool;
 use control_link::ControlLink;
-use world_model::PortRange;
 use gsmp_adjacency::{Adjacency, Answer as AdjacencyAnswer};
 use gsmp_wire::Message;
 use net_types::{Greeting, Instance, OutOfMemory, Party};
 use request_book::{Answer, RequestBook};
 use std::alloc::Global;
 use std::marker::Model;
+use world_model::PortRange;
 
 /// A client of GSMP. It must be given up by [`Client::abandon`].
 #[must_use]

@@ -5,8 +5,8 @@ ghost use Rattle.std.specs.Vec.{vec_capacity, vec_len};
 ghost use Rattle.keyed_lists.specs.Keyed.{entered, without};
 ghost use Rattle.label_book.specs.Index.{AreAscending, IsEntered, IsRemoved};
 
-use ipv4_packet::FlowId;
 use indexmap::IndexMap;
+use ipv4_packet::FlowId;
 use net_types::OutOfMemory;
 
 /// The number of the label that serves each flow.

@@ -2,8 +2,8 @@
 
 ghost use Rattle.std.specs.Prelude.{◌≡◌, ◌<◌, ◌≤◌, length};
 
-use ipv4_packet::{FlowId, internet_sum};
 use ifmp_wire::*;
+use ipv4_packet::{FlowId, internet_sum};
 use net_types::{Addr, Channel, Hello, HelloKind, Instance};
 use octet_fields::put_u16;
 

@@ -5,8 +5,8 @@ ghost use Rattle.ifmp_wire.specs.declared.message.Message.TheVariants.{Adjacency
 ghost use Rattle.message_text.specs.Ifmp.{ifmp_text, hello_word, between, head_text, use_text};
 
 use crate::fields::{write_address, write_channel, write_number, write_octets};
-use ipv4_packet::FlowId;
 use ifmp_wire::Message;
+use ipv4_packet::FlowId;
 use lab_text::Text;
 use net_types::{Channel, Hello, HelloKind, Instance, OutOfMemory};
 

@@ -16,9 +16,9 @@ ghost use Rattle.port_saying.specs.Rules.{Ends};
 
 use branch_desk::Desk;
 use flow_classifier::Policy;
-use ipv4_packet::FlowId;
 use grant_table::{AcceptFault, Accepted};
 use gsmp_wire::Request;
+use ipv4_packet::FlowId;
 use net_types::{Channel, OutOfMemory, label_number};
 use port_actions::Actions;
 use port_model::Action;

@@ -16,8 +16,8 @@ ghost use Rattle.port_saying.specs.Unnumbered.{code_number, unnumbered};
 
 use crate::stop::Stop;
 use flow_classifier::Policy;
-use ipv4_packet::FlowId;
 use ifmp_wire::Message;
+use ipv4_packet::FlowId;
 use net_types::{Channel, Hello, Instance, OutOfMemory, label_channel};
 use port_actions::Actions;
 use port_model::Action;

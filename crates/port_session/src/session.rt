@@ -18,8 +18,8 @@ ghost use Rattle.port_session.specs.Session.{IsPoolIn, Opened, after_number, nex
 
 use branch_desk::BranchDone;
 use flow_classifier::Classifier;
-use ipv4_packet::FlowId;
 use ifmp_adjacency::Established;
+use ipv4_packet::FlowId;
 use label_book::{HeldLabel, HeldState, LabelBook};
 use label_pool::{LabelPool, pools_are_the_ports};
 use net_types::{Channel, End, OutOfMemory};

@@ -15,8 +15,8 @@ ghost use Rattle.port_state.specs.Parts.{accepted, is_new, with_grant, with_gran
 use crate::state::PortState;
 use branch_desk::BranchDone;
 use flow_classifier::Policy;
-use ipv4_packet::FlowId;
 use grant_table::{AcceptFault, Accepted, GrantView};
+use ipv4_packet::FlowId;
 use net_types::End;
 
 /// The most grants of a port.

@@ -8,9 +8,9 @@ ghost use Rattle.port_model.specs.Port.{Session as SessionValue};
 ghost use Rattle.port_state.specs.Engine.{AreTimes, IsBookOf, IsPoolOf, IsTableOf};
 
 use flow_classifier::Policy;
-use ipv4_packet::FlowId;
 use grant_table::GrantTable;
 use ifmp_adjacency::{Adjacency, State};
+use ipv4_packet::FlowId;
 use label_book::LabelBook;
 use label_pool::LabelPool;
 use net_types::{

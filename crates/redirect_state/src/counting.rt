@@ -11,8 +11,8 @@ ghost use Rattle.port_saying.specs.Rules.{begun};
 
 use branch_desk::Desk;
 use flow_classifier::Policy;
-use ipv4_packet::{FlowId, FlowKind, of_packet};
 use gsmp_wire::Request;
+use ipv4_packet::{FlowId, FlowKind, of_packet};
 use net_types::OutOfMemory;
 use port_actions::Actions;
 use port_model::Action;

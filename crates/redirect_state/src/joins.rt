@@ -12,8 +12,8 @@ ghost use Rattle.redirect_state.specs.Calls.{is_released_by};
 
 use branch_desk::BranchDone;
 use flow_classifier::Policy;
-use ipv4_packet::FlowId;
 use grant_table::GrantState;
+use ipv4_packet::FlowId;
 use net_types::{OutOfMemory, label_channel};
 use port_actions::Actions;
 use port_saying::{Unnumbered, tell};

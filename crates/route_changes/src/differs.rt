@@ -4,8 +4,8 @@ ghost use Rattle.std.specs.Prelude.{◌≡◌};
 ghost use Rattle.ipv4_packet.specs.Parts.{flow_destination};
 ghost use Rattle.world_model.specs.Routes.{differs, same_next};
 
-use ipv4_packet::FlowId;
 use ipv4_forward::{Next, RouteChange, Table};
+use ipv4_packet::FlowId;
 use net_types::Addr;
 
 /// The destination of a flow's packets.

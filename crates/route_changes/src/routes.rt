@@ -8,8 +8,8 @@ ghost use Rattle.world_model.specs.Routes.{differs};
 ghost use Rattle.route_changes.specs.Routes.{stays};
 
 use crate::differs::{destination_of, differs};
-use ipv4_packet::FlowId;
 use ipv4_forward::{RouteChange, Table};
+use ipv4_packet::FlowId;
 use net_types::OutOfMemory;
 use std::alloc::Global;
 use std::collections::VecDeque;

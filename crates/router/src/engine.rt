@@ -1,15 +1,15 @@
 //! What a router asks of the engine of a port, and what opens one.
 
 use branch_desk::{BranchDone, Desk};
-use world_model::PortRange;
-use ipv4_packet::FlowId;
 use grant_table::GrantTable;
 use ifmp_wire::Message;
+use ipv4_packet::FlowId;
 use label_book::HeldLabel;
 use net_types::{Addr, End, Instance, NodeId, OutOfMemory, PortNo};
 use port_actions::Actions;
 use port_model::Timers;
 use std::alloc::Global;
+use world_model::PortRange;
 
 /// The engine of a port (RFC 1953): it takes what comes and answers what it asks for in turn. Each call
 /// is a rule of `port_model`.

@@ -25,10 +25,10 @@ use crate::engine::PortEngine;
 use crate::router::Router;
 use aal5_frames::MAX_FRAME;
 use flow_encaps::{wrap_default, wrap_flow};
-use ipv4_packet::{FlowId, FlowKind, of_packet};
 use grant_table::GrantTable;
 use gsmp_client::{default_end, home_of, label_end};
 use ipv4_forward::{Hop, hop};
+use ipv4_packet::{FlowId, FlowKind, of_packet};
 use link_model::{DropCause, Notes, Record};
 use net_types::{Mark, Numbers, Octets, OutOfMemory, PortNo};
 

@@ -15,8 +15,8 @@ ghost use Rattle.router.specs.Node.{controller_of, end_at, end_of};
 use crate::engine::PortEngine;
 use crate::router::Router;
 use cell_pool::Pool;
-use ipv4_packet::FlowId;
 use grant_table::GrantTable;
+use ipv4_packet::FlowId;
 use label_book::HeldLabel;
 use net_types::PortNo;
 

@@ -5,11 +5,10 @@ ghost use Rattle.std.specs.Option.{option_map_or};
 ghost use Rattle.port_model.specs.Port.{label_at};
 
 use branch_desk::{BranchDone, Desk};
-use world_model::PortRange;
 use flow_classifier::Policy;
-use ipv4_packet::FlowId;
 use grant_table::GrantTable;
 use ifmp_wire::Message;
+use ipv4_packet::FlowId;
 use label_book::HeldLabel;
 use net_types::{Addr, End, Instance, NodeId, OutOfMemory, PortNo};
 use port_actions::Actions;
@@ -17,6 +16,7 @@ use port_model::Timers;
 use redirect_state::Link;
 use router::{OpenEngine, PortEngine};
 use std::alloc::Global;
+use world_model::PortRange;
 
 /// A port's engine in a router. It must be given up.
 #[must_use]

@@ -5,11 +5,11 @@ ghost use Rattle.world_model.specs.Lines.{first_of, route_refusal, with_route};
 ghost use Rattle.world_model.specs.Topology.{new_node, range_among};
 
 use crate::routes::RouteList;
-use world_model::PortRange;
 use ipv4_forward::Next;
 use net_types::{Addr, Octets, OutOfMemory, PortNo, Prefix};
 use std::alloc::Global;
 use std::marker::Model;
+use world_model::PortRange;
 
 /// The slots of a region where no line says how many.
 const CELLS: u32 = 1024;

@@ -8,12 +8,12 @@ ghost use Rattle.world_model.specs.Topology.{new_node, node_in};
 ghost use Rattle.topology.specs.Indexes.{changed_in};
 
 use crate::node::Node;
-use world_model::PortRange;
 use indexmap::IndexSet;
 use ipv4_forward::Next;
 use net_types::{Addr, NodeId, Octets, OutOfMemory, Prefix};
 use std::alloc::{AllocError, Global};
 use std::marker::Model;
+use world_model::PortRange;
 
 /// The most nodes of a network.
 pub const NODES: usize = 64;

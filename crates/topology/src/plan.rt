@@ -11,11 +11,11 @@ use crate::fault::TopologyFault;
 use crate::links::Links;
 use crate::nodes::{NODES, Nodes};
 use crate::settings::{Spans, Threshold};
-use world_model::{LinkEnd, PortRange, TopologyLine, TopologyRefusal};
 use ipv4_forward::Next;
 use net_types::{Addr, NodeId, OutOfMemory, PortNo, Prefix};
 use std::alloc::Global;
 use std::marker::Model;
+use world_model::{LinkEnd, PortRange, TopologyLine, TopologyRefusal};
 
 /// The most links of a network.
 const LINKS: usize = 256;

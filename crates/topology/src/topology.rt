@@ -13,12 +13,12 @@ use crate::fault::TopologyFault;
 use crate::node::Node;
 use crate::plan::Plan;
 use crate::routes::RouteList;
-use world_model::{PortRange, TopologyLine};
 use ipv4_forward::{Next, Table};
 use net_types::{Addr, NodeId, OutOfMemory, PortNo, Prefix};
 use port_model::Timers;
 use std::alloc::Global;
 use std::marker::Model;
+use world_model::{PortRange, TopologyLine};
 
 /// Over how many ticks packets are counted where no flow is offered a label.
 const WINDOW: usize = 10;

@@ -97,7 +97,10 @@ fn identifiers_are_refused_by_cause(rt: HostRuntime) {
     let hosts = [
         0x45, 0x00, 0x04, 0x00, 0x0a, 0x00, 0x01, 0x01, 0x0a, 0x00, 0x03, 0x01,
     ];
-    assert_eq!(rt; read_identifier(FlowKind::One, &hosts), Err(FlowFault::Size));
+    assert_eq!(rt;
+        read_identifier(FlowKind::One, &hosts),
+        Err(FlowFault::Size)
+    );
     for (place, octet, fault) in [
         (1, 1, FlowFault::Reserved),
         (3, 17, FlowFault::Reserved),
@@ -109,7 +112,13 @@ fn identifiers_are_refused_by_cause(rt: HostRuntime) {
         assert_eq!(rt; read_identifier(FlowKind::Two, &changed), Err(fault));
     }
     let mut connection = [0; 16];
-    assert_eq!(rt; read_identifier(FlowKind::One, &connection), Err(FlowFault::Fields));
+    assert_eq!(rt;
+        read_identifier(FlowKind::One, &connection),
+        Err(FlowFault::Fields)
+    );
     connection[..4].copy_from_slice(&[0x45, 0, 1, 1]);
-    assert_eq!(rt; read_identifier(FlowKind::One, &connection), Err(FlowFault::Fields));
+    assert_eq!(rt;
+        read_identifier(FlowKind::One, &connection),
+        Err(FlowFault::Fields)
+    );
 }

@@ -1,13 +1,13 @@
 //! What a network asks of the controllers of its nodes.
 
 use atm_cells::Cell;
-use world_model::PortRange;
 use ipv4_forward::{RouteChange, Table};
 use ipv4_packet::PacketFault;
 use link_model::Notes;
 use net_types::{Addr, Channel, Mark, NodeId, Numbers, OutOfMemory};
 use port_model::Timers;
 use std::alloc::Global;
+use world_model::PortRange;
 
 /// Why a packet doesn't enter the network.
 #[derive(Clone, Copy, Debug, PartialEq, Eq)]

@@ -13,11 +13,11 @@ use crate::node::NodeController;
 use crate::site::{PORTS, Site};
 use crate::tally::{Tally, Total};
 use crate::world::World;
-use world_model::{LinkEnd, PortRange};
 use gsmp_switch::Switch;
 use net_types::{NodeId, Numbers, OutOfMemory, Place, PortNo};
 use std::alloc::Global;
 use topology::Topology;
+use world_model::{LinkEnd, PortRange};
 
 /// The other ends of a node's links, by the numbers of its ports.
 fn peers_of(topology: &Topology, node: NodeId) -> [Option<LinkEnd>; PORTS]
