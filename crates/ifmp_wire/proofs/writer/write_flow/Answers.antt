@@ -15,5 +15,5 @@ returns-clause-written c =
     let front = flow_type kind ∷ flow_words kind ∷ head in
     let whole : c.write_label.new.out ≡ front ++ drop 8 c.args.out.now =
     c.write_label.ensures ∙ ap (λ (k : FlowKind). written c.args.out.now 0 (flow_type k ∷ flow_words k ∷ head)) c.kind.ensures in
-    written-behind 8 front c.args.out.now c.write_label.new.out c.write.new.out (identifier c.args.flow.now) c.write.result
-    refl c.write.ensures.len whole c.write.ensures.written
+    written-behind 8 front c.args.out.now c.write_label.new.out c.write_identifier.new.out (identifier c.args.flow.now) c.write_identifier.result
+    refl c.write_identifier.ensures.len whole c.write_identifier.ensures.written
