@@ -11,8 +11,7 @@ use Rattle.world_model.specs.Headline.{IsRun, IsTame, Headline, AreOwned, HasFat
 use Rattle.lifetimes.specs.Run.{IsSetInRuns, EndsInRuns, SendsNoMoreInRuns, IsLedBackInRuns, IsEndedByResetInRuns}
 use Rattle.run_facts.specs.Nodes.{RunsHaveNodes}
 use Rattle.world_views.specs.Between.{IsWorld, HasPacketsOnce}
-use Rattle.world_views.specs.Kept.{HasAddresses, Comes}
-use Rattle.packet_worlds.specs.Law.{BindsUnusedAt}
+use Rattle.world_views.specs.Kept.{HasAddresses, Comes, BindsUnusedAt}
 use Rattle.ownership.specs.Owning.{IsKept, HasOwnWays, LabelsAreOwned}
 use Rattle.ownership.specs.Places.{WaysAreOwn}
 use Rattle.ownership.specs.Binds.{EachBindIsUnused}

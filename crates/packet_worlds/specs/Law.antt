@@ -1,24 +1,14 @@
 -- What an event keeps of packets
 
-use Rattle.std.specs.Prelude.{ℕ, List, Contains}
-use Rattle.ipv4_packet.specs.declared.flow.FlowId.{FlowId}
-use Rattle.link_model.specs.declared.record.Record.TheVariants.{Bind}
+use Rattle.std.specs.Prelude.{List}
 use Rattle.port_model.specs.Setup.{Policy}
 use Rattle.world_model.specs.declared.event.Event.{Event}
 use Rattle.world_model.specs.Topology.{Topology}
 use Rattle.world_model.specs.Past.{Past, past_of}
-use Rattle.world_model.specs.Users.{Way, IsWay, IsUnused}
 use Rattle.world_model.specs.Headline.{HasFatesOnce}
 use Rattle.world_views.specs.Between.{IsWorld, HasMeanings, HasPacketsOnce}
-use Rattle.world_views.specs.Kept.{Comes, behind, Begins}
+use Rattle.world_views.specs.Kept.{Comes, behind, Begins, BindsUnusedAt}
 use Rattle.packet_worlds.specs.Channels.{HasChannels}
-
--- nobody may use a label before the event that binds it
-abbrev pub BindsUnusedAt : Policy → Topology → (before : List Event) → Event → Type 0
-BindsUnusedAt policy topology before event =
-    (way : Way) (label : ℕ) (flow : FlowId)
-    → Contains (behind policy topology before event).now.notes.records (Bind way.down.node way.down.port label flow)
-    → IsWay topology way → IsUnused (past_of policy topology before).now way label
 
 -- what cells mean, that packets are once, and on which channels cells stand
 pub record HasPackets (past : Past) : Type 0 where

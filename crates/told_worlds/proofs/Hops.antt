@@ -69,7 +69,7 @@ use Rattle.port_views.specs.Link.{LinkLabel}
 use Rattle.world_views.specs.Shown.{acting, end_of, way_of}
 use Rattle.world_views.specs.Pairs.{Pairs, by_branch, by_desk, by_copy, IsLike, IsJoin}
 use Rattle.world_views.specs.Between.{IsWorld, IsLinkLabel, setups_of}
-use Rattle.world_views.specs.Kept.{Comes, behind}
+use Rattle.world_views.specs.Kept.{Comes, behind, BindsUnusedAt}
 use Rattle.frame_readings.specs.Reading.{FramesAreRead}
 use Rattle.running_worlds.specs.Running.{TameEventsAreTrue}
 use Rattle.run_facts.specs.Nodes.{IsNodeOfRun}
@@ -86,7 +86,7 @@ use Rattle.told_worlds.specs.Before.{end_at, IsWiringAt, quiet_terms, any_label,
 use Rattle.told_worlds.specs.Bound.{BindsAreWired}
 use Rattle.told_worlds.proofs.Start.{start, started}
 use Rattle.told_worlds.proofs.Bound.{ticks_so}
-use Rattle.told_worlds.specs.Hops.{BindsUnusedAt, RunsLeadOn}
+use Rattle.told_worlds.specs.Hops.{RunsLeadOn}
 use Rattle.told_worlds.proofs.Routing.{IsLent, changes_keep}
 use Rattle.told_worlds.proofs.Entering.{IsHop, mid_steady, enters_hop}
 use Rattle.told_worlds.proofs.Tables.{cell_routed}

@@ -1,11 +1,14 @@
 -- What each event of a run keeps, before the first frame that was forged or passed its test by chance
 
-use Rattle.std.specs.Prelude.{ℕ, ◌<◌, ◌^◌, List, [], ◌∷◌, ◌++◌, All}
+use Rattle.std.specs.Prelude.{ℕ, ◌<◌, ◌^◌, List, [], ◌∷◌, ◌++◌, All, Contains}
+use Rattle.ipv4_packet.specs.declared.flow.FlowId.{FlowId}
+use Rattle.link_model.specs.declared.record.Record.TheVariants.{Bind}
 use Rattle.port_model.specs.Setup.{Policy}
 use Rattle.world_model.specs.declared.event.Event.{Event}
 use Rattle.world_model.specs.Topology.{Topology, Node}
 use Rattle.world_model.specs.Conditions.{IsTopology}
 use Rattle.world_model.specs.Past.{Past, past_of}
+use Rattle.world_model.specs.Users.{Way, IsWay, IsUnused}
 use Rattle.world_model.specs.Headline.{IsRun, IsTame}
 use Rattle.world_views.specs.Between.{IsWorld}
 
@@ -30,3 +33,10 @@ Keeps Part = (policy : Policy) (topology : Topology) (before : List Event) (even
 
 abbrev pub Begins : (Past → Type 0) → Type 0
 Begins Part = (policy : Policy) (topology : Topology) → IsTopology topology → HasAddresses topology → Part (past_of policy topology [])
+
+-- nobody may use a label before the event that binds it
+abbrev pub BindsUnusedAt : Policy → Topology → (before : List Event) → Event → Type 0
+BindsUnusedAt policy topology before event =
+    (way : Way) (label : ℕ) (flow : FlowId)
+    → Contains (behind policy topology before event).now.notes.records (Bind way.down.node way.down.port label flow)
+    → IsWay topology way → IsUnused (past_of policy topology before).now way label

@@ -6,10 +6,9 @@ use Rattle.world_model.specs.declared.event.Event.{Event}
 use Rattle.world_model.specs.Topology.{Topology}
 use Rattle.world_model.specs.Past.{past_of}
 use Rattle.world_views.specs.Between.{HasAllShapes, HasAllPortsUp, HasAllNumbers, HasAllReady, HasAllMade, HasAllLabels, HasAllInputs, HasAllUsers, HasAllCleared, HasAllJoins, HasAllLedOnce}
-use Rattle.world_views.specs.Kept.{Comes, Keeps}
+use Rattle.world_views.specs.Kept.{Comes, Keeps, BindsUnusedAt}
 use Rattle.pairs.specs.Past.{RunsMakeNoPairs}
 use Rattle.pairs.specs.Asked.{AnswersSettle}
-use Rattle.packet_worlds.specs.Law.{BindsUnusedAt}
 use Rattle.ownership.proofs.Own.{own_channels}
 use Rattle.ipswitch.specs.Runs.{IsWhole}
 use Rattle.ipswitch.proofs.Fronts.{front_run}
