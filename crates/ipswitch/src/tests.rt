@@ -5,9 +5,10 @@ ghost use Rattle.std.specs.Prelude.{◌<◌};
 use crate::run::run;
 use crate::sure::run_surely;
 use command_line::Word;
-use lab_io::{MemSink, MemSource, SureSink, SureSource};
+use lab_io::{MemSink, MemSource, SureSink, SureSource, read_to_end};
 use net_types::OutOfMemory;
 use std::alloc::Global;
+use std::process::Abort;
 use std::test::Fail;
 use world::Meter;
 
@@ -19,28 +20,50 @@ fn words_of(alloc: Global, texts: &[&str]) -> Result<Vec<Word>, OutOfMemory> {
     Ok(words)
 }
 
-/// The status and the sink of a run over a source and a sink in pieces of so many octets, whose
-/// reads and writes fail at these calls.
+/// A source of a text in pieces of so many octets, whose reads fail at these calls.
+fn source_of(
+    alloc: Global,
+    text: &str,
+    piece: usize,
+    failing: &[u32],
+) -> Result<MemSource, OutOfMemory>
+    requires { 0 < piece }
+{
+    Ok(MemSource::new(
+        text.as_bytes().to_vec(alloc)?,
+        piece,
+        failing.to_vec(alloc)?,
+    ))
+}
+
+/// The status and the sink of a run over this source, and over a sink in pieces of so many octets
+/// whose writes fail at these calls.
+fn outcome_over(
+    alloc: Global,
+    texts: &[&str],
+    source: &mut MemSource,
+    piece: usize,
+    failing: &[u32],
+) -> Result<(u8, MemSink), OutOfMemory> {
+    let words = words_of(alloc, texts)?;
+    let mut sink = MemSink::new(alloc, piece, failing.to_vec(alloc)?)?;
+    let mut meter = Meter::new();
+    let status = run(alloc, words.as_slice(), source, &mut sink, &mut meter);
+    Ok((status, sink))
+}
+
+/// The status and the sink of a run over a text and a sink, both in pieces of so many octets, of which
+/// none fails.
 fn outcome(
     alloc: Global,
     texts: &[&str],
-    script: &str,
+    text: &str,
     piece: usize,
-    failing_reads: &[u32],
-    failing_writes: &[u32],
 ) -> Result<(u8, MemSink), OutOfMemory>
     requires { 0 < piece }
 {
-    let words = words_of(alloc, texts)?;
-    let mut source = MemSource::new(
-        script.as_bytes().to_vec(alloc)?,
-        piece,
-        failing_reads.to_vec(alloc)?,
-    );
-    let mut sink = MemSink::new(alloc, piece, failing_writes.to_vec(alloc)?)?;
-    let mut meter = Meter::new();
-    let status = run(alloc, words.as_slice(), &mut source, &mut sink, &mut meter);
-    Ok((status, sink))
+    let mut source = source_of(alloc, text, piece, &[])?;
+    outcome_over(alloc, texts, &mut source, piece, &[])
 }
 
 const ONE_NODE: &str = "node a 10.0.1.1\nroute a 10.0.0.0/8 local\n";
@@ -125,7 +148,7 @@ fn worked_scripts(rt: HostRuntime) -> Result<(), Fail> {
         ),
     ] {
         let script = format!(in rt.alloc(); "{network}{events}")?;
-        let (given, sink) = outcome(rt.alloc(), &["replay"], script.as_str(), 4096, &[], &[])?;
+        let (given, sink) = outcome(rt.alloc(), &["replay"], script.as_str(), 4096)?;
         assert_eq!(rt; given, status, "{script}");
         assert_eq!(rt; sink.written(), report.as_bytes(), "{script}");
     }
@@ -163,7 +186,7 @@ fn long_packet_is_refused(rt: HostRuntime) -> Result<(), Fail> {
     for _ in 0..1497 {
         script.push_str("00")?;
     }
-    let (given, sink) = outcome(rt.alloc(), &["replay"], script.as_str(), 4096, &[], &[])?;
+    let (given, sink) = outcome(rt.alloc(), &["replay"], script.as_str(), 4096)?;
     assert_eq!(rt; given, 0);
     let report =
         "refuse a 1 TooLong\nend events 1 sent 1 delivered 0 dropped 0 refused 1 losses 0 redirects 0 switched 0 chance 0\n";
@@ -189,7 +212,7 @@ fn other_words_are_usage(rt: HostRuntime) -> Result<(), Fail> {
         &["decode", "ifmp", "gsmp"],
     ];
     for words in lists {
-        let (given, sink) = outcome(rt.alloc(), words, "", 4096, &[], &[])?;
+        let (given, sink) = outcome(rt.alloc(), words, "", 4096)?;
         assert_eq!(rt; given, 1);
         assert_eq!(rt; sink.written(), USAGE.as_bytes());
     }
@@ -224,7 +247,7 @@ fn documents_are_replayed(rt: HostRuntime) -> Result<(), Fail> {
         ),
         ("topology = [\"node a 10.0.1.1\"\n", "refused 0 Toml\n", 2),
     ] {
-        let (given, sink) = outcome(rt.alloc(), &["replay", "toml"], document, 64, &[], &[])?;
+        let (given, sink) = outcome(rt.alloc(), &["replay", "toml"], document, 64)?;
         assert_eq!(rt; given, status);
         assert_eq!(rt; sink.written(), report.as_bytes());
     }
@@ -235,7 +258,8 @@ fn documents_are_replayed(rt: HostRuntime) -> Result<(), Fail> {
 /// program.
 #[test]
 fn drills_are_replayed(rt: HostRuntime) -> Result<(), Fail> {
-    let (given, sink) = outcome(rt.alloc(), &["drill", "5"], "", 4096, &[1], &[])?;
+    let mut source = source_of(rt.alloc(), "", 4096, &[1])?;
+    let (given, sink) = outcome_over(rt.alloc(), &["drill", "5"], &mut source, 4096, &[])?;
     assert_eq!(rt; given, 0);
     assert_eq!(rt;
         sink.written(),
@@ -294,7 +318,7 @@ fn messages_are_decoded(rt: HostRuntime) -> Result<(), Fail> {
         ),
         ("ifmp", "# two words\n00 00\n", "refused 2 Arity\n", 2),
     ] {
-        let (given, sink) = outcome(rt.alloc(), &["decode", protocol], input, 4096, &[], &[])?;
+        let (given, sink) = outcome(rt.alloc(), &["decode", protocol], input, 4096)?;
         assert_eq!(rt; given, status, "{protocol} {input:?}");
         assert_eq!(rt; sink.written(), text.as_bytes(), "{protocol} {input:?}");
     }
@@ -324,7 +348,7 @@ fn refused_lines(rt: HostRuntime) -> Result<(), Fail> {
         ("forward a:1", "refused 7 UnknownWord\n"),
     ] {
         let script = format!(in rt.alloc(); "{TWO_ROUTERS}\n{line}\nnode d 10.0.4.1\n")?;
-        let (given, sink) = outcome(rt.alloc(), &["replay"], script.as_str(), 4096, &[], &[])?;
+        let (given, sink) = outcome(rt.alloc(), &["replay"], script.as_str(), 4096)?;
         assert_eq!(rt; given, 2);
         assert_eq!(rt; sink.written(), report.as_bytes());
     }
@@ -339,39 +363,77 @@ const ONE_FATE: &str =
 const ONE_REPORT: &str =
     "deliver a 1 4500001c0001000004119ecf0a0001010a0003011389138a00080000\nend events 1 sent 1 delivered 1 dropped 0 refused 0 losses 0 redirects 0 switched 0 chance 0\n";
 
-/// A source that fails at each read in turn gives status 3 and writes nothing; a sink that fails at
-/// each write in turn gives status 4 and a front of the report. A fault that would come later than
-/// that many reads and writes never comes.
+const ONE_DOCUMENT: &str =
+    "topology = [\"node a 10.0.1.1\", \"route a 10.0.0.0/8 local\"]\nevents = [\"send a 4500001c0001000004119ecf0a0001010a0003011389138a00080000\"]\n";
+
+/// Each of so many reads in pieces of so many octets fails in turn: the status is 3, nothing is written,
+/// and what that read would have given is left.
+fn fail_each_read(
+    rt: &impl Abort,
+    alloc: Global,
+    texts: &[&str],
+    text: &str,
+    piece: usize,
+    reads: u32,
+) -> Result<(), Fail>
+    requires { 0 < piece }
+{
+    for before in 0..reads {
+        let mut source = source_of(alloc, text, piece, &[before + 1])?;
+        let (given, sink) = outcome_over(alloc, texts, &mut source, piece, &[])?;
+        assert_eq!(rt; given, 3);
+        assert_eq!(rt; sink.written(), b"".as_slice());
+        let left = read_to_end(alloc, &mut source, 4096)?;
+        let read = piece.saturating_mul(before as usize);
+        assert!(rt; text.as_bytes().ends_with(left.as_slice()));
+        assert_eq!(rt; left.len(), text.len().saturating_sub(read));
+    }
+    Ok(())
+}
+
+/// Each of so many writes in pieces of so many octets fails in turn: the status is 4, and what is written
+/// is what the writes before it took, a front of the report.
+fn fail_each_write(
+    rt: &impl Abort,
+    alloc: Global,
+    texts: &[&str],
+    text: &str,
+    report: &str,
+    piece: usize,
+    writes: u32,
+) -> Result<(), Fail>
+    requires { 0 < piece }
+{
+    for before in 0..writes {
+        let mut source = source_of(alloc, text, piece, &[])?;
+        let (given, sink) = outcome_over(alloc, texts, &mut source, piece, &[before + 1])?;
+        assert_eq!(rt; given, 4);
+        assert!(rt; report.as_bytes().starts_with(sink.written()));
+        assert_eq!(rt; sink.written().len(), piece.saturating_mul(before as usize));
+    }
+    Ok(())
+}
+
+/// Each read and each write fails in turn. Where only calls behind them would fail, all of the report
+/// is written.
 #[test]
 fn faults_end_the_run(rt: HostRuntime) -> Result<(), Fail> {
-    for (word, network, events, report, piece, reads, writes) in [
-        ("replay", ONE_NODE, ONE_PACKET, ONE_REPORT, 1, 106, 162),
-        ("replay", ONE_NODE, ONE_PACKET, ONE_REPORT, 7, 16, 24),
-        ("replay", ONE_NODE, ONE_PACKET, ONE_REPORT, 4096, 2, 1),
-        ("replay", TWO_MET, LOSING, LOSING_REPORT, 7, 59, 31),
-        ("replay", TWO_MET, LOSING, LOSING_REPORT, 4096, 2, 1),
-        ("ideal", TWO_ROUTERS, ONE_PACKET, ONE_FATE, 7, 24, 16),
-    ] {
-        let script = format!(in rt.alloc(); "{network}{events}")?;
-        for call in 1..reads + 1 {
-            let (given, sink) = outcome(rt.alloc(), &[word], script.as_str(), piece, &[call], &[])?;
-            assert_eq!(rt; given, 3);
-            assert_eq!(rt; sink.written(), b"".as_slice());
-        }
-        for call in 1..writes + 1 {
-            let (given, sink) = outcome(rt.alloc(), &[word], script.as_str(), piece, &[], &[call])?;
-            assert_eq!(rt; given, 4);
-            assert!(rt; report.as_bytes().starts_with(sink.written()));
-            assert!(rt; sink.written().len() < report.len());
-        }
-        let (given, sink) = outcome(
-            rt.alloc(),
-            &[word],
-            script.as_str(),
-            piece,
-            &[reads + 1],
-            &[writes + 1],
-        )?;
+    let losing = format!(in rt.alloc(); "{TWO_MET}{LOSING}")?;
+    let crossing = format!(in rt.alloc(); "{TWO_ROUTERS}{ONE_PACKET}")?;
+    let rows: [(&[&str], &str, &str, usize, u32, u32); 7] = [
+        (&["replay"], losing.as_str(), LOSING_REPORT, 1, 401, 216),
+        (&["replay"], losing.as_str(), LOSING_REPORT, 7, 59, 31),
+        (&["replay"], losing.as_str(), LOSING_REPORT, 4096, 2, 1),
+        (&["replay", "toml"], ONE_DOCUMENT, ONE_REPORT, 1, 137, 162),
+        (&["replay", "toml"], ONE_DOCUMENT, ONE_REPORT, 7, 21, 24),
+        (&["replay", "toml"], ONE_DOCUMENT, ONE_REPORT, 4096, 2, 1),
+        (&["ideal"], crossing.as_str(), ONE_FATE, 7, 24, 16),
+    ];
+    for (texts, text, report, piece, reads, writes) in rows {
+        fail_each_read(&rt, rt.alloc(), texts, text, piece, reads)?;
+        fail_each_write(&rt, rt.alloc(), texts, text, report, piece, writes)?;
+        let mut source = source_of(rt.alloc(), text, piece, &[reads + 1])?;
+        let (given, sink) = outcome_over(rt.alloc(), texts, &mut source, piece, &[writes + 1])?;
         assert_eq!(rt; given, 0);
         assert_eq!(rt; sink.written(), report.as_bytes());
     }
@@ -419,18 +481,8 @@ fn statuses_tell_who_failed(rt: HostRuntime) -> Result<(), Fail> {
         (&["replay", "x"], &[1], 0, 4, ""),
     ];
     for (texts, failing_reads, piece, status, written) in rows {
-        let words = words_of(rt.alloc(), texts)?;
-        let octets = script.as_bytes().to_vec(rt.alloc())?;
-        let mut source = MemSource::new(octets, 64, failing_reads.to_vec(rt.alloc())?);
-        let mut sink = MemSink::new(rt.alloc(), piece, Vec::new(rt.alloc()))?;
-        let mut meter = Meter::new();
-        let given = run(
-            rt.alloc(),
-            words.as_slice(),
-            &mut source,
-            &mut sink,
-            &mut meter,
-        );
+        let mut source = source_of(rt.alloc(), script.as_str(), 64, failing_reads)?;
+        let (given, sink) = outcome_over(rt.alloc(), texts, &mut source, piece, &[])?;
         assert_eq!(rt; given, status);
         assert_eq!(rt; sink.written(), written.as_bytes());
     }
