@@ -77,7 +77,8 @@ use Rattle.port_model.specs.Desk.{Standing}
 use Rattle.port_model.specs.Grants.{grant_on}
 use Rattle.port_model.specs.Hearing.{label_by}
 use Rattle.world_model.specs.Performing.{works}
-use Rattle.port_words.specs.Words.{Terms, IsOfHeld, IsWord, IsNoted, IsSent, waited, of_packet, away, said, bound, IsSteady, IsSteadyAt, IsSteadily}
+use Rattle.port_words.specs.Words.{Terms, of_default, of_label, IsMade, IsOfHeld, IsWord, IsNoted, IsSent, waited, of_packet, away, said, bound, IsSteady, IsSteadyAt, IsSteadily}
+use Rattle.world_views.specs.Made.{IsFit}
 use Rattle.port_words.proofs.Clearing.{Waits, OldOrFresh, releases_j, causes_j, clears_j, cleared_old}
 use Rattle.port_words.proofs.Rules.{ticks_v, used_v}
 use Rattle.port_words.proofs.Hearing.{Agrees, hears_v, counts_v}
@@ -95,16 +96,17 @@ pub record Ends (a : Acted) (cell : Cell) (taker : Taker) (payload : List ℕ) :
   pub passes : payload_in (octets_of (first ∷ cells)) ≡ Some payload
 
 -- a packet is in it
-abbrev pub HoldsPacket : Taker → (payload : List ℕ) → Type 0
-HoldsPacket ForGsmp payload = ⊥
-HoldsPacket (ForLabel linked label) payload = Unit {0}
-HoldsPacket (ForDefault linked) payload = (packet : List ℕ) × (default_unwrapped payload ≡ Ok packet) × ((protocol_of packet == control_protocol) ≡ false)
+abbrev pub HoldsPacket : Taker → (payload packet : List ℕ) → Type 0
+HoldsPacket ForGsmp payload packet = ⊥
+HoldsPacket (ForLabel linked label) payload packet = unwrapped label.flow payload ≡ Ok packet
+HoldsPacket (ForDefault linked) payload packet = (default_unwrapped payload ≡ Ok packet) × ((protocol_of packet == control_protocol) ≡ false)
 
--- *What a cell is*: the port agrees to a message that comes in its frame, and a frame in which a packet comes is a packet's
+-- *What a cell is*: the port agrees to a message that comes in its frame, and a frame in which a packet comes is that of a packet
+-- that may be in the network
 pub record IsHeeded (t : Terms) (a : Acted) (cell : Cell) : Type 0 where
   pub heard : (linked : Linked) (payload packet : List ℕ) (message : IfmpMessage) → Ends a cell (ForDefault linked) payload → default_unwrapped payload ≡ Ok packet
       → (protocol_of packet == control_protocol) ≡ true → ifmp_decoded (drop 20 packet) ≡ Ok message → Agrees t linked.setup linked.port message
-  pub sent_on : (taker : Taker) (payload : List ℕ) → Ends a cell taker payload → HoldsPacket taker payload → cell.mark.packet ≢ 0
+  pub sent_on : (taker : Taker) (payload packet : List ℕ) → Ends a cell taker payload → HoldsPacket taker payload packet → (cell.mark.packet ≢ 0) × IsFit packet
   pub gathers : (linked : Linked) → taker_of a.controller cell.header.channel ≡ Some (ForDefault linked) → t.gathered linked.setup.port cell
 
 -- *Cells that are gathered*
@@ -146,9 +148,9 @@ module _ (t : Terms) where
   H a = IsSteadily t a
 
   -- *Packets*
-  next_h : (a : Acted) (came : Mark) (channel : Channel) (payload : List ℕ) → came.packet ≢ 0 → H a → H (sends_next a came channel payload)
-  next_h a came channel payload packet h = on_each H (is_control came) _ (sends a channel (next_mark came) payload)
-      (λ control. absurd (packet (first (came.packet) (nat_lt 0 came.frame) control))) (λ other. packet_h t a channel (next_mark came) payload packet h)
+  next_h : (a : Acted) (came : Mark) (channel : Channel) (payload : List ℕ) → came.packet ≢ 0 → IsMade t.framed t.refused t.address (record { mark = next_mark came; payload = payload }) → H a → H (sends_next a came channel payload)
+  next_h a came channel payload packet made h = on_each H (is_control came) _ (sends a channel (next_mark came) payload)
+      (λ control. absurd (packet (first (came.packet) (nat_lt 0 came.frame) control))) (λ other. packet_h t a channel (next_mark came) payload packet made h)
     where
       first : (n : ℕ) (b : Bool) → ((n == 0) && b) ≡ true → n ≡ 0
       first n b e = grind (arith, nat_tests, both (n == 0) b e)
@@ -157,12 +159,12 @@ module _ (t : Terms) where
           both true y e = refl
           both false y e = absurd (cc e)
 
-  pub routes_h : (a : Acted) (came : Mark) (packet : List ℕ) → came.packet ≢ 0 → H a → H (routes a came packet)
-  routes_h a came packet some h = by (hop_of a.controller.table packet)
+  pub routes_h : (a : Acted) (came : Mark) (packet : List ℕ) → came.packet ≢ 0 → IsFit packet → H a → H (routes a came packet)
+  routes_h a came packet some fit h = by (hop_of a.controller.table packet)
     where
       on_h : (port : PortNo) (o : Option Grant) → H (goes_by a came port (onward packet) o)
-      on_h port None = next_h a came (default_home port).channel (default_payload (onward packet)) some h
-      on_h port (Some grant) = next_h a came (control_end port grant.label).channel (labelled_payload (kind_of grant.flow) (onward packet)) some h
+      on_h port None = next_h a came (default_home port).channel (default_payload (onward packet)) some (of_default packet fit refl) h
+      on_h port (Some grant) = next_h a came (control_end port grant.label).channel (labelled_payload (kind_of grant.flow) (onward packet)) some (of_label (kind_of grant.flow) packet fit refl) h
 
       by : (hop : Hop) → H (forwarded a came packet hop)
       by Here = note_h t a _ tt h
@@ -178,7 +180,7 @@ module _ (t : Terms) where
       turned = record a { controller = record a.controller { adjacency = step.side } }
 
       k : H turned
-      k = record { address = h.address; ports = h.ports; cells = h.cells; records = h.records }
+      k = record { address = h.address; ports = h.ports; cells = h.cells; records = h.records; frames = h.frames }
 
       by : (answer : Answer Greeting Party) → H (answers turned answer)
       by Quiet = k
@@ -209,10 +211,10 @@ module _ (t : Terms) (speaks : (port : PortNo) (instance : ℕ) → t.own port i
       by step Reset = node_h t a h
 
   -- *A label's channel*, and a default one
-  label_h : (a : Acted) (linked : Linked) (label : Label) (mark : Mark) (r : Result (List ℕ) EncapsFault) → mark.packet ≢ 0 → IsSteadily t a → IsSteadily t (label_holds a linked label mark r)
+  label_h : (a : Acted) (linked : Linked) (label : Label) (mark : Mark) (r : Result (List ℕ) EncapsFault) → ((packet : List ℕ) → r ≡ Ok packet → (mark.packet ≢ 0) × IsFit packet) → IsSteadily t a → IsSteadily t (label_holds a linked label mark r)
   label_h a linked label mark (Err fault) some h = note_h t a _ tt h
   label_h a linked label mark (Ok packet) some h = at_port_h t (routes a mark packet) linked.setup.port (λ setup desk w. used w label.number)
-      (λ other found v. used_v t other.setup (speaks other.setup.port) (begins (routes a mark packet) other) label.number v) (routes_h t a mark packet some h)
+      (λ other found v. used_v t other.setup (speaks other.setup.port) (begins (routes a mark packet) other) label.number v) (routes_h t a mark packet (some packet refl).0 (some packet refl).1 h)
 
   heard_h : (a : Acted) (port : PortNo) (packet : List ℕ) (r : Result IfmpMessage IfmpFault)
       → ((linked : Linked) (message : IfmpMessage) → linked_at a.controller port ≡ Some linked → r ≡ Ok message → Agrees t linked.setup linked.port message) → IsSteadily t a → IsSteadily t (ifmp_holds a port packet r)
@@ -227,7 +229,7 @@ module _ (t : Terms) (speaks : (port : PortNo) (instance : ℕ) → t.own port i
 
     -- *A frame of a default channel*, where its messages are agreed to and its packets are packets'
     default_h : (a : Acted) (port : PortNo) (mark : Mark) (r : Result (List ℕ) EncapsFault)
-        → ((packet : List ℕ) → r ≡ Ok packet → (protocol_of packet == control_protocol) ≡ false → mark.packet ≢ 0)
+        → ((packet : List ℕ) → r ≡ Ok packet → (protocol_of packet == control_protocol) ≡ false → (mark.packet ≢ 0) × IsFit packet)
         → ((linked : Linked) (packet : List ℕ) (message : IfmpMessage) → linked_at a.controller port ≡ Some linked → r ≡ Ok packet → (protocol_of packet == control_protocol) ≡ true
         → ifmp_decoded (drop 20 packet) ≡ Ok message → Agrees t linked.setup linked.port message) → IsSteadily t a → IsSteadily t (default_holds a port mark r)
     default_h a port mark (Err fault) some agrees h = note_h t a _ tt h
@@ -237,7 +239,7 @@ module _ (t : Terms) (speaks : (port : PortNo) (instance : ℕ) → t.own port i
         by (Some fault) = note_h t a _ tt h
         by None = on_each (IsSteadily t) (protocol_of packet == control_protocol) (ifmp_holds a port packet (ifmp_decoded (drop 20 packet))) (counted_at (routes a mark packet) port packet)
             (λ control. heard_h a port packet (ifmp_decoded (drop 20 packet)) (λ linked message found e. agrees linked packet message found refl control e) h)
-            (λ other. counted_h (routes a mark packet) port packet (routes_h t a mark packet (some packet refl other) h))
+            (λ other. counted_h (routes a mark packet) port packet (routes_h t a mark packet (some packet refl other).0 (some packet refl other).1 h))
 
 -- *A cell* is gathered, and the chain that it ends is tested
 module _ (t : Terms) (a : Acted) (cell : Cell) (heeds : IsHeeded t a cell) where
@@ -255,7 +257,7 @@ module _ (t : Terms) (a : Acted) (cell : Cell) (heeds : IsHeeded t a cell) where
           (taken_grows a.notes (nat_lt 0 (free_slots a.controller)) (reassembly_of a.controller taker) cell) h
 
       by : (taker : Taker) → taker_of a.controller cell.header.channel ≡ Some taker → Belongs a.controller cell.header.channel taker → IsSteadily t (gathered_by taker)
-      by ForGsmp is there = (let k : IsSteadily t (record a { notes = (taken_by ForGsmp).notes }) = noted_h ForGsmp in record { address = k.address; ports = k.ports; cells = k.cells; records = k.records })
+      by ForGsmp is there = (let k : IsSteadily t (record a { notes = (taken_by ForGsmp).notes }) = noted_h ForGsmp in record { address = k.address; ports = k.ports; cells = k.cells; records = k.records; frames = k.frames })
       by (ForDefault linked) is there = (let was : IsSteadyAt t linked = found_h t a (port_on cell.header.channel) linked there h in
           put_h t (record a { notes = (taken_by (ForDefault linked)).notes }) (record linked { reassembly = (taken_by (ForDefault linked)).reassembly })
           (was.0, taken_chain (t.gathered linked.setup.port) a.notes (nat_lt 0 (free_slots a.controller)) linked.reassembly cell was.1 (heeds.gathers linked is)) (noted_h (ForDefault linked)))
@@ -305,9 +307,9 @@ module _ (t : Terms) (speaks : (port : PortNo) (instance : ℕ) → t.own port i
       by_taker : (taker : Taker) → taker_of a.controller cell.header.channel ≡ Some taker → (b : Acted) (payload : List ℕ) → Ends a cell taker payload → b.controller ≡ (gathered_by t a cell heeds taker).controller
           → IsSteadily t b → IsSteadily t (frame_holds b taker cell.mark payload)
       by_taker ForGsmp is b payload ends same k = absurd (other is)
-      by_taker (ForLabel linked label) is b payload ends same k = label_h t speaks b linked label cell.mark (unwrapped label.flow payload) (heeds.sent_on (ForLabel linked label) payload ends tt) k
+      by_taker (ForLabel linked label) is b payload ends same k = label_h t speaks b linked label cell.mark (unwrapped label.flow payload) (λ packet e. heeds.sent_on (ForLabel linked label) payload packet ends e) k
       by_taker (ForDefault linked) is b payload ends same k = default_h t speaks wires b linked.setup.port cell.mark (default_unwrapped payload)
-          (λ packet e control. heeds.sent_on (ForDefault linked) payload ends (packet, e, control))
+          (λ packet e control. heeds.sent_on (ForDefault linked) payload packet ends (e, control))
           (λ x packet message found e control f. subst (λ (y : Linked). Agrees t y.setup y.port message)
           (linked_is (record linked { reassembly = (taken_by t a cell heeds (ForDefault linked)).reassembly }) x
           (sym (put_there (record a { notes = (taken_by t a cell heeds (ForDefault linked)).notes }) (port_on cell.header.channel) linked (record linked { reassembly = (taken_by t a cell heeds (ForDefault linked)).reassembly })
@@ -370,6 +372,7 @@ module _ (t : Terms) (speaks : (port : PortNo) (instance : ℕ) → t.own port i
     cells = every_map (IsSent t a.notes.records a.notes.frames a.numbers.controls) (IsSent later a.notes.records a.notes.frames a.numbers.controls) a.controller.queue
         (λ cell s. sent_same a.notes.records a.notes.frames a.numbers.controls cell s) h.cells;
     records = every_map (IsNoted t) (IsNoted later) a.notes.records noted_same h.records;
+    frames = h.frames;
   }
 
   -- what an answer causes, a binding among it
@@ -409,7 +412,7 @@ module _ (t : Terms) (speaks : (port : PortNo) (instance : ℕ) → t.own port i
   answer_h a message j h = by (answered a.controller.desk message)
     where
       at_desk : (answer : Answered) → IsSteadily t (with_desk a (after_answer a.controller.desk answer))
-      at_desk answer = record { address = h.address; ports = h.ports; cells = h.cells; records = h.records }
+      at_desk answer = record { address = h.address; ports = h.ports; cells = h.cells; records = h.records; frames = h.frames }
 
       by : (answer : Answered) → IsSteadily later (answers_desk (with_desk a (after_answer a.controller.desk answer)) answer)
       by Unknown = later_h _ (at_desk Unknown)

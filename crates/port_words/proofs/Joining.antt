@@ -94,14 +94,14 @@ module _ (t : Terms) where
   begins_change_h a change h =
       let begun : Acted = record a { controller = record a.controller { is_begun = true } } in
       on_both H a.controller.is_begun a (fold takes_join_back begun (changed_joins a.controller change)) h
-      (fold_h t takes_join_back (λ b join k. takes_back_h t b join.input (output_of join) k) (changed_joins a.controller change) begun (record { address = h.address; ports = h.ports; cells = h.cells; records = h.records }))
+      (fold_h t takes_join_back (λ b join k. takes_back_h t b join.input (output_of join) k) (changed_joins a.controller change) begun (record { address = h.address; ports = h.ports; cells = h.cells; records = h.records; frames = h.frames }))
 
   changed_h : (a : Acted) (change : RouteChange) (later : List RouteChange) → H a → H (takes_change a change later)
   changed_h a change later h =
       let taken : Acted = record a {
         controller = record a.controller { table = changed a.controller.table change; waiting = later; is_begun = false; changes = a.controller.changes + 1 };
       } in
-      note_h t taken (Routes a.controller.node (a.controller.changes + 1)) tt (record { address = h.address; ports = h.ports; cells = h.cells; records = h.records })
+      note_h t taken (Routes a.controller.node (a.controller.changes + 1)) tt (record { address = h.address; ports = h.ports; cells = h.cells; records = h.records; frames = h.frames })
 
   takes_each_h : (changes : List RouteChange) (a : Acted) → H a → H (takes_each a changes)
   takes_each_h [] a h = h
@@ -115,17 +115,17 @@ module _ (t : Terms) where
   takes_changes_h a h = on_both H a.controller.has_met (takes_each a a.controller.waiting) a (takes_each_h a.controller.waiting a h) h
 
   pub change_comes_h : (a : Acted) (change : RouteChange) → H a → H (change_comes a change)
-  change_comes_h a change h = takes_changes_h (record a { controller = record a.controller { waiting = a.controller.waiting ++ change ∷ [] } }) (record { address = h.address; ports = h.ports; cells = h.cells; records = h.records })
+  change_comes_h a change h = takes_changes_h (record a { controller = record a.controller { waiting = a.controller.waiting ++ change ∷ [] } }) (record { address = h.address; ports = h.ports; cells = h.cells; records = h.records; frames = h.frames })
 
   -- *Meeting the switch*
   pub meets_h : (a : Acted) → H a → H (meets a)
-  meets_h a h = asks_h t (with_desk a empty_desk) AllPorts (record { address = h.address; ports = h.ports; cells = h.cells; records = h.records })
+  meets_h a h = asks_h t (with_desk a empty_desk) AllPorts (record { address = h.address; ports = h.ports; cells = h.cells; records = h.records; frames = h.frames })
 
   pub empties_h : (a : Acted) → H a → H (empties a)
   empties_h a h = fold_h t asks (asks_h t) (map DeleteAll (record { 0 = 0 } ∷ up_ports a.controller)) a h
 
   ends_meeting_h : (a : Acted) → H a → H (ends_meeting a)
-  ends_meeting_h a h = fold_h t asks (asks_h t) (flat_map default_branches (up_ports a.controller)) (record a { controller = record a.controller { has_met = true } }) (record { address = h.address; ports = h.ports; cells = h.cells; records = h.records })
+  ends_meeting_h a h = fold_h t asks (asks_h t) (flat_map default_branches (up_ports a.controller)) (record a { controller = record a.controller { has_met = true } }) (record { address = h.address; ports = h.ports; cells = h.cells; records = h.records; frames = h.frames })
 
   behind_h : (a : Acted) (at_port : PortNo) → H a → H (behind_delete_all a at_port)
   behind_h a at_port h = on_both H a.controller.has_met (asks a (AddBranch (default_end at_port) (default_home at_port))) (if has_emptied a.controller then ends_meeting a else a)

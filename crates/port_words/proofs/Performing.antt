@@ -56,7 +56,7 @@ module _ (t : Terms) where
 
   worked_h : (a : Acted) (linked : Linked) (w : Work) → IsSteady t linked.setup w.port → IsSteadyAt t linked → H a → H (with_work a linked w)
   worked_h a linked w k was h = put_h t (record a { numbers = record a.numbers { instances = w.instances } }) (record linked { port = w.port }) (k, was.1)
-      (record { address = h.address; ports = h.ports; cells = h.cells; records = h.records })
+      (record { address = h.address; ports = h.ports; cells = h.cells; records = h.records; frames = h.frames })
 
   -- *Node reset*
   closes_h : (port : PortNo) (a : Acted) (action : Action) → IsFair t port action → H a → H (closes_by port a action)
@@ -83,14 +83,14 @@ module _ (t : Terms) where
           (with_work a linked (restarts linked.setup (begins a linked))) (worked_h a linked (restarts linked.setup (begins a linked)) v.port (found_h t a port linked found h) h)
 
   pub node_h : (a : Acted) → H a → H (node_resets a)
-  node_h a h = fold_h t port_restarts restarts_h (ports_of a.controller) (resets_gsmp a) (record { address = h.address; ports = h.ports; cells = h.cells; records = h.records })
+  node_h a h = fold_h t port_restarts restarts_h (ports_of a.controller) (resets_gsmp a) (record { address = h.address; ports = h.ports; cells = h.cells; records = h.records; frames = h.frames })
 
   pub node_restarts_h : (a : Acted) → H a → H (node_restarts a)
   node_restarts_h a h =
       let fresh : Acted = node_resets a in
       let k : H fresh = node_h a h in
       let n : H (record fresh { notes = cut fresh.notes fresh.controller.reassembly }) = grows_h t {Here = λ node. ⊥} fresh (cut fresh.notes fresh.controller.reassembly) (cut_frames fresh.notes fresh.controller.reassembly) (cut_grows fresh.notes fresh.controller.reassembly) k in
-      fold_h t cuts_default (cuts_default_h t) (ports_of a.controller) (cuts_gsmp fresh) (record { address = n.address; ports = n.ports; cells = n.cells; records = n.records })
+      fold_h t cuts_default (cuts_default_h t) (ports_of a.controller) (cuts_gsmp fresh) (record { address = n.address; ports = n.ports; cells = n.cells; records = n.records; frames = n.frames })
 
   -- *Asking*
   pub sends_request_h : (a : Acted) (s : Standing) → H a → H (sends_request a s)
@@ -99,7 +99,7 @@ module _ (t : Terms) where
   pub asks_h : (a : Acted) (request : Request) → H a → H (asks a request)
   asks_h a request h = on_both H (is_estab a.controller.adjacency.state) (if a.controller.desk.next == last_transaction then node_resets a else asks_next a request) a
       (on_both H (a.controller.desk.next == last_transaction) (node_resets a) (asks_next a request) (node_h a h)
-      (sends_request_h (with_desk a (asked a.controller.desk request)) (record { number = a.controller.desk.next; request = request }) (record { address = h.address; ports = h.ports; cells = h.cells; records = h.records }))) h
+      (sends_request_h (with_desk a (asked a.controller.desk request)) (record { number = a.controller.desk.next; request = request }) (record { address = h.address; ports = h.ports; cells = h.cells; records = h.records; frames = h.frames }))) h
 
   pub takes_back_h : (a : Acted) (input output : End) → H a → H (takes_back a input output)
   takes_back_h a input output h = on_both H (is_led_home a.controller.desk input (home_of input)) a (asks a (MoveBranch input output (home_of input))) h (asks_h a (MoveBranch input output (home_of input)) h)
@@ -111,7 +111,7 @@ module _ (t : Terms) where
   does_h port a (Note item) fair h = note_h t a item (plain_noted item fair) h
   does_h port a (CutChain label) fair h = cuts_h t port a label h
   does_h port a (TakeBack input output) fair h = takes_back_h a input output h
-  does_h port a (Withdraw input) fair h = record { address = h.address; ports = h.ports; cells = h.cells; records = h.records }
+  does_h port a (Withdraw input) fair h = record { address = h.address; ports = h.ports; cells = h.cells; records = h.records; frames = h.frames }
   does_h port a actions.Reset fair h = h
 
   resets_h : (a : Acted) (port : PortNo) → H a → H (resets_of a (linked_at a.controller port))

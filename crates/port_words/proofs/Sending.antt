@@ -20,6 +20,7 @@ use Rattle.ipv4_packet.specs.declared.flow.FlowId.{FlowId}
 use Rattle.gsmp_wire.specs.Layout.{octets_of as gsmp_octets}
 use Rattle.gsmp_wire.specs.declared.message.Message.{Message as GsmpMessage}
 use Rattle.ifmp_wire.specs.declared.message.Message.{Message as IfmpMessage}
+use Rattle.ifmp_wire.specs.declared.message.Message.TheVariants as ifmp
 use Rattle.ifmp_wire.specs.declared.message.Message.TheVariants.{Redirect}
 use Rattle.link_model.specs.declared.frames.Frame.{Frame}
 use Rattle.link_model.specs.declared.record.Record.{Record}
@@ -31,7 +32,7 @@ use Rattle.frame_model.specs.Frame.{frame_cells}
 use Rattle.frame_model.specs.Reassembly.{cut, nothing_taken}
 use Rattle.ordered_lists.specs.Ordered.{Every}
 use Rattle.ordered_lists.proofs.Every.{every_join, every_map, every_mapped, every_all}
-use Rattle.port_facts.proofs.Keyed.{at_every, put_every}
+use Rattle.port_facts.proofs.Keyed.{at_every, put_every, every_more}
 use Rattle.world_model.specs.Controller.{Acted, Linked, port_key, linked_at, with_linked, note, chain_of, chains_with, default_channel, default_home}
 use Rattle.world_model.specs.Cells.{same_channel}
 use Rattle.world_model.specs.Sending.{sends, sends_control, says_gsmp, says_ifmp}
@@ -43,7 +44,7 @@ use Rattle.controller_views.specs.Lifted.{payload_by}
 use Rattle.controller_views.proofs.Sends.{sent_cases}
 use Rattle.controller_views.proofs.Works.{cut_frames}
 use Rattle.shown_cells.proofs.Made.{made_is, made_elsewhere}
-use Rattle.port_words.specs.Words.{Terms, IsWord, IsFrameOf, IsSent, waited, of_packet, away, said, bound, IsNoted, IsSteadyAt, IsSteadily}
+use Rattle.port_words.specs.Words.{Terms, DisownsNone, IsMade, of_gsmp, of_port, IsOfHeld, IsWord, IsFrameOf, IsSent, waited, of_packet, away, said, bound, IsNoted, IsSteadyAt, IsSteadily}
 
 -- *What is noted and binds nothing*
 nat_same : (n : ℕ) → nat_eq n n ≡ true
@@ -114,6 +115,7 @@ module _ (t : Terms) where
         (λ item has. subst (λ (rs : List Record). Contains rs item) (sym records) (Contains-append_left a.notes.records more item has)) (omega arith)
         (λ mark payload control drawn e. ap (λ (fs : List Frame). payload_of fs mark) frames ∙ e) sent) h.cells;
     records = subst (Every (IsNoted t)) (sym records) (every_join (IsNoted t) a.notes.records more h.records noted);
+    frames = subst (Every (IsMade t.framed t.refused t.address)) (sym frames) h.frames;
   }
 
   pub note_h : (a : Acted) (item : Record) → IsNoted t item → IsSteadily t a → IsSteadily t (note a item)
@@ -131,23 +133,28 @@ module _ (t : Terms) where
   abbrev pub with_frame : List Frame → Mark → List ℕ → List Frame
   with_frame frames mark payload = frames ++ record { mark = mark; payload = payload } ∷ []
 
+  abbrev MayMake : Mark → List ℕ → Type 0
+  MayMake mark payload = IsMade t.framed t.refused t.address (record { mark = mark; payload = payload })
+
   -- under the next control mark
-  pub control_h : (a : Acted) (channel : Channel) (payload : List ℕ)
+  pub control_h : (a : Acted) (channel : Channel) (payload : List ℕ) → MayMake (next_control a.numbers) payload
       → ((cell : Cell) → cell.header.channel ≡ channel → cell.mark ≡ next_control a.numbers → IsSent t a.notes.records (with_frame a.notes.frames (next_control a.numbers) payload) (a.numbers.controls + 1) cell)
       → IsSteadily t a → IsSteadily t (sends_control a channel payload)
-  control_h a channel payload new h = sent_cases (IsSteadily t) b channel mark payload
+  control_h a channel payload made new h = sent_cases (IsSteadily t) b channel mark payload
       (record {
         address = h.address;
         ports = h.ports;
         cells = every_join (IsSent t a.notes.records frames (a.numbers.controls + 1)) a.controller.queue (frame_cells channel mark payload) (later a.notes.records (λ item has. has))
             (frame_all (IsSent t a.notes.records frames (a.numbers.controls + 1)) channel mark payload new);
         records = h.records;
+        frames = made_all;
       })
       (record {
         address = h.address;
         ports = h.ports;
         cells = later (a.notes.records ++ Loss mark PoolFull ∷ []) (λ item has. Contains-append_left a.notes.records (Loss mark PoolFull ∷ []) item has);
         records = every_join (IsNoted t) a.notes.records (Loss mark PoolFull ∷ []) h.records (tt, tt);
+        frames = made_all;
       })
     where
       mark : Mark
@@ -159,6 +166,9 @@ module _ (t : Terms) where
       frames : List Frame
       frames = with_frame a.notes.frames mark payload
 
+      made_all : Every (IsMade t.framed t.refused t.address) frames
+      made_all = every_more (IsMade t.framed t.refused t.address) a.notes.frames (record { mark = mark; payload = payload }) h.frames made
+
       other : (m : Mark) → m.frame ≤ a.numbers.controls → mark ≢ m
       other m drawn e = absurd (omega (arith, drawn, ap (λ (x : Mark). x.frame) e))
 
@@ -168,24 +178,29 @@ module _ (t : Terms) where
           (λ m p control drawn e. made_elsewhere a.notes.frames mark m payload (other m drawn) ∙ e) sent) h.cells
 
   -- a packet's
-  pub packet_h : (a : Acted) (channel : Channel) (mark : Mark) (payload : List ℕ) → mark.packet ≢ 0 → IsSteadily t a → IsSteadily t (sends a channel mark payload)
-  packet_h a channel mark payload packet h = sent_cases (IsSteadily t) a channel mark payload
+  pub packet_h : (a : Acted) (channel : Channel) (mark : Mark) (payload : List ℕ) → mark.packet ≢ 0 → MayMake mark payload → IsSteadily t a → IsSteadily t (sends a channel mark payload)
+  packet_h a channel mark payload packet made h = sent_cases (IsSteadily t) a channel mark payload
       (record {
         address = h.address;
         ports = h.ports;
         cells = every_join (IsSent t a.notes.records frames a.numbers.controls) a.controller.queue (frame_cells channel mark payload) (later a.notes.records (λ item has. has))
             (frame_all (IsSent t a.notes.records frames a.numbers.controls) channel mark payload (λ cell on under. of_packet (λ e. packet (ap (λ (m : Mark). m.packet) (sym under) ∙ e))));
         records = h.records;
+        frames = made_all;
       })
       (record {
         address = h.address;
         ports = h.ports;
         cells = later (a.notes.records ++ Loss mark PoolFull ∷ []) (λ item has. Contains-append_left a.notes.records (Loss mark PoolFull ∷ []) item has);
         records = every_join (IsNoted t) a.notes.records (Loss mark PoolFull ∷ []) h.records (tt, tt);
+        frames = made_all;
       })
     where
       frames : List Frame
       frames = with_frame a.notes.frames mark payload
+
+      made_all : Every (IsMade t.framed t.refused t.address) frames
+      made_all = every_more (IsMade t.framed t.refused t.address) a.notes.frames (record { mark = mark; payload = payload }) h.frames made
 
       later : (records : List Record) → ((item : Record) → Contains a.notes.records item → Contains records item) → Every (IsSent t records frames a.numbers.controls) a.controller.queue
       later records grows = every_map (IsSent t a.notes.records a.notes.frames a.numbers.controls) (IsSent t records frames a.numbers.controls) a.controller.queue
@@ -200,7 +215,7 @@ module _ (t : Terms) where
       differs n above = grind (arith, nat_tests, above)
 
   pub gsmp_h : (a : Acted) (message : GsmpMessage) → IsSteadily t a → IsSteadily t (says_gsmp a message)
-  gsmp_h a message h = control_h a default_channel (gsmp_octets message) (λ cell on under. away (gsmp_away cell on)) h
+  gsmp_h a message h = control_h a default_channel (gsmp_octets message) (of_gsmp message refl) (λ cell on under. away (gsmp_away cell on)) h
 
   -- of IFMP
   said_frame : (a : Acted) (port : PortNo) (message : IfmpMessage) → IsSteadily t a → (cell : Cell) → cell.header.channel ≡ (default_home port).channel → cell.mark ≡ next_control a.numbers
@@ -213,19 +228,31 @@ module _ (t : Terms) where
         ∙ (made_is a.notes.frames (next_control a.numbers) (payload_by a.controller.address message) ∙ ap (λ (address : _). Some (payload_by address message)) h.address.0);
   }
 
+  disowns_none : (port : PortNo) (message : IfmpMessage) → IsOfHeld t port message → DisownsNone t.refused message
+  disowns_none port (ifmp.Error sender peer number code channel) held = held
+  disowns_none port (ifmp.Adjacency hello) held = tt
+  disowns_none port (ifmp.Redirect sender peer number lifetime channel flow) held = tt
+  disowns_none port (ifmp.Reclaim sender peer number channel flow) held = tt
+  disowns_none port (ifmp.ReclaimAck sender peer number channel flow) held = tt
+  disowns_none port (ifmp.LabelRange sender peer number least greatest) held = tt
+
+  may_say : (a : Acted) (message : IfmpMessage) → DisownsNone t.refused message → IsSteadily t a → MayMake (next_control a.numbers) (payload_by a.controller.address message)
+  may_say a message none h = of_port message none (ap (λ (address : _). payload_by address message) h.address.0)
+
   pub ifmp_h : (a : Acted) (port : PortNo) (message : IfmpMessage) → IsWord t port message → IsSteadily t a → IsSteadily t (says_ifmp port a message)
-  ifmp_h a port message word h = control_h a (default_home port).channel (payload_by a.controller.address message)
+  ifmp_h a port message word h = control_h a (default_home port).channel (payload_by a.controller.address message) (may_say a message (disowns_none port message word.held) h)
       (λ cell on under. said port message (said_frame a port message h cell on under) word) h
 
   -- the REDIRECT of a label whose binding was recorded
   pub bound_h : (a : Acted) (port : PortNo) (sender peer : Instance) (number lifetime label : ℕ) (flow : FlowId) → t.told port sender.0 → Contains a.notes.records (Bind t.node port label flow)
       → IsSteadily t a → IsSteadily t (says_ifmp port a (Redirect sender peer number lifetime (label_channel_of label) flow))
   bound_h a port sender peer number lifetime label flow told has h = control_h a (default_home port).channel (payload_by a.controller.address (Redirect sender peer number lifetime (label_channel_of label) flow))
+      (may_say a (Redirect sender peer number lifetime (label_channel_of label) flow) tt h)
       (λ cell on under. bound port sender peer number lifetime label flow (said_frame a port (Redirect sender peer number lifetime (label_channel_of label) flow) h cell on under) told has) h
 
   -- *A port is put in its place*
   pub put_h : (a : Acted) (after : Linked) → IsSteadyAt t after → IsSteadily t a → IsSteadily t (with_linked a after)
-  put_h a after k h = record { address = h.address; ports = put_every port_key (IsSteadyAt t) after a.controller.ports k h.ports; cells = h.cells; records = h.records }
+  put_h a after k h = record { address = h.address; ports = put_every port_key (IsSteadyAt t) after a.controller.ports k h.ports; cells = h.cells; records = h.records; frames = h.frames }
 
   pub found_h : (a : Acted) (port : PortNo) (linked : Linked) → linked_at a.controller port ≡ Some linked → IsSteadily t a → IsSteadyAt t linked
   found_h a port linked found h = at_every port_key (IsSteadyAt t) port.0 a.controller.ports linked h.ports found

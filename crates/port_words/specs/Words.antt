@@ -11,6 +11,12 @@ use Rattle.net_types.specs.Label.{label_channel_of}
 use Rattle.adjacency_table.specs.declared.State.TheVariants.{Clearing}
 use Rattle.atm_cells.specs.declared.cell.Cell.{Cell}
 use Rattle.ipv4_packet.specs.declared.flow.FlowId.{FlowId}
+use Rattle.ipv4_packet.specs.declared.flow.FlowKind.{FlowKind}
+use Rattle.ipv4_forward.specs.Hop.{onward}
+use Rattle.flow_encaps.specs.Default.{default_payload}
+use Rattle.flow_encaps.specs.Labelled.{labelled_payload}
+use Rattle.gsmp_wire.specs.declared.message.Message.{Message as GsmpMessage}
+use Rattle.gsmp_wire.specs.Layout.{octets_of as gsmp_octets}
 use Rattle.ifmp_wire.specs.declared.message.Message.{Message}
 use Rattle.ifmp_wire.specs.declared.message.Message.TheVariants.{Redirect, Error}
 use Rattle.ifmp_wire.specs.Message.{names_of}
@@ -28,12 +34,13 @@ use Rattle.port_model.specs.Port.{Session, Port, labels_of}
 use Rattle.world_model.specs.Controller.{Acted, Linked, default_home}
 use Rattle.world_model.specs.Cells.{same_channel}
 use Rattle.controller_views.specs.Lifted.{payload_by}
+use Rattle.world_views.specs.Made.{IsFit}
 use Rattle.world_views.specs.Tied.{tells_its_own}
 
 -- *What was so before the event*, by ports of the node: the instances that a port may have outside Clearing, and those that
--- its messages may tell, those of its peer that it may store, the flows that a grant of a label may be of, the labels that are held for a flow, of them
--- those that are being wired, those that may be offered and those that may be bound, the codes of Errors, the cells that a port may gather, and those that waited for the
--- switch
+-- its messages may tell, those of its peer that it may store, the flows that a grant of a label may be of, the labels that
+-- are held for a flow, of them those that are being wired, those that may be offered and those that may be bound, the codes
+-- of Errors beside those that disown nothing, the frames that were made, the cells that a port may gather, and those that waited for the switch
 pub record Terms : Type 1 where
   pub node : NodeId
   pub address : Addr
@@ -46,8 +53,24 @@ pub record Terms : Type 1 where
   pub offered : PortNo → ℕ → FlowId → Type 0
   pub bindable : PortNo → ℕ → FlowId → Type 0
   pub refused : ℕ → Type 0
+  pub framed : Frame → Type 0
   pub gathered : PortNo → Cell → Type 0
   pub waited : Cell → Type 0
+
+-- *A message* that disowns no label: an Error of another code than 1 (it is taken) and 4 (it is of another flow), or no Error;
+-- or an Error whose code may be refused
+abbrev pub DisownsNone : (refused : ℕ → Type 0) → Message → Type 0
+DisownsNone refused (Error sender peer number code channel) = refused code ⊎ ((code ≢ 1) × (code ≢ 4))
+DisownsNone refused message = Unit {0}
+
+-- *A frame* was made before; or it has a packet that is sent on, in the default encapsulation or as under a label, a message
+-- of GSMP, or a port's message, which disowns no label
+pub data IsMade (framed : Frame → Type 0) (refused : ℕ → Type 0) (address : Addr) (frame : Frame) : Type 0 where
+  was_made : framed frame → IsMade framed refused address frame
+  of_default : (packet : List ℕ) → IsFit packet → frame.payload ≡ default_payload (onward packet) → IsMade framed refused address frame
+  of_label : (kind : FlowKind) (packet : List ℕ) → IsFit packet → frame.payload ≡ labelled_payload kind (onward packet) → IsMade framed refused address frame
+  of_gsmp : (message : GsmpMessage) → frame.payload ≡ gsmp_octets message → IsMade framed refused address frame
+  of_port : (message : Message) → DisownsNone refused message → frame.payload ≡ payload_by address message → IsMade framed refused address frame
 
 module _ (t : Terms) where
   -- *A port*: a label that is being wired was so before; any other is held for its flow
@@ -71,8 +94,7 @@ module _ (t : Terms) where
     pub labels : Every (Stands setup.port) (labels_of port)
     pub grants : Every (IsGranted setup.port) port.grants
 
-  -- *A message*: it tells the port's own instance, a REDIRECT is of a label that may be offered, and an Error may have
-  -- its code, or denies no owner (codes 1 and 4)
+  -- *A message*: it tells the port's own instance, a REDIRECT is of a label that may be offered, and it disowns no label
   pub record IsRedirected (port : PortNo) (channel : Channel) (flow : FlowId) : Type 0 where
     pub number : ℕ
     pub is : channel ≡ label_channel_of number
@@ -128,3 +150,4 @@ module _ (t : Terms) where
     pub ports : Every IsSteadyAt a.controller.ports
     pub cells : Every (IsSent a.notes.records a.notes.frames a.numbers.controls) a.controller.queue
     pub records : Every IsNoted a.notes.records
+    pub frames : Every (IsMade t.framed t.refused t.address) a.notes.frames

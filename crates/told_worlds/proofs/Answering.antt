@@ -136,7 +136,7 @@ module _ (policy : Policy) (topology : Topology) (before : List Event) (is_topol
         now_met = ap (λ (c : Controller). c.has_met) same
 
         now_h : IsSteadily t now_b
-        now_h = record { address = b_h.address; ports = b_h.ports; cells = b_h.cells; records = b_h.records }
+        now_h = record { address = b_h.address; ports = b_h.ports; cells = b_h.cells; records = b_h.records; frames = b_h.frames }
 
         by : (x : Bool) → site.controller.has_met ≡ x → IsLent (before_changes 0 m (flow_destination flow) port b s).controller.ports port.0 m (flow_destination flow)
         by true is =

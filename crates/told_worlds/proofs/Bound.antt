@@ -35,6 +35,7 @@ use Rattle.world_model.specs.Owned.{WasCleared, WaitsAs}
 use Rattle.world_views.specs.Between.{IsWorld}
 use Rattle.world_views.specs.Ready.{setups_of}
 use Rattle.world_views.specs.Shown.{acting}
+use Rattle.world_views.specs.Made.{IsFit}
 use Rattle.frame_readings.specs.Reading.{FramesAreRead}
 use Rattle.run_facts.specs.Nodes.{IsNodeOfRun}
 use Rattle.running_worlds.specs.Running.{ChainsAreTrue}
@@ -120,8 +121,8 @@ module _ (policy : Policy) (topology : Topology) (before : List Event) (is_topol
   pub changes_so : (change : RouteChange) → IsSteadily quiet (change_comes a change)
   changes_so change = change_comes_h quiet a change quiet_start
 
-  pub injects_so : (number : ℕ) (octets : List ℕ) → number ≢ 0 → IsSteadily quiet (injected a number octets)
-  injects_so number octets some = routes_h quiet a (record { packet = number; frame = 0 }) octets some quiet_start
+  pub injects_so : (number : ℕ) (octets : List ℕ) → number ≢ 0 → IsFit octets → IsSteadily quiet (injected a number octets)
+  injects_so number octets some fit = routes_h quiet a (record { packet = number; frame = 0 }) octets some fit quiet_start
 
   module _ (read : FramesAreRead) (chains : ChainsAreTrue past.now (Carry (Up node))) (cell : Cell) (cells : List Cell) (queue : queue_at past.now (Up node) ≡ cell ∷ cells) where
     heeds : (wired held offered bindable : PortNo → ℕ → FlowId → Type 0) → IsHeeded (terms past node site.controller.address wired held offered bindable) a cell

@@ -173,7 +173,7 @@ module _ (t : Terms) (speaks : (port : PortNo) (instance : ℕ) → t.own port i
       turned = record a { controller = record a.controller { adjacency = step.side } }
 
       k : IsSteadily t turned
-      k = record { address = h.address; ports = h.ports; cells = h.cells; records = h.records }
+      k = record { address = h.address; ports = h.ports; cells = h.cells; records = h.records; frames = h.frames }
 
       by : (answer : Answer Greeting Party) → IsSteadily t (answers turned answer)
       by Quiet = k

@@ -49,7 +49,7 @@ use Rattle.way_words.proofs.Switching as switching
 use Rattle.input_events.proofs.Sites.{put_at}
 use Rattle.port_words.specs.Words.{IsSteadily}
 use Rattle.world_model.specs.Controller.{Linked}
-use Rattle.told_worlds.proofs.Wired.{then_is, tame, node_of}
+use Rattle.told_worlds.proofs.Wired.{then_is, tame, node_of, fit}
 use Rattle.told_worlds.proofs.Bound.{ticks_so, restarts_so, changes_so, injects_so, CellSo, on_gsmp, elsewhere, cell_so}
 use Rattle.told_worlds.proofs.Ways.{OnWay, in_chain, in_up, in_out, in_down, Less, popped_less}
 use Rattle.told_worlds.proofs.Behind.{event_terms, EndSo, still, acted, CellSo as CellBehind, was, sent, IsBehind, less_behind, controller_behind}
@@ -220,13 +220,14 @@ module _ (nodes : RunsHaveNodes) (fronts : RunsHaveFronts) (steps : EventsAreSte
   controller_so : (node : NodeId) (number : ℕ) (act : Acted → Acted) → ((site : Site) (found : site_at w node ≡ Some site) → IsSteadily (event_terms false past node site) (act (acting v site))) → IsBehind past (at_controller (record v { sent = number }) node act)
   controller_so node number act so = controlled act node number (λ site found. controller_behind past (record v { sent = number }) (still_less number) node site site found found false (act (acting v site)) (so site found)) (site_at w node) refl
 
-  injected_so : (node : NodeId) (octets : List ℕ) (o : Option Refusal) → IsBehind past (injects_by (record v { sent = w.sent + 1 }) node octets o)
-  injected_so node octets (Some name) = less_behind past (injects_by (record v { sent = w.sent + 1 }) node octets (Some name)) (record { queues = λ place c has. has; ends = λ end. refl })
-  injected_so node octets None = controller_so node (w.sent + 1) (λ a. injected a (w.sent + 1) octets)
-      (λ site found. injects_so policy topology before is_topology world node site found (at_node node site found) (w.sent + 1) octets (λ e. omega (arith, e)))
+  injected_so : (node : NodeId) (octets : List ℕ) → event ≡ Inject node octets → (o : Option Refusal) → inject_refusal octets ≡ o → IsBehind past (injects_by (record v { sent = w.sent + 1 }) node octets o)
+  injected_so node octets is (Some name) refused = less_behind past (injects_by (record v { sent = w.sent + 1 }) node octets (Some name)) (record { queues = λ place c has. has; ends = λ end. refl })
+  injected_so node octets is None accepted = controller_so node (w.sent + 1) (λ a. injected a (w.sent + 1) octets)
+      (λ site found. injects_so policy topology before is_topology world node site found (at_node node site found) (w.sent + 1) octets (λ e. omega (arith, e))
+      (fit nodes fronts steps read chains policy topology before event coming world node octets is accepted))
 
   acts_so : (e : Event) → event ≡ e → IsBehind past (acts topology v e)
-  acts_so (Inject node octets) is = injected_so node octets (inject_refusal octets)
+  acts_so (Inject node octets) is = injected_so node octets is (inject_refusal octets) refl
   acts_so (Carry place) is = carried place is (queue_at w place) refl
   acts_so (Lose place) is = lost place (queue_at w place) refl
   acts_so (Tick node) is = controller_so node w.sent ticks (λ site found. ticks_so policy topology before is_topology world node site found (at_node node site found))

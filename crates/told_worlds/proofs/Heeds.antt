@@ -1,6 +1,6 @@
 -- what comes to a controller from its switch is what its ports take up
 
-use Rattle.std.proofs.Common.{◌≡◌, ◌≢◌, ℕ, zero, Bool, true, false, List, [], ◌∷◌, ◌++◌, length, Option, None, Some, Ok, refl, sym, ◌∙◌, ap, subst, arith, inr, if◌then◌else◌}
+use Rattle.std.proofs.Common.{◌≡◌, ◌≢◌, ℕ, zero, Bool, true, false, List, [], ◌∷◌, ◌++◌, length, Option, None, Some, Ok, refl, sym, ◌∙◌, ap, subst, arith, inl, inr, if◌then◌else◌}
 use Rattle.std.specs.Prelude.{Contains, not, nat_lt, nat_le, ◌&&◌, ◌==◌, drop}
 use Rattle.std.proofs.lemmas.Bool.Decides.{nat_tests}
 use Rattle.std.specs.Prelude.{◌*◌, ◌+◌, ◌/◌, ◌%◌}
@@ -24,12 +24,14 @@ use Rattle.link_model.specs.Notes.{Journal}
 use Rattle.frame_model.specs.Frame.{payload_in, octets_of}
 use Rattle.frame_model.specs.Reassembly.{Reassembly, Taken, taken, passed_over, without_slot, too_long, joined, most_cells}
 use Rattle.port_model.specs.Setup.{Policy}
-use Rattle.port_model.specs.Port.{label_at}
-use Rattle.port_model.specs.Labels.{Label}
-use Rattle.port_facts.proofs.Keyed.{on_both, on_each}
-use Rattle.port_facts.specs.Port.{IsPort}
-use Rattle.world_model.specs.Controller.{Controller, Acted, Linked, linked_at, free_slots, default_channel, default_home}
-use Rattle.world_model.specs.Cells.{Taker, ForGsmp, ForDefault, ForLabel, port_on, on_link, same_channel, label_taker, taker_at, taker_of, reassembly_of}
+use Rattle.ipv4_packet.specs.Parts.{same_flow}
+use Rattle.keyed_lists.specs.Keyed.{at}
+use Rattle.port_model.specs.Setup.{is_in_range}
+use Rattle.port_model.specs.Grants.{Grant, grant_label, grant_on}
+use Rattle.port_facts.proofs.Keyed.{on_each, at_key, at_every}
+use Rattle.port_facts.specs.Port.{IsPort, IsGrant}
+use Rattle.world_model.specs.Controller.{Acted, Linked, linked_at, free_slots, default_home}
+use Rattle.world_model.specs.Cells.{Taker, ForGsmp, ForDefault, ForLabel, port_on, same_channel, taker_of, reassembly_of}
 use Rattle.world_model.specs.Packets.{control_protocol}
 use Rattle.controller_facts.proofs.Moves.{found_port, found_at_own}
 use Rattle.lifetimes.proofs.Events.{taker_belongs}
@@ -44,26 +46,33 @@ use Rattle.world_model.specs.Topology.{Topology}
 use Rattle.world_model.specs.Conditions.{IsTopology}
 use Rattle.world_model.specs.World.{World, Site, site_at}
 use Rattle.world_model.specs.Places.{queue_at}
-use Rattle.world_model.specs.Ways.{ifmp_in, ifmp_of, ifmp_under, told, chain_at, on_channel, on_default_channel}
+use Rattle.world_model.specs.Ways.{linked_end, ifmp_in, ifmp_of, ifmp_under, told, chain_at, on_channel, on_default_channel}
 use Rattle.world_model.specs.Past.{Past, past_of, last_bound, frames_of}
 use Rattle.world_model.specs.Owned.{WasCleared}
 use Rattle.world_model.specs.Users.{Way}
-use Rattle.world_views.specs.Marks.{Means, early, control, local, plain, labelled, heading_at}
-use Rattle.world_views.specs.Between.{IsWorld}
+use Rattle.port_views.specs.Link.{LinkLabel}
+use Rattle.world_views.specs.Made.{IsFit}
+use Rattle.world_views.specs.Between.{IsWorld, IsLinkLabel}
 use Rattle.world_views.specs.Ready.{setups_of}
 use Rattle.world_views.specs.Shown.{acting}
 use Rattle.frame_readings.specs.Reading.{FramesAreRead, Holds, sent, told as told_frame}
 use Rattle.run_facts.specs.Nodes.{IsNodeOfRun}
 use Rattle.running_worlds.specs.Running.{ChainsAreTrue}
+use Rattle.running_worlds.proofs.Labels.{of_label, label_read}
 use Rattle.unused_labels.proofs.Links.{link_of, link_is}
 use Rattle.unused_labels.proofs.Reading.{filtered_back}
 use Rattle.port_words.proofs.Hearing.{Agrees}
 use Rattle.port_words.proofs.Events.{Ends, HoldsPacket, IsHeeded}
 use Rattle.told_worlds.specs.Before.{end_at, OfPeer, terms}
-use Rattle.told_worlds.proofs.Start.{Peered, peered, to_is, way_to, from_is, way_from, started}
+use Rattle.told_worlds.proofs.Start.{Peered, peered, to_is, way_to, from_is, way_from, linked_is, started}
+use Rattle.told_worlds.proofs.Agreed.{redirect_agrees, reclaim_agrees, IsTaken, taken_is}
 
 some_same : {A : Type 0} (x y : A) → Some x ≡ Some y → x ≡ y
 some_same x y e = cc
+
+first_true : (a b : Bool) → (a && b) ≡ true → a ≡ true
+first_true true b e = refl
+first_true false b e = absurd (cc e)
 
 -- *A chain is ended* by a last cell that is taken
 record IsWhole (slot : Bool) (r : Reassembly) (cell : Cell) (ended : List Cell) : Type 0 where
@@ -79,23 +88,6 @@ whole_chain notes slot r cell first cells = on_each To r.is_skipping (passed_ove
   where
     To : Taken → Type 0
     To t = t.ended ≡ first ∷ cells → IsWhole slot r cell (first ∷ cells)
-
--- *A label's cells* are on no default channel
-label_other : (c : Controller) (channel : Channel) (linked : Linked) (held : Label) → taker_of c channel ≡ Some (ForLabel linked held) → same_channel (on_link channel) default_channel ≡ false
-label_other c channel linked held e = on_both (λ (o : Option Taker). o ≡ Some (ForLabel linked held) → same_channel (on_link channel) default_channel ≡ false) (same_channel channel default_channel) (Some ForGsmp) (taker_at (linked_at c (port_on channel)) (on_link channel))
-    (λ f. absurd (cc f)) (by (linked_at c (port_on channel))) e
-  where
-    by : (o : Option Linked) → taker_at o (on_link channel) ≡ Some (ForLabel linked held) → same_channel (on_link channel) default_channel ≡ false
-    by None f = absurd (cc f)
-    by (Some x) f = on_each (λ (o : Option Taker). o ≡ Some (ForLabel linked held) → same_channel (on_link channel) default_channel ≡ false) (same_channel (on_link channel) default_channel) (Some (ForDefault x)) (label_taker x (option_and_then (label_at x.port) (label_number_of (on_link channel))))
-        (λ t g. absurd (cc g)) (λ t g. t) f
-
-labelled_packet : (past : Past) (node : NodeId) (channel : Channel) (last : Bool) (mark : Mark) → same_channel (on_link channel) default_channel ≡ false → Means past (heading_at past.topology (Up node) channel) last mark → mark.packet ≢ 0
-labelled_packet past node channel last mark other (early default l packet) e = absurd (cc (sym default ∙ other))
-labelled_packet past node channel last mark other (control default packet source message made) e = absurd (cc (sym default ∙ other))
-labelled_packet past node channel last mark other (local default none packet) e = absurd (cc (sym default ∙ other))
-labelled_packet past node channel last mark other (plain default l far there packet made come newest) e = absurd (cc (sym default ∙ other))
-labelled_packet past node channel last mark other (labelled off far there flow bound payload packet made carries come newest) e = omega (arith, come.counted, e)
 
 -- *The channel of a label's number*
 channel_back : (channel : Channel) (label : ℕ) → label_number_of channel ≡ Some label → channel ≡ label_channel_of label
@@ -134,15 +126,15 @@ module _ (policy : Policy) (topology : Topology) (before : List Event) (is_topol
       frame_is w.notes.frames cell.mark payload (subst (λ (m : Mark). is_frame w.notes.frames m payload ≡ true) (last_is (reassembly_of site.controller taker).chain cell)
       (chains.at_controller node site taker cell cells refl queue found ends.taker_is whole.is_ended payload (ap (λ (cs : List Cell). payload_in (octets_of cs)) (sym whole.whole) ∙ ends.passes)))
 
-  sent_on : (taker : Taker) (payload : List ℕ) → Ends a cell taker payload → HoldsPacket taker payload → cell.mark.packet ≢ 0
-  sent_on ForGsmp payload ends holds e = holds
-  sent_on (ForLabel linked held) payload ends holds e = labelled_packet past node cell.header.channel cell.header.last cell.mark (label_other site.controller cell.header.channel linked held ends.taker_is)
-      (world.meanings (Up node) cell run.is_node.number among) e
-  sent_on (ForDefault linked) payload ends (packet, unwrapped, other) e = by (read.default cell.mark payload packet (world.made cell.mark payload (frame (ForDefault linked) payload ends)) unwrapped)
+  sent_on : (taker : Taker) (payload packet : List ℕ) → Ends a cell taker payload → HoldsPacket taker payload packet → (cell.mark.packet ≢ 0) × IsFit packet
+  sent_on ForGsmp payload packet ends holds = absurd holds
+  sent_on (ForLabel linked held) payload packet ends holds = label_read past node (acting w site) cell.header.channel cell.header.last cell.mark linked held payload run.conduct.bound
+      (of_label site.controller cell.header.channel linked held ends.taker_is) (world.meanings (Up node) cell run.is_node.number among) (frame (ForLabel linked held) payload ends) packet holds
+  sent_on (ForDefault linked) payload packet ends (unwrapped, other) = by (read.default cell.mark payload packet (world.made cell.mark payload (frame (ForDefault linked) payload ends)) unwrapped)
     where
-      by : Holds cell.mark payload packet → ⊥
-      by (sent some fit is) = some e
-      by (told_frame item is same) = cc (sym (ap (λ (p : List ℕ). protocol_of p == control_protocol) same ∙ (read.heard cell.mark payload item is).control), other)
+      by : Holds cell.mark payload packet → (cell.mark.packet ≢ 0) × IsFit packet
+      by (sent some fit is) = (some, fit)
+      by (told_frame item is same) = absurd (cc (sym (ap (λ (p : List ℕ). protocol_of p == control_protocol) same ∙ (read.heard cell.mark payload item is).control), other))
 
   -- *A message*
   module _ (linked : Linked) (takes : taker_of site.controller cell.header.channel ≡ Some (ForDefault linked)) where
@@ -167,6 +159,23 @@ module _ (policy : Policy) (topology : Topology) (before : List Event) (is_topol
     known_far : (P : LinkEnd → Type 0) → P far.far → OfPeer past (end_at node linked.setup.port) P
     known_far P h x is = subst P (some_same far.far x (sym far.there ∙ is)) h
 
+    -- the link of a label that the port may be granted
+    there : linked_end w (end_at node linked.setup.port) ≡ Some linked
+    there = linked_is policy topology before is_topology world node site found run linked at_own port_is
+
+    default_so : same_channel cell.header.channel (default_home linked.setup.port).channel ≡ true
+    default_so = default_of site.controller cell.header.channel linked takes
+
+    abbrev link : (label : ℕ) → LinkLabel
+    link label = link_of topology way_of_far label
+
+    link_so : (label : ℕ) → is_in_range linked.setup label ≡ true → IsLinkLabel topology (link label)
+    link_so label in_range = link_is topology is_topology way_of_far (to_is policy topology before is_topology world node site found run linked at_own port_is) label (first_true (is_label_number label) _ in_range)
+
+    granted_range : (label : ℕ) (grant : Grant) → at grant_label label linked.port.grants ≡ Some grant → is_in_range linked.setup label ≡ true
+    granted_range label grant has = subst (λ (n : ℕ). is_in_range linked.setup n ≡ true) (at_key grant_label label linked.port.grants grant has)
+        (at_every grant_label (IsGrant (setups_of site.controller) linked.setup) label linked.port.grants grant port_is.grants has).in_range
+
     module _ (wired held offered bindable : PortNo → ℕ → FlowId → Type 0) (payload packet : List ℕ) (message : Message) (ends : Ends a cell (ForDefault linked) payload) (unwrapped : default_unwrapped payload ≡ Ok packet)
         (protocol : (protocol_of packet == control_protocol) ≡ true) (reads : decoded (drop 20 packet) ≡ Ok message) where
       says : ifmp_under (frames_of past) cell.mark ≡ Some message
@@ -177,15 +186,21 @@ module _ (policy : Policy) (topology : Topology) (before : List Event) (is_topol
       unfolding far
       agrees (Redirect sender peer number lifetime channel flow) is = (
         (λ label named in_range. known_far (λ x. last_bound past.records x label ≡ Some flow)
-            ((world.users (link_of topology way_of_far label) (link_is topology is_topology way_of_far (to_is policy topology before is_topology world node site found run linked at_own port_is) label (first (is_label_number label) _ in_range))).redirects cell sender peer number lifetime flow on_way
-            (is ∙ ap (λ (x : Channel). Some (Redirect sender peer number lifetime x flow)) (channel_back channel label named)))),
-        (λ e. tt),
+            ((world.users (link label) (link_so label in_range)).redirects cell sender peer number lifetime flow on_way (redirect_of label named))),
+        (λ e. untaken (taken_is linked.setup linked.port.grants flow (label_number_of channel) e)),
       )
         where
-          first : (a b : Bool) → (a && b) ≡ true → a ≡ true
-          first true b e = refl
-          first false b e = absurd (cc e)
-      agrees (Reclaim sender peer number channel flow) is = λ grant e. inr tt
+          redirect_of : (label : ℕ) → label_number_of channel ≡ Some label → ifmp_under (frames_of past) cell.mark ≡ Some (Redirect sender peer number lifetime (label_channel_of label) flow)
+          redirect_of label named = is ∙ ap (λ (x : Channel). Some (Redirect sender peer number lifetime x flow)) (channel_back channel label named)
+
+          untaken : IsTaken linked.setup linked.port.grants flow (label_number_of channel) → ⊥
+          untaken t = cc (sym t.other ∙ redirect_agrees past world (link t.label) (link_so t.label t.in_range) linked there cell among default_so sender peer number flow t.grant t.found lifetime (redirect_of t.label t.is))
+      agrees (Reclaim sender peer number channel flow) is = λ grant e. inl (by (label_number_of channel) refl grant e)
+        where
+          by : (o : Option ℕ) → label_number_of channel ≡ o → (grant : Grant) → grant_on linked.port.grants o ≡ Some grant → same_flow grant.flow flow ≡ true
+          by None named grant e = absurd (cc e)
+          by (Some label) named grant e = reclaim_agrees past world (link label) (link_so label (granted_range label grant e)) linked there cell among default_so sender peer number flow grant e
+              (is ∙ ap (λ (x : Channel). Some (Reclaim sender peer number x flow)) (channel_back channel label named))
       agrees (Adjacency hello) is = λ other. known_far (λ x. WasCleared past x hello.sender.0)
           ((world.cleared (way_from policy topology before is_topology world node site found run linked at_own port_is) (from_is policy topology before is_topology world node site found run linked at_own port_is)).1.said cell (Adjacency hello) on_way is (ap not other))
       agrees (ReclaimAck sender peer number channel flow) is = tt

@@ -1,4 +1,5 @@
 pub mod Start
+pub mod Agreed
 pub mod Heeds
 pub mod Bound
 pub mod Wired

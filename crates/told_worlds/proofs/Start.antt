@@ -11,6 +11,7 @@ use Rattle.adjacency_table.specs.declared.State.{State}
 use Rattle.adjacency_table.specs.declared.State.TheVariants.{Clearing}
 use Rattle.adjacency_table.specs.Side.{is_estab}
 use Rattle.ipv4_packet.specs.declared.flow.FlowId.{FlowId}
+use Rattle.link_model.specs.declared.frames.Frame.{Frame}
 use Rattle.ordered_lists.specs.Ordered.{Every, InOrder}
 use Rattle.ordered_lists.proofs.Every.{every_all, every_map, every_mapped, every_unmapped}
 use Rattle.keyed_lists.specs.Keyed.{at}
@@ -48,7 +49,7 @@ use Rattle.run_facts.specs.Nodes.{IsNodeOfRun}
 use Rattle.causes.proofs.Shown.{IsPeer, peer_back}
 use Rattle.unused_labels.proofs.Seen.{every_contained}
 use Rattle.unused_labels.proofs.Links.{link_of, link_is}
-use Rattle.port_words.specs.Words.{Terms, Stands, StandsAs, IsGranted, IsSteadyAt, IsSent, IsSteadily, waited}
+use Rattle.port_words.specs.Words.{Terms, Stands, StandsAs, IsGranted, IsSteadyAt, IsMade, was_made, IsSent, IsSteadily, waited}
 use Rattle.told_worlds.specs.Before.{end_at, IsBindable, IsWiringAt, IsBoundTo, OfPeer, terms, is_wiring, is_bound_to}
 
 some_same : {A : Type 0} (x y : A) → Some x ≡ Some y → x ≡ y
@@ -220,4 +221,5 @@ module _ (policy : Policy) (topology : Topology) (before : List Event) (is_topol
     cells = every_from (IsSent (terms past node site.controller.address wired held offered bindable) [] w.notes.frames w.numbers.controls) site.controller.queue
         (λ c has. waited (subst (λ (o : Option Site). Contains (option_map_or (λ x. queue_in x (Down node)) o []) c) (sym found) has));
     records = tt;
+    frames = every_from (IsMade (λ (frame : Frame). Contains w.notes.frames frame) (λ (code : ℕ). ⊥) site.controller.address) w.notes.frames (λ frame has. was_made has);
   }

@@ -35,7 +35,7 @@ use Rattle.world_model.specs.declared.link.LinkEnd.{LinkEnd}
 use Rattle.world_model.specs.declared.event.Event.{Event}
 use Rattle.world_model.specs.declared.event.Event.TheVariants.{Inject, Carry, Lose, Tick, TickSwitch, Restart, RestartSwitch, Forge, Route}
 use Rattle.world_model.specs.Topology.{Topology, peer_of}
-use Rattle.world_model.specs.Conditions.{IsTopology}
+use Rattle.world_model.specs.Conditions.{IsTopology, IsEvent}
 use Rattle.world_model.specs.World.{World, Site, site_at, with_site, at_controller, controller_acts, switch_acts}
 use Rattle.world_model.specs.Places.{queue_at, queue_in, place_node, with_queue, with_queue_of, with_queue_in}
 use Rattle.world_model.specs.Step.{acts, arrives_at, carries_head, loses_head, injects_by}
@@ -44,6 +44,7 @@ use Rattle.world_model.specs.Past.{past_of}
 use Rattle.world_model.specs.Owned.{IsSpareOrWired, IsWired as IsWiredLabel}
 use Rattle.world_model.specs.Users.{Way, IsWay, IsUnused}
 use Rattle.world_model.specs.Headline.{IsTame}
+use Rattle.world_views.specs.Made.{IsFit}
 use Rattle.world_views.specs.Between.{IsWorld}
 use Rattle.world_views.specs.Kept.{Comes, behind}
 use Rattle.world_views.specs.Ready.{setups_of}
@@ -148,13 +149,17 @@ module _ (nodes : RunsHaveNodes) (fronts : RunsHaveFronts) (steps : EventsAreSte
   lost place [] = tt
   lost place (cell ∷ cells) = every_more (IsWired w) (with_queue v place cells).notes.records (Loss cell.mark Lost) (all_wired w _ (queue_none v place cells (site_at v (place_node place)) tt)) tt
 
-  injected_so : (node : NodeId) (octets : List ℕ) (o : Option Refusal) → Every (IsWired w) (injects_by (record v { sent = w.sent + 1 }) node octets o).notes.records
-  injected_so node octets (Some name) = (tt, tt)
-  injected_so node octets None = controller_all (λ a. injected a (w.sent + 1) octets) node
-      (λ site found. quiet_all node site (injected (acting v site) (w.sent + 1) octets) (injects_so policy topology before is_topology world node site found (node_of node site found) (w.sent + 1) octets (λ e. omega (arith, e)))) (w.sent + 1) (site_at w node) refl
+  -- a packet that is accepted may be in the network
+  pub fit : (node : NodeId) (octets : List ℕ) → event ≡ Inject node octets → inject_refusal octets ≡ None → IsFit octets
+  fit node octets is accepted = record { accepted = accepted; octets = (subst (IsEvent topology w) is (fronts policy topology before event coming).can.meant).1 }
+
+  injected_so : (node : NodeId) (octets : List ℕ) → event ≡ Inject node octets → (o : Option Refusal) → inject_refusal octets ≡ o → Every (IsWired w) (injects_by (record v { sent = w.sent + 1 }) node octets o).notes.records
+  injected_so node octets is (Some name) refused = (tt, tt)
+  injected_so node octets is None accepted = controller_all (λ a. injected a (w.sent + 1) octets) node
+      (λ site found. quiet_all node site (injected (acting v site) (w.sent + 1) octets) (injects_so policy topology before is_topology world node site found (node_of node site found) (w.sent + 1) octets (λ e. omega (arith, e)) (fit node octets is accepted))) (w.sent + 1) (site_at w node) refl
 
   wired_in : (e : Event) → event ≡ e → Every (IsWired w) (acts topology v e).notes.records
-  wired_in (Inject node octets) is = injected_so node octets (inject_refusal octets)
+  wired_in (Inject node octets) is = injected_so node octets is (inject_refusal octets) refl
   wired_in (Carry place) is = carried place is (queue_at w place) refl
   wired_in (Lose place) is = lost place (queue_at w place)
   wired_in (Tick node) is = controller_all ticks node (λ site found. quiet_all node site (ticks (acting v site)) (ticks_so policy topology before is_topology world node site found (node_of node site found))) w.sent (site_at w node) refl

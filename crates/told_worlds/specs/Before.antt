@@ -66,7 +66,8 @@ module _ (past : Past) (node : NodeId) (address : Addr) where
     wired = wired;
     offered = offered;
     bindable = bindable;
-    refused = λ code. Unit {0};
+    refused = λ code. ⊥;
+    framed = λ frame. Contains past.now.notes.frames frame;
     gathered = λ port cell. Contains (chain_at past.now (end_at node port)) cell ⊎ Contains (on_channel (default_home port).channel (queue_at past.now (Up node))) cell;
     waited = λ cell. Contains (queue_at past.now (Down node)) cell;
   }

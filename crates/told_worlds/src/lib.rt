@@ -6,7 +6,7 @@
 //! be, by the route of the table that is held.
 //!
 //! `specs/Before` has the words of `port_words` for a past of a run, `specs/Bound` the statements of bindings, `specs/Hops` that
-//! of joins. `proofs/Start`, `Heeds` and `Bound` lead a controller through each event; `Ways` to `Events` say where the cells
+//! of joins. `proofs/Start`, `Agreed`, `Heeds` and `Bound` lead a controller through each event; `Ways` to `Events` say where the cells
 //! between two ends of a link come from, and `Kept` reads it off behind an event; `Pacing` to `Hops` follow the routes of joins.
 //! There is no code that runs.
 #![tactic(auto)]
