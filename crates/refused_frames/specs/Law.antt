@@ -1,0 +1,18 @@
+-- Nothing that comes is refused, before the first frame that was forged or passed its test by chance
+
+use Rattle.std.specs.Prelude.{◌≡◌, false, List}
+use Rattle.std.specs.List.{list_any}
+use Rattle.port_model.specs.Setup.{Policy}
+use Rattle.world_model.specs.declared.event.Event.{Event}
+use Rattle.world_model.specs.Topology.{Topology}
+use Rattle.world_model.specs.Past.{past_of}
+use Rattle.world_model.specs.Headline.{is_bad}
+use Rattle.world_views.specs.Between.{IsWorld}
+use Rattle.world_views.specs.Kept.{Comes, behind}
+use Rattle.ownership.specs.Places.{HasPlaces}
+
+-- the records of the event that comes have no `Bad`
+abbrev pub NothingIsRefused : Type 0
+NothingIsRefused = (policy : Policy) (topology : Topology) (before : List Event) (event : Event) → Comes policy topology before event
+    → IsWorld (past_of policy topology before) → HasPlaces (past_of policy topology before)
+    → list_any is_bad (behind policy topology before event).now.notes.records ≡ false
