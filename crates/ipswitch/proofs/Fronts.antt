@@ -27,7 +27,7 @@ worlds_front t w [] (event ∷ after) = refl
 worlds_front t w (event ∷ before) after = ap (λ (ws : List World). w ∷ ws) (worlds_front t (next t w event) before after)
 
 -- so are its records, and none of them is wild where none of all is
-none_in_front : {X : Type 0} (test : X → Bool) (xs ys : List X) → list_any test (xs ++ ys) ≡ false → list_any test xs ≡ false
+pub none_in_front : {X : Type 0} (test : X → Bool) (xs ys : List X) → list_any test (xs ++ ys) ≡ false → list_any test xs ≡ false
 none_in_front test [] ys h = refl
 none_in_front test (x ∷ xs) ys h = by (test x) h (none_in_front test xs ys)
   where

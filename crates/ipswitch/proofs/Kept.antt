@@ -5,6 +5,7 @@ use Rattle.port_model.specs.Setup.{Policy}
 use Rattle.world_model.specs.declared.event.Event.{Event}
 use Rattle.world_model.specs.Topology.{Topology}
 use Rattle.world_model.specs.Past.{Past, past_of}
+use Rattle.world_model.specs.Headline.{IsInHarmony}
 use Rattle.world_views.specs.Between.{IsWorld, HasAllShapes, HasAllPortsUp, HasAllNumbers, HasAllReady, HasAllMade, HasAllLabels, HasAllInputs, HasAllUsers, HasAllCleared, HasAllJoins, HasAllLedOnce, HasAllHops, HasAllPassed}
 use Rattle.world_views.specs.Kept.{Comes, Keeps, Begins, behind}
 use Rattle.packet_worlds.specs.Law.{HasPackets}
@@ -42,6 +43,7 @@ pub record AreKept : Type 0 where
   pub passed : KeepsWhole HasPassedOn
   pub packets : KeepsWhole HasPackets
   pub places : KeepsWhole HasPlaces
+  pub harmony : KeepsWhole IsInHarmony
 
 pub whole_kept : AreKept → KeepsItself IsWhole
 whole_kept k policy topology before event comes w =
@@ -68,6 +70,7 @@ whole_kept k policy topology before event comes w =
       channels = packets.channels;
       requests = passed.1;
       places = k.places policy topology before event comes w;
+      harmony = k.harmony policy topology before event comes w;
     }
 
 -- and each is so at the opening
@@ -88,6 +91,7 @@ pub record DoBegin : Type 0 where
   pub requests : Begins HasRequests
   pub packets : Begins HasPackets
   pub places : Begins HasPlaces
+  pub harmony : Begins IsInHarmony
 
 pub whole_begins : DoBegin → Begins IsWhole
 whole_begins b policy topology is addresses =
@@ -113,4 +117,5 @@ whole_begins b policy topology is addresses =
       channels = packets.channels;
       requests = b.requests policy topology is addresses;
       places = b.places policy topology is addresses;
+      harmony = b.harmony policy topology is addresses;
     }

@@ -7,17 +7,19 @@ use Rattle.world_model.specs.declared.event.Event.TheVariants.{Tick}
 use Rattle.world_model.specs.Topology.{Topology}
 use Rattle.world_model.specs.Past.{Past, past_of}
 use Rattle.world_model.specs.Causes.{HasCauses}
-use Rattle.world_model.specs.Headline.{IsRun, IsTame, Headline, AreOwned, HasFatesOnce}
+use Rattle.world_model.specs.Headline.{IsRun, IsTame, Headline, AreOwned, IsInHarmony, HasFatesOnce}
 use Rattle.lifetimes.specs.Run.{IsSetInRuns, EndsInRuns, SendsNoMoreInRuns, IsLedBackInRuns, IsEndedByResetInRuns}
 use Rattle.run_facts.specs.Nodes.{RunsHaveNodes}
 use Rattle.world_views.specs.Between.{IsWorld, HasPacketsOnce}
 use Rattle.world_views.specs.Kept.{HasAddresses, Comes, BindsUnusedAt}
+use Rattle.steady_routes.specs.Law.{changes_route, ChangesNoRoute, AreJourneys, FatesAreJourneys}
+use Rattle.idle_policies.specs.Law.{NothingIsBound}
 use Rattle.ownership.specs.Owning.{IsKept, HasOwnWays, LabelsAreOwned}
 use Rattle.ownership.specs.Places.{WaysAreOwn}
 use Rattle.ownership.specs.Binds.{EachBindIsUnused}
 use Rattle.ipswitch.specs.Law.{InFronts, LifetimesEnd, IsTrueRun}
 use Rattle.ipswitch.specs.Runs.{IsWhole, HoldsInRuns}
-use Rattle.ipswitch.proofs.Fronts.{front_run, front_tame}
+use Rattle.ipswitch.proofs.Fronts.{none_in_front, front_run, front_tame}
 use Rattle.ipswitch.proofs.Walk.{holds_in_runs}
 use Rattle.ipswitch.proofs.Fates.{fates_whole}
 use Rattle.ipswitch.proofs.Kept.{AreKept, DoBegin, whole_kept, whole_begins}
@@ -55,6 +57,8 @@ pub record Reads : Type 0 where
   pub silent : SendsNoMoreInRuns
   pub led_back : IsLedBackInRuns
   pub by_reset : IsEndedByResetInRuns
+  pub journeys : FatesAreJourneys
+  pub unbound : NothingIsBound
 
 module _ (r : Reads) (whole : HoldsInRuns IsWhole) (policy : Policy) (topology : Topology) (addresses : HasAddresses topology) where
   -- of a front
@@ -94,6 +98,16 @@ module _ (r : Reads) (whole : HoldsInRuns IsWhole) (policy : Policy) (topology :
       let w = whole policy topology before run addresses tame in
       r.owned (past_of policy topology before) (is_kept r.nodes policy topology before run addresses w.world) (own_ways r.nodes r.ways policy topology before run addresses w)
 
+  in_harmony : (events : List Event) → IsRun policy topology events → InFronts policy topology events IsInHarmony
+  in_harmony events run before after split tame =
+      (whole policy topology before (front_run policy topology before after (subst (IsRun policy topology) split run)) addresses tame).harmony
+
+  -- a front of a run in which no route changes is one
+  on_journeys : (events : List Event) → IsRun policy topology events → ChangesNoRoute events → InFronts policy topology events AreJourneys
+  on_journeys events run steady before after split tame =
+      r.journeys policy topology before (none_in_front changes_route before after (subst ChangesNoRoute split steady))
+      (whole policy topology before (front_run policy topology before after (subst (IsRun policy topology) split run)) addresses tame).world.packets.true_fates
+
   caused : (events : List Event) → IsRun policy topology events → (before after : List Event) → events ≡ before ++ after
       → IsTame (past_of policy topology before).records → HasCauses policy topology before
   caused events run before after split tame =
@@ -115,8 +129,11 @@ module _ (r : Reads) (whole : HoldsInRuns IsWhole) (policy : Policy) (topology :
   run_is_true events run = record {
     routing = routed events run;
     owned = owned_fronts events run;
+    harmony = in_harmony events run;
     causes = caused events run;
     lifetimes = lifetimes_end events;
+    journeys = on_journeys events run;
+    unbound = r.unbound policy topology events run;
   }
 
 pub runs_are_true : AreKept → DoBegin → Reads → (policy : Policy) (topology : Topology) (events : List Event) → IsRun policy topology events → HasAddresses topology

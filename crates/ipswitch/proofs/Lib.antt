@@ -4,4 +4,5 @@ pub mod Fronts
 pub mod Walk
 pub mod Fates
 pub mod Kept
+pub mod Harmony
 pub mod Law

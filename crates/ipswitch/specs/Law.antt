@@ -15,8 +15,9 @@ use Rattle.world_model.specs.Places.{queue_at}
 use Rattle.world_model.specs.Run.{next, world_after}
 use Rattle.world_model.specs.Past.{Past, past_of}
 use Rattle.world_model.specs.Causes.{HasCauses}
-use Rattle.world_model.specs.Headline.{IsRun, IsTame, Headline, AreOwned}
+use Rattle.world_model.specs.Headline.{IsRun, IsTame, Headline, AreOwned, IsInHarmony, OffersNothing, BindsNothing}
 use Rattle.world_views.specs.Kept.{HasAddresses}
+use Rattle.steady_routes.specs.Law.{ChangesNoRoute, AreJourneys}
 use Rattle.lifetimes.specs.Aging.{HasEnded}
 use Rattle.lifetimes.specs.Law.{SendsNone, EndsByReset}
 use Rattle.lifetimes.specs.Run.{IsCountedIn, SetsIn, IsSetIn, acted_in, grant_in, comes_to, NotSetIn, IsConductIn, stays_in, IsLedIn, reaches_in}
@@ -66,10 +67,16 @@ pub record IsTrueRun (policy : Policy) (topology : Topology) (events : List Even
   pub routing : Headline policy topology events
   -- each label of each link is owned
   pub owned : InFronts policy topology events AreOwned
+  -- nothing is refused, and no message says that a label is taken or of another flow
+  pub harmony : InFronts policy topology events IsInHarmony
   -- each frame that is broken stands beside its cause
   pub causes : (before after : List Event) → events ≡ before ++ after → IsTame (past_of policy topology before).records
       → HasCauses policy topology before
   pub lifetimes : LifetimesEnd policy topology events
+  -- where no route changes, each fate is the packet's journey over the routes of the topology
+  pub journeys : ChangesNoRoute events → InFronts policy topology events AreJourneys
+  -- where the policy offers nothing, no label is ever bound
+  pub unbound : OffersNothing policy → BindsNothing (past_of policy topology events)
 
 -- of a script, under the policy that it names
 abbrev pub IsTrueScript : Script → Type 0

@@ -5,7 +5,7 @@ use Rattle.port_model.specs.Setup.{Policy}
 use Rattle.world_model.specs.declared.event.Event.{Event}
 use Rattle.world_model.specs.Topology.{Topology}
 use Rattle.world_model.specs.Past.{Past, past_of}
-use Rattle.world_model.specs.Headline.{IsRun, IsTame}
+use Rattle.world_model.specs.Headline.{IsRun, IsTame, IsInHarmony}
 use Rattle.world_views.specs.Between.{IsWorld}
 use Rattle.world_views.specs.Kept.{HasAddresses}
 use Rattle.packet_worlds.specs.Channels.{HasChannels}
@@ -17,9 +17,11 @@ abbrev pub HoldsInRuns : (Past → Type 0) → Type 0
 HoldsInRuns P = (policy : Policy) (topology : Topology) (events : List Event) → IsRun policy topology events → HasAddresses topology
     → IsTame (past_of policy topology events).records → P (past_of policy topology events)
 
--- *What is kept from event to event*: all of `IsWorld`, and on which channels cells, requests and control frames stand
+-- *What is kept from event to event*: all of `IsWorld`, on which channels cells, requests and control frames stand, and that
+-- nothing is refused and nothing disowns a label
 pub record IsWhole (past : Past) : Type 0 where
   pub world : IsWorld past
   pub channels : HasChannels past
   pub requests : HasRequests past
   pub places : HasPlaces past
+  pub harmony : IsInHarmony past

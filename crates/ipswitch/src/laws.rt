@@ -5,21 +5,26 @@ ghost use Rattle.ipswitch.specs.declared.task.Task.{Task};
 ghost use Rattle.ipswitch.specs.Law.{IsTrueTask, RunsAreTrue};
 
 use control_places::control_frames_have_places;
+use idle_policies::nothing_is_bound;
 use joined_worlds::{answers_settle_joins, joins_are_kept, runs_make_no_pairs};
 use label_worlds::labels_are_followed;
 use lifetimes::grants_expire;
+use owned_words::labels_are_never_disowned;
 use ownership::labels_are_owned;
 use packet_worlds::packets_are_kept;
 use passed_cells::cells_have_passed;
+use refused_frames::nothing_is_refused;
 use run_facts::nodes_are_steady;
 use running_worlds::{frames_are_made, inputs_are_kept};
 use script_runs::scripts_are_runs;
+use steady_routes::fates_are_journeys;
 use told_worlds::{joins_lead_on, labels_are_bound_unused, users_are_kept};
 
 /// What is true of every run of a network: cut-through changes nothing of what routing makes of packets,
 /// before the first frame that was forged or passed its test by chance; so long labels are owned and
-/// broken frames have their causes; and grants end by their lifetimes. It calls the laws that it stands
-/// on, and its contract is the statement.
+/// broken frames have their causes, nothing is refused, and no message disowns a label; grants end by
+/// their lifetimes. Where no route changes fates are journeys, and where nothing is offered nothing is
+/// bound. It calls the laws that it stands on, and its contract is the statement.
 fn runs_are_true()
     ensures { RunsAreTrue }
 {
@@ -37,6 +42,10 @@ fn runs_are_true()
     packets_are_kept();
     control_frames_have_places();
     labels_are_owned();
+    labels_are_never_disowned();
+    nothing_is_refused();
+    fates_are_journeys();
+    nothing_is_bound();
     grants_expire();
 }
 

@@ -12,6 +12,7 @@ use Rattle.pairs.specs.Asked.{AnswersSettle}
 use Rattle.ownership.proofs.Own.{own_channels}
 use Rattle.ipswitch.specs.Runs.{IsWhole}
 use Rattle.ipswitch.proofs.Fronts.{front_run}
+use Rattle.ipswitch.proofs.Harmony.{harmony_kept, harmony_begins}
 use Rattle.ipswitch.proofs.Kept.{whole_of}
 use Rattle.ipswitch.proofs.Law.{runs_are_true, own_ways}
 use Rattle.ipswitch.proofs.laws.runs_are_true.Goals as goal
@@ -51,6 +52,7 @@ returns c =
       packets = λ policy topology before event comes w. c.packets_are_kept.ensures.events policy topology before event comes w.world w.channels
           (unused policy topology before event comes w);
       places = λ policy topology before event comes w. c.control_frames_have_places.ensures.events policy topology before event comes w.world w.places;
+      harmony = harmony_kept steady.steps c.nothing_is_refused.ensures c.labels_are_never_disowned.ensures.events;
     }
     record {
       shapes = c.inputs_are_kept.ensures.shapes_begin;
@@ -69,6 +71,7 @@ returns c =
       requests = c.cells_have_passed.ensures.requests;
       packets = c.packets_are_kept.ensures.opening;
       places = c.control_frames_have_places.ensures.opening;
+      harmony = harmony_begins c.labels_are_never_disowned.ensures.opening;
     }
     record {
       nodes = steady.sites;
@@ -83,4 +86,6 @@ returns c =
       silent = c.grants_expire.ensures.runs_silent;
       led_back = c.grants_expire.ensures.runs_led_back;
       by_reset = c.grants_expire.ensures.runs_reset;
+      journeys = c.fates_are_journeys.ensures;
+      unbound = c.nothing_is_bound.ensures;
     }
