@@ -1,6 +1,9 @@
 //! Sending frames.
 
-ghost use Rattle.std.specs.Prelude.{◌≡◌, ◌≤◌, length, OnOk, OnErr};
+ghost use Rattle.std.specs.Prelude.{◌≡◌, ◌≤◌, ◌↔◌, length, IsTrue, OnOk, OnErr};
+ghost use Rattle.std.specs.Bool.{OnTrue, OnFalse};
+ghost use Rattle.aal5_frames.specs.Frame.{cells_for};
+ghost use Rattle.frame_model.specs.Frame.{frame_cells};
 ghost use Rattle.frame_model.specs.Sending.{sent_frame};
 
 use aal5_frames::segment;
@@ -10,6 +13,12 @@ use net_types::{Channel, Mark, OutOfMemory};
 
 /// The most cells of a frame.
 const MOST_CELLS: usize = 32;
+
+/// The cells of a short frame, as most messages are.
+const FEW_CELLS: usize = 4;
+
+/// The most octets of a payload whose frame is short: its trailer takes 8 more.
+const SHORT_PAYLOAD: usize = 184;
 
 /// Queues of cells in one region of slots, each named by a `Place`.
 pub trait Queues<Place> {
@@ -35,6 +44,27 @@ pub trait Queues<Place> {
         ensures none { OnFalse result (self.new ≡ self.old) };
 }
 
+/// Puts the cells of a frame to the end of a queue, or none of them. False exactly where fewer slots
+/// are free than cells. They are made in `room`.
+fn send_cells<Place: Copy, Q: Queues<Place>>(
+    queues: &mut Q,
+    place: Place,
+    channel: Channel,
+    mark: Mark,
+    payload: &[u8],
+    room: &mut [Cell],
+) -> bool
+    requires queue { Q.has_queue queues.old place }
+    requires payload { (1 ≤ length payload.now) × (length payload.now ≤ 1528) }
+    requires room { cells_for (length payload.now) ≤ length room.old }
+    ensures all { IsTrue result ↔ (length (frame_cells channel mark payload.now) ≤ Q.free queues.old) }
+    ensures sent { OnTrue result (queues.new ≡ Q.with_cells queues.old place (frame_cells channel mark payload.now)) }
+    ensures none { OnFalse result (queues.new ≡ queues.old) }
+{
+    let count = segment(payload, channel, mark, room);
+    queues.send(place, &room[..count])
+}
+
 /// Sends a frame of 1 to 1528 octets: the notes keep its payload under its mark, and its cells go to
 /// the end of a queue, all, or none with the entry PoolFull where fewer slots are free.
 pub fn send_frame<Place: Copy, Q: Queues<Place>>(
@@ -51,9 +81,14 @@ pub fn send_frame<Place: Copy, Q: Queues<Place>>(
     ensures err { OnErr result (queues.new ≡ queues.old) }
 {
     notes.made(mark, payload)?;
-    let mut cells = [BLANK_CELL; MOST_CELLS];
-    let count = segment(payload, channel, mark, &mut cells);
-    if !queues.send(place, &cells[..count]) {
+    let is_sent = if payload.len() <= SHORT_PAYLOAD {
+        let mut room = [BLANK_CELL; FEW_CELLS];
+        send_cells(queues, place, channel, mark, payload, &mut room)
+    } else {
+        let mut room = [BLANK_CELL; MOST_CELLS];
+        send_cells(queues, place, channel, mark, payload, &mut room)
+    };
+    if !is_sent {
         notes.push(Record::Loss {
             mark,
             cause: Cause::PoolFull,
