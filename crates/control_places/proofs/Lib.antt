@@ -6,3 +6,11 @@ pub mod Kept
 pub mod Sites
 pub mod Switches
 pub mod Walks
+pub mod RefusedEvents
+pub mod Frames
+pub mod RefusedKept
+pub mod Notes
+pub mod Ports
+pub mod Readings
+pub mod RefusedSwitches
+pub mod RefusedWalks

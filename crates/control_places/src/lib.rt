@@ -3,10 +3,18 @@
 //!
 //! The proof is one walk over all that a controller and a switch do (`proofs/Walks` to `proofs/Switches`): a controller says
 //! messages of GSMP and, by its ports, of IFMP, and sends no message on that it was told; a switch says messages of GSMP, and its
-//! branches to the controller are of channels of linked ports. There is no code that runs.
+//! branches to the controller are of channels of linked ports.
+//!
+//! So nothing that comes is refused: a frame that passes its test is the frame of its last cell, and whoever takes it reads what
+//! its maker wrote. A record `Bad` is noted where a frame can't be read: a message of GSMP at a controller or at its switch, a
+//! packet under the flow of a label, and what stands on a default channel, which is unwrapped, tested as a packet and, if it is a
+//! message of IFMP, read. `proofs/Readings` has that what comes on each of these channels can be read; `proofs/Ports`,
+//! `RefusedWalks`, `Frames` and `RefusedSwitches` go over all that a controller and a switch do, and `proofs/RefusedEvents` over
+//! the events. There is no code that runs.
 #![tactic(auto)]
 
 ghost use Rattle.control_places.specs.Law.{PlacesAreKept, PlacesBegin};
+ghost use Rattle.control_places.specs.Refused.{NothingIsRefused};
 
 use frame_readings::frames_are_read;
 use run_facts::nodes_are_steady;
@@ -22,4 +30,14 @@ pub fn control_frames_have_places()
     nodes_are_steady();
     worlds_are_running();
     frames_are_made();
+}
+
+/// No event that comes notes a record `Bad`. It calls the laws of what is read, of each run and of worlds that run, and its
+/// contract is the statement.
+pub fn nothing_is_refused()
+    ensures events { NothingIsRefused }
+{
+    frames_are_read();
+    nodes_are_steady();
+    worlds_are_running();
 }

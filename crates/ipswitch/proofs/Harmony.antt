@@ -12,8 +12,8 @@ use Rattle.world_views.specs.Kept.{Comes, Begins, behind}
 use Rattle.run_facts.specs.Steps.{EventsAreSteps}
 use Rattle.packet_worlds.proofs.Lists.{none_join}
 use Rattle.packet_worlds.proofs.Fated.{opened_notes}
-use Rattle.refused_frames.specs.Law.{NothingIsRefused}
-use Rattle.owned_words.specs.Law.{EventsDisownNothing, OpeningsDisownNothing}
+use Rattle.control_places.specs.Refused.{NothingIsRefused}
+use Rattle.told_worlds.specs.Disowned.{EventsDisownNothing, OpeningsDisownNothing}
 use Rattle.ipswitch.proofs.Kept.{KeepsWhole}
 
 pub harmony_kept : EventsAreSteps → NothingIsRefused → EventsDisownNothing → KeepsWhole IsInHarmony

@@ -4,21 +4,21 @@ ghost use Rattle.std.specs.Prelude.{ℕ, List};
 ghost use Rattle.ipswitch.specs.declared.task.Task.{Task};
 ghost use Rattle.ipswitch.specs.Law.{IsTrueTask, RunsAreTrue};
 
-use control_places::control_frames_have_places;
+use control_places::{control_frames_have_places, nothing_is_refused};
 use idle_policies::nothing_is_bound;
 use joined_worlds::{answers_settle_joins, joins_are_kept, runs_make_no_pairs};
 use label_worlds::labels_are_followed;
 use lifetimes::grants_expire;
-use owned_words::labels_are_never_disowned;
 use ownership::labels_are_owned;
 use packet_worlds::packets_are_kept;
 use passed_cells::cells_have_passed;
-use refused_frames::nothing_is_refused;
 use run_facts::nodes_are_steady;
 use running_worlds::{frames_are_made, inputs_are_kept};
 use script_runs::scripts_are_runs;
 use steady_routes::fates_are_journeys;
-use told_worlds::{joins_lead_on, labels_are_bound_unused, users_are_kept};
+use told_worlds::{
+    joins_lead_on, labels_are_bound_unused, labels_are_never_disowned, users_are_kept,
+};
 
 /// What is true of every run of a network: cut-through changes nothing of what routing makes of packets,
 /// before the first frame that was forged or passed its test by chance; so long labels are owned and

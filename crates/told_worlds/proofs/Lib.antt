@@ -23,3 +23,5 @@ pub mod HopBound
 pub mod Worlds
 pub mod Hops
 pub mod HopOpening
+pub mod Saying
+pub mod Making

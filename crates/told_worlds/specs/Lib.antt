@@ -1,3 +1,4 @@
 pub mod Before
 pub mod Bound
 pub mod Hops
+pub mod Disowned

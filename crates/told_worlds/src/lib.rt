@@ -5,9 +5,13 @@
 //! And the flow that an output's label was bound to last is one hop further than that of the input that is joined to it, or may
 //! be, by the route of the table that is held.
 //!
-//! `specs/Before` has the words of `port_words` for a past of a run, `specs/Bound` the statements of bindings, `specs/Hops` that
-//! of joins. `proofs/Start`, `Agreed`, `Heeds` and `Bound` lead a controller through each event; `Ways` to `Events` say where the cells
-//! between two ends of a link come from, and `Kept` reads it off behind an event; `Pacing` to `Hops` follow the routes of joins.
+//! And no message that was made says that a label is taken, or is of another flow.
+//!
+//! `specs/Before` has the words of `port_words` for a past of a run, `specs/Bound` the statements of bindings, `specs/Hops` those
+//! of joins, `specs/Disowned` those of messages. `proofs/Start`, `Agreed`, `Heeds` and `Bound` lead a controller through each
+//! event; `Ways` to `Events` say where the cells between two ends of a link come from, and `Kept` reads it off behind an event;
+//! `Pacing` to `Hops` follow the routes of joins; `Saying` reads the payloads that may be made, and `Making` goes over the events
+//! for them.
 //! There is no code that runs.
 #![tactic(auto)]
 
@@ -18,6 +22,7 @@ ghost use Rattle.world_views.specs.Kept.{Begins, Keeps};
 ghost use Rattle.pairs.specs.Asked.{AnswersSettle};
 ghost use Rattle.pairs.specs.Past.{RunsMakeNoPairs};
 ghost use Rattle.told_worlds.specs.Bound.{BindsAreWired, BoundLabelsAreUnused};
+ghost use Rattle.told_worlds.specs.Disowned.{EventsDisownNothing, OpeningsDisownNothing};
 ghost use Rattle.told_worlds.specs.Hops.{RunsLeadOn};
 
 use frame_readings::frames_are_read;
@@ -64,4 +69,15 @@ pub fn joins_lead_on()
     frames_are_read();
     worlds_are_running();
     labels_are_bound_unused();
+}
+
+/// Each event that comes makes no message that disowns a label, and there is none at the opening. It calls the laws of each run,
+/// of what is read and of worlds that run, and its contract is the statement.
+pub fn labels_are_never_disowned()
+    ensures events { EventsDisownNothing }
+    ensures opening { OpeningsDisownNothing }
+{
+    nodes_are_steady();
+    frames_are_read();
+    worlds_are_running();
 }

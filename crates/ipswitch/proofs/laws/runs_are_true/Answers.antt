@@ -52,7 +52,7 @@ returns c =
       packets = λ policy topology before event comes w. c.packets_are_kept.ensures.events policy topology before event comes w.world w.channels
           (unused policy topology before event comes w);
       places = λ policy topology before event comes w. c.control_frames_have_places.ensures.events policy topology before event comes w.world w.places;
-      harmony = harmony_kept steady.steps c.nothing_is_refused.ensures c.labels_are_never_disowned.ensures.events;
+      harmony = harmony_kept steady.steps c.nothing_is_refused.ensures.events c.labels_are_never_disowned.ensures.events;
     }
     record {
       shapes = c.inputs_are_kept.ensures.shapes_begin;
@@ -86,6 +86,6 @@ returns c =
       silent = c.grants_expire.ensures.runs_silent;
       led_back = c.grants_expire.ensures.runs_led_back;
       by_reset = c.grants_expire.ensures.runs_reset;
-      journeys = c.fates_are_journeys.ensures;
-      unbound = c.nothing_is_bound.ensures;
+      journeys = c.fates_are_journeys.ensures.journeys;
+      unbound = c.nothing_is_bound.ensures.bound;
     }

@@ -31,10 +31,10 @@ use Rattle.world_model.specs.Places.{place_node, queue_at, with_queue_in, with_q
 use Rattle.world_model.specs.Step.{injects_by, arrives_at, carries_head, loses_head, acts}
 use Rattle.world_views.specs.Shown.{acting}
 use Rattle.running_worlds.proofs.MadeSites.{put_found, switching}
-use Rattle.refused_frames.proofs.Notes.{AreFair, note_fair}
-use Rattle.refused_frames.proofs.Walks.{ticks_fair, node_restarts_fair, change_comes_fair}
-use Rattle.refused_frames.proofs.Frames.{EndsRight, taken_by, injected_fair, cell_fair}
-use Rattle.refused_frames.proofs.Switches as switch
+use Rattle.control_places.proofs.Notes.{AreFair, note_fair}
+use Rattle.control_places.proofs.RefusedWalks.{ticks_fair, node_restarts_fair, change_comes_fair}
+use Rattle.control_places.proofs.Frames.{EndsRight, taken_by, injected_fair, cell_fair}
+use Rattle.control_places.proofs.RefusedSwitches as switch
 
 -- *What is asked of an event*: each frame that a cell ends can be read, and no cell comes over a link to port 0
 abbrev pub UpRight : World → NodeId → Cell → Type 0

@@ -57,9 +57,9 @@ use Rattle.gsmp_wire.specs.Layout.{octets_of as gsmp_octets}
 use Rattle.link_model.specs.Notes.{noted}
 use Rattle.frame_model.specs.Frame.{frame_cells, made}
 use Rattle.frame_model.specs.Sending.{Sent}
-use Rattle.refused_frames.proofs.Notes.{AreFair, note_fair, cut_fair}
-use Rattle.refused_frames.proofs.Ports as rules
-use Rattle.refused_frames.proofs.Ports.{IsFairAction, AsksFair}
+use Rattle.control_places.proofs.Notes.{AreFair, note_fair, cut_fair}
+use Rattle.control_places.proofs.Ports as rules
+use Rattle.control_places.proofs.Ports.{IsFairAction, AsksFair}
 
 -- *No record is `Bad`* of a controller at work
 abbrev pub Has : Acted → Type 0

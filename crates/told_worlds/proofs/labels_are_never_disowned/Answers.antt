@@ -1,7 +1,7 @@
 -- the laws that are called
 
-use Rattle.owned_words.proofs.Making.{events_disown_nothing, openings_disown_nothing}
-use Rattle.owned_words.proofs.labels_are_never_disowned.Goals as goal
+use Rattle.told_worlds.proofs.Making.{events_disown_nothing, openings_disown_nothing}
+use Rattle.told_worlds.proofs.labels_are_never_disowned.Goals as goal
 
 pub returns : goal.returns
 returns c =

@@ -35,12 +35,12 @@ use Rattle.running_worlds.proofs.Labels.{of_label}
 use Rattle.running_worlds.proofs.Made.{up, down}
 use Rattle.running_worlds.proofs.MadeSites.{switching}
 use Rattle.running_worlds.proofs.Kept.{given}
-use Rattle.refused_frames.specs.Law.{NothingIsRefused}
-use Rattle.refused_frames.proofs.Notes.{none_bad, ended_by_last}
-use Rattle.refused_frames.proofs.Frames.{IsOfGsmp, EndsRight, CanBeRead, taken_by}
-use Rattle.refused_frames.proofs.Switches as switch
-use Rattle.refused_frames.proofs.Readings.{no_peer, no_end, gsmp_can, IsOfDefault, of_default, some_end, default_can, label_can}
-use Rattle.refused_frames.proofs.Events.{IsRight, event_fair}
+use Rattle.control_places.specs.Refused.{NothingIsRefused}
+use Rattle.control_places.proofs.Notes.{none_bad, ended_by_last}
+use Rattle.control_places.proofs.Frames.{IsOfGsmp, EndsRight, CanBeRead, taken_by}
+use Rattle.control_places.proofs.RefusedSwitches as switch
+use Rattle.control_places.proofs.Readings.{no_peer, no_end, gsmp_can, IsOfDefault, of_default, some_end, default_can, label_can}
+use Rattle.control_places.proofs.RefusedEvents.{IsRight, event_fair}
 
 module _ (policy : Policy) (topology : Topology) (before : List Event) (world : IsWorld (past_of policy topology before)) (places : HasPlaces (past_of policy topology before)) where
   abbrev past : Past

@@ -48,7 +48,7 @@ use Rattle.frame_readings.proofs.Packets.{is_forwarded, is_heard}
 use Rattle.frame_readings.proofs.Reading.{read_label}
 use Rattle.ownership.specs.Places.{IsPlaced, of_gsmp, of_link}
 use Rattle.running_worlds.proofs.Labels.{IsOfLabel, flow_bound}
-use Rattle.refused_frames.proofs.Frames.{IsOfGsmp, IsWhole, IsOfFlow}
+use Rattle.control_places.proofs.Frames.{IsOfGsmp, IsWhole, IsOfFlow}
 
 -- *GSMP's channel* is of port 0, which no link leads from
 port_zero : (channel : Channel) → same_channel channel default_channel ≡ true → port_on channel ≡ control_port

@@ -60,8 +60,8 @@ use Rattle.port_words.specs.Words.{IsMade, IsSteadily}
 use Rattle.told_worlds.specs.Before.{quiet_terms}
 use Rattle.told_worlds.proofs.Wired.{then_is, tame, node_of, fit}
 use Rattle.told_worlds.proofs.Bound.{ticks_so, restarts_so, changes_so, injects_so, CellSo, on_gsmp, elsewhere, cell_so}
-use Rattle.owned_words.specs.Law.{EventsDisownNothing, OpeningsDisownNothing}
-use Rattle.owned_words.proofs.Saying.{IsFair, made_fair, says_fair, none_any, all_fair}
+use Rattle.told_worlds.specs.Disowned.{EventsDisownNothing, OpeningsDisownNothing}
+use Rattle.told_worlds.proofs.Saying.{IsFair, made_fair, says_fair, none_any, all_fair}
 
 -- *A switch* says messages of GSMP alone
 abbrev AreFair : switches.Acted → Type 0

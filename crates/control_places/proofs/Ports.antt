@@ -18,7 +18,7 @@ use Rattle.ipv4_packet.specs.declared.flow.FlowId.{FlowId}
 use Rattle.ifmp_wire.specs.declared.message.Message.{Message}
 use Rattle.gsmp_wire.specs.declared.request.Request.{Request}
 use Rattle.link_model.specs.declared.record.Record.TheVariants.{Opened}
-use Rattle.refused_frames.proofs.Notes.{IsFair}
+use Rattle.control_places.proofs.Notes.{IsFair}
 use Rattle.ordered_lists.specs.Ordered.{Every}
 use Rattle.ordered_lists.proofs.Every.{every_join}
 use Rattle.port_model.specs.Desk.{Desk, on_input}

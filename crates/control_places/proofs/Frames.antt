@@ -37,8 +37,8 @@ use Rattle.world_model.specs.Sending.{sends, sends_control}
 use Rattle.world_model.specs.Packets.{is_control, sends_next, goes_by, grant_by, forwarded, routes, injected, control_protocol}
 use Rattle.world_model.specs.Gsmp.{gsmp_holds}
 use Rattle.world_model.specs.Cells.{Taker, ForGsmp, ForDefault, ForLabel, taker_of, reassembly_of, with_reassembly, label_holds, ifmp_holds, counted_at, packet_holds, default_holds, frame_holds, after_test, ends_frame, takes_cell, cell_comes}
-use Rattle.refused_frames.proofs.Notes.{AreFair, note_fair, taken_fair, tested_fair}
-use Rattle.refused_frames.proofs.Walks.{Has, sends_fair, control_fair, used_fair, counted_fair, ifmp_fair, told_fair}
+use Rattle.control_places.proofs.Notes.{AreFair, note_fair, taken_fair, tested_fair}
+use Rattle.control_places.proofs.RefusedWalks.{Has, sends_fair, control_fair, used_fair, counted_fair, ifmp_fair, told_fair}
 
 -- *A packet goes on*
 next_fair : (a : Acted) (came : Mark) (channel : Channel) (payload : List ℕ) → Has a → Has (sends_next a came channel payload)

@@ -39,8 +39,8 @@ use Rattle.world_model.specs.Requests.{Changed, asked_in, is_request, noted_cut,
 use Rattle.world_model.specs.Failures.{failure_of}
 use Rattle.world_model.specs.Answers.{Handled, handled, handled_asked, handled_by}
 use Rattle.world_model.specs.Conduct.{with_cells, says, answers, steps, replied, requested, told, read, after_test, ends_frame, gsmp_cell, passed, switched_cell, is_gsmp, cell_comes, tick_comes, restarted}
-use Rattle.refused_frames.proofs.Notes.{AreFair, note_fair, cut_fair, taken_fair, tested_fair}
-use Rattle.refused_frames.proofs.Frames.{IsOfGsmp}
+use Rattle.control_places.proofs.Notes.{AreFair, note_fair, cut_fair, taken_fair, tested_fair}
+use Rattle.control_places.proofs.Frames.{IsOfGsmp}
 
 -- *No record is `Bad`* of a switch at work
 abbrev pub Has : Acted → Type 0
