@@ -54,8 +54,9 @@ use Rattle.controller_lifts.proofs.Unspent.{Unspent, unspent_closed}
 use Rattle.controller_lifts.proofs.Ready.{Fits, fits_closed, Readies, moves_ready}
 use Rattle.controller_lifts.proofs.Follow.{steps_follow, empties_follow, behind_follow, changes_follow}
 use Rattle.controller_lifts.proofs.Ways.{leads_followed}
-use Rattle.label_worlds.proofs.Lent.{Keeps, asks_keep, tells_keep, clears_keep}
-use Rattle.label_worlds.proofs.Released.{To, Unled, Lends, Tied, tied_on, Kept, AreReleased, releases_lead, unmet_desk}
+use Rattle.lasting_joins.proofs.Lent.{Keeps, asks_keep, tells_keep, clears_keep}
+use Rattle.lasting_joins.proofs.Unmet.{unmet_desk}
+use Rattle.label_worlds.proofs.Released.{To, Unled, Lends, Tied, tied_on, Kept, AreReleased, releases_lead}
 
 -- *A port that may be cleared* is in Clearing, and has no grant
 none_left : (grants : List Grant) → (length grants == 0) ≡ true → grants ≡ []

@@ -1,7 +1,7 @@
 -- joins that an answer releases, as moves of the line of a label: nothing may be joined to a label whose join is released
 
-use Rattle.std.proofs.Common.{◌≡◌, ℕ, ◌≤◌, ◌<◌, ◌+◌, Bool, true, false, List, [], ◌∷◌, length, Option, None, Some, refl, sym, ◌∙◌, ap, subst, arith, fold, map, if◌then◌else◌}
-use Rattle.std.specs.Prelude.{◌^◌, filter}
+use Rattle.std.proofs.Common.{◌≡◌, ℕ, ◌≤◌, ◌<◌, ◌+◌, Bool, true, false, List, [], ◌∷◌, length, Option, None, Some, refl, sym, ◌∙◌, ap, subst, arith, fold, map}
+use Rattle.std.specs.Prelude.{◌^◌}
 use Rattle.std.specs.Option.{option_and_then}
 use Rattle.net_types.specs.declared.node.PortNo.{PortNo}
 use Rattle.net_types.specs.declared.channel.End.{End}
@@ -11,7 +11,7 @@ use Rattle.link_model.specs.declared.record.Record.TheVariants.{Part}
 use Rattle.ordered_lists.specs.Ordered.{Every}
 use Rattle.keyed_lists.specs.Keyed.{at}
 use Rattle.port_model.specs.Requests.{leads_home}
-use Rattle.port_facts.proofs.Keyed.{on_both, at_every}
+use Rattle.port_facts.proofs.Keyed.{on_both}
 use Rattle.port_facts.proofs.Found.{filter_passes}
 use Rattle.port_facts.proofs.Instances.{closes_gave, parted_gave, given_back_gave}
 use Rattle.label_line.specs.Cells.{Role}
@@ -23,18 +23,17 @@ use Rattle.port_widths.proofs.Rules.{given_back_fit}
 use Rattle.port_model.specs.Setup.{Setup, home_of}
 use Rattle.port_model.specs.Grants as grants
 use Rattle.port_model.specs.Grants.{Grant, grant_label}
-use Rattle.port_model.specs.Port.{Session, Work, halts, label_at}
+use Rattle.port_model.specs.Port.{Work, halts, label_at}
 use Rattle.port_model.specs.Saying.{is_spent, closes}
 use Rattle.port_model.specs.Joins.{parted, given_back}
-use Rattle.world_model.specs.Controller.{Controller, Acted, Linked, port_key, linked_at, ports_of, note}
+use Rattle.world_model.specs.Controller.{Controller, Acted, Linked, linked_at, ports_of, note}
 use Rattle.world_model.specs.Resets.{begins}
-use Rattle.world_model.specs.Performing.{works_as, works}
 use Rattle.world_model.specs.Joins.{Join, join_of, joins_of, parts, releases_join, releases_input, released_inputs, resets_spent, releases}
-use Rattle.controller_facts.specs.Sound.{IsSound, IsShutLinked}
+use Rattle.controller_facts.specs.Sound.{IsSound}
 use Rattle.controller_facts.proofs.Moves.{HasPorts, moves_ports}
-use Rattle.controller_facts.proofs.Laws.{has_ports, moves_sound}
+use Rattle.controller_facts.proofs.Laws.{has_ports}
 use Rattle.controller_facts.proofs.Flows.{says_in_range}
-use Rattle.controller_facts.proofs.Joining.{IsJoin, joins_are, granted_there, parts_grants, parts_goes, releases_input_goes, resets_spent_goes}
+use Rattle.controller_facts.proofs.Joining.{IsJoin, granted_there, parts_grants, parts_goes, releases_input_goes, resets_spent_goes}
 use Rattle.controller_law.specs.Match.{lent_in, lent_at}
 use Rattle.controller_law.proofs.Matched.{shut_lent}
 use Rattle.controller_views.specs.Ends.{EndLeads}
@@ -47,7 +46,7 @@ use Rattle.controller_lifts.proofs.Lifts.{readable_all, joined_says}
 use Rattle.controller_lifts.proofs.Kept.{Goes}
 use Rattle.controller_lifts.proofs.Ready.{Fits}
 use Rattle.controller_lifts.proofs.Releasing.{IsSteady, ready_steady, steady_on, steady_work, steady_fits, given_back_fits, found_join, parts_fit, input_fits, inputs_fit, ports_fit, released_ready}
-use Rattle.label_worlds.proofs.Lent.{Keeps, itself, keeps_on, found_input, input_keeps, spent_keeps}
+use Rattle.lasting_joins.proofs.Lent.{Keeps, itself, keeps_on, found_input, input_keeps, spent_keeps}
 use Rattle.label_worlds.proofs.Drawn.{releases_small}
 
 module _ (setups : List Setup) (link : LinkLabel) (proper : IsProper link) (fit : FitsLink link) (like : Type 0) (role : Role) where
@@ -193,45 +192,3 @@ module _ (setups : List Setup) (link : LinkLabel) (proper : IsProper link) (fit 
           ready = released_ready setups a request small h;
           kept = keeps_on setups (link.port role).0 link.label Unled a released (releases a request) first.kept (ports_kept (ports_of released.controller) released (has_ports setups released first.sound));
         }
-
--- *Before the switch is met* nothing is released
-module _ (setups : List Setup) where
-  none_joined : (a : Acted) → IsSound setups a.controller → a.controller.has_met ≡ false → joins_of a.controller ≡ []
-  none_joined a sound unmet = by (joins_of a.controller) (joins_are setups a (has_ports setups a sound))
-    where
-      by : (joins : List Join) → Every (IsJoin setups a) joins → joins ≡ []
-      by [] all = refl
-      by (join ∷ joins) all =
-          let is : IsJoin setups a join = all.0 in
-          let lent : lent_at a.controller.ports join.port.0 join.grant.label ≡ Some join.input = ap (option_and_then (λ (x : Linked). lent_in x.port.grants join.grant.label)) is.found
-          ∙ (ap (option_and_then (λ (g : Grant). grants.input_of g.state)) is.granted ∙ is.input) in
-          let none : None ≡ Some join.input = sym (shut_lent a.controller.ports join.port.0 join.grant.label (sound.unmet unmet)) ∙ lent in
-          absurd (cc none)
-
-  -- what an answer of meeting the switch finds of the desk
-  record IsStill (a b : Acted) : Type 0 where
-    desk : b.controller.desk ≡ a.controller.desk
-    met : b.controller.has_met ≡ a.controller.has_met
-
-  spent_still : (a : Acted) (q : PortNo) → IsSound setups a.controller → a.controller.has_met ≡ false → IsStill a (resets_spent a q)
-  spent_still a q sound unmet = by (linked_at a.controller q) refl
-    where
-      by : (o : Option Linked) → linked_at a.controller q ≡ o → IsStill a (works a (λ setup desk w. closes w) o)
-      by None found = record { desk = refl; met = refl }
-      by (Some linked) found =
-          let shut : IsShutLinked linked = at_every port_key IsShutLinked q.0 a.controller.ports linked (sound.unmet unmet) found in
-          subst (λ (w : Work). IsStill a (works_as a linked w)) (ap (λ (o : Option Session). if is_spent o then halts (begins a linked) else begins a linked) (sym shut.session)) (record { desk = refl; met = refl })
-
-  ports_still : (ports : List PortNo) (a : Acted) → IsSound setups a.controller → a.controller.has_met ≡ false → IsStill a (fold resets_spent a ports)
-  ports_still [] a sound unmet = record { desk = refl; met = refl }
-  ports_still (q ∷ ports) a sound unmet =
-      let next : Acted = resets_spent a q in
-      let first : IsStill a next = spent_still a q sound unmet in
-      let rest : IsStill next (fold resets_spent next ports) = ports_still ports next (moves_sound setups a next (resets_spent_goes setups a q (has_ports setups a sound)) sound) (first.met ∙ unmet) in
-      record { desk = rest.desk ∙ first.desk; met = rest.met ∙ first.met }
-
-  pub unmet_desk : (a : Acted) (request : Request) → IsSound setups a.controller → a.controller.has_met ≡ false → (releases a request).controller.desk ≡ a.controller.desk
-  unmet_desk a request sound unmet = subst (λ (joins : List Join).
-      (fold resets_spent (fold releases_input a (filter (λ input. leads_home input (home_of input) request) (map (λ (join : Join). join.input) joins)))
-      (ports_of (fold releases_input a (filter (λ input. leads_home input (home_of input) request) (map (λ (join : Join). join.input) joins))).controller)).controller.desk ≡ a.controller.desk)
-      (sym (none_joined a sound unmet)) (ports_still (ports_of a.controller) a sound unmet).desk

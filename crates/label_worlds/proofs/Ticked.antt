@@ -48,7 +48,8 @@ use Rattle.controller_lifts.proofs.Ways.{leads_followed, kept_followed}
 use Rattle.quiet_controllers.specs.Quiet.{entered}
 use Rattle.quiet_controllers.specs.Law.{before_joins}
 use Rattle.label_worlds.specs.Enters.{EntersTo, TickEntersTo}
-use Rattle.label_worlds.proofs.Lent.{Keeps, keeps_on, again_keeps, ticks_keep}
+use Rattle.lasting_joins.proofs.Lent.{Keeps, keeps_on}
+use Rattle.label_worlds.proofs.Lent.{again_keeps, ticks_keep}
 use Rattle.label_worlds.proofs.Joined.{Turns, turns_on, turns_less, tries_is, entering, join_leads, never, tries_turn}
 
 module _ (setups : List Setup) where

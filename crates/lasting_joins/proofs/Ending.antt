@@ -1,11 +1,9 @@
 -- the answer that ends the meeting with the switch
 
-use Rattle.std.proofs.Common.{◌≡◌, ℕ, Bool, true, false, List, [], ◌∷◌, Option, None, Some, Result, Ok, Err, refl, sym, ◌∙◌, ap, subst, fold, if◌then◌else◌}
-use Rattle.std.specs.Prelude.{not, nat_lt, map, filter}
+use Rattle.std.proofs.Common.{◌≡◌, ℕ, Bool, true, false, List, [], ◌∷◌, Option, None, Some, Result, Ok, Err, refl, sym, ◌∙◌, ap, subst, if◌then◌else◌}
+use Rattle.std.specs.Prelude.{not, nat_lt}
 use Rattle.std.specs.List.{list_any}
-use Rattle.std.specs.Option.{option_and_then}
 use Rattle.net_types.specs.declared.channel.End.{End}
-use Rattle.net_types.specs.declared.node.PortNo.{PortNo}
 use Rattle.net_types.specs.declared.number.Mark.{Mark}
 use Rattle.atm_cells.specs.declared.cell.Cell.{Cell}
 use Rattle.adjacency_table.specs.Side.{is_estab}
@@ -19,79 +17,26 @@ use Rattle.gsmp_wire.specs.declared.request.Request.TheVariants.{AddBranch, Move
 use Rattle.gsmp_wire.specs.Fields.{decoded as gsmp_decoded}
 use Rattle.frame_model.specs.Frame.{octets_of, last_mark, payload_in, tested_by}
 use Rattle.frame_model.specs.Reassembly.{Taken, taken}
-use Rattle.ordered_lists.specs.Ordered.{Every}
 use Rattle.port_model.specs.Desk.{Desk, Standing}
-use Rattle.port_model.specs.Requests.{leads_home}
 use Rattle.port_model.specs.DeskAnswers.{Answered, Unknown, Done, Ports, Failed, answered, after_answer, without_request}
-use Rattle.port_model.specs.Setup.{Setup, home_of}
-use Rattle.port_model.specs.Labels.{Label}
-use Rattle.port_model.specs.Grants as grants
-use Rattle.port_model.specs.Grants.{Grant}
-use Rattle.port_model.specs.Port.{Session, Work, halts}
-use Rattle.port_model.specs.Saying.{is_spent, closes}
-use Rattle.port_facts.proofs.Keyed.{at_every, on_each}
-use Rattle.world_model.specs.Controller.{Controller, Acted, Linked, port_key, default_channel, default_end, default_home, free_slots, linked_at, ports_of, with_desk}
+use Rattle.port_model.specs.Setup.{Setup}
+use Rattle.world_model.specs.Controller.{Controller, Acted, default_channel, default_end, default_home, free_slots, ports_of, with_desk}
 use Rattle.world_model.specs.Asking.{asks}
-use Rattle.world_model.specs.Resets.{begins, node_resets}
-use Rattle.world_model.specs.Performing.{works_as, works}
-use Rattle.world_model.specs.Joins.{Join, joins_of, releases_input, released_inputs, resets_spent, releases}
-use Rattle.world_model.specs.Meeting.{port_of_input, is_deleting, has_emptied, ends_meeting, empties, causes_in_estab, causes, clears_port, clears, done, takes_answer, answer_comes}
-use Rattle.world_model.specs.Changes.{takes_changes}
+use Rattle.world_model.specs.Joins.{releases}
+use Rattle.world_model.specs.Meeting.{port_of_input, is_deleting, has_emptied, ends_meeting, causes_in_estab, causes, clears, done, takes_answer, answer_comes}
 use Rattle.world_model.specs.Gsmp.{told, gsmp_holds}
 use Rattle.world_model.specs.Cells.{Taker, ForGsmp, ForDefault, ForLabel, same_channel, reassembly_of, with_reassembly, frame_holds, opened_frame, ends_frame, takes_cell, cell_comes}
-use Rattle.controller_facts.specs.Sound.{IsSound, IsShutLinked}
+use Rattle.controller_facts.specs.Sound.{IsSound}
 use Rattle.controller_facts.proofs.Laws.{has_ports, moves_sound}
-use Rattle.controller_facts.proofs.Moves.{HasPorts, Found, answering, moves_to, moves_ports}
-use Rattle.controller_facts.proofs.Joining.{IsJoin, joins_are, resets_spent_goes, releases_goes}
+use Rattle.controller_facts.proofs.Moves.{HasPorts, answering, moves_to, moves_ports}
+use Rattle.controller_facts.proofs.Joining.{releases_goes}
 use Rattle.controller_facts.proofs.Events.{IsTaker, kept_ports}
-use Rattle.controller_law.specs.Match.{lent_in, lent_at}
-use Rattle.controller_law.proofs.Matched.{shut_lent}
-use Rattle.lasting_joins.proofs.Lent.{Keeps, node_keeps, tells_keep}
-use Rattle.lasting_joins.proofs.Lasting.{Lasts, empties_last, releases_keep, clears_last, changes_last, steps_last, default_lasts, label_lasts}
-use Rattle.lasting_joins.proofs.Tries.{taken_by, gathered_lasts, gathered_met}
+use Rattle.lasting_joins.proofs.Lent.{node_keeps, tells_keep}
+use Rattle.lasting_joins.proofs.Lasting.{empties_last, releases_keep, clears_last, changes_last, steps_last, default_lasts, label_lasts}
+use Rattle.lasting_joins.proofs.Unmet.{unmet_desk}
+use Rattle.lasting_joins.proofs.Tries.{taken_by, gathered_met}
 
--- *Before the switch is met* nothing is released
 module _ (setups : List Setup) where
-  none_joined : (a : Acted) → IsSound setups a.controller → a.controller.has_met ≡ false → joins_of a.controller ≡ []
-  none_joined a sound unmet = by (joins_of a.controller) (joins_are setups a (has_ports setups a sound))
-    where
-      by : (joins : List Join) → Every (IsJoin setups a) joins → joins ≡ []
-      by [] all = refl
-      by (join ∷ joins) all =
-          let is : IsJoin setups a join = all.0 in
-          let lent : lent_at a.controller.ports join.port.0 join.grant.label ≡ Some join.input = ap (option_and_then (λ (x : Linked). lent_in x.port.grants join.grant.label)) is.found
-          ∙ (ap (option_and_then (λ (g : Grant). grants.input_of g.state)) is.granted ∙ is.input) in
-          let none : None ≡ Some join.input = sym (shut_lent a.controller.ports join.port.0 join.grant.label (sound.unmet unmet)) ∙ lent in
-          absurd (cc none)
-
-  -- what an answer of meeting the switch finds of the desk
-  record IsStill (a b : Acted) : Type 0 where
-    desk : b.controller.desk ≡ a.controller.desk
-    met : b.controller.has_met ≡ a.controller.has_met
-
-  spent_still : (a : Acted) (q : PortNo) → IsSound setups a.controller → a.controller.has_met ≡ false → IsStill a (resets_spent a q)
-  spent_still a q sound unmet = by (linked_at a.controller q) refl
-    where
-      by : (o : Option Linked) → linked_at a.controller q ≡ o → IsStill a (works a (λ setup desk w. closes w) o)
-      by None found = record { desk = refl; met = refl }
-      by (Some linked) found =
-          let shut : IsShutLinked linked = at_every port_key IsShutLinked q.0 a.controller.ports linked (sound.unmet unmet) found in
-          subst (λ (w : Work). IsStill a (works_as a linked w)) (ap (λ (o : Option Session). if is_spent o then halts (begins a linked) else begins a linked) (sym shut.session)) (record { desk = refl; met = refl })
-
-  ports_still : (ports : List PortNo) (a : Acted) → IsSound setups a.controller → a.controller.has_met ≡ false → IsStill a (fold resets_spent a ports)
-  ports_still [] a sound unmet = record { desk = refl; met = refl }
-  ports_still (q ∷ ports) a sound unmet =
-      let next : Acted = resets_spent a q in
-      let first : IsStill a next = spent_still a q sound unmet in
-      let rest : IsStill next (fold resets_spent next ports) = ports_still ports next (moves_sound setups a next (resets_spent_goes setups a q (has_ports setups a sound)) sound) (first.met ∙ unmet) in
-      record { desk = rest.desk ∙ first.desk; met = rest.met ∙ first.met }
-
-  pub unmet_desk : (a : Acted) (request : Request) → IsSound setups a.controller → a.controller.has_met ≡ false → (releases a request).controller.desk ≡ a.controller.desk
-  unmet_desk a request sound unmet = subst (λ (joins : List Join).
-      (fold resets_spent (fold releases_input a (filter (λ input. leads_home input (home_of input) request) (map (λ (join : Join). join.input) joins)))
-      (ports_of (fold releases_input a (filter (λ input. leads_home input (home_of input) request) (map (λ (join : Join). join.input) joins))).controller)).controller.desk ≡ a.controller.desk)
-      (sym (none_joined a sound unmet)) (ports_still (ports_of a.controller) a sound unmet).desk
-
   abbrev Nobody : End → Type 0
   Nobody input = ⊥
 
@@ -149,7 +94,7 @@ module _ (setups : List Setup) where
 
       by : (t : Bool) → is_estab released.controller.adjacency.state ≡ t → (if t then causes_in_estab released request else released).controller.has_met ≡ true → Emptied a request
       by true e k = (let x : Emptied released request = caused_ends released request ports still k in
-          (x.0, ap (λ (d : Desk). not (list_any (λ (s : Standing). is_deleting s.request) d.standing)) (sym (unmet_desk a request sound unmet)) ∙ x.1))
+          (x.0, ap (λ (d : Desk). not (list_any (λ (s : Standing). is_deleting s.request) d.standing)) (sym (unmet_desk setups a request sound unmet)) ∙ x.1))
       by false e k = not_met released.controller.has_met k still
 
   answer_ends : (a : Acted) (message : Message) → IsSound setups a.controller → a.controller.has_met ≡ false → (answer_comes a message).controller.has_met ≡ true → EndsMeeting a.controller.desk message

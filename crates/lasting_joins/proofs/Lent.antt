@@ -1,6 +1,6 @@
 -- a grant that is lent to an input stays lent to it while the switch is met, but where a join of the input is released
 
-use Rattle.std.proofs.Common.{◌≡◌, ◌≢◌, ℕ, Bool, true, false, List, [], ◌∷◌, ◌++◌, Option, None, Some, refl, sym, ◌∙◌, ap, subst, fold, if◌then◌else◌}
+use Rattle.std.proofs.Common.{◌≡◌, ◌≢◌, ℕ, true, false, List, [], ◌∷◌, ◌++◌, Option, None, Some, refl, sym, ◌∙◌, ap, subst, fold, if◌then◌else◌}
 use Rattle.std.specs.Prelude.{◌==◌, ◌+◌, nat_lt, nat_le, length}
 use Rattle.std.specs.Option.{option_and_then}
 use Rattle.net_types.specs.declared.node.PortNo.{PortNo}
@@ -17,8 +17,8 @@ use Rattle.crossbar_model.specs.Crossbar.{same_end}
 use Rattle.link_model.specs.declared.record.Record.TheVariants.{Part}
 use Rattle.frame_model.specs.Reassembly.{nothing_taken}
 use Rattle.ordered_lists.specs.Ordered.{Every}
-use Rattle.keyed_lists.specs.Keyed.{at, put, without}
-use Rattle.port_model.specs.Desk.{Desk, asked, is_led_home, last_transaction}
+use Rattle.keyed_lists.specs.Keyed.{at, put}
+use Rattle.port_model.specs.Desk.{asked, is_led_home, last_transaction}
 use Rattle.port_model.specs.declared.action.Action.{Action}
 use Rattle.port_model.specs.declared.action.Action.TheVariants.{Say, Ask, Note, CutChain, TakeBack, Withdraw, Reset}
 use Rattle.port_model.specs.Setup.{Setup, home_of}
@@ -31,17 +31,16 @@ use Rattle.port_model.specs.Hearing.{label_by}
 use Rattle.port_model.specs.Answers as answers
 use Rattle.port_model.specs.Joins.{joins_label, parted, given_back_in, given_back}
 use Rattle.port_model.specs.Resets.{resets, cleared}
-use Rattle.port_facts.specs.Port.{setup_port, AnyChannel, IsAction}
-use Rattle.port_facts.proofs.Keyed.{on_both, by_eq, at_key, at_put_other}
+use Rattle.port_facts.specs.Port.{IsAction}
+use Rattle.port_facts.proofs.Keyed.{on_both, by_eq, at_put_other}
 use Rattle.port_facts.proofs.Found.{find_passes, session_grants, closes_port}
-use Rattle.port_facts.proofs.Joins.{resets_kept}
 use Rattle.port_facts.proofs.Rules.{IsTree, done_goes}
 use Rattle.link_model.specs.declared.record.Record.TheVariants.{Loss}
 use Rattle.link_model.specs.declared.record.Cause.TheVariants.{PoolFull}
 use Rattle.link_model.specs.Notes.{noted}
 use Rattle.frame_model.specs.Frame.{frame_cells, made}
 use Rattle.frame_model.specs.Sending.{Sent}
-use Rattle.world_model.specs.Controller.{Controller, free_slots, Acted, Linked, port_key, linked_at, with_linked, with_desk, note, chain_of, chains_with, default_channel}
+use Rattle.world_model.specs.Controller.{Controller, free_slots, Acted, Linked, port_key, linked_at, with_linked, with_desk, note, chains_with, default_channel}
 use Rattle.world_model.specs.Sending.{with_cells, sends, sends_control}
 use Rattle.world_model.specs.Asking.{asks_next, asks, takes_back}
 use Rattle.world_model.specs.Resets.{begins, with_work, cuts_of, node_resets}
@@ -54,7 +53,7 @@ use Rattle.controller_facts.proofs.Joining.{IsJoin, joins_are, granted_there, pa
 use Rattle.port_facts.proofs.Found.{find_every}
 use Rattle.controller_law.specs.Match.{lent_in, lent_at}
 use Rattle.controller_law.proofs.Pairing.{SamePairs, same_pairs, goes_pairs, without_other}
-use Rattle.controller_law.proofs.Matched.{end_is, here_now, there_now, here_before, lent_put}
+use Rattle.controller_law.proofs.Matched.{end_is, there_now, here_before, lent_put}
 use Rattle.controller_law.proofs.Holding.{node_unmet, node_closed}
 use Rattle.controller_law.proofs.Matching.{left_lent}
 
@@ -160,7 +159,7 @@ module _ (setups : List Setup) (q m : ℕ) (Unled : End → Type 0) where
   pub node_keeps : (a : Acted) → Keeps a (node_resets a)
   node_keeps a = unmet_keeps a (node_resets a) (node_unmet setups a) (node_closed setups a)
 
-  control_keeps : (a : Acted) (channel : Channel) (payload : List ℕ) → Keeps a (sends_control a channel payload)
+  pub control_keeps : (a : Acted) (channel : Channel) (payload : List ℕ) → Keeps a (sends_control a channel payload)
   control_keeps a channel payload = sent_cases (Keeps a) (record a { numbers = with_control a.numbers }) channel (next_control a.numbers) payload (same_keeps a _ refl refl refl) (same_keeps a _ refl refl refl)
 
   -- *What is asked and done*

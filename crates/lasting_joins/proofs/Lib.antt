@@ -2,4 +2,5 @@ pub mod Lent
 pub mod Lasting
 pub mod Tries
 pub mod Entered
+pub mod Unmet
 pub mod Ending
