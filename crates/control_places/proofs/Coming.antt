@@ -50,16 +50,16 @@ use Rattle.run_facts.proofs.Taking.{taken_frames, tested_frames, taken_chain}
 use Rattle.run_facts.proofs.Takers.{taker_at_port}
 use Rattle.actor_pace.proofs.Cells.{ended_last}
 use Rattle.running_worlds.proofs.MadeCells.{IsRead, Ends, taken_by}
-use Rattle.control_places.proofs.Walks.{Sees, At, Has, with_frames, back, sent, at_work, gsmp_frame}
+use Rattle.run_facts.proofs.Walks.{Sees, At, Has, with_frames, back, sent, at_work, gsmp_frame}
 
 module _ (S : (queue chain : List Cell) → List Frame → (controls : ℕ) → Type 0) (T : List Route → Type 0) (Q : RouteChange → Type 0) (D : (controls : ℕ) → PortNo → (chain : List Cell) → Type 0) (L : PortNo → Type 0)
-    (gsmp : (a : Acted) (message : Message) → Sees S T Q D L a → Sees S T Q D L (says_gsmp a message)) (ifmp : (a : Acted) (port : PortNo) (payload : List ℕ) → L port → Sees S T Q D L a → Sees S T Q D L (sends_control a (default_home port).channel payload))
+    (gsmp : (a : Acted) (message : Message) → Sees S T Q D a → Sees S T Q D (says_gsmp a message)) (ifmp : (a : Acted) (port : PortNo) (payload : List ℕ) → L port → Sees S T Q D a → Sees S T Q D (sends_control a (default_home port).channel payload))
     (linked_of : (controls : ℕ) (port : PortNo) (chain : List Cell) → D controls port chain → L port)
     (clear : (queue chain : List Cell) (frames : List Frame) (controls : ℕ) → S queue chain frames controls → S queue [] frames controls)
     (later : (controls : ℕ) (port : PortNo) (chain : List Cell) → D controls port chain → D (controls + 1) port chain) (nothing : (controls : ℕ) (port : PortNo) (chain : List Cell) → D controls port chain → D controls port [])
     (step : (table : List Route) (change : RouteChange) → T table → Q change → T (changed table change)) where
   abbrev Is : Acted → Type 0
-  Is a = Has S T Q D L a
+  Is a = Has S T Q D a
 
   working : (a : Acted) (port : PortNo) (rule : Rule) → Is a → Is (at_port a port rule)
   working a port rule h = at_work S T Q D L gsmp ifmp linked_of clear later nothing step a port rule h
@@ -67,11 +67,11 @@ module _ (S : (queue chain : List Cell) → List Frame → (controls : ℕ) → 
   -- *What came under a mark*
   module _ (setups : List Setup) (came : Mark) (gathers : (queue chain : List Cell) (frames : List Frame) (controls : ℕ) (cell : Cell) → S queue chain frames controls → S queue (chain ++ cell ∷ []) frames controls)
       (gathers_at : (controls : ℕ) (port : PortNo) (chain : List Cell) (cell : Cell) → D controls port chain → D controls port (chain ++ cell ∷ []))
-      (packet : came.packet ≢ 0 → (a : Acted) (channel : Channel) (payload : List ℕ) → Sees S T Q D L a → Sees S T Q D L (sends a channel (next_mark came) payload)) where
+      (packet : came.packet ≢ 0 → (a : Acted) (channel : Channel) (payload : List ℕ) → Sees S T Q D a → Sees S T Q D (sends a channel (next_mark came) payload)) where
     next_sent : came.packet ≢ 0 → (a : Acted) (channel : Channel) (payload : List ℕ) → Is a → Is (sends_next a came channel payload)
     next_sent counted a channel payload h = on_each Is (is_control came) (sends_control a channel payload) (sends a channel (next_mark came) payload)
         (λ e. absurd (counted (zero_is came.packet (and_first (came.packet == 0) (nat_lt 0 came.frame) e))))
-        (λ e. (let k = sent S T Q D L a channel (next_mark came) payload (h.1, h.2, h.3) in (packet counted a channel payload h.0, k.0, k.1, k.2)))
+        (λ e. (let k = sent S T Q D a channel (next_mark came) payload (h.1, h.2, h.3) in (packet counted a channel payload h.0, k.0, k.1, k.2)))
       where
         zero_is : (n : ℕ) → (n == 0) ≡ true → n ≡ 0
         zero_is n e = grind (arith, nat_tests)
@@ -133,7 +133,7 @@ module _ (S : (queue chain : List Cell) → List Frame → (controls : ℕ) → 
         let last : last_mark (cell ∷ cells) ≡ came = marks cell cells refl in
         let test : Tested = tested a.notes (cell ∷ cells) in
         subst (λ m. Is (after_test a taker m test)) (sym last)
-        (tests a taker cell cells (payload_in (octets_of (cell ∷ cells))) refl last ends (with_frames S T Q D L (record a { notes = test.notes }) a.notes.frames (tested_frames a.notes (cell ∷ cells)) h))
+        (tests a taker cell cells (payload_in (octets_of (cell ∷ cells))) refl last ends (with_frames S T Q D (record a { notes = test.notes }) a.notes.frames (tested_frames a.notes (cell ∷ cells)) h))
 
     gathered : (a : Acted) (notes : Journal) (slot : Bool) (taker : Taker) (cell : Cell) → taker_of a.controller cell.header.channel ≡ Some taker → Is a
         → Is (with_reassembly a taker (taken notes slot (reassembly_of a.controller taker) cell).reassembly)
@@ -146,19 +146,19 @@ module _ (S : (queue chain : List Cell) → List Frame → (controls : ℕ) → 
       h.3,
     )
     gathered a notes slot (ForDefault linked) cell found h =
-        let d = taker_at_port (At S T Q D L a.numbers.controls) a.controller cell.header.channel (ForDefault linked) h.3 found in (
+        let d = taker_at_port (At S T Q D a.numbers.controls) a.controller cell.header.channel (ForDefault linked) h.3 found in (
           h.0,
           h.1,
           h.2,
-          back S T Q D L a (record linked { reassembly = (taken notes slot linked.reassembly cell).reassembly })
+          back S T Q D a (record linked { reassembly = (taken notes slot linked.reassembly cell).reassembly })
               (taken_chain (D a.numbers.controls linked.setup.port) notes slot linked.reassembly cell d (nothing a.numbers.controls linked.setup.port linked.reassembly.chain d) (gathers_at a.numbers.controls linked.setup.port linked.reassembly.chain cell d)) h,
         )
     gathered a notes slot (ForLabel linked label) cell found h = (
       h.0,
       h.1,
       h.2,
-      back S T Q D L a (record linked { chains = chains_with linked.chains label.number (taken notes slot (chain_of linked.chains label.number) cell).reassembly })
-          (taker_at_port (At S T Q D L a.numbers.controls) a.controller cell.header.channel (ForLabel linked label) h.3 found) h,
+      back S T Q D a (record linked { chains = chains_with linked.chains label.number (taken notes slot (chain_of linked.chains label.number) cell).reassembly })
+          (taker_at_port (At S T Q D a.numbers.controls) a.controller cell.header.channel (ForLabel linked label) h.3 found) h,
     )
 
     pub cell_walk : (a : Acted) (cell : Cell) → cell.mark ≡ came → ((taker : Taker) → taker_of a.controller cell.header.channel ≡ Some taker → Ends setups taker (taken_by setups a taker cell).ended) → Is a → Is (cell_comes a cell)
@@ -171,4 +171,4 @@ module _ (S : (queue chain : List Cell) → List Frame → (controls : ℕ) → 
             let t : Taken = taken a.notes slot (reassembly_of a.controller taker) cell in
             let b : Acted = record a { notes = t.notes } in
             ended (with_reassembly b taker t.reassembly) taker t.ended (λ first rest e. ended_last a.notes slot (reassembly_of a.controller taker) cell first rest e ∙ is) (ends taker found)
-            (gathered b a.notes slot taker cell found (with_frames S T Q D L b a.notes.frames (taken_frames a.notes slot (reassembly_of a.controller taker) cell) h))
+            (gathered b a.notes slot taker cell found (with_frames S T Q D b a.notes.frames (taken_frames a.notes slot (reassembly_of a.controller taker) cell) h))

@@ -35,7 +35,7 @@ use Rattle.controller_facts.specs.Inputs.{Input, CellComes, PacketEnters, Ticks,
 use Rattle.run_facts.specs.Frames.{IsFree}
 use Rattle.run_facts.proofs.Frames.{made_elsewhere, free_next, free_packet}
 use Rattle.running_worlds.proofs.MadeCells.{Ends, taken_by}
-use Rattle.control_places.proofs.Walks.{Has, change_walk, tick_walk, restart_walk}
+use Rattle.run_facts.proofs.Walks.{Has, change_walk, tick_walk, restart_walk}
 use Rattle.control_places.proofs.Coming.{routed_walk, cell_walk}
 
 -- *The payload of a message of GSMP*, read or written
@@ -150,7 +150,7 @@ module _ (L : PortNo → Type 0) where
       (record { queues = a.controller; notes = noted (made a.notes mark payload) (Loss mark PoolFull) })
       (free, every_join (IsRight new) a.controller.queue (frame_cells channel mark payload) old (cells_right new channel mark payload (λ cell same is none. absurd (counted (ap (λ (m : Mark). m.packet) (sym is) ∙ none))))) (free, old)
 
-  begin : (a : Acted) → Every (λ (linked : Linked). L linked.setup.port) a.controller.ports → IsFine a → Has IsOk AnyTable AnyChange OfLink L a
+  begin : (a : Acted) → Every (λ (linked : Linked). L linked.setup.port) a.controller.ports → IsFine a → Has IsOk AnyTable AnyChange OfLink a
   begin a links h = (h, tt, every_all AnyChange a.controller.waiting (λ change. tt), links)
 
   enters : (a : Acted) (number : ℕ) (octets : List ℕ) (o : Option Refusal) → 0 < number → Every (λ (linked : Linked). L linked.setup.port) a.controller.ports → IsFine a → IsFine (enters_unless a number octets o)

@@ -5,7 +5,6 @@ pub mod Homes
 pub mod Kept
 pub mod Sites
 pub mod Switches
-pub mod Walks
 pub mod RefusedEvents
 pub mod Frames
 pub mod RefusedKept

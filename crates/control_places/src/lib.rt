@@ -1,9 +1,9 @@
 //! A control frame between a controller and its switch is GSMP's, on GSMP's channel, or it goes by a port of a link: so it is at
 //! the opening of a network, and each event keeps it, before the first frame that was forged or passed its test by chance.
 //!
-//! The proof is one walk over all that a controller and a switch do (`proofs/Walks` to `proofs/Switches`): a controller says
-//! messages of GSMP and, by its ports, of IFMP, and sends no message on that it was told; a switch says messages of GSMP, and its
-//! branches to the controller are of channels of linked ports.
+//! The proof is one walk over all that a controller and a switch do (`run_facts`' `proofs/Walks`, and `proofs/Coming` to
+//! `proofs/Switches`): a controller says messages of GSMP and, by its ports, of IFMP, and sends no message on that it was told; a
+//! switch says messages of GSMP, and its branches to the controller are of channels of linked ports.
 //!
 //! So nothing that comes is refused: a frame that passes its test is the frame of its last cell, and whoever takes it reads what
 //! its maker wrote. A record `Bad` is noted where a frame can't be read: a message of GSMP at a controller or at its switch, a

@@ -40,7 +40,8 @@ use Rattle.world_model.specs.Cells.{Taker, ForGsmp, ForDefault, ForLabel, taker_
 use Rattle.run_facts.proofs.Taking.{taken_frames, tested_frames, taken_chain, ended_by_last}
 use Rattle.run_facts.proofs.Takers.{gsmp_of, taker_at_port}
 use Rattle.actor_pace.proofs.Cells.{ended_last}
-use Rattle.run_facts.proofs.Walks.{Sees, At, Has, with_frames, back, sent, sent_control, at_work, gsmp_frame}
+use Rattle.run_facts.proofs.Walks.{Sees, At, Has, with_frames, back, sent}
+use Rattle.run_facts.proofs.Sending.{sent_control, at_work, gsmp_frame}
 
 module _ (S : (queue chain : List Cell) → List Frame → (controls : ℕ) → Type 0) (T : List Route → Type 0) (Q : RouteChange → Type 0) (D : (controls : ℕ) → PortNo → (chain : List Cell) → Type 0)
     (control : (a : Acted) (channel : Channel) (payload : List ℕ) → Sees S T Q D a → Sees S T Q D (sends_control a channel payload))

@@ -37,7 +37,8 @@ use Rattle.run_facts.specs.Frames.{IsFree, Stay}
 use Rattle.run_facts.proofs.Frames.{free_next, free_packet, stay_more}
 use Rattle.run_facts.proofs.Switches.{AreMarked, mark_later, marked_later, frame_marked, next_is_mark}
 use Rattle.run_facts.proofs.Takers.{default_of}
-use Rattle.run_facts.proofs.Walks.{Has, change_walk, tick_walk, restart_walk}
+use Rattle.run_facts.proofs.Walks.{Has}
+use Rattle.run_facts.proofs.Sending.{change_walk, tick_walk, restart_walk}
 use Rattle.run_facts.proofs.Coming.{routed_walk, cell_walk}
 
 -- *Where routes lead*: to next hops with a property

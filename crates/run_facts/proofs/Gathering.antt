@@ -50,7 +50,8 @@ use Rattle.controller_facts.specs.Inputs.{Input, CellComes, PacketEnters, Ticks,
 use Rattle.run_facts.specs.Inputs as turns
 use Rattle.run_facts.specs.Inputs.{SwitchInput, switch_takes}
 use Rattle.run_facts.proofs.Taking.{taken_chain}
-use Rattle.run_facts.proofs.Walks.{Has, change_walk, tick_walk, restart_walk}
+use Rattle.run_facts.proofs.Walks.{Has}
+use Rattle.run_facts.proofs.Sending.{change_walk, tick_walk, restart_walk}
 use Rattle.run_facts.proofs.Coming.{routed_walk, cell_walk}
 
 abbrev pub IsOwn : Cell → Type 0

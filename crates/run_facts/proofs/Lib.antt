@@ -2,6 +2,7 @@ pub mod Taking
 pub mod Takers
 pub mod Frames
 pub mod Walks
+pub mod Sending
 pub mod Coming
 pub mod Switches
 pub mod PortOwns

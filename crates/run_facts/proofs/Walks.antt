@@ -1,6 +1,6 @@
 -- what holds of the cells that wait for the switch, of the chain of the GSMP channel, of the frames that were made, of the
--- table held and of the changes that wait stays so in every rule of a controller, where it does as a control frame is sent, a
--- packet sent on, a cell gathered and a change taken
+-- table held and of the changes that wait stays so in every rule of a controller, where it does as a message of GSMP is said,
+-- a message of IFMP is said by a port, a packet sent on, a cell gathered and a change taken
 
 use Rattle.std.proofs.Common.{◌≡◌, ℕ, true, List, [], ◌∷◌, ◌++◌, length, Option, None, Some, Result, Ok, Err, refl, sym, subst, if◌then◌else◌, map, fold}
 use Rattle.std.specs.Prelude.{◌+◌, ◌==◌, nat_le, flat_map}
@@ -106,16 +106,25 @@ module _ (S : (queue chain : List Cell) → List Frame → (controls : ℕ) → 
       (record { queues = with_cells a.controller (frame_cells channel mark payload); notes = made a.notes mark payload })
       (record { queues = a.controller; notes = noted (made a.notes mark payload) (Loss mark PoolFull) }) h h
 
-  module _ (control : (a : Acted) (channel : Channel) (payload : List ℕ) → Sees a → Sees (sends_control a channel payload))
+  -- a control frame that is sent leaves all but what is seen of frames
+  pub sent_on : ((controls : ℕ) (port : PortNo) (chain : List Cell) → D controls port chain → D (controls + 1) port chain) → (a : Acted) (channel : Channel) (payload : List ℕ)
+      → Sees (sends_control a channel payload) → Has a → Has (sends_control a channel payload)
+  sent_on later a channel payload sees h = (let k = sent (record a { numbers = with_control a.numbers }) channel (next_control a.numbers) payload
+      (h.1, h.2, every_map (At a.numbers.controls) (At (a.numbers.controls + 1)) a.controller.ports (λ linked. later a.numbers.controls linked.setup.port linked.reassembly.chain) h.3) in (sees, k.0, k.1, k.2))
+
+  module _ (L : PortNo → Type 0) (gsmp : (a : Acted) (message : Message) → Sees a → Sees (says_gsmp a message)) (ifmp : (a : Acted) (port : PortNo) (payload : List ℕ) → L port → Sees a → Sees (sends_control a (default_home port).channel payload))
+      (linked_of : (controls : ℕ) (port : PortNo) (chain : List Cell) → D controls port chain → L port)
       (clear : (queue chain : List Cell) (frames : List Frame) (controls : ℕ) → S queue chain frames controls → S queue [] frames controls)
-      (later : (controls : ℕ) (port : PortNo) (chain : List Cell) → D controls port chain → D (controls + 1) port chain) (nothing : (controls : ℕ) (port : PortNo) → D controls port [])
+      (later : (controls : ℕ) (port : PortNo) (chain : List Cell) → D controls port chain → D (controls + 1) port chain) (nothing : (controls : ℕ) (port : PortNo) (chain : List Cell) → D controls port chain → D controls port [])
       (step : (table : List Route) (change : RouteChange) → T table → Q change → T (changed table change)) where
-    pub sent_control : (a : Acted) (channel : Channel) (payload : List ℕ) → Has a → Has (sends_control a channel payload)
-    sent_control a channel payload h = (let k = sent (record a { numbers = with_control a.numbers }) channel (next_control a.numbers) payload
-        (h.1, h.2, every_map (At a.numbers.controls) (At (a.numbers.controls + 1)) a.controller.ports (λ linked. later a.numbers.controls linked.setup.port linked.reassembly.chain) h.3) in (control a channel payload h.0, k.0, k.1, k.2))
+    sent_gsmp : (a : Acted) (message : Message) → Has a → Has (says_gsmp a message)
+    sent_gsmp a message h = sent_on later a default_channel (gsmp_octets message) (gsmp a message h.0) h
+
+    sent_ifmp : (a : Acted) (port : PortNo) (payload : List ℕ) → L port → Has a → Has (sends_control a (default_home port).channel payload)
+    sent_ifmp a port payload l h = sent_on later a (default_home port).channel payload (ifmp a port payload l h.0) h
 
     sent_request : (a : Acted) (s : Standing) → Has a → Has (sends_request a s)
-    sent_request a s h = sent_control a default_channel (gsmp_octets (message_at a.controller.desk s)) h
+    sent_request a s h = sent_gsmp a (message_at a.controller.desk s) h
 
     -- *Resets*
     cut_chain : (a : Acted) (label : ℕ) (o : Option Linked) → IfAt a.numbers.controls o → Has a → Has (cuts_of a label o)
@@ -154,35 +163,35 @@ module _ (S : (queue chain : List Cell) → List Frame → (controls : ℕ) → 
     taken_back a input output h = on_both Has (is_led_home a.controller.desk input (home_of input)) a (asks a (MoveBranch input output (home_of input))) h (asked_of a (MoveBranch input output (home_of input)) h)
 
     -- *A port at work*
-    did : (port : PortNo) (a : Acted) (x : Action) → Has a → Has (does port a x)
-    did port a (Say message) h = sent_control a (default_home port).channel (default_payload (ifmp_packet_of a.controller.address (ifmp_octets message))) h
-    did port a (Ask request needed) h = asked_of a request h
-    did port a (Note item) h = h
-    did port a (CutChain label) h = cut_chain a label (linked_at a.controller port) (is_at a port h) h
-    did port a (TakeBack input output) h = taken_back a input output h
-    did port a (Withdraw input) h = h
-    did port a actions.Reset h = h
+    did : (port : PortNo) → L port → (a : Acted) (x : Action) → Has a → Has (does port a x)
+    did port l a (Say message) h = sent_ifmp a port (default_payload (ifmp_packet_of a.controller.address (ifmp_octets message))) l h
+    did port l a (Ask request needed) h = asked_of a request h
+    did port l a (Note item) h = h
+    did port l a (CutChain label) h = cut_chain a label (linked_at a.controller port) (is_at a port h) h
+    did port l a (TakeBack input output) h = taken_back a input output h
+    did port l a (Withdraw input) h = h
+    did port l a actions.Reset h = h
 
     reset_of : (a : Acted) (o : Option Linked) → IfAt a.numbers.controls o → Has a → Has (resets_of a o)
     unfolding IfAt
     reset_of a None d h = h
     reset_of a (Some linked) d h = (let w : Work = resets linked.setup (begins a linked) in
-        each (does_in_estab linked.setup.port) (λ b x k. on_both Has (is_estab b.controller.adjacency.state) (does linked.setup.port b x) b (did linked.setup.port b x k) k) w.actions (with_work a linked w) (h.0, h.1, h.2, back a (record linked { port = w.port }) d h))
+        each (does_in_estab linked.setup.port) (λ b x k. on_both Has (is_estab b.controller.adjacency.state) (does linked.setup.port b x) b (did linked.setup.port (linked_of a.numbers.controls linked.setup.port linked.reassembly.chain d) b x k) k) w.actions (with_work a linked w) (h.0, h.1, h.2, back a (record linked { port = w.port }) d h))
 
-    performed : (port : PortNo) (a : Acted) (x : Action) → Has a → Has (performs port a x)
-    performed port a (Say message) h = did port a (Say message) h
-    performed port a (Ask request needed) h = did port a (Ask request needed) h
-    performed port a (Note item) h = did port a (Note item) h
-    performed port a (CutChain label) h = did port a (CutChain label) h
-    performed port a (TakeBack input output) h = did port a (TakeBack input output) h
-    performed port a (Withdraw input) h = did port a (Withdraw input) h
-    performed port a actions.Reset h = reset_of a (linked_at a.controller port) (is_at a port h) h
+    performed : (port : PortNo) → L port → (a : Acted) (x : Action) → Has a → Has (performs port a x)
+    performed port l a (Say message) h = did port l a (Say message) h
+    performed port l a (Ask request needed) h = did port l a (Ask request needed) h
+    performed port l a (Note item) h = did port l a (Note item) h
+    performed port l a (CutChain label) h = did port l a (CutChain label) h
+    performed port l a (TakeBack input output) h = did port l a (TakeBack input output) h
+    performed port l a (Withdraw input) h = did port l a (Withdraw input) h
+    performed port l a actions.Reset h = reset_of a (linked_at a.controller port) (is_at a port h) h
 
     worked : (a : Acted) (rule : Rule) (o : Option Linked) → IfAt a.numbers.controls o → Has a → Has (works a rule o)
     unfolding IfAt
     worked a rule None d h = h
     worked a rule (Some linked) d h = (let w : Work = rule linked.setup a.controller.desk (begins a linked) in
-        each (performs_in_estab linked.setup.port) (λ b x k. on_both Has (is_estab b.controller.adjacency.state) (performs linked.setup.port b x) b (performed linked.setup.port b x k) k) w.actions (with_work a linked w) (h.0, h.1, h.2, back a (record linked { port = w.port }) d h))
+        each (performs_in_estab linked.setup.port) (λ b x k. on_both Has (is_estab b.controller.adjacency.state) (performs linked.setup.port b x) b (performed linked.setup.port (linked_of a.numbers.controls linked.setup.port linked.reassembly.chain d) b x k) k) w.actions (with_work a linked w) (h.0, h.1, h.2, back a (record linked { port = w.port }) d h))
 
     pub at_work : (a : Acted) (port : PortNo) (rule : Rule) → Has a → Has (at_port a port rule)
     at_work a port rule h = worked a rule (linked_at a.controller port) (is_at a port h) h
@@ -267,7 +276,7 @@ module _ (S : (queue chain : List Cell) → List Frame → (controls : ℕ) → 
 
     -- *Messages of the switch*
     said : (a : Acted) (message : Message) → Has a → Has (says_gsmp a message)
-    said a message h = sent_control a default_channel (gsmp_octets message) h
+    said a message h = sent_gsmp a message h
 
     answer_keeps : (a : Acted) (answer : Answer (Said Party) Party) → Has a → Has (answers a (gsmp_answer answer))
     answer_keeps a answers_of.Quiet h = h
@@ -321,12 +330,13 @@ module _ (S : (queue chain : List Cell) → List Frame → (controls : ℕ) → 
     pub tick_walk : (a : Acted) → Has a → Has (ticks a)
     tick_walk a h = tick_by a (ticked a.controller.adjacency) (ticked a.controller.adjacency).answer h
 
-    cut_default : (a : Acted) (o : Option Linked) → Has a → Has (cuts_default_of a o)
-    cut_default a None h = h
-    cut_default a (Some linked) h = with_frames (cuts_default_of a (Some linked)) a.notes.frames (cut_frames a.notes linked.reassembly)
-        (h.0, h.1, h.2, back a (record linked { reassembly = nothing_taken }) (nothing a.numbers.controls linked.setup.port) h)
+    cut_default : (a : Acted) (o : Option Linked) → IfAt a.numbers.controls o → Has a → Has (cuts_default_of a o)
+    unfolding IfAt
+    cut_default a None d h = h
+    cut_default a (Some linked) d h = with_frames (cuts_default_of a (Some linked)) a.notes.frames (cut_frames a.notes linked.reassembly)
+        (h.0, h.1, h.2, back a (record linked { reassembly = nothing_taken }) (nothing a.numbers.controls linked.setup.port linked.reassembly.chain d) h)
 
     pub restart_walk : (a : Acted) → Has a → Has (node_restarts a)
     restart_walk a h = (let now : Acted = node_resets a in
-        each cuts_default (λ b port k. cut_default b (linked_at b.controller port) k) (ports_of a.controller) (cuts_gsmp now)
+        each cuts_default (λ b port k. cut_default b (linked_at b.controller port) (is_at b port k) k) (ports_of a.controller) (cuts_gsmp now)
         (with_frames (cuts_gsmp now) now.notes.frames (cut_frames now.notes now.controller.reassembly) (without_chain now (node_reset a h))))
