@@ -9,5 +9,6 @@ pub mod Changing
 pub mod Trying
 pub mod Finishing
 pub mod Ticking
+pub mod Written
 pub mod Reading
 pub mod Steady

@@ -27,7 +27,7 @@ use Rattle.world_model.specs.Requests.{asked_in, is_request, end_at}
 use Rattle.world_model.specs.Failures.{failure_of}
 use Rattle.world_model.specs.Answers.{failure_code, row_of, count_of, handled, handled_by}
 use Rattle.world_model.specs.Ways.{copy_of, copy_by}
-use Rattle.running_worlds.proofs.Asked.{IsWritten}
+use Rattle.input_premises.proofs.Written.{IsWritten}
 
 -- what the ports of a switch have to be
 pub record TellsPorts (ports : List PortState) : Type 0 where

@@ -14,7 +14,7 @@ pub mod Events
 pub mod Switches
 pub mod GsmpLaws
 pub mod Making
-pub mod Asked
+pub mod Greeted
 pub mod Answered
 pub mod Still
 pub mod Walk

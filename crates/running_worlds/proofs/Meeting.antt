@@ -42,7 +42,7 @@ use Rattle.controller_lifts.proofs.Kept.{Of}
 use Rattle.controller_lifts.proofs.Ready.{Fits as FitsIn}
 use Rattle.controller_lifts.proofs.Unspent.{Unspent}
 use Rattle.world_views.specs.Ready.{FitsSide}
-use Rattle.running_worlds.proofs.Asked.{AnswersWell, received_side, received_answers, ticked_side, ticked_answers}
+use Rattle.running_worlds.proofs.Greeted.{AnswersWell, received_side, received_answers, ticked_side, ticked_answers}
 use Rattle.running_worlds.proofs.Walk.{To, stays, goes_on, to_fold, alike_to, node_to, says_gsmp_to, fits_at}
 use Rattle.running_worlds.proofs.Performed.{asks_to, asks_each_to, sent_again_to}
 use Rattle.running_worlds.proofs.Rules.{done_to, ticks_to}

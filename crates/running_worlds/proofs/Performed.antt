@@ -34,7 +34,7 @@ use Rattle.controller_lifts.proofs.Halted.{HasReset}
 use Rattle.controller_lifts.proofs.Kept.{Of, Goes, goes_fold, done_goes, performs_goes}
 use Rattle.controller_lifts.proofs.Unspent.{Unspent, unspent_closed, works_unspent}
 use Rattle.label_steps.specs.Follows.{IsUnspent}
-use Rattle.running_worlds.proofs.Asked.{are_written}
+use Rattle.input_premises.proofs.Written.{are_written}
 use Rattle.running_worlds.proofs.Walk.{Base, base_moves, Carried, Loose, To, loosely, stays, goes_on, to_fold, alike_to, note_to, cuts_to, withdraws_to, node_to, says_gsmp_to, says_ifmp_to, worked_carried, fits_at, begins_fit}
 
 -- *What a reset asks* is said to nobody

@@ -51,7 +51,8 @@ use Rattle.world_model.specs.Ways.{copy_by, copy_of}
 use Rattle.world_views.specs.Made.{said, AreMade}
 use Rattle.world_views.specs.Ready.{FitsSide}
 use Rattle.running_worlds.proofs.Making.{made_more}
-use Rattle.running_worlds.proofs.Asked.{IsWritten, AnswersWell, received_side, received_answers, ticked_side, ticked_answers}
+use Rattle.input_premises.proofs.Written.{IsWritten}
+use Rattle.running_worlds.proofs.Greeted.{AnswersWell, received_side, received_answers, ticked_side, ticked_answers}
 use Rattle.running_worlds.proofs.Answered.{TellsPorts, IsAsked, answer_written}
 use Rattle.running_worlds.proofs.Still.{cut_frames, taken_frames, tested_frames}
 

@@ -47,7 +47,7 @@ use Rattle.controller_lifts.proofs.Unspent.{Unspent, unspent_closed}
 use Rattle.world_views.specs.Made.{IsMadeAs, told, said, AreMade}
 use Rattle.world_views.specs.Ready.{FitsSide}
 use Rattle.running_worlds.proofs.Making.{made_more}
-use Rattle.running_worlds.proofs.Asked.{IsWritten}
+use Rattle.input_premises.proofs.Written.{IsWritten}
 use Rattle.running_worlds.proofs.Still.{IsStill, cuts_still, node_still}
 
 -- *Its address* stays
