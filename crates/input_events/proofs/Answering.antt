@@ -1,11 +1,11 @@
--- what a switch answers to a request that its controller said is read as it was said
+-- what a switch answers to a request that its controller said has its fields' widths, and is read as it was said
 
 use Rattle.std.proofs.Common.{◌≡◌, ℕ, ◌<◌, ◌≤◌, ◌^◌, Bool, true, List, [], ◌∷◌, length, Option, None, Some, refl, ◌∙◌, ap, arith, if◌then◌else◌}
 use Rattle.std.specs.Prelude.{◌==◌, map}
 use Rattle.std.proofs.lemmas.Bool.Decides.{nat_tests}
 use Rattle.net_types.specs.declared.channel.Channel.{Channel}
 use Rattle.net_types.specs.declared.channel.End.{End}
-use Rattle.gsmp_wire.specs.Range.{Fits}
+use Rattle.gsmp_wire.specs.Range.{FitsRows, Fits}
 use Rattle.gsmp_wire.specs.declared.message.BranchKind.{BranchKind}
 use Rattle.gsmp_wire.specs.declared.message.BranchKind.TheVariants.{Add, Delete, Verify, DeleteAll}
 use Rattle.gsmp_wire.specs.declared.message.Message.{Message}
@@ -25,8 +25,15 @@ use Rattle.world_model.specs.Failures.{failure_of}
 use Rattle.world_model.specs.Answers.{failure_code, row_of, count_of, handled, handled_by}
 use Rattle.world_model.specs.Ways.{copy_of, copy_by}
 use Rattle.input_steps.specs.Asking.{IsReadable, IsAsked}
+use Rattle.input_premises.proofs.Written.{IsWritten, written}
 use Rattle.input_premises.proofs.Reading.{readable}
 use Rattle.input_events.specs.Coming.{TellsPorts}
+
+-- what the records of a switch's ports have to be
+pub record TellsRows (ports : List PortState) : Type 0 where
+  pub some : 1 ≤ length ports
+  pub few : length (map row_of ports) ≤ 9
+  pub fits : FitsRows (map row_of ports)
 
 two_of : (n : ℕ) → (n == 2) ≡ true → n ≡ 2
 two_of n is = grind (arith, nat_tests)
@@ -68,60 +75,65 @@ rows_told (port ∷ ports) some = all_told (row_of port) (map row_of ports)
 
 module _ (result code n session ip : ℕ) (i : Channel) (op : ℕ) (o : Channel) (branches priority : ℕ) where
   branch_failed : (kind : BranchKind) (f : Failure) → Fits (Branch kind result code n session ip i op o branches priority) → HasBranches result branches → result ≡ 2 → NamesEnds kind 4 i op o
-      → IsReadable (Branch kind 4 (failure_code f) n session ip i op o branches priority)
-  branch_failed kind f fits told two ends = readable (Branch kind 4 (failure_code f) n session ip i op o branches priority)
+      → IsWritten (Branch kind 4 (failure_code f) n session ip i op o branches priority)
+  branch_failed kind f fits told two ends = written (Branch kind 4 (failure_code f) n session ip i op o branches priority)
       (omega arith, code_fits f, fits.2, fits.3, fits.4, fits.5, fits.6, fits.7, fits.8, fits.9) (code_fails f, asked_branches result branches told two, ends)
 
   branch_done : (kind : BranchKind) (found : Option End) → Fits (Branch kind result code n session ip i op o branches priority) → NamesEnds kind 3 i op o
-      → IsReadable (Branch kind 3 0 n session ip i op o (count_of found) priority)
+      → IsWritten (Branch kind 3 0 n session ip i op o (count_of found) priority)
   branch_done kind found fits ends =
-      readable (Branch kind 3 0 n session ip i op o (count_of found) priority)
+      written (Branch kind 3 0 n session ip i op o (count_of found) priority)
       (omega arith, omega arith, fits.2, fits.3, fits.4, fits.5, fits.6, fits.7, count_fits found, fits.9) (succeeds, told_branches found, ends)
 
-module _ (s : Switch) (notes : Journal) (tells : TellsPorts s.ports) where
+module _ (s : Switch) (notes : Journal) (tells : TellsRows s.ports) where
   -- what isn't asked
   unasked : (m : Message) (r : Request) (number session : ℕ) (result code : ℕ) → is_request m ≡ true → head_of m ≡ Some (record { result = result; code = code; number = number })
       → asked_in m ≡ Some (record { session = session; request = r }) → ((x : Standing) → copy_of m ≡ Some x → IsAsked x.request) → IsAsked r
   unasked m r number session result code is heads asked shape = shape (record { number = number; request = r })
       (ap (λ (b : Bool). if b then copy_by (head_of m) (asked_in m) else None) is ∙ (λ i. copy_by (heads i) (asked i)))
 
-  pub answer_reads : (m : Message) → Fits m → IsSaid m → ((x : Standing) → copy_of m ≡ Some x → IsAsked x.request) → is_request m ≡ true → IsReadable (handled s notes m).answer
-  answer_reads (Adjacency g) fits said shape is = absurd (cc is)
-  answer_reads (Branch Add result code n session ip i op o branches priority) fits said shape is =
+  pub answer_written : (m : Message) → Fits m → IsSaid m → ((x : Standing) → copy_of m ≡ Some x → IsAsked x.request) → is_request m ≡ true → IsWritten (handled s notes m).answer
+  answer_written (Adjacency g) fits said shape is = absurd (cc is)
+  answer_written (Branch Add result code n session ip i op o branches priority) fits said shape is =
       by (failure_of s.ports s.vpis s.crossbar.branches (record { session = session; request = requests.AddBranch (end_at ip i) (end_at op o) }))
     where
-      by : (x : Option Failure) → IsReadable (handled_by s notes (Branch Add result code n session ip i op o branches priority) (requests.AddBranch (end_at ip i) (end_at op o)) x).answer
+      by : (x : Option Failure) → IsWritten (handled_by s notes (Branch Add result code n session ip i op o branches priority) (requests.AddBranch (end_at ip i) (end_at op o)) x).answer
       by (Some f) = branch_failed result code n session ip i op o branches priority Add f fits said.1 (two_of result is) tt
       by None = branch_done result code n session ip i op o branches priority Add _ fits tt
-  answer_reads (Branch Delete result code n session ip i op o branches priority) fits said shape is =
+  answer_written (Branch Delete result code n session ip i op o branches priority) fits said shape is =
       by (failure_of s.ports s.vpis s.crossbar.branches (record { session = session; request = requests.DeleteTree (end_at ip i) }))
     where
-      by : (x : Option Failure) → IsReadable (handled_by s notes (Branch Delete result code n session ip i op o branches priority) (requests.DeleteTree (end_at ip i)) x).answer
+      by : (x : Option Failure) → IsWritten (handled_by s notes (Branch Delete result code n session ip i op o branches priority) (requests.DeleteTree (end_at ip i)) x).answer
       by (Some f) = branch_failed result code n session ip i op o branches priority Delete f fits said.1 (two_of result is) said.2
       by None = branch_done result code n session ip i op o branches priority Delete _ fits said.2
-  answer_reads (Branch Verify result code n session ip i op o branches priority) fits said shape is =
+  answer_written (Branch Verify result code n session ip i op o branches priority) fits said shape is =
       absurd (unasked (Branch Verify result code n session ip i op o branches priority) (requests.VerifyTree (end_at ip i)) n session result code is refl refl shape)
-  answer_reads (Branch DeleteAll result code n session ip i op o branches priority) fits said shape is =
+  answer_written (Branch DeleteAll result code n session ip i op o branches priority) fits said shape is =
       by (failure_of s.ports s.vpis s.crossbar.branches (record { session = session; request = requests.DeleteAll (end_at ip i).port }))
     where
-      by : (x : Option Failure) → IsReadable (handled_by s notes (Branch DeleteAll result code n session ip i op o branches priority) (requests.DeleteAll (end_at ip i).port) x).answer
+      by : (x : Option Failure) → IsWritten (handled_by s notes (Branch DeleteAll result code n session ip i op o branches priority) (requests.DeleteAll (end_at ip i).port) x).answer
       by (Some f) = branch_failed result code n session ip i op o branches priority DeleteAll f fits said.1 (two_of result is) said.2
       by None = branch_done result code n session ip i op o branches priority DeleteAll None fits said.2
-  answer_reads (Move result code n session ip i op o tp t branches priority) fits said shape is =
+  answer_written (Move result code n session ip i op o tp t branches priority) fits said shape is =
       by (failure_of s.ports s.vpis s.crossbar.branches (record { session = session; request = requests.MoveBranch (end_at ip i) (end_at op o) (end_at tp t) }))
     where
-      done : (found : Option End) → IsReadable (Move 3 0 n session ip i op o tp t (count_of found) priority)
-      done found = readable (Move 3 0 n session ip i op o tp t (count_of found) priority)
+      done : (found : Option End) → IsWritten (Move 3 0 n session ip i op o tp t (count_of found) priority)
+      done found = written (Move 3 0 n session ip i op o tp t (count_of found) priority)
           (omega arith, omega arith, fits.2, fits.3, fits.4, fits.5, fits.6, fits.7, fits.8, fits.9, count_fits found, fits.11) (succeeds, told_branches found)
 
-      by : (x : Option Failure) → IsReadable (handled_by s notes (Move result code n session ip i op o tp t branches priority) (requests.MoveBranch (end_at ip i) (end_at op o) (end_at tp t)) x).answer
-      by (Some f) = readable (Move 4 (failure_code f) n session ip i op o tp t branches priority) (omega arith, code_fits f, fits.2, fits.3, fits.4, fits.5, fits.6, fits.7, fits.8, fits.9, fits.10, fits.11) (code_fails f, asked_branches result branches said.1 (two_of result is))
+      by : (x : Option Failure) → IsWritten (handled_by s notes (Move result code n session ip i op o tp t branches priority) (requests.MoveBranch (end_at ip i) (end_at op o) (end_at tp t)) x).answer
+      by (Some f) = written (Move 4 (failure_code f) n session ip i op o tp t branches priority) (omega arith, code_fits f, fits.2, fits.3, fits.4, fits.5, fits.6, fits.7, fits.8, fits.9, fits.10, fits.11) (code_fails f, asked_branches result branches said.1 (two_of result is))
       by None = done _
-  answer_reads (Port result code n port session function) fits said shape is =
+  answer_written (Port result code n port session function) fits said shape is =
       absurd (unasked (Port result code n port session function) (requests.PortManagement (record { 0 = port }) function) n session result code is refl refl shape)
-  answer_reads (AllPorts result code n rows) fits said shape is =
+  answer_written (AllPorts result code n rows) fits said shape is =
       by (failure_of s.ports s.vpis s.crossbar.branches (record { session = 0; request = requests.AllPorts }))
     where
-      by : (x : Option Failure) → IsReadable (handled_by s notes (AllPorts result code n rows) requests.AllPorts x).answer
-      by (Some f) = readable (AllPorts 4 (failure_code f) n []) (omega arith, code_fits f, fits.2, omega arith, tt) (code_fails f, all_failed)
-      by None = readable (AllPorts 3 0 n (map row_of s.ports)) (omega arith, omega arith, fits.2, tells.few, tells.fits) (succeeds, rows_told s.ports tells.some)
+      by : (x : Option Failure) → IsWritten (handled_by s notes (AllPorts result code n rows) requests.AllPorts x).answer
+      by (Some f) = written (AllPorts 4 (failure_code f) n []) (omega arith, code_fits f, fits.2, omega arith, tt) (code_fails f, all_failed)
+      by None = written (AllPorts 3 0 n (map row_of s.ports)) (omega arith, omega arith, fits.2, tells.few, tells.fits) (succeeds, rows_told s.ports tells.some)
+
+-- it is read as it was said
+pub answer_reads : (s : Switch) (notes : Journal) → TellsPorts s.ports → (m : Message) → Fits m → IsSaid m → ((x : Standing) → copy_of m ≡ Some x → IsAsked x.request) → is_request m ≡ true → IsReadable (handled s notes m).answer
+answer_reads s notes tells m fits said shape is =
+    (let w = answer_written s notes (record { some = tells.some; few = tells.few; fits = tells.fits }) m fits said shape is in readable (handled s notes m).answer w.0 w.1)

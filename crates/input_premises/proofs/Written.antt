@@ -28,7 +28,7 @@ use Rattle.controller_law.proofs.Ordering.{same_number}
 abbrev pub IsWritten : Message → Type 0
 IsWritten m = Fits m × IsSaid m
 
-written : (m : Message) → Fits m → IsSaid m → IsWritten m
+pub written : (m : Message) → Fits m → IsSaid m → IsWritten m
 written m fits said = (fits, said)
 
 -- *Ends* that a controller names

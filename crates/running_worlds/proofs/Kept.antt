@@ -49,8 +49,9 @@ use Rattle.run_facts.specs.Steps.{EventsAreSteps, HasFront, RunsHaveFronts}
 use Rattle.frame_readings.proofs.Reading.{read_said}
 use Rattle.running_worlds.proofs.MadeCells.{Ends, IsRead, taken_by}
 use Rattle.running_worlds.proofs.Switch as switch
-use Rattle.running_worlds.proofs.Switch.{IsSized, IsReadWell}
-use Rattle.running_worlds.proofs.Answered.{IsAsked, shaped_asked}
+use Rattle.running_worlds.proofs.Switch.{IsSized}
+use Rattle.input_steps.specs.Asking.{IsAsked}
+use Rattle.input_premises.proofs.Asking.{shaped_asked}
 use Rattle.running_worlds.proofs.Labels.{of_label, label_read}
 use Rattle.running_worlds.proofs.MadeSites.{IsKnown, Before, Behind, switching}
 use Rattle.running_worlds.proofs.MadeEvents.{IsGiven, event_behind}

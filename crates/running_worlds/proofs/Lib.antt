@@ -15,7 +15,6 @@ pub mod Switches
 pub mod GsmpLaws
 pub mod Making
 pub mod Greeted
-pub mod Answered
 pub mod Still
 pub mod Walk
 pub mod Performed

@@ -53,7 +53,8 @@ use Rattle.world_views.specs.Ready.{FitsSide}
 use Rattle.running_worlds.proofs.Making.{made_more}
 use Rattle.input_premises.proofs.Written.{IsWritten}
 use Rattle.running_worlds.proofs.Greeted.{AnswersWell, received_side, received_answers, ticked_side, ticked_answers}
-use Rattle.running_worlds.proofs.Answered.{TellsPorts, IsAsked, answer_written}
+use Rattle.input_steps.specs.Asking.{IsAsked}
+use Rattle.input_events.proofs.Answering.{TellsRows, answer_written}
 use Rattle.running_worlds.proofs.Still.{cut_frames, taken_frames, tested_frames}
 
 -- *A switch in a run*: its parties fit, it can tell its ports, and each frame is a packet's or a message's
@@ -208,7 +209,7 @@ pub record IsSized (ports : List PortState) : Type 0 where
   pub some : 1 ≤ length ports
   pub few : length (map row_of ports) ≤ 9
 
-tells : (ports : List PortState) → IsSized ports → FitsRows (map row_of ports) → TellsPorts ports
+tells : (ports : List PortState) → IsSized ports → FitsRows (map row_of ports) → TellsRows ports
 tells ports sized fits = record { some = sized.some; few = sized.few; fits = fits }
 
 requested_to : (a : Acted) (m : Message) → IsSized a.switch.ports → Fits m → IsSaid m → AsksWell m → To a (requested a m)
