@@ -1,4 +1,5 @@
 pub mod Sizes
+pub mod Noting
 pub mod Calm
 pub mod Rules
 pub mod Spots

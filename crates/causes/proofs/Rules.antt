@@ -43,7 +43,7 @@ use Rattle.adjacency_table.specs.declared.message.Heard.{Heard}
 use Rattle.adjacency_table.specs.declared.message.Said.{Said}
 use Rattle.adjacency_table.specs.Table.{Reply, Silent, Says, Resets, Row, row, tick_reply}
 use Rattle.adjacency_table.specs.Side as sides
-use Rattle.adjacency_table.specs.Side.{Side, fresh, is_estab, said, answer_to, answer_of, opened, is_entry, followed, received, counted, followed_tick, ticked}
+use Rattle.adjacency_table.specs.Side.{Side, fresh, is_estab, said, answer_to, answer_of, opened, is_entry, followed, counted, followed_tick, ticked}
 use Rattle.adjacency_table.specs.Greeting.{greeting_of, gsmp_answer, gsmp_received, heard_in, same_party, nobody}
 use Rattle.link_model.specs.declared.record.Record.{Record}
 use Rattle.link_model.specs.declared.record.Record.TheVariants.{Bad, Delivered, Dropped, Part, Routes}
@@ -83,7 +83,8 @@ use Rattle.world_model.specs.Packets.{is_control, sends_next, goes_by, grant_by,
 use Rattle.world_model.specs.Cells.{label_holds, ifmp_holds, counted_at, packet_holds, default_holds, frame_holds, opened_frame, Taker, ForGsmp, ForDefault, ForLabel}
 use Rattle.world_model.specs.Ticks.{sends_again, ticks_port, ticks_ports, ticks_by, ticks}
 use Rattle.causes.proofs.Sizes.{HasLength, IsShort, default_length, labelled_length, onward_short, fault_short, unwrapped_short, ifmp_length, request_length, HasName, greeting_length, decoded_names}
-use Rattle.causes.proofs.Calm.{IsCalm, IsCalmAction, Calm, hears_calm, ticks_calm, done_calm, used_calm, counts_calm, closes_calm, joined_calm, parted_calm, lent_calm, given_back_calm, resets_calm, restarts_calm}
+use Rattle.causes.proofs.Calm.{IsCalm, calm_notes, calm_binding}
+use Rattle.causes.proofs.Noting.{IsCalmAction, Calm, hears_calm, ticks_calm, done_calm, used_calm, counts_calm, closes_calm, joined_calm, parted_calm, lent_calm, given_back_calm, resets_calm, restarts_calm}
 
 -- *The names of an adjacency* have 6 octets
 pub record IsNamed (side : Side Party) : Type 0 where
@@ -186,11 +187,11 @@ pub record Kept (P : Acted → Type 0) : Type 0 where
 alike : (a b : Acted) → b.controller.node ≡ a.controller.node → b.controller.queue ≡ a.controller.queue → b.controller.reassembly ≡ a.controller.reassembly → b.controller.ports ≡ a.controller.ports → b.controller.adjacency ≡ a.controller.adjacency → b.notes ≡ a.notes → IsAlike a b
 alike a b o q r p s n = record { node = o; queue = q; reassembly = r; ports = p; adjacency = s; notes = n }
 
-fold_kept : {X : Type 0} (P : Acted → Type 0) (f : Acted → X → Acted) → ((a : Acted) (x : X) → P a → P (f a x)) → (xs : List X) (a : Acted) → P a → P (fold f a xs)
+pub fold_kept : {X : Type 0} (P : Acted → Type 0) (f : Acted → X → Acted) → ((a : Acted) (x : X) → P a → P (f a x)) → (xs : List X) (a : Acted) → P a → P (fold f a xs)
 fold_kept P f each [] a h = h
 fold_kept P f each (x ∷ xs) a h = fold_kept P f each xs (f a x) (each a x h)
 
-fold_each : {X : Type 0} (P : Acted → Type 0) (Q : X → Type 0) (f : Acted → X → Acted) → ((a : Acted) (x : X) → Q x → P a → P (f a x)) → (xs : List X) → Every Q xs → (a : Acted) → P a → P (fold f a xs)
+pub fold_each : {X : Type 0} (P : Acted → Type 0) (Q : X → Type 0) (f : Acted → X → Acted) → ((a : Acted) (x : X) → Q x → P a → P (f a x)) → (xs : List X) → Every Q xs → (a : Acted) → P a → P (fold f a xs)
 fold_each P Q f each [] all a h = h
 fold_each P Q f each (x ∷ xs) all a h = fold_each P Q f each xs all.1 (f a x) (each a x all.0 h)
 
@@ -216,7 +217,7 @@ module _ (P : Acted → Type 0) (k : Kept P) where
   work_kept a linked w found h = k.placed (record a { numbers = record a.numbers { instances = w.instances } }) linked w.port found (same a (record a { numbers = record a.numbers { instances = w.instances } }) refl refl refl refl refl refl h)
 
   -- *Node reset*
-  closes_kept : (port : PortNo) (a : Acted) (action : Action) → IsCalmAction action → P a → P (closes_by port a action)
+  closes_kept : (port : PortNo) (a : Acted) (action : Action) → IsCalmAction IsCalm action → P a → P (closes_by port a action)
   closes_kept port a (actions.Say message) calm h = h
   closes_kept port a (actions.Ask request needed) calm h = h
   closes_kept port a (actions.Note item) calm h = k.noted a item calm h
@@ -232,7 +233,7 @@ module _ (P : Acted → Type 0) (k : Kept P) where
   restarts_of_kept a None own h = h
   restarts_of_kept a (Some linked) own h =
       let w : Work = restarts linked.setup (begins a linked) in
-      fold_each P IsCalmAction (closes_by linked.setup.port) (closes_kept linked.setup.port) w.actions (restarts_calm linked.setup (begins a linked) tt) (with_work a linked w) (work_kept a linked w (own linked refl) h)
+      fold_each P (IsCalmAction IsCalm) (closes_by linked.setup.port) (closes_kept linked.setup.port) w.actions (restarts_calm IsCalm calm_notes linked.setup (begins a linked) tt) (with_work a linked w) (work_kept a linked w (own linked refl) h)
 
   own_at : (a : Acted) (port : PortNo) (linked : Linked) → linked_at a.controller port ≡ Some linked → Own a linked
   own_at a port linked found = subst (λ n. at port_key n a.controller.ports ≡ Some linked) (sym (at_key port_key port.0 a.controller.ports linked found)) found
@@ -259,7 +260,7 @@ module _ (P : Acted → Type 0) (k : Kept P) where
   takes_back_kept a input output h = on_both P (is_led_home a.controller.desk input (home_of input)) a (asks a (MoveBranch input output (home_of input))) h (asks_kept a (MoveBranch input output (home_of input)) h)
 
   -- *Actions*
-  does_kept : (port : PortNo) (a : Acted) (action : Action) → IsCalmAction action → P a → P (does port a action)
+  does_kept : (port : PortNo) (a : Acted) (action : Action) → IsCalmAction IsCalm action → P a → P (does port a action)
   does_kept port a (actions.Say message) calm h = ifmp_kept port a message h
   does_kept port a (actions.Ask request needed) calm h = asks_kept a request h
   does_kept port a (actions.Note item) calm h = k.noted a item calm h
@@ -268,19 +269,19 @@ module _ (P : Acted → Type 0) (k : Kept P) where
   does_kept port a (actions.Withdraw input) calm h = desk_kept a (withdrawn a.controller.desk input) h
   does_kept port a actions.Reset calm h = h
 
-  does_in_kept : (port : PortNo) (a : Acted) (action : Action) → IsCalmAction action → P a → P (does_in_estab port a action)
+  does_in_kept : (port : PortNo) (a : Acted) (action : Action) → IsCalmAction IsCalm action → P a → P (does_in_estab port a action)
   does_in_kept port a action calm h = on_both P (is_estab a.controller.adjacency.state) (does port a action) a (does_kept port a action calm h) h
 
   resets_of_kept : (a : Acted) (o : Option Linked) → ((linked : Linked) → o ≡ Some linked → Own a linked) → P a → P (resets_of a o)
   resets_of_kept a None own h = h
   resets_of_kept a (Some linked) own h =
       let w : Work = resets linked.setup (begins a linked) in
-      fold_each P IsCalmAction (does_in_estab linked.setup.port) (does_in_kept linked.setup.port) w.actions (resets_calm linked.setup (begins a linked) tt) (with_work a linked w) (work_kept a linked w (own linked refl) h)
+      fold_each P (IsCalmAction IsCalm) (does_in_estab linked.setup.port) (does_in_kept linked.setup.port) w.actions (resets_calm IsCalm calm_notes linked.setup (begins a linked) tt) (with_work a linked w) (work_kept a linked w (own linked refl) h)
 
   resets_kept : (a : Acted) (port : PortNo) → P a → P (resets_port a port)
   resets_kept a port h = resets_of_kept a (linked_at a.controller port) (own_at a port) h
 
-  performs_kept : (port : PortNo) (a : Acted) (action : Action) → IsCalmAction action → P a → P (performs port a action)
+  performs_kept : (port : PortNo) (a : Acted) (action : Action) → IsCalmAction IsCalm action → P a → P (performs port a action)
   performs_kept port a (actions.Say message) calm h = does_kept port a (actions.Say message) calm h
   performs_kept port a (actions.Ask request needed) calm h = does_kept port a (actions.Ask request needed) calm h
   performs_kept port a (actions.Note item) calm h = does_kept port a (actions.Note item) calm h
@@ -289,25 +290,25 @@ module _ (P : Acted → Type 0) (k : Kept P) where
   performs_kept port a (actions.Withdraw input) calm h = does_kept port a (actions.Withdraw input) calm h
   performs_kept port a actions.Reset calm h = resets_kept a port h
 
-  performs_in_kept : (port : PortNo) (a : Acted) (action : Action) → IsCalmAction action → P a → P (performs_in_estab port a action)
+  performs_in_kept : (port : PortNo) (a : Acted) (action : Action) → IsCalmAction IsCalm action → P a → P (performs_in_estab port a action)
   performs_in_kept port a action calm h = on_both P (is_estab a.controller.adjacency.state) (performs port a action) a (performs_kept port a action calm h) h
 
-  at_port_kept : (a : Acted) (port : PortNo) (rule : Rule) → ((linked : Linked) → Calm (rule linked.setup a.controller.desk (begins a linked))) → P a → P (at_port a port rule)
+  at_port_kept : (a : Acted) (port : PortNo) (rule : Rule) → ((linked : Linked) → Calm IsCalm (rule linked.setup a.controller.desk (begins a linked))) → P a → P (at_port a port rule)
   at_port_kept a port rule calm h = by_found (linked_at a.controller port) (own_at a port)
     where
       by_found : (o : Option Linked) → ((linked : Linked) → o ≡ Some linked → Own a linked) → P (works a rule o)
       by_found None own = h
       by_found (Some linked) own =
           let w : Work = rule linked.setup a.controller.desk (begins a linked) in
-          fold_each P IsCalmAction (performs_in_estab linked.setup.port) (performs_in_kept linked.setup.port) w.actions (calm linked) (with_work a linked w) (work_kept a linked w (own linked refl) h)
+          fold_each P (IsCalmAction IsCalm) (performs_in_estab linked.setup.port) (performs_in_kept linked.setup.port) w.actions (calm linked) (with_work a linked w) (work_kept a linked w (own linked refl) h)
 
   -- *Joins*
   parts_kept : (a : Acted) (input : End) → P a → P (parts a input)
   parts_kept a input h = at_port_kept (note a (Part a.controller.node input.port (number_of_channel input.channel))) input.port (λ setup desk w. port_joins.parted w (number_of_channel input.channel))
-      (λ linked. parted_calm (begins (note a (Part a.controller.node input.port (number_of_channel input.channel))) linked) (number_of_channel input.channel) tt) (k.noted a _ refl h)
+      (λ linked. parted_calm IsCalm calm_notes (begins (note a (Part a.controller.node input.port (number_of_channel input.channel))) linked) (number_of_channel input.channel) tt) (k.noted a _ refl h)
 
   gives_back_kept : (a : Acted) (join : Join) → P a → P (gives_back a join)
-  gives_back_kept a join h = at_port_kept a join.port (λ setup desk w. port_joins.given_back w join.grant) (λ linked. given_back_calm (begins a linked) join.grant tt) h
+  gives_back_kept a join h = at_port_kept a join.port (λ setup desk w. port_joins.given_back w join.grant) (λ linked. given_back_calm IsCalm calm_notes (begins a linked) join.grant tt) h
 
   releases_input_kept : (a : Acted) (input : End) → P a → P (releases_input a input)
   releases_input_kept a input h = by_join (join_of a.controller input)
@@ -317,7 +318,7 @@ module _ (P : Acted → Type 0) (k : Kept P) where
       by_join (Some join) = gives_back_kept (parts a join.input) join (parts_kept a join.input h)
 
   resets_spent_kept : (a : Acted) (port : PortNo) → P a → P (resets_spent a port)
-  resets_spent_kept a port h = at_port_kept a port (λ setup desk w. closes w) (λ linked. closes_calm (begins a linked) tt) h
+  resets_spent_kept a port h = at_port_kept a port (λ setup desk w. closes w) (λ linked. closes_calm IsCalm calm_notes (begins a linked) tt) h
 
   releases_kept : (a : Acted) (request : Request) → P a → P (releases a request)
   releases_kept a request h =
@@ -325,10 +326,10 @@ module _ (P : Acted → Type 0) (k : Kept P) where
       fold_kept P resets_spent resets_spent_kept (ports_of released.controller) released (fold_kept P releases_input releases_input_kept (released_inputs a.controller request) a h)
 
   enters_grant_kept : (a : Acted) (join : Join) → P a → P (enters_grant a join)
-  enters_grant_kept a join h = at_port_kept a join.port (λ setup desk w. port_joins.lent w join.grant join.input) (λ linked. lent_calm (begins a linked) join.grant join.input tt) h
+  enters_grant_kept a join h = at_port_kept a join.port (λ setup desk w. port_joins.lent w join.grant join.input) (λ linked. lent_calm IsCalm calm_notes (begins a linked) join.grant join.input tt) h
 
   enters_label_kept : (a : Acted) (join : Join) → P a → P (enters_label a join)
-  enters_label_kept a join h = at_port_kept a join.input.port (λ setup desk w. port_joins.joined w (number_of_channel join.input.channel) (output_of join)) (λ linked. joined_calm (begins a linked) (number_of_channel join.input.channel) (output_of join) tt) h
+  enters_label_kept a join h = at_port_kept a join.input.port (λ setup desk w. port_joins.joined w (number_of_channel join.input.channel) (output_of join)) (λ linked. joined_calm IsCalm calm_notes (begins a linked) (number_of_channel join.input.channel) (output_of join) tt) h
 
   joins_kept : (a : Acted) (o : Option Join) → P a → P (joins a o)
   joins_kept a None h = h
@@ -383,7 +384,7 @@ module _ (P : Acted → Type 0) (k : Kept P) where
 
   tells_kept : (a : Acted) (request : Request) (o : Option PortNo) → P a → P (tells_port a request o)
   tells_kept a request None h = h
-  tells_kept a request (Some port) h = at_port_kept a port (λ setup desk w. port_answers.done setup w request) (λ linked. done_calm linked.setup a.controller.desk (begins a linked) request tt) h
+  tells_kept a request (Some port) h = at_port_kept a port (λ setup desk w. port_answers.done setup w request) (λ linked. done_calm IsCalm calm_notes calm_binding linked.setup a.controller.desk (begins a linked) request tt) h
 
   behind_kept : (a : Acted) (port : PortNo) → P a → P (behind_delete_all a port)
   behind_kept a port h = on_both P a.controller.has_met (asks a (AddBranch (default_end port) (default_home port))) (if has_emptied a.controller then ends_meeting a else a)
@@ -455,15 +456,15 @@ module _ (P : Acted → Type 0) (k : Kept P) where
   -- *Frames*
   label_holds_kept : (a : Acted) (linked : Linked) (label : Label) (mark : Mark) (r : Result (List ℕ) EncapsFault) → ((packet : List ℕ) → r ≡ Ok packet → IsShort packet) → P a → P (label_holds a linked label mark r)
   label_holds_kept a linked label mark (Err fault) short h = k.noted a (Bad a.controller.node layers.Encaps (encaps_refusal fault)) refl h
-  label_holds_kept a linked label mark (Ok packet) short h = at_port_kept (routes a mark packet) linked.setup.port (λ setup desk w. used w label.number) (λ other. used_calm (begins (routes a mark packet) other) label.number tt) (routes_kept a mark packet (short packet refl) h)
+  label_holds_kept a linked label mark (Ok packet) short h = at_port_kept (routes a mark packet) linked.setup.port (λ setup desk w. used w label.number) (λ other. used_calm IsCalm calm_notes (begins (routes a mark packet) other) label.number tt) (routes_kept a mark packet (short packet refl) h)
 
   ifmp_holds_kept : (a : Acted) (port : PortNo) (packet octets : List ℕ) (r : Result IfmpMessage IfmpFault) → ifmp_decoded octets ≡ r → P a → P (ifmp_holds a port packet r)
   ifmp_holds_kept a port packet octets (Err fault) is h = k.noted a (Bad a.controller.node layers.Ifmp (ifmp_refusal fault)) refl h
   ifmp_holds_kept a port packet octets (Ok message) is h = at_port_kept a port (λ setup desk w. hears setup desk w (source_of packet) message)
-      (λ linked. hears_calm linked.setup a.controller.desk (begins a linked) (source_of packet) message refl (decoded_lives octets message is) tt) h
+      (λ linked. hears_calm IsCalm calm_notes calm_binding linked.setup a.controller.desk (begins a linked) (source_of packet) message refl (decoded_lives octets message is) tt) h
 
   counted_kept : (a : Acted) (port : PortNo) (packet : List ℕ) → P a → P (counted_at a port packet)
-  counted_kept a port packet h = at_port_kept a port (λ setup desk w. counts setup desk w packet) (λ linked. counts_calm linked.setup a.controller.desk (begins a linked) packet tt) h
+  counted_kept a port packet h = at_port_kept a port (λ setup desk w. counts setup desk w packet) (λ linked. counts_calm IsCalm calm_notes linked.setup a.controller.desk (begins a linked) packet tt) h
 
   packet_holds_kept : (a : Acted) (port : PortNo) (mark : Mark) (packet : List ℕ) (o : Option PacketFault) → first_fault packet ≡ o → P a → P (packet_holds a port mark packet o)
   packet_holds_kept a port mark packet (Some fault) is h = k.noted a (Bad a.controller.node layers.Packet (packet_refusal fault)) refl h
@@ -505,7 +506,7 @@ module _ (P : Acted → Type 0) (k : Kept P) where
   again_kept a h = on_both P (is_estab a.controller.adjacency.state) (fold sends_request a (sent_again a.controller.desk)) a (fold_kept P sends_request request_kept (sent_again a.controller.desk) a h) h
 
   ticks_port_kept : (a : Acted) (port : PortNo) → P a → P (ticks_port a port)
-  ticks_port_kept a port h = at_port_kept a port port_ticks.ticks (λ linked. ticks_calm linked.setup a.controller.desk (begins a linked) refl tt) h
+  ticks_port_kept a port h = at_port_kept a port port_ticks.ticks (λ linked. ticks_calm IsCalm calm_notes calm_binding linked.setup a.controller.desk (begins a linked) refl tt) h
 
   ticks_on_kept : (a : Acted) (step : sides.Step Party) → IsNamed step.side → AnswersNamed step.answer → P a → P (tries_joins (ticks_ports (sends_again (steps a step))))
   ticks_on_kept a step named said h =

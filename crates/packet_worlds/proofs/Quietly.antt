@@ -30,7 +30,8 @@ use Rattle.controller_views.specs.Lifted.{payload_by}
 use Rattle.world_model.specs.Topology.{peer_of}
 use Rattle.world_model.specs.Past.{Past}
 use Rattle.world_model.specs.Headline.{is_bind}
-use Rattle.packet_worlds.proofs.Quiet.{is_fate, Allows, AllowsBinding}
+use Rattle.packet_worlds.proofs.Quiet.{is_fate, Allows}
+use Rattle.causes.proofs.Noting.{AllowsBinding}
 use Rattle.packet_worlds.proofs.Walk.{IsAlike, Kept}
 use Rattle.packet_worlds.proofs.Records.{AllowsFates, records_kept}
 use Rattle.packet_worlds.proofs.Cut.{IsCut, IsEarly, frame_is_cut}

@@ -36,7 +36,8 @@ use Rattle.world_model.specs.Controller.{Controller, Acted, Linked, free_slots, 
 use Rattle.world_model.specs.Sending.{with_cells, sends, sends_control}
 use Rattle.world_model.specs.Packets.{is_control, sends_next, goes_by, grant_by, forwarded, routes, control_protocol}
 use Rattle.world_model.specs.Cells.{Taker, ForGsmp, ForDefault, ForLabel, label_holds, ifmp_holds, counted_at, packet_holds, default_holds, frame_holds, opened_frame}
-use Rattle.packet_worlds.proofs.Quiet.{is_fate, Allows, AllowsBinding}
+use Rattle.packet_worlds.proofs.Quiet.{is_fate, Allows}
+use Rattle.causes.proofs.Noting.{AllowsBinding}
 use Rattle.packet_worlds.proofs.Walk.{Kept, used_kept, counted_kept, ifmp_holds_kept, gsmp_holds_kept}
 
 -- fates may be noted too

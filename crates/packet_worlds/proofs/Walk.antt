@@ -22,7 +22,7 @@ use Rattle.adjacency_table.specs.declared.message.Answer.{Answer}
 use Rattle.adjacency_table.specs.declared.message.Answer.TheVariants.{Quiet, Send, Open, Reset}
 use Rattle.adjacency_table.specs.declared.message.Said.{Said}
 use Rattle.adjacency_table.specs.Side as sides
-use Rattle.adjacency_table.specs.Side.{Side, fresh, is_estab, said, answer_to, answer_of, opened, is_entry, followed, received, counted, followed_tick, ticked}
+use Rattle.adjacency_table.specs.Side.{is_estab, said, ticked}
 use Rattle.adjacency_table.specs.Greeting.{greeting_of, gsmp_answer, gsmp_received}
 use Rattle.link_model.specs.declared.record.Record.{Record}
 use Rattle.link_model.specs.declared.record.Record.TheVariants.{Bad, Loss, Part, Routes}
@@ -30,7 +30,6 @@ use Rattle.link_model.specs.declared.record.Cause.TheVariants.{Cut}
 use Rattle.link_model.specs.declared.record.Layer.TheVariants as layers
 use Rattle.refusal_names.specs.Names.{ifmp_refusal, gsmp_refusal}
 use Rattle.frame_model.specs.Reassembly.{Reassembly, cut, noted_all, distinct, marks_of}
-use Rattle.ordered_lists.specs.Ordered.{Every}
 use Rattle.port_model.specs.Desk.{Desk, Standing, asked, withdrawn, is_led_home, message_at, last_transaction, empty_desk, sent_again}
 use Rattle.port_model.specs.DeskAnswers.{Answered, Unknown, Done, Ports, Failed, answered, after_answer}
 use Rattle.port_model.specs.declared.action.Action.{Action}
@@ -58,7 +57,9 @@ use Rattle.world_model.specs.Meeting.{meets, up_ports, default_branches, ends_me
 use Rattle.world_model.specs.Gsmp.{answers, steps, told, gsmp_holds}
 use Rattle.world_model.specs.Cells.{ifmp_holds, counted_at}
 use Rattle.world_model.specs.Ticks.{sends_again, ticks_port, ticks_ports, ticks_by, ticks}
-use Rattle.packet_worlds.proofs.Quiet.{Allows, AllowsBinding, IsCalmAction, Calm, hears_calm, ticks_calm, done_calm, used_calm, counts_calm, closes_calm, joined_calm, parted_calm, lent_calm, given_back_calm, resets_calm, restarts_calm}
+use Rattle.packet_worlds.proofs.Quiet.{Allows, allows_notes}
+use Rattle.causes.proofs.Rules.{fold_kept, fold_each}
+use Rattle.causes.proofs.Noting.{AllowsNotes, AllowsBinding, IsCalmAction, Calm, hears_calm, ticks_calm, done_calm, used_calm, counts_calm, closes_calm, joined_calm, parted_calm, lent_calm, given_back_calm, resets_calm, restarts_calm}
 
 -- what bears on frames, queues and notes is the same
 pub record IsAlike (a b : Acted) : Type 0 where
@@ -73,15 +74,10 @@ pub record Kept (Q : Record → Type 0) (P : Acted → Type 0) : Type 0 where
   pub told : (a : Acted) (message : Message) → P a → P (says_gsmp a message)
   pub said : (port : PortNo) (a : Acted) (message : IfmpMessage) → P a → P (says_ifmp port a message)
 
-fold_kept : {X : Type 0} (P : Acted → Type 0) (f : Acted → X → Acted) → ((a : Acted) (x : X) → P a → P (f a x)) → (xs : List X) (a : Acted) → P a → P (fold f a xs)
-fold_kept P f each [] a h = h
-fold_kept P f each (x ∷ xs) a h = fold_kept P f each xs (f a x) (each a x h)
-
-fold_each : {X : Type 0} (P : Acted → Type 0) (Q : X → Type 0) (f : Acted → X → Acted) → ((a : Acted) (x : X) → Q x → P a → P (f a x)) → (xs : List X) → Every Q xs → (a : Acted) → P a → P (fold f a xs)
-fold_each P Q f each [] all a h = h
-fold_each P Q f each (x ∷ xs) all a h = fold_each P Q f each xs all.1 (f a x) (each a x all.0 h)
-
 module _ (Q : Record → Type 0) (may : Allows Q) (P : Acted → Type 0) (k : Kept Q P) where
+  port_notes : AllowsNotes Q
+  port_notes = allows_notes Q may
+
   same : (a b : Acted) → b.controller.queue ≡ a.controller.queue → b.notes ≡ a.notes → b.numbers.controls ≡ a.numbers.controls → P a → P b
   same a b q n c h = k.alike a b (record { queue = q; notes = n; controls = c }) h
 
@@ -121,7 +117,7 @@ module _ (Q : Record → Type 0) (may : Allows Q) (P : Acted → Type 0) (k : Ke
   work_kept a linked w h = same a (with_work a linked w) refl refl refl h
 
   -- *Node reset*
-  closes_kept : (port : PortNo) (a : Acted) (action : Action) → IsCalmAction Q may action → P a → P (closes_by port a action)
+  closes_kept : (port : PortNo) (a : Acted) (action : Action) → IsCalmAction Q action → P a → P (closes_by port a action)
   closes_kept port a (actions.Say message) calm h = h
   closes_kept port a (actions.Ask request needed) calm h = h
   closes_kept port a (actions.Note item) calm h = k.noted a item calm h
@@ -134,7 +130,7 @@ module _ (Q : Record → Type 0) (may : Allows Q) (P : Acted → Type 0) (k : Ke
   restarts_of_kept a None h = h
   restarts_of_kept a (Some linked) h =
       let w : Work = restarts linked.setup (begins a linked) in
-      fold_each P (IsCalmAction Q may) (closes_by linked.setup.port) (closes_kept linked.setup.port) w.actions (restarts_calm Q may linked.setup (begins a linked) tt) (with_work a linked w) (work_kept a linked w h)
+      fold_each P (IsCalmAction Q) (closes_by linked.setup.port) (closes_kept linked.setup.port) w.actions (restarts_calm Q port_notes linked.setup (begins a linked) tt) (with_work a linked w) (work_kept a linked w h)
 
   restarts_kept : (a : Acted) (port : PortNo) → P a → P (port_restarts a port)
   restarts_kept a port h = restarts_of_kept a (linked_at a.controller port) h
@@ -155,7 +151,7 @@ module _ (Q : Record → Type 0) (may : Allows Q) (P : Acted → Type 0) (k : Ke
   takes_back_kept a input output h = on_both P (is_led_home a.controller.desk input (home_of input)) a (asks a (MoveBranch input output (home_of input))) h (asks_kept a (MoveBranch input output (home_of input)) h)
 
   -- *Actions*
-  does_kept : (port : PortNo) (a : Acted) (action : Action) → IsCalmAction Q may action → P a → P (does port a action)
+  does_kept : (port : PortNo) (a : Acted) (action : Action) → IsCalmAction Q action → P a → P (does port a action)
   does_kept port a (actions.Say message) calm h = k.said port a message h
   does_kept port a (actions.Ask request needed) calm h = asks_kept a request h
   does_kept port a (actions.Note item) calm h = k.noted a item calm h
@@ -164,19 +160,19 @@ module _ (Q : Record → Type 0) (may : Allows Q) (P : Acted → Type 0) (k : Ke
   does_kept port a (actions.Withdraw input) calm h = desk_kept a (withdrawn a.controller.desk input) h
   does_kept port a actions.Reset calm h = h
 
-  does_in_kept : (port : PortNo) (a : Acted) (action : Action) → IsCalmAction Q may action → P a → P (does_in_estab port a action)
+  does_in_kept : (port : PortNo) (a : Acted) (action : Action) → IsCalmAction Q action → P a → P (does_in_estab port a action)
   does_in_kept port a action calm h = on_both P (is_estab a.controller.adjacency.state) (does port a action) a (does_kept port a action calm h) h
 
   resets_of_kept : (a : Acted) (o : Option Linked) → P a → P (resets_of a o)
   resets_of_kept a None h = h
   resets_of_kept a (Some linked) h =
       let w : Work = resets linked.setup (begins a linked) in
-      fold_each P (IsCalmAction Q may) (does_in_estab linked.setup.port) (does_in_kept linked.setup.port) w.actions (resets_calm Q may linked.setup (begins a linked) tt) (with_work a linked w) (work_kept a linked w h)
+      fold_each P (IsCalmAction Q) (does_in_estab linked.setup.port) (does_in_kept linked.setup.port) w.actions (resets_calm Q port_notes linked.setup (begins a linked) tt) (with_work a linked w) (work_kept a linked w h)
 
   resets_kept : (a : Acted) (port : PortNo) → P a → P (resets_port a port)
   resets_kept a port h = resets_of_kept a (linked_at a.controller port) h
 
-  performs_kept : (port : PortNo) (a : Acted) (action : Action) → IsCalmAction Q may action → P a → P (performs port a action)
+  performs_kept : (port : PortNo) (a : Acted) (action : Action) → IsCalmAction Q action → P a → P (performs port a action)
   performs_kept port a (actions.Say message) calm h = does_kept port a (actions.Say message) calm h
   performs_kept port a (actions.Ask request needed) calm h = does_kept port a (actions.Ask request needed) calm h
   performs_kept port a (actions.Note item) calm h = does_kept port a (actions.Note item) calm h
@@ -185,25 +181,25 @@ module _ (Q : Record → Type 0) (may : Allows Q) (P : Acted → Type 0) (k : Ke
   performs_kept port a (actions.Withdraw input) calm h = does_kept port a (actions.Withdraw input) calm h
   performs_kept port a actions.Reset calm h = resets_kept a port h
 
-  performs_in_kept : (port : PortNo) (a : Acted) (action : Action) → IsCalmAction Q may action → P a → P (performs_in_estab port a action)
+  performs_in_kept : (port : PortNo) (a : Acted) (action : Action) → IsCalmAction Q action → P a → P (performs_in_estab port a action)
   performs_in_kept port a action calm h = on_both P (is_estab a.controller.adjacency.state) (performs port a action) a (performs_kept port a action calm h) h
 
-  at_port_kept : (a : Acted) (port : PortNo) (rule : Rule) → ((linked : Linked) → Calm Q may (rule linked.setup a.controller.desk (begins a linked))) → P a → P (at_port a port rule)
+  at_port_kept : (a : Acted) (port : PortNo) (rule : Rule) → ((linked : Linked) → Calm Q (rule linked.setup a.controller.desk (begins a linked))) → P a → P (at_port a port rule)
   at_port_kept a port rule calm h = by_found (linked_at a.controller port)
     where
       by_found : (o : Option Linked) → P (works a rule o)
       by_found None = h
       by_found (Some linked) =
           let w : Work = rule linked.setup a.controller.desk (begins a linked) in
-          fold_each P (IsCalmAction Q may) (performs_in_estab linked.setup.port) (performs_in_kept linked.setup.port) w.actions (calm linked) (with_work a linked w) (work_kept a linked w h)
+          fold_each P (IsCalmAction Q) (performs_in_estab linked.setup.port) (performs_in_kept linked.setup.port) w.actions (calm linked) (with_work a linked w) (work_kept a linked w h)
 
   -- *Joins*
   parts_kept : (a : Acted) (input : End) → P a → P (parts a input)
   parts_kept a input h = at_port_kept (note a (Part a.controller.node input.port (number_of_channel input.channel))) input.port (λ setup desk w. port_joins.parted w (number_of_channel input.channel))
-      (λ linked. parted_calm Q may (begins (note a (Part a.controller.node input.port (number_of_channel input.channel))) linked) (number_of_channel input.channel) tt) (k.noted a _ (may _ refl refl) h)
+      (λ linked. parted_calm Q port_notes (begins (note a (Part a.controller.node input.port (number_of_channel input.channel))) linked) (number_of_channel input.channel) tt) (k.noted a _ (may _ refl refl) h)
 
   gives_back_kept : (a : Acted) (join : Join) → P a → P (gives_back a join)
-  gives_back_kept a join h = at_port_kept a join.port (λ setup desk w. port_joins.given_back w join.grant) (λ linked. given_back_calm Q may (begins a linked) join.grant tt) h
+  gives_back_kept a join h = at_port_kept a join.port (λ setup desk w. port_joins.given_back w join.grant) (λ linked. given_back_calm Q port_notes (begins a linked) join.grant tt) h
 
   releases_input_kept : (a : Acted) (input : End) → P a → P (releases_input a input)
   releases_input_kept a input h = by_join (join_of a.controller input)
@@ -213,7 +209,7 @@ module _ (Q : Record → Type 0) (may : Allows Q) (P : Acted → Type 0) (k : Ke
       by_join (Some join) = gives_back_kept (parts a join.input) join (parts_kept a join.input h)
 
   resets_spent_kept : (a : Acted) (port : PortNo) → P a → P (resets_spent a port)
-  resets_spent_kept a port h = at_port_kept a port (λ setup desk w. closes w) (λ linked. closes_calm Q may (begins a linked) tt) h
+  resets_spent_kept a port h = at_port_kept a port (λ setup desk w. closes w) (λ linked. closes_calm Q port_notes (begins a linked) tt) h
 
   releases_kept : (a : Acted) (request : Request) → P a → P (releases a request)
   releases_kept a request h =
@@ -221,10 +217,10 @@ module _ (Q : Record → Type 0) (may : Allows Q) (P : Acted → Type 0) (k : Ke
       fold_kept P resets_spent resets_spent_kept (ports_of released.controller) released (fold_kept P releases_input releases_input_kept (released_inputs a.controller request) a h)
 
   enters_grant_kept : (a : Acted) (join : Join) → P a → P (enters_grant a join)
-  enters_grant_kept a join h = at_port_kept a join.port (λ setup desk w. port_joins.lent w join.grant join.input) (λ linked. lent_calm Q may (begins a linked) join.grant join.input tt) h
+  enters_grant_kept a join h = at_port_kept a join.port (λ setup desk w. port_joins.lent w join.grant join.input) (λ linked. lent_calm Q port_notes (begins a linked) join.grant join.input tt) h
 
   enters_label_kept : (a : Acted) (join : Join) → P a → P (enters_label a join)
-  enters_label_kept a join h = at_port_kept a join.input.port (λ setup desk w. port_joins.joined w (number_of_channel join.input.channel) (output_of join)) (λ linked. joined_calm Q may (begins a linked) (number_of_channel join.input.channel) (output_of join) tt) h
+  enters_label_kept a join h = at_port_kept a join.input.port (λ setup desk w. port_joins.joined w (number_of_channel join.input.channel) (output_of join)) (λ linked. joined_calm Q port_notes (begins a linked) (number_of_channel join.input.channel) (output_of join) tt) h
 
   joins_kept : (a : Acted) (o : Option Join) → P a → P (joins a o)
   joins_kept a None h = h
@@ -292,16 +288,16 @@ module _ (Q : Record → Type 0) (may : Allows Q) (P : Acted → Type 0) (k : Ke
 
   -- *Packets*: those of a label's channel are counted as its use, and others by their flows
   pub used_kept : (a : Acted) (port : PortNo) (label : ℕ) → P a → P (at_port a port (λ setup desk w. used w label))
-  used_kept a port label h = at_port_kept a port (λ setup desk w. used w label) (λ linked. used_calm Q may (begins a linked) label tt) h
+  used_kept a port label h = at_port_kept a port (λ setup desk w. used w label) (λ linked. used_calm Q port_notes (begins a linked) label tt) h
 
   pub counted_kept : (a : Acted) (port : PortNo) (packet : List ℕ) → P a → P (counted_at a port packet)
-  counted_kept a port packet h = at_port_kept a port (λ setup desk w. counts setup desk w packet) (λ linked. counts_calm Q may linked.setup a.controller.desk (begins a linked) packet tt) h
+  counted_kept a port packet h = at_port_kept a port (λ setup desk w. counts setup desk w packet) (λ linked. counts_calm Q port_notes linked.setup a.controller.desk (begins a linked) packet tt) h
 
   -- *Where labels are bound*
   module _ (binds : AllowsBinding Q) where
     tells_kept : (a : Acted) (request : Request) (o : Option PortNo) → P a → P (tells_port a request o)
     tells_kept a request None h = h
-    tells_kept a request (Some port) h = at_port_kept a port (λ setup desk w. port_answers.done setup w request) (λ linked. done_calm Q may binds linked.setup a.controller.desk (begins a linked) request tt) h
+    tells_kept a request (Some port) h = at_port_kept a port (λ setup desk w. port_answers.done setup w request) (λ linked. done_calm Q port_notes binds linked.setup a.controller.desk (begins a linked) request tt) h
 
     behind_kept : (a : Acted) (port : PortNo) → P a → P (behind_delete_all a port)
     behind_kept a port h = on_both P a.controller.has_met (asks a (AddBranch (default_end port) (default_home port))) (if has_emptied a.controller then ends_meeting a else a)
@@ -344,7 +340,7 @@ module _ (Q : Record → Type 0) (may : Allows Q) (P : Acted → Type 0) (k : Ke
     pub ifmp_holds_kept : (a : Acted) (port : PortNo) (packet octets : List ℕ) (r : Result IfmpMessage IfmpFault) → ifmp_decoded octets ≡ r → P a → P (ifmp_holds a port packet r)
     ifmp_holds_kept a port packet octets (Err fault) is h = k.noted a (Bad a.controller.node layers.Ifmp (ifmp_refusal fault)) (may _ refl refl) h
     ifmp_holds_kept a port packet octets (Ok message) is h = at_port_kept a port (λ setup desk w. hears setup desk w (source_of packet) message)
-        (λ linked. hears_calm Q may binds linked.setup a.controller.desk (begins a linked) (source_of packet) message refl (decoded_lives octets message is) tt) h
+        (λ linked. hears_calm Q port_notes binds linked.setup a.controller.desk (begins a linked) (source_of packet) message refl (decoded_lives octets message is) tt) h
 
     told_kept : (a : Acted) (message : Message) → P a → P (told a message)
     told_kept a (messages.Adjacency greeting) h = steps_kept a (gsmp_received a.controller.adjacency greeting) h
@@ -364,7 +360,7 @@ module _ (Q : Record → Type 0) (may : Allows Q) (P : Acted → Type 0) (k : Ke
     again_kept a h = on_both P (is_estab a.controller.adjacency.state) (fold sends_request a (sent_again a.controller.desk)) a (fold_kept P sends_request request_kept (sent_again a.controller.desk) a h) h
 
     ticks_port_kept : (a : Acted) (port : PortNo) → P a → P (ticks_port a port)
-    ticks_port_kept a port h = at_port_kept a port port_ticks.ticks (λ linked. ticks_calm Q may binds linked.setup a.controller.desk (begins a linked) refl tt) h
+    ticks_port_kept a port h = at_port_kept a port port_ticks.ticks (λ linked. ticks_calm Q port_notes binds linked.setup a.controller.desk (begins a linked) refl tt) h
 
     ticks_on_kept : (a : Acted) (step : sides.Step Party) → P a → P (tries_joins (ticks_ports (sends_again (steps a step))))
     ticks_on_kept a step h =
