@@ -33,7 +33,8 @@ use Rattle.packet_worlds.proofs.Good.{Turn, Now, IsTurn, IsGood, nothing, good_h
 use Rattle.packet_worlds.proofs.Frames.{in_hand, few_in_hand}
 use Rattle.packet_worlds.proofs.Sends.{now_of, HasGrants, IsReady}
 use Rattle.packet_worlds.proofs.Quietly.{BindsNone, push_none, AllowsDefault, AreFew}
-use Rattle.packet_worlds.proofs.Takes.{taken_cases, broken_none, opened_grows, chain_ended, fair, HasLabels, Leaves, holds_gsmp, holds_default, holds_label}
+use Rattle.way_words.proofs.Switching.{taken_cases}
+use Rattle.packet_worlds.proofs.Takes.{broken_none, opened_grows, chain_ended, fair, HasLabels, Leaves, holds_gsmp, holds_default, holds_label}
 
 -- *Who takes it*
 data Took (c : Controller) (channel : Channel) : Option Taker → Type 0 where

@@ -30,7 +30,8 @@ use Rattle.packet_worlds.proofs.Meant.{in_frames, IsProper}
 use Rattle.packet_worlds.proofs.Good.{Turn, Now, IsGood, nothing, some_accepted}
 use Rattle.packet_worlds.proofs.Frames.{in_hand}
 use Rattle.packet_worlds.proofs.Quietly.{BindsNone, push_none}
-use Rattle.packet_worlds.proofs.Switches.{gone_hand, good_out, good_lost, Kept, gsmp_kept, tick_kept, restarted_kept, Crosses, set_same, crosses_kept}
+use Rattle.way_words.proofs.Switching.{Kept, gsmp_kept, tick_kept, restarted_kept}
+use Rattle.packet_worlds.proofs.Switches.{gone_hand, good_out, good_lost, Crosses, set_same, crosses_kept}
 use Rattle.packet_worlds.proofs.Worlds.{IsNet, low, no_peer, to_turn}
 use Rattle.packet_worlds.proofs.Turns.{arrives_as, LeadsOn, IsKnown, Good, turn, in_site, switch_world, switch_still}
 

@@ -1,7 +1,7 @@
 -- a controller takes a cell
 
-use Rattle.std.proofs.Common.{◌≡◌, ℕ, ◌==◌, ◌&&◌, Bool, true, false, not, List, [], ◌∷◌, ◌++◌, length, Option, None, Some, refl, sym, ◌∙◌, ap, subst, arith, if◌then◌else◌, ◌⊎◌, inl, inr}
-use Rattle.std.specs.Prelude.{nat_le, drop, ◌/◌, ◌%◌, Result, Ok}
+use Rattle.std.proofs.Common.{◌≡◌, ℕ, ◌==◌, ◌&&◌, Bool, true, false, List, [], ◌∷◌, ◌++◌, Option, None, Some, refl, sym, ◌∙◌, ap, subst, arith, if◌then◌else◌, ◌⊎◌, inl, inr}
+use Rattle.std.specs.Prelude.{drop, ◌/◌, ◌%◌, Result, Ok}
 use Rattle.std.specs.List.{list_any}
 use Rattle.std.proofs.lemmas.Bool.Decides.{nat_tests}
 use Rattle.net_types.specs.declared.node.NodeId.{NodeId}
@@ -29,7 +29,7 @@ use Rattle.link_model.specs.declared.record.Cause.TheVariants.{Broken}
 use Rattle.link_model.specs.Ledger.{is_frame, payload_of, has_entry}
 use Rattle.link_model.specs.Notes.{Journal, noted}
 use Rattle.refusal_names.specs.Names.{packet_refusal}
-use Rattle.frame_model.specs.Reassembly.{Reassembly, Taken, taken, passed_over, without_slot, too_long, most_cells, broken}
+use Rattle.frame_model.specs.Reassembly.{broken}
 use Rattle.frame_model.specs.Frame.{tested, passed}
 use Rattle.packet_worlds.proofs.Lists.{if_cases, none_front, any_back}
 use Rattle.wire_laws.proofs.Packets.{protocol_is}
@@ -55,18 +55,6 @@ use Rattle.packet_worlds.proofs.Frames.{one_none}
 use Rattle.packet_worlds.proofs.Headings.{own_is}
 use Rattle.packet_worlds.proofs.Sends.{now_of, IsReady, good_routes}
 use Rattle.packet_worlds.proofs.Quietly.{BindsNone, NoBind, push_none, fate_none, AllowsDefault, AreFew, few_kept, both_kept, good_kept, IsQuiet, may_quiet, bind_quiet, IsSilent, may_silent, none_kept}
-
--- *The cases of a cell that a channel takes*
-pub taken_cases : (P : Taken → Type 0) (notes : Journal) (has_slot : Bool) (r : Reassembly) (cell : Cell)
-    → P (passed_over notes r cell) → P (without_slot notes r cell) → P (too_long notes r cell)
-    → (cell.header.last ≡ true → P (record { reassembly = record r { chain = [] }; notes = notes; ended = r.chain ++ cell ∷ [] }))
-    → (cell.header.last ≡ false → P (record { reassembly = record r { chain = r.chain ++ cell ∷ [] }; notes = notes; ended = [] }))
-    → P (taken notes has_slot r cell)
-taken_cases P notes has_slot r cell over full long ended more =
-    if_cases P r.is_skipping _ _ (λ e. over)
-    (λ e. if_cases P (not has_slot) _ _ (λ f. full)
-    (λ f. if_cases P (nat_le most_cells (length r.chain)) _ _ (λ g. long)
-    (λ g. if_cases P cell.header.last _ _ ended more)))
 
 -- broken frames bind nothing
 pub broken_none : (notes : Journal) (marks : List Mark) → BindsNone notes.records → BindsNone (broken notes marks).records

@@ -3,6 +3,7 @@
 use Rattle.std.proofs.Common.{◌≡◌, ℕ, suc, ◌==◌, ◌&&◌, Bool, true, false, not, List, [], ◌∷◌, ◌++◌, length, Option, None, Some, refl, sym, ap, subst, arith, slice_set, slice_index_or, map}
 use Rattle.std.specs.Prelude.{nat_lt, nat_le, Result, Ok, Err}
 use Rattle.std.specs.FinMap.{get, keys}
+use Rattle.net_types.specs.declared.node.NodeId.{NodeId}
 use Rattle.net_types.specs.declared.node.PortNo.{PortNo}
 use Rattle.net_types.specs.declared.channel.End.{End}
 use Rattle.net_types.specs.declared.number.Mark.{Mark}
@@ -25,7 +26,9 @@ use Rattle.crossbar_model.specs.declared.branch.Branch.{Branch}
 use Rattle.crossbar_model.specs.Crossbar.{queue_of, on_channel_of, cut_by_move}
 use Rattle.link_model.specs.declared.record.Record.{Record}
 use Rattle.link_model.specs.declared.record.Record.TheVariants.{Bad, Loss, Chance}
+use Rattle.link_model.specs.declared.record.Layer.{Layer}
 use Rattle.link_model.specs.declared.record.Layer.TheVariants.{Gsmp}
+use Rattle.link_model.specs.declared.record.Refusal.{Refusal}
 use Rattle.link_model.specs.declared.record.Cause.{Cause}
 use Rattle.link_model.specs.declared.record.Cause.TheVariants.{PoolFull, Broken, Cut}
 use Rattle.link_model.specs.Ledger.{has_entry, is_frame}
@@ -42,7 +45,7 @@ use Rattle.world_model.specs.Requests.{Changed, noted_cut, moved_by, ended_by, e
 use Rattle.world_model.specs.Failures.{failure_of}
 use Rattle.world_model.specs.Answers.{Handled, handled_by, handled_asked, handled}
 use Rattle.world_model.specs.Switch.{Switch, Acted, control_port, gsmp_channel, free_slots}
-use Rattle.world_model.specs.Conduct.{with_cells, sends, says, reset, answers, steps, replied, requested, told, read, opened_frame, after_test, ends_frame, after_cell, gsmp_cell, tick_comes, restarted}
+use Rattle.world_model.specs.Conduct.{with_cells, says, reset, answers, steps, replied, requested, told, read, after_test, ends_frame, after_cell, gsmp_cell, tick_comes, restarted}
 use Rattle.std.specs.Prelude.{◌⊎◌, Contains, slice_set, slice_index_or, zero, suc}
 use Rattle.std.proofs.Common.{inl, inr}
 use Rattle.std.specs.Option.{option_map}
@@ -64,6 +67,7 @@ abbrev pub BindsNone : Record → Type 0
 BindsNone (kinds.Bind node port label flow) = ⊥
 BindsNone item = Unit {0}
 
+-- *The cases of a cell that a channel takes*
 pub taken_cases : (P : Taken → Type 0) (notes : Journal) (has_slot : Bool) (r : Reassembly) (cell : Cell)
     → P (passed_over notes r cell) → P (without_slot notes r cell) → P (too_long notes r cell)
     → (cell.header.last ≡ true → P (record { reassembly = record r { chain = [] }; notes = notes; ended = r.chain ++ cell ∷ [] }))
@@ -75,17 +79,26 @@ taken_cases P notes has_slot r cell over full long ended more =
     (λ f. on_each P (nat_le most_cells (length r.chain)) (too_long notes r cell) (joined notes r cell) (λ g. long)
     (λ g. on_each P cell.header.last (record { reassembly = record r { chain = [] }; notes = notes; ended = r.chain ++ cell ∷ [] }) (record { reassembly = record r { chain = r.chain ++ cell ∷ [] }; notes = notes; ended = [] }) ended more)))
 
--- broken frames bind nothing
+-- *What a switch notes* of its own messages: what is lost, what it refuses, and what passed its test by chance
+pub data IsNoted : Record → Type 0 where
+  is_lost : (mark : Mark) (cause : Cause) → IsNoted (Loss mark cause)
+  is_bad : (node : NodeId) (layer : Layer) (name : Refusal) → IsNoted (Bad node layer name)
+  is_chance : (mark : Mark) → IsNoted (Chance mark)
 
--- *What a few changes of a switch keep*
+noted_none : (item : Record) → IsNoted item → BindsNone item
+noted_none _ (is_lost mark cause) = tt
+noted_none _ (is_bad node layer name) = tt
+noted_none _ (is_chance mark) = tt
+
+-- *What a few changes of a switch keep*, all that it does with its own messages keeps
 pub record Kept (P : Acted → Type 0) : Type 0 where
   pub alike : (a b : Acted) → b.switch.crossbar.queues ≡ a.switch.crossbar.queues → b.notes ≡ a.notes → b.numbers.controls ≡ a.numbers.controls → P a → P b
-  pub noted : (a : Acted) (item : Record) → BindsNone item → P a → P (record a { notes = noted a.notes item })
+  pub noted : (a : Acted) (item : Record) → IsNoted item → P a → P (record a { notes = noted a.notes item })
   pub said : (a : Acted) (message : Message) → P a → P (says a message)
 
 module _ (P : Acted → Type 0) (k : Kept P) where
   lost : (a : Acted) (notes : Journal) (mark : Mark) (cause : Cause) → P (record a { notes = notes }) → P (record a { notes = noted notes (Loss mark cause) })
-  lost a notes mark cause h = k.noted (record a { notes = notes }) (Loss mark cause) tt h
+  lost a notes mark cause h = k.noted (record a { notes = notes }) (Loss mark cause) (is_lost mark cause) h
 
   broken_kept : (a : Acted) (notes : Journal) (marks : List Mark) → P (record a { notes = notes }) → P (record a { notes = broken notes marks })
   broken_kept a notes [] h = h
@@ -164,13 +177,13 @@ module _ (P : Acted → Type 0) (k : Kept P) where
   -- *Frames and cells*
   read_kept : (a : Acted) (r : Result Message Fault) → P a → P (read a r)
   read_kept a (Ok m) h = told_kept a m h
-  read_kept a (Err fault) h = k.noted a (Bad a.switch.node Gsmp (gsmp_refusal fault)) tt h
+  read_kept a (Err fault) h = k.noted a (Bad a.switch.node Gsmp (gsmp_refusal fault)) (is_bad a.switch.node Gsmp (gsmp_refusal fault)) h
 
   test_kept : (a : Acted) (cells : List Cell) (o : Option (List ℕ)) → P a → P (after_test a (tested_by a.notes cells o))
   test_kept a cells None h = broken_kept a a.notes (marks_of cells) h
   test_kept a cells (Some payload) h = read_kept (record a { notes = passed_notes a.notes (last_mark cells) payload }) (decoded payload)
       (on_both (λ (n : Journal). P (record a { notes = n })) (is_frame a.notes.frames (last_mark cells) payload) a.notes (noted a.notes (Chance (last_mark cells))) h
-      (k.noted a (Chance (last_mark cells)) tt h))
+      (k.noted a (Chance (last_mark cells)) (is_chance (last_mark cells)) h))
 
   ends_kept : (a : Acted) (cells : List Cell) → P a → P (ends_frame a cells)
   ends_kept a [] h = h
@@ -230,7 +243,7 @@ module _ (first : Acted) where
       queues = λ q c has. h.queues q c (subst (λ (qs : List (List Cell)). Contains (slice_index_or qs q.0 []) c) queues has);
       records = subst (λ (n : Journal). Every BindsNone n.records) (sym notes) h.records;
     };
-    noted = λ a item none h. record { queues = h.queues; records = every_more BindsNone a.notes.records item h.records none };
+    noted = λ a item is h. record { queues = h.queues; records = every_more BindsNone a.notes.records item h.records (noted_none item is) };
     said = says_waits;
   }
     where
