@@ -90,6 +90,30 @@ eight = (omega arith, (omega arith, (omega arith, (omega arith, (omega arith, (o
 node_rises : (topology : Topology) (number : NodeId) (node : Node) → RisesRanges 0 (ranges_of topology number node)
 node_rises topology number node = ranges_rise node.ranges 0 (ports_of topology number) (rises_filter (λ port. is_some (peer_of topology number port)) 0 (map port_number (range_with_len 1 8)) eight)
 
+-- *The opening of a node's controller*
+abbrev pub opening_of : Policy → Topology → NodeId → Node → GivenOut → Journal → Opening
+opening_of policy topology number node numbers notes = record {
+  node = number;
+  address = node.address;
+  table = node.routes;
+  ranges = ranges_of topology number node;
+  cells = node.cells;
+  timers = timers_of topology;
+  policy = policy;
+  notes = notes;
+  numbers = numbers;
+}
+
+pub is_opening : (policy : Policy) (topology : Topology) (number : NodeId) (node : Node) (numbers : GivenOut) (notes : Journal) → IsOpening (opening_of policy topology number node numbers notes)
+is_opening policy topology number node numbers notes = (let rises : RisesRanges 0 (ranges_of topology number node) = node_rises topology number node in record {
+  differ = all_differ 0 (ranges_of topology number node) rises;
+  links = all_links 0 (ranges_of topology number node) rises;
+  few = few (length (ranges_of topology number node)) (all_few 0 (ranges_of topology number node) rises (omega arith));
+})
+  where
+    few : (n : ℕ) → n + 0 ≤ 8 → n ≤ 8
+    few n h = omega (arith, h)
+
 -- *A site has been fed*: its controller was opened, and took inputs
 pub record IsFed (site : Site) : Type 0 where
   pub o : Opening
@@ -99,15 +123,12 @@ pub record IsFed (site : Site) : Type 0 where
 
 -- as each is at the opening
 site_opened : (policy : Policy) (topology : Topology) (number : NodeId) (node : Node) (numbers : GivenOut) (notes : Journal) → IsFed (opened_site policy topology number node numbers)
-site_opened policy topology number node numbers notes = (let rises : RisesRanges 0 (ranges_of topology number node) = node_rises topology number node in record {
-  o = record { node = number; address = node.address; table = node.routes; ranges = ranges_of topology number node; cells = node.cells; timers = timers_of topology; policy = policy; notes = notes; numbers = numbers };
-  is = record { differ = all_differ 0 (ranges_of topology number node) rises; links = all_links 0 (ranges_of topology number node) rises; few = few (length (ranges_of topology number node)) (all_few 0 (ranges_of topology number node) rises (omega arith)) };
+site_opened policy topology number node numbers notes = record {
+  o = opening_of policy topology number node numbers notes;
+  is = is_opening policy topology number node numbers notes;
   inputs = [];
   now = refl;
-})
-  where
-    few : (n : ℕ) → n + 0 ≤ 8 → n ≤ 8
-    few n h = omega (arith, h)
+}
 
 each_opened : (policy : Policy) (topology : Topology) (nodes : List Node) (w : World) (place : ℕ) → Every IsFed w.sites → Every IsFed (opens_each policy topology w place nodes).sites
 each_opened policy topology [] w place h = h

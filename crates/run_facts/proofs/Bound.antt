@@ -17,7 +17,7 @@ use Rattle.controller_bindings.specs.Bindings as bindings
 use Rattle.controller_bindings.specs.Bindings.{noted_by, noted_by_all}
 use Rattle.run_facts.proofs.Frames.{bound_then}
 use Rattle.lifetimes.specs.Run.{acted_in, comes_to}
-use Rattle.lifetimes.proofs.Opened.{IsFed, opening_fed}
+use Rattle.lifetimes.proofs.Opened.{opening_of, IsFed, opening_fed}
 use Rattle.lifetimes.proofs.Feeding.{after_of, inputs_join}
 use Rattle.lifetimes.proofs.Runs.{next_there, run_fed}
 use Rattle.world_model.specs.declared.event.Event.{Event}
@@ -31,7 +31,6 @@ use Rattle.run_facts.proofs.Opening.{found_more}
 use Rattle.run_facts.proofs.Runs.{Any, any_marked}
 use Rattle.run_facts.proofs.Steps.{after_one, events_are_steps}
 use Rattle.run_facts.proofs.Rooms.{IsGoing, run_goes, found_within, runs_have_site}
-use Rattle.run_facts.proofs.Opened.{opening_of}
 use Rattle.run_facts.proofs.Comes.{comes_own}
 use Rattle.run_facts.proofs.Telling.{told_by, noted_is, event_tells}
 

@@ -37,12 +37,12 @@ use Rattle.controller_law.specs.Order.{IsOrderly}
 use Rattle.controller_law.specs.Match.{IsMatched}
 use Rattle.controller_law.proofs.Laws.{always_holds, always_matched}
 use Rattle.controller_bindings.specs.Bindings as bindings
-use Rattle.controller_bindings.specs.Bindings.{IsBoundLast, HasBoundLabels, IsLed, HasLedJoins, GathersForBound, IsOfBound, noted_by_all}
+use Rattle.controller_bindings.specs.Bindings.{IsBoundLast, HasBoundLabels, IsLed, HasLedJoins, GathersForBound, noted_by_all}
 use Rattle.controller_bindings.proofs.Laws.{always_bound, always_led, always_gathers}
 use Rattle.world_model.specs.declared.event.Event.{Event}
 use Rattle.world_model.specs.declared.event.Event.TheVariants.{Route as RouteEvent}
 use Rattle.world_model.specs.Topology as topologies
-use Rattle.world_model.specs.Topology.{Topology, Node, node_at, default_range, range_among, ranges_of, timers_of, peer_of}
+use Rattle.world_model.specs.Topology.{Topology, Node, default_range, range_among, ranges_of, timers_of}
 use Rattle.world_model.specs.Lines.{is_linked}
 use Rattle.world_model.specs.World.{World, Site, site_key, site_at, opened}
 use Rattle.world_model.specs.Conditions.{IsEvent, IsNode, IsNodeOf as IsTopologyNode, IsRange, IsLinkedNext, IsLinkedChange}
@@ -57,13 +57,13 @@ use Rattle.world_views.specs.Shown.{acting}
 use Rattle.world_views.specs.Between.{setups_of}
 use Rattle.world_views.specs.Kept.{HasAddresses}
 use Rattle.run_facts.proofs.Controllers.{May}
-use Rattle.lifetimes.proofs.Opened.{opening_fed}
+use Rattle.lifetimes.proofs.Opened.{opening_of, is_opening, opening_fed}
 use Rattle.run_facts.proofs.Marked.{SiteMarked, WorldMarked}
 use Rattle.run_facts.proofs.Opening.{opened_marked}
 use Rattle.run_facts.proofs.Runs.{run_marked}
 use Rattle.run_facts.specs.Nodes.{IsNodeOf, HasPort, HasLinkPorts, IsConducted, RunsHaveNodes}
 use Rattle.run_facts.proofs.Rooms.{IsGoing, run_goes, found_within}
-use Rattle.run_facts.proofs.Opened.{opening_of, is_opening, always_named}
+use Rattle.run_facts.proofs.Opened.{always_named}
 use Rattle.run_facts.proofs.Ports.{found_linked, linked_found}
 use Rattle.run_facts.proofs.Bound.{FedBy, run_fed_by}
 

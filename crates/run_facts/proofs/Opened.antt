@@ -1,19 +1,11 @@
 -- how the controllers of a run are opened, and that their names stay
 
-use Rattle.std.proofs.Common.{◌≡◌, ◌≢◌, ℕ, ◌≤◌, ◌<◌, ◌∙◌, Bool, true, false, List, [], ◌∷◌, length, Some, refl, sym, ap, subst, arith, map, cond}
-use Rattle.std.specs.Prelude.{◌+◌, ◌==◌, filter, find, is_some, reverse}
-use Rattle.std.specs.List.{range_with_len}
-use Rattle.std.specs.Option.{option_map_or}
-use Rattle.std.proofs.lemmas.Bool.Decides.{nat_tests}
+use Rattle.std.proofs.Common.{◌≡◌, ℕ, ◌∙◌, List, [], ◌∷◌, length, refl}
 use Rattle.net_types.specs.declared.node.NodeId.{NodeId}
-use Rattle.net_types.specs.declared.node.PortNo.{PortNo}
 use Rattle.net_types.specs.Number.{GivenOut}
 use Rattle.link_model.specs.Notes.{Journal}
-use Rattle.crossbar_model.specs.Channels.{IsLinkPort}
-use Rattle.ordered_lists.specs.Ordered.{Every, InOrder}
 use Rattle.port_model.specs.Setup.{Policy}
 use Rattle.port_facts.proofs.Keyed.{on_both}
-use Rattle.world_model.specs.declared.range.PortRange.{PortRange}
 use Rattle.std.specs.Prelude.{nat_le}
 use Rattle.net_types.specs.declared.prefix.Addr.{Addr}
 use Rattle.net_types.specs.declared.channel.Channel.{Channel}
@@ -28,106 +20,13 @@ use Rattle.port_model.specs.Setup.{Setup}
 use Rattle.world_model.specs.Controller.{Controller, Acted, free_slots}
 use Rattle.world_model.specs.Sending.{with_cells, sends}
 use Rattle.controller_facts.specs.Inputs.{Input, CellComes, PacketEnters, Ticks, Restarts, ChangeComes, FrameIsForged, CellLeaves, Meanwhile, takes_input, takes_inputs}
-use Rattle.controller_facts.specs.Sound.{IsSound, IsOwn, Opening, DifferInPort, opened_by, setups_by}
+use Rattle.controller_facts.specs.Sound.{IsSound, IsOwn, Opening, opened_by, setups_by}
 use Rattle.controller_facts.proofs.Moves.{Move, noting, taking_notes, sending, sending_control, asking, withdrawing, answering, meeting, ending_meeting, turning, placing, clearing, gathering, chaining, routing, popping, moves_keep}
 use Rattle.controller_facts.proofs.Laws.{input_goes, input_sound, opening_sound}
 use Rattle.controller_law.specs.Law.{IsOpening}
-use Rattle.world_model.specs.Topology.{Topology, Node, peer_of, ports_of, default_range, range_among, ranges_of, timers_of}
+use Rattle.lifetimes.proofs.Opened.{opening_of}
+use Rattle.world_model.specs.Topology.{Topology, Node}
 use Rattle.world_model.specs.World.{opened_site}
-
-abbrev port_number : ℕ → PortNo
-port_number n = record { 0 = n }
-
--- *The ports of a node* ascend up to 8
-abbrev Rises : ℕ → List PortNo → Type 0
-Rises below [] = Unit {0}
-Rises below (port ∷ ports) = (below < port.0) × ((port.0 ≤ 8) × Rises port.0 ports)
-
-rises_less : (less below : ℕ) (ports : List PortNo) → less ≤ below → Rises below ports → Rises less ports
-rises_less less below [] low r = tt
-rises_less less below (port ∷ ports) low r = (omega (arith, low, r.0), r.1)
-
-rises_filter : (test : PortNo → Bool) (below : ℕ) (ports : List PortNo) → Rises below ports → Rises below (filter test ports)
-rises_filter test below [] r = tt
-rises_filter test below (port ∷ ports) r = elim (test port) as (λ t. Rises below (cond t (port ∷ filter test ports) (filter test ports))) [
-  | true ↦ (r.0, (r.1.0, rises_filter test port.0 ports r.1.1))
-  | false ↦ rises_less below port.0 (filter test ports) (omega (arith, r.0)) (rises_filter test port.0 ports r.1.1)
-]
-
--- *Ranges* of such ports
-abbrev RisesRanges : ℕ → List PortRange → Type 0
-RisesRanges below [] = Unit {0}
-RisesRanges below (range ∷ ranges) = (below < range.port.0) × ((range.port.0 ≤ 8) × RisesRanges range.port.0 ranges)
-
-found_range : (port : PortNo) (ranges : List PortRange) → (option_map_or (λ range. range) (find (λ range. range.port.0 == port.0) ranges) (default_range port)).port ≡ port
-found_range port [] = refl
-found_range port (range ∷ ranges) = elim (range.port.0 == port.0) as (λ t. (range.port.0 == port.0) ≡ t
-    → (option_map_or (λ range. range) (cond t (Some range) (find (λ range. range.port.0 == port.0) ranges)) (default_range port)).port ≡ port) [
-      | true ↦ λ e. (let same : range.port.0 ≡ port.0 = grind (arith, nat_tests, e) in ap port_number same)
-      | false ↦ λ e. found_range port ranges
-    ] refl
-
-ranges_rise : (ranges : List PortRange) (below : ℕ) (ports : List PortNo) → Rises below ports → RisesRanges below (map (range_among ranges) ports)
-ranges_rise ranges below [] r = tt
-ranges_rise ranges below (port ∷ ports) r = (let same : (range_among ranges port).port.0 ≡ port.0 = ap (λ (p : PortNo). p.0) (found_range port (reverse ranges)) in
-    (subst (λ n. below < n) (sym same) r.0, (subst (λ n. n ≤ 8) (sym same) r.1.0, subst (λ n. RisesRanges n (map (range_among ranges) ports)) (sym same) (ranges_rise ranges port.0 ports r.1.1))))
-
-all_links : (below : ℕ) (ranges : List PortRange) → RisesRanges below ranges → Every (λ (range : PortRange). IsLinkPort range.port) ranges
-all_links below [] r = tt
-all_links below (range ∷ ranges) r = ((omega (arith, r.0), r.1.0), all_links range.port.0 ranges r.1.1)
-
-above : (below : ℕ) (ranges : List PortRange) → RisesRanges below ranges → Every (λ (range : PortRange). below < range.port.0) ranges
-above below [] r = tt
-above below (range ∷ ranges) r = (r.0, each_above below range.port.0 ranges r.0 (above range.port.0 ranges r.1.1))
-  where
-    each_above : (low high : ℕ) (xs : List PortRange) → low < high → Every (λ (range : PortRange). high < range.port.0) xs → Every (λ (range : PortRange). low < range.port.0) xs
-    each_above low high [] up h = tt
-    each_above low high (x ∷ xs) up h = (omega (arith, up, h.0), each_above low high xs up h.1)
-
-all_differ : (below : ℕ) (ranges : List PortRange) → RisesRanges below ranges → InOrder DifferInPort ranges
-all_differ below [] r = tt
-all_differ below (range ∷ ranges) r = (each_differs range ranges (above range.port.0 ranges r.1.1), all_differ range.port.0 ranges r.1.1)
-  where
-    less : (a b : ℕ) → a < b → a ≢ b
-    less a b up e = omega (arith, up, e)
-
-    each_differs : (range : PortRange) (xs : List PortRange) → Every (λ (x : PortRange). range.port.0 < x.port.0) xs → Every (DifferInPort range) xs
-    each_differs range [] h = tt
-    each_differs range (x ∷ xs) h = (less range.port.0 x.port.0 h.0, each_differs range xs h.1)
-
-all_few : (below : ℕ) (ranges : List PortRange) → RisesRanges below ranges → below ≤ 8 → length ranges + below ≤ 8
-all_few below [] r low = omega (arith, low)
-all_few below (range ∷ ranges) r low = (let rest : length ranges + range.port.0 ≤ 8 = all_few range.port.0 ranges r.1.1 r.1.0 in omega (arith, rest, r.0))
-
-eight : Rises 0 (map port_number (range_with_len 1 8))
-eight = (omega arith, (omega arith, (omega arith, (omega arith, (omega arith, (omega arith, (omega arith, (omega arith, (omega arith, (omega arith, (omega arith, (omega arith, (omega arith, (omega arith, (omega arith, (omega arith, tt))))))))))))))))
-
-node_rises : (topology : Topology) (number : NodeId) (node : Node) → RisesRanges 0 (ranges_of topology number node)
-node_rises topology number node = ranges_rise node.ranges 0 (ports_of topology number) (rises_filter (λ port. is_some (peer_of topology number port)) 0 (map port_number (range_with_len 1 8)) eight)
-
--- *The opening of a node's controller*
-abbrev pub opening_of : Policy → Topology → NodeId → Node → GivenOut → Journal → Opening
-opening_of policy topology number node numbers notes = record {
-  node = number;
-  address = node.address;
-  table = node.routes;
-  ranges = ranges_of topology number node;
-  cells = node.cells;
-  timers = timers_of topology;
-  policy = policy;
-  notes = notes;
-  numbers = numbers;
-}
-
-pub is_opening : (policy : Policy) (topology : Topology) (number : NodeId) (node : Node) (numbers : GivenOut) (notes : Journal) → IsOpening (opening_of policy topology number node numbers notes)
-is_opening policy topology number node numbers notes = (let rises : RisesRanges 0 (ranges_of topology number node) = node_rises topology number node in record {
-  differ = all_differ 0 (ranges_of topology number node) rises;
-  links = all_links 0 (ranges_of topology number node) rises;
-  few = few (length (ranges_of topology number node)) (all_few 0 (ranges_of topology number node) rises (omega arith));
-})
-  where
-    few : (n : ℕ) → n + 0 ≤ 8 → n ≤ 8
-    few n h = omega (arith, h)
 
 pub opened_as : (policy : Policy) (topology : Topology) (number : NodeId) (node : Node) (numbers : GivenOut) (notes : Journal)
     → (opened_by (opening_of policy topology number node numbers notes)).controller ≡ (opened_site policy topology number node numbers).controller
