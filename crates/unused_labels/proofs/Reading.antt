@@ -1,40 +1,33 @@
 -- the law of a label's line, read off the network that shows it
 
 use Rattle.std.proofs.Common.{◌≡◌, ◌≢◌, ℕ, ◌<◌, Bool, true, false, zero, suc, List, [], ◌∷◌, ◌++◌, Option, None, Some, refl, sym, ◌∙◌, ap, subst, arith, if◌then◌else◌, filter}
-use Rattle.std.specs.Prelude.{Contains, is_some, nat_lt, nat_le, ◌&&◌}
+use Rattle.std.specs.Prelude.{Contains, nat_lt, nat_le, ◌&&◌}
 use Rattle.std.proofs.Common.{inl, inr}
-use Rattle.std.specs.Option.{option_map, option_map_or, option_and_then}
+use Rattle.std.specs.Option.{option_map_or}
 use Rattle.std.proofs.lemmas.List.Elements.{Contains-append_cases, Contains-append_left, Contains-append_right}
 use Rattle.net_types.specs.declared.channel.Channel.{Channel}
 use Rattle.net_types.specs.declared.channel.End.{End}
-use Rattle.net_types.specs.declared.node.Place.{Place}
 use Rattle.net_types.specs.declared.node.Place.TheVariants.{Down, Up, Out}
 use Rattle.net_types.specs.Label.{is_label_channel, label_channel_of}
-use Rattle.adjacency_table.specs.declared.State.TheVariants.{Clearing, SynSent, SynRcvd, Estab}
-use Rattle.adjacency_table.specs.declared.State.{State}
-use Rattle.adjacency_table.specs.Side.{is_estab}
 use Rattle.atm_cells.specs.declared.cell.Cell.{Cell}
 use Rattle.ipv4_packet.specs.declared.flow.FlowId.{FlowId}
 use Rattle.ordered_lists.specs.Ordered.{Every}
-use Rattle.ordered_lists.proofs.Every.{every_left, every_right}
 use Rattle.keyed_lists.specs.Keyed.{at}
 use Rattle.port_model.specs.Desk.{Standing}
 use Rattle.port_model.specs.Setup.{label_end, control_end}
-use Rattle.port_model.specs.Labels.{Label, LabelState, Wiring, Offered, Recalled, Wired, label_number}
+use Rattle.port_model.specs.Labels.{Label, LabelState, Wiring, Offered, Recalled, Wired}
 use Rattle.port_model.specs.Grants.{Grant, GrantState, Idle, ByController, ByInput, Leaving, grant_label}
 use Rattle.port_model.specs.Port.{Session}
-use Rattle.world_model.specs.Controller.{Controller, Linked, linked_at, default_channel, default_home}
+use Rattle.world_model.specs.Controller.{Linked, default_channel, default_home}
 use Rattle.world_model.specs.Cells.{same_channel}
-use Rattle.crossbar_model.specs.Crossbar.{queue_of}
-use Rattle.label_line.specs.Cells as lines
 use Rattle.label_line.specs.Cells.{Role, Downstream, Upstream}
 use Rattle.label_line.specs.Line as line_specs
 use Rattle.label_line.specs.Line.{Line}
 use Rattle.label_line.specs.Law as laws
 use Rattle.label_line.specs.Law.{Always, SpareIsUnused, HasNoUser, IsNoUser}
-use Rattle.world_model.specs.World.{World, Site, site_at}
-use Rattle.world_model.specs.Places.{queue_at, queue_in, place_node}
-use Rattle.world_model.specs.Ways.{linked_end, session_at, grants_at, chain_at, to_switch, requests_chain_at, on_channel, on_default_channel, copy_under, ifmp_under}
+use Rattle.world_model.specs.World.{World}
+use Rattle.world_model.specs.Places.{queue_at}
+use Rattle.world_model.specs.Ways.{session_at, grants_at, chain_at, to_switch, requests_chain_at, on_channel, on_default_channel, copy_under, ifmp_under}
 use Rattle.net_types.specs.declared.number.Instance.{Instance}
 use Rattle.ifmp_wire.specs.declared.message.Message.TheVariants.{Redirect}
 use Rattle.world_model.specs.Past.{Past}
@@ -46,18 +39,18 @@ use Rattle.std.proofs.lemmas.Bool.Decides.{nat_tests}
 use Rattle.port_facts.proofs.Keyed.{by_eq, on_each}
 use Rattle.std.specs.Prelude.{◌==◌}
 use Rattle.shown_cells.proofs.Frames.{differ}
-use Rattle.port_views.specs.Link.{LinkLabel, other}
+use Rattle.port_views.specs.Link.{LinkLabel}
 use Rattle.port_views.specs.Shown.{label_of, IsLent, GrantShows}
 use Rattle.port_views.specs.Shown as shown_specs
 use Rattle.shown_cells.specs.Label.{OnLink, OnControl, channel_at}
 use Rattle.controller_views.specs.Lifted.{IsProper}
-use Rattle.controller_views.specs.Ends as views
 use Rattle.world_views.specs.Shown.{end_of, way_of, WorldShows}
 use Rattle.world_views.specs.Pairs.{by_branch, by_desk, by_copy, IsLike}
 use Rattle.world_views.specs.Between.{IsWorld, IsLinkLabel, HasLabelLine}
 use Rattle.shown_cells.proofs.Frames.{same_self}
 use Rattle.unused_labels.specs.Unused.{HasOwnChannels}
-use Rattle.unused_labels.proofs.Seen.{every_contained, IsQuiet, quiet_in, no_labelled, no_redirect}
+use Rattle.unused_labels.proofs.Seen.{every_contained, IsQuiet, no_labelled, no_redirect}
+use Rattle.unused_labels.proofs.Places.{linked_is, label_is, is_open, on_out, on_up, on_down, in_chain}
 
 -- *A list on a channel*
 filtered_more : (f : Cell → Bool) (y : Cell) (ys zs : List Cell) → Every (λ (x : Cell). Contains ys x × (f x ≡ true)) zs → Every (λ (x : Cell). Contains (y ∷ ys) x × (f x ≡ true)) zs
@@ -112,27 +105,9 @@ module _ (law : Always SpareIsUnused) (past : Past) (is : IsWorld past) (link : 
   abbrev pub s : WorldShows link (IsLike w link) w line
   s = h.shows
 
-  linked_is : (role : Role) → linked_end w (end_of role link) ≡ Some (s.net.end role).linked
-  linked_is role = ap (λ (o : Option Site). option_and_then (λ (c : Controller). linked_at c (link.port role)) (option_map (λ site. site.controller) o)) (s.found role) ∙ (s.net.end role).found
-
-  session_is : (s.net.end Downstream).linked.port.session ≡ Some session
-  session_is = sym (ap (λ (o : Option Linked). option_and_then (λ linked. linked.port.session) o) (linked_is Downstream)) ∙ opened
-
-  label_is : line.label ≡ label_of (held session link.label)
-  label_is = (s.net.end Downstream).shown.label ∙ ap (λ (o : Option Session). label_of (at label_number link.label (option_map_or (λ x. x.labels) o []))) session_is
-
-  is_open : laws.IsOpen line
-  is_open = state line.downstream.state (sym (sym (ap (λ (o : Option Session). is_some o) session_is) ∙ (s.net.end Downstream).shown.session))
-    where
-      state : (x : State) → is_estab x ≡ true → x ≡ Estab
-      state Clearing e = absurd (cc e)
-      state SynSent e = absurd (cc e)
-      state SynRcvd e = absurd (cc e)
-      state Estab e = refl
-
   none : HasNoUser line
-  none = subst SpareIsUnused h.reached.is (law h.reached.downstream h.reached.upstream h.reached.fresh h.reached.downstream_drawn h.reached.upstream_drawn h.reached.moves) is_open
-      (subst laws.IsSpareOrWired (sym label_is) (spare_line (held session link.label) spare))
+  none = subst SpareIsUnused h.reached.is (law h.reached.downstream h.reached.upstream h.reached.fresh h.reached.downstream_drawn h.reached.upstream_drawn h.reached.moves) (is_open past link h session opened)
+      (subst laws.IsSpareOrWired (sym (label_is past link h session opened)) (spare_line (held session link.label) spare))
     where
       spare_in : (flow : ℕ) (state : LabelState) → owned.IsWired state → laws.IsSpareOrWired (shown_specs.label_in flow state)
       spare_in flow Wiring h = tt
@@ -143,61 +118,6 @@ module _ (law : Always SpareIsUnused) (past : Past) (is : IsWorld past) (link : 
       spare_line : (o : Option Label) → IsSpareOrWired o → laws.IsSpareOrWired (label_of o)
       spare_line None h = tt
       spare_line (Some label) h = spare_in (flow_number label.flow) label.state h
-
-  -- *The cells of each way*
-  sent_down : Every IsNoUser (lines.cells line.to_downstream)
-  sent_down = every_left IsNoUser (lines.cells line.to_downstream) (lines.cells line.to_upstream) none.none_sent
-
-  sent_up : Every IsNoUser (lines.cells line.to_upstream)
-  sent_up = every_right IsNoUser (lines.cells line.to_downstream) (lines.cells line.to_upstream) none.none_sent
-
-  ways : (role : Role) → Every IsNoUser (lines.cells (views.way_to role line))
-  ways Downstream = sent_down
-  ways Upstream = sent_up
-
-  module _ (role : Role) where
-    abbrev way : lines.Way
-    way = views.way_to role line
-
-    chain_none : Every IsNoUser way.chain
-    chain_none = every_left IsNoUser way.chain _ (ways role)
-
-    rest : Every IsNoUser (way.to_controller ++ (way.output ++ way.to_switch))
-    rest = every_right IsNoUser way.chain _ (ways role)
-
-    controller_none : Every IsNoUser way.to_controller
-    controller_none = every_left IsNoUser way.to_controller _ rest
-
-    output_none : Every IsNoUser way.output
-    output_none = every_left IsNoUser way.output way.to_switch (every_right IsNoUser way.to_controller _ rest)
-
-    switch_none : Every IsNoUser way.to_switch
-    switch_none = every_right IsNoUser way.output way.to_switch (every_right IsNoUser way.to_controller _ rest)
-
-  queued_none : (role : Role) → Every IsNoUser (s.net.end role).queued
-  queued_none Downstream = every_left IsNoUser (s.net.end Downstream).queued _ (subst (Every IsNoUser) (s.net.end Downstream).shown.sent (switch_none Upstream))
-  queued_none Upstream = every_left IsNoUser (s.net.end Upstream).queued _ (subst (Every IsNoUser) (s.net.end Upstream).shown.sent (switch_none Downstream))
-
-  at_place : (role : Role) (place : Place) (c : Cell) → (place_node place).0 ≡ (link.node role).0 → Contains (queue_at w place) c → Contains (queue_in (s.end role) place) c
-  at_place role place c node has = subst (λ (o : Option Site). Contains (option_map_or (λ site. queue_in site place) o []) c)
-      (ap (λ (n : ℕ). site_at w (record { 0 = n })) node ∙ s.found role) has
-
-  on_out : (role : Role) (c : Cell) → Contains (queue_at w (Out (link.node role) (link.port role))) c → IsQuiet OnLink role link w.notes.frames c
-  on_out role c has = by role c (at_place role (Out (link.node role) (link.port role)) c refl has)
-    where
-      by : (role : Role) (c : Cell) → Contains (queue_of (s.end role).switch.crossbar (link.port role)) c → IsQuiet OnLink role link w.notes.frames c
-      by Downstream c has = quiet_in OnLink Downstream link w.notes.frames _ _ (s.net.output Downstream) (output_none Upstream) c has
-      by Upstream c has = quiet_in OnLink Upstream link w.notes.frames _ _ (s.net.output Upstream) (output_none Downstream) c has
-
-  on_up : (role : Role) (c : Cell) → Contains (queue_at w (Up (link.node role))) c → IsQuiet (OnControl (link.port role)) (other role) link w.notes.frames c
-  on_up role c has = quiet_in (OnControl (link.port role)) (other role) link w.notes.frames _ _ (s.net.waiting role) (controller_none role) c (at_place role (Up (link.node role)) c refl has)
-
-  on_down : (role : Role) (c : Cell) → Contains (queue_at w (Down (link.node role))) c → IsQuiet (OnControl (link.port role)) role link w.notes.frames c
-  on_down role c has = quiet_in (OnControl (link.port role)) role link w.notes.frames _ _ (s.net.end role).queue (queued_none role) c (at_place role (Down (link.node role)) c refl has)
-
-  in_chain : (role : Role) (c : Cell) → Contains (chain_at w (end_of role link)) c → IsQuiet (OnControl (link.port role)) (other role) link w.notes.frames c
-  in_chain role c has = quiet_in (OnControl (link.port role)) (other role) link w.notes.frames _ _ (s.net.end role).taken (chain_none role) c
-      (subst (λ (o : Option Linked). Contains (option_map_or (λ linked. linked.reassembly.chain) o []) c) (linked_is role) has)
 
   -- *Users*
   pub no_grant : (grant : Grant) → Contains (grants_at w (end_of Upstream link)) grant → grant.label ≡ link.label → ⊥
@@ -214,7 +134,7 @@ module _ (law : Always SpareIsUnused) (past : Past) (is : IsWorld past) (link : 
 
       by : (o : Option Grant) → at grant_label link.label (s.net.end Upstream).linked.port.grants ≡ o → GrantShows line.upstream.state o line.grant → ⊥
       by None e shows = none_at link.label (s.net.end Upstream).linked.port.grants grant e
-          (subst (λ (o : Option Linked). Contains (option_map_or (λ linked. linked.port.grants) o []) grant) (linked_is Upstream) has) same
+          (subst (λ (o : Option Linked). Contains (option_map_or (λ linked. linked.port.grants) o []) grant) (linked_is past link h Upstream) has) same
       by (Some g) e shows = some_grant g (sym shows ∙ none.no_grant)
 
   no_like : IsLike w link → ⊥
@@ -244,15 +164,15 @@ module _ (law : Always SpareIsUnused) (past : Past) (is : IsWorld past) (link : 
   pub no_redirected : (cell : Cell) (sender peer : Instance) (number lifetime : ℕ) (flow : FlowId) → ifmp_under w.notes.frames cell.mark ≡ Some (Redirect sender peer number lifetime (label_channel_of link.label) flow) → Contains (on_default_channel w (end_of Downstream link) (end_of Upstream link)) cell → ⊥
   no_redirected cell sender peer number lifetime flow message has = elim (Contains-append_cases (chain_at w (end_of Upstream link)) rest_0 cell has) [
     | inl chained ↦ no_redirect (OnControl (link.port Upstream)) link w.notes.frames proper.label cell sender peer number lifetime flow
-        (is.numbers.taken (end_of Upstream link) cell chained).0 message (in_chain Upstream cell chained)
+        (is.numbers.taken (end_of Upstream link) cell chained).0 message (in_chain past link h IsNoUser none.none_sent Upstream cell chained)
     | inr more ↦ elim (Contains-append_cases (on_channel (default_home (link.port Upstream)).channel (queue_at w (Up (link.node Upstream)))) rest_1 cell more) [
       | inl up ↦ (let f : _ = filtered (λ c. same_channel c.header.channel (default_home (link.port Upstream)).channel) (queue_at w (Up (link.node Upstream))) cell up in
-          no_redirect (OnControl (link.port Upstream)) link w.notes.frames proper.label cell sender peer number lifetime flow f.1 message (on_up Upstream cell f.0))
+          no_redirect (OnControl (link.port Upstream)) link w.notes.frames proper.label cell sender peer number lifetime flow f.1 message (on_up past link h IsNoUser none.none_sent Upstream cell f.0))
       | inr more ↦ elim (Contains-append_cases (on_channel default_channel (queue_at w (Out (link.node Downstream) (link.port Downstream)))) rest_2 cell more) [
         | inl out ↦ (let f : _ = filtered (λ c. same_channel c.header.channel default_channel) (queue_at w (Out (link.node Downstream) (link.port Downstream))) cell out in
-            no_redirect OnLink link w.notes.frames proper.label cell sender peer number lifetime flow f.1 message (on_out Downstream cell f.0))
+            no_redirect OnLink link w.notes.frames proper.label cell sender peer number lifetime flow f.1 message (on_out past link h IsNoUser none.none_sent Downstream cell f.0))
         | inr down ↦ (let f : _ = filtered (λ c. same_channel c.header.channel (default_home (link.port Downstream)).channel) (queue_at w (Down (link.node Downstream))) cell down in
-            no_redirect (OnControl (link.port Downstream)) link w.notes.frames proper.label cell sender peer number lifetime flow f.1 message (on_down Downstream cell f.0))
+            no_redirect (OnControl (link.port Downstream)) link w.notes.frames proper.label cell sender peer number lifetime flow f.1 message (on_down past link h IsNoUser none.none_sent Downstream cell f.0))
       ]
     ]
   ]
@@ -272,19 +192,19 @@ module _ (law : Always SpareIsUnused) (past : Past) (is : IsWorld past) (link : 
     where
       labelled_out : (cell : Cell) → Contains (queue_at w (Out (link.node Upstream) (link.port Upstream))) cell → cell.header.channel ≡ label_channel_of link.label → ⊥
       labelled_out cell has channel = no_labelled OnLink link w.notes.frames proper.label cell
-          (ap (λ (x : Channel). same_channel x default_channel) channel ∙ apart_default) (ap (λ (x : Channel). same_channel x (label_channel_of link.label)) channel ∙ same_self (label_channel_of link.label)) (on_out Upstream cell has)
+          (ap (λ (x : Channel). same_channel x default_channel) channel ∙ apart_default) (ap (λ (x : Channel). same_channel x (label_channel_of link.label)) channel ∙ same_self (label_channel_of link.label)) (on_out past link h IsNoUser none.none_sent Upstream cell has)
 
-      labelled_on : (role : Role) (cell : Cell) → cell.header.channel ≡ (control_end (link.port role) link.label).channel → IsQuiet (OnControl (link.port role)) Upstream link w.notes.frames cell → ⊥
+      labelled_on : (role : Role) (cell : Cell) → cell.header.channel ≡ (control_end (link.port role) link.label).channel → IsQuiet IsNoUser (OnControl (link.port role)) Upstream link w.notes.frames cell → ⊥
       labelled_on role cell channel q = no_labelled (OnControl (link.port role)) link w.notes.frames proper.label cell
           (ap (λ (x : Channel). same_channel x (channel_at (OnControl (link.port role)) default_channel)) channel ∙ apart_home role)
           (ap (λ (x : Channel). same_channel x (channel_at (OnControl (link.port role)) (label_channel_of link.label))) channel ∙ same_self (channel_at (OnControl (link.port role)) (label_channel_of link.label))) q
 
       by : (user : User) → Uses w (way_of link) link.label user → ⊥
       by _ (on_the_link cell has channel) = labelled_out cell has channel
-      by _ (off_the_link cell has channel) = labelled_on Downstream cell channel (on_up Downstream cell has)
+      by _ (off_the_link cell has channel) = labelled_on Downstream cell channel (on_up past link h IsNoUser none.none_sent Downstream cell has)
       by _ (granted grant has same) = no_grant grant has same
       by _ (connected input above leads_to) = no_like (record { input = input; above = above; pair = by_branch leads_to })
       by _ (asked input x above has leads_to) = no_like (record { input = input; above = above; pair = by_desk x has leads_to })
       by _ (copied input x cell above has copy leads_to) = no_copy own input x cell above has copy leads_to
       by _ (redirected flow cell has redirect) = no_redirected cell redirect.sender redirect.peer redirect.number redirect.lifetime flow redirect.message (own.redirects cell flow has redirect)
-      by _ (from_controller cell has channel) = labelled_on Upstream cell channel (on_down Upstream cell has)
+      by _ (from_controller cell has channel) = labelled_on Upstream cell channel (on_down past link h IsNoUser none.none_sent Upstream cell has)
