@@ -24,10 +24,11 @@ use Rattle.world_model.specs.Asking.{asks_next, asks, takes_back}
 use Rattle.world_model.specs.Performing.{does, does_in_estab, resets_as, resets_of, performs, performs_in_estab, Rule, works_as, works, at_port}
 use Rattle.shown_cells.specs.Seen.{IsUnmade, Extends}
 use Rattle.shown_cells.proofs.Made.{extends_made, unmade_next}
+use Rattle.shown_cells.proofs.Tested.{cut_frames}
 use Rattle.controller_views.specs.Lifted.{Growing}
 use Rattle.controller_views.proofs.Parts.{grows_self, grows_on}
 use Rattle.controller_views.proofs.Sends.{sent_cases}
-use Rattle.controller_views.proofs.Works.{cut_frames, same_extends, same_unmade}
+use Rattle.controller_views.proofs.Works.{same_extends, same_unmade}
 
 pub grow_self : (a : Acted) → Growing a a
 grow_self a u = grows_self a

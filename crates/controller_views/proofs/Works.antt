@@ -1,10 +1,9 @@
 -- a port at work is put back, and what it asks is done: for the line at its link, and for the lines of other ports
 
-use Rattle.std.proofs.Common.{◌≡◌, ◌≢◌, ℕ, ◌≤◌, Bool, false, List, [], ◌∷◌, ◌++◌, Option, None, Some, refl, sym, ◌∙◌, ap, subst, arith, append-nil, fold, map, if◌then◌else◌}
+use Rattle.std.proofs.Common.{◌≡◌, ◌≢◌, ℕ, ◌≤◌, Bool, false, List, [], ◌∷◌, ◌++◌, Option, None, Some, refl, sym, ◌∙◌, ap, subst, arith, append-nil, fold, if◌then◌else◌}
 use Rattle.std.specs.Prelude.{◌==◌}
 use Rattle.net_types.specs.declared.node.PortNo.{PortNo}
 use Rattle.net_types.specs.declared.channel.End.{End as ChannelEnd}
-use Rattle.net_types.specs.declared.number.Mark.{Mark}
 use Rattle.net_types.specs.Number.{next_control}
 use Rattle.adjacency_table.specs.Side.{is_estab}
 use Rattle.gsmp_wire.specs.declared.request.Request.{Request}
@@ -16,10 +15,8 @@ use Rattle.atm_cells.specs.declared.cell.Cell.{Cell}
 use Rattle.link_model.specs.declared.frames.Frame.{Frame}
 use Rattle.link_model.specs.declared.record.Record.{Record}
 use Rattle.link_model.specs.Ledger.{payload_of}
-use Rattle.link_model.specs.Notes.{Journal, noted}
-use Rattle.frame_model.specs.Reassembly.{Reassembly, nothing_taken, noted_all, marks_of, distinct, cut}
-use Rattle.link_model.specs.declared.record.Record.TheVariants.{Loss}
-use Rattle.link_model.specs.declared.record.Cause.TheVariants.{Cut}
+use Rattle.link_model.specs.Notes.{Journal}
+use Rattle.frame_model.specs.Reassembly.{Reassembly, nothing_taken, cut}
 use Rattle.ordered_lists.specs.Ordered.{Every}
 use Rattle.ordered_lists.proofs.Every.{every_left}
 use Rattle.keyed_lists.specs.Keyed.{at, put}
@@ -47,19 +44,13 @@ use Rattle.port_views.proofs.Resets.{IsUnsaid, unsaid_all, asked_join, closing_u
 use Rattle.shown_cells.specs.Seen.{IsUnmade, Extends}
 use Rattle.shown_cells.specs.Label.{OnControl, ShowsCells}
 use Rattle.shown_cells.proofs.Frames.{frame_elsewhere}
+use Rattle.shown_cells.proofs.Tested.{cut_frames}
 use Rattle.controller_views.specs.Ends.{way_to, working, End, Grows, EndGoes, EndLeads, Quietly}
 use Rattle.controller_views.specs.Lifted.{IsProper, payload_by, IsReadableAction}
 use Rattle.controller_views.proofs.Parts.{kept_chain, end_stays, end_then, quiet_leads, quietly_on}
 use Rattle.controller_views.proofs.Sends.{sends_quietly, gsmp_default, gsmp_label, port_default, port_label, says_leads, undone_leads}
 
--- *Notes* leave the frames that were made
-noted_frames : (notes : Journal) (items : List Record) → (noted_all notes items).frames ≡ notes.frames
-noted_frames notes [] = refl
-noted_frames notes (item ∷ items) = noted_frames (noted notes item) items
-
-pub cut_frames : (notes : Journal) (r : Reassembly) → (cut notes r).frames ≡ notes.frames
-cut_frames notes r = noted_frames notes (map (λ (mark : Mark). Loss mark Cut) (distinct (marks_of r.chain)))
-
+-- *The same frames*
 pub same_extends : (old new : List Frame) → new ≡ old → Extends old new
 same_extends old new e = record { kept = λ mark payload k. ap (λ (frames : List Frame). payload_of frames mark) e ∙ k }
 

@@ -62,7 +62,7 @@ use Rattle.input_steps.proofs.Reach.{leads_self, leads_then}
 use Rattle.input_steps.proofs.Acts.{at_port_leads}
 use Rattle.input_steps.proofs.Done.{changes_leads}
 use Rattle.input_steps.proofs.Handled.{all_ended_frames}
-use Rattle.input_steps.proofs.Resets.{cut_frames, still_leads, node_restarts_leads}
+use Rattle.input_steps.proofs.Resets.{still_leads, node_restarts_leads}
 use Rattle.input_steps.proofs.SwitchCells.{switch_restarts_leads}
 use Rattle.input_steps.proofs.Switched.{switched_leads}
 use Rattle.input_steps.proofs.Switching.{switch_ticks_leads}
@@ -75,6 +75,7 @@ use Rattle.input_premises.proofs.Changing.{can_take_each, waiting_holds}
 use Rattle.input_premises.proofs.Ticking.{can_tick}
 use Rattle.world_views.specs.Between.{IsInput}
 use Rattle.world_views.specs.Shown.{acting}
+use Rattle.shown_cells.proofs.Tested.{cut_frames}
 use Rattle.input_events.specs.Coming.{IsNext, GoesByLinks, HasLines}
 use Rattle.input_events.proofs.Packets.{routes_leads}
 use Rattle.input_events.proofs.Cells.{IsKept, other_cell_leads}

@@ -66,10 +66,10 @@ use Rattle.input_steps.proofs.Reach.{reaches_then}
 use Rattle.input_steps.proofs.Taken.{done_line as answered_line, ports_line}
 use Rattle.input_steps.proofs.Lists.{filter_skips}
 use Rattle.input_steps.proofs.Parties.{greeting_is}
-use Rattle.input_steps.proofs.SwitchCells.{frame_is, last_is}
 use Rattle.input_premises.specs.Read.{AreRead}
 use Rattle.input_premises.proofs.Finishing.{can_finish}
 use Rattle.input_premises.proofs.Reading.{controller_fits, switch_fits, ports_read}
+use Rattle.shown_cells.proofs.Tested.{frame_is, last_is}
 use Rattle.input_events.specs.Coming.{TellsPorts, IsFromSwitch}
 use Rattle.input_events.proofs.Ending.{estab, unmet_leads}
 use Rattle.input_events.proofs.Heard.{step_reads}

@@ -37,8 +37,8 @@ use Rattle.world_model.specs.World.{Site, World, site_at, with_site}
 use Rattle.shown_cells.specs.Seen.{IsUnmade, Extends}
 use Rattle.input_steps.specs.Part.{part_of, IsNumbered}
 use Rattle.input_steps.proofs.Handled.{all_ended_frames}
-use Rattle.input_steps.proofs.SwitchCells.{broken_frames, passed_frames}
 use Rattle.world_views.specs.Between.{IsInput}
+use Rattle.shown_cells.proofs.Tested.{broken_frames, passed_frames}
 use Rattle.input_events.specs.Coming.{HasLines}
 use Rattle.input_events.proofs.Sites.{ReachesOn, reached_by, lines_on, put_at}
 use Rattle.input_events.proofs.Acting.{SwitchGrows, same_frames, says_grows, steps_grow}

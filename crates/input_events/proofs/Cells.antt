@@ -15,13 +15,13 @@ use Rattle.flow_encaps.specs.Unwrapped.{default_unwrapped, unwrapped}
 use Rattle.ifmp_wire.specs.declared.message.Message.{Message}
 use Rattle.ifmp_wire.specs.declared.reader.Fault.{Fault}
 use Rattle.ifmp_wire.specs.Fields.{decoded as ifmp_decoded}
-use Rattle.link_model.specs.declared.record.Cause.TheVariants.{Unbound, PoolFull}
+use Rattle.link_model.specs.declared.record.Cause.TheVariants.{Unbound}
 use Rattle.link_model.specs.declared.record.Layer.TheVariants as layers
 use Rattle.link_model.specs.declared.record.Record.TheVariants.{Bad, Loss}
-use Rattle.link_model.specs.Notes.{Journal, noted}
+use Rattle.link_model.specs.Notes.{Journal}
 use Rattle.refusal_names.specs.Names.{encaps_refusal, packet_refusal, ifmp_refusal}
-use Rattle.frame_model.specs.Frame.{octets_of, last_mark, payload_in, Tested, tested, tested_by}
-use Rattle.frame_model.specs.Reassembly.{Reassembly, Taken, taken, marks_of, most_cells, passed_over, without_slot, too_long, joined}
+use Rattle.frame_model.specs.Frame.{octets_of, last_mark, payload_in, Tested, tested}
+use Rattle.frame_model.specs.Reassembly.{Reassembly, Taken, taken, most_cells, passed_over, without_slot, too_long, joined}
 use Rattle.ordered_lists.specs.Ordered.{Every}
 use Rattle.port_model.specs.Setup.{Setup}
 use Rattle.port_model.specs.Labels.{Label, is_bound}
@@ -43,26 +43,12 @@ use Rattle.controller_facts.proofs.Moves.{Found, found_at_own, found_port}
 use Rattle.controller_facts.proofs.Laws.{has_ports}
 use Rattle.controller_law.proofs.Whole.{Whole, numbered_whole, chained_whole}
 use Rattle.controller_law.proofs.Events.{routes_holds}
+use Rattle.shown_cells.proofs.Tested.{last_is, taken_frames, tested_frames}
 use Rattle.input_steps.proofs.Resets.{IsStill, note_still}
-use Rattle.input_steps.proofs.SwitchCells.{broken_frames, passed_frames, last_is}
 use Rattle.input_premises.specs.Read.{AreRead}
 use Rattle.input_premises.proofs.Releasing.{read_on}
 use Rattle.input_events.specs.Coming.{IsNext, GoesByLinks}
 use Rattle.input_events.proofs.Packets.{routes_rows}
-
--- *No frame is made* while cells are gathered and tested
-pub taken_frames : (notes : Journal) (slot : Bool) (r : Reassembly) (cell : Cell) → (taken notes slot r cell).notes.frames ≡ notes.frames
-taken_frames notes slot r cell = on_both Same r.is_skipping (passed_over notes r cell) _ (broken_frames (cell.mark ∷ []) notes)
-    (on_both Same (not slot) (without_slot notes r cell) _ (broken_frames (marks_of r.chain) (noted notes (Loss cell.mark PoolFull)))
-    (on_both Same (nat_le most_cells (length r.chain)) (too_long notes r cell) (joined notes r cell) (broken_frames (marks_of (r.chain ++ cell ∷ [])) notes)
-    (on_both Same cell.header.last (record { reassembly = record r { chain = [] }; notes = notes; ended = r.chain ++ cell ∷ [] }) (record { reassembly = record r { chain = r.chain ++ cell ∷ [] }; notes = notes; ended = [] }) refl refl)))
-  where
-    Same : Taken → Type 0
-    Same t = t.notes.frames ≡ notes.frames
-
-pub tested_frames : (notes : Journal) (cells : List Cell) (o : Option (List ℕ)) → (tested_by notes cells o).notes.frames ≡ notes.frames
-tested_frames notes cells None = broken_frames (marks_of cells) notes
-tested_frames notes cells (Some payload) = passed_frames notes (last_mark cells) payload
 
 -- a judgement of what a controller leaves, that goes on, and is so of what is nothing to it, of each rule of a port, and of
 -- a packet that is sent on

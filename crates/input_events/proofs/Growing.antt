@@ -62,7 +62,8 @@ use Rattle.shown_cells.proofs.Made.{extends_self, extends_made, unmade_packet}
 use Rattle.controller_views.specs.Ends.{Grows}
 use Rattle.controller_views.specs.Lifted.{Growing}
 use Rattle.controller_views.proofs.Growing.{grow_self, grow_on, grow_fold, sends_grow, node_resets_grow, asks_grow, at_port_grow}
-use Rattle.input_steps.proofs.Resets.{IsStill, note_still, cut_frames}
+use Rattle.input_steps.proofs.Resets.{IsStill, note_still}
+use Rattle.shown_cells.proofs.Tested.{cut_frames}
 use Rattle.input_events.specs.Coming.{IsNext}
 use Rattle.input_events.proofs.Cells.{IsKept}
 

@@ -41,9 +41,9 @@ use Rattle.input_steps.specs.Hearing.{HasQueue, IsEnded, Reads, Comes, PassesTru
 use Rattle.input_steps.specs.Part.{Part, part_beside, Stands}
 use Rattle.input_steps.proofs.Handled.{greets_is}
 use Rattle.input_steps.proofs.Parties.{answer_at, greeting_is}
-use Rattle.input_steps.proofs.SwitchCells.{frame_is, last_is}
 use Rattle.input_premises.proofs.Asking.{shaped_asked}
 use Rattle.input_premises.proofs.Reading.{controller_fits, switch_fits, greeting_read}
+use Rattle.shown_cells.proofs.Tested.{frame_is, last_is}
 use Rattle.input_events.specs.Coming.{TellsPorts, IsToSwitch}
 use Rattle.input_events.proofs.Answering.{answer_reads}
 use Rattle.input_events.proofs.Spoken.{drawn, fits}

@@ -39,7 +39,7 @@ use Rattle.world_model.specs.Resets.{begins}
 use Rattle.controller_views.specs.Lifted.{Growing}
 use Rattle.controller_views.proofs.Growing.{grow_self, grow_on, grow_fold, node_resets_grow, asks_grow, at_port_grow}
 use Rattle.input_steps.proofs.Resets.{note_still}
-use Rattle.input_events.proofs.Cells.{taken_frames, tested_frames}
+use Rattle.shown_cells.proofs.Tested.{taken_frames, tested_frames}
 use Rattle.input_events.proofs.Growing.{still_grows, changed, rule_grows, steps_grow, takes_changes_grow}
 
 same_number : (m n : ℕ) → n ≡ m → m ≤ n

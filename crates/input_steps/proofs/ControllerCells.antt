@@ -31,12 +31,12 @@ use Rattle.shown_cells.specs.Seen.{Seen, Nothing, Word, nothing}
 use Rattle.shown_cells.proofs.Shows.{First, no_word, a_word, first_of, one_hidden, shows_behind}
 use Rattle.input_views.specs.Words.{erased_back, seen_answer, seen_on_gsmp, seen_cell}
 use Rattle.input_views.specs.Shown.{controller_of, switch_of, ShowsAnswers}
+use Rattle.shown_cells.proofs.Tested.{broken_frames, frame_is, last_is}
 use Rattle.input_steps.specs.Part.{Part, part_at, Stands, Reaches, AnyLine, Leads}
 use Rattle.input_steps.specs.Hearing.{IsEnded, IsHeld, ComesBack}
 use Rattle.input_steps.proofs.Goes.{stays, goes_to, by_move}
 use Rattle.input_steps.proofs.Reach.{reaches_self, reaches_then, reaches_behind}
 use Rattle.input_steps.proofs.Queues.{back_loses, gathered_loses}
-use Rattle.input_steps.proofs.SwitchCells.{broken_frames, frame_is, last_is}
 
 -- *The switch gives its first cell*
 popped_first : (queues : List (List Cell)) (cell : Cell) (cells : List Cell) → slice_index_or queues 0 [] ≡ cell ∷ cells → slice_index_or (slice_set queues 0 (drop 1 (slice_index_or queues 0 []))) 0 [] ≡ cells

@@ -1,6 +1,6 @@
 -- the node of a controller is reset or restarts
 
-use Rattle.std.proofs.Common.{◌≡◌, ℕ, ◌+◌, ◌≤◌, false, List, [], ◌∷◌, Option, Some, None, refl, sym, ◌∙◌, ap, subst, map, fold, arith}
+use Rattle.std.proofs.Common.{◌≡◌, ℕ, ◌+◌, ◌≤◌, false, List, [], ◌∷◌, Option, Some, None, refl, sym, ◌∙◌, ap, subst, fold, arith}
 use Rattle.net_types.specs.declared.channel.End.{End}
 use Rattle.net_types.specs.declared.node.NodeId.{NodeId}
 use Rattle.net_types.specs.declared.node.PortNo.{PortNo}
@@ -10,10 +10,7 @@ use Rattle.adjacency_table.specs.declared.State.TheVariants.{SynSent}
 use Rattle.adjacency_table.specs.Side.{Side, fresh}
 use Rattle.link_model.specs.declared.frames.Frame.{Frame}
 use Rattle.link_model.specs.declared.record.Record.{Record}
-use Rattle.link_model.specs.declared.record.Record.TheVariants.{Loss}
-use Rattle.link_model.specs.declared.record.Cause.TheVariants.{Cut}
-use Rattle.link_model.specs.Notes.{Journal, noted}
-use Rattle.frame_model.specs.Reassembly.{Reassembly, cut, distinct, marks_of, noted_all}
+use Rattle.link_model.specs.Notes.{noted}
 use Rattle.ordered_lists.proofs.Parts.{part_none}
 use Rattle.port_model.specs.Desk.{Desk, emptied}
 use Rattle.port_model.specs.declared.action.Action.{Action}
@@ -28,6 +25,7 @@ use Rattle.world_model.specs.Controller.{Acted, Linked, linked_at, ports_of, cha
 use Rattle.world_model.specs.Resets.{cuts_of, cuts_default_of, cuts_default, cuts_gsmp, begins, with_work, closes_by, port_restarts_as, port_restarts_of, port_restarts, resets_gsmp, node_resets, node_restarts}
 use Rattle.shown_cells.specs.Seen.{IsUnmade}
 use Rattle.shown_cells.proofs.Made.{extends_self}
+use Rattle.shown_cells.proofs.Tested.{cut_frames}
 use Rattle.input_steps.specs.Part.{Part, part_at, Stands, Reaches, AnyLine, Leads}
 use Rattle.input_steps.proofs.Goes.{goes_next, by_move, draw_to}
 use Rattle.input_steps.proofs.Reach.{reaches_by, reaches_self, reaches_then, leads_then, stands_later}
@@ -81,13 +79,6 @@ module _ (node : NodeId) (input : End) where
       (stands_later node input p p.frames b.numbers line (extends_self p.frames) (subst (λ (n : ℕ). IsUnmade n p.frames) (sym s.controls) h.unmade) s.instances h))
 
 -- *Chains are cut*
-all_frames : (items : List Record) (notes : Journal) → (noted_all notes items).frames ≡ notes.frames
-all_frames [] notes = refl
-all_frames (item ∷ items) notes = all_frames items (noted notes item)
-
-pub cut_frames : (notes : Journal) (r : Reassembly) → (cut notes r).frames ≡ notes.frames
-cut_frames notes r = all_frames (map (λ mark. Loss mark Cut) (distinct (marks_of r.chain))) notes
-
 pub cuts_still : (a : Acted) (label : ℕ) (o : Option Linked) → IsStill a (cuts_of a label o)
 cuts_still a label None = still_self a
 cuts_still a label (Some linked) = record {

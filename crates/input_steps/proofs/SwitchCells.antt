@@ -2,13 +2,9 @@
 
 use Rattle.std.proofs.Common.{◌≡◌, ℕ, ◌+◌, Bool, true, false, not, List, [], ◌∷◌, ◌++◌, Option, Some, None, Result, Ok, Err, refl, sym, ◌∙◌, ap, subst, length, map, arith, if◌then◌else◌}
 use Rattle.std.specs.Prelude.{nat_le, nat_lt}
-use Rattle.std.specs.Str.{bytes_eq}
-use Rattle.std.specs.Option.{option_map_or}
 use Rattle.std.specs.FinMap as finite
-use Rattle.std.proofs.lemmas.Slice.Eq.{bytes_eq-Decides}
 use Rattle.net_types.specs.declared.channel.End.{End}
 use Rattle.net_types.specs.declared.node.NodeId.{NodeId}
-use Rattle.net_types.specs.declared.number.Mark.{Mark}
 use Rattle.net_types.specs.declared.number.Instance.{Instance}
 use Rattle.net_types.specs.declared.adjacency.Party.{Party}
 use Rattle.net_types.specs.Number.{next_instance, with_instance}
@@ -20,11 +16,11 @@ use Rattle.gsmp_wire.specs.declared.message.Message.{Message}
 use Rattle.gsmp_wire.specs.Fields.{decoded}
 use Rattle.link_model.specs.declared.frames.Frame.{Frame}
 use Rattle.link_model.specs.declared.record.Record.TheVariants.{Loss, Chance}
-use Rattle.link_model.specs.declared.record.Cause.TheVariants.{PoolFull, Broken}
-use Rattle.link_model.specs.Ledger.{payload_of, is_frame, has_entry}
+use Rattle.link_model.specs.declared.record.Cause.TheVariants.{PoolFull}
+use Rattle.link_model.specs.Ledger.{payload_of, is_frame}
 use Rattle.link_model.specs.Notes.{Journal, noted}
 use Rattle.frame_model.specs.Frame.{octets_of, last_mark, payload_in, passed, tested, tested_by}
-use Rattle.frame_model.specs.Reassembly.{Reassembly, Taken, broken, marks_of, most_cells, passed_over, without_slot, too_long, joined}
+use Rattle.frame_model.specs.Reassembly.{Reassembly, Taken, marks_of, most_cells, passed_over, without_slot, too_long, joined}
 use Rattle.ordered_lists.proofs.Parts.{IsPart, left, part_whole, part_none}
 use Rattle.port_facts.proofs.Keyed.{on_each}
 use Rattle.branch_line.specs.Words.{ToSwitch}
@@ -39,6 +35,8 @@ use Rattle.world_model.specs.Requests.{Changed, all_ended}
 use Rattle.world_model.specs.Conduct.{read, after_test, ends_frame, after_cell, gsmp_cell, restarted}
 use Rattle.world_model.specs.Ways.{gsmp_of}
 use Rattle.shown_cells.specs.Seen.{Nothing, Word, nothing}
+pub use Rattle.shown_cells.proofs.Tested.{frame_is}
+use Rattle.shown_cells.proofs.Tested.{broken_frames, last_is, cut_frames}
 use Rattle.shown_cells.proofs.Shows.{First, no_word, a_word, first_of}
 use Rattle.input_views.specs.Words.{erased, seen_request, seen_on_gsmp, seen_cell}
 use Rattle.input_views.specs.Shown.{controller_of, switch_of, ShowsRequests}
@@ -47,39 +45,9 @@ use Rattle.input_steps.specs.Hearing.{IsEnded, IsInHand, Comes}
 use Rattle.input_steps.proofs.Goes.{goes_to, goes_next, by_move, draw_to, lose_at_switch, behind_part}
 use Rattle.input_steps.proofs.Reach.{reaches_by, reaches_self, reaches_then, reaches_behind}
 use Rattle.input_steps.proofs.Queues.{queue_loses, chain_loses, queue_carries}
-use Rattle.input_steps.proofs.Resets.{cut_frames}
 use Rattle.input_steps.proofs.Branches.{restarted_is}
 use Rattle.input_steps.proofs.Switching.{with_chain}
 use Rattle.input_steps.proofs.Handled.{all_ended_frames, told_word, told_nothing}
-
--- *Entries make no frame*
-pub broken_frames : (marks : List Mark) (notes : Journal) → (broken notes marks).frames ≡ notes.frames
-broken_frames [] notes = refl
-broken_frames (mark ∷ marks) notes = broken_frames marks (if has_entry notes.entries mark then notes else noted notes (Loss mark Broken))
-    ∙ by (has_entry notes.entries mark)
-  where
-    by : (b : Bool) → (if b then notes else noted notes (Loss mark Broken)).frames ≡ notes.frames
-    by true = refl
-    by false = refl
-
-pub passed_frames : (notes : Journal) (mark : Mark) (payload : List ℕ) → (passed notes mark payload).frames ≡ notes.frames
-passed_frames notes mark payload = by (is_frame notes.frames mark payload)
-  where
-    by : (b : Bool) → (if b then notes else noted notes (Chance mark)).frames ≡ notes.frames
-    by true = refl
-    by false = refl
-
-pub frame_is : (frames : List Frame) (mark : Mark) (payload : List ℕ) → is_frame frames mark payload ≡ true → payload_of frames mark ≡ Some payload
-frame_is frames mark payload h = by (payload_of frames mark) h
-  where
-    by : (o : Option (List ℕ)) → option_map_or (λ kept. bytes_eq kept payload) o false ≡ true → o ≡ Some payload
-    by None k = absurd (cc k)
-    by (Some kept) k = ap (λ (z : List ℕ). Some z) ((bytes_eq-Decides kept payload).0 k)
-
-pub last_is : (cells : List Cell) (cell : Cell) → last_mark (cells ++ cell ∷ []) ≡ cell.mark
-last_is [] cell = refl
-last_is (c ∷ []) cell = refl
-last_is (c ∷ d ∷ cells) cell = last_is (d ∷ cells) cell
 
 ends_is : (a : Acted) (cells : List Cell) (cell : Cell) → ends_frame a (cells ++ cell ∷ []) ≡ after_test a (tested a.notes (cells ++ cell ∷ []))
 ends_is a [] cell = refl

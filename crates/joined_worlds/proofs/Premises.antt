@@ -1,28 +1,25 @@
 -- what is asked of a network and of an event, so that no pair is made, is so in every run before the first forged frame
 
-use Rattle.std.proofs.Common.{◌≡◌, ◌≢◌, ℕ, ◌<◌, ◌≤◌, Bool, true, false, not, List, [], ◌∷◌, ◌++◌, length, Option, None, Some, Ok, refl, sym, ◌∙◌, ap, subst, arith, Contains, if◌then◌else◌}
+use Rattle.std.proofs.Common.{◌≡◌, ◌≢◌, ℕ, ◌≤◌, Bool, true, false, not, List, [], ◌∷◌, ◌++◌, length, Option, None, Some, refl, sym, ◌∙◌, ap, subst, arith, Contains, if◌then◌else◌}
 use Rattle.std.specs.Prelude.{◌==◌, nat_le, nat_lt}
 use Rattle.std.specs.Option.{option_map_or, option_and_then}
 use Rattle.std.proofs.lemmas.Bool.Decides.{nat_tests}
 use Rattle.net_types.specs.declared.node.NodeId.{NodeId}
 use Rattle.net_types.specs.declared.node.Place.{Place}
 use Rattle.net_types.specs.declared.node.Place.TheVariants.{Down, Up, Out}
-use Rattle.net_types.specs.declared.number.Mark.{Mark}
 use Rattle.atm_cells.specs.declared.cell.Cell.{Cell}
-use Rattle.gsmp_wire.specs.Fields.{decoded}
-use Rattle.gsmp_wire.specs.Range.{FitsRows}
 use Rattle.gsmp_wire.specs.declared.message.Message.{Message}
 use Rattle.gsmp_wire.specs.declared.message.Message.TheVariants as messages
-use Rattle.link_model.specs.Ledger.{payload_of, is_frame}
+use Rattle.link_model.specs.Ledger.{payload_of}
 use Rattle.link_model.specs.Notes.{Journal}
 use Rattle.frame_model.specs.Frame.{octets_of, last_mark, payload_in}
 use Rattle.frame_model.specs.Reassembly.{Reassembly, Taken, taken, most_cells, passed_over, without_slot, too_long, joined}
 use Rattle.crossbar_model.specs.Crossbar.{queue_of}
 use Rattle.world_model.specs.Switch as switches
 use Rattle.world_model.specs.Switch.{control_port}
-use Rattle.port_model.specs.Setup.{Policy, Setup}
+use Rattle.port_model.specs.Setup.{Policy}
 use Rattle.port_facts.proofs.Keyed.{on_each}
-use Rattle.world_model.specs.Controller.{Acted, Linked, default_channel}
+use Rattle.world_model.specs.Controller.{Linked, default_channel}
 use Rattle.world_model.specs.Controller as controllers
 use Rattle.world_model.specs.Cells.{Taker, ForGsmp, ForDefault, ForLabel, same_channel, taker_of, reassembly_of, taker_at, label_taker, port_on, on_link}
 use Rattle.world_model.specs.Packets.{is_control}
@@ -34,9 +31,8 @@ use Rattle.world_model.specs.World.{World, Site, site_at}
 use Rattle.world_model.specs.Places.{queue_in, queue_at}
 use Rattle.world_model.specs.Run.{put_away, next}
 use Rattle.world_model.specs.Past.{Past, past_of}
-use Rattle.world_model.specs.Ways.{told, gsmp_of, gsmp_under}
+use Rattle.world_model.specs.Ways.{told, gsmp_of}
 use Rattle.input_steps.specs.Hearing.{IsEnded, PassesTrue}
-use Rattle.input_steps.proofs.SwitchCells.{frame_is, last_is}
 use Rattle.input_premises.proofs.Reading.{are_read}
 use Rattle.input_events.specs.Coming.{IsRunning, IsOrdinary, IsFar, IsFromSwitch, CanCarry}
 use Rattle.frame_readings.specs.Reading.{MarksAreRead}
@@ -45,13 +41,12 @@ use Rattle.run_facts.specs.Steps.{EventsAreSteps, RunsHaveFronts}
 use Rattle.running_worlds.specs.Running.{EventsAreOrdinary}
 use Rattle.running_worlds.proofs.Sites.{goes_by_links}
 use Rattle.world_views.specs.Made.{AreMade}
-use Rattle.world_views.specs.Shown.{acting}
 use Rattle.world_views.specs.Between.{EachSite, IsWorld, HasAllMade, setups_of}
 use Rattle.world_views.specs.Kept.{Comes, Keeps, behind}
-use Rattle.quiet_controllers.specs.Quiet.{AreRead}
-use Rattle.quiet_controllers.specs.Heard.{RowsAreRead, IsHeard, CanCome}
+use Rattle.quiet_controllers.specs.Heard.{RowsAreRead, IsHeard}
 use Rattle.pairs.specs.Events.{IsAtDesk, IsHonest, CarriesHonestly, PacketsAskNothing, HasOldPairs, EventsMakeNoPairs}
 use Rattle.pairs.specs.Past.{RunsMakeNoPairs}
+use Rattle.shown_cells.proofs.Tested.{frame_is, last_is}
 
 -- *A chain that a cell ended* is all of it
 pub record HasEnded (slot : Bool) (r : Reassembly) (cell : Cell) (ended : List Cell) : Type 0 where

@@ -1,39 +1,38 @@
 -- the controller of a node behind an event of a run, by what came to it
 
-use Rattle.std.proofs.Common.{◌≡◌, ℕ, ◌+◌, Bool, true, false, List, [], ◌∷◌, ◌++◌, Option, None, Some, Ok, refl, sym, ◌∙◌, ap, subst, arith, if◌then◌else◌}
+use Rattle.std.proofs.Common.{◌≡◌, ℕ, ◌+◌, Bool, true, false, List, [], ◌∷◌, ◌++◌, Option, None, Some, refl, sym, ◌∙◌, ap, arith, if◌then◌else◌}
 use Rattle.std.specs.Prelude.{◌==◌, nat_lt, option_map}
-use Rattle.std.specs.Option.{option_map_or, option_and_then}
+use Rattle.std.specs.Option.{option_map_or}
 use Rattle.std.proofs.lemmas.Bool.Decides.{nat_tests}
 use Rattle.net_types.specs.declared.node.NodeId.{NodeId}
 use Rattle.net_types.specs.declared.node.Place.TheVariants.{Down, Up, Out}
 use Rattle.atm_cells.specs.declared.cell.Cell.{Cell}
-use Rattle.ordered_lists.specs.Ordered.{Every}
 use Rattle.link_model.specs.declared.frames.Frame.{Frame}
 use Rattle.link_model.specs.Ledger.{payload_of}
 use Rattle.frame_model.specs.Frame.{octets_of, last_mark, payload_in}
-use Rattle.frame_model.specs.Reassembly.{Reassembly, taken}
+use Rattle.frame_model.specs.Reassembly.{taken}
 use Rattle.crossbar_model.specs.Crossbar.{queue_of}
 use Rattle.world_model.specs.Switch.{control_port}
 use Rattle.port_model.specs.Setup.{Policy}
-use Rattle.world_model.specs.Controller.{Controller, Acted, default_channel, free_slots}
+use Rattle.world_model.specs.Controller.{default_channel, free_slots}
 use Rattle.world_model.specs.Cells.{same_channel}
-use Rattle.controller_facts.specs.Inputs.{Input, CellComes, PacketEnters, Ticks, Restarts, ChangeComes, FrameIsForged, CellLeaves, Meanwhile, takes_input}
+use Rattle.controller_facts.specs.Inputs.{Input, CellComes, PacketEnters, Ticks, Restarts, ChangeComes, FrameIsForged}
 use Rattle.world_model.specs.declared.event.Event.{Event}
 use Rattle.world_model.specs.declared.event.Event.TheVariants.{Inject, Carry, Lose, Tick, TickSwitch, Restart, RestartSwitch, Forge, Route}
 use Rattle.world_model.specs.Topology.{Topology}
 use Rattle.world_model.specs.World.{World, Site, site_at, controller_at, opened}
 use Rattle.world_model.specs.Places.{queue_in, queue_at}
-use Rattle.world_model.specs.Run.{put_away, next}
-use Rattle.world_model.specs.Past.{Past, past_of}
+use Rattle.world_model.specs.Run.{put_away}
+use Rattle.world_model.specs.Past.{past_of}
 use Rattle.lifetimes.specs.Run.{if_at, head_comes, head_leaves, comes_to}
-use Rattle.lifetimes.proofs.Opened.{IsFed, opening_fed}
+use Rattle.lifetimes.proofs.Opened.{opening_fed}
 use Rattle.lifetimes.proofs.Feeding.{after_of}
 use Rattle.lifetimes.proofs.Runs.{run_fed, next_there}
 use Rattle.input_steps.specs.Hearing.{PassesTrue}
-use Rattle.input_steps.proofs.SwitchCells.{frame_is, last_is}
-use Rattle.input_events.specs.Coming.{CanCarry, IsOrdinary}
+use Rattle.input_events.specs.Coming.{CanCarry}
 use Rattle.run_facts.proofs.Steps.{events_are_steps}
 use Rattle.world_views.specs.Kept.{behind}
+use Rattle.shown_cells.proofs.Tested.{frame_is, last_is}
 use Rattle.joined_worlds.proofs.Premises.{HasEnded, has_ended}
 use Rattle.joined_worlds.proofs.Settled.{node_is}
 

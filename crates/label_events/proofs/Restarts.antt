@@ -20,13 +20,14 @@ use Rattle.controller_views.specs.Lifted.{IsProper, Growing}
 use Rattle.controller_views.specs.Queues.{awaited}
 use Rattle.controller_views.proofs.Carried.{Moved}
 use Rattle.controller_views.proofs.Parts.{net_goes, goes_on, goes_same, quiet_leads}
-use Rattle.controller_views.proofs.Works.{port_is, quiet_same, quiet_put, node_resets_leads, cut_frames}
+use Rattle.controller_views.proofs.Works.{port_is, quiet_same, quiet_put, node_resets_leads}
 use Rattle.controller_views.proofs.Growing.{grow_self, grow_on, grow_fold, grow_same, node_resets_grow}
 use Rattle.arrival_views.proofs.Chains.{with_taken, moved_then, empties_all, retaken, noted_net, goes_here}
 use Rattle.controller_lifts.proofs.Follow.{on_fold}
 use Rattle.controller_lifts.proofs.Ways.{SameNode, node_followed}
 use Rattle.world_views.specs.Shown.{WorldShows, WorldGoes, AreApart, acting}
 use Rattle.world_views.proofs.Sites.{controller_goes_by}
+use Rattle.shown_cells.proofs.Tested.{cut_frames}
 
 -- the chain of a line's way is as it is
 taken_self : (role : Role) (line : Line) → Moved line (with_taken role (way_to role line).chain (way_to role line).to_controller line)

@@ -16,9 +16,9 @@ use Rattle.shown_cells.proofs.Made.{shows_more}
 use Rattle.controller_views.specs.Ends.{way_to, Net, idle, put_at}
 use Rattle.controller_views.specs.Lifted.{IsProper}
 use Rattle.controller_views.proofs.Parts.{both, end_later}
-use Rattle.controller_views.proofs.Works.{cut_frames}
 use Rattle.world_views.specs.Shown.{pieces_of, WorldShows, WorldGoes, AreApart}
 use Rattle.world_views.proofs.Sites.{goes_self}
+use Rattle.shown_cells.proofs.Tested.{cut_frames}
 use Rattle.label_events.specs.Queues.{HasQueues}
 use Rattle.label_events.proofs.Nets.{site_goes, away_goes, goes_still, by_node}
 use Rattle.label_events.proofs.Switches.{IsQuiet, IsMore, quiet_more, same, tick_quiet, all_frames}

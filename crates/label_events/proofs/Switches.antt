@@ -1,8 +1,8 @@
 -- what a switch does on the channel of GSMP is nothing to the lines of labels: its answers wait for its controller, and
 -- frames are made
 
-use Rattle.std.proofs.Common.{◌≡◌, ℕ, ◌≤◌, ◌<◌, ◌+◌, Bool, List, [], ◌∷◌, ◌++◌, length, Option, None, Some, Result, Ok, Err, refl, sym, ◌∙◌, ap, subst, arith, if◌then◌else◌}
-use Rattle.std.specs.Prelude.{◌==◌, ◌&&◌, not, nat_le, nat_lt}
+use Rattle.std.proofs.Common.{◌≡◌, ℕ, ◌≤◌, ◌<◌, ◌+◌, List, [], ◌∷◌, ◌++◌, length, Option, None, Some, Result, Ok, Err, refl, sym, ◌∙◌, ap, subst, arith}
+use Rattle.std.specs.Prelude.{◌==◌, ◌&&◌, nat_le, nat_lt}
 use Rattle.net_types.specs.declared.channel.End.{End}
 use Rattle.net_types.specs.declared.number.Mark.{Mark}
 use Rattle.net_types.specs.declared.adjacency.Greeting.{Greeting}
@@ -24,8 +24,8 @@ use Rattle.link_model.specs.declared.frames.Frame.{Frame}
 use Rattle.link_model.specs.declared.record.Record.TheVariants.{Loss}
 use Rattle.link_model.specs.declared.record.Cause.TheVariants.{PoolFull}
 use Rattle.link_model.specs.Notes.{Journal, noted}
-use Rattle.frame_model.specs.Reassembly.{Reassembly, Taken, marks_of, most_cells, passed_over, without_slot, too_long, joined, taken}
-use Rattle.frame_model.specs.Frame.{Tested, frame_cells, made, octets_of as cell_octets, payload_in, last_mark, tested, tested_by}
+use Rattle.frame_model.specs.Reassembly.{Taken, taken}
+use Rattle.frame_model.specs.Frame.{Tested, frame_cells, made, octets_of as cell_octets, payload_in, tested}
 use Rattle.frame_model.specs.Sending.{Sent}
 use Rattle.crossbar_model.specs.declared.branch.Branch.{Branch}
 use Rattle.crossbar_model.specs.Crossbar.{queue_of, cut_by_move}
@@ -45,7 +45,7 @@ use Rattle.shown_cells.specs.Label.{OnControl}
 use Rattle.shown_cells.proofs.Shows.{shows_behind}
 use Rattle.shown_cells.proofs.Made.{extends_self, extends_on, extends_made, unmade_next, shows_more}
 use Rattle.shown_cells.proofs.Frames.{frame_elsewhere}
-use Rattle.shown_cells.proofs.Tested.{broken_frames, passed_frames}
+use Rattle.shown_cells.proofs.Tested.{taken_frames, tested_frames}
 use Rattle.controller_views.specs.Lifted.{IsProper}
 use Rattle.controller_views.proofs.Sends.{gsmp_default, gsmp_label}
 use Rattle.controller_views.proofs.Works.{same_extends, same_unmade}
@@ -81,21 +81,6 @@ branches_frames c (VerifyTree input) = refl
 branches_frames c (DeleteAll port) = all_frames (inputs_on c.branches port) c
 branches_frames c (PortManagement port function) = on_both (λ (d : Changed). d.notes.frames ≡ c.notes.frames) (function == 2) (cleared c port) c (all_frames (inputs_on c.branches port) c) refl
 branches_frames c AllPorts = refl
-
-taken_frames : (notes : Journal) (slot : Bool) (r : Reassembly) (cell : Cell) → (taken notes slot r cell).notes.frames ≡ notes.frames
-taken_frames notes slot r cell = on_both To r.is_skipping (passed_over notes r cell) (if not slot then without_slot notes r cell else (if nat_le most_cells (length r.chain) then too_long notes r cell else joined notes r cell))
-    (broken_frames (cell.mark ∷ []) notes)
-    (on_both To (not slot) (without_slot notes r cell) (if nat_le most_cells (length r.chain) then too_long notes r cell else joined notes r cell)
-    (broken_frames (marks_of r.chain) (noted notes (Loss cell.mark PoolFull)))
-    (on_both To (nat_le most_cells (length r.chain)) (too_long notes r cell) (joined notes r cell) (broken_frames (marks_of (r.chain ++ cell ∷ [])) notes)
-    (on_both To cell.header.last (record { reassembly = record r { chain = [] }; notes = notes; ended = r.chain ++ cell ∷ [] }) (record { reassembly = record r { chain = r.chain ++ cell ∷ [] }; notes = notes; ended = [] }) refl refl)))
-  where
-    To : Taken → Type 0
-    To t = t.notes.frames ≡ notes.frames
-
-tested_frames : (notes : Journal) (cells : List Cell) (o : Option (List ℕ)) → (tested_by notes cells o).notes.frames ≡ notes.frames
-tested_frames notes cells None = broken_frames (marks_of cells) notes
-tested_frames notes cells (Some payload) = passed_frames notes (last_mark cells) payload
 
 -- *Quietly*: the switch at an end of the link makes frames and draws numbers, and what waits at the port of the link and
 -- for its controller shows what it did

@@ -1,10 +1,9 @@
 -- what a switch does: a branch leads where one led before it, or where a request that it takes asks
 
-use Rattle.std.proofs.Common.{◌≡◌, ◌≢◌, ℕ, zero, suc, ◌+◌, ◌<◌, ◌≤◌, Bool, true, false, List, [], ◌∷◌, ◌++◌, length, map, Option, None, Some, Result, Ok, Err, refl, sym, ◌∙◌, ap, subst, arith, inl, inr, ◌⊎◌, if◌then◌else◌}
+use Rattle.std.proofs.Common.{◌≡◌, ℕ, zero, suc, ◌+◌, ◌≤◌, Bool, true, false, List, [], ◌∷◌, ◌++◌, length, Option, None, Some, Result, Ok, Err, refl, sym, ◌∙◌, ap, subst, arith, inl, inr, if◌then◌else◌}
 use Rattle.std.specs.Prelude.{◌==◌, ◌&&◌, not, nat_le, nat_lt}
 use Rattle.std.specs.Option.{option_map, option_and_then}
 use Rattle.std.specs.FinMap.{get, insert, remove, keys}
-use Rattle.net_types.specs.declared.channel.Channel.{Channel}
 use Rattle.net_types.specs.declared.channel.End.{End}
 use Rattle.net_types.specs.declared.node.PortNo.{PortNo}
 use Rattle.net_types.specs.declared.number.Mark.{Mark}
@@ -26,8 +25,6 @@ use Rattle.gsmp_wire.specs.Fields.{decoded}
 use Rattle.link_model.specs.declared.frames.Frame.{Frame}
 use Rattle.link_model.specs.declared.record.Record.TheVariants.{Loss}
 use Rattle.link_model.specs.declared.record.Cause.TheVariants.{PoolFull}
-use Rattle.link_model.specs.declared.record.Cause.TheVariants as causes_of
-use Rattle.link_model.specs.Ledger.{payload_of, has_entry}
 use Rattle.link_model.specs.Notes.{Journal, noted}
 use Rattle.frame_model.specs.Frame.{made, octets_of, last_mark, payload_in, passed, tested_by, frame_cells}
 use Rattle.frame_model.specs.Sending.{Sent}
@@ -45,14 +42,14 @@ use Rattle.world_model.specs.Switch.{Switch, Acted, control_port, gsmp_channel, 
 use Rattle.world_model.specs.Requests.{Changed, noted_cut, added_by, added, moved_by, moved_to, ended_by, ended, all_ended, inputs_on, cleared, branches_after, asked_in, is_request}
 use Rattle.world_model.specs.Failures.{failure_of}
 use Rattle.world_model.specs.Answers.{handled_by, handled_asked, handled}
-use Rattle.world_model.specs.Conduct.{sends, with_cells, says, reset, answers, steps, replied, requested, told, read, after_test, ends_frame, after_cell, gsmp_cell, passed as passed_cell, switched_cell, is_gsmp, cell_comes, tick_comes, restarted}
+use Rattle.world_model.specs.Conduct.{with_cells, says, answers, steps, replied, requested, told, read, after_test, ends_frame, gsmp_cell, passed as passed_cell, switched_cell, is_gsmp, cell_comes, tick_comes, restarted}
 use Rattle.port_facts.proofs.Keyed.{on_both}
 use Rattle.causes.proofs.Maps.{same_input, insert_here, insert_away, remove_here, remove_away}
-use Rattle.world_model.specs.Ways.{told as heard, gsmp_of, copy_by, copy_of, copy_under}
+use Rattle.world_model.specs.Ways.{told as heard, gsmp_of, copy_by, copy_of}
 use Rattle.world_model.specs.Users.{leads}
 use Rattle.quiet_controllers.specs.Quiet.{AskTheSame}
 use Rattle.quiet_controllers.proofs.Asking.{cut_frames as chain_cut_frames}
-use Rattle.quiet_controllers.proofs.Events.{taken_frames, passed_frames}
+use Rattle.quiet_controllers.proofs.Events.{broken_frames, taken_frames, passed_frames}
 use Rattle.quiet_controllers.proofs.Sending.{made_asks}
 
 -- *What a request says of itself*: under its number it is a copy
@@ -88,11 +85,6 @@ after_frames c (VerifyTree input) = refl
 after_frames c (DeleteAll port) = all_frames (inputs_on c.branches port) c
 after_frames c (PortManagement port function) = on_both (λ (z : Changed). z.notes.frames ≡ c.notes.frames) (function == 2) (cleared c port) c (all_frames (inputs_on c.branches port) c) refl
 after_frames c AllPorts = refl
-
-broken_frames : (marks : List Mark) (notes : Journal) → (broken notes marks).frames ≡ notes.frames
-broken_frames [] notes = refl
-broken_frames (mark ∷ marks) notes = broken_frames marks (if has_entry notes.entries mark then notes else noted notes (Loss mark causes_of.Broken))
-    ∙ on_both (λ (n : Journal). n.frames ≡ notes.frames) (has_entry notes.entries mark) notes (noted notes (Loss mark causes_of.Broken)) refl refl
 
 -- *Branches* that lead where they may
 module _ (May : End → End → Type 0) where

@@ -37,9 +37,9 @@ use Rattle.gsmp_wire.specs.declared.request.Request.{Request}
 use Rattle.gsmp_wire.specs.declared.request.Request.TheVariants.{AddBranch, MoveBranch, DeleteTree, VerifyTree, DeleteAll, PortManagement, AllPorts}
 use Rattle.gsmp_wire.specs.Fields.{decoded as gsmp_decoded}
 use Rattle.link_model.specs.declared.record.Record.TheVariants.{Bad, Loss, Delivered, Dropped}
-use Rattle.link_model.specs.declared.record.Cause.TheVariants.{Unbound, PoolFull}
-use Rattle.link_model.specs.Notes.{Journal, noted}
-use Rattle.frame_model.specs.Reassembly.{Reassembly, Taken, taken, passed_over, without_slot, too_long, joined, most_cells, marks_of}
+use Rattle.link_model.specs.declared.record.Cause.TheVariants.{Unbound}
+use Rattle.link_model.specs.Notes.{Journal}
+use Rattle.frame_model.specs.Reassembly.{Reassembly, Taken, taken, passed_over, without_slot, too_long, joined, most_cells}
 use Rattle.frame_model.specs.Frame.{tested, tested_by, last_mark, next_mark, octets_of, payload_in}
 use Rattle.ordered_lists.specs.Ordered.{Every}
 use Rattle.port_model.specs.DeskAnswers.{Answered, Unknown, Done, Ports, Failed, answered, after_answer}
@@ -66,7 +66,7 @@ use Rattle.world_model.specs.Cells.{Taker, ForGsmp, ForDefault, ForLabel, port_o
 use Rattle.world_model.specs.Ticks.{sends_again, ticks_port, ticks_ports, ticks_by, ticks}
 use Rattle.controller_bindings.proofs.Lasts.{taken_grows, tested_grows}
 use Rattle.lifetimes.proofs.Events.{Belongs, taker_belongs, put_there}
-use Rattle.shown_cells.proofs.Tested.{broken_frames, passed_frames, last_is}
+use Rattle.shown_cells.proofs.Tested.{taken_frames, tested_frames, last_is}
 use Rattle.net_types.specs.Label.{label_number_of}
 use Rattle.link_model.specs.declared.frames.Frame.{Frame}
 use Rattle.link_model.specs.declared.record.Record.{Record}
@@ -110,15 +110,6 @@ pub record IsHeeded (t : Terms) (a : Acted) (cell : Cell) : Type 0 where
   pub gathers : (linked : Linked) → taker_of a.controller cell.header.channel ≡ Some (ForDefault linked) → t.gathered linked.setup.port cell
 
 -- *Cells that are gathered*
-taken_frames : (notes : Journal) (slot : Bool) (r : Reassembly) (cell : Cell) → (taken notes slot r cell).notes.frames ≡ notes.frames
-taken_frames notes slot r cell = on_both To r.is_skipping (passed_over notes r cell) _ (broken_frames (cell.mark ∷ []) notes)
-    (on_both To (not slot) (without_slot notes r cell) _ (broken_frames (marks_of r.chain) (noted notes (Loss cell.mark PoolFull)))
-    (on_both To (nat_le most_cells (length r.chain)) (too_long notes r cell) (joined notes r cell) (broken_frames (marks_of (r.chain ++ cell ∷ [])) notes)
-    (on_both To cell.header.last (record { reassembly = record r { chain = [] }; notes = notes; ended = r.chain ++ cell ∷ [] }) (record { reassembly = record r { chain = r.chain ++ cell ∷ [] }; notes = notes; ended = [] }) refl refl)))
-  where
-    To : Taken → Type 0
-    To t = t.notes.frames ≡ notes.frames
-
 taken_chain : (G : Cell → Type 0) (notes : Journal) (slot : Bool) (r : Reassembly) (cell : Cell) → Every G r.chain → G cell → Every G (taken notes slot r cell).reassembly.chain
 taken_chain G notes slot r cell all g = on_both To r.is_skipping (passed_over notes r cell) _ all
     (on_both To (not slot) (without_slot notes r cell) _ tt
@@ -138,10 +129,6 @@ ended_mark notes slot r cell first cells = on_both To r.is_skipping (passed_over
   where
     To : Taken → Type 0
     To t = t.ended ≡ first ∷ cells → last_mark (first ∷ cells) ≡ cell.mark
-
-tested_frames : (notes : Journal) (cells : List Cell) (o : Option (List ℕ)) → (tested_by notes cells o).notes.frames ≡ notes.frames
-tested_frames notes cells None = broken_frames (marks_of cells) notes
-tested_frames notes cells (Some payload) = passed_frames notes (last_mark cells) payload
 
 module _ (t : Terms) where
   abbrev H : Acted → Type 0

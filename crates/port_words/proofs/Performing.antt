@@ -24,7 +24,7 @@ use Rattle.world_model.specs.Asking.{sends_request, asks_next, asks, takes_back}
 use Rattle.world_model.specs.Resets.{begins, with_work, closes_by, port_restarts_of, port_restarts, resets_gsmp, node_resets, cuts_default, cuts_gsmp, node_restarts}
 use Rattle.world_model.specs.Performing.{does, does_in_estab, resets_of, performs, performs_in_estab, Rule, works_as, works, at_port}
 use Rattle.controller_bindings.proofs.Lasts.{cut_grows}
-use Rattle.controller_views.proofs.Works.{cut_frames}
+use Rattle.shown_cells.proofs.Tested.{cut_frames}
 use Rattle.port_words.specs.Words.{Terms, IsSteady, BindsNone, IsFair, IsNoted, IsSteadyAt, IsSteadily}
 use Rattle.port_words.proofs.Voices.{Voiced}
 use Rattle.port_words.proofs.Hearing.{resets_v, restarts_v}

@@ -42,8 +42,8 @@ use Rattle.controller_bindings.specs.Bindings.{site}
 use Rattle.controller_bindings.proofs.Lasts.{BindNothing, Grows, cut_grows}
 use Rattle.controller_views.specs.Lifted.{payload_by}
 use Rattle.controller_views.proofs.Sends.{sent_cases}
-use Rattle.controller_views.proofs.Works.{cut_frames}
 use Rattle.shown_cells.proofs.Made.{made_is, made_elsewhere}
+use Rattle.shown_cells.proofs.Tested.{cut_frames}
 use Rattle.port_words.specs.Words.{Terms, DisownsNone, IsMade, of_gsmp, of_port, IsOfHeld, IsWord, IsFrameOf, IsSent, waited, of_packet, away, said, bound, IsNoted, IsSteadyAt, IsSteadily}
 
 -- *What is noted and binds nothing*

@@ -1,6 +1,6 @@
 -- cells, packets, ticks, restarts and changes of routes leave a controller quiet
 
-use Rattle.std.proofs.Common.{true, ◌≡◌, ◌≢◌, ℕ, zero, suc, ◌<◌, ◌≤◌, Bool, false, List, [], ◌∷◌, ◌++◌, length, drop, Option, None, Some, Result, Ok, Err, refl, sym, ◌∙◌, ap, subst, arith, fold, if◌then◌else◌}
+use Rattle.std.proofs.Common.{◌≡◌, ◌≢◌, ℕ, zero, suc, ◌<◌, ◌≤◌, Bool, false, List, [], ◌∷◌, ◌++◌, length, drop, Option, None, Some, Result, Ok, Err, refl, sym, ◌∙◌, ap, subst, arith, fold, if◌then◌else◌}
 use Rattle.std.proofs.lemmas.Bool.Decides.{nat_tests}
 use Rattle.std.specs.Prelude.{◌==◌, ◌+◌, ◌*◌, ◌&&◌, nat_lt, nat_le, not, take, flat_map}
 use Rattle.std.specs.Option.{option_and_then}
@@ -76,7 +76,7 @@ use Rattle.quiet_controllers.proofs.Joining.{Fits, tries_joins_on}
 use Rattle.quiet_controllers.proofs.Answers.{steps_on, gsmp_holds_on}
 
 -- *No frame is made* while cells are gathered and tested
-broken_frames : (marks : List Mark) (notes : Journal) → (broken notes marks).frames ≡ notes.frames
+pub broken_frames : (marks : List Mark) (notes : Journal) → (broken notes marks).frames ≡ notes.frames
 broken_frames [] notes = refl
 broken_frames (mark ∷ marks) notes = broken_frames marks (if has_entry notes.entries mark then notes else noted notes (Loss mark causes_of.Broken))
     ∙ on_both (λ (n : Journal). n.frames ≡ notes.frames) (has_entry notes.entries mark) notes (noted notes (Loss mark causes_of.Broken)) refl refl

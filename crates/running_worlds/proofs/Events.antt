@@ -59,10 +59,10 @@ use Rattle.controller_law.proofs.Whole.{Whole, numbered_whole}
 use Rattle.controller_law.proofs.Events.{steps_holds, sends_again_holds, ticks_port_holds}
 use Rattle.world_model.specs.Ways.{gsmp_of, gsmp_under, told as heard}
 use Rattle.input_steps.specs.Hearing.{IsEnded, PassesTrue}
-use Rattle.input_steps.proofs.Resets.{note_still, cut_frames}
-use Rattle.input_steps.proofs.SwitchCells.{broken_frames, passed_frames, frame_is, last_is}
+use Rattle.input_steps.proofs.Resets.{note_still}
 use Rattle.input_events.specs.Coming.{IsNext, GoesByLinks, IsFromSwitch}
 use Rattle.input_events.proofs.Cells.{IsKept, other_cell_leads}
+use Rattle.shown_cells.proofs.Tested.{broken_frames, cut_frames, frame_is, last_is, passed_frames}
 use Rattle.running_worlds.specs.Mode.{Mode, Told, Untold}
 use Rattle.running_worlds.proofs.Asking.{Queued, still_fine, node_fine, request_fine, elsewhere_fine, packet_fine, at_port_fine}
 use Rattle.running_worlds.proofs.Joining.{Well, tries_joins_well}

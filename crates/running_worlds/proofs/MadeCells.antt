@@ -58,8 +58,8 @@ use Rattle.world_views.specs.Made.{IsFit, IsMadeAs, plain, labelled}
 use Rattle.frame_readings.specs.Reading.{Holds, sent, told as holds_told}
 use Rattle.frame_readings.proofs.Packets.{is_forwarded, is_heard}
 use Rattle.frame_readings.proofs.Reading.{read_default, read_said}
+use Rattle.shown_cells.proofs.Tested.{cut_frames, taken_frames, tested_frames}
 use Rattle.running_worlds.proofs.Making.{fit_onward, grant_by_is, carries_onward}
-use Rattle.running_worlds.proofs.Still.{cut_frames, taken_frames, tested_frames}
 use Rattle.running_worlds.proofs.Walk.{To, stays, goes_on, to_fold, alike_to, note_to, node_to, sends_to}
 use Rattle.running_worlds.proofs.Rules.{hears_to, counts_to, used_to}
 use Rattle.running_worlds.proofs.Meeting.{told_to}

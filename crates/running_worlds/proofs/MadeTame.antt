@@ -18,8 +18,8 @@ use Rattle.world_model.specs.Past.{past_of, frames_of}
 use Rattle.world_model.specs.Headline.{IsTame}
 use Rattle.link_model.specs.declared.frames.Frame.{Frame}
 use Rattle.input_steps.specs.Hearing.{IsEnded, PassesTrue}
-use Rattle.input_steps.proofs.SwitchCells.{frame_is}
 use Rattle.run_facts.specs.Steps.{EventsAreSteps, RunsHaveFronts}
+use Rattle.shown_cells.proofs.Tested.{frame_is}
 use Rattle.running_worlds.specs.Running.{TameEventsAreTrue}
 use Rattle.running_worlds.proofs.Kept.{IsTrue, ControllersPass, SwitchesPass}
 

@@ -1,58 +1,14 @@
 -- where chains are cut and ports restart no frame is made, and the adjacency with the switch and the desk stay
 
-use Rattle.std.proofs.Common.{◌≡◌, ℕ, ◌≤◌, Bool, true, false, not, List, [], ◌∷◌, ◌++◌, length, Option, Some, None, refl, ◌∙◌, map, fold, arith, if◌then◌else◌}
-use Rattle.std.specs.Prelude.{nat_le}
+use Rattle.std.proofs.Common.{◌≡◌, ℕ, ◌≤◌, List, [], ◌∷◌, Option, Some, None, refl, ◌∙◌, fold, arith}
 use Rattle.net_types.specs.declared.node.PortNo.{PortNo}
-use Rattle.net_types.specs.declared.number.Mark.{Mark}
-use Rattle.atm_cells.specs.declared.cell.Cell.{Cell}
-use Rattle.link_model.specs.declared.record.Record.{Record}
-use Rattle.link_model.specs.declared.record.Record.TheVariants.{Loss, Chance}
-use Rattle.link_model.specs.declared.record.Cause.TheVariants.{PoolFull, Cut, Broken}
-use Rattle.link_model.specs.Ledger.{has_entry, is_frame}
-use Rattle.link_model.specs.Notes.{Journal, noted}
-use Rattle.frame_model.specs.Frame.{last_mark, tested_by}
-use Rattle.frame_model.specs.Reassembly.{Reassembly, Taken, taken, broken, cut, distinct, marks_of, noted_all, most_cells, passed_over, without_slot, too_long, joined}
 use Rattle.port_model.specs.declared.action.Action.{Action}
 use Rattle.port_model.specs.declared.action.Action.TheVariants.{Say, Ask, Note, CutChain, TakeBack, Withdraw, Reset}
 use Rattle.port_model.specs.Port.{Work}
 use Rattle.port_model.specs.Resets.{restarts}
-use Rattle.port_facts.proofs.Keyed.{on_both}
 use Rattle.world_model.specs.Controller.{Acted, Linked, linked_at, ports_of, chain_of}
 use Rattle.world_model.specs.Resets.{cuts_of, begins, with_work, closes_by, port_restarts_as, port_restarts_of, port_restarts, resets_gsmp, node_resets}
-
--- *The notes*: no frame is made while cells are gathered, cut and tested
-all_frames : (items : List Record) (notes : Journal) → (noted_all notes items).frames ≡ notes.frames
-all_frames [] notes = refl
-all_frames (item ∷ items) notes = all_frames items (noted notes item)
-
-pub cut_frames : (notes : Journal) (r : Reassembly) → (cut notes r).frames ≡ notes.frames
-cut_frames notes r = all_frames (map (λ (mark : Mark). Loss mark Cut) (distinct (marks_of r.chain))) notes
-
-broken_frames : (marks : List Mark) (notes : Journal) → (broken notes marks).frames ≡ notes.frames
-broken_frames [] notes = refl
-broken_frames (mark ∷ marks) notes = broken_frames marks (if has_entry notes.entries mark then notes else noted notes (Loss mark Broken))
-    ∙ by (has_entry notes.entries mark)
-  where
-    by : (b : Bool) → (if b then notes else noted notes (Loss mark Broken)).frames ≡ notes.frames
-    by true = refl
-    by false = refl
-
-pub taken_frames : (notes : Journal) (slot : Bool) (r : Reassembly) (cell : Cell) → (taken notes slot r cell).notes.frames ≡ notes.frames
-taken_frames notes slot r cell = on_both Same r.is_skipping (passed_over notes r cell) _ (broken_frames (cell.mark ∷ []) notes)
-    (on_both Same (not slot) (without_slot notes r cell) _ (broken_frames (marks_of r.chain) (noted notes (Loss cell.mark PoolFull)))
-    (on_both Same (nat_le most_cells (length r.chain)) (too_long notes r cell) (joined notes r cell) (broken_frames (marks_of (r.chain ++ cell ∷ [])) notes)
-    (on_both Same cell.header.last (record { reassembly = record r { chain = [] }; notes = notes; ended = r.chain ++ cell ∷ [] }) (record { reassembly = record r { chain = r.chain ++ cell ∷ [] }; notes = notes; ended = [] }) refl refl)))
-  where
-    Same : Taken → Type 0
-    Same t = t.notes.frames ≡ notes.frames
-
-pub tested_frames : (notes : Journal) (cells : List Cell) (o : Option (List ℕ)) → (tested_by notes cells o).notes.frames ≡ notes.frames
-tested_frames notes cells None = broken_frames (marks_of cells) notes
-tested_frames notes cells (Some payload) = by (is_frame notes.frames (last_mark cells) payload)
-  where
-    by : (b : Bool) → (if b then notes else noted notes (Chance (last_mark cells))).frames ≡ notes.frames
-    by true = refl
-    by false = refl
+use Rattle.shown_cells.proofs.Tested.{cut_frames}
 
 -- *Still*
 pub record IsStill (a b : Acted) : Type 0 where

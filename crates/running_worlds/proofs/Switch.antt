@@ -50,12 +50,12 @@ use Rattle.world_model.specs.Conduct.{with_cells, says, answers, steps, replied,
 use Rattle.world_model.specs.Ways.{copy_by, copy_of}
 use Rattle.world_views.specs.Made.{said, AreMade}
 use Rattle.world_views.specs.Ready.{FitsSide}
+use Rattle.shown_cells.proofs.Tested.{cut_frames, taken_frames, tested_frames}
 use Rattle.running_worlds.proofs.Making.{made_more}
 use Rattle.input_premises.proofs.Written.{IsWritten}
 use Rattle.running_worlds.proofs.Greeted.{AnswersWell, received_side, received_answers, ticked_side, ticked_answers}
 use Rattle.input_steps.specs.Asking.{IsAsked}
 use Rattle.input_events.proofs.Answering.{TellsRows, answer_written}
-use Rattle.running_worlds.proofs.Still.{cut_frames, taken_frames, tested_frames}
 
 -- *A switch in a run*: its parties fit, it can tell its ports, and each frame is a packet's or a message's
 pub record IsGood (a : Acted) : Type 0 where

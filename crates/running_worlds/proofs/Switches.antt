@@ -58,12 +58,11 @@ use Rattle.world_model.specs.Ways.{gsmp_of, gsmp_under, copy_by, copy_of, told a
 use Rattle.input_steps.specs.Asking.{IsReadable}
 use Rattle.input_steps.specs.Hearing.{IsEnded, LeadsAway, PassesTrue}
 use Rattle.input_steps.proofs.Handled.{all_ended_frames}
-use Rattle.input_steps.proofs.Resets.{cut_frames}
-use Rattle.input_steps.proofs.SwitchCells.{broken_frames, passed_frames, frame_is, last_is}
 use Rattle.input_premises.proofs.Asking.{shaped_asked}
 use Rattle.input_events.specs.Coming.{TellsPorts, IsToSwitch}
 use Rattle.input_events.proofs.Answering.{answer_reads}
 use Rattle.shown_cells.proofs.Frames.{differ}
+use Rattle.shown_cells.proofs.Tested.{broken_frames, cut_frames, frame_is, last_is, passed_frames}
 use Rattle.running_worlds.specs.Mode.{AreUp}
 use Rattle.running_worlds.specs.New.{is_on_gsmp, TellsUp, SinceThen}
 use Rattle.running_worlds.specs.Calls.{IsTelling}

@@ -7,15 +7,11 @@ use Rattle.link_model.specs.Notes.{Journal}
 use Rattle.frame_model.specs.Frame.{last_mark}
 use Rattle.frame_model.specs.Reassembly.{Reassembly, Taken, taken, most_cells, passed_over, without_slot, too_long, joined}
 use Rattle.port_facts.proofs.Keyed.{on_both}
+use Rattle.shown_cells.proofs.Tested.{last_is}
 
 abbrev EndsIn : Cell → List Cell → Type 0
 EndsIn cell [] = Unit {0}
 EndsIn cell (x ∷ xs) = last_mark (x ∷ xs) ≡ cell.mark
-
-last_is : (chain : List Cell) (cell : Cell) → last_mark (chain ++ cell ∷ []) ≡ cell.mark
-last_is [] cell = refl
-last_is (x ∷ []) cell = refl
-last_is (x ∷ y ∷ chain) cell = last_is (y ∷ chain) cell
 
 behind_ends : (cell : Cell) (chain : List Cell) → EndsIn cell (chain ++ cell ∷ [])
 behind_ends cell [] = refl

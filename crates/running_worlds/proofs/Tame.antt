@@ -1,7 +1,7 @@
 -- a chain that a controller tests passes as the frame of its last cell, where the records have no chance
 
 use Rattle.std.proofs.Common.{◌≡◌, ℕ, Bool, true, false, true≢false, not, List, [], ◌∷◌, ◌++◌, length, Option, None, Some, refl, sym, ◌∙◌, ap, subst, append-nil, if◌then◌else◌}
-use Rattle.std.specs.Prelude.{◌+◌, ◌||◌, ◌==◌, nat_le, nat_lt}
+use Rattle.std.specs.Prelude.{◌+◌, ◌||◌, nat_le, nat_lt}
 use Rattle.std.specs.List.{list_any}
 use Rattle.std.specs.Option.{option_and_then}
 use Rattle.net_types.specs.declared.node.NodeId.{NodeId}
@@ -22,7 +22,7 @@ use Rattle.port_model.specs.Setup.{Setup}
 use Rattle.port_model.specs.Labels.{Label, is_bound}
 use Rattle.port_model.specs.Port.{label_at}
 use Rattle.port_facts.proofs.Found.{by_number as label_there}
-use Rattle.world_model.specs.Controller.{Controller, Acted, Linked, free_slots, linked_at, chains_with, default_channel}
+use Rattle.world_model.specs.Controller.{Acted, Linked, free_slots, linked_at, chains_with, default_channel}
 use Rattle.world_model.specs.Opening.{opens_ports, setup_of}
 use Rattle.world_model.specs.Cells.{Taker, ForGsmp, ForDefault, ForLabel, port_on, on_link, same_channel, label_taker, taker_at, taker_of, reassembly_of, with_reassembly, frame_holds, ends_frame, after_test, after_cell, takes_cell, cell_comes}
 use Rattle.controller_facts.specs.Inputs.{takes_inputs}
@@ -31,7 +31,7 @@ use Rattle.controller_facts.proofs.Laws.{always_sound, has_ports, moves_sound}
 use Rattle.controller_facts.proofs.Moves.{Found, found_at_own, gathering, moves_to}
 use Rattle.controller_law.specs.Law.{IsOpening}
 use Rattle.controller_law.proofs.Laws.{always_holds}
-use Rattle.controller_law.proofs.Whole.{Whole, numbered_whole, chained_whole}
+use Rattle.controller_law.proofs.Whole.{Whole, chained_whole}
 use Rattle.controller_bindings.specs.Bindings.{noted_by_all}
 use Rattle.controller_bindings.proofs.Anew.{IsNew}
 use Rattle.controller_facts.proofs.Unmet.{ports_apart}
@@ -39,12 +39,9 @@ use Rattle.controller_facts.specs.Inputs.{Input}
 use Rattle.world_model.specs.declared.range.PortRange.{PortRange}
 use Rattle.net_types.specs.declared.channel.Channel.{Channel}
 use Rattle.controller_bindings.proofs.Tied.{Tied, NoCut, Settled, anew_tied}
-use Rattle.controller_bindings.proofs.Events.{IsTiedTo, IsBoundAt, IsTakerOf, inputs_told, frame_bound, gathered_bound}
+use Rattle.controller_bindings.proofs.Events.{IsTiedTo, IsTakerOf, inputs_told, frame_bound, gathered_bound}
 use Rattle.world_model.specs.Headline.{is_wild, IsTame}
-use Rattle.world_model.specs.World.{Site}
-use Rattle.lifetimes.proofs.Opened.{IsFed}
 use Rattle.input_steps.specs.Hearing.{IsEnded, PassesTrue}
-use Rattle.input_steps.proofs.SwitchCells.{last_is}
 
 -- *A chance* stays among the records
 wild_front : (xs ys : List Record) → list_any is_wild xs ≡ true → list_any is_wild (xs ++ ys) ≡ true

@@ -1,6 +1,6 @@
 -- chains that events end, and each event before which all of it is so
 
-use Rattle.std.proofs.Common.{◌≡◌, ℕ, Bool, true, false, not, List, [], ◌∷◌, ◌++◌, length, Option, None, Some, refl, sym, ◌∙◌, ap, subst, if◌then◌else◌}
+use Rattle.std.proofs.Common.{◌≡◌, ℕ, Bool, true, false, not, List, [], ◌∷◌, ◌++◌, length, Option, Some, refl, ◌∙◌, ap, subst, if◌then◌else◌}
 use Rattle.std.specs.Prelude.{nat_le, nat_lt}
 use Rattle.std.specs.Option.{option_map_or}
 use Rattle.std.specs.Str.{bytes_eq}
@@ -9,20 +9,16 @@ use Rattle.net_types.specs.declared.node.NodeId.{NodeId}
 use Rattle.net_types.specs.declared.node.Place.TheVariants.{Down, Up}
 use Rattle.net_types.specs.Number.{GivenOut}
 use Rattle.atm_cells.specs.declared.cell.Cell.{Cell}
-use Rattle.link_model.specs.declared.frames.Frame.{Frame}
-use Rattle.link_model.specs.Ledger.{payload_of, is_frame}
+use Rattle.link_model.specs.Ledger.{payload_of}
 use Rattle.link_model.specs.Notes.{Journal}
 use Rattle.frame_model.specs.Frame.{octets_of, last_mark, payload_in}
-use Rattle.frame_model.specs.Reassembly.{Reassembly, Taken, taken, most_cells, passed_over, without_slot, too_long, joined}
+use Rattle.frame_model.specs.Reassembly.{Reassembly, Taken, most_cells, passed_over, without_slot, too_long, joined}
 use Rattle.port_facts.proofs.Keyed.{at_every}
-use Rattle.port_model.specs.Setup.{Policy}
 use Rattle.world_model.specs.Switch as switches
 use Rattle.world_model.specs.Switch.{control_port}
 use Rattle.world_model.specs.Conduct as switch
 use Rattle.world_model.specs.Controller.{Controller, Acted, free_slots, default_channel}
 use Rattle.world_model.specs.Cells.{Taker, same_channel, taker_of, reassembly_of, cell_comes}
-use Rattle.controller_facts.specs.Inputs.{takes_inputs}
-use Rattle.controller_facts.specs.Sound.{Opening, opened_by}
 use Rattle.world_model.specs.declared.event.Event.{Event}
 use Rattle.world_model.specs.declared.event.Event.TheVariants.{Carry}
 use Rattle.world_model.specs.Topology.{Topology}
@@ -37,14 +33,11 @@ use Rattle.lifetimes.proofs.Runs.{run_fed}
 use Rattle.branch_shapes.specs.Shapes.{ended_by}
 use Rattle.branch_shapes.proofs.Chance.{tame_passes}
 use Rattle.input_steps.specs.Hearing.{IsEnded, PassesTrue}
-use Rattle.input_steps.proofs.SwitchCells.{last_is}
-use Rattle.input_events.specs.Coming.{IsRunning}
 use Rattle.input_events.proofs.Sites.{put_at}
 use Rattle.frame_readings.specs.Reading.{MarksAreRead}
-use Rattle.world_views.specs.Between.{IsWorld}
-use Rattle.world_views.specs.Kept.{Comes, behind}
 use Rattle.run_facts.specs.Nodes.{RunsHaveNodes, RunsHaveRoom}
 use Rattle.run_facts.specs.Steps.{EventsAreSteps, RunsHaveFronts}
+use Rattle.shown_cells.proofs.Tested.{last_is}
 use Rattle.running_worlds.specs.Running.{ChainsAreTrue, TameEventsAreTrue, EventsAreOrdinary}
 use Rattle.running_worlds.proofs.Tame.{chain_true}
 use Rattle.running_worlds.proofs.Sites.{steady_site, has_said, has_answered}

@@ -1,20 +1,30 @@
--- what a chain that a last cell ended is tested for, and what the notes keep of it
+-- what is noted where a channel takes a cell, and where a chain is tested or cut, leaves the frames that were made; and what a
+-- test tells of a frame
 
-use Rattle.std.proofs.Common.{◌≡◌, ℕ, Bool, true, false, List, [], ◌∷◌, ◌++◌, Option, None, Some, refl, ◌∙◌, ap, if◌then◌else◌}
+use Rattle.std.proofs.Common.{◌≡◌, ℕ, Bool, true, false, List, [], ◌∷◌, ◌++◌, length, map, Option, None, Some, refl, ◌∙◌, ap, if◌then◌else◌}
+use Rattle.std.specs.Prelude.{not, nat_le}
 use Rattle.std.specs.Str.{bytes_eq}
 use Rattle.std.specs.Option.{option_map_or}
 use Rattle.std.proofs.lemmas.Slice.Eq.{bytes_eq-Decides}
 use Rattle.net_types.specs.declared.number.Mark.{Mark}
 use Rattle.atm_cells.specs.declared.cell.Cell.{Cell}
 use Rattle.link_model.specs.declared.frames.Frame.{Frame}
+use Rattle.link_model.specs.declared.record.Record.{Record}
 use Rattle.link_model.specs.declared.record.Record.TheVariants.{Loss, Chance}
-use Rattle.link_model.specs.declared.record.Cause.TheVariants.{Broken}
+use Rattle.link_model.specs.declared.record.Cause.TheVariants.{PoolFull, Broken, Cut}
 use Rattle.link_model.specs.Ledger.{payload_of, is_frame, has_entry}
 use Rattle.link_model.specs.Notes.{Journal, noted}
-use Rattle.frame_model.specs.Reassembly.{broken}
-use Rattle.frame_model.specs.Frame.{last_mark, passed}
+use Rattle.frame_model.specs.Reassembly.{Reassembly, Taken, taken, passed_over, without_slot, too_long, joined, most_cells, marks_of, broken, noted_all, distinct, cut}
+use Rattle.frame_model.specs.Frame.{last_mark, passed, tested_by}
 
--- the frames stay
+-- *The frames stay*
+noted_frames : (notes : Journal) (items : List Record) → (noted_all notes items).frames ≡ notes.frames
+noted_frames notes [] = refl
+noted_frames notes (item ∷ items) = noted_frames (noted notes item) items
+
+pub cut_frames : (notes : Journal) (r : Reassembly) → (cut notes r).frames ≡ notes.frames
+cut_frames notes r = noted_frames notes (map (λ (mark : Mark). Loss mark Cut) (distinct (marks_of r.chain)))
+
 pub broken_frames : (marks : List Mark) (notes : Journal) → (broken notes marks).frames ≡ notes.frames
 broken_frames [] notes = refl
 broken_frames (mark ∷ marks) notes = broken_frames marks (if has_entry notes.entries mark then notes else noted notes (Loss mark Broken))
@@ -30,6 +40,23 @@ passed_frames notes mark payload = by (is_frame notes.frames mark payload)
     by : (b : Bool) → (if b then notes else noted notes (Chance mark)).frames ≡ notes.frames
     by true = refl
     by false = refl
+
+pub tested_frames : (notes : Journal) (cells : List Cell) (o : Option (List ℕ)) → (tested_by notes cells o).notes.frames ≡ notes.frames
+tested_frames notes cells None = broken_frames (marks_of cells) notes
+tested_frames notes cells (Some payload) = passed_frames notes (last_mark cells) payload
+
+pub taken_frames : (notes : Journal) (slot : Bool) (r : Reassembly) (cell : Cell) → (taken notes slot r cell).notes.frames ≡ notes.frames
+taken_frames notes slot r cell = either r.is_skipping (passed_over notes r cell) _ (broken_frames (cell.mark ∷ []) notes)
+    (either (not slot) (without_slot notes r cell) _ (broken_frames (marks_of r.chain) (noted notes (Loss cell.mark PoolFull)))
+    (either (nat_le most_cells (length r.chain)) (too_long notes r cell) (joined notes r cell) (broken_frames (marks_of (r.chain ++ cell ∷ [])) notes)
+    (either cell.header.last (record { reassembly = record r { chain = [] }; notes = notes; ended = r.chain ++ cell ∷ [] }) (record { reassembly = record r { chain = r.chain ++ cell ∷ [] }; notes = notes; ended = [] }) refl refl)))
+  where
+    Same : Taken → Type 0
+    Same t = t.notes.frames ≡ notes.frames
+
+    either : (b : Bool) (t u : Taken) → Same t → Same u → Same (if b then t else u)
+    either true t u p q = p
+    either false t u p q = q
 
 -- a frame that passed, and not by chance, is the one that was made
 pub frame_is : (frames : List Frame) (mark : Mark) (payload : List ℕ) → is_frame frames mark payload ≡ true → payload_of frames mark ≡ Some payload
