@@ -1,55 +1,22 @@
 -- what holds between events is kept by every input, and numbers suffice for one
 
-use Rattle.std.proofs.Common.{◌≡◌, ℕ, ◌≤◌, ◌<◌, Bool, true, false, List, refl, sym, subst, arith, inl, inr}
+use Rattle.std.proofs.Common.{ℕ, ◌≤◌, ◌<◌, List, arith, inr}
 use Rattle.std.specs.Prelude.{◌+◌}
 use Rattle.net_types.specs.Number.{HasNumbersLeft, AreDrawn}
-use Rattle.gsmp_wire.specs.declared.request.Request.{Request}
-use Rattle.gsmp_wire.specs.declared.request.Request.TheVariants.{AddBranch, MoveBranch, DeleteTree, VerifyTree, DeleteAll, PortManagement, AllPorts}
 use Rattle.ordered_lists.specs.Ordered.{Every}
-use Rattle.ordered_lists.proofs.Every.{every_map}
-use Rattle.port_model.specs.Desk.{Standing}
 use Rattle.port_model.specs.Setup.{Setup}
-use Rattle.world_model.specs.Controller.{Controller, Acted, Linked}
+use Rattle.world_model.specs.Controller.{Controller, Acted}
 use Rattle.controller_facts.specs.Inputs.{Input, CellComes, PacketEnters, Ticks, Restarts, ChangeComes, FrameIsForged, CellLeaves, Meanwhile, takes_input}
 use Rattle.controller_facts.specs.Sound.{IsOwn, NeverFall}
 use Rattle.controller_facts.specs.Said.{HasFlowsAt}
 use Rattle.controller_facts.proofs.Laws.{input_goes, input_draws, input_draws_marks}
 use Rattle.controller_facts.proofs.Numbers.{moves_never_fall}
 use Rattle.controller_facts.proofs.Flows.{moves_flow}
-use Rattle.controller_law.specs.Order.{IsDeleting, IsMeeting, listing, emptying, IsOrderly}
-use Rattle.controller_law.specs.Match.{MovesJoined, IsOfJoin, IsMatched}
-use Rattle.controller_law.proofs.Matched.{But, Never}
 use Rattle.controller_law.proofs.Whole.{Whole, holds_of}
 use Rattle.controller_law.proofs.Events.{input_holds}
+use Rattle.controller_law.proofs.Laws.{matched_of}
 use Rattle.controller_conditions.specs.Kept.{AreLinks, IsHeld, IsKept, AreIn}
 use Rattle.controller_conditions.proofs.Ready.{Ready}
-
--- *Joins and lent grants match*: while the switch isn't met nothing that stands moves a branch
-no_move : (ports : List Linked) (request : Request) → IsDeleting request → MovesJoined ports request
-no_move ports (DeleteAll port) d = tt
-no_move ports (AddBranch input output) d = absurd d
-no_move ports (MoveBranch input from to) d = absurd d
-no_move ports (DeleteTree input) d = absurd d
-no_move ports (VerifyTree input) d = absurd d
-no_move ports (PortManagement port function) d = absurd d
-no_move ports AllPorts d = absurd d
-
-unmet_moving : (ports : List Linked) (standing : List Standing) → IsMeeting standing → Every (IsOfJoin ports) standing
-unmet_moving ports standing (listing s is) = (subst (MovesJoined ports) (sym is) tt, tt)
-unmet_moving ports standing (emptying all deleting) = every_map (λ (s : Standing). IsDeleting s.request) (IsOfJoin ports) standing (λ s d. no_move ports s.request d) deleting
-
-moving_of : (c : Controller) (met : Bool) → c.has_met ≡ met → (c.has_met ≡ true → Every (IsOfJoin c.ports) c.desk.standing) → (c.has_met ≡ false → IsMeeting c.desk.standing) → Every (IsOfJoin c.ports) c.desk.standing
-moving_of c true is moving meeting = moving is
-moving_of c false is moving meeting = unmet_moving c.ports c.desk.standing (meeting is)
-
-matched_of : (c : Controller) → IsOrderly c → But Never c.ports c.has_met c.desk → IsMatched c.ports c.desk
-matched_of c order h = record {
-  granted = h.granted;
-  joined = h.joined;
-  deleting = λ q m input e t. elim (h.deleting q m input e t) [ inl never ↦ absurd never | inr on ↦ on ];
-  once = h.once;
-  moving = moving_of c c.has_met refl h.moving order.meeting;
-}
 
 -- *What is kept*
 pub whole_kept : (a : Acted) (h : IsKept a.controller) → Whole h.setups a

@@ -146,7 +146,7 @@ moving_of : (c : Controller) (met : Bool) → c.has_met ≡ met → (c.has_met �
 moving_of c true is moving meeting = moving is
 moving_of c false is moving meeting = unmet_moving c.ports c.desk.standing (meeting is)
 
-matched_of : (c : Controller) → IsOrderly c → But Never c.ports c.has_met c.desk → IsMatched c.ports c.desk
+pub matched_of : (c : Controller) → IsOrderly c → But Never c.ports c.has_met c.desk → IsMatched c.ports c.desk
 matched_of c order h = record {
   granted = h.granted;
   joined = h.joined;
