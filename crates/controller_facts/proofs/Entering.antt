@@ -58,6 +58,41 @@ on_port c input label e = by_found (linked_at c input.port) refl e
     by_found (Some linked) found e = record { labels = labels_of linked.port; there = ap (option_map (λ (x : Linked). labels_of x.port)) found; found = e }
 
 module _ (setups : List Setup) where
+  -- *A join* under a grant that is found for it
+  pub record IsFor (a : Acted) (input : End) (join : Join) : Type 0 where
+    pub linked : Linked
+    pub grant : Grant
+    pub own : Found setups a linked
+    pub granted : at grant_label grant.label linked.port.grants ≡ Some grant
+    pub sending : grant.state ≡ ByController
+    pub is : join ≡ record { input = input; port = linked.setup.port; grant = grant }
+
+  by_grant : (a : Acted) (input : End) (next : FlowId) (linked : Linked) → Found setups a linked → IsPort setups linked.setup linked.port → (o : Option Grant) → grant_for linked.port.grants next ≡ o
+      → (join : Join) → option_map (λ grant. record { input = input; port = linked.setup.port; grant = grant }) o ≡ Some join → IsFor a input join
+  by_grant a input next linked own port None found join e = absurd (cc e)
+  by_grant a input next linked own port (Some grant) found join e =
+      let passes = find_passes (λ (g : Grant). is_by_controller g.state && same_flow g.flow next) linked.port.grants grant found in
+      record {
+        linked = linked;
+        grant = grant;
+        own = own;
+        granted = apart_at grant_label (λ (g : Grant). is_by_controller g.state && same_flow g.flow next) linked.port.grants grant port.apart found;
+        sending = by_controller grant.state (and_first (is_by_controller grant.state) (same_flow grant.flow next) passes);
+        is = cc;
+      }
+
+  by_port : (a : Acted) (input : End) (o : Option PortNo) (next : Option FlowId) → HasPorts setups a → (join : Join) → join_by a.controller input o next ≡ Some join → IsFor a input join
+  by_port a input None next h join e = absurd (cc e)
+  by_port a input (Some port) None h join e = absurd (cc e)
+  by_port a input (Some port) (Some next) h join e = by_found (linked_at a.controller port) refl e
+    where
+      by_found : (o : Option Linked) → linked_at a.controller port ≡ o → join_through input next o ≡ Some join → IsFor a input join
+      by_found None found e = absurd (cc e)
+      by_found (Some linked) found e = by_grant a input next linked (found_at_own setups a linked port found) (found_port setups a linked port h found) (grant_for linked.port.grants next) refl join e
+
+  pub found_for : (a : Acted) (input : End) (flow : FlowId) → HasPorts setups a → (join : Join) → join_for a.controller input flow ≡ Some join → IsFor a input join
+  found_for a input flow h join e = by_port a input (port_by (best a.controller.table (flow_destination flow))) (next_hop_of flow) h join e
+
   -- a grant is lent, and every port has the labels that it had
   pub lends_labels : (a : Acted) (join : Join) (k : ℕ) → labels_at (enters_grant a join).controller.ports k ≡ labels_at a.controller.ports k
   lends_labels a join k = by_found (linked_at a.controller join.port) refl
@@ -94,30 +129,20 @@ module _ (setups : List Setup) where
       (λ l. asks_goes setups (enters_label lends join) (MoveBranch input (home_of input) (output_of join)) l (joins_label input (output_of join) end output)))
 
   joins_for_goes : (a : Acted) (input : End) (label : Label) → HasPorts setups a → IsLabelEnd setups input → label_on a.controller input ≡ Some label → label.state ≡ Offered
-      → (o : Option PortNo) (next : Option FlowId) → To setups a (joins a (join_by a.controller input o next))
-  joins_for_goes a input label h end on offered None next = stays a
-  joins_for_goes a input label h end on offered (Some port) None = stays a
-  joins_for_goes a input label h end on offered (Some port) (Some next) = by_found (linked_at a.controller port) refl
+      → To setups a (joins a (join_for a.controller input label.flow))
+  joins_for_goes a input label h end on offered = by (join_for a.controller input label.flow) refl
     where
-      by_grant : (linked : Linked) → linked_at a.controller port ≡ Some linked → (o : Option Grant) → grant_for linked.port.grants next ≡ o
-          → To setups a (joins a (option_map (λ grant. record { input = input; port = linked.setup.port; grant = grant }) o))
-      by_grant linked found None is = stays a
-      by_grant linked found (Some grant) is =
-          let passes = find_passes (λ (g : Grant). is_by_controller g.state && same_flow g.flow next) linked.port.grants grant is in
-          joins_goes a input label linked grant h end on offered (found_at_own setups a linked port found)
-          (apart_at grant_label (λ (g : Grant). is_by_controller g.state && same_flow g.flow next) linked.port.grants grant (found_port setups a linked port h found).apart is)
-          (by_controller grant.state (and_first (is_by_controller grant.state) (same_flow grant.flow next) passes))
-
-      by_found : (o : Option Linked) → linked_at a.controller port ≡ o → To setups a (joins a (join_through input next o))
-      by_found None found = stays a
-      by_found (Some linked) found = by_grant linked found (grant_for linked.port.grants next) refl
+      by : (o : Option Join) → join_for a.controller input label.flow ≡ o → To setups a (joins a o)
+      by None found = stays a
+      by (Some join) found =
+          let f : IsFor a input join = found_for a input label.flow h join found in
+          subst (λ (x : Join). To setups a (joins a (Some x))) (sym f.is) (joins_goes a input label f.linked f.grant h end on offered f.own f.granted f.sending)
 
   tries_label_goes : (a : Acted) (input : End) (o : Option Label) → HasPorts setups a → IsLabelEnd setups input → label_on a.controller input ≡ o → To setups a (tries_label a input o)
   tries_label_goes a input None h end on = stays a
   tries_label_goes a input (Some label) h end on = on_each (To setups a) (may_join a.controller input label) (joins a (join_for a.controller input label.flow)) a
       (λ may. joins_for_goes a input label h end on (is_offered_by label.state (and_first (is_offered label.state) (is_none label.join) (and_first (is_offered label.state && is_none label.join)
-      (not (on_input a.controller.desk input) && (nat_lt (length a.controller.desk.standing) most_asked && route_stays a.controller (flow_destination label.flow))) may)))
-      (port_by (best a.controller.table (flow_destination label.flow))) (next_hop_of label.flow))
+      (not (on_input a.controller.desk input) && (nat_lt (length a.controller.desk.standing) most_asked && route_stays a.controller (flow_destination label.flow))) may))))
       (λ t. stays a)
 
   pub tries_join_goes : (a : Acted) (input : End) → HasPorts setups a → IsLabelEnd setups input → To setups a (tries_join a input)

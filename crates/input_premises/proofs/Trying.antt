@@ -2,36 +2,30 @@
 
 use Rattle.std.proofs.Common.{◌≡◌, ◌≤◌, ℕ, true, List, [], ◌∷◌, length, Option, None, Some, refl, sym, ◌∙◌, ap, subst, arith}
 use Rattle.std.specs.Prelude.{◌&&◌, not, is_none, nat_lt}
-use Rattle.std.specs.Option.{option_map}
-use Rattle.net_types.specs.declared.node.PortNo.{PortNo}
 use Rattle.net_types.specs.declared.channel.End.{End}
 use Rattle.net_types.specs.Label.{number_of_channel}
-use Rattle.ipv4_packet.specs.declared.flow.FlowId.{FlowId}
-use Rattle.ipv4_packet.specs.Flow.{next_hop_of}
-use Rattle.ipv4_packet.specs.Parts.{flow_destination, same_flow}
-use Rattle.ipv4_forward.specs.Best.{best}
+use Rattle.ipv4_packet.specs.Parts.{flow_destination}
 use Rattle.gsmp_wire.specs.declared.request.Request.TheVariants.{MoveBranch}
 use Rattle.ordered_lists.specs.Ordered.{Every}
 use Rattle.keyed_lists.specs.Keyed.{at}
 use Rattle.port_model.specs.Desk.{on_input, most_asked}
 use Rattle.port_model.specs.Setup.{Setup, home_of}
 use Rattle.port_model.specs.Labels.{Label, Offered, label_number}
-use Rattle.port_model.specs.Grants.{Grant, ByController, grant_label, grant_for, is_by_controller}
+use Rattle.port_model.specs.Grants.{Grant, ByController, grant_label}
 use Rattle.port_model.specs.Port.{Work, label_at, labels_of}
 use Rattle.port_model.specs.Joins as port_joins
-use Rattle.port_facts.specs.Port.{IsLabelEnd, IsGrant, IsPort, joins_label}
-use Rattle.port_facts.proofs.Keyed.{on_each, at_every, apart_at}
-use Rattle.port_facts.proofs.Found.{find_passes}
+use Rattle.port_facts.specs.Port.{IsLabelEnd, IsGrant, joins_label}
+use Rattle.port_facts.proofs.Keyed.{on_each, at_every}
 use Rattle.port_facts.proofs.Instances.{joined_gave, lent_gave}
 use Rattle.port_facts.proofs.Rules.{and_first}
 use Rattle.world_model.specs.Controller.{Acted, Linked, linked_at}
 use Rattle.world_model.specs.Resets.{begins, with_work}
 use Rattle.world_model.specs.Performing.{performs_in_estab}
-use Rattle.world_model.specs.Joins.{Join, output_of, port_by, join_through, join_by, join_for, is_offered, may_join, enters_grant, enters_label, joins, tries_label, label_on, tries_join}
+use Rattle.world_model.specs.Joins.{Join, output_of, join_for, is_offered, may_join, enters_grant, enters_label, joins, tries_label, label_on, tries_join}
 use Rattle.world_model.specs.Routes.{route_stays}
-use Rattle.controller_facts.proofs.Moves.{Found, HasPorts, found_setup, found_at_own, found_port}
+use Rattle.controller_facts.proofs.Moves.{Found, HasPorts, found_setup, found_port}
 use Rattle.controller_facts.proofs.Joining.{image_is}
-use Rattle.controller_facts.proofs.Entering.{is_offered_by, by_controller, OnPort, on_port, lends_labels}
+use Rattle.controller_facts.proofs.Entering.{is_offered_by, OnPort, on_port, lends_labels, IsFor, found_for}
 use Rattle.controller_facts.proofs.Laws.{has_ports}
 use Rattle.controller_law.proofs.Holding.{Holds, lent_met}
 use Rattle.controller_law.proofs.Entering.{IsLentNow, lent_at_port, enters_label_lent, joins_holds}
@@ -42,10 +36,6 @@ use Rattle.input_premises.proofs.Rows.{at_port_rows, tries_join_rows}
 use Rattle.input_premises.proofs.Asking.{asks_can}
 use Rattle.input_premises.proofs.Releasing.{read_on, parted_asks, none_asked}
 
-none_of : (o : Option End) → is_none o ≡ true → o ≡ None
-none_of None e = refl
-none_of (Some x) e = absurd (cc e)
-
 -- *A label that may be joined* is offered
 free_label : (a : Acted) (i : End) (label : Label) → may_join a.controller i label ≡ true → label.state ≡ Offered
 free_label a i label may =
@@ -54,38 +44,6 @@ free_label a i label may =
     is_offered_by label.state (and_first (is_offered label.state) (is_none label.join) both)
 
 module _ (setups : List Setup) (input : End) (above : 1 ≤ input.port.0) where
-  -- *A join* under a grant that is found for it
-  record IsFor (a : Acted) (i : End) (join : Join) : Type 0 where
-    linked : Linked
-    grant : Grant
-    own : Found setups a linked
-    granted : at grant_label grant.label linked.port.grants ≡ Some grant
-    sending : grant.state ≡ ByController
-    is : join ≡ record { input = i; port = linked.setup.port; grant = grant }
-
-  by_grant : (a : Acted) (i : End) (next : FlowId) (linked : Linked) → Found setups a linked → IsPort setups linked.setup linked.port → (o : Option Grant) → grant_for linked.port.grants next ≡ o
-      → (join : Join) → option_map (λ grant. record { input = i; port = linked.setup.port; grant = grant }) o ≡ Some join → IsFor a i join
-  by_grant a i next linked own port None found join e = absurd (cc e)
-  by_grant a i next linked own port (Some grant) found join e =
-      let passes = find_passes (λ (g : Grant). is_by_controller g.state && same_flow g.flow next) linked.port.grants grant found in
-      record {
-        linked = linked;
-        grant = grant;
-        own = own;
-        granted = apart_at grant_label (λ (g : Grant). is_by_controller g.state && same_flow g.flow next) linked.port.grants grant port.apart found;
-        sending = by_controller grant.state (and_first (is_by_controller grant.state) (same_flow grant.flow next) passes);
-        is = cc;
-      }
-
-  by_port : (a : Acted) (i : End) (o : Option PortNo) (next : Option FlowId) → HasPorts setups a → (join : Join) → join_by a.controller i o next ≡ Some join → IsFor a i join
-  by_port a i None next h join e = absurd (cc e)
-  by_port a i (Some port) None h join e = absurd (cc e)
-  by_port a i (Some port) (Some next) h join e = by_found (linked_at a.controller port) refl e
-    where
-      by_found : (o : Option Linked) → linked_at a.controller port ≡ o → join_through i next o ≡ Some join → IsFor a i join
-      by_found None found e = absurd (cc e)
-      by_found (Some linked) found e = by_grant a i next linked (found_at_own setups a linked port found) (found_port setups a linked port h found) (grant_for linked.port.grants next) refl join e
-
   -- *It is entered*
   lent_can : (a : Acted) (join : Join) (o : Option Linked) → CanApply input a (λ setup desk w. port_joins.lent w join.grant join.input) o
   lent_can a join None = tt
@@ -152,7 +110,7 @@ module _ (setups : List Setup) (input : End) (above : 1 ≤ input.port.0) where
       by_join : (label : Label) → label_on a.controller i ≡ Some label → label.state ≡ Offered → (o : Option Join) → join_for a.controller i label.flow ≡ o → CanJoin input a o
       by_join label on offered None found = tt
       by_join label on offered (Some join) found =
-          let f : IsFor a i join = by_port a i (port_by (best a.controller.table (flow_destination label.flow))) (next_hop_of label.flow) (has_ports setups a h.sound) join found in
+          let f : IsFor setups a i join = found_for setups a i label.flow (has_ports setups a h.sound) join found in
           subst (CanEnter input a) (sym f.is) (can_enter a i label f.linked f.grant end on offered f.own f.granted f.sending h reads)
 
       by_label : (o : Option Label) → label_on a.controller i ≡ o → CanJoinLabel input a i o
@@ -165,7 +123,7 @@ module _ (setups : List Setup) (input : End) (above : 1 ≤ input.port.0) where
       by_join : (label : Label) → label_on a.controller i ≡ Some label → label.state ≡ Offered → (o : Option Join) → join_for a.controller i label.flow ≡ o → Holds setups (joins a o)
       by_join label on offered None found = h
       by_join label on offered (Some join) found =
-          let f : IsFor a i join = by_port a i (port_by (best a.controller.table (flow_destination label.flow))) (next_hop_of label.flow) (has_ports setups a h.sound) join found in
+          let f : IsFor setups a i join = found_for setups a i label.flow (has_ports setups a h.sound) join found in
           subst (λ (x : Join). Holds setups (joins a (Some x))) (sym f.is) (joins_holds setups a i label f.linked f.grant end on offered f.own f.granted f.sending h)
 
       by_label : (o : Option Label) → label_on a.controller i ≡ o → Holds setups (tries_label a i o)

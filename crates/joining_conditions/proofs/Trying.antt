@@ -3,16 +3,12 @@
 use Rattle.std.proofs.Common.{◌≡◌, ◌≤◌, Bool, true, false, List, [], ◌∷◌, length, Option, None, Some, refl, sym, ◌∙◌, ap, subst, if◌then◌else◌, fold, arith}
 use Rattle.std.specs.Prelude.{◌&&◌, not, is_none, nat_lt, flat_map}
 use Rattle.std.specs.List.{list_any}
-use Rattle.std.specs.Option.{option_map, option_map_or}
+use Rattle.std.specs.Option.{option_map_or}
 use Rattle.std.proofs.lemmas.Bool.Decides.{nat_tests}
 use Rattle.std.proofs.lemmas.List.{length-map}
-use Rattle.net_types.specs.declared.node.PortNo.{PortNo}
 use Rattle.net_types.specs.declared.channel.End.{End}
 use Rattle.net_types.specs.Label.{number_of_channel}
-use Rattle.ipv4_packet.specs.declared.flow.FlowId.{FlowId}
-use Rattle.ipv4_packet.specs.Flow.{next_hop_of}
-use Rattle.ipv4_packet.specs.Parts.{flow_destination, same_flow}
-use Rattle.ipv4_forward.specs.Best.{best}
+use Rattle.ipv4_packet.specs.Parts.{flow_destination}
 use Rattle.crossbar_model.specs.Crossbar.{same_end}
 use Rattle.gsmp_wire.specs.declared.request.Request.TheVariants.{MoveBranch}
 use Rattle.ordered_lists.specs.Ordered.{Every}
@@ -21,21 +17,20 @@ use Rattle.keyed_lists.specs.Keyed.{at}
 use Rattle.port_model.specs.Desk.{on_input, most_asked}
 use Rattle.port_model.specs.Setup.{Setup, home_of, label_end}
 use Rattle.port_model.specs.Labels.{Label, Offered, label_number}
-use Rattle.port_model.specs.Grants.{Grant, ByController, grant_label, grant_for, is_by_controller}
+use Rattle.port_model.specs.Grants.{Grant, ByController, grant_label}
 use Rattle.port_model.specs.Port.{label_at, labels_of}
 use Rattle.port_model.specs.Joins as port_joins
 use Rattle.port_facts.specs.Port.{IsLabelEnd, IsGrant, IsPort, joins_label}
-use Rattle.port_facts.proofs.Keyed.{on_each, at_every, apart_at}
-use Rattle.port_facts.proofs.Found.{find_passes}
+use Rattle.port_facts.proofs.Keyed.{on_each, at_every}
 use Rattle.port_facts.proofs.Rules.{and_first, and_second}
 use Rattle.port_facts.proofs.Weighed.{labels_count}
 use Rattle.world_model.specs.Controller.{Acted, Linked, linked_at}
-use Rattle.world_model.specs.Joins.{Join, joins_of, output_of, port_by, join_through, join_by, join_for, is_offered, may_join, enters_grant, joins, tries_label, label_on, tries_join, inputs_at, tries_joins}
+use Rattle.world_model.specs.Joins.{Join, joins_of, output_of, join_for, is_offered, may_join, enters_grant, joins, tries_label, label_on, tries_join, inputs_at, tries_joins}
 use Rattle.world_model.specs.Routes.{route_stays}
 use Rattle.controller_facts.proofs.Moves.{by_lending, by_joining, Found, Moves, stays, further, moves_ports, HasPorts, found_setup, found_at_own, found_port}
 use Rattle.controller_facts.proofs.Performing.{at_port_goes}
 use Rattle.controller_facts.proofs.Joining.{image_is, every_flat_map, each_there}
-use Rattle.controller_facts.proofs.Entering.{is_offered_by, by_controller, OnPort, on_port, lends_labels, inputs_of_port, tries_join_goes}
+use Rattle.controller_facts.proofs.Entering.{is_offered_by, OnPort, on_port, lends_labels, inputs_of_port, tries_join_goes, IsFor, found_for}
 use Rattle.controller_facts.proofs.Laws.{has_ports}
 use Rattle.controller_law.proofs.Lists.{each_any}
 use Rattle.controller_law.proofs.Holding.{Holds}
@@ -66,41 +61,6 @@ free_label a input label may =
     record { offered = is_offered_by label.state (and_first (is_offered label.state) (is_none label.join) both); unjoined = none_of label.join (and_second (is_offered label.state) (is_none label.join) both) }
 
 module _ (setups : List Setup) (links : AreLinks setups) where
-  -- *A join* under a grant that is found for it
-  record IsFor (a : Acted) (input : End) (join : Join) : Type 0 where
-    linked : Linked
-    grant : Grant
-    own : Found setups a linked
-    granted : at grant_label grant.label linked.port.grants ≡ Some grant
-    sending : grant.state ≡ ByController
-    is : join ≡ record { input = input; port = linked.setup.port; grant = grant }
-
-  by_grant : (a : Acted) (input : End) (next : FlowId) (linked : Linked) → Found setups a linked → IsPort setups linked.setup linked.port → (o : Option Grant) → grant_for linked.port.grants next ≡ o
-      → (join : Join) → option_map (λ grant. record { input = input; port = linked.setup.port; grant = grant }) o ≡ Some join → IsFor a input join
-  by_grant a input next linked own port None found join e = absurd (cc e)
-  by_grant a input next linked own port (Some grant) found join e =
-      let passes = find_passes (λ (g : Grant). is_by_controller g.state && same_flow g.flow next) linked.port.grants grant found in
-      record {
-        linked = linked;
-        grant = grant;
-        own = own;
-        granted = apart_at grant_label (λ (g : Grant). is_by_controller g.state && same_flow g.flow next) linked.port.grants grant port.apart found;
-        sending = by_controller grant.state (and_first (is_by_controller grant.state) (same_flow grant.flow next) passes);
-        is = cc;
-      }
-
-  by_port : (a : Acted) (input : End) (o : Option PortNo) (next : Option FlowId) → HasPorts setups a → (join : Join) → join_by a.controller input o next ≡ Some join → IsFor a input join
-  by_port a input None next h join e = absurd (cc e)
-  by_port a input (Some port) None h join e = absurd (cc e)
-  by_port a input (Some port) (Some next) h join e = by_found (linked_at a.controller port) refl e
-    where
-      by_found : (o : Option Linked) → linked_at a.controller port ≡ o → join_through input next o ≡ Some join → IsFor a input join
-      by_found None found e = absurd (cc e)
-      by_found (Some linked) found e = by_grant a input next linked (found_at_own setups a linked port found) (found_port setups a linked port h found) (grant_for linked.port.grants next) refl join e
-
-  found_for : (a : Acted) (input : End) (flow : FlowId) → HasPorts setups a → (join : Join) → join_for a.controller input flow ≡ Some join → IsFor a input join
-  found_for a input flow h join e = by_port a input (port_by (best a.controller.table (flow_destination flow))) (next_hop_of flow) h join e
-
   -- *Nothing is lent* to a label that isn't joined
   same_end_is : (a b : End) → same_end a b ≡ true → a ≡ b
   same_end_is a b e = grind (arith, nat_tests)
@@ -167,7 +127,7 @@ module _ (setups : List Setup) (links : AreLinks setups) where
   can_try : (a : Acted) (input : End) → IsLabelEnd setups input → Whole setups a → Every HasFlowsAt a.controller.ports → AreIn (tries_join a input).numbers → CanTryJoin a input
   can_try a input end h flows n label on may join found =
       let free : IsFreeLabel label = free_label a input label may in
-      let f : IsFor a input join = found_for a input label.flow (has_ports setups a h.sound) join found in
+      let f : IsFor setups a input join = found_for setups a input label.flow (has_ports setups a h.sound) join found in
       subst (CanJoin a) (sym f.is) (join_can a input label f.linked f.grant end on free.offered f.own f.granted f.sending (holds_of setups a h) flows
       (subst (λ (x : Join). AreIn (joins a (Some x)).numbers) f.is
       (subst (λ (o : Option Join). AreIn (joins a o).numbers) found
@@ -181,7 +141,7 @@ module _ (setups : List Setup) (links : AreLinks setups) where
       by_join : (label : Label) → label_on a.controller input ≡ Some label → IsFreeLabel label → (o : Option Join) → join_for a.controller input label.flow ≡ o → Whole setups (joins a o)
       by_join label on free None found = h
       by_join label on free (Some join) found =
-          let f : IsFor a input join = found_for a input label.flow (has_ports setups a h.sound) join found in
+          let f : IsFor setups a input join = found_for setups a input label.flow (has_ports setups a h.sound) join found in
           subst (λ (x : Join). Whole setups (joins a (Some x))) (sym f.is) (joins_whole setups a input label f.linked f.grant end on free.offered free.unjoined f.own f.granted f.sending h)
 
       by_label : (o : Option Label) → label_on a.controller input ≡ o → Whole setups (tries_label a input o)
