@@ -1,4 +1,5 @@
 pub mod Moves
+pub mod Nodes
 pub mod Performing
 pub mod Joining
 pub mod Entering

@@ -37,7 +37,6 @@ use Rattle.world_model.specs.Switch.{control_port, gsmp_channel}
 use Rattle.world_model.specs.Requests.{all_ended}
 use Rattle.world_model.specs.Conduct as conduct
 use Rattle.world_model.specs.Controller.{Controller, Acted, default_channel}
-use Rattle.world_model.specs.Sending.{with_cells}
 use Rattle.world_model.specs.Cells.{same_channel, cell_comes}
 use Rattle.world_model.specs.Packets.{inject_refusal, injected}
 use Rattle.link_model.specs.declared.record.Refusal.{Refusal}
@@ -46,9 +45,9 @@ use Rattle.world_model.specs.Changes.{change_comes}
 use Rattle.world_model.specs.Ticks.{ticks}
 use Rattle.controller_facts.specs.Inputs.{Input, CellComes, PacketEnters, Ticks, Restarts, ChangeComes, enters_unless, takes_input}
 use Rattle.controller_facts.specs.Sound.{IsOwn}
-use Rattle.controller_facts.proofs.Moves.{Move, noting, taking_notes, sending, sending_control, asking, withdrawing, answering, meeting, ending_meeting, turning, placing, clearing, gathering, chaining, routing, popping, Moves, moves_keep}
 use Rattle.controller_facts.proofs.Conditions.{label_has_home}
 use Rattle.controller_facts.proofs.Laws.{input_goes}
+use Rattle.controller_facts.proofs.Nodes.{moves_node}
 use Rattle.controller_law.proofs.Whole.{Whole, holds_of}
 use Rattle.controller_law.proofs.Events.{input_holds}
 use Rattle.world_model.specs.World.{Site, World, site_at, with_site, controller_acts, at_controller, switch_acts, at_switch}
@@ -83,33 +82,7 @@ use Rattle.input_events.proofs.Growing.{growing_kept, ticks_grow, restarts_grow,
 use Rattle.input_events.proofs.Spoken.{controller_tick, switch_tick}
 use Rattle.input_events.proofs.Sites.{ReachesOn, reached_by, lines_on, put_at}
 
--- *A controller* keeps its node and its setups
-module _ (setups : List Setup) (n : NodeId) where
-  move_node : (a b : Acted) → Move setups a b → a.controller.node ≡ n → b.controller.node ≡ n
-  move_node a b (noting x item) h = h
-  move_node a b (taking_notes x notes) h = h
-  move_node a b (sending x channel mark payload) h = on_both (λ (s : Sent Controller). s.queues.node ≡ n) (nat_le (length (frame_cells channel mark payload)) _)
-      (record { queues = with_cells x.controller (frame_cells channel mark payload); notes = made x.notes mark payload })
-      (record { queues = x.controller; notes = noted (made x.notes mark payload) (Loss mark causes.PoolFull) }) h h
-  move_node a b (sending_control x channel payload) h = on_both (λ (s : Sent Controller). s.queues.node ≡ n) (nat_le (length (frame_cells channel (next_control x.numbers) payload)) _)
-      (record { queues = with_cells x.controller (frame_cells channel (next_control x.numbers) payload); notes = made x.notes (next_control x.numbers) payload })
-      (record { queues = x.controller; notes = noted (made x.notes (next_control x.numbers) payload) (Loss (next_control x.numbers) causes.PoolFull) }) h h
-  move_node a b (asking x request estab room shaped) h = h
-  move_node a b (withdrawing x input) h = h
-  move_node a b (answering x answer) h = h
-  move_node a b (meeting x) h = h
-  move_node a b (ending_meeting x estab) h = h
-  move_node a b (turning x step turn) h = h
-  move_node a b (placing x linked w found worked) h = h
-  move_node a b (clearing x linked found may) h = h
-  move_node a b (gathering x r) h = h
-  move_node a b (chaining x linked after found same port) h = h
-  move_node a b (routing x table waiting begun changes) h = h
-  move_node a b (popping x queue) h = h
-
-  pub moves_node : (a b : Acted) → Moves setups a b → a.controller.node ≡ n → b.controller.node ≡ n
-  moves_node a b moves h = moves_keep setups (λ (x : Acted). x.controller.node ≡ n) move_node (λ x k. k) moves h
-
+-- *A controller* keeps its setups
 pub same_inputs : (setups : List Setup) (a b : Acted) → Whole setups a → Whole setups b → (input : End) → IsInput b.controller input → IsInput a.controller input
 same_inputs setups a b h k input is = subst (λ (s : List Setup). IsLabelEnd s input) (k.sound.ports.same ∙ sym h.sound.ports.same) is
 

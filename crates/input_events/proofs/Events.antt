@@ -61,7 +61,8 @@ use Rattle.controller_views.specs.Ends.{Grows}
 use Rattle.world_views.specs.Shown.{acting}
 use Rattle.input_premises.proofs.Steady.{steady_whole, steady_read}
 use Rattle.input_events.proofs.Sites.{ReachesOn, reached_by, lines_on, put_at}
-use Rattle.input_events.proofs.Acting.{moves_node, same_inputs, above_of, beside, SwitchGrows, numbered_of, ticks_lines, restart_lines, change_lines, packet_lines, cell_lines, switch_tick_lines, switch_restart_lines, switched_lines}
+use Rattle.controller_facts.proofs.Nodes.{moves_node}
+use Rattle.input_events.proofs.Acting.{same_inputs, above_of, beside, SwitchGrows, numbered_of, ticks_lines, restart_lines, change_lines, packet_lines, cell_lines, switch_tick_lines, switch_restart_lines, switched_lines}
 
 -- *Queues*
 set_first : (queues : List (List Cell)) (cells : List Cell) → 1 ≤ length queues → slice_index_or (slice_set queues 0 cells) 0 [] ≡ cells

@@ -61,7 +61,7 @@ use Rattle.world_views.specs.Pairs.{Pairs, by_branch, by_desk as pair_desk, by_c
 use Rattle.world_views.specs.Between.{EachSite, HasNumbers, setups_of}
 use Rattle.pairs.specs.Events.{IsEntered, EntersAt, HasOldPairs, IsAtDesk, CarriesHonestly, IsHonest, PacketsAskNothing, EventsMakeNoPairs}
 use Rattle.pairs.proofs.SitePairs.{first_of, in_left, in_tail, SitePairs, branch, desk, chain, queue, to_pairs, of_pairs, put_there, gathered_by, waiting_by}
-use Rattle.pairs.proofs.Nodes.{moves_node}
+use Rattle.controller_facts.proofs.Nodes.{moves_node}
 use Rattle.pairs.proofs.Branches.{IsLed, cell_led, tick_led, restart_led}
 use Rattle.pairs.proofs.Acts.{HasMarks, Sited, put_sited, Fits, loses, May, IsGood, controller_sited, controller_here, switch_sited, switch_here, begins_led, queue_sited, marks_less, marks_sited}
 

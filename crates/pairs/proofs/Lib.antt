@@ -1,5 +1,4 @@
 pub mod Branches
 pub mod SitePairs
-pub mod Nodes
 pub mod Acts
 pub mod Events

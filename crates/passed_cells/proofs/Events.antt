@@ -60,7 +60,7 @@ use Rattle.world_views.specs.Pairs.{Pairs}
 use Rattle.world_views.specs.Tied.{waiting_on}
 use Rattle.running_worlds.proofs.MadeCells as made_cells
 use Rattle.pairs.proofs.SitePairs.{first_of, in_left, in_either, to_pairs, put_there, gathered_by, waiting_by}
-use Rattle.pairs.proofs.Nodes.{moves_node}
+use Rattle.controller_facts.proofs.Nodes.{moves_node}
 use Rattle.pairs.proofs.Branches.{IsLed, cell_led, tick_led, restart_led}
 use Rattle.pairs.proofs.Acts.{HasMarks, Sited, put_sited, marks_less, marks_sited}
 use Rattle.passed_cells.proofs.Sending.{Any, IsAsked, IsSent, IsCounted, Reads, P, begins_sent, kept, routes_sent, cell_sent}

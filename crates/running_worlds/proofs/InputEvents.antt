@@ -41,7 +41,7 @@ use Rattle.world_model.specs.Step.{injects_by, arrives_at, carries_head, loses_h
 use Rattle.world_model.specs.Ways.{gsmp_under}
 use Rattle.input_steps.specs.Hearing.{IsEnded, PassesTrue}
 use Rattle.input_events.specs.Coming.{IsNext, IsToSwitch, IsFromSwitch, IsFar, CanCarry, CanLose, IsOrdinary, IsRunning}
-use Rattle.input_events.proofs.Acting.{moves_node}
+use Rattle.controller_facts.proofs.Nodes.{moves_node}
 use Rattle.input_events.proofs.Sites.{put_at}
 use Rattle.world_views.specs.Between.{EachSite, setups_of}
 use Rattle.world_views.specs.Shown.{acting}
