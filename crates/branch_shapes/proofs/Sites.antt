@@ -1,7 +1,7 @@
 -- each event of a network keeps the shapes of its sites
 
-use Rattle.std.proofs.Common.{◌≡◌, ℕ, suc, ◌≤◌, ◌+◌, Bool, true, false, List, [], ◌∷◌, ◌++◌, map, Option, None, Some, refl, sym, ◌∙◌, ap, subst, arith, ◌⊎◌, inl, inr, if◌then◌else◌}
-use Rattle.std.specs.Prelude.{nat_eq, ◌==◌, ◌&&◌, Contains}
+use Rattle.std.proofs.Common.{◌≡◌, ℕ, suc, ◌≤◌, ◌+◌, Bool, true, false, List, [], ◌∷◌, ◌++◌, map, Option, None, Some, refl, sym, ◌∙◌, ap, subst, arith, inl, inr, if◌then◌else◌}
+use Rattle.std.specs.Prelude.{◌==◌, ◌&&◌, Contains}
 use Rattle.std.specs.Option.{option_map_or}
 use Rattle.std.proofs.lemmas.Bool.Decides.{nat_tests}
 use Rattle.net_types.specs.declared.node.NodeId.{NodeId}
@@ -15,10 +15,9 @@ use Rattle.link_model.specs.declared.record.Refusal.{Refusal}
 use Rattle.link_model.specs.declared.record.Record.TheVariants.{Forged}
 use Rattle.link_model.specs.Notes.{Journal}
 use Rattle.ordered_lists.specs.Ordered.{Every}
-use Rattle.keyed_lists.specs.Keyed.{at, put}
 use Rattle.port_model.specs.Desk.{Standing}
 use Rattle.world_model.specs.Switch as switches
-use Rattle.world_model.specs.Switch.{control_port, numbers_of}
+use Rattle.world_model.specs.Switch.{control_port}
 use Rattle.world_model.specs.Conduct as switch
 use Rattle.port_model.specs.Setup.{Setup}
 use Rattle.port_facts.specs.Port.{IsShaped}
@@ -48,6 +47,7 @@ use Rattle.lifetimes.proofs.Opened.{IsFed, opening_fed}
 use Rattle.lifetimes.proofs.Runs.{run_fed}
 use Rattle.causes.proofs.Shown.{peer_back}
 use Rattle.world_views.specs.Between.{setups_of}
+use Rattle.world_views.proofs.Put.{put_found, Sited, put_sited}
 use Rattle.branch_shapes.specs.Shapes.{HasShapes, Brings}
 use Rattle.branch_shapes.specs.Events.{HasOwnShapes, EventsKeepShapes}
 use Rattle.branch_shapes.proofs.Kept.{sends_keeps, cells_keep, ticks_keep, restarts_keep}
@@ -56,38 +56,6 @@ use Rattle.branch_shapes.proofs.Chance.{tame_passes}
 -- *Sites*
 abbrev pub Shaped : Site → Type 0
 Shaped site = HasShapes (setups_of site.controller) site.switch
-
-abbrev Sited : (Site → Type 0) → List Site → Type 0
-Sited P sites = (node : NodeId) (site : Site) → at site_key node.0 sites ≡ Some site → P site
-
--- what is found once a site was put is that site, or was found before
-put_found : (new : Site) (sites : List Site) (k : ℕ) (x : Site) → at site_key k (put site_key new sites) ≡ Some x → (new ≡ x) ⊎ (at site_key k sites ≡ Some x)
-put_found new [] k x e = inr e
-put_found new (z ∷ sites) k x e = by_new (nat_eq (site_key z) (site_key new)) refl (put_found new sites k x) e
-  where
-    moved : (a b k : ℕ) → nat_eq a b ≡ true → nat_eq b k ≡ false → nat_eq a k ≡ false
-    moved a b k s t = grind (arith, nat_tests)
-
-    by_key : (t : Bool) → nat_eq (site_key new) k ≡ t → nat_eq (site_key z) (site_key new) ≡ true → (if t then Some new else at site_key k sites) ≡ Some x
-        → (new ≡ x) ⊎ ((if nat_eq (site_key z) k then Some z else at site_key k sites) ≡ Some x)
-    by_key true t same e = inl (cc e)
-    by_key false t same e = inr (ap (λ (b : Bool). if b then Some z else at site_key k sites) (moved (site_key z) (site_key new) k same t) ∙ e)
-
-    by_old : (t : Bool) → (at site_key k (put site_key new sites) ≡ Some x → (new ≡ x) ⊎ (at site_key k sites ≡ Some x))
-        → (if t then Some z else at site_key k (put site_key new sites)) ≡ Some x → (new ≡ x) ⊎ ((if t then Some z else at site_key k sites) ≡ Some x)
-    by_old true rest e = inr e
-    by_old false rest e = rest e
-
-    by_new : (t : Bool) → nat_eq (site_key z) (site_key new) ≡ t → (at site_key k (put site_key new sites) ≡ Some x → (new ≡ x) ⊎ (at site_key k sites ≡ Some x))
-        → at site_key k (if t then new ∷ sites else z ∷ put site_key new sites) ≡ Some x → (new ≡ x) ⊎ ((if nat_eq (site_key z) k then Some z else at site_key k sites) ≡ Some x)
-    by_new true same rest e = by_key (nat_eq (site_key new) k) refl same e
-    by_new false other rest e = by_old (nat_eq (site_key z) k) rest e
-
-put_sited : (P : Site → Type 0) (new : Site) (sites : List Site) → P new → Sited P sites → Sited P (put site_key new sites)
-put_sited P new sites p all node x e = elim (put_found new sites node.0 x e) [
-  | inl same ↦ subst P same p
-  | inr before ↦ all node x before
-]
 
 -- *A controller keeps its ports*
 fed_sound : (site : Site) (fed : IsFed site) → IsSound (setups_by fed.o) site.controller

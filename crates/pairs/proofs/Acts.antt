@@ -1,8 +1,6 @@
 -- an actor of a site acts, or a queue loses its head: the pairs of each site stay within what may be
 
-use Rattle.std.proofs.Common.{◌≡◌, ◌≢◌, ℕ, zero, suc, ◌+◌, ◌<◌, ◌≤◌, Bool, true, false, List, [], ◌∷◌, ◌++◌, Option, None, Some, refl, sym, ◌∙◌, ap, subst, arith, Contains, ◌⊎◌, inl, inr, if◌then◌else◌}
-use Rattle.std.specs.Prelude.{nat_eq}
-use Rattle.std.proofs.lemmas.Bool.Decides.{nat_tests}
+use Rattle.std.proofs.Common.{◌≡◌, ◌≢◌, ℕ, zero, suc, ◌<◌, ◌≤◌, List, [], ◌∷◌, Option, None, Some, refl, sym, ◌∙◌, ap, subst, arith, Contains, ◌⊎◌, inl, inr}
 use Rattle.net_types.specs.declared.channel.End.{End}
 use Rattle.net_types.specs.declared.node.NodeId.{NodeId}
 use Rattle.net_types.specs.declared.node.Place.{Place}
@@ -12,12 +10,11 @@ use Rattle.atm_cells.specs.declared.cell.Cell.{Cell}
 use Rattle.link_model.specs.declared.frames.Frame.{Frame}
 use Rattle.ordered_lists.specs.Ordered.{Every}
 use Rattle.keyed_lists.specs.Keyed.{at, put}
-use Rattle.port_facts.proofs.Keyed.{at_key}
 use Rattle.port_model.specs.Setup.{Setup}
 use Rattle.port_model.specs.Desk.{Standing}
 use Rattle.world_model.specs.Switch as switches
-use Rattle.world_model.specs.Controller.{Controller, Acted}
-use Rattle.world_model.specs.World.{World, Site, site_key, site_at, with_site, controller_acts, at_controller, switch_acts, at_switch}
+use Rattle.world_model.specs.Controller.{Acted}
+use Rattle.world_model.specs.World.{World, Site, site_key, site_at, controller_acts, at_controller, switch_acts, at_switch}
 use Rattle.world_model.specs.Places.{place_node, queue_in, queue_at, with_queue_in, with_queue_of, with_queue}
 use Rattle.world_model.specs.Ways.{copy_under}
 use Rattle.world_model.specs.Users.{leads}
@@ -25,31 +22,9 @@ use Rattle.quiet_controllers.specs.Quiet.{AskTheSame, IsQuiet}
 use Rattle.quiet_controllers.specs.Law.{IsAtWork, Asks, by_desk, by_cell}
 use Rattle.quiet_controllers.proofs.Beginning.{contained, asked_may}
 use Rattle.world_views.specs.Shown.{acting}
-use Rattle.pairs.proofs.SitePairs.{in_tail, SitePairs, branch, desk, chain, queue, put_there, waiting_by}
+use Rattle.world_views.proofs.Put.{put_found}
+use Rattle.pairs.proofs.SitePairs.{in_tail, SitePairs, branch, desk, chain, queue, waiting_by}
 use Rattle.pairs.proofs.Branches.{IsLed}
-
--- what is found once a site was put is that site, or was found before
-put_found : (new : Site) (sites : List Site) (k : ℕ) (x : Site) → at site_key k (put site_key new sites) ≡ Some x → (new ≡ x) ⊎ (at site_key k sites ≡ Some x)
-put_found new [] k x e = inr e
-put_found new (z ∷ sites) k x e = by_new (nat_eq (site_key z) (site_key new)) refl (put_found new sites k x) e
-  where
-    moved : (a b k : ℕ) → nat_eq a b ≡ true → nat_eq b k ≡ false → nat_eq a k ≡ false
-    moved a b k s t = grind (arith, nat_tests)
-
-    by_key : (t : Bool) → nat_eq (site_key new) k ≡ t → nat_eq (site_key z) (site_key new) ≡ true → (if t then Some new else at site_key k sites) ≡ Some x
-        → (new ≡ x) ⊎ ((if nat_eq (site_key z) k then Some z else at site_key k sites) ≡ Some x)
-    by_key true t same e = inl (cc e)
-    by_key false t same e = inr (ap (λ (b : Bool). if b then Some z else at site_key k sites) (moved (site_key z) (site_key new) k same t) ∙ e)
-
-    by_old : (t : Bool) → (at site_key k (put site_key new sites) ≡ Some x → (new ≡ x) ⊎ (at site_key k sites ≡ Some x))
-        → (if t then Some z else at site_key k (put site_key new sites)) ≡ Some x → (new ≡ x) ⊎ ((if t then Some z else at site_key k sites) ≡ Some x)
-    by_old true rest e = inr e
-    by_old false rest e = rest e
-
-    by_new : (t : Bool) → nat_eq (site_key z) (site_key new) ≡ t → (at site_key k (put site_key new sites) ≡ Some x → (new ≡ x) ⊎ (at site_key k sites ≡ Some x))
-        → at site_key k (if t then new ∷ sites else z ∷ put site_key new sites) ≡ Some x → (new ≡ x) ⊎ ((if nat_eq (site_key z) k then Some z else at site_key k sites) ≡ Some x)
-    by_new true same rest e = by_key (nat_eq (site_key new) k) refl same e
-    by_new false other rest e = by_old (nat_eq (site_key z) k) rest e
 
 same_node : (m n : NodeId) → m.0 ≡ n.0 → m ≡ n
 same_node m n e = ap (λ (k : ℕ). record { 0 = k }) e

@@ -1,7 +1,7 @@
 -- a controller sends nothing to a label that is joined: its grant is lent
 
-use Rattle.std.proofs.Common.{◌≡◌, ℕ, ◌+◌, ◌<◌, ◌≤◌, Bool, true, false, List, [], ◌∷◌, Option, None, Some, refl, sym, ◌∙◌, ap, subst, arith, inl, inr, ◌⊎◌, if◌then◌else◌}
-use Rattle.std.specs.Prelude.{◌==◌, ◌&&◌, ◌*◌, ◌/◌, ◌%◌, nat_eq, nat_le, nat_lt}
+use Rattle.std.proofs.Common.{◌≡◌, ℕ, ◌+◌, ◌<◌, ◌≤◌, Bool, true, false, List, [], ◌∷◌, Option, None, Some, refl, sym, ◌∙◌, ap, subst, arith, inl, inr}
+use Rattle.std.specs.Prelude.{◌==◌, ◌&&◌, ◌*◌, ◌/◌, ◌%◌, nat_le, nat_lt}
 use Rattle.std.specs.Option.{option_and_then}
 use Rattle.std.proofs.lemmas.Bool.Decides.{nat_tests}
 use Rattle.net_types.specs.declared.node.PortNo.{PortNo}
@@ -24,6 +24,7 @@ use Rattle.controller_facts.specs.Sound.{IsSound, IsLinkedPort, IsShutLinked}
 use Rattle.lifetimes.proofs.Joining.{IsUsed, matching_used}
 use Rattle.lifetimes.proofs.Events.{Belongs, taker_belongs}
 use Rattle.world_views.specs.Pairs.{IsJoin}
+use Rattle.world_views.proofs.Put.{found_put}
 
 -- *Two channels* of the control link
 label_vci : (n : ℕ) → is_label_number n ≡ true → (n / 1024 < 16) × (32 ≤ n % 1024)
@@ -124,31 +125,9 @@ joined_clear setups c input output sound join q linked found = by c.has_met refl
             lent_out g.state input (ap (λ (x : Grant). input_of x.state) is ∙ j.lent) sends
 
 -- *A cell that was taken* leaves the grants
-put_found : {A : Type 0} (key : A → ℕ) (new : A) (xs : List A) (k : ℕ) (x : A) → at key k (put key new xs) ≡ Some x → (new ≡ x) ⊎ (at key k xs ≡ Some x)
-put_found key new [] k x e = inr e
-put_found {A} key new (z ∷ xs) k x e = by_new (nat_eq (key z) (key new)) refl (put_found key new xs k x) e
-  where
-    moved : (a b k : ℕ) → nat_eq a b ≡ true → nat_eq b k ≡ false → nat_eq a k ≡ false
-    moved a b k s t = grind (arith, nat_tests)
-
-    by_key : (t : Bool) → nat_eq (key new) k ≡ t → nat_eq (key z) (key new) ≡ true → (if t then Some new else at key k xs) ≡ Some x
-        → (new ≡ x) ⊎ ((if nat_eq (key z) k then Some z else at key k xs) ≡ Some x)
-    by_key true t same e = inl (cc e)
-    by_key false t same e = inr (ap (λ (b : Bool). if b then Some z else at key k xs) (moved (key z) (key new) k same t) ∙ e)
-
-    by_old : (t : Bool) → (at key k (put key new xs) ≡ Some x → (new ≡ x) ⊎ (at key k xs ≡ Some x))
-        → (if t then Some z else at key k (put key new xs)) ≡ Some x → (new ≡ x) ⊎ ((if t then Some z else at key k xs) ≡ Some x)
-    by_old true rest e = inr e
-    by_old false rest e = rest e
-
-    by_new : (s : Bool) → nat_eq (key z) (key new) ≡ s → (at key k (put key new xs) ≡ Some x → (new ≡ x) ⊎ (at key k xs ≡ Some x))
-        → at key k (if s then new ∷ xs else z ∷ put key new xs) ≡ Some x → (new ≡ x) ⊎ ((if nat_eq (key z) k then Some z else at key k xs) ≡ Some x)
-    by_new true same rest e = by_key (nat_eq (key new) k) refl same e
-    by_new false other rest e = by_old (nat_eq (key z) k) rest e
-
 module _ (a : Acted) (p n : ℕ) (clear : IsClear a.controller p n) where
   with_clear : (at_port : PortNo) (linked after : Linked) → linked_at a.controller at_port ≡ Some linked → after.setup ≡ linked.setup → after.port ≡ linked.port → IsClear (with_linked a after).controller p n
-  with_clear at_port linked after found setup port q x there = elim (put_found port_key after a.controller.ports q.0 x there) [
+  with_clear at_port linked after found setup port q x there = elim (found_put port_key after a.controller.ports q.0 x there) [
     | inl same ↦
         let own : port_key linked ≡ at_port.0 = at_key port_key at_port.0 a.controller.ports linked found in
         let key : port_key x ≡ q.0 = at_key port_key q.0 (put port_key after a.controller.ports) x there in

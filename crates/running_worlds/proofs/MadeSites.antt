@@ -1,14 +1,12 @@
 -- a controller or a switch of a network acts: the numbers of each node still fit, and each frame is a packet's or a message's
 
-use Rattle.std.proofs.Common.{◌≡◌, ℕ, ◌<◌, Bool, true, false, List, [], ◌∷◌, Option, None, Some, refl, sym, ◌∙◌, ap, subst, arith, ◌⊎◌, inl, inr, if◌then◌else◌}
-use Rattle.std.specs.Prelude.{◌^◌, nat_eq}
-use Rattle.std.proofs.lemmas.Bool.Decides.{nat_tests}
+use Rattle.std.proofs.Common.{◌≡◌, ◌<◌, List, [], ◌∷◌, Option, None, Some, refl, sym, subst}
+use Rattle.std.specs.Prelude.{◌^◌}
 use Rattle.net_types.specs.declared.node.NodeId.{NodeId}
 use Rattle.net_types.specs.declared.node.Place.{Place}
 use Rattle.net_types.specs.declared.node.Place.TheVariants.{Down, Up, Out}
 use Rattle.atm_cells.specs.declared.cell.Cell.{Cell}
 use Rattle.ordered_lists.specs.Ordered.{Every}
-use Rattle.keyed_lists.specs.Keyed.{at, put}
 use Rattle.crossbar_model.specs.Channels.{IsLinkPort}
 use Rattle.world_model.specs.Switch as switches
 use Rattle.port_model.specs.Setup.{Setup}
@@ -18,8 +16,9 @@ use Rattle.controller_views.specs.Ready.{IsReadyPort, IsReady}
 use Rattle.controller_lifts.proofs.Kept.{Of}
 use Rattle.controller_lifts.proofs.Ready.{Fits}
 use Rattle.controller_lifts.proofs.Unspent.{Unspent}
-use Rattle.world_model.specs.World.{World, Site, site_key, site_at, controller_acts, at_controller, switch_acts, at_switch}
+use Rattle.world_model.specs.World.{World, Site, site_at, controller_acts, at_controller, switch_acts, at_switch}
 use Rattle.world_model.specs.Places.{place_node, with_queue_in, with_queue_of, with_queue}
+pub use Rattle.world_views.proofs.Put.{put_found, Sited, put_sited}
 use Rattle.world_views.specs.Made.{AreMade}
 use Rattle.world_views.specs.Ready.{setups_of, IsReadySite}
 use Rattle.world_views.specs.Shown.{acting}
@@ -34,9 +33,6 @@ pub record IsKnown (site : Site) : Type 0 where
   pub address : site.controller.address.0 < 2 ^ 32
   pub sized : IsSized site.switch.ports
 
-abbrev pub Sited : (Site → Type 0) → List Site → Type 0
-Sited P sites = (node : NodeId) (site : Site) → at site_key node.0 sites ≡ Some site → P site
-
 pub record Before (v : World) : Type 0 where
   pub made : AreMade v.notes.frames
   pub sites : Sited IsKnown v.sites
@@ -48,35 +44,6 @@ pub record Behind (v : World) : Type 0 where
 
 pub unchanged : (v : World) → Before v → Behind v
 unchanged v h = record { made = h.made; sites = λ node site e. (h.sites node site e).ready }
-
--- what is found once a site was put is that site, or was found before
-pub put_found : (new : Site) (sites : List Site) (k : ℕ) (x : Site) → at site_key k (put site_key new sites) ≡ Some x → (new ≡ x) ⊎ (at site_key k sites ≡ Some x)
-put_found new [] k x e = inr e
-put_found new (z ∷ sites) k x e = by_new (nat_eq (site_key z) (site_key new)) refl (put_found new sites k x) e
-  where
-    moved : (a b k : ℕ) → nat_eq a b ≡ true → nat_eq b k ≡ false → nat_eq a k ≡ false
-    moved a b k s t = grind (arith, nat_tests)
-
-    by_key : (t : Bool) → nat_eq (site_key new) k ≡ t → nat_eq (site_key z) (site_key new) ≡ true → (if t then Some new else at site_key k sites) ≡ Some x
-        → (new ≡ x) ⊎ ((if nat_eq (site_key z) k then Some z else at site_key k sites) ≡ Some x)
-    by_key true t same e = inl (cc e)
-    by_key false t same e = inr (ap (λ (b : Bool). if b then Some z else at site_key k sites) (moved (site_key z) (site_key new) k same t) ∙ e)
-
-    by_old : (t : Bool) → (at site_key k (put site_key new sites) ≡ Some x → (new ≡ x) ⊎ (at site_key k sites ≡ Some x))
-        → (if t then Some z else at site_key k (put site_key new sites)) ≡ Some x → (new ≡ x) ⊎ ((if t then Some z else at site_key k sites) ≡ Some x)
-    by_old true rest e = inr e
-    by_old false rest e = rest e
-
-    by_new : (s : Bool) → nat_eq (site_key z) (site_key new) ≡ s → (at site_key k (put site_key new sites) ≡ Some x → (new ≡ x) ⊎ (at site_key k sites ≡ Some x))
-        → at site_key k (if s then new ∷ sites else z ∷ put site_key new sites) ≡ Some x → (new ≡ x) ⊎ ((if nat_eq (site_key z) k then Some z else at site_key k sites) ≡ Some x)
-    by_new true same rest e = by_key (nat_eq (site_key new) k) refl same e
-    by_new false other rest e = by_old (nat_eq (site_key z) k) rest e
-
-pub put_sited : (P : Site → Type 0) (new : Site) (sites : List Site) → P new → Sited P sites → Sited P (put site_key new sites)
-put_sited P new sites p all node x e = elim (put_found new sites node.0 x e) [
-  | inl same ↦ subst P same p
-  | inr before ↦ all node x before
-]
 
 -- *A controller*: its parts
 fits_each : (xs : List Linked) → Every IsReadyPort xs → Every (Of Fits) xs
