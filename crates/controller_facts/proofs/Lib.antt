@@ -1,3 +1,4 @@
+pub mod Onward
 pub mod Moves
 pub mod Nodes
 pub mod Performing

@@ -54,6 +54,7 @@ use Rattle.world_model.specs.Reached.{Reaches, taken, hops, HasReached, delivere
 use Rattle.world_model.specs.Past.{Past, last_bound}
 use Rattle.world_model.specs.Headline.{WasAccepted}
 use Rattle.world_views.specs.Marks.{Heading, heading_at, HasCome, IsNewest, Means, control, local, plain, labelled}
+use Rattle.controller_facts.proofs.Onward.{octets_onward, packet_of}
 use Rattle.packet_worlds.proofs.Hops as laws
 use Rattle.packet_worlds.proofs.Ledger.{payload_new}
 use Rattle.packet_worlds.proofs.Cut.{one}
@@ -180,7 +181,7 @@ module _ (t : Turn) where
         let hop : laws.IsHop a.controller.table packet port = laws.goes_on a.controller.table packet port on in
         record {
           counted = come.counted;
-          fit = record { accepted = laws.accepted_onward packet come.fit.accepted; octets = laws.octets_onward packet come.fit.octets };
+          fit = record { accepted = laws.accepted_onward packet come.fit.accepted; octets = octets_onward packet come.fit.octets };
           time = t.time;
           so_far = omega (arith, turn.timed);
           reached = hops came.packet a.controller.node packet come.time t.time port far come.reached (omega (arith, come.so_far, turn.timed)) hop.lives
@@ -268,9 +269,9 @@ module _ (t : Turn) where
     good_forwarded a came packet (On port) ready is come newest good =
         let hop : laws.IsHop a.controller.table packet port = laws.goes_on a.controller.table packet port is in
         let to = ready.linked packet port hop.routed in
-        let p = laws.packet_of packet (laws.accepted_parts packet come.fit.accepted).0 in
+        let p = packet_of packet (laws.accepted_parts packet come.fit.accepted).0 in
         good_goes a came (onward packet) port to.0 (grant_by a.controller port (onward packet)) ready refl to.1 to.2
-        (λ flow of. laws.wraps flow packet p (laws.octets_onward packet come.fit.octets) of)
+        (λ flow of. laws.wraps flow packet p (octets_onward packet come.fit.octets) of)
         (come_on a came packet port to.0 ready come is to.1) newest good
 
     -- *It stands at the node*

@@ -54,6 +54,7 @@ use Rattle.world_views.specs.Pairs.{by_branch}
 use Rattle.world_views.specs.Between.{setups_of, default, label, IsShapedBranch, home, out, joined, HasShapes, HasAllUsers, HasAllHops}
 use Rattle.causes.proofs.Shown.{IsPeer, peer_back}
 use Rattle.run_facts.specs.Nodes.{IsNodeOfRun}
+use Rattle.controller_facts.proofs.Onward.{octets_onward}
 use Rattle.packet_worlds.proofs.Hops as laws
 use Rattle.packet_worlds.proofs.Meant.{in_frames, IsProper}
 use Rattle.packet_worlds.proofs.Headings.{leads_down, leads_up, own_there, label_is, no_default, number_is}
@@ -291,7 +292,7 @@ module _ (policy : Policy) (past : Past) (topology_is : IsTopology past.topology
             payload (onward packet) made on.carried
             (record {
               counted = come.counted;
-              fit = record { accepted = laws.accepted_onward packet come.fit.accepted; octets = laws.octets_onward packet come.fit.octets };
+              fit = record { accepted = laws.accepted_onward packet come.fit.accepted; octets = octets_onward packet come.fit.octets };
               time = time;
               so_far = omega (arith, is.timed);
               reached = hops mark.packet node packet at_node.time time output.port far_is.0 at_node.reached (omega (arith, at_node.so_far, is.timed)) on.hop.lives

@@ -1,17 +1,12 @@
 -- one more frame is made: a packet's, on its way from a node to the next, or a message's
 
-use Rattle.std.proofs.Common.{◌≡◌, ℕ, zero, suc, ◌-◌, ◌/◌, ◌%◌, ◌<◌, ◌≤◌, Bool, true, false, cond, not, List, [], ◌∷◌, ◌++◌, length, take, drop, Option, None, Some, refl, sym, ◌∙◌, ap, subst, arith, if◌then◌else◌}
-use Rattle.std.specs.Prelude.{◌==◌, ◌&&◌, nat_lt, slice_index, slice_set}
+use Rattle.std.proofs.Common.{◌≡◌, ℕ, ◌-◌, ◌≤◌, Bool, true, false, cond, List, [], ◌∷◌, ◌++◌, length, Option, None, Some, refl, sym, ◌∙◌, ap, subst, if◌then◌else◌}
+use Rattle.std.specs.Prelude.{◌==◌, ◌&&◌}
 use Rattle.std.specs.Option.{option_and_then, option_map_or, option_or}
-use Rattle.std.specs.Int.{w16, to_be_bytes}
-use Rattle.std.proofs.lemmas.Bool.Decides.{nat_tests}
 use Rattle.std.proofs.lemmas.List.{length-set}
 use Rattle.net_types.specs.declared.node.PortNo.{PortNo}
 use Rattle.net_types.specs.declared.number.Mark.{Mark}
-use Rattle.octet_fields.proofs.FieldLemmas.{AreOctets, AreOctets-take, AreOctets-drop}
-use Rattle.ipv4_packet.specs.declared.validate.PacketFault.{PacketFault}
-use Rattle.ipv4_packet.specs.declared.validate.PacketFault.TheVariants.{Short, Version, Options, Length, TooLong, Checksum}
-use Rattle.ipv4_packet.specs.Packet.{protocol_of, ttl_of, total_length_of, header_sum, with_ttl, canonical, canonical_checksum, first_fault, IsPacket}
+use Rattle.ipv4_packet.specs.Packet.{protocol_of, ttl_of, with_ttl, first_fault, IsPacket}
 use Rattle.ipv4_packet.proofs.HeaderLemmas.{IsPacket-with_ttl}
 use Rattle.ipv4_packet.proofs.RouteLemmas.{protocol_of-rerouted, canonical-canonical}
 use Rattle.ipv4_forward.specs.Hop.{onward}
@@ -21,7 +16,6 @@ use Rattle.ipv4_packet.specs.declared.flow.FlowKind.TheVariants.{One, Two}
 use Rattle.ipv4_packet.specs.Flow.{kind_of, flow_of}
 use Rattle.ipv4_packet.specs.Parts.{same_flow}
 use Rattle.flow_encaps.specs.Labelled.{labelled_payload, Carries}
-use Rattle.flow_encaps.proofs.RebuiltLemmas.{AreOctets-pair}
 use Rattle.link_model.specs.declared.frames.Frame.{Frame}
 use Rattle.link_model.specs.declared.record.Refusal.{Refusal}
 use Rattle.link_model.specs.declared.record.Refusal.TheVariants.{ControlProtocol}
@@ -33,6 +27,7 @@ use Rattle.port_facts.proofs.Found.{find_passes}
 use Rattle.port_facts.proofs.Rules.{and_second}
 use Rattle.world_model.specs.Controller.{Controller, Linked, linked_at}
 use Rattle.world_model.specs.Packets.{control_protocol, refused_by, grant_by}
+use Rattle.controller_facts.proofs.Onward.{octets_onward, packet_of}
 use Rattle.port_views.proofs.Flows.{flow_is}
 use Rattle.frame_readings.proofs.Packets.{is_forwarded, whole_packet}
 use Rattle.world_views.specs.Made.{IsFit, IsMadeAs, AreMade}
@@ -46,56 +41,6 @@ made_more frames mark payload all it other found e = by (same_mark mark other) r
     by true t f = (let same : payload ≡ found = cc in subst (λ (m : Mark). IsMadeAs m found) ((same_mark-Decides mark other).0 t) (subst (IsMadeAs mark) same it))
 
 -- *A packet behind a hop* may be in the network too
-guard : (b : Bool) (fault : PacketFault) (rest : Option PacketFault) → (if b then Some fault else rest) ≡ None → (b ≡ false) × (rest ≡ None)
-guard true fault rest e = absurd (cc e)
-guard false fault rest e = (refl, e)
-
-pub packet_of : (octets : List ℕ) → first_fault octets ≡ None → IsPacket octets
-packet_of octets none =
-    let a = guard (nat_lt (length octets) 20) Short _ none in
-    let b = guard (not (slice_index octets 0 / 16 == 4)) Version _ a.1 in
-    let c = guard (not (slice_index octets 0 % 16 == 5)) Options _ b.1 in
-    let d = guard (not (total_length_of octets == length octets)) Length _ c.1 in
-    let e = guard (nat_lt 1500 (length octets)) TooLong _ d.1 in
-    let f = guard (not (header_sum octets == 65535)) Checksum _ e.1 in
-    record {
-      has_header = grind (arith, nat_tests, a.0);
-      fits_mtu = grind (arith, nat_tests, e.0);
-      version_and_header_length = first_octet (slice_index octets 0) b.0 c.0;
-      own_length = grind (arith, nat_tests, d.0);
-      sums_up = grind (arith, nat_tests, f.0);
-    }
-  where
-    first_octet : (n : ℕ) → not (n / 16 == 4) ≡ false → not (n % 16 == 5) ≡ false → n ≡ 69
-    first_octet n e f =
-        let high : n / 16 ≡ 4 = grind (arith, nat_tests, e) in
-        let low : n % 16 ≡ 5 = grind (arith, nat_tests, f) in
-        omega (arith, high, low)
-
-octets_append : (front back : List ℕ) → AreOctets front → AreOctets back → AreOctets (front ++ back)
-octets_append [] back small more place = more place
-octets_append (octet ∷ front) back small more zero = small 0
-octets_append (octet ∷ front) back small more (suc place) = octets_append front back (λ (i : ℕ). small (suc i)) more place
-
-octets_set : (octets : List ℕ) (place octet : ℕ) → octet < 256 → AreOctets octets → AreOctets (slice_set octets place octet)
-octets_set [] place octet is small i = small i
-octets_set (first ∷ octets) zero octet is small zero = is
-octets_set (first ∷ octets) zero octet is small (suc i) = small (suc i)
-octets_set (first ∷ octets) (suc place) octet is small zero = small 0
-octets_set (first ∷ octets) (suc place) octet is small (suc i) = octets_set octets place octet is (λ (j : ℕ). small (suc j)) i
-
-byte_small : (number : ℕ) → number % 256 < 256
-byte_small number = omega arith
-
-octets_canonical : (octets : List ℕ) → AreOctets octets → AreOctets (canonical octets)
-octets_canonical octets small =
-    let checksum = canonical_checksum octets in
-    octets_append (take 10 octets) (to_be_bytes w16 checksum ++ drop 12 octets) (AreOctets-take octets 10 small)
-    (octets_append (to_be_bytes w16 checksum) (drop 12 octets) (AreOctets-pair (checksum / 256 % 256) (checksum % 256) (byte_small (checksum / 256)) (byte_small checksum)) (AreOctets-drop octets 12 small))
-
-octets_onward : (packet : List ℕ) → AreOctets packet → AreOctets (onward packet)
-octets_onward packet small = octets_canonical (with_ttl packet (ttl_of packet - 1)) (octets_set packet 8 (ttl_of packet - 1) (omega (arith, small 8)) small)
-
 pub fit_packet : (packet : List ℕ) → IsFit packet → IsPacket packet
 fit_packet packet fit = packet_of packet (is_forwarded packet fit).whole
 
