@@ -195,6 +195,23 @@ pub fold_each : {X : Type 0} (P : Acted → Type 0) (Q : X → Type 0) (f : Acte
 fold_each P Q f each [] all a h = h
 fold_each P Q f each (x ∷ xs) all a h = fold_each P Q f each xs all.1 (f a x) (each a x all.0 h)
 
+-- *Joins are tried*, where it is kept as one is asked for, as its grant is lent and as its label is joined
+module _ (P : Acted → Type 0) (asked : (a : Acted) (request : Request) → P a → P (asks a request)) (lent : (a : Acted) (join : Join) → P a → P (enters_grant a join))
+    (joined : (a : Acted) (join : Join) → P a → P (enters_label a join)) where
+  joins_kept : (a : Acted) (o : Option Join) → P a → P (joins a o)
+  joins_kept a None h = h
+  joins_kept a (Some join) h = asked (enters_label (enters_grant a join) join) (MoveBranch join.input (home_of join.input) (output_of join)) (joined (enters_grant a join) join (lent a join h))
+
+  tries_join_kept : (a : Acted) (input : End) → P a → P (tries_join a input)
+  tries_join_kept a input h = by_label (label_on a.controller input)
+    where
+      by_label : (o : Option Label) → P (tries_label a input o)
+      by_label None = h
+      by_label (Some label) = on_both P (may_join a.controller input label) (joins a (join_for a.controller input label.flow)) a (joins_kept a (join_for a.controller input label.flow) h) h
+
+  pub tries_joins_kept : (a : Acted) → P a → P (tries_joins a)
+  tries_joins_kept a h = fold_kept P tries_join tries_join_kept (flat_map inputs_at a.controller.ports) a h
+
 module _ (P : Acted → Type 0) (k : Kept P) where
   same : (a b : Acted) → b.controller.node ≡ a.controller.node → b.controller.queue ≡ a.controller.queue → b.controller.reassembly ≡ a.controller.reassembly → b.controller.ports ≡ a.controller.ports → b.controller.adjacency ≡ a.controller.adjacency → b.notes ≡ a.notes → P a → P b
   same a b o q r p s n h = k.alike a b (alike a b o q r p s n) h
@@ -330,20 +347,6 @@ module _ (P : Acted → Type 0) (k : Kept P) where
 
   enters_label_kept : (a : Acted) (join : Join) → P a → P (enters_label a join)
   enters_label_kept a join h = at_port_kept a join.input.port (λ setup desk w. port_joins.joined w (number_of_channel join.input.channel) (output_of join)) (λ linked. joined_calm IsCalm calm_notes (begins a linked) (number_of_channel join.input.channel) (output_of join) tt) h
-
-  joins_kept : (a : Acted) (o : Option Join) → P a → P (joins a o)
-  joins_kept a None h = h
-  joins_kept a (Some join) h = asks_kept (enters_label (enters_grant a join) join) (MoveBranch join.input (home_of join.input) (output_of join)) (enters_label_kept (enters_grant a join) join (enters_grant_kept a join h))
-
-  tries_join_kept : (a : Acted) (input : End) → P a → P (tries_join a input)
-  tries_join_kept a input h = by_label (label_on a.controller input)
-    where
-      by_label : (o : Option Label) → P (tries_label a input o)
-      by_label None = h
-      by_label (Some label) = on_both P (may_join a.controller input label) (joins a (join_for a.controller input label.flow)) a (joins_kept a (join_for a.controller input label.flow) h) h
-
-  tries_joins_kept : (a : Acted) → P a → P (tries_joins a)
-  tries_joins_kept a h = fold_kept P tries_join tries_join_kept (flat_map inputs_at a.controller.ports) a h
 
   -- *Changes of routes*
   begins_change_kept : (a : Acted) (change : RouteChange) → P a → P (begins_change a change)
@@ -511,7 +514,7 @@ module _ (P : Acted → Type 0) (k : Kept P) where
   ticks_on_kept : (a : Acted) (step : sides.Step Party) → IsNamed step.side → AnswersNamed step.answer → P a → P (tries_joins (ticks_ports (sends_again (steps a step))))
   ticks_on_kept a step named said h =
       let again : Acted = sends_again (steps a step) in
-      tries_joins_kept (ticks_ports again) (fold_kept P ticks_port ticks_port_kept (ports_of again.controller) again (again_kept (steps a step) (steps_kept a step named said h)))
+      tries_joins_kept P asks_kept enters_grant_kept enters_label_kept (ticks_ports again) (fold_kept P ticks_port ticks_port_kept (ports_of again.controller) again (again_kept (steps a step) (steps_kept a step named said h)))
 
   ticks_by_kept : (a : Acted) (step : sides.Step Party) (answer : Answer (Said Party) Party) → IsNamed step.side → AnswersNamed step.answer → P a → P (ticks_by a step answer)
   ticks_by_kept a step Quiet named said h = ticks_on_kept a step named said h

@@ -35,7 +35,6 @@ use Rattle.port_model.specs.DeskAnswers.{Answered, Unknown, Done, Ports, Failed,
 use Rattle.port_model.specs.declared.action.Action.{Action}
 use Rattle.port_model.specs.declared.action.Action.TheVariants as actions
 use Rattle.port_model.specs.Setup.{home_of}
-use Rattle.port_model.specs.Labels.{Label}
 use Rattle.port_model.specs.Port.{Work}
 use Rattle.port_model.specs.Counting.{counts, used}
 use Rattle.port_model.specs.Hearing.{hears}
@@ -51,14 +50,14 @@ use Rattle.world_model.specs.Sending.{says_gsmp, says_ifmp}
 use Rattle.world_model.specs.Asking.{sends_request, asks_next, asks, takes_back}
 use Rattle.world_model.specs.Resets.{cuts_of, cuts_label, cuts_default_of, cuts_default, cuts_gsmp, begins, with_work, closes_by, port_restarts_of, port_restarts, resets_gsmp, node_resets, node_restarts}
 use Rattle.world_model.specs.Performing.{does, does_in_estab, resets_of, resets_port, performs, performs_in_estab, Rule, works, at_port}
-use Rattle.world_model.specs.Joins.{Join, join_of, parts, gives_back, releases_join, releases_input, released_inputs, resets_spent, releases, join_for, may_join, enters_grant, output_of, enters_label, joins, tries_label, label_on, tries_join, inputs_at, tries_joins}
+use Rattle.world_model.specs.Joins.{Join, join_of, parts, gives_back, releases_join, releases_input, released_inputs, resets_spent, releases, enters_grant, output_of, enters_label, tries_joins}
 use Rattle.world_model.specs.Changes.{changed_joins, takes_join_back, begins_change, takes_change, may_take, takes_each, takes_changes, change_comes}
 use Rattle.world_model.specs.Meeting.{meets, up_ports, default_branches, ends_meeting, has_emptied, port_of, tells_port, behind_delete_all, causes_in_estab, causes, may_clear, clears_of, clears_port, clears, done, takes_answer, answer_comes}
 use Rattle.world_model.specs.Gsmp.{answers, steps, told, gsmp_holds}
 use Rattle.world_model.specs.Cells.{ifmp_holds, counted_at}
 use Rattle.world_model.specs.Ticks.{sends_again, ticks_port, ticks_ports, ticks_by, ticks}
 use Rattle.packet_worlds.proofs.Quiet.{Allows, allows_notes}
-use Rattle.causes.proofs.Rules.{fold_kept, fold_each}
+use Rattle.causes.proofs.Rules.{fold_kept, fold_each, tries_joins_kept}
 use Rattle.causes.proofs.Noting.{AllowsNotes, AllowsBinding, IsCalmAction, Calm, hears_calm, ticks_calm, done_calm, used_calm, counts_calm, closes_calm, joined_calm, parted_calm, lent_calm, given_back_calm, resets_calm, restarts_calm}
 
 -- what bears on frames, queues and notes is the same
@@ -222,20 +221,6 @@ module _ (Q : Record → Type 0) (may : Allows Q) (P : Acted → Type 0) (k : Ke
   enters_label_kept : (a : Acted) (join : Join) → P a → P (enters_label a join)
   enters_label_kept a join h = at_port_kept a join.input.port (λ setup desk w. port_joins.joined w (number_of_channel join.input.channel) (output_of join)) (λ linked. joined_calm Q port_notes (begins a linked) (number_of_channel join.input.channel) (output_of join) tt) h
 
-  joins_kept : (a : Acted) (o : Option Join) → P a → P (joins a o)
-  joins_kept a None h = h
-  joins_kept a (Some join) h = asks_kept (enters_label (enters_grant a join) join) (MoveBranch join.input (home_of join.input) (output_of join)) (enters_label_kept (enters_grant a join) join (enters_grant_kept a join h))
-
-  tries_join_kept : (a : Acted) (input : End) → P a → P (tries_join a input)
-  tries_join_kept a input h = by_label (label_on a.controller input)
-    where
-      by_label : (o : Option Label) → P (tries_label a input o)
-      by_label None = h
-      by_label (Some label) = on_both P (may_join a.controller input label) (joins a (join_for a.controller input label.flow)) a (joins_kept a (join_for a.controller input label.flow) h) h
-
-  tries_joins_kept : (a : Acted) → P a → P (tries_joins a)
-  tries_joins_kept a h = fold_kept P tries_join tries_join_kept (flat_map inputs_at a.controller.ports) a h
-
   -- *Changes of routes*
   begins_change_kept : (a : Acted) (change : RouteChange) → P a → P (begins_change a change)
   begins_change_kept a change h = on_both P a.controller.is_begun a _ h
@@ -365,7 +350,7 @@ module _ (Q : Record → Type 0) (may : Allows Q) (P : Acted → Type 0) (k : Ke
     ticks_on_kept : (a : Acted) (step : sides.Step Party) → P a → P (tries_joins (ticks_ports (sends_again (steps a step))))
     ticks_on_kept a step h =
         let again : Acted = sends_again (steps a step) in
-        tries_joins_kept (ticks_ports again) (fold_kept P ticks_port ticks_port_kept (ports_of again.controller) again (again_kept (steps a step) (steps_kept a step h)))
+        tries_joins_kept P asks_kept enters_grant_kept enters_label_kept (ticks_ports again) (fold_kept P ticks_port ticks_port_kept (ports_of again.controller) again (again_kept (steps a step) (steps_kept a step h)))
 
     ticks_by_kept : (a : Acted) (step : sides.Step Party) (answer : Answer (Said Party) Party) → P a → P (ticks_by a step answer)
     ticks_by_kept a step Quiet h = ticks_on_kept a step h
