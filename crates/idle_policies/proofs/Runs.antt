@@ -24,7 +24,7 @@ use Rattle.world_model.specs.Headline.{OffersNothing, is_bind}
 use Rattle.controller_facts.specs.Inputs.{takes_inputs}
 use Rattle.controller_facts.specs.Sound.{Opening, linked_setup, opened_by}
 use Rattle.controller_facts.proofs.Laws.{always_ports}
-use Rattle.run_facts.proofs.Opened.{opening_of, is_opening}
+use Rattle.lifetimes.proofs.Opened.{opening_of, is_opening}
 use Rattle.run_facts.proofs.Bound.{FedBy, run_fed_by}
 use Rattle.run_facts.proofs.Steps.{after_one, events_are_steps}
 use Rattle.way_words.proofs.Switching.{BindsNone}
