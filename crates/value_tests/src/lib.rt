@@ -22,8 +22,6 @@ mod lab_text_line_tests;
 #[cfg(test)]
 mod lab_text_numeral_tests;
 #[cfg(test)]
-mod link_model_ledger_tests;
-#[cfg(test)]
 mod link_model_notes_tests;
 #[cfg(test)]
 mod net_types_channel_tests;
