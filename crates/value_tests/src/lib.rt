@@ -12,8 +12,6 @@ mod crossbar_model_tests;
 #[cfg(test)]
 mod flow_ids_tests;
 #[cfg(test)]
-mod frame_model_tests;
-#[cfg(test)]
 mod ipv4_packet_tests;
 #[cfg(test)]
 mod lab_text_hex_line_tests;
