@@ -35,8 +35,6 @@ pub mod Past
 pub mod Users
 pub mod Owned
 pub mod Sent
-pub mod Copied
 pub mod Stretches
-pub mod Stays
 pub mod Causes
 pub mod Headline

@@ -1,8 +1,6 @@
--- Facts on order, of the cells and messages between the two ends of a link
+-- Facts on order, of the messages between the two ends of a link
 
-use Rattle.std.specs.Prelude.{◌≡◌, ℕ, ◌<◌, ◌≤◌, List, [], ◌∷◌, map, flat_map, slice_get, Contains, Option, None, Some}
-use Rattle.std.specs.Option.{option_and_then}
-use Rattle.net_types.specs.declared.node.NodeId.{NodeId}
+use Rattle.std.specs.Prelude.{◌≡◌, ℕ, ◌≤◌, Contains, Option, None, Some}
 use Rattle.net_types.specs.declared.number.Instance.{Instance}
 use Rattle.net_types.specs.declared.adjacency.Hello.{Hello}
 use Rattle.net_types.specs.declared.adjacency.HelloKind.TheVariants.{Ack}
@@ -12,37 +10,10 @@ use Rattle.adjacency_table.specs.Side.{Side}
 use Rattle.atm_cells.specs.declared.cell.Cell.{Cell}
 use Rattle.ifmp_wire.specs.declared.message.Message.{Message}
 use Rattle.ifmp_wire.specs.declared.message.Message.TheVariants.{Adjacency, Redirect, Reclaim, ReclaimAck, LabelRange, Error}
-use Rattle.link_model.specs.declared.frames.Frame.{Frame}
-use Rattle.frame_model.specs.Frame.{frame_cells}
 use Rattle.port_model.specs.Port.{Session}
-use Rattle.world_model.specs.Controller.{default_channel}
 use Rattle.world_model.specs.declared.link.LinkEnd.{LinkEnd}
 use Rattle.world_model.specs.World.{World}
-use Rattle.world_model.specs.Ways.{session_at, side_at, on_the_way, on_default_channel, gsmp_to_switch, gsmp_to_controller, ifmp_of, ifmp_under}
-
--- *The first list is the second one with some elements left out*
-pub data IsLeftOf {A : Type 0} : List A → List A → Type 0 where
-  none : IsLeftOf [] []
-  stays : (x : A) (xs ys : List A) → IsLeftOf xs ys → IsLeftOf (x ∷ xs) (x ∷ ys)
-  is_gone : (y : A) (xs ys : List A) → IsLeftOf xs ys → IsLeftOf xs (y ∷ ys)
-
--- *As they were cut*: all cells of all frames in the order of their making, and a list of cells, whatever their channel
-abbrev pub without_channel : Cell → Cell
-without_channel cell = record cell { header = record cell.header { channel = default_channel } }
-
-abbrev pub cells_of_frame : Frame → List Cell
-cells_of_frame frame = frame_cells default_channel frame.mark frame.payload
-
-abbrev pub AreAsCut : World → List Cell → Type 0
-AreAsCut w cells = IsLeftOf (map without_channel cells) (flat_map cells_of_frame w.notes.frames)
-
--- the cells of one default channel, and of GSMP in one direction, stand on the way in the order in which they were cut
-abbrev pub IsCutInOrder : World → (from to : LinkEnd) → Type 0
-IsCutInOrder w from to = AreAsCut w (on_default_channel w from to)
-
-pub record AreGsmpCutInOrder (w : World) (node : NodeId) : Type 0 where
-  pub down : AreAsCut w (gsmp_to_switch w node)
-  pub up : AreAsCut w (gsmp_to_controller w node)
+use Rattle.world_model.specs.Ways.{session_at, side_at, on_the_way, ifmp_under}
 
 -- *Redirection messages*: by their two instances and their number
 pub record Numbered : Type 0 where
@@ -57,17 +28,6 @@ numbered (Reclaim sender peer number label flow) = Some (record { sender = sende
 numbered (ReclaimAck sender peer number label flow) = Some (record { sender = sender; peer = peer; number = number })
 numbered (LabelRange sender peer number least greatest) = Some (record { sender = sender; peer = peer; number = number })
 numbered (Error sender peer number code label) = Some (record { sender = sender; peer = peer; number = number })
-
-abbrev pub number_of : Frame → Option Numbered
-number_of frame = option_and_then numbered (ifmp_of frame.payload)
-
--- those of one instance, which is one port's, were made with rising numbers
-abbrev pub AreRising : World → Type 0
-AreRising w =
-    (place later : ℕ) (one other : Frame) (first second : Numbered)
-    → slice_get w.notes.frames place ≡ Some one → slice_get w.notes.frames later ≡ Some other → place < later
-    → number_of one ≡ Some first → number_of other ≡ Some second → first.sender.0 ≡ second.sender.0
-    → first.number < second.number
 
 -- none with these two instances and a number below this one is on the way
 abbrev pub HasNoneBelow : World → (from to : LinkEnd) → (sender peer : Instance) → (least : ℕ) → Type 0
