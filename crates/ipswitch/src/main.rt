@@ -6,6 +6,8 @@ ghost use Rattle.std.specs.Vec.Iter.{into_iter_items};
 
 mod fault;
 mod laws;
+#[cfg(test)]
+mod network_tests;
 mod networks;
 mod run;
 mod sure;

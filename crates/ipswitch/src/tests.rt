@@ -21,7 +21,7 @@ fn words_of(alloc: Global, texts: &[&str]) -> Result<Vec<Word>, OutOfMemory> {
 }
 
 /// A source of a text in pieces of so many octets, whose reads fail at these calls.
-fn source_of(
+pub fn source_of(
     alloc: Global,
     text: &str,
     piece: usize,
@@ -38,7 +38,7 @@ fn source_of(
 
 /// The status and the sink of a run over this source, and over a sink in pieces of so many octets
 /// whose writes fail at these calls.
-fn outcome_over(
+pub fn outcome_over(
     alloc: Global,
     texts: &[&str],
     source: &mut MemSource,
@@ -54,7 +54,7 @@ fn outcome_over(
 
 /// The status and the sink of a run over a text and a sink, both in pieces of so many octets, of which
 /// none fails.
-fn outcome(
+pub fn outcome(
     alloc: Global,
     texts: &[&str],
     text: &str,
@@ -66,13 +66,20 @@ fn outcome(
     outcome_over(alloc, texts, &mut source, piece, &[])
 }
 
-const ONE_NODE: &str = "node a 10.0.1.1\nroute a 10.0.0.0/8 local\n";
+pub const ONE_NODE: &str = "node a 10.0.1.1\nroute a 10.0.0.0/8 local\n";
 
-const TWO_ROUTERS: &str =
+pub const TWO_ROUTERS: &str =
     "node a 10.0.1.1\nnode b 10.0.3.1\nlink a:1 b:1\nroute a 10.0.0.0/8 via 1\nroute b 10.0.0.0/8 local\n";
 
+pub const THREE_ROUTERS: &str =
+    "node a 10.0.1.1\nnode b 10.0.2.1\nnode c 10.0.3.1\nlink a:2 b:1\nlink b:2 c:1\nroute a 10.0.3.0/24 via 2\nroute b 10.0.3.0/24 via 2\nroute c 10.0.3.0/24 local\n";
+
+/// The switches are met, and then a packet crosses two links.
+const OVER_TWO_LINKS: &str =
+    "tick *\nrun 200\nsend a 4500001c0001000004119ecf0a0001010a0003011389138a00080000\nrun 100\n";
+
 /// Both controllers have met their switches.
-const TWO_MET: &str =
+pub const TWO_MET: &str =
     "node a 10.0.1.1\nnode b 10.0.3.1\nlink a:1 b:1\nroute a 10.0.0.0/8 via 1\nroute b 10.0.0.0/8 local\ntick *\nrun 200\n";
 
 /// Three packets of two cells each; the last cell of the first is lost.
@@ -86,8 +93,9 @@ const LOSING_REPORT: &str =
 /// router; two that cross a link, whose canonical checksums are 0100 behind a field of FFFF, and 0000.
 /// Three packets of two cells each, of which the last cell of the first is lost, which breaks the
 /// second; and two equal packets, of which the last cell of the first and the first cell of the second
-/// are lost, so that what is left is a frame again. A frame of three cells where two have room; a cell
-/// of the switch's greeting that is lost, before a line that is refused; and a forged frame.
+/// are lost, so that what is left is a frame again. A frame of three cells where two have room, and where
+/// three have; a cell of the switch's greeting that is lost, before a line that is refused; forged frames
+/// at a controller and at a switch; a packet over two links, and where the router between them takes it.
 #[test]
 fn worked_scripts(rt: HostRuntime) -> Result<(), Fail> {
     for (network, events, report, status) in [
@@ -135,6 +143,12 @@ fn worked_scripts(rt: HostRuntime) -> Result<(), Fail> {
             0,
         ),
         (
+            TWO_ROUTERS,
+            "cells a 3\nsend a 450000540001000004119e970a0001010a0003011389138a004000000000000000000000000000000000000000000000000000000000000000000000000000000000000000000000000000000000000000000000\n",
+            "end events 1 sent 1 delivered 0 dropped 0 refused 0 losses 0 redirects 0 switched 0 chance 0\n",
+            0,
+        ),
+        (
             ONE_NODE,
             "send a 4500001c0001000004119ecf0a0001010a0003011389138a00080000\ntick a\ncarry a:c\nlose a:0\ncarry a:0\nrun 1\ntick z\n",
             "deliver a 1 4500001c0001000004119ecf0a0001010a0003011389138a00080000\nloss 0.2 Lost\nrefused 9 UnknownName\n",
@@ -144,6 +158,30 @@ fn worked_scripts(rt: HostRuntime) -> Result<(), Fail> {
             TWO_MET,
             "forge a:1 0/15 00\nrun 20\n",
             "forged a:1\nbad b encaps Short\nend events 4 sent 0 delivered 0 dropped 0 refused 0 losses 0 redirects 0 switched 0 chance 0\n",
+            0,
+        ),
+        (
+            TWO_ROUTERS,
+            "forge b:c 0/15 aaaa03000000880c02100000\nrun 1\n",
+            "forged b:c\nbad b gsmp Version\nend events 2 sent 0 delivered 0 dropped 0 refused 0 losses 0 redirects 0 switched 0 chance 0\n",
+            0,
+        ),
+        (
+            TWO_MET,
+            "forge a:1 0/15 aaaa0300000008004500001c0001000004119ed00a0001010a0003011389138a00080000\nrun 20\n",
+            "forged a:1\nbad b packet Checksum\nend events 4 sent 0 delivered 0 dropped 0 refused 0 losses 0 redirects 0 switched 0 chance 0\n",
+            0,
+        ),
+        (
+            THREE_ROUTERS,
+            OVER_TWO_LINKS,
+            "deliver c 1 4500001c000100000211a0cf0a0001010a0003011389138a00080000\nend events 4 sent 1 delivered 1 dropped 0 refused 0 losses 0 redirects 0 switched 0 chance 0\n",
+            0,
+        ),
+        (
+            THREE_ROUTERS,
+            "tick *\nrun 200\nsetroute b 10.0.3.0/24 local\nsend a 4500001c0001000004119ecf0a0001010a0003011389138a00080000\nrun 100\n",
+            "routes b 1\ndeliver b 1 4500001c0001000003119fcf0a0001010a0003011389138a00080000\nend events 5 sent 1 delivered 1 dropped 0 refused 0 losses 0 redirects 0 switched 0 chance 0\n",
             0,
         ),
     ] {
@@ -159,9 +197,7 @@ fn worked_scripts(rt: HostRuntime) -> Result<(), Fail> {
 /// queues, and the packet.
 #[test]
 fn the_meter_counts_events(rt: HostRuntime) -> Result<(), Fail> {
-    let script = format!(in rt.alloc();
-        "node a 10.0.1.1\nnode b 10.0.2.1\nnode c 10.0.3.1\nlink a:2 b:1\nlink b:2 c:1\nroute a 10.0.3.0/24 via 2\nroute b 10.0.3.0/24 via 2\nroute c 10.0.3.0/24 local\ntick *\nrun 200\n{ONE_PACKET}run 100\n"
-    )?;
+    let script = format!(in rt.alloc(); "{THREE_ROUTERS}{OVER_TWO_LINKS}")?;
     let words = words_of(rt.alloc(), &["replay"])?;
     let mut source = SureSource::new(script.as_bytes().to_vec(rt.alloc())?, 4096);
     let mut sink = SureSink::new();
@@ -179,18 +215,27 @@ fn the_meter_counts_events(rt: HostRuntime) -> Result<(), Fail> {
     Ok(())
 }
 
-/// A packet of 1501 octets whose Total Length says so.
+/// A packet of 1501 octets whose Total Length says so; and a line of 5000 letters.
 #[test]
-fn long_packet_is_refused(rt: HostRuntime) -> Result<(), Fail> {
-    let mut script = String::from_str(rt.alloc(), "node a 10.0.1.1\nsend a 450005dd")?;
-    for _ in 0..1497 {
-        script.push_str("00")?;
+fn long_lines(rt: HostRuntime) -> Result<(), Fail> {
+    for (before, text, count, report, status) in [
+        (
+            "node a 10.0.1.1\nsend a 450005dd",
+            "00",
+            1497,
+            "refuse a 1 TooLong\nend events 1 sent 1 delivered 0 dropped 0 refused 1 losses 0 redirects 0 switched 0 chance 0\n",
+            0,
+        ),
+        (ONE_NODE, "x", 5000, "refused 3 LineTooLong\n", 2),
+    ] {
+        let mut script = String::from_str(rt.alloc(), before)?;
+        for _ in 0..count {
+            script.push_str(text)?;
+        }
+        let (given, sink) = outcome(rt.alloc(), &["replay"], script.as_str(), 4096)?;
+        assert_eq!(rt; given, status);
+        assert_eq!(rt; sink.written(), report.as_bytes());
     }
-    let (given, sink) = outcome(rt.alloc(), &["replay"], script.as_str(), 4096)?;
-    assert_eq!(rt; given, 0);
-    let report =
-        "refuse a 1 TooLong\nend events 1 sent 1 delivered 0 dropped 0 refused 1 losses 0 redirects 0 switched 0 chance 0\n";
-    assert_eq!(rt; sink.written(), report.as_bytes());
     Ok(())
 }
 
@@ -259,11 +304,11 @@ fn documents_are_replayed(rt: HostRuntime) -> Result<(), Fail> {
 #[test]
 fn drills_are_replayed(rt: HostRuntime) -> Result<(), Fail> {
     let mut source = source_of(rt.alloc(), "", 4096, &[1])?;
-    let (given, sink) = outcome_over(rt.alloc(), &["drill", "5"], &mut source, 4096, &[])?;
+    let (given, sink) = outcome_over(rt.alloc(), &["drill", "1"], &mut source, 4096, &[])?;
     assert_eq!(rt; given, 0);
     assert_eq!(rt;
         sink.written(),
-        "end events 915 sent 400 delivered 338 dropped 0 refused 0 losses 101 redirects 34 switched 863 chance 0\n".as_bytes()
+        "end events 915 sent 400 delivered 338 dropped 0 refused 0 losses 93 redirects 47 switched 1319 chance 0\n".as_bytes()
     );
     Ok(())
 }
@@ -346,6 +391,8 @@ fn refused_lines(rt: HostRuntime) -> Result<(), Fail> {
         ("tick", "refused 7 Arity\n"),
         ("forge a:1 256/15 00", "refused 7 BadChannel\n"),
         ("forward a:1", "refused 7 UnknownWord\n"),
+        ("unroute a 10.0.0.0/9", "refused 7 NoPrefix\n"),
+        ("labels b 1 3/40 3/40", "refused 7 BadNumber\n"),
     ] {
         let script = format!(in rt.alloc(); "{TWO_ROUTERS}\n{line}\nnode d 10.0.4.1\n")?;
         let (given, sink) = outcome(rt.alloc(), &["replay"], script.as_str(), 4096)?;
@@ -355,10 +402,10 @@ fn refused_lines(rt: HostRuntime) -> Result<(), Fail> {
     Ok(())
 }
 
-const ONE_PACKET: &str = "send a 4500001c0001000004119ecf0a0001010a0003011389138a00080000\n";
+pub const ONE_PACKET: &str = "send a 4500001c0001000004119ecf0a0001010a0003011389138a00080000\n";
 
 const ONE_FATE: &str =
-    "deliver b 1 4500001c0001000003119fcf0a0001010a0003011389138a00080000\nend sent 1 delivered 1 dropped 0 refused 0\n";
+    "deliver c 1 4500001c000100000211a0cf0a0001010a0003011389138a00080000\nend sent 1 delivered 1 dropped 0 refused 0\n";
 
 const ONE_REPORT: &str =
     "deliver a 1 4500001c0001000004119ecf0a0001010a0003011389138a00080000\nend events 1 sent 1 delivered 1 dropped 0 refused 0 losses 0 redirects 0 switched 0 chance 0\n";
@@ -419,7 +466,7 @@ fn fail_each_write(
 #[test]
 fn faults_end_the_run(rt: HostRuntime) -> Result<(), Fail> {
     let losing = format!(in rt.alloc(); "{TWO_MET}{LOSING}")?;
-    let crossing = format!(in rt.alloc(); "{TWO_ROUTERS}{ONE_PACKET}")?;
+    let crossing = format!(in rt.alloc(); "{THREE_ROUTERS}{OVER_TWO_LINKS}")?;
     let rows: [(&[&str], &str, &str, usize, u32, u32); 7] = [
         (&["replay"], losing.as_str(), LOSING_REPORT, 1, 401, 216),
         (&["replay"], losing.as_str(), LOSING_REPORT, 7, 59, 31),
@@ -427,7 +474,7 @@ fn faults_end_the_run(rt: HostRuntime) -> Result<(), Fail> {
         (&["replay", "toml"], ONE_DOCUMENT, ONE_REPORT, 1, 137, 162),
         (&["replay", "toml"], ONE_DOCUMENT, ONE_REPORT, 7, 21, 24),
         (&["replay", "toml"], ONE_DOCUMENT, ONE_REPORT, 4096, 2, 1),
-        (&["ideal"], crossing.as_str(), ONE_FATE, 7, 24, 16),
+        (&["ideal"], crossing.as_str(), ONE_FATE, 7, 36, 16),
     ];
     for (texts, text, report, piece, reads, writes) in rows {
         fail_each_read(&rt, rt.alloc(), texts, text, piece, reads)?;

@@ -1,0 +1,423 @@
+//! Networks of whose reports the lines that matter are known; frames that no actor made; and a source that
+//! fails behind its last line.
+
+use crate::tests::{
+    ONE_NODE, ONE_PACKET, THREE_ROUTERS, TWO_MET, TWO_ROUTERS, outcome, outcome_over, source_of,
+};
+use lab_io::read_to_end;
+use net_types::OutOfMemory;
+use std::alloc::Global;
+use std::process::Abort;
+use std::str;
+use std::test::Fail;
+
+/// A text so many times.
+fn times(alloc: Global, text: &str, count: u32) -> Result<String, OutOfMemory> {
+    let mut all = String::new(alloc);
+    for _ in 0..count {
+        all.push_str(text)?;
+    }
+    Ok(all)
+}
+
+/// Whether these lines stand in a report in this order, perhaps with others between them.
+fn has_in_order(report: &str, wanted: &[&str]) -> bool {
+    let mut lines = report.lines();
+    for wanted_line in wanted {
+        if !lines.any(|line| line == *wanted_line) {
+            return false;
+        }
+    }
+    true
+}
+
+/// How many lines of a report begin so.
+fn count_of(report: &str, beginning: &str) -> usize {
+    report
+        .lines()
+        .filter(|line| line.starts_with(beginning))
+        .count()
+}
+
+/// Both controllers have met their switches, and then one another.
+const MET: &str = "tick *\nrun 200\ntick *\nrun 200\n";
+
+const FOUR_ROUTERS: &str =
+    "node n1 10.0.1.1\nnode n2 10.0.2.1\nnode n3 10.0.3.1\nnode n4 10.0.4.1\nlink n1:2 n2:1\nlink n2:2 n3:1\nlink n3:2 n4:1\nroute n1 10.0.0.0/8 via 2\nroute n2 10.0.0.0/8 via 2\nroute n3 10.0.0.0/8 via 2\nroute n4 10.0.0.0/8 local\n";
+
+const FAR_PACKET: &str = "send n1 4500001c00010000201182cf0a0001010a0003011389138a00080000\n";
+
+/// A flow whose fourth packet gets it a label, under which a fifth comes; one whose label is idle, and is
+/// spare again. A restart at the label's node: the next packet comes without a label, and no label is bound
+/// before the neighbours have met. A restart in the middle of a join: the switch keeps it until the controller
+/// has met the switch, and then what comes under the label is lost; the label is bound anew once the
+/// neighbours have met. A switch that restarts, and is met again. A switch with room for one cell, which never
+/// says which ports it has: nothing is connected there. A flow whose label has a VPI.
+#[test]
+fn worked_networks(rt: HostRuntime) -> Result<(), Fail> {
+    let alloc = rt.alloc();
+    let four = times(alloc, ONE_PACKET, 4)?;
+    let counted = format!(in alloc; "{MET}{four}run 100\n")?;
+    let bound = format!(in alloc; "{counted}tick *\nrun 200\n{ONE_PACKET}run 40\n")?;
+    let four_far = times(alloc, FAR_PACKET, 4)?;
+    let many_far = times(alloc, FAR_PACKET, 36)?;
+    let joined = format!(in alloc; "{MET}{four_far}run 100\ntick *\nrun 200\n{many_far}run 400\n")?;
+    let rows: [(String, &[&str], &[(&str, usize)], &str); 7] = [
+        (
+            format!(in alloc; "{TWO_ROUTERS}{bound}")?,
+            &[
+                "open a 1",
+                "open b 1",
+                "deliver b 1 4500001c0001000003119fcf0a0001010a0003011389138a00080000",
+                "deliver b 2 4500001c0001000003119fcf0a0001010a0003011389138a00080000",
+                "deliver b 3 4500001c0001000003119fcf0a0001010a0003011389138a00080000",
+                "deliver b 4 4500001c0001000003119fcf0a0001010a0003011389138a00080000",
+                "bind b 1 32 450003110a0001010a0003011389138a",
+                "deliver b 5 4500001c0001000003119fcf0a0001010a0003011389138a00080000",
+            ],
+            &[("deliver b ", 5)],
+            "end events 13 sent 5 delivered 5 dropped 0 refused 0 losses 0 redirects 1 switched 0 chance 0",
+        ),
+        (
+            format!(in alloc; "{TWO_ROUTERS}timers 60 20 1\n{counted}{MET}tick *\nrun 200\n")?,
+            &[
+                "bind b 1 32 450003110a0001010a0003011389138a",
+                "free b 1 32",
+            ],
+            &[],
+            "end events 15 sent 4 delivered 4 dropped 0 refused 0 losses 0 redirects 1 switched 0 chance 0",
+        ),
+        (
+            format!(in alloc;
+                "{TWO_ROUTERS}{bound}restart b\n{MET}tick *\nrun 200\n{ONE_PACKET}run 40\n"
+            )?,
+            &[
+                "open b 1",
+                "bind b 1 32 450003110a0001010a0003011389138a",
+                "close b 1",
+                "deliver b 6 4500001c0001000003119fcf0a0001010a0003011389138a00080000",
+            ],
+            &[("open b 1", 1), ("bind b 1 32 ", 1), ("loss 6.", 0)],
+            "end events 22 sent 6 delivered 6 dropped 0 refused 0 ",
+        ),
+        (
+            format!(in alloc;
+                "{FOUR_ROUTERS}{joined}restart n2\n{FAR_PACKET}run 100\n{MET}{FAR_PACKET}run 100\n{MET}{MET}{MET}{MET}{four_far}run 100\n"
+            )?,
+            &[
+                "bind n2 1 32 45001f110a0001010a0003011389138a",
+                "join n2 1 32 2 32",
+                "close n2 1",
+                "deliver n4 41 4500001c000100001d1185cf0a0001010a0003011389138a00080000",
+                "loss 42.1 Unconnected",
+                "open n2 1",
+                "bind n2 1 32 45001f110a0001010a0003011389138a",
+            ],
+            &[("bind n2 1 32 ", 2), ("loss 42.", 1)],
+            "end events 78 sent 46 delivered 45 dropped 0 refused 0 ",
+        ),
+        (
+            format!(in alloc;
+                "{THREE_ROUTERS}tick *\nrun 200\nrestartswitch b\n{ONE_PACKET}run 20\n{MET}{ONE_PACKET}run 100\n"
+            )?,
+            &[
+                "loss 1.1 Unconnected",
+                "deliver c 2 4500001c000100000211a0cf0a0001010a0003011389138a00080000",
+            ],
+            &[("deliver ", 1)],
+            "end events 11 sent 2 delivered 1 dropped 0 refused 0 ",
+        ),
+        (
+            format!(in alloc; "{FOUR_ROUTERS}cells n2 1\n{joined}")?,
+            &[],
+            &[
+                ("bad ", 0),
+                ("chance ", 0),
+                ("bind n2 ", 0),
+                ("join n2 ", 0),
+            ],
+            "end events 48 sent 40 ",
+        ),
+        (
+            format!(in alloc;
+                "version 2\n{TWO_ROUTERS}labels a 1 3/40 3/40\nlabels b 1 3/40 3/40\n{bound}"
+            )?,
+            &[
+                "open a 1",
+                "open b 1",
+                "deliver b 4 4500001c0001000003119fcf0a0001010a0003011389138a00080000",
+                "bind b 1 3/40 450003110a0001010a0003011389138a",
+                "deliver b 5 4500001c0001000003119fcf0a0001010a0003011389138a00080000",
+            ],
+            &[("deliver b ", 5)],
+            "end events 13 sent 5 delivered 5 dropped 0 refused 0 losses 0 redirects 1 switched 0 chance 0",
+        ),
+    ];
+    for (script, lines, counts, end) in rows {
+        let (given, sink) = outcome(alloc, &["replay"], script.as_str(), 4096)?;
+        let report = str::from_utf8(sink.written())?;
+        assert_eq!(rt; given, 0, "{script}");
+        assert!(rt; has_in_order(report, lines), "{script}{report}");
+        for (beginning, count) in counts {
+            assert_eq!(rt; count_of(report, beginning), *count, "{beginning} {script}");
+        }
+        assert!(rt;
+            report
+                .lines()
+                .last()
+                .is_some_and(|line| line.starts_with(end)),
+            "{script}{report}"
+        );
+    }
+    Ok(())
+}
+
+/// What nobody made comes to an actor, which says why it refuses it, and does nothing else.
+fn assert_refused(
+    rt: &impl Abort,
+    alloc: Global,
+    begun: &str,
+    queue: &str,
+    frame: &str,
+    why: &str,
+) -> Result<(), Fail> {
+    let script = format!(in alloc; "{begun}forge {queue} {frame}\nrun 40\n")?;
+    let (given, sink) = outcome(alloc, &["replay"], script.as_str(), 4096)?;
+    let report = str::from_utf8(sink.written())?;
+    let wanted = format!(in alloc; "forged {queue}\nbad b {why}\nend events ")?;
+    assert_eq!(rt; given, 0, "{script}");
+    assert!(rt; report.contains(wanted.as_str()), "{script}{report}");
+    Ok(())
+}
+
+/// Frames of the default encapsulation and of GSMP, each with the queue that it joins and the first test that it
+/// fails. The octets are written by hand from the layouts, with Python's sums for the checksums.
+const REFUSED_FRAMES: [(&str, &str, &str); 31] = [
+    ("a:1", "0/15 aaaa0300000008", "encaps Short"),
+    (
+        "a:1",
+        "0/15 aaaa0300000008064500001c0001000004119ecf0a0001010a0003011389138a00080000",
+        "encaps BadSnap",
+    ),
+    (
+        "a:1",
+        "0/15 aaaa0300000008004500001c0001000004119ecf0a0001010a0003",
+        "packet Short",
+    ),
+    (
+        "a:1",
+        "0/15 aaaa0300000008006500001c0001000004117ecf0a0001010a0003011389138a00080000",
+        "packet Version",
+    ),
+    (
+        "a:1",
+        "0/15 aaaa0300000008004600001c0001000004119dcf0a0001010a0003011389138a00080000",
+        "packet Options",
+    ),
+    (
+        "a:1",
+        "0/15 aaaa0300000008004500001d0001000004119ece0a0001010a0003011389138a00080000",
+        "packet Length",
+    ),
+    (
+        "a:1",
+        "0/15 aaaa0300000008004500001c0001000004119ece0a0001010a0003011389138a00080000",
+        "packet Checksum",
+    ),
+    (
+        "a:1",
+        "0/15 aaaa03000000080045000017000000000165ae820a000101ffffffff0104ff",
+        "ifmp Short",
+    ),
+    (
+        "a:1",
+        "0/15 aaaa0300000008004500003c000000000165ae5d0a000101ffffffff0204756b0000000100000002000000070104003c00000020450003110a0001010a0003011389138a",
+        "ifmp Version",
+    ),
+    (
+        "a:1",
+        "0/15 aaaa0300000008004500003c000000000165ae5d0a000101ffffffff010976660000000100000002000000070104003c00000020450003110a0001010a0003011389138a",
+        "ifmp OpCode",
+    ),
+    (
+        "a:1",
+        "0/15 aaaa03000000080045000028000000000165ae710a000101ffffffff0107fece00000001000000020000000700000020",
+        "ifmp Size",
+    ),
+    (
+        "a:1",
+        "0/15 aaaa0300000008004500003c000000000165ae5d0a000101ffffffff0104766a0000000100000002000000070104003c00000020450003110a0001010a0003011389138a",
+        "ifmp Checksum",
+    ),
+    (
+        "a:1",
+        "0/15 aaaa0300000008004500003c000000000165ae5d0a000101ffffffff0104746b0000000100000002000000070304003c00000020450003110a0001010a0003011389138a",
+        "ifmp FlowType",
+    ),
+    (
+        "a:1",
+        "0/15 aaaa0300000008004500003c000000000165ae5d0a000101ffffffff0104766c0000000100000002000000070103003c00000020450003110a0001010a0003011389138a",
+        "ifmp FlowLength",
+    ),
+    (
+        "a:1",
+        "0/15 aaaa0300000008004500003c000000000165ae5d0a000101ffffffff010476a70000000100000002000000070104000000000020450003110a0001010a0003011389138a",
+        "ifmp ZeroLifetime",
+    ),
+    (
+        "a:1",
+        "0/15 aaaa0300000008004500003c000000000165ae5d0a000101ffffffff0104756b0000000100000002000000070104003c01000020450003110a0001010a0003011389138a",
+        "ifmp LabelReserved",
+    ),
+    (
+        "a:1",
+        "0/15 aaaa0300000008004500002c000000000165ae6d0a000101ffffffff0107fe6f0000000100000002000000070000005f00000020",
+        "ifmp RangeOrder",
+    ),
+    (
+        "a:1",
+        "0/15 aaaa0300000008004500002c000000000165ae6d0a000101ffffffff0108f9cd0000000100000002000000070500000000000020",
+        "ifmp ErrorCode",
+    ),
+    (
+        "a:1",
+        "0/15 aaaa0300000008004500003c000000000165ae5d0a000101ffffffff010576a50000000100000002000000070104000100000020450003110a0001010a0003011389138a",
+        "ifmp Reserved",
+    ),
+    (
+        "a:1",
+        "0/15 aaaa03000000080045000038000000000165ae610a000101ffffffff01049c8f0000000100000002000000070203003c00000020450103000a0001010a000301",
+        "ifmp Reserved",
+    ),
+    (
+        "a:1",
+        "0/15 aaaa0300000008004500003c000000000165ae5d0a000101ffffffff0104796b0000000100000002000000070104003c00000020450000110a0001010a0003011389138a",
+        "ifmp FlowFields",
+    ),
+    ("b:c", "0/15 aaaa03000000880c010200", "gsmp Short"),
+    (
+        "b:c",
+        "0/15 aaaa03000000880b0110020000000005000000000000000000000000000000000000000000000000",
+        "gsmp Snap",
+    ),
+    ("b:c", "0/15 aaaa03000000880c02100000", "gsmp Version"),
+    (
+        "b:c",
+        "0/15 aaaa03000000880c0111020000000005000000090000000100000020000000000010002000000000",
+        "gsmp MessageType",
+    ),
+    (
+        "b:c",
+        "0/15 aaaa03000000880c0110010000000005000000090000000100000020000000000010002000000000",
+        "gsmp Result",
+    ),
+    (
+        "b:c",
+        "0/15 aaaa03000000880c0110020100000005000000090000000100000020000000000010002000000000",
+        "gsmp Code",
+    ),
+    (
+        "b:c",
+        "0/15 aaaa03000000880c0116020000000005000000090000000100000020000000000010002000000000",
+        "gsmp Size",
+    ),
+    (
+        "b:c",
+        "0/15 aaaa03000000880c0110020000000005000000090000000100000020000000000010002000000100",
+        "gsmp Reserved",
+    ),
+    (
+        "b:0",
+        "0/15 aaaa03000000880c0116020000000005000000090000000100000020000000000010002000000000",
+        "gsmp Size",
+    ),
+    (
+        "b:0",
+        "0/15 aaaa03000000880c0110020000000005000000090000000100000020000000000010002000000100",
+        "gsmp Reserved",
+    ),
+];
+
+/// Labelled frames of a flow of type 1, and the first tests that they fail.
+const REFUSED_OF_TYPE_1: [(&str, &str); 4] = [
+    ("001c00010000a2", "encaps Short"),
+    ("001c00010001a2ce00080000", "encaps Reserved"),
+    ("001d00010000a2ce00080000", "encaps Length"),
+    ("001c00010000a2ce00080000", "encaps Checksum"),
+];
+
+/// Labelled frames of a flow of type 2, and the first tests that they fail.
+const REFUSED_OF_TYPE_2: [(&str, &str); 5] = [
+    ("0000001c000100000001a2", "encaps Short"),
+    (
+        "0100001c000100000001a2df0800f7ff00000000",
+        "encaps Reserved",
+    ),
+    (
+        "0000001c000100000101a2df0800f7ff00000000",
+        "encaps Reserved",
+    ),
+    (
+        "0000001c000100000001a2df0800f7ff0000000000",
+        "encaps Length",
+    ),
+    (
+        "0000001c000100000001a2de0800f7ff00000000",
+        "encaps Checksum",
+    ),
+];
+
+/// Each name under which a frame, a packet or a message is refused has a frame that gets it. For labelled frames
+/// a label is bound first, to a flow of UDP and to one of ICMP.
+#[test]
+fn forged_frames(rt: HostRuntime) -> Result<(), Fail> {
+    let alloc = rt.alloc();
+    for (queue, frame, why) in REFUSED_FRAMES {
+        assert_refused(&rt, alloc, TWO_MET, queue, frame, why)?;
+    }
+    let zeros = times(alloc, "00", 1477)?;
+    let long = format!(in alloc;
+        "0/15 aaaa030000000800450005dd000100000411990e0a0001010a0003011389138a{zeros}"
+    )?;
+    assert_refused(&rt, alloc, TWO_MET, "a:1", long.as_str(), "packet TooLong")?;
+    let icmp = "send a 4500001c0001000004019edf0a0001010a0003010800f7ff00000000\n";
+    for (packet, frames) in [
+        (ONE_PACKET, REFUSED_OF_TYPE_1.as_slice()),
+        (icmp, REFUSED_OF_TYPE_2.as_slice()),
+    ] {
+        let four = times(alloc, packet, 4)?;
+        let begun = format!(in alloc; "{TWO_ROUTERS}{MET}{four}run 100\ntick *\nrun 200\n")?;
+        for (payload, why) in frames {
+            let frame = format!(in alloc; "0/32 {payload}")?;
+            assert_refused(&rt, alloc, begun.as_str(), "a:1", frame.as_str(), why)?;
+        }
+    }
+    Ok(())
+}
+
+/// A source that fails behind its last line, after so many reads. All its lines are read, and what is written is a
+/// front of what they give, which lacks at most what one buffer holds.
+#[test]
+fn a_read_fault_leaves_a_front(rt: HostRuntime) -> Result<(), Fail> {
+    let alloc = rt.alloc();
+    for (sends, failing) in [(100, 3), (2000, 33)] {
+        let packets = times(alloc, ONE_PACKET, sends)?;
+        let script = format!(in alloc; "{ONE_NODE}{packets}")?;
+        let mut report = String::new(alloc);
+        for before in 0..sends {
+            let number = before + 1;
+            let line = format!(in alloc;
+                "deliver a {number} 4500001c0001000004119ecf0a0001010a0003011389138a00080000\n"
+            )?;
+            report.push_str(line.as_str())?;
+        }
+        let mut source = source_of(alloc, script.as_str(), 4096, &[failing])?;
+        let (given, sink) = outcome_over(alloc, &["replay"], &mut source, 4096, &[])?;
+        let written = sink.written();
+        assert_eq!(rt; given, 3);
+        assert!(rt; read_to_end(alloc, &mut source, 4096)?.is_empty());
+        assert!(rt; report.as_bytes().starts_with(written));
+        assert!(rt; report.len() <= written.len().saturating_add(65_536));
+    }
+    Ok(())
+}
