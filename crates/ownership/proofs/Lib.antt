@@ -6,3 +6,7 @@ pub mod Reclaims
 pub mod Own
 pub mod Ways
 pub mod Binds
+pub mod Matching
+pub mod Heard
+pub mod Numbers
+pub mod Order

@@ -1,4 +1,4 @@
--- messages of IFMP with their sender's present instance are on the default channel of their way: on that of another port they
+-- messages of IFMP with an instance that their sender has, or was cleared under, are on the default channel of their way: on that of another port they
 -- would tell that its far end was cleared under this instance, and no two have had one instance
 
 use Rattle.std.proofs.Common.{◌≡◌, ℕ, zero, suc, Bool, true, List, [], ◌∷◌, ◌++◌, Option, None, Some, refl, sym, ◌∙◌, ap, subst, arith}
@@ -46,7 +46,7 @@ use Rattle.world_views.specs.Made.{AreMade}
 use Rattle.world_views.specs.Tied.{tells_its_own}
 use Rattle.world_views.specs.Marks.{Heading, heading_at, Means, early, control, local, plain, labelled}
 use Rattle.frame_readings.specs.Reading.{MarksAreRead, HasTold, HasSaid}
-use Rattle.run_facts.specs.Drawn.{ByPort}
+use Rattle.run_facts.specs.Drawn.{ByPort, own_at}
 use Rattle.run_facts.specs.Drawn.{DrawnOnce, RunsDrawOnce}
 use Rattle.unused_labels.proofs.Reading.{filtered_back}
 use Rattle.ownership.specs.Owning.{IsKept, HasOwnWays}
@@ -107,18 +107,29 @@ module _ (read : MarksAreRead) (past : Past) (kept : IsKept past) (drawn : Drawn
   on_default to last mark none (plain d l far end packet e come newest) = d
   on_default to last mark none (labelled d far end flow bound payload packet e carried come newest) = absurd (omega (arith, none, come.counted))
 
-  -- *One instance*: the port that told it is the one that has it
-  same_end : (one other : LinkEnd) (instance : Instance) → WasCleared past one instance.0 → IsOwn instance (side_at w other) → one ≡ other
-  same_end one other instance c own = port_is one other (drawn.once c.before past.now (ByPort one) (ByPort other) instance.0 (got past.worlds c.place c.before c.is_before) now (waited (side_at c.before one) c.waits) (owned (side_at w other) own))
-    where
-      waited : (o : Option (Side Peer)) → WaitsAs instance.0 o → option_map (λ (side : Side Peer). side.own.instance.0) o ≡ Some instance.0
-      waited None h = absurd h
-      waited (Some side) h = ap Some h.1
+  -- *One instance*: the ports that have had it are one
+  pub record HasHad (end : LinkEnd) (instance : ℕ) : Type 0 where
+    world : World
+    among : Contains past.worlds world
+    own : own_at world (ByPort end) ≡ Some instance
 
+  has_now : (end : LinkEnd) (instance : Instance) → IsOwn instance (side_at w end) → HasHad end instance.0
+  has_now end instance own = record { world = w; among = now; own = owned (side_at w end) own }
+    where
       owned : (o : Option (Side Peer)) → IsOwn instance o → option_map (λ (side : Side Peer). side.own.instance.0) o ≡ Some instance.0
       owned None h = absurd h
       owned (Some side) h = ap Some h
 
+  had_before : (end : LinkEnd) (instance : ℕ) → WasCleared past end instance → HasHad end instance
+  had_before end instance c = record { world = c.before; among = got past.worlds c.place c.before c.is_before; own = waited (side_at c.before end) c.waits }
+    where
+      waited : (o : Option (Side Peer)) → WaitsAs instance o → option_map (λ (side : Side Peer). side.own.instance.0) o ≡ Some instance
+      waited None h = absurd h
+      waited (Some side) h = ap Some h.1
+
+  same_end : (one other : LinkEnd) (instance : ℕ) → WasCleared past one instance → HasHad other instance → one ≡ other
+  same_end one other instance c had = port_is one other (drawn.once (had_before one instance c).world had.world (ByPort one) (ByPort other) instance (had_before one instance c).among had.among (had_before one instance c).own had.own)
+    where
       port_is : (a b : LinkEnd) → ByPort a ≡ ByPort b → a ≡ b
       port_is a b e = cc e
 
@@ -139,7 +150,7 @@ module _ (read : MarksAreRead) (past : Past) (kept : IsKept past) (drawn : Drawn
     way_down : (node : NodeId) (port : PortNo) (far : LinkEnd) → peer_of past.topology node port ≡ Some far → IsWay past.topology (record { down = record { node = node; port = port }; up = far })
     way_down node port far e = record { downstream = (peer_back past.topology kept.topology_is (record { node = node; port = port }) far e).back; upstream = e }
 
-    module _ (cell : Cell) (message : Message) (under : ifmp_under frames cell.mark ≡ Some message) (its_own : tells_its_own message ≡ true) (own : IsOwn (names_of message).sender (side_at w way.down)) where
+    module _ (cell : Cell) (message : Message) (under : ifmp_under frames cell.mark ≡ Some message) (its_own : tells_its_own message ≡ true) (had : HasHad way.down (names_of message).sender.0) where
       none : cell.mark.packet ≡ 0
       none = no_packet cell.mark message under
 
@@ -172,7 +183,7 @@ module _ (read : MarksAreRead) (past : Past) (kept : IsKept past) (drawn : Drawn
               (filtered_back (stands_on (default_home port).channel) (queue_at w (Up way.up.node)) cell has (on_home cell.header.channel port refl default)))) under its_own
 
           far_is : peer.0 ≡ way.down
-          far_is = same_end peer.0 way.down (names_of message).sender said own
+          far_is = same_end peer.0 way.down (names_of message).sender.0 said had
 
           same : port ≡ way.up.port
           same = ap (λ (e : LinkEnd). e.port) (some_is here way.up (sym (way_up way.up.node port peer.0 peer.1).upstream ∙ (ap (λ (e : LinkEnd). peer_of past.topology e.node e.port) far_is ∙ on_way)))
@@ -203,7 +214,7 @@ module _ (read : MarksAreRead) (past : Past) (kept : IsKept past) (drawn : Drawn
               (filtered_back (stands_on (default_home port).channel) (queue_at w (Down way.down.node)) cell has (on_home cell.header.channel port refl default))))) under its_own
 
           same : port ≡ way.down.port
-          same = ap (λ (e : LinkEnd). e.port) (same_end here way.down (names_of message).sender said own)
+          same = ap (λ (e : LinkEnd). e.port) (same_end here way.down (names_of message).sender.0 said had)
 
       -- *On the link*
       waits_out : Contains (queue_at w (Out way.down.node way.down.port)) cell → same_channel cell.header.channel default_channel ≡ true
@@ -265,8 +276,12 @@ module _ (read : MarksAreRead) (past : Past) (kept : IsKept past) (drawn : Drawn
   own_ways = record {
     copies = λ way on cell s has copy. copy_there way on cell s has copy;
     told = λ way on. (
-      (λ cell message has under its_own own. told_there way on cell message under its_own own has),
-      (λ cell message has under its_own own. told_there (record { down = way.up; up = way.down }) (back way on) cell message under its_own own has),
+      (λ cell message has under its_own own. told_there way on cell message under its_own (has_now way.down (names_of message).sender own) has),
+      (λ cell message has under its_own own. told_there (record { down = way.up; up = way.down }) (back way on) cell message under its_own (has_now way.up (names_of message).sender own) has),
+    );
+    cleared = λ way on. (
+      (λ cell message has under its_own c. told_there way on cell message under its_own (had_before way.down (names_of message).sender.0 c) has),
+      (λ cell message has under its_own c. told_there (record { down = way.up; up = way.down }) (back way on) cell message under its_own (had_before way.up (names_of message).sender.0 c) has),
     );
   }
 

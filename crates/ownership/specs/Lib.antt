@@ -1,3 +1,4 @@
+pub mod Order
 pub mod Owning
 pub mod Places
 pub mod Binds

@@ -18,11 +18,13 @@ use Rattle.world_model.specs.Places.{queue_at}
 use Rattle.world_model.specs.Ways.{side_at, on_the_way, on_default_channel, ifmp_under, copy_under}
 use Rattle.world_model.specs.Past.{Past}
 use Rattle.world_model.specs.Users.{Way, IsWay, IsOwn}
+use Rattle.world_model.specs.Owned.{WasCleared}
 use Rattle.world_model.specs.Headline.{AreOwned}
 use Rattle.controller_facts.specs.Sound.{IsSound}
 use Rattle.controller_law.specs.Match.{IsMatched}
 use Rattle.world_views.specs.Tied.{tells_its_own}
 use Rattle.world_views.specs.Between.{EachSite, IsWorld, setups_of}
+use Rattle.ownership.specs.Order.{IsInOrder}
 
 -- a network of a run whose controllers are sound, with joins and grants that match
 pub record IsKept (past : Past) : Type 0 where
@@ -39,11 +41,23 @@ HasOwnTold w from to =
     (cell : Cell) (message : Message) → Contains (on_the_way w from to) cell → ifmp_under w.notes.frames cell.mark ≡ Some message
     → tells_its_own message ≡ true → IsOwn (names_of message).sender (side_at w from) → Contains (on_default_channel w from to) cell
 
+-- so is one with an instance under which its sender's end was cleared, also where the end has drawn another since
+abbrev pub HasClearedTold : Past → (from to : LinkEnd) → Type 0
+HasClearedTold past from to =
+    (cell : Cell) (message : Message) → Contains (on_the_way past.now from to) cell
+    → ifmp_under past.now.notes.frames cell.mark ≡ Some message → tells_its_own message ≡ true
+    → WasCleared past from (names_of message).sender.0 → Contains (on_default_channel past.now from to) cell
+
 pub record HasOwnWays (past : Past) : Type 0 where
   pub copies : (way : Way) → IsWay past.topology way → (cell : Cell) (s : Standing) → Contains (queue_at past.now (Down way.up.node)) cell
       → copy_under past.now.notes.frames cell.mark ≡ Some s → same_channel cell.header.channel default_channel ≡ true
   pub told : (way : Way) → IsWay past.topology way → HasOwnTold past.now way.down way.up × HasOwnTold past.now way.up way.down
+  pub cleared : (way : Way) → IsWay past.topology way → HasClearedTold past way.down way.up × HasClearedTold past way.up way.down
 
 -- *Each label of each link is owned*
 abbrev pub LabelsAreOwned : Type 0
 LabelsAreOwned = (past : Past) → IsKept past → HasOwnWays past → AreOwned past
+
+-- *What is said on each way of each link* is in the order of its numbers
+abbrev pub WaysAreInOrder : Type 0
+WaysAreInOrder = (past : Past) → IsKept past → HasOwnWays past → (way : Way) → IsWay past.topology way → IsInOrder past.now way.down way.up

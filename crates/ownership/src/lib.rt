@@ -1,11 +1,11 @@
 //! Each label of each link is owned in a network of a run, between its events: who uses it stands for the flow that it was
 //! bound to last, nobody uses one that is spare or wired, a spare one leads to its controller, none that isn't recalled is
-//! reclaimed, and an end in Estab knows a peer that was cleared. It is read off what holds of the network. There is no code
-//! that runs.
+//! reclaimed, and an end in Estab knows a peer that was cleared. And what is said on each way of a link is in the order of its
+//! numbers. It is read off what holds of the network. There is no code that runs.
 #![tactic(auto)]
 
 ghost use Rattle.ownership.specs.Binds.{EachBindIsUnused};
-ghost use Rattle.ownership.specs.Owning.{LabelsAreOwned};
+ghost use Rattle.ownership.specs.Owning.{LabelsAreOwned, WaysAreInOrder};
 ghost use Rattle.ownership.specs.Places.{WaysAreOwn};
 
 use frame_readings::frames_are_read;
@@ -18,6 +18,7 @@ use unused_labels::labels_are_unused;
 /// are read, of each run, of a label's line and of labels that nobody uses, and its contract is the statement.
 pub fn labels_are_owned()
     ensures owned { LabelsAreOwned }
+    ensures ordered { WaysAreInOrder }
     ensures ways { WaysAreOwn }
     ensures binds { EachBindIsUnused }
 {

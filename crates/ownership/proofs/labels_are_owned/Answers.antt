@@ -7,6 +7,7 @@ use Rattle.ownership.proofs.Users.{stands_for_last}
 use Rattle.ownership.proofs.Knows.{knows}
 use Rattle.ownership.proofs.Joined.{spare_leads_home}
 use Rattle.ownership.proofs.Reclaims.{no_reclaims}
+use Rattle.ownership.proofs.Order.{ways_in_order}
 use Rattle.ownership.proofs.labels_are_owned.Goals as goal
 
 pub returns : goal.returns
@@ -21,6 +22,7 @@ returns c = record {
         downstream_knows = knows past kept way.down way.up (kept.world.cleared way on).1;
         upstream_knows = knows past kept way.up way.down (kept.world.cleared way on).0;
       };
+  ordered = ways_in_order c.label_is_owned.ensures.numbers_are_in_order;
   ways = ways_are_own c.frames_are_read.ensures.marks c.nodes_are_steady.ensures.drawn;
   binds = each_bind;
 }
