@@ -14,7 +14,7 @@ use Rattle.world_views.specs.Between.{IsWorld, HasPacketsOnce}
 use Rattle.world_views.specs.Kept.{HasAddresses, Comes, BindsUnusedAt}
 use Rattle.steady_routes.specs.Law.{changes_route, ChangesNoRoute, AreJourneys, FatesAreJourneys}
 use Rattle.idle_policies.specs.Law.{NothingIsBound}
-use Rattle.ownership.specs.Owning.{IsKept, HasOwnWays, LabelsAreOwned}
+use Rattle.ownership.specs.Owning.{IsKept, HasOwnWays, LabelsAreOwned, AreInOrder, WaysAreInOrder}
 use Rattle.ownership.specs.Places.{WaysAreOwn}
 use Rattle.ownership.specs.Binds.{EachBindIsUnused}
 use Rattle.ipswitch.specs.Law.{InFronts, LifetimesEnd, IsTrueRun}
@@ -44,6 +44,7 @@ pub record Reads : Type 0 where
   pub nodes : RunsHaveNodes
   pub ways : WaysAreOwn
   pub owned : LabelsAreOwned
+  pub ordered : WaysAreInOrder
   pub unused : (policy : Policy) (topology : Topology) (before : List Event) (event : Event) → Comes policy topology before event
       → IsWhole (past_of policy topology before) → BindsUnusedAt policy topology before event
   pub binds : EachBindIsUnused
@@ -98,6 +99,12 @@ module _ (r : Reads) (whole : HoldsInRuns IsWhole) (policy : Policy) (topology :
       let w = whole policy topology before run addresses tame in
       r.owned (past_of policy topology before) (is_kept r.nodes policy topology before run addresses w.world) (own_ways r.nodes r.ways policy topology before run addresses w)
 
+  ordered_fronts : (events : List Event) → IsRun policy topology events → InFronts policy topology events AreInOrder
+  ordered_fronts events run before after split tame =
+      let run = front_run policy topology before after (subst (IsRun policy topology) split run) in
+      let w = whole policy topology before run addresses tame in
+      r.ordered (past_of policy topology before) (is_kept r.nodes policy topology before run addresses w.world) (own_ways r.nodes r.ways policy topology before run addresses w)
+
   in_harmony : (events : List Event) → IsRun policy topology events → InFronts policy topology events IsInHarmony
   in_harmony events run before after split tame =
       (whole policy topology before (front_run policy topology before after (subst (IsRun policy topology) split run)) addresses tame).harmony
@@ -129,6 +136,7 @@ module _ (r : Reads) (whole : HoldsInRuns IsWhole) (policy : Policy) (topology :
   run_is_true events run = record {
     routing = routed events run;
     owned = owned_fronts events run;
+    ordered = ordered_fronts events run;
     harmony = in_harmony events run;
     causes = caused events run;
     lifetimes = lifetimes_end events;

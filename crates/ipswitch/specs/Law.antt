@@ -17,6 +17,7 @@ use Rattle.world_model.specs.Past.{Past, past_of}
 use Rattle.world_model.specs.Causes.{HasCauses}
 use Rattle.world_model.specs.Headline.{IsRun, IsTame, Headline, AreOwned, IsInHarmony, OffersNothing, BindsNothing}
 use Rattle.world_views.specs.Kept.{HasAddresses}
+use Rattle.ownership.specs.Owning.{AreInOrder}
 use Rattle.steady_routes.specs.Law.{ChangesNoRoute, AreJourneys}
 use Rattle.lifetimes.specs.Aging.{HasEnded}
 use Rattle.lifetimes.specs.Law.{SendsNone, EndsByReset}
@@ -67,6 +68,8 @@ pub record IsTrueRun (policy : Policy) (topology : Topology) (events : List Even
   pub routing : Headline policy topology events
   -- each label of each link is owned
   pub owned : InFronts policy topology events AreOwned
+  -- redirection messages on each way of each link are in the order of their numbers
+  pub ordered : InFronts policy topology events AreInOrder
   -- nothing is refused, and no message says that a label is taken or of another flow
   pub harmony : InFronts policy topology events IsInHarmony
   -- each frame that is broken stands beside its cause

@@ -59,5 +59,8 @@ abbrev pub LabelsAreOwned : Type 0
 LabelsAreOwned = (past : Past) → IsKept past → HasOwnWays past → AreOwned past
 
 -- *What is said on each way of each link* is in the order of its numbers
+abbrev pub AreInOrder : Past → Type 0
+AreInOrder past = (way : Way) → IsWay past.topology way → IsInOrder past.now way.down way.up
+
 abbrev pub WaysAreInOrder : Type 0
-WaysAreInOrder = (past : Past) → IsKept past → HasOwnWays past → (way : Way) → IsWay past.topology way → IsInOrder past.now way.down way.up
+WaysAreInOrder = (past : Past) → IsKept past → HasOwnWays past → AreInOrder past

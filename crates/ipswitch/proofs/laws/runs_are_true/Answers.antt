@@ -77,6 +77,7 @@ returns c =
       nodes = steady.sites;
       ways = c.labels_are_owned.ensures.ways;
       owned = c.labels_are_owned.ensures.owned;
+      ordered = c.labels_are_owned.ensures.ordered;
       unused = unused;
       binds = c.labels_are_owned.ensures.binds;
       once = c.packets_are_kept.ensures.once;
