@@ -1,11 +1,13 @@
 //! A worked packet under both of its flows.
 
-ghost use Rattle.std.specs.Prelude.{◌≡◌, ◌<◌};
+ghost use Rattle.std.specs.Prelude.{◌≡◌, ◌<◌, ◌≤◌, length};
 ghost use Rattle.ipv4_packet.specs.Flow.{IsFlow, kind_of};
+ghost use Rattle.flow_encaps.specs.Labelled.{labelled_payload};
 
 use flow_encaps::*;
 use ipv4_packet::{FlowId, FlowKind, check, set_ttl};
 use net_types::Addr;
+use std::process::Abort;
 
 /// A datagram from 10.0.1.1, port 5001, to 10.0.3.1, port 5002, with Time To Live 4.
 const PACKET: [u8; 28] = [
@@ -45,82 +47,79 @@ fn connection(ttl: u8) -> FlowId
     }
 }
 
-/// The payload is the same at Time To Live 4, 3 and 2, and gives each packet back.
+/// The hosts where their packets have Time To Live 4.
+const HOSTS: FlowId = FlowId::Two {
+    ttl: 4,
+    source: SOURCE,
+    destination: DESTINATION,
+};
+
+/// The packet is carried as this payload, and the payload gives it back.
+fn check_carried(rt: &impl Abort, flow: &FlowId, packet: &[u8; 28], payload: &[u8])
+    requires flow { IsFlow flow.now }
+    requires room { length (labelled_payload (kind_of flow.now) packet.now) ≤ 1500 }
+{
+    assert!(rt; check(packet).is_ok());
+    assert!(rt; ipv4_packet::matches(flow, packet));
+    let mut out = [0; 1500];
+    let size = wrap_flow(flow, packet, &mut out);
+    assert_eq!(rt; size, payload.len());
+    assert!(rt; out.starts_with(payload));
+    assert_eq!(rt; unwrap_flow(flow, payload, &mut out), Ok(28));
+    assert!(rt; out.starts_with(packet));
+}
+
+/// Under type 1 the payload is the same at Time To Live 4, 3 and 2; under type 2 it keeps TOS, protocol and
+/// ports.
 #[test]
-fn a_connection_keeps_its_payload(rt: HostRuntime) {
+fn a_packet_is_carried_under_both_of_its_flows(rt: HostRuntime) {
     for ttl in [4, 3, 2] {
-        let flow = connection(ttl);
         let mut packet = PACKET;
-        assert!(rt; check(&packet).is_ok());
         set_ttl(&mut packet, ttl);
-        assert!(rt; ipv4_packet::matches(&flow, &packet));
-        let mut out = [7; 1501];
-        let size = wrap_flow(&flow, &packet, &mut out);
-        assert!(rt; out.starts_with(&CONNECTION_PAYLOAD));
-        assert_eq!(rt; (size, out[12]), (12, 7));
-        assert_eq!(rt; unwrap_flow(&flow, &CONNECTION_PAYLOAD, &mut out), Ok(28));
-        assert!(rt; out.starts_with(&packet));
-        assert_eq!(rt; out[28], 7);
+        check_carried(&rt, &connection(ttl), &packet, &CONNECTION_PAYLOAD);
     }
+    check_carried(&rt, &HOSTS, &PACKET, &HOSTS_PAYLOAD);
 }
 
-#[test]
-fn hosts_keep_tos_protocol_and_ports(rt: HostRuntime) {
-    let flow = FlowId::Two {
-        ttl: 4,
-        source: SOURCE,
-        destination: DESTINATION,
-    };
-    assert!(rt; check(&PACKET).is_ok());
-    assert!(rt; ipv4_packet::matches(&flow, &PACKET));
-    let mut out = [7; 1500];
-    assert_eq!(rt; wrap_flow(&flow, &PACKET, &mut out), 20);
-    assert!(rt; out.starts_with(&HOSTS_PAYLOAD));
-    assert_eq!(rt; unwrap_flow(&flow, &HOSTS_PAYLOAD, &mut out), Ok(28));
-    assert!(rt; out.starts_with(&PACKET));
+/// Payloads of the connection and of the hosts: how many octets are left, the place, the octet there, and the
+/// refusal. Each passes the tests before its own.
+const CONNECTION_REFUSED: [(usize, usize, u8, EncapsFault); 6] = [
+    (7, 0, 0, EncapsFault::Short),
+    (11, 0, 0, EncapsFault::Length),
+    (12, 5, 1, EncapsFault::Reserved),
+    (12, 1, 0x1d, EncapsFault::Length),
+    (12, 7, 0xce, EncapsFault::Checksum),
+    (12, 3, 2, EncapsFault::Checksum),
+];
+
+const HOSTS_REFUSED: [(usize, usize, u8, EncapsFault); 5] = [
+    (11, 0, 0, EncapsFault::Short),
+    (20, 0, 1, EncapsFault::Reserved),
+    (20, 8, 1, EncapsFault::Reserved),
+    (20, 3, 0x1d, EncapsFault::Length),
+    (20, 9, 6, EncapsFault::Checksum),
+];
+
+/// What a payload is refused for.
+fn refusal(flow: &FlowId, payload: &[u8]) -> Option<EncapsFault>
+    requires { IsFlow flow.now }
+{
+    let mut out = [0; 1500];
+    unwrap_flow(flow, payload, &mut out).err()
 }
 
-/// Each refusal of both types, by a payload that passes the tests before it.
 #[test]
 fn payloads_are_refused_by_cause(rt: HostRuntime) {
-    let mut out = [7; 1500];
-    let flow = connection(4);
-    assert_eq!(rt;
-        unwrap_flow(&flow, &CONNECTION_PAYLOAD[..7], &mut out),
-        Err(EncapsFault::Short)
-    );
-    assert_eq!(rt;
-        unwrap_flow(&flow, &CONNECTION_PAYLOAD[..11], &mut out),
-        Err(EncapsFault::Length)
-    );
-    for (place, octet, fault) in [
-        (5, 1, EncapsFault::Reserved),
-        (1, 0x1d, EncapsFault::Length),
-        (7, 0xce, EncapsFault::Checksum),
-        (3, 2, EncapsFault::Checksum),
-    ] {
+    for (size, place, octet, fault) in CONNECTION_REFUSED {
+        assert!(rt; size <= 12 && place < 12);
         let mut payload = CONNECTION_PAYLOAD;
         payload[place] = octet;
-        assert_eq!(rt; unwrap_flow(&flow, &payload, &mut out), Err(fault));
+        assert_eq!(rt; refusal(&connection(4), &payload[..size]), Some(fault));
     }
-    let flow = FlowId::Two {
-        ttl: 4,
-        source: SOURCE,
-        destination: DESTINATION,
-    };
-    assert_eq!(rt;
-        unwrap_flow(&flow, &HOSTS_PAYLOAD[..11], &mut out),
-        Err(EncapsFault::Short)
-    );
-    for (place, octet, fault) in [
-        (0, 1, EncapsFault::Reserved),
-        (8, 1, EncapsFault::Reserved),
-        (3, 0x1d, EncapsFault::Length),
-        (9, 6, EncapsFault::Checksum),
-    ] {
+    for (size, place, octet, fault) in HOSTS_REFUSED {
+        assert!(rt; size <= 20 && place < 20);
         let mut payload = HOSTS_PAYLOAD;
         payload[place] = octet;
-        assert_eq!(rt; unwrap_flow(&flow, &payload, &mut out), Err(fault));
+        assert_eq!(rt; refusal(&HOSTS, &payload[..size]), Some(fault));
     }
-    assert_eq!(rt; out[0], 7);
 }

@@ -1,9 +1,10 @@
-//! Messages and their octets, by hand from the layouts.
+//! Messages and their octets, by hand from the layouts. Where octets are read as a message, they are the ones
+//! that are written for it, by the contracts of both.
 
-ghost use Rattle.std.specs.Prelude.{◌≤◌, length};
+ghost use Rattle.std.specs.Prelude.{◌<◌, ◌≤◌, length};
 
 use gsmp_wire::*;
-use net_types::{Channel, HelloKind, Instance};
+use std::alloc::Global;
 use std::test::Fail;
 
 /// A first controller greets; it knows no receiver.
@@ -68,158 +69,128 @@ const ALL_PORTS_REQUEST: [u8; 20] = [
     0x00, 0x00, 0x00, 0x09, 0x00, 0x00, 0x00, 0x00,
 ];
 
-/// Decodes these octets and writes what came of them; 0 where they are refused.
-fn again(octets: &[u8], out: &mut [u8]) -> usize
-    requires { length octets.now ≤ length out.old }
-{
-    match decode(octets) {
-        Ok(message) => encode(&message, out),
-        Err(_) => 0,
-    }
-}
-
-/// Each message is written as the octets that it was read from.
-#[test]
-fn messages_go_both_ways(rt: HostRuntime) {
-    let messages: [&[u8]; 8] = [
+/// The messages of these octets, as they are shown.
+const SHOWN: [(&[u8], &str); 8] = [
+    (
         &SYN,
+        "Adjacency(Greeting { kind: Syn, sender: Party { name: [2, 0, 0, 0, 0, 1], port: 0, instance: Instance(1) }, receiver: Party { name: [0, 0, 0, 0, 0, 0], port: 0, instance: Instance(0) } })",
+    ),
+    (
         &ADD,
+        "Branch { kind: Add, result: 2, code: 0, transaction: 5, session: 9, input_port: 1, input: Channel { vpi: 0, vci: 32 }, output_port: 0, output: Channel { vpi: 16, vci: 32 }, branches: 0, priority: 0 }",
+    ),
+    (
         &VERIFIED,
+        "Branch { kind: Verify, result: 3, code: 0, transaction: 6, session: 9, input_port: 1, input: Channel { vpi: 0, vci: 32 }, output_port: 0, output: Channel { vpi: 16, vci: 32 }, branches: 1, priority: 0 }",
+    ),
+    (
         &DELETE_ALL,
+        "Branch { kind: DeleteAll, result: 2, code: 0, transaction: 4, session: 9, input_port: 1, input: Channel { vpi: 0, vci: 0 }, output_port: 0, output: Channel { vpi: 0, vci: 0 }, branches: 0, priority: 0 }",
+    ),
+    (
         &MOVE,
+        "Move { result: 2, code: 0, transaction: 7, session: 9, input_port: 1, input: Channel { vpi: 0, vci: 32 }, output_port: 0, output: Channel { vpi: 16, vci: 32 }, target_port: 2, target: Channel { vpi: 0, vci: 40 }, branches: 0, priority: 0 }",
+    ),
+    (
         &PORT_UP,
+        "Port { result: 3, code: 0, transaction: 8, port: 2, session: 10, function: 1 }",
+    ),
+    (
         &ALL_PORTS,
-        &ALL_PORTS_REQUEST,
-    ];
-    for octets in messages {
-        let mut out = [0xff; 60];
-        assert!(rt; octets.len() <= 60);
-        assert_eq!(rt; again(octets, &mut out), octets.len());
-        assert_eq!(rt; &out[..octets.len()], octets);
-    }
+        "3 0 9 [PortRow { port: 0, session: 11, up: true, least: 32, greatest: 1023 }, PortRow { port: 1, session: 12, up: false, least: 32, greatest: 1023 }]",
+    ),
+    (&ALL_PORTS_REQUEST, "2 0 9 []"),
+];
+
+/// The message of these octets, as it is shown. Of All Ports its fields, with the records that it has.
+fn shown(alloc: Global, octets: &[u8]) -> Result<String, Fail> {
+    Ok(match decode(octets)? {
+        Message::AllPorts {
+            result,
+            code,
+            transaction,
+            rows,
+        } => format!(in alloc; "{result} {code} {transaction} {:?}", rows.as_slice())?,
+        message => format!(in alloc; "{message:?}")?,
+    })
 }
 
 #[test]
-fn an_add_branch_has_its_fields(rt: HostRuntime) -> Result<(), Fail> {
-    let Message::Branch {
-        kind: BranchKind::Add,
-        result: 2,
-        code: 0,
-        transaction: 5,
-        session: 9,
-        input_port: 1,
-        input,
-        output_port: 0,
-        output,
-        branches: 0,
-        priority: 0,
-    } = decode(&ADD)?
-    else {
-        panic!(rt; "other fields");
-    };
-    assert_eq!(rt; input, Channel { vpi: 0, vci: 32 });
-    assert_eq!(rt; output, Channel { vpi: 16, vci: 32 });
-    Ok(())
-}
-
-#[test]
-fn the_other_messages_have_their_fields(rt: HostRuntime) -> Result<(), Fail> {
-    let Message::Adjacency(syn) = decode(&SYN)? else {
-        panic!(rt; "no adjacency message");
-    };
-    assert_eq!(rt; syn.kind, HelloKind::Syn);
-    assert_eq!(rt; syn.sender.name, [2, 0, 0, 0, 0, 1]);
-    assert_eq!(rt; syn.sender.instance, Instance(1));
-    assert_eq!(rt; syn.receiver.instance, Instance(0));
-    let Message::Move {
-        output,
-        target_port: 2,
-        target,
-        ..
-    } = decode(&MOVE)?
-    else {
-        panic!(rt; "other fields");
-    };
-    assert_eq!(rt; output, Channel { vpi: 16, vci: 32 });
-    assert_eq!(rt; target, Channel { vpi: 0, vci: 40 });
-    let Message::Port {
-        port: 2,
-        session: 10,
-        function: 1,
-        ..
-    } = decode(&PORT_UP)?
-    else {
-        panic!(rt; "other fields");
-    };
-    let Message::AllPorts { rows, .. } = decode(&ALL_PORTS)? else {
-        panic!(rt; "no All Ports");
-    };
-    assert_eq!(rt; rows.len(), 2);
-    assert!(rt; !rows.is_empty());
-    let control = PortRow {
-        port: 0,
-        session: 11,
-        up: true,
-        least: 32,
-        greatest: 1023,
-    };
-    let first = PortRow {
-        port: 1,
-        session: 12,
-        up: false,
-        ..control
-    };
-    assert_eq!(rt; rows.at(0), Some(control));
-    assert_eq!(rt; rows.at(1), Some(first));
-    assert_eq!(rt; rows.at(2), None);
-    Ok(())
-}
-
-/// One octet changed fails one test: the octets, the place behind the LLC/SNAP header (or in it),
-/// the octet there, and the refusal.
-#[test]
-fn each_refusal_has_its_cause(rt: HostRuntime) -> Result<(), Fail> {
-    let rows: [(&[u8], usize, u8, Fault); 33] = [
-        (&ADD[..11], 0, 0xaa, Fault::Short),
-        (&ADD, 7, 0x0d, Fault::Snap),
-        (&ADD, 8, 2, Fault::Version),
-        (&ADD, 9, 17, Fault::MessageType),
-        (&SYN, 10, 2, Fault::Result),
-        (&ADD, 10, 1, Fault::Result),
-        (&ADD, 10, 5, Fault::Result),
-        (&SYN, 11, 0, Fault::Code),
-        (&SYN, 11, 5, Fault::Code),
-        (&ADD, 11, 1, Fault::Code),
-        (&VERIFIED, 11, 1, Fault::Code),
-        (&ADD, 10, 4, Fault::Code),
-        (&SYN[..39], 11, 1, Fault::Size),
-        (&ADD[..39], 11, 0, Fault::Size),
-        (&MOVE[..40], 11, 0, Fault::Size),
-        (&PORT_UP[..27], 11, 0, Fault::Size),
-        (&ALL_PORTS[..51], 11, 0, Fault::Size),
-        (&ALL_PORTS, 17, 1, Fault::Size),
-        (&ALL_PORTS_REQUEST, 10, 3, Fault::Size),
-        (&ADD, 38, 1, Fault::Reserved),
-        (&ADD, 37, 1, Fault::Reserved),
-        (&VERIFIED, 37, 2, Fault::Reserved),
-        (&ADD, 9, 18, Fault::Reserved),
-        (&ADD, 9, 19, Fault::Reserved),
-        (&DELETE_ALL, 31, 1, Fault::Reserved),
-        (&DELETE_ALL, 27, 32, Fault::Reserved),
-        (&MOVE, 38, 1, Fault::Reserved),
-        (&PORT_UP, 24, 3, Fault::Reserved),
-        (&PORT_UP, 27, 1, Fault::Reserved),
-        (&ALL_PORTS, 19, 1, Fault::Reserved),
-        (&ALL_PORTS, 28, 3, Fault::Reserved),
-        (&ALL_PORTS, 51, 1, Fault::Reserved),
-        (&ALL_PORTS_REQUEST, 17, 1, Fault::Reserved),
-    ];
-    for (octets, place, octet, fault) in rows {
-        let mut changed = octets.to_vec(rt.alloc())?;
-        assert!(rt; place < changed.len());
-        changed[place] = octet;
-        let refused = decode(changed.as_slice()).err();
-        assert_eq!(rt; refused, Some(fault), "octet {octet} at {place}");
+fn messages_are_read(rt: HostRuntime) -> Result<(), Fail> {
+    for (octets, text) in SHOWN {
+        assert_eq!(rt; shown(rt.alloc(), octets)?.as_str(), text);
     }
     Ok(())
+}
+
+/// What octets are refused for.
+fn refusal(octets: &[u8]) -> Option<Fault> {
+    decode(octets).err()
+}
+
+/// Messages that are cut, by how many octets are left, and the refusal.
+const CUT: [(&[u8], usize, Fault); 6] = [
+    (&ADD, 11, Fault::Short),
+    (&SYN, 39, Fault::Size),
+    (&ADD, 39, Fault::Size),
+    (&MOVE, 40, Fault::Size),
+    (&PORT_UP, 27, Fault::Size),
+    (&ALL_PORTS, 51, Fault::Size),
+];
+
+/// Messages with one octet changed: the place, the octet there, and the refusal.
+const CHANGED: [(&[u8], usize, u8, Fault); 27] = [
+    (&ADD, 7, 0x0d, Fault::Snap),
+    (&ADD, 8, 2, Fault::Version),
+    (&ADD, 9, 17, Fault::MessageType),
+    (&SYN, 10, 2, Fault::Result),
+    (&ADD, 10, 1, Fault::Result),
+    (&ADD, 10, 5, Fault::Result),
+    (&SYN, 11, 0, Fault::Code),
+    (&SYN, 11, 5, Fault::Code),
+    (&ADD, 11, 1, Fault::Code),
+    (&VERIFIED, 11, 1, Fault::Code),
+    (&ADD, 10, 4, Fault::Code),
+    (&ALL_PORTS, 17, 1, Fault::Size),
+    (&ALL_PORTS_REQUEST, 10, 3, Fault::Size),
+    (&ADD, 38, 1, Fault::Reserved),
+    (&ADD, 37, 1, Fault::Reserved),
+    (&VERIFIED, 37, 2, Fault::Reserved),
+    (&ADD, 9, 18, Fault::Reserved),
+    (&ADD, 9, 19, Fault::Reserved),
+    (&DELETE_ALL, 31, 1, Fault::Reserved),
+    (&DELETE_ALL, 27, 32, Fault::Reserved),
+    (&MOVE, 38, 1, Fault::Reserved),
+    (&PORT_UP, 24, 3, Fault::Reserved),
+    (&PORT_UP, 27, 1, Fault::Reserved),
+    (&ALL_PORTS, 19, 1, Fault::Reserved),
+    (&ALL_PORTS, 28, 3, Fault::Reserved),
+    (&ALL_PORTS, 51, 1, Fault::Reserved),
+    (&ALL_PORTS_REQUEST, 17, 1, Fault::Reserved),
+];
+
+/// The octets with this one changed, and zeros behind them.
+fn changed(octets: &[u8], place: usize, octet: u8) -> [u8; 52]
+    requires size { length octets.now ≤ 52 }
+    requires place { place < length octets.now }
+{
+    let mut message = [0; 52];
+    message[..octets.len()].copy_from_slice(octets);
+    message[place] = octet;
+    message
+}
+
+/// Each fails the test of its refusal and none before it.
+#[test]
+fn octets_are_refused_by_cause(rt: HostRuntime) {
+    for (octets, size, fault) in CUT {
+        assert!(rt; size <= octets.len());
+        assert_eq!(rt; refusal(&octets[..size]), Some(fault));
+    }
+    for (octets, place, octet, fault) in CHANGED {
+        assert!(rt; octets.len() <= 52 && place < octets.len());
+        let message = changed(octets, place, octet);
+        let refusal = refusal(&message[..octets.len()]);
+        assert_eq!(rt; refusal, Some(fault), "{octet} at {place}");
+    }
 }

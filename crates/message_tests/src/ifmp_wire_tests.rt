@@ -1,6 +1,7 @@
-//! Each message and its octets, made by Python's struct, and each refusal.
+//! Each message and its octets, made by Python's struct, and each refusal. Where octets are read as a message,
+//! they are the ones that are written for it, by the contracts of both.
 
-ghost use Rattle.std.specs.Prelude.{◌≡◌, ◌<◌, ◌≤◌, length};
+ghost use Rattle.std.specs.Prelude.{◌<◌, ◌≤◌, length};
 
 use ifmp_wire::*;
 use ipv4_packet::{FlowId, internet_sum};
@@ -68,161 +69,143 @@ const ERROR: [u8; 24] = [
     0x02, 0x00, 0x00, 0x00, 0x00, 0xff, 0x00, 0x20,
 ];
 
+/// The messages of these octets.
+const MESSAGES: [(Message, &[u8]); 7] = [
+    (
+        Message::Adjacency(Hello {
+            kind: HelloKind::Syn,
+            sender: Instance(0x1122_3344),
+            peer: Instance(0),
+            identity: Addr(0),
+            next: 1,
+        }),
+        &SYN,
+    ),
+    (
+        Message::Adjacency(Hello {
+            kind: HelloKind::Ack,
+            sender: SENDER,
+            peer: PEER,
+            identity: Addr(0x0a00_0201),
+            next: 6,
+        }),
+        &ACK,
+    ),
+    (
+        Message::Redirect {
+            sender: SENDER,
+            peer: PEER,
+            number: 7,
+            lifetime: 60,
+            label: LABEL,
+            flow: CONNECTION,
+        },
+        &REDIRECT,
+    ),
+    (
+        Message::Reclaim {
+            sender: SENDER,
+            peer: PEER,
+            number: 7,
+            label: LABEL,
+            flow: HOSTS,
+        },
+        &RECLAIM,
+    ),
+    (
+        Message::ReclaimAck {
+            sender: SENDER,
+            peer: PEER,
+            number: 7,
+            label: LABEL,
+            flow: CONNECTION,
+        },
+        &RECLAIM_ACK,
+    ),
+    (
+        Message::LabelRange {
+            sender: SENDER,
+            peer: PEER,
+            number: 7,
+            least: LABEL,
+            greatest: Channel { vpi: 0, vci: 1023 },
+        },
+        &LABEL_RANGE,
+    ),
+    (
+        Message::Error {
+            sender: SENDER,
+            peer: PEER,
+            number: 7,
+            code: 2,
+            label: Channel { vpi: 255, vci: 32 },
+        },
+        &ERROR,
+    ),
+];
+
 #[test]
-fn messages_both_ways(rt: HostRuntime) {
-    let messages: [(Message, &[u8]); 7] = [
-        (
-            Message::Adjacency(Hello {
-                kind: HelloKind::Syn,
-                sender: Instance(0x1122_3344),
-                peer: Instance(0),
-                identity: Addr(0),
-                next: 1,
-            }),
-            &SYN,
-        ),
-        (
-            Message::Adjacency(Hello {
-                kind: HelloKind::Ack,
-                sender: SENDER,
-                peer: PEER,
-                identity: Addr(0x0a00_0201),
-                next: 6,
-            }),
-            &ACK,
-        ),
-        (
-            Message::Redirect {
-                sender: SENDER,
-                peer: PEER,
-                number: 7,
-                lifetime: 60,
-                label: LABEL,
-                flow: CONNECTION,
-            },
-            &REDIRECT,
-        ),
-        (
-            Message::Reclaim {
-                sender: SENDER,
-                peer: PEER,
-                number: 7,
-                label: LABEL,
-                flow: HOSTS,
-            },
-            &RECLAIM,
-        ),
-        (
-            Message::ReclaimAck {
-                sender: SENDER,
-                peer: PEER,
-                number: 7,
-                label: LABEL,
-                flow: CONNECTION,
-            },
-            &RECLAIM_ACK,
-        ),
-        (
-            Message::LabelRange {
-                sender: SENDER,
-                peer: PEER,
-                number: 7,
-                least: LABEL,
-                greatest: Channel { vpi: 0, vci: 1023 },
-            },
-            &LABEL_RANGE,
-        ),
-        (
-            Message::Error {
-                sender: SENDER,
-                peer: PEER,
-                number: 7,
-                code: 2,
-                label: Channel { vpi: 255, vci: 32 },
-            },
-            &ERROR,
-        ),
-    ];
-    for (message, octets) in messages {
+fn messages_are_read(rt: HostRuntime) {
+    for (message, octets) in MESSAGES {
         assert_eq!(rt; decode(octets), Ok(message));
     }
 }
 
-#[test]
-fn messages_are_written(rt: HostRuntime) {
-    let mut out = [7; 41];
-    let redirect = Message::Redirect {
-        sender: SENDER,
-        peer: PEER,
-        number: 7,
-        lifetime: 60,
-        label: LABEL,
-        flow: CONNECTION,
-    };
-    assert_eq!(rt; encode(&redirect, &mut out), 40);
-    assert_eq!(rt; &out[..40], REDIRECT.as_slice());
-    assert_eq!(rt; out[40], 7);
-    let reclaim = Message::Reclaim {
-        sender: SENDER,
-        peer: PEER,
-        number: 7,
-        label: LABEL,
-        flow: HOSTS,
-    };
-    assert_eq!(rt; encode(&reclaim, &mut out), 36);
-    assert_eq!(rt; &out[..36], RECLAIM.as_slice());
-}
+/// Messages that are cut, or have one octet changed, and then have their old checksum: how many octets
+/// are left, the place, the octet there, and the refusal. Each passes the tests before its own.
+const UNSEALED: [(usize, usize, u8, Fault); 5] = [
+    (3, 0, 1, Fault::Short),
+    (39, 0, 1, Fault::Size),
+    (40, 0, 2, Fault::Version),
+    (40, 1, 9, Fault::OpCode),
+    (40, 3, 0x6c, Fault::Checksum),
+];
 
-/// Each refusal, by octets that pass the tests before it.
+/// The same of messages that have the checksum of their octets.
+const SEALED: [(&[u8], usize, u8, Fault); 12] = [
+    (&REDIRECT, 16, 3, Fault::FlowType),
+    (&REDIRECT, 17, 3, Fault::FlowLength),
+    (&RECLAIM, 16, 1, Fault::FlowLength),
+    (&REDIRECT, 19, 0, Fault::ZeroLifetime),
+    (&REDIRECT, 20, 1, Fault::LabelReserved),
+    (&LABEL_RANGE, 16, 1, Fault::LabelReserved),
+    (&LABEL_RANGE, 17, 1, Fault::RangeOrder),
+    (&ERROR, 16, 5, Fault::ErrorCode),
+    (&ERROR, 18, 1, Fault::Reserved),
+    (&RECLAIM, 18, 1, Fault::Reserved),
+    (&RECLAIM, 27, 17, Fault::Reserved),
+    (&REDIRECT, 27, 1, Fault::FlowFields),
+];
+
 #[test]
 fn octets_are_refused_by_cause(rt: HostRuntime) {
-    assert_eq!(rt; decode(&REDIRECT[..3]), Err(Fault::Short));
-    assert_eq!(rt; decode(&REDIRECT[..39]), Err(Fault::Size));
-    let unsealed = [
-        (0, 2, Fault::Version),
-        (1, 9, Fault::OpCode),
-        (3, 0x6c, Fault::Checksum),
-    ];
-    for (place, octet, fault) in unsealed {
-        let mut changed = REDIRECT;
-        changed[place] = octet;
-        assert_eq!(rt; decode(&changed), Err(fault));
+    for (size, place, octet, fault) in UNSEALED {
+        assert!(rt; size <= 40 && place < 40);
+        let mut octets = REDIRECT;
+        octets[place] = octet;
+        assert_eq!(rt; decode(&octets[..size]), Err(fault));
     }
-    let sealed: [(&[u8], usize, u8, Fault); 12] = [
-        (&REDIRECT, 16, 3, Fault::FlowType),
-        (&REDIRECT, 17, 3, Fault::FlowLength),
-        (&RECLAIM, 16, 1, Fault::FlowLength),
-        (&REDIRECT, 19, 0, Fault::ZeroLifetime),
-        (&REDIRECT, 20, 1, Fault::LabelReserved),
-        (&LABEL_RANGE, 16, 1, Fault::LabelReserved),
-        (&LABEL_RANGE, 17, 1, Fault::RangeOrder),
-        (&ERROR, 16, 5, Fault::ErrorCode),
-        (&ERROR, 18, 1, Fault::Reserved),
-        (&RECLAIM, 18, 1, Fault::Reserved),
-        (&RECLAIM, 27, 17, Fault::Reserved),
-        (&REDIRECT, 27, 1, Fault::FlowFields),
-    ];
-    for (octets, place, octet, fault) in sealed {
-        let mut space = [0; 40];
+    for (octets, place, octet, fault) in SEALED {
         let size = octets.len();
         assert!(rt; 4 <= size && size <= 40 && place < size);
-        let message = &mut space[..size];
-        write_changed(octets, place, octet, message);
-        assert_eq!(rt; decode(message), Err(fault), "{fault:?} at {place}");
+        let message = sealed(octets, place, octet);
+        assert_eq!(rt; decode(&message[..size]), Err(fault), "at {place}");
     }
 }
 
-/// The message with this octet changed, and with the checksum that it then should have.
-fn write_changed(octets: &[u8], place: usize, octet: u8, out: &mut [u8])
-    requires size { length octets.now ≡ length out.old }
+/// The message with this octet changed, and with the checksum that it then should have. Behind it are
+/// zeros.
+fn sealed(octets: &[u8], place: usize, octet: u8) -> [u8; 40]
     requires head { 4 ≤ length octets.now }
     requires small { length octets.now ≤ 40 }
     requires place { place < length octets.now }
 {
-    out.copy_from_slice(octets);
-    out[place] = octet;
-    out[2] = 0;
-    out[3] = 0;
-    let checksum = 0xffff - internet_sum(out);
-    put_u16(out, 2, checksum);
+    let mut message = [0; 40];
+    message[..octets.len()].copy_from_slice(octets);
+    message[place] = octet;
+    message[2] = 0;
+    message[3] = 0;
+    let checksum = 0xffff - internet_sum(&message);
+    put_u16(&mut message, 2, checksum);
+    message
 }
