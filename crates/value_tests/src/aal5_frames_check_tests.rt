@@ -23,35 +23,41 @@ fn pad_and_uu_are_not_read(rt: HostRuntime) {
     assert_eq!(rt; check_pdu(&PADDED), Ok(10));
 }
 
+/// Octets of `FULL` that are changed, and the refusal. Each passes the tests before its own.
+const CHANGED: [(usize, u8, FrameFault); 8] = [
+    (41, 1, FrameFault::Cpi),
+    (42, 1, FrameFault::Length),
+    (43, 0, FrameFault::Length),
+    (43, 41, FrameFault::Length),
+    (43, 39, FrameFault::Crc),
+    (0, 2, FrameFault::Crc),
+    (40, 1, FrameFault::Crc),
+    (47, 0xbb, FrameFault::Crc),
+];
+
+/// So many zeros but for the 92nd octet, and the refusal. Of 96 octets, where that is the Length, 40 of payload would
+/// leave a pad of 48, and 41 leave one of 47.
+const ZEROS: [(usize, u8, FrameFault); 6] = [
+    (0, 0, FrameFault::Empty),
+    (47, 0, FrameFault::Size),
+    (96, 40, FrameFault::Length),
+    (96, 41, FrameFault::Crc),
+    (1536, 0, FrameFault::Length),
+    (1584, 0, FrameFault::Size),
+];
+
 #[test]
 fn octets_are_refused_by_cause(rt: HostRuntime) {
-    assert_eq!(rt; check_pdu(&[]), Err(FrameFault::Empty));
-    assert_eq!(rt; check_pdu(&FULL[..47]), Err(FrameFault::Size));
-    assert_eq!(rt; check_pdu(&[0; 1584]), Err(FrameFault::Size));
-    assert_eq!(rt; check_pdu(&[0; 1536]), Err(FrameFault::Length));
-    for (place, octet, fault) in [
-        (41usize, 1, FrameFault::Cpi),
-        (42, 1, FrameFault::Length),
-        (43, 0, FrameFault::Length),
-        (43, 41, FrameFault::Length),
-        (43, 39, FrameFault::Crc),
-        (0, 2, FrameFault::Crc),
-        (40, 1, FrameFault::Crc),
-        (47, 0xbb, FrameFault::Crc),
-    ] {
-        let mut octets = FULL;
+    for (place, octet, fault) in CHANGED {
         assert!(rt; place < 48);
+        let mut octets = FULL;
         octets[place] = octet;
         assert_eq!(rt; check_pdu(&octets), Err(fault), "{octet} at {place}");
     }
-}
-
-/// Of 96 octets, 40 of payload would leave a pad of 48, and 41 leave one of 47.
-#[test]
-fn the_pad_has_at_most_47_octets(rt: HostRuntime) {
-    let mut octets = [0; 96];
-    octets[91] = 40;
-    assert_eq!(rt; check_pdu(&octets), Err(FrameFault::Length));
-    octets[91] = 41;
-    assert_eq!(rt; check_pdu(&octets), Err(FrameFault::Crc));
+    for (size, length, fault) in ZEROS {
+        assert!(rt; size <= 1584);
+        let mut octets = [0; 1584];
+        octets[91] = length;
+        assert_eq!(rt; check_pdu(&octets[..size]), Err(fault), "{size}");
+    }
 }

@@ -37,19 +37,20 @@ fn a_datagram_has_both_flows(rt: HostRuntime) {
     assert_eq!(rt; CONNECTION.kind(), FlowKind::One);
 }
 
+/// Packets by fragment offset, Time To Live and protocol, and whether they have a flow of type 2.
+const WITHOUT_PORTS: [(u8, u8, u8, u8, bool); 4] = [
+    (0x00, 0x01, 4, 17, true),
+    (0x1f, 0xff, 4, 17, true),
+    (0x00, 0x00, 4, 1, true),
+    (0x00, 0x00, 0, 17, false),
+];
+
 /// Neither a later fragment nor another protocol shows ports; a packet that is spent has no flow.
 #[test]
 fn packets_without_a_flow(rt: HostRuntime) {
-    let changes = [
-        (6, 0x00, 7, 0x01, true),
-        (6, 0x1f, 7, 0xff, true),
-        (9, 0x01, 9, 0x01, true),
-        (8, 0x00, 8, 0x00, false),
-    ];
-    for (place, octet, other_place, other_octet, hosts) in changes {
+    for (high, low, ttl, protocol, hosts) in WITHOUT_PORTS {
         let mut packet = DATAGRAM;
-        packet[place] = octet;
-        packet[other_place] = other_octet;
+        packet[6..10].copy_from_slice(&[high, low, ttl, protocol]);
         ipv4_packet::write_checksum(&mut packet);
         assert!(rt; ipv4_packet::check(&packet).is_ok());
         assert_eq!(rt; of_packet(FlowKind::One, &packet), None);
@@ -57,68 +58,58 @@ fn packets_without_a_flow(rt: HostRuntime) {
     }
 }
 
-#[test]
-fn flows_lose_a_hop(rt: HostRuntime) {
-    let mut packet = DATAGRAM;
-    ipv4_packet::set_ttl(&mut packet, 3);
-    let next = next_hop(&CONNECTION);
-    assert_eq!(rt; next, of_packet(FlowKind::One, &packet));
-    assert!(rt; next.is_some());
-    let last = FlowId::Two {
-        ttl: 1,
-        source: Addr(1),
-        destination: Addr(2),
-    };
-    assert_eq!(rt; next_hop(&last), None);
-}
-
 /// The octets of both identifiers, as the layout has them.
+const CONNECTION_IDENTIFIER: [u8; 16] = [
+    0x45, 0x00, 0x04, 0x11, 0x0a, 0x00, 0x01, 0x01, 0x0a, 0x00, 0x03, 0x01, 0x13, 0x89, 0x13, 0x8a,
+];
+
+const HOSTS_IDENTIFIER: [u8; 12] = [
+    0x45, 0x00, 0x04, 0x00, 0x0a, 0x00, 0x01, 0x01, 0x0a, 0x00, 0x03, 0x01,
+];
+
 #[test]
 fn identifiers_of_the_flows(rt: HostRuntime) {
-    let connection = [
-        0x45, 0x00, 0x04, 0x11, 0x0a, 0x00, 0x01, 0x01, 0x0a, 0x00, 0x03, 0x01, 0x13, 0x89, 0x13,
-        0x8a,
-    ];
-    let hosts = [
-        0x45, 0x00, 0x04, 0x00, 0x0a, 0x00, 0x01, 0x01, 0x0a, 0x00, 0x03, 0x01,
-    ];
+    let connection = read_identifier(FlowKind::One, &CONNECTION_IDENTIFIER);
+    assert_eq!(rt; connection, Ok(CONNECTION));
+    assert_eq!(rt;
+        read_identifier(FlowKind::Two, &HOSTS_IDENTIFIER),
+        Ok(HOSTS)
+    );
     let mut out = [0; 16];
     assert_eq!(rt; write_identifier(&CONNECTION, &mut out), 16);
-    assert_eq!(rt; out, connection);
-    assert_eq!(rt; write_identifier(&HOSTS, &mut out), 12);
-    assert_eq!(rt; &out[..12], hosts.as_slice());
-    assert_eq!(rt; read_identifier(FlowKind::One, &connection), Ok(CONNECTION));
-    assert_eq!(rt; read_identifier(FlowKind::Two, &hosts), Ok(HOSTS));
+    assert_eq!(rt; out, CONNECTION_IDENTIFIER);
 }
 
-/// Each refusal, by octets that pass the tests before it.
+/// Identifiers of type 2 with one octet changed, and the refusal. Each passes the tests before its own.
+const CHANGED: [(usize, u8, FlowFault); 4] = [
+    (1, 1, FlowFault::Reserved),
+    (3, 17, FlowFault::Reserved),
+    (0, 0x46, FlowFault::Fields),
+    (2, 0, FlowFault::Fields),
+];
+
+/// Identifiers of type 1 that are refused; behind the fourth octet they are zeros.
+const OTHERS: [([u8; 4], usize, FlowFault); 3] = [
+    ([0x45, 0, 4, 17], 12, FlowFault::Size),
+    ([0, 0, 0, 0], 16, FlowFault::Fields),
+    ([0x45, 0, 1, 1], 16, FlowFault::Fields),
+];
+
 #[test]
 fn identifiers_are_refused_by_cause(rt: HostRuntime) {
-    let hosts = [
-        0x45, 0x00, 0x04, 0x00, 0x0a, 0x00, 0x01, 0x01, 0x0a, 0x00, 0x03, 0x01,
-    ];
-    assert_eq!(rt;
-        read_identifier(FlowKind::One, &hosts),
-        Err(FlowFault::Size)
-    );
-    for (place, octet, fault) in [
-        (1, 1, FlowFault::Reserved),
-        (3, 17, FlowFault::Reserved),
-        (0, 0x46, FlowFault::Fields),
-        (2, 0, FlowFault::Fields),
-    ] {
-        let mut changed = hosts;
-        changed[place] = octet;
-        assert_eq!(rt; read_identifier(FlowKind::Two, &changed), Err(fault));
+    for (place, octet, fault) in CHANGED {
+        assert!(rt; place < 12);
+        let mut hosts = HOSTS_IDENTIFIER;
+        hosts[place] = octet;
+        assert_eq!(rt; read_identifier(FlowKind::Two, &hosts), Err(fault));
     }
-    let mut connection = [0; 16];
-    assert_eq!(rt;
-        read_identifier(FlowKind::One, &connection),
-        Err(FlowFault::Fields)
-    );
-    connection[..4].copy_from_slice(&[0x45, 0, 1, 1]);
-    assert_eq!(rt;
-        read_identifier(FlowKind::One, &connection),
-        Err(FlowFault::Fields)
-    );
+    for (first, size, fault) in OTHERS {
+        assert!(rt; size <= 16);
+        let mut connection = [0; 16];
+        connection[..4].copy_from_slice(&first);
+        assert_eq!(rt;
+            read_identifier(FlowKind::One, &connection[..size]),
+            Err(fault)
+        );
+    }
 }

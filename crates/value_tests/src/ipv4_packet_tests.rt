@@ -25,39 +25,38 @@ fn sums_of_rfc_1071(rt: HostRuntime) {
     assert_eq!(rt; internet_sum(&[]), 0);
 }
 
-/// A header whose canonical field is 0000, one whose field is FFFF instead, and one that becomes
-/// 0000 by losing a hop; then a common one.
+/// The first 12 octets of a packet, and its checksum behind a hop. A header whose canonical field is 0000, one
+/// whose field is FFFF instead, and one that becomes 0000 by losing a hop; before them a common one.
+const HOPS: [([u8; 12], [u8; 2]); 4] = [
+    (
+        [0x45, 0, 0, 0x1c, 0x00, 0x01, 0, 0, 4, 17, 0x9e, 0xcf],
+        [0x9f, 0xcf],
+    ),
+    (
+        [0x45, 0, 0, 0x1c, 0x9e, 0xd0, 0, 0, 4, 17, 0xff, 0xff],
+        [0x01, 0x00],
+    ),
+    (
+        [0x45, 0, 0, 0x1c, 0x9e, 0xd0, 0, 0, 4, 17, 0x00, 0x00],
+        [0x01, 0x00],
+    ),
+    (
+        [0x45, 0, 0, 0x1c, 0x9f, 0xd0, 0, 0, 4, 17, 0xfe, 0xff],
+        [0x00, 0x00],
+    ),
+];
+
 #[test]
 fn a_hop_leaves_the_canonical_checksum(rt: HostRuntime) {
-    let hops = [
-        (
-            [0x45, 0, 0, 0x1c, 0x00, 0x01, 0, 0, 4, 17, 0x9e, 0xcf],
-            0x9f,
-            0xcf,
-        ),
-        (
-            [0x45, 0, 0, 0x1c, 0x9e, 0xd0, 0, 0, 4, 17, 0xff, 0xff],
-            0x01,
-            0x00,
-        ),
-        (
-            [0x45, 0, 0, 0x1c, 0x9e, 0xd0, 0, 0, 4, 17, 0x00, 0x00],
-            0x01,
-            0x00,
-        ),
-        (
-            [0x45, 0, 0, 0x1c, 0x9f, 0xd0, 0, 0, 4, 17, 0xfe, 0xff],
-            0x00,
-            0x00,
-        ),
-    ];
-    for (first, high, low) in hops {
+    for (first, checksum) in HOPS {
         let mut packet = datagram(first);
         assert_eq!(rt; check(&packet), Ok(()));
         set_ttl(&mut packet, 3);
-        assert_eq!(rt; packet[8], 3);
-        assert_eq!(rt; (packet[10], packet[11]), (high, low), "after {first:?}");
-        assert_eq!(rt; check(&packet), Ok(()));
+        assert_eq!(rt;
+            &packet[8..12],
+            [3, 17, checksum[0], checksum[1]].as_slice(),
+            "{first:?}"
+        );
     }
 }
 
@@ -75,38 +74,44 @@ fn headers_from_outside(rt: HostRuntime) {
         198, 51, 100, 77, 1, 2, 3, 4,
     ];
     assert_eq!(rt; check(&made), Ok(()));
-    assert_eq!(rt; tos(&made), 0x10);
-    assert_eq!(rt; total_length(&made), 24);
-    assert_eq!(rt; identification(&made), 0xbeef);
-    assert_eq!(rt; fragment(&made), 0x4000);
-    assert_eq!(rt; ttl(&made), 64);
-    assert_eq!(rt; protocol(&made), 6);
-    assert_eq!(rt; source(&made), Addr(0xac10_fe09));
-    assert_eq!(rt; destination(&made), Addr(0xc633_644d));
+    let numbers = (
+        tos(&made),
+        total_length(&made),
+        identification(&made),
+        fragment(&made),
+    );
+    assert_eq!(rt; numbers, (0x10, 24, 0xbeef, 0x4000));
+    let names = (
+        ttl(&made),
+        protocol(&made),
+        source(&made),
+        destination(&made),
+    );
+    assert_eq!(rt; names, (64, 6, Addr(0xac10_fe09), Addr(0xc633_644d)));
     set_ttl(&mut made, 63);
     assert_eq!(rt; (made[10], made[11]), (0xa8, 0x45));
 }
 
-/// Each refusal, by octets that pass the tests before it.
+/// Packets with one octet changed, and the refusal. Each passes the tests before its own.
+const CHANGED: [(usize, u8, PacketFault); 4] = [
+    (0, 0x66, PacketFault::Version),
+    (0, 0x46, PacketFault::Options),
+    (3, 0x1d, PacketFault::Length),
+    (11, 0xce, PacketFault::Checksum),
+];
+
 #[test]
 fn octets_are_refused_by_cause(rt: HostRuntime) {
     let good = datagram([0x45, 0, 0, 0x1c, 0x00, 0x01, 0, 0, 4, 17, 0x9e, 0xcf]);
     assert_eq!(rt; check(&good[..19]), Err(PacketFault::Short));
-    let changes = [
-        (0, 0x66, PacketFault::Version),
-        (0, 0x46, PacketFault::Options),
-        (3, 0x1d, PacketFault::Length),
-        (11, 0xce, PacketFault::Checksum),
-    ];
-    for (place, octet, fault) in changes {
+    for (place, octet, fault) in CHANGED {
+        assert!(rt; place < 28);
         let mut packet = good;
         packet[place] = octet;
         assert_eq!(rt; check(&packet), Err(fault));
     }
     let mut long = [0; 1501];
-    long[0] = 0x45;
-    long[2] = 0x05;
-    long[3] = 0xdd;
+    long[..4].copy_from_slice(&[0x45, 0, 0x05, 0xdd]);
     assert_eq!(rt; check(&long), Err(PacketFault::TooLong));
 }
 

@@ -1,62 +1,43 @@
 //! Tests of `lab_text`.
 
 use lab_text::*;
-use std::alloc::{AllocError, Global};
+use std::alloc::Global;
 use std::test::Fail;
 
-/// A line of so many zeros, and an LF behind them.
-fn zeros(alloc: Global, count: usize) -> Result<Vec<u8>, AllocError> {
-    let mut line = vec![in alloc; b'0'; count]?;
-    line.push(b'\n')?;
-    Ok(line)
+/// How many octets of the input stand before a line, the line, and what reading it gives, as it is shown. A
+/// line that is refused fails the test of its refusal and none before it.
+const LINES: [(u32, &str, &str); 19] = [
+    (0, "1f0A", "Ok(Some([31, 10]))"),
+    (0, "1F0a\n", "Ok(Some([31, 10]))"),
+    (0, "\t1f0a \r\n", "Ok(Some([31, 10]))"),
+    (0, "", "Ok(None)"),
+    (0, "\n", "Ok(None)"),
+    (0, " \t\r\n", "Ok(None)"),
+    (0, "# 1f 0a\n", "Ok(None)"),
+    (0, "#", "Ok(None)"),
+    (16_777_214, "0\r\n", "Err(ScriptTooLong)"),
+    (16_777_216, "\n", "Err(ScriptTooLong)"),
+    (16_777_216, "#\x07", "Err(ScriptTooLong)"),
+    (16_777_213, "#\x07\n", "Err(BadByte)"),
+    (0, "0\r", "Err(BadByte)"),
+    (0, "0\n0\n", "Err(BadByte)"),
+    (0, "\x7f", "Err(BadByte)"),
+    (0, "0g 00\n", "Err(Arity)"),
+    (0, "00 # 00\n", "Err(Arity)"),
+    (16_777_212, "000\n", "Err(BadHex)"),
+    (0, "0g\n", "Err(BadHex)"),
+];
+
+/// What reading a line gives, as it is shown.
+fn shown(alloc: Global, before: u32, line: &str) -> Result<String, Fail> {
+    let read = read_hex_line(alloc, before, line.as_bytes());
+    Ok(format!(in alloc; "{read:?}")?)
 }
 
 #[test]
-fn a_line_says_the_octets_of_its_word(rt: HostRuntime) -> Result<(), Fail> {
-    for line in ["1f0A", "1F0a\n", "\t1f0a \r\n"] {
-        let octets = read_hex_line(rt.alloc(), 0, line.as_bytes())?.ok_or("octets")?;
-        assert!(rt; octets.as_slice() == [0x1f, 0x0a].as_slice(), "{line:?}");
+fn lines_say_octets_or_nothing_or_are_refused(rt: HostRuntime) -> Result<(), Fail> {
+    for (before, line, want) in LINES {
+        assert_eq!(rt; shown(rt.alloc(), before, line)?.as_str(), want);
     }
-    for line in ["", "\n", " \t\r\n", "# 1f 0a\n", "#"] {
-        assert!(rt;
-            read_hex_line(rt.alloc(), 0, line.as_bytes())?.is_none(),
-            "{line:?}"
-        );
-    }
-    Ok(())
-}
-
-/// Each line fails the test of its refusal and none before it.
-#[test]
-fn lines_are_refused_by_the_first_test_that_fails(rt: HostRuntime) {
-    for (before, line, fault) in [
-        (16_777_214, "0\r\n", LineFault::ScriptTooLong),
-        (16_777_216, "\n", LineFault::ScriptTooLong),
-        (16_777_216, "#\x07", LineFault::ScriptTooLong),
-        (16_777_213, "#\x07\n", LineFault::BadByte),
-        (0, "0\r", LineFault::BadByte),
-        (0, "0\n0\n", LineFault::BadByte),
-        (0, "\x7f", LineFault::BadByte),
-        (0, "0g 00\n", LineFault::Arity),
-        (0, "00 # 00\n", LineFault::Arity),
-        (16_777_212, "000\n", LineFault::BadHex),
-        (0, "0g\n", LineFault::BadHex),
-    ] {
-        let read = read_hex_line(rt.alloc(), before, line.as_bytes());
-        assert!(rt;
-            matches!(read, Err(found) if found == fault),
-            "{before} {line:?}"
-        );
-    }
-}
-
-#[test]
-fn a_line_has_4096_octets_and_its_end(rt: HostRuntime) -> Result<(), Fail> {
-    let longest = zeros(rt.alloc(), 4096)?;
-    let octets = read_hex_line(rt.alloc(), 0, longest.as_slice())?.ok_or("octets")?;
-    assert!(rt; octets.as_slice() == vec![in rt.alloc(); 0; 2048]?.as_slice());
-    let longer = zeros(rt.alloc(), 4097)?;
-    let read = read_hex_line(rt.alloc(), 0, longer.as_slice());
-    assert!(rt; matches!(read, Err(LineFault::LineTooLong)));
     Ok(())
 }

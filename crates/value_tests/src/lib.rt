@@ -20,16 +20,4 @@ mod lab_text_line_tests;
 #[cfg(test)]
 mod lab_text_numeral_tests;
 #[cfg(test)]
-mod link_model_notes_tests;
-#[cfg(test)]
-mod net_types_channel_tests;
-#[cfg(test)]
-mod net_types_label_tests;
-#[cfg(test)]
-mod net_types_number_tests;
-#[cfg(test)]
-mod net_types_octets_tests;
-#[cfg(test)]
 mod net_types_prefix_tests;
-#[cfg(test)]
-mod octet_fields_tests;
