@@ -87,28 +87,3 @@ fn a_frame_is_sent_whole_or_not_at_all(rt: HostRuntime) -> Result<(), Fail> {
     fabric.abandon();
     Ok(())
 }
-
-/// Label 3/40 of port 1 and the channel of the control port that stands for it.
-#[test]
-fn a_fabric_connects_its_paths_alone(rt: HostRuntime) -> Result<(), Fail> {
-    let label = End {
-        port: PortNo(1),
-        channel: Channel { vpi: 3, vci: 40 },
-    };
-    let on_control = End {
-        port: PortNo(0),
-        channel: Channel { vpi: 19, vci: 40 },
-    };
-    let of_one_path = Fabric::open(rt.alloc(), &[PortNo(1)], 1, 1)?;
-    assert!(rt; !of_one_path.is_connectable(label));
-    assert!(rt; !of_one_path.is_connectable(on_control));
-    of_one_path.abandon();
-    let mut fabric = Fabric::open(rt.alloc(), &[PortNo(1)], 1, 16)?;
-    assert!(rt; fabric.is_connectable(label) && fabric.is_connectable(on_control));
-    fabric.connect(label, on_control);
-    assert_eq!(rt; fabric.branch(label), Some(on_control));
-    assert_eq!(rt; fabric.first_of(PortNo(1)), Some(label));
-    assert_eq!(rt; fabric.branch(LABEL), None);
-    fabric.abandon();
-    Ok(())
-}

@@ -171,58 +171,42 @@ fn outcome(switch: &mut Switch, ask: Ask, notes: &mut Notes) -> (u8, u8, u32) {
     }
 }
 
-/// A switch with port 1, the first to draw a number: its sessions are 1.
+/// Requests to a switch with port 1, the first to draw a number, so that its sessions are 1, and what comes of each.
+const REQUESTS: [(Ask, (u8, u8, u32)); 19] = [
+    // Add Branch succeeds where the branch is there; then the failures, by code.
+    (Ask::Add(1, 1, LABEL, ON_CONTROL), (3, 0, 1)),
+    (Ask::Add(1, 1, LABEL, ON_CONTROL), (3, 0, 1)),
+    (Ask::Add(1, 1, LABEL, OTHER_ON_CONTROL), (4, 5, 0)),
+    (Ask::Add(2, 1, LABEL, ON_CONTROL), (4, 2, 0)),
+    (Ask::Add(1, 3, LABEL, ON_CONTROL), (4, 1, 0)),
+    (Ask::Add(1, 300, LABEL, ON_CONTROL), (4, 1, 0)),
+    (Ask::Verify(1, OTHER), (4, 6, 0)),
+    (Ask::Move(1, OTHER_ON_CONTROL, OTHER_ON_CONTROL), (4, 6, 0)),
+    (Ask::Add(1, 1, OTHER, LABEL), (4, 4, 0)),
+    // What holds already succeeds.
+    (Ask::Verify(1, LABEL), (3, 0, 1)),
+    (Ask::Move(1, ON_CONTROL, OTHER_ON_CONTROL), (3, 0, 1)),
+    (Ask::Move(1, ON_CONTROL, OTHER_ON_CONTROL), (3, 0, 1)),
+    (Ask::Delete(1, LABEL), (3, 0, 0)),
+    (Ask::Delete(1, LABEL), (3, 0, 0)),
+    // Take Down ends the branches and begins a session; then PortDown.
+    (Ask::Add(1, 1, LABEL, ON_CONTROL), (3, 0, 1)),
+    (Ask::DeleteAll(1), (3, 0, 0)),
+    (Ask::TakeDown(1), (3, 0, 2)),
+    (Ask::Add(2, 1, LABEL, ON_CONTROL), (4, 3, 0)),
+    (Ask::AllPorts, (3, 0, 2)),
+];
+
 #[test]
 fn requests_are_answered(rt: HostRuntime) -> Result<(), Fail> {
     let mut numbers = Numbers::new();
     let mut notes = Notes::open(rt.alloc())?;
     let mut switch = Switch::open(rt.alloc(), NodeId(1), &[PortNo(1)], 4, 1, &mut numbers)?;
-    let rows = [
-        // Add Branch succeeds where the branch is there; then the failures, by code.
-        (Ask::Add(1, 1, LABEL, ON_CONTROL), (3, 0, 1)),
-        (Ask::Add(1, 1, LABEL, ON_CONTROL), (3, 0, 1)),
-        (Ask::Add(1, 1, LABEL, OTHER_ON_CONTROL), (4, 5, 0)),
-        (Ask::Add(2, 1, LABEL, ON_CONTROL), (4, 2, 0)),
-        (Ask::Add(1, 3, LABEL, ON_CONTROL), (4, 1, 0)),
-        (Ask::Add(1, 300, LABEL, ON_CONTROL), (4, 1, 0)),
-        (Ask::Verify(1, OTHER), (4, 6, 0)),
-        (Ask::Move(1, OTHER_ON_CONTROL, OTHER_ON_CONTROL), (4, 6, 0)),
-        (Ask::Add(1, 1, OTHER, LABEL), (4, 4, 0)),
-        // What holds already succeeds.
-        (Ask::Verify(1, LABEL), (3, 0, 1)),
-        (Ask::Move(1, ON_CONTROL, OTHER_ON_CONTROL), (3, 0, 1)),
-        (Ask::Move(1, ON_CONTROL, OTHER_ON_CONTROL), (3, 0, 1)),
-        (Ask::Delete(1, LABEL), (3, 0, 0)),
-        (Ask::Delete(1, LABEL), (3, 0, 0)),
-        // Take Down ends the branches and begins a session; then PortDown.
-        (Ask::Add(1, 1, LABEL, ON_CONTROL), (3, 0, 1)),
-        (Ask::DeleteAll(1), (3, 0, 0)),
-        (Ask::TakeDown(1), (3, 0, 2)),
-        (Ask::Add(2, 1, LABEL, ON_CONTROL), (4, 3, 0)),
-        (Ask::AllPorts, (3, 0, 2)),
-    ];
-    for (ask, want) in rows {
+    for (ask, want) in REQUESTS {
         assert_eq!(rt; outcome(&mut switch, ask, &mut notes), want);
     }
     assert_eq!(rt; notes.len(), 0);
     switch.abandon();
-    Ok(())
-}
-
-/// Add Branch of 1 3/40 to 0 19/40, where labels have one VPI and where they have 16.
-#[test]
-fn labels_have_the_vpis_of_their_switch(rt: HostRuntime) -> Result<(), Fail> {
-    let label = Channel { vpi: 3, vci: 40 };
-    let on_control = Channel { vpi: 19, vci: 40 };
-    for (vpis, want) in [(1, (4, 4, 0)), (16, (3, 0, 1))] {
-        assert!(rt; 1 <= vpis && vpis <= 16);
-        let mut numbers = Numbers::new();
-        let mut notes = Notes::open(rt.alloc())?;
-        let mut switch = Switch::open(rt.alloc(), NodeId(1), &[PortNo(1)], 4, vpis, &mut numbers)?;
-        let add = Ask::Add(1, 1, label, on_control);
-        assert_eq!(rt; outcome(&mut switch, add, &mut notes), want);
-        switch.abandon();
-    }
     Ok(())
 }
 
@@ -262,7 +246,32 @@ fn are_entries(notes: &Notes, want: &[(u64, Cause)]) -> bool {
     notes.len() == want.len()
 }
 
-/// Two slots: cells of labels, and the chain of the GSMP channel.
+/// Cells of labels and of the chain of the GSMP channel, by port, channel, frame and whether it is a last one, to a
+/// switch with two slots.
+const CELLS: [(u8, Channel, u64, bool); 8] = [
+    // Unconnected; a slot each; then PoolFull, and the GSMP channel skips to its next last cell.
+    (1, OTHER, 1, true),
+    (1, LABEL, 2, false),
+    (0, GSMP, 3, false),
+    (1, LABEL, 2, true),
+    (0, GSMP, 4, false),
+    (0, GSMP, 4, false),
+    (0, GSMP, 5, true),
+    (0, GSMP, 6, false),
+];
+
+/// What is entered, also by a restart, which cuts what is open on the branch, and then the chain.
+const ENTERED: [(u64, Cause); 7] = [
+    (1, Cause::Unconnected),
+    (2, Cause::PoolFull),
+    (4, Cause::PoolFull),
+    (3, Cause::Broken),
+    (5, Cause::Broken),
+    (2, Cause::Cut),
+    (6, Cause::Cut),
+];
+
+/// A cell that is queued stays at the restart.
 #[test]
 fn cells_are_switched_or_entered(rt: HostRuntime) -> Result<(), Fail> {
     let mut numbers = Numbers::new();
@@ -270,32 +279,11 @@ fn cells_are_switched_or_entered(rt: HostRuntime) -> Result<(), Fail> {
     let mut switch = Switch::open(rt.alloc(), NodeId(1), &[PortNo(1)], 2, 1, &mut numbers)?;
     let made = outcome(&mut switch, Ask::Add(1, 1, LABEL, ON_CONTROL), &mut notes);
     assert_eq!(rt; made, (3, 0, 1));
-    let cells = [
-        // Unconnected; a slot each; then PoolFull, and the GSMP channel skips to its next last cell.
-        (1, OTHER, 1, true),
-        (1, LABEL, 2, false),
-        (0, GSMP, 3, false),
-        (1, LABEL, 2, true),
-        (0, GSMP, 4, false),
-        (0, GSMP, 4, false),
-        (0, GSMP, 5, true),
-        (0, GSMP, 6, false),
-    ];
-    for (port, channel, frame, last) in cells {
+    for (port, channel, frame, last) in CELLS {
         assert!(rt; take(&mut switch, port, channel, frame, last, &mut notes));
     }
-    // A restart cuts what is open on the branch, then the chain; the queued cell stays.
     assert!(rt; switch.restart(&mut numbers, &mut notes).is_ok());
-    let want = [
-        (1, Cause::Unconnected),
-        (2, Cause::PoolFull),
-        (4, Cause::PoolFull),
-        (3, Cause::Broken),
-        (5, Cause::Broken),
-        (2, Cause::Cut),
-        (6, Cause::Cut),
-    ];
-    assert!(rt; are_entries(&notes, &want));
+    assert!(rt; are_entries(&notes, &ENTERED));
     let input = End {
         port: PortNo(1),
         channel: LABEL,
@@ -308,67 +296,23 @@ fn cells_are_switched_or_entered(rt: HostRuntime) -> Result<(), Fail> {
     Ok(())
 }
 
-/// 32 cells of a chain, a 33rd, and a 34th, which ends no frame either.
-#[test]
-fn a_chain_has_32_cells(rt: HostRuntime) -> Result<(), Fail> {
-    let mut numbers = Numbers::new();
-    let mut notes = Notes::open(rt.alloc())?;
-    let mut switch = Switch::open(rt.alloc(), NodeId(1), &[PortNo(1)], 64, 1, &mut numbers)?;
-    for _ in 0..32usize {
-        assert!(rt; take(&mut switch, 0, GSMP, 1, false, &mut notes));
-    }
-    assert!(rt; are_entries(&notes, &[]));
-    for (frame, last) in [(2, false), (3, false), (3, true), (4, false)] {
-        assert!(rt; take(&mut switch, 0, GSMP, frame, last, &mut notes));
-    }
-    let want = [(1, Cause::Broken), (2, Cause::Broken), (3, Cause::Broken)];
-    assert!(rt; are_entries(&notes, &want));
-    assert_eq!(rt; switch.fabric().free(), 63);
-    switch.abandon();
-    Ok(())
-}
+/// A SYN of the first node's controller, of instance 5.
+const SYN: [u8; 40] = [
+    0xaa, 0xaa, 3, 0, 0, 0, 0x88, 0x0c, 1, 10, 0, 1, 2, 0, 0, 0, 0, 1, 0, 0, 0, 0, 0, 0, 0, 0, 0,
+    0, 0, 0, 0, 0, 0, 0, 0, 5, 0, 0, 0, 0,
+];
 
-/// A party of an adjacency message: its name, as an Ethernet address, and its instance. Its port is 0.
-struct Side {
-    name: [u8; 6],
-    instance: u8,
-}
+/// The SYNACK of its switch, of instance 1.
+const SYNACK: [u8; 40] = [
+    0xaa, 0xaa, 3, 0, 0, 0, 0x88, 0x0c, 1, 10, 0, 2, 2, 0, 0, 0, 1, 1, 2, 0, 0, 0, 0, 1, 0, 0, 0,
+    0, 0, 0, 0, 0, 0, 0, 0, 1, 0, 0, 0, 5,
+];
 
-const NOBODY: Side = Side {
-    name: [0; 6],
-    instance: 0,
-};
-
-/// The first node's controller, of instance 5, and its switch, of instance 1.
-const CONTROLLER: Side = Side {
-    name: [2, 0, 0, 0, 0, 1],
-    instance: 5,
-};
-
-const SWITCH: Side = Side {
-    name: [2, 0, 0, 0, 1, 1],
-    instance: 1,
-};
-
-/// The Codes of adjacency messages.
-const SYN: u8 = 1;
-
-const SYNACK: u8 = 2;
-
-const ACK: u8 = 3;
-
-const RSTACK: u8 = 4;
-
-/// An adjacency message of this Code, behind its SNAP header.
-fn greeting(code: u8, sender: &Side, receiver: &Side) -> [u8; 40] {
-    let mut octets = [0; 40];
-    octets[..12].copy_from_slice(&[0xaa, 0xaa, 3, 0, 0, 0, 0x88, 0x0c, 1, 10, 0, code]);
-    octets[12..18].copy_from_slice(&sender.name);
-    octets[18..24].copy_from_slice(&receiver.name);
-    octets[35] = sender.instance;
-    octets[39] = receiver.instance;
-    octets
-}
+/// The controller's ACK.
+const ACK: [u8; 40] = [
+    0xaa, 0xaa, 3, 0, 0, 0, 0x88, 0x0c, 1, 10, 0, 3, 2, 0, 0, 0, 0, 1, 2, 0, 0, 0, 1, 1, 0, 0, 0,
+    0, 0, 0, 0, 0, 0, 0, 0, 5, 0, 0, 0, 1,
+];
 
 /// Add Branch, transaction 5, session 1, from 1 0/40 to 0 16/40.
 const ADD: [u8; 40] = [
@@ -408,40 +352,33 @@ fn hear(switch: &mut Switch, message: &[u8], notes: &mut Notes) -> bool
         .is_ok()
 }
 
-/// Whether the next cell to the controller is the frame of this message.
-fn says(switch: &mut Switch, message: &[u8; 40]) -> bool {
-    match switch.pop(PortNo(0)) {
-        Some(cell) => cell.header.last && cell.payload[..40] == message[..],
-        None => false,
+/// Whether the next cell to the controller is the frame of this message, and there is none where there is no
+/// message.
+fn says(switch: &mut Switch, message: Option<&[u8; 40]>) -> bool {
+    match (switch.pop(PortNo(0)), message) {
+        (Some(cell), Some(message)) => cell.header.last && cell.payload[..40] == message[..],
+        (None, None) => true,
+        _ => false,
     }
 }
 
-/// A request isn't taken before the two know each other.
+/// What is heard, and what is said to it: a request isn't taken before the two know each other.
+const HEARD: [(&[u8; 40], Option<&[u8; 40]>); 4] = [
+    (&SYN, Some(&SYNACK)),
+    (&ADD, None),
+    (&ACK, None),
+    (&ADD, Some(&ADDED)),
+];
+
 #[test]
 fn a_controller_is_answered(rt: HostRuntime) -> Result<(), Fail> {
     let mut numbers = Numbers::new();
     let mut notes = Notes::open(rt.alloc())?;
     let mut switch = Switch::open(rt.alloc(), NodeId(1), &[PortNo(1)], 4, 1, &mut numbers)?;
-    assert!(rt;
-        hear(
-            &mut switch,
-            &greeting(SYN, &CONTROLLER, &NOBODY),
-            &mut notes
-        )
-    );
-    assert!(rt; says(&mut switch, &greeting(SYNACK, &SWITCH, &CONTROLLER)));
-    assert!(rt; hear(&mut switch, &ADD, &mut notes));
-    assert!(rt; switch.pop(PortNo(0)).is_none());
-    assert!(rt;
-        hear(
-            &mut switch,
-            &greeting(ACK, &CONTROLLER, &SWITCH),
-            &mut notes
-        )
-    );
-    assert!(rt; switch.pop(PortNo(0)).is_none());
-    assert!(rt; hear(&mut switch, &ADD, &mut notes));
-    assert!(rt; says(&mut switch, &ADDED));
+    for (message, answer) in HEARD {
+        assert!(rt; hear(&mut switch, message, &mut notes));
+        assert!(rt; says(&mut switch, answer));
+    }
     assert_eq!(rt; notes.len(), 0);
     assert!(rt; hear(&mut switch, &ADD[..39], &mut notes));
     let bad = matches!(
@@ -456,67 +393,6 @@ fn a_controller_is_answered(rt: HostRuntime) -> Result<(), Fail> {
     assert!(rt; switch.tick(&mut numbers, &mut notes).is_ok());
     assert!(rt; switch.pop(PortNo(0)).is_some());
     assert_eq!(rt; notes.len(), 1);
-    switch.abandon();
-    Ok(())
-}
-
-/// A switch that was never greeted hears a SYNACK that names it rightly.
-#[test]
-fn a_synack_opens(rt: HostRuntime) -> Result<(), Fail> {
-    let mut numbers = Numbers::new();
-    let mut notes = Notes::open(rt.alloc())?;
-    let mut switch = Switch::open(rt.alloc(), NodeId(1), &[PortNo(1)], 4, 1, &mut numbers)?;
-    assert!(rt;
-        hear(
-            &mut switch,
-            &greeting(SYNACK, &CONTROLLER, &SWITCH),
-            &mut notes
-        )
-    );
-    assert!(rt; says(&mut switch, &greeting(ACK, &SWITCH, &CONTROLLER)));
-    assert!(rt; hear(&mut switch, &ADD, &mut notes));
-    assert!(rt; says(&mut switch, &ADDED));
-    switch.abandon();
-    Ok(())
-}
-
-/// An RSTACK with both parties right is answered by nothing; a tick later the switch greets anew.
-#[test]
-fn an_rstack_resets(rt: HostRuntime) -> Result<(), Fail> {
-    let mut numbers = Numbers::new();
-    let mut notes = Notes::open(rt.alloc())?;
-    let mut switch = Switch::open(rt.alloc(), NodeId(1), &[PortNo(1)], 4, 1, &mut numbers)?;
-    assert!(rt;
-        hear(
-            &mut switch,
-            &greeting(SYNACK, &CONTROLLER, &SWITCH),
-            &mut notes
-        )
-    );
-    assert!(rt; switch.pop(PortNo(0)).is_some());
-    assert!(rt;
-        hear(
-            &mut switch,
-            &greeting(RSTACK, &CONTROLLER, &SWITCH),
-            &mut notes
-        )
-    );
-    assert!(rt; switch.pop(PortNo(0)).is_none());
-    assert!(rt; switch.tick(&mut numbers, &mut notes).is_ok());
-    assert!(rt; says(&mut switch, &greeting(SYN, &SWITCH, &NOBODY)));
-    switch.abandon();
-    Ok(())
-}
-
-/// A last cell of zeros is no frame.
-#[test]
-fn a_broken_frame_is_entered(rt: HostRuntime) -> Result<(), Fail> {
-    let mut numbers = Numbers::new();
-    let mut notes = Notes::open(rt.alloc())?;
-    let mut switch = Switch::open(rt.alloc(), NodeId(1), &[PortNo(1)], 4, 1, &mut numbers)?;
-    assert!(rt; take(&mut switch, 0, GSMP, 1, true, &mut notes));
-    assert!(rt; are_entries(&notes, &[(1, Cause::Broken)]));
-    assert_eq!(rt; switch.fabric().free(), 4);
     switch.abandon();
     Ok(())
 }
