@@ -2,10 +2,7 @@
 
 ghost use Rattle.std.specs.Prelude.{◌<◌, ◌≤◌};
 
-use lab_io::{
-    Failed, LineReader, MemSink, MemSource, NextLine, ReportWriter, Source, SureSink, SureSource,
-    read_to_end, write_all,
-};
+use lab_io::{Failed, LineReader, MemSink, MemSource, NextLine, ReportWriter, Source, SureSource};
 use net_types::OutOfMemory;
 use std::alloc::Global;
 use std::test::Fail;
@@ -36,17 +33,20 @@ const SCRIPT: &str = "node a 10.0.1.1\r\n\n# \rthe end\nsend a 45";
 
 const SCRIPT_LINES: &str = "node a 10.0.1.1\r\n|\n|# \rthe end\n|send a 45|";
 
+/// Inputs, and their lines with `|` behind each.
+const INPUTS: [(&str, &str); 5] = [
+    ("", ""),
+    ("\n", "\n|"),
+    ("\n\n", "\n|\n|"),
+    ("x", "x|"),
+    (SCRIPT, SCRIPT_LINES),
+];
+
 #[test]
 fn lines_come_whole_in_any_pieces(rt: HostRuntime) -> Result<(), Fail> {
     for piece in [1, 2, 7, 4096] {
         assert!(rt; piece > 0);
-        for (script, want) in [
-            ("", ""),
-            ("\n", "\n|"),
-            ("\n\n", "\n|\n|"),
-            ("x", "x|"),
-            (SCRIPT, SCRIPT_LINES),
-        ] {
+        for (script, want) in INPUTS {
             let mut source = SureSource::new(script.as_bytes().to_vec(rt.alloc())?, piece);
             let (lines, last) = read_lines(rt.alloc(), &mut source, 4099)?;
             assert!(rt;
@@ -152,21 +152,6 @@ fn an_input_ends_at_its_greatest_octet(rt: HostRuntime) -> Result<(), Fail> {
     Ok(())
 }
 
-/// A line that is too long and holds that octet too.
-#[test]
-fn a_long_line_may_reach_past_the_end(rt: HostRuntime) -> Result<(), Fail> {
-    for (length, last) in [
-        (16_777_216, NextLine::LongLine),
-        (16_777_217, NextLine::PastEnd),
-    ] {
-        let mut source = SureSource::new(vec![in rt.alloc(); b'x'; length]?, 65_536);
-        let (given, outcome) = count_lines(rt.alloc(), &mut source)?;
-        assert_eq!(rt; given, 0, "{length}");
-        assert_eq!(rt; outcome, Ok(last), "{length}");
-    }
-    Ok(())
-}
-
 /// Puts two lines of 12 and 4 octets and flushes.
 fn write_report(
     alloc: Global,
@@ -216,17 +201,5 @@ fn a_write_that_fails_leaves_the_rooms_before_it(rt: HostRuntime) -> Result<(), 
         assert_eq!(rt; outcome.is_err(), fails, "write {call}");
         assert!(rt; sink.written() == want.as_bytes(), "write {call}");
     }
-    Ok(())
-}
-
-#[test]
-fn sure_ones_move_all(rt: HostRuntime) -> Result<(), Fail> {
-    let octets = vec![in rt.alloc(); b'x'; 10_000]?;
-    let mut source = SureSource::new(octets.as_slice().to_vec(rt.alloc())?, 7);
-    let read = read_to_end(rt.alloc(), &mut source, 16_777_217)?;
-    assert!(rt; read.as_slice() == octets.as_slice());
-    let mut sink = SureSink::new();
-    assert_eq!(rt; write_all(&mut sink, read.as_slice()), Ok(()));
-    assert_eq!(rt; sink.taken(), 10_000);
     Ok(())
 }

@@ -66,23 +66,3 @@ fn a_write_that_fails_leaves_the_pieces_before_it(rt: HostRuntime) -> Result<(),
     }
     Ok(())
 }
-
-#[test]
-fn a_sink_that_takes_nothing_or_has_no_room_fails(rt: HostRuntime) -> Result<(), Fail> {
-    let octets = rising(rt.alloc(), 16_777_217)?;
-    for (piece, want) in [
-        (0, 0),
-        (16_777_216, 16_777_216),
-        (16_777_217, 0),
-        (4096, 16_777_216),
-    ] {
-        let mut sink = sink_failing_at(rt.alloc(), piece, 0)?;
-        assert_eq!(rt;
-            write_all(&mut sink, octets.as_slice()),
-            Err(Failed),
-            "{piece}"
-        );
-        assert_eq!(rt; sink.written().len(), want, "{piece}");
-    }
-    Ok(())
-}

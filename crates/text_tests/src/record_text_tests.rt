@@ -84,29 +84,3 @@ fn each_line_is_read_and_written_back(rt: HostRuntime) -> Result<(), Fail> {
     );
     Ok(())
 }
-
-/// Lines of another word, form, number or end than a record's.
-#[test]
-fn other_octets_are_no_records(rt: HostRuntime) -> Result<(), Fail> {
-    let state = behind(rt.alloc(), ROW)?;
-    for line in [
-        "",
-        "opened n1 1\n",
-        "open n1 1",
-        "open n1 1\r\n",
-        "open  n1 1\n",
-        "open n5 1\n",
-        "open n1 9\n",
-        "open n1 01\n",
-        "free n1 1 1024\n",
-        "free n1 1 0/32\n",
-        "deliver n1 1 4A\n",
-        "loss 1.18446744073709551616 Lost\n",
-        "forged n1:1\n",
-        "end sent 0 delivered 0 dropped 0 refused 0\n",
-    ] {
-        let found = read_record(rt.alloc(), line.as_bytes(), state.topology())?;
-        assert!(rt; found.is_none(), "{line:?}");
-    }
-    Ok(())
-}

@@ -195,8 +195,12 @@ fn lines_are_refused_by_the_first_test_that_fails(rt: HostRuntime) -> Result<(),
     Ok(())
 }
 
-fn is_refused(state: &mut ScriptState, line: &[u8], refusal: LineRefusal) -> bool {
-    matches!(read_line(state, line), Err(ReadFault::Refused(found)) if found == refusal)
+/// What a line is refused for, if it is.
+fn refusal(state: &mut ScriptState, line: &[u8]) -> Option<LineRefusal> {
+    match read_line(state, line) {
+        Err(ReadFault::Refused(refusal)) => Some(refusal),
+        _ => None,
+    }
 }
 
 fn repeat(state: &mut ScriptState, line: &[u8], times: u32) -> Result<(), Fail> {
@@ -216,19 +220,23 @@ fn nodes(alloc: Global) -> Result<ScriptState, Fail> {
     Ok(state)
 }
 
-/// 64 nodes; 2,000,000 ticks, 100,000 rounds and 200,000 event lines, of which `tick *` is one.
+/// Lines, how often each comes, and one that is too many behind them: 64 nodes; 2,000,000 ticks, 100,000 rounds and
+/// 200,000 event lines, of which `tick *` is one.
+const LIMITS: [(&str, u32, &str); 4] = [
+    ("", 0, "node m 10.0.1.1"),
+    ("tick *", 15_625, "tick n0"),
+    ("run 100000", 1, "run 1"),
+    ("carry n0:c", 184_374, "restart n0"),
+];
+
 #[test]
 fn a_script_has_its_limits(rt: HostRuntime) -> Result<(), Fail> {
     let mut state = nodes(rt.alloc())?;
-    for (line, times, next) in [
-        ("", 0, "node m 10.0.1.1"),
-        ("tick *", 15_625, "tick n0"),
-        ("run 100000", 1, "run 1"),
-        ("carry n0:c", 184_374, "restart n0"),
-    ] {
+    for (line, times, next) in LIMITS {
         repeat(&mut state, line.as_bytes(), times)?;
-        assert!(rt;
-            is_refused(&mut state, next.as_bytes(), LineRefusal::TooMany),
+        assert_eq!(rt;
+            refusal(&mut state, next.as_bytes()),
+            Some(LineRefusal::TooMany),
             "{next}"
         );
     }
@@ -245,99 +253,97 @@ fn routes(alloc: Global) -> Result<ScriptState, Fail> {
     Ok(state)
 }
 
-/// A node has 256 routes, by lines of the topology and by changes, of which each is judged by those
-/// before it.
+/// A line that is refused behind 256 routes and the lines before it, why, and a line that isn't refused then. Lines
+/// of the topology and changes count, and each change is judged by those before it.
+const ROUTES: [(&str, LineRefusal, &str); 4] = [
+    ("route a 10.1.0.0/24 local", LineRefusal::TableFull, ""),
+    (
+        "setroute a 10.1.0.0/24 local",
+        LineRefusal::TableFull,
+        "unroute a 10.0.0.0/24",
+    ),
+    (
+        "unroute a 10.0.0.0/24",
+        LineRefusal::NoPrefix,
+        "setroute a 10.1.0.0/24 local",
+    ),
+    (
+        "setroute a 10.2.0.0/24 local",
+        LineRefusal::TableFull,
+        "setroute a 10.1.0.0/24 local",
+    ),
+];
+
 #[test]
 fn a_table_has_its_limit(rt: HostRuntime) -> Result<(), Fail> {
     let mut state = routes(rt.alloc())?;
-    for (next, refusal, lines) in [
-        ("route a 10.1.0.0/24 local", LineRefusal::TableFull, ""),
-        (
-            "setroute a 10.1.0.0/24 local",
-            LineRefusal::TableFull,
-            "unroute a 10.0.0.0/24",
-        ),
-        (
-            "unroute a 10.0.0.0/24",
-            LineRefusal::NoPrefix,
-            "setroute a 10.1.0.0/24 local",
-        ),
-        (
-            "setroute a 10.2.0.0/24 local",
-            LineRefusal::TableFull,
-            "setroute a 10.1.0.0/24 local",
-        ),
-    ] {
-        assert!(rt; is_refused(&mut state, next.as_bytes(), refusal), "{next}");
-        read_all(&mut state, lines)?;
-    }
-    Ok(())
-}
-
-/// So many octets of a comment, and what ends its line.
-fn comment(alloc: Global, count: usize, end: &str) -> Result<Vec<u8>, Fail> {
-    let mut line = vec![in alloc; b'#'; count]?;
-    line.extend_from_slice(end.as_bytes())?;
-    Ok(line)
-}
-
-#[test]
-fn a_line_has_4096_octets_and_its_end(rt: HostRuntime) -> Result<(), Fail> {
-    let mut state = ScriptState::new(rt.alloc())?;
-    for (count, end, is_long) in [(4096, "", false), (4096, "\r\n", false), (4097, "\n", true)] {
-        let line = comment(rt.alloc(), count, end)?;
+    for (next, refused, then) in ROUTES {
         assert_eq!(rt;
-            is_refused(&mut state, line.as_slice(), LineRefusal::LineTooLong),
-            is_long
+            refusal(&mut state, next.as_bytes()),
+            Some(refused),
+            "{next}"
         );
+        read_all(&mut state, then)?;
     }
     Ok(())
 }
 
-/// 4,095 lines of 4,096 octets, and one blank line: one octet more is too many.
-#[test]
-fn a_script_has_16777216_octets(rt: HostRuntime) -> Result<(), Fail> {
-    let mut state = ScriptState::new(rt.alloc())?;
-    let line = comment(rt.alloc(), 4096, "\n")?;
-    repeat(&mut state, line.as_slice(), 4095)?;
-    assert!(rt; !is_refused(&mut state, b"\n", LineRefusal::ScriptTooLong));
-    assert!(rt; is_refused(&mut state, b"\n", LineRefusal::ScriptTooLong));
-    Ok(())
-}
+/// Lines behind `TWO`: the first octets, what follows so many times, what ends the line, and the refusal. A line has
+/// 4,096 octets and its end, and a forged frame 1,528.
+const LONGEST: [(&str, &str, u32, &str, Option<LineRefusal>); 5] = [
+    ("#", "#", 4095, "", None),
+    ("#", "#", 4095, "\r\n", None),
+    ("#", "#", 4096, "\n", Some(LineRefusal::LineTooLong)),
+    ("forge a:1 0/15 ", "00", 1528, "", None),
+    (
+        "forge a:1 0/15 ",
+        "00",
+        1529,
+        "",
+        Some(LineRefusal::BadLength),
+    ),
+];
 
-/// A frame of so many zero octets.
-fn forgery(alloc: Global, octets: usize) -> Result<Vec<u8>, Fail> {
-    let mut line = b"forge a:1 0/15 ".to_vec(alloc)?;
-    for _ in 0..octets {
-        line.extend_from_slice(b"00")?;
+/// The octets of such a line.
+fn long_line(
+    alloc: Global,
+    first: &str,
+    part: &str,
+    count: u32,
+    end: &str,
+) -> Result<String, Fail> {
+    let mut line = String::new(alloc);
+    line.push_str(first)?;
+    for _ in 0..count {
+        line.push_str(part)?;
     }
+    line.push_str(end)?;
     Ok(line)
 }
 
 #[test]
-fn a_forged_frame_has_1528_octets(rt: HostRuntime) -> Result<(), Fail> {
+fn lines_and_frames_have_a_greatest_length(rt: HostRuntime) -> Result<(), Fail> {
     let mut state = behind(rt.alloc(), TWO)?;
-    for (octets, is_long) in [(1528, false), (1529, true)] {
-        let line = forgery(rt.alloc(), octets)?;
-        assert_eq!(rt;
-            is_refused(&mut state, line.as_slice(), LineRefusal::BadLength),
-            is_long
-        );
+    for (first, part, count, end, refused) in LONGEST {
+        let line = long_line(rt.alloc(), first, part, count, end)?;
+        assert_eq!(rt; refusal(&mut state, line.as_bytes()), refused);
     }
     Ok(())
 }
 
-/// Lines without words, comments, and tabs, CR LF and LF round words.
+/// Lines without words, comments, and tabs, CR LF and LF round words, and whether they are blank.
+const LINES: [(&str, bool); 5] = [
+    ("", true),
+    (" \t\r\n", true),
+    ("\t#node A\n", true),
+    ("\ttick\t a \r\n", false),
+    ("send a 00Ff", false),
+];
+
 #[test]
 fn lines_are_blank_or_have_words(rt: HostRuntime) -> Result<(), Fail> {
     let mut state = behind(rt.alloc(), TWO)?;
-    for (line, is_blank) in [
-        ("", true),
-        (" \t\r\n", true),
-        ("\t#node A\n", true),
-        ("\ttick\t a \r\n", false),
-        ("send a 00Ff", false),
-    ] {
+    for (line, is_blank) in LINES {
         let said = read_line(&mut state, line.as_bytes())?;
         assert_eq!(rt; matches!(said, Line::Blank), is_blank, "{line:?}");
     }
