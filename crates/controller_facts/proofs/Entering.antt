@@ -102,19 +102,23 @@ module _ (setups : List Setup) where
       by_found (Some linked) found = same_image (λ (x : Linked). labels_of x.port) a.controller.ports linked (record linked { port = (port_joins.lent (begins a linked) join.grant join.input).port }) k
           (found_at_own setups a linked join.port found) refl refl
 
+  -- the output of a grant of a port is one of its labels' channels
+  pub granted_end : (a : Acted) (linked : Linked) (grant : Grant) → HasPorts setups a → Found setups a linked → at grant_label grant.label linked.port.grants ≡ Some grant → IsLabelEnd setups (label_end linked.setup.port grant.label)
+  granted_end a linked grant h found granted = record {
+    setup = linked.setup;
+    number = grant.label;
+    linked = found_setup setups a linked linked.setup.port h found;
+    in_range = (at_every grant_label (IsGrant setups linked.setup) grant.label linked.port.grants grant (found_port setups a linked linked.setup.port h found).grants granted).in_range;
+    is = refl;
+  }
+
   -- a join of an offered label to a grant under which the controller sends
   joins_goes : (a : Acted) (input : End) (label : Label) (linked : Linked) (grant : Grant) → HasPorts setups a → IsLabelEnd setups input → label_on a.controller input ≡ Some label → label.state ≡ Offered
       → Found setups a linked → at grant_label grant.label linked.port.grants ≡ Some grant → grant.state ≡ ByController
       → To setups a (joins a (Some (record { input = input; port = linked.setup.port; grant = grant })))
   joins_goes a input label linked grant h end on offered found granted sending =
       let join : Join = record { input = input; port = linked.setup.port; grant = grant } in
-      let output : IsLabelEnd setups (output_of join) = record {
-        setup = linked.setup;
-        number = grant.label;
-        linked = found_setup setups a linked linked.setup.port h found;
-        in_range = (at_every grant_label (IsGrant setups linked.setup) grant.label linked.port.grants grant (found_port setups a linked linked.setup.port h found).grants granted).in_range;
-        is = refl;
-      } in
+      let output : IsLabelEnd setups (output_of join) = granted_end a linked grant h found granted in
       let lends : Acted = enters_grant a join in
       let before : OnPort a.controller.ports input label = on_port a.controller input label on in
       goes_on setups h (at_port_goes setups a linked.setup.port (λ setup desk w. port_joins.lent w grant input) h

@@ -98,7 +98,7 @@ module _ (setups : List Setup) where
   pub meets_goes : (a : Acted) → HasPorts setups a → To setups a (meets a)
   meets_goes a h = goes_on setups h (moves_to (meeting a)) (λ k. asks_goes setups (with_desk a empty_desk) AllPorts k asks_ports)
 
-  ups_linked : (a : Acted) → HasPorts setups a → Every (IsLinked setups) (up_ports a.controller)
+  pub ups_linked : (a : Acted) → HasPorts setups a → Every (IsLinked setups) (up_ports a.controller)
   ups_linked a h = every_filter (IsLinked setups) (is_up a.controller.desk.rows) (ports_of a.controller) (ports_linked setups a h)
 
   empties_goes : (a : Acted) → HasPorts setups a → To setups a (empties a)
@@ -108,7 +108,7 @@ module _ (setups : List Setup) where
       shapes [] e = tt
       shapes (port ∷ ports) e = (empties_port port e.0, shapes ports e.1)
 
-  default_of : (port : PortNo) → IsLinked setups port → IsDefaultEnd setups (default_end port)
+  pub default_of : (port : PortNo) → IsLinked setups port → IsDefaultEnd setups (default_end port)
   default_of port linked = record { port = inr linked; vpi = refl; vci = refl }
 
   ends_meeting_goes : (a : Acted) → HasPorts setups a → is_estab a.controller.adjacency.state ≡ true → To setups a (ends_meeting a)
@@ -124,7 +124,7 @@ module _ (setups : List Setup) where
   tells_goes a request port h = at_port_goes setups a port (λ setup desk w. port_answers.done setup w request) h
       (λ linked found. by_rule _ (done_goes linked.setup a.controller.desk _ request (λ t. tt)))
 
-  emptied_port : (port : PortNo) → IsShaped setups (DeleteAll port) → IsDefaultEnd setups (default_end port)
+  pub emptied_port : (port : PortNo) → IsShaped setups (DeleteAll port) → IsDefaultEnd setups (default_end port)
   emptied_port port (empties_control other none) = record { port = inl none; vpi = refl; vci = refl }
   emptied_port port (empties_port other linked) = record { port = inr linked; vpi = refl; vci = refl }
 

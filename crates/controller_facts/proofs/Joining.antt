@@ -39,7 +39,7 @@ pub every_flat_map : {A B : Type 0} (Q : A → Type 0) (P : B → Type 0) (f : A
 every_flat_map Q P f each [] h = tt
 every_flat_map Q P f each (x ∷ xs) h = every_join P (f x) (flat_map f xs) (each x h.0) (every_flat_map Q P f each xs h.1)
 
-every_filter_map : {A B : Type 0} (Q : A → Type 0) (P : B → Type 0) (f : A → Option B) → ((x : A) → Q x → (y : B) → f x ≡ Some y → P y) → (xs : List A) → Every Q xs → Every P (filter_map f xs)
+pub every_filter_map : {A B : Type 0} (Q : A → Type 0) (P : B → Type 0) (f : A → Option B) → ((x : A) → Q x → (y : B) → f x ≡ Some y → P y) → (xs : List A) → Every Q xs → Every P (filter_map f xs)
 every_filter_map Q P f each [] h = tt
 every_filter_map {A} {B} Q P f each (x ∷ xs) h = by_answer (f x) refl (every_filter_map Q P f each xs h.1)
   where
@@ -47,7 +47,7 @@ every_filter_map {A} {B} Q P f each (x ∷ xs) h = by_answer (f x) refl (every_f
     by_answer None e rest = rest
     by_answer (Some y) e rest = (each x h.0 y e, rest)
 
-every_in_order : {A : Type 0} (P : A → Type 0) (le : A → A → Bool) (xs : List A) → Every P xs → Every P (in_order le xs)
+pub every_in_order : {A : Type 0} (P : A → Type 0) (le : A → A → Bool) (xs : List A) → Every P xs → Every P (in_order le xs)
 every_in_order P le [] h = tt
 every_in_order P le (x ∷ xs) h = entered_every (λ y. 0) P le x (in_order le xs) h.0 (every_in_order P le xs h.1)
 
@@ -55,7 +55,7 @@ pub every_filter : {A : Type 0} (P : A → Type 0) (test : A → Bool) (xs : Lis
 every_filter P test [] h = tt
 every_filter P test (x ∷ xs) h = on_both (Every P) (test x) (x ∷ filter test xs) (filter test xs) (h.0, every_filter P test xs h.1) (every_filter P test xs h.1)
 
-every_both : {A : Type 0} (P Q : A → Type 0) (xs : List A) → Every P xs → Every Q xs → Every (λ x. P x × Q x) xs
+pub every_both : {A : Type 0} (P Q : A → Type 0) (xs : List A) → Every P xs → Every Q xs → Every (λ x. P x × Q x) xs
 every_both P Q [] h k = tt
 every_both P Q (x ∷ xs) h k = ((h.0, k.0), every_both P Q xs h.1 k.1)
 

@@ -12,6 +12,7 @@ pub mod Numbers
 pub mod Draws
 pub mod Drawn
 pub mod Marks
+pub mod TakenBack
 pub mod Marked
 pub mod MarkedInputs
 pub mod Refusals

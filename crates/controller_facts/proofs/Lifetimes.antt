@@ -16,6 +16,7 @@ use Rattle.ipv4_packet.specs.Flow.{IsFlow, has_ports}
 use Rattle.ipv4_packet.specs.Identifier.{has_zeros, has_fields}
 use Rattle.port_facts.specs.Port.{Lives}
 use Rattle.port_facts.proofs.Keyed.{on_both, on_each}
+use Rattle.port_facts.proofs.Rules.{and_second, and_first}
 
 behind : (a b : Option Fault) → option_or a b ≡ None → b ≡ None
 behind None b e = e
@@ -52,23 +53,15 @@ has_fields_of kind octets e = by_tests (has_zeros kind octets) (has_fields kind 
     by_tests true false e = absurd (cc e)
     by_tests false fields e = absurd (cc e)
 
-second : (a b : Bool) → (a && b) ≡ true → b ≡ true
-second true b e = e
-second false b e = absurd (cc e)
-
-first_of_two : (a b : Bool) → (a && b) ≡ true → a ≡ true
-first_of_two true b e = refl
-first_of_two false b e = absurd (cc e)
-
 less : (n : ℕ) → nat_lt 0 n ≡ true → 0 < n
 less n e = grind (arith, nat_tests)
 
 -- the flow that octets tell is one that packets can have
 alive_in : (kind : FlowKind) (octets : List ℕ) → has_fields kind octets ≡ true → IsFlow (flow_in kind octets)
 alive_in ConnectionKind octets e =
-    let rest = second (slice_index octets 0 == 69) (nat_lt 0 (slice_index octets 2) && has_ports (slice_index octets 3)) e in
-    (less (slice_index octets 2) (first_of_two (nat_lt 0 (slice_index octets 2)) (has_ports (slice_index octets 3)) rest), second (nat_lt 0 (slice_index octets 2)) (has_ports (slice_index octets 3)) rest)
-alive_in HostsKind octets e = less (slice_index octets 2) (second (slice_index octets 0 == 69) (nat_lt 0 (slice_index octets 2)) e)
+    let rest = and_second (slice_index octets 0 == 69) (nat_lt 0 (slice_index octets 2) && has_ports (slice_index octets 3)) e in
+    (less (slice_index octets 2) (and_first (nat_lt 0 (slice_index octets 2)) (has_ports (slice_index octets 3)) rest), and_second (nat_lt 0 (slice_index octets 2)) (has_ports (slice_index octets 3)) rest)
+alive_in HostsKind octets e = less (slice_index octets 2) (and_second (slice_index octets 0 == 69) (nat_lt 0 (slice_index octets 2)) e)
 
 alive_at : (octets : List ℕ) → flow_fault octets ≡ None → IsFlow (flow_at octets)
 alive_at octets none = alive_in (kind_at octets) (drop 24 octets) (has_fields_of (kind_at octets) (drop 24 octets) (behind (lifetime_fault octets) (identifier_fault (kind_at octets) (drop 24 octets)) (behind (kind_fault octets) _ none)))

@@ -1,26 +1,20 @@
 -- how many control marks releases, what an answer causes and changes of routes draw
 
-use Rattle.std.proofs.Common.{◌≡◌, ℕ, ◌≤◌, ◌+◌, ◌*◌, Bool, true, false, List, [], ◌∷◌, ◌++◌, length, Option, None, Some, refl, sym, ◌∙◌, ap, subst, arith, length-append, if◌then◌else◌, map, fold, ◌⊎◌, inl, inr}
-use Rattle.std.specs.Prelude.{not, ◌==◌, ◌&&◌, ◌||◌, nat_le, nat_lt, take, filter, flat_map}
+use Rattle.std.proofs.Common.{◌≡◌, ℕ, ◌≤◌, ◌+◌, ◌*◌, Bool, true, false, List, [], ◌∷◌, ◌++◌, length, Option, None, Some, refl, sym, ◌∙◌, ap, subst, arith, length-append, if◌then◌else◌, map, fold, inl, inr}
+use Rattle.std.specs.Prelude.{not, ◌&&◌, ◌||◌, nat_lt, take, filter, flat_map}
 use Rattle.std.specs.List.{filter_map, cons_option, list_any}
 use Rattle.std.proofs.lemmas.List.{length-map}
 use Rattle.std.proofs.lemmas.List.{length-take}
 use Rattle.net_types.specs.declared.node.PortNo.{PortNo}
-use Rattle.net_types.specs.declared.channel.Channel.{Channel}
 use Rattle.net_types.specs.declared.channel.End.{End}
-use Rattle.net_types.specs.declared.number.Mark.{Mark}
 use Rattle.net_types.specs.Label.{label_channel_of, number_of_channel}
-use Rattle.net_types.specs.Number.{next_control, with_control}
 use Rattle.ipv4_forward.specs.declared.change.RouteChange.{RouteChange}
 use Rattle.gsmp_wire.specs.declared.request.Request.{Request}
 use Rattle.gsmp_wire.specs.declared.request.Request.TheVariants.{AddBranch, MoveBranch, DeleteTree, VerifyTree, DeleteAll, PortManagement, AllPorts}
 use Rattle.adjacency_table.specs.Side.{is_estab}
 use Rattle.link_model.specs.declared.record.Record.TheVariants.{Part}
-use Rattle.frame_model.specs.Frame.{frame_cells, made}
-use Rattle.frame_model.specs.Sending.{Sent}
 use Rattle.port_model.specs.Requests.{leads_home}
 use Rattle.port_model.specs.Messages.{is_up}
-use Rattle.port_model.specs.Desk.{asked, is_led_home, last_transaction, message_at}
 use Rattle.port_model.specs.Setup.{Setup, home_of}
 use Rattle.port_model.specs.Labels.{Label}
 use Rattle.port_model.specs.Grants.{Grant, GrantState, Idle, ByController, ByInput, Leaving, grant_label}
@@ -32,32 +26,26 @@ use Rattle.port_model.specs.Resets.{cleared}
 use Rattle.port_facts.specs.Port.{IsPort}
 use Rattle.port_facts.proofs.Keyed.{on_both}
 use Rattle.port_facts.proofs.Rules.{done_goes}
-use Rattle.world_model.specs.Controller.{Controller, Acted, Linked, free_slots, linked_at, ports_of, with_linked, with_desk, note, default_channel, default_end, default_home}
-use Rattle.world_model.specs.Sending.{with_cells, sends}
-use Rattle.world_model.specs.Asking.{asks, asks_next}
-use Rattle.world_model.specs.Resets.{begins, with_work, cuts_of, closes_by, port_restarts_of, port_restarts, resets_gsmp, node_resets}
+use Rattle.world_model.specs.Controller.{Acted, Linked, ports_of, with_linked, note, default_end, default_home}
+use Rattle.world_model.specs.Asking.{asks}
+use Rattle.world_model.specs.Resets.{begins}
 use Rattle.world_model.specs.Joins.{Join, join_to, joins_at, end_le, joins_of, join_of, parts, gives_back, releases_join, releases_input, released_inputs, resets_spent, releases, output_of, joins}
 use Rattle.world_model.specs.Changes.{is_changed, changed_joins, takes_join_back, begins_change, takes_change, may_take, takes_each, takes_changes}
 use Rattle.world_model.specs.Meeting.{up_ports, default_branches, ends_meeting, has_emptied, port_of_input, tells_port, behind_delete_all, causes_in_estab, causes, may_clear, clears_of}
 use Rattle.std.specs.Option.{option_map}
 use Rattle.ipv4_forward.specs.declared.table.Route.{Route}
-use Rattle.gsmp_wire.specs.Layout.{octets_of as gsmp_octets}
-use Rattle.link_model.specs.declared.record.Record.TheVariants.{Loss}
-use Rattle.link_model.specs.declared.record.Cause.TheVariants.{PoolFull}
-use Rattle.link_model.specs.Notes.{noted}
 use Rattle.crossbar_model.specs.Crossbar.{same_end}
 use Rattle.ordered_lists.specs.Ordered.{Every}
 use Rattle.keyed_lists.specs.Keyed.{put, without, entered, in_order}
 use Rattle.port_model.specs.declared.action.Action.{Action}
-use Rattle.port_model.specs.declared.action.Action.TheVariants as actions
-use Rattle.port_model.specs.declared.action.Action.TheVariants.{Say, Ask, Note, CutChain, TakeBack, Withdraw}
-use Rattle.port_model.specs.Resets.{restarts}
+use Rattle.port_model.specs.declared.action.Action.TheVariants.{Say}
 use Rattle.port_facts.proofs.Found.{find_every}
 use Rattle.port_facts.proofs.Weights.{weigh, still, tells_cost, closes_cost, grant_cost, gone_grant_cost, done_cost}
 use Rattle.controller_facts.specs.Sound.{linked_setup, IsLinkedPort}
 use Rattle.controller_facts.proofs.Moves.{by_rule, by_closing, by_parting, by_giving_back, HasPorts, begun, moves_ports, moves_fold}
 use Rattle.controller_facts.proofs.Performing.{To, Any, any_ports}
 use Rattle.controller_facts.proofs.Joining.{IsJoin, joins_are, parts_goes, parts_grants, granted_there, AnyEnd, any_ends, releases_input_goes, resets_spent_goes, begins_change_goes, takes_change_goes}
+use Rattle.controller_facts.proofs.TakenBack.{Stays, back_fold}
 use Rattle.controller_facts.proofs.Marks.{Marks, no_marks, mark_more, marks_then, marks_fold, asks_marks, takes_back_marks, at_port_marks, light_of}
 
 -- *Counting*
@@ -220,89 +208,6 @@ module _ (setups : List Setup) where
   clears_of_marks a (Some linked) = on_both (λ (b : Acted). b.numbers.controls ≡ a.numbers.controls) (may_clear a.controller linked) (with_linked a (record linked { port = cleared linked.port })) a refl refl
 
   -- *Changes of routes*: a join that is taken back stays until it is released, so no change is taken behind it
-  -- the ports and the table stay, or the switch isn't met any more
-  abbrev Stays : Acted → Acted → Type 0
-  Stays a b = (b.controller.has_met ≡ false) ⊎ ((b.controller.ports ≡ a.controller.ports) × (b.controller.table ≡ a.controller.table))
-
-  reset_unmet : (a : Acted) → (node_resets a).controller.has_met ≡ false
-  reset_unmet a = unmet_fold (ports_of a.controller) (resets_gsmp a) refl
-    where
-      cuts_unmet : (b : Acted) (label : ℕ) (o : Option Linked) → (cuts_of b label o).controller.has_met ≡ b.controller.has_met
-      cuts_unmet b label None = refl
-      cuts_unmet b label (Some linked) = refl
-
-      closes_unmet : (port : PortNo) (b : Acted) (action : Action) → (closes_by port b action).controller.has_met ≡ b.controller.has_met
-      closes_unmet port b (Say message) = refl
-      closes_unmet port b (Ask request needed) = refl
-      closes_unmet port b (Note item) = refl
-      closes_unmet port b (CutChain label) = cuts_unmet b label (linked_at b.controller port)
-      closes_unmet port b (TakeBack input output) = refl
-      closes_unmet port b (Withdraw input) = refl
-      closes_unmet port b actions.Reset = refl
-
-      actions_unmet : (port : PortNo) (xs : List Action) (b : Acted) → (fold (closes_by port) b xs).controller.has_met ≡ b.controller.has_met
-      actions_unmet port [] b = refl
-      actions_unmet port (x ∷ xs) b = actions_unmet port xs (closes_by port b x) ∙ closes_unmet port b x
-
-      port_unmet : (b : Acted) (o : Option Linked) → (port_restarts_of b o).controller.has_met ≡ b.controller.has_met
-      port_unmet b None = refl
-      port_unmet b (Some linked) = actions_unmet linked.setup.port (restarts linked.setup (begins b linked)).actions (with_work b linked (restarts linked.setup (begins b linked)))
-
-      unmet_fold : (ports : List PortNo) (b : Acted) → b.controller.has_met ≡ false → (fold port_restarts b ports).controller.has_met ≡ false
-      unmet_fold [] b e = e
-      unmet_fold (port ∷ ports) b e = unmet_fold ports (port_restarts b port) (port_unmet b (linked_at b.controller port) ∙ e)
-
-  sent_stays : (a b : Acted) → b.controller.ports ≡ a.controller.ports → b.controller.table ≡ a.controller.table → Stays a b
-  sent_stays a b ports table = inr (ports, table)
-
-  sends_same : (a : Acted) (channel : Channel) (mark : Mark) (payload : List ℕ) → ((sends a channel mark payload).controller.ports ≡ a.controller.ports) × ((sends a channel mark payload).controller.table ≡ a.controller.table)
-  sends_same a channel mark payload = on_both (λ (s : Sent Controller). (s.queues.ports ≡ a.controller.ports) × (s.queues.table ≡ a.controller.table)) (nat_le (length (frame_cells channel mark payload)) (free_slots a.controller))
-      (record { queues = with_cells a.controller (frame_cells channel mark payload); notes = made a.notes mark payload })
-      (record { queues = a.controller; notes = noted (made a.notes mark payload) (Loss mark PoolFull) }) (refl, refl) (refl, refl)
-
-  asks_stays : (a : Acted) (request : Request) → Stays a (asks a request)
-  asks_stays a request = on_both (Stays a) (is_estab a.controller.adjacency.state) (if a.controller.desk.next == last_transaction then node_resets a else asks_next a request) a
-      (on_both (Stays a) (a.controller.desk.next == last_transaction) (node_resets a) (asks_next a request) (inl (reset_unmet a)) (inr (next_same a request))) (inr (refl, refl))
-    where
-      next_same : (a : Acted) (request : Request) → ((asks_next a request).controller.ports ≡ a.controller.ports) × ((asks_next a request).controller.table ≡ a.controller.table)
-      next_same a request =
-          let entered : Acted = with_desk a (asked a.controller.desk request) in
-          sends_same (record entered { numbers = with_control a.numbers }) default_channel (next_control a.numbers) (gsmp_octets (message_at entered.controller.desk (record { number = a.controller.desk.next; request = request })))
-
-  -- not met, it stays so
-  asks_unmet : (a : Acted) (request : Request) → a.controller.has_met ≡ false → (asks a request).controller.has_met ≡ false
-  asks_unmet a request e = on_both (λ (b : Acted). b.controller.has_met ≡ false) (is_estab a.controller.adjacency.state) (if a.controller.desk.next == last_transaction then node_resets a else asks_next a request) a
-      (on_both (λ (b : Acted). b.controller.has_met ≡ false) (a.controller.desk.next == last_transaction) (node_resets a) (asks_next a request) (reset_unmet a) (next_unmet a request e)) e
-    where
-      next_unmet : (a : Acted) (request : Request) → a.controller.has_met ≡ false → (asks_next a request).controller.has_met ≡ false
-      next_unmet a request e =
-          let entered : Acted = with_desk a (asked a.controller.desk request) in
-          let channel : Channel = default_channel in
-          let mark : Mark = next_control a.numbers in
-          let payload : List ℕ = gsmp_octets (message_at entered.controller.desk (record { number = a.controller.desk.next; request = request })) in
-          on_both (λ (s : Sent Controller). s.queues.has_met ≡ false) (nat_le (length (frame_cells channel mark payload)) (free_slots entered.controller))
-          (record { queues = with_cells entered.controller (frame_cells channel mark payload); notes = made a.notes mark payload })
-          (record { queues = entered.controller; notes = noted (made a.notes mark payload) (Loss mark PoolFull) }) e e
-
-  stays_then : (a b c : Acted) → Stays a b → (b.controller.has_met ≡ false → c.controller.has_met ≡ false) → Stays b c → Stays a c
-  stays_then a b c (inl unmet) keeps q = inl (keeps unmet)
-  stays_then a b c (inr same) keeps (inl unmet) = inl unmet
-  stays_then a b c (inr same) keeps (inr next) = inr (next.0 ∙ same.0, next.1 ∙ same.1)
-
-  takes_back_stays : (a : Acted) (join : Join) → Stays a (takes_join_back a join)
-  takes_back_stays a join = on_both (Stays a) (is_led_home a.controller.desk join.input (home_of join.input)) a (asks a (MoveBranch join.input (output_of join) (home_of join.input))) (inr (refl, refl)) (asks_stays a (MoveBranch join.input (output_of join) (home_of join.input)))
-
-  takes_back_unmet : (a : Acted) (join : Join) → a.controller.has_met ≡ false → (takes_join_back a join).controller.has_met ≡ false
-  takes_back_unmet a join e = on_both (λ (b : Acted). b.controller.has_met ≡ false) (is_led_home a.controller.desk join.input (home_of join.input)) a (asks a (MoveBranch join.input (output_of join) (home_of join.input))) e (asks_unmet a (MoveBranch join.input (output_of join) (home_of join.input)) e)
-
-  back_fold : (joins : List Join) (a : Acted) → Stays a (fold takes_join_back a joins)
-  back_fold [] a = inr (refl, refl)
-  back_fold (join ∷ joins) a = stays_then a (takes_join_back a join) (fold takes_join_back (takes_join_back a join) joins) (takes_back_stays a join) (unmet_fold joins (takes_join_back a join)) (back_fold joins (takes_join_back a join))
-    where
-      unmet_fold : (joins : List Join) (b : Acted) → b.controller.has_met ≡ false → (fold takes_join_back b joins).controller.has_met ≡ false
-      unmet_fold [] b e = e
-      unmet_fold (join ∷ joins) b e = unmet_fold joins (takes_join_back b join) (takes_back_unmet b join e)
-
   back_marks : (joins : List Join) (a : Acted) → Marks (length joins) a (fold takes_join_back a joins)
   back_marks [] a = no_marks 0 a a refl
   back_marks (join ∷ joins) a = mark_more (1 + length joins) (length (join ∷ joins)) a (fold takes_join_back (takes_join_back a join) joins) (omega arith)

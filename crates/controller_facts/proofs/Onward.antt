@@ -35,7 +35,7 @@ octets_canonical octets small =
 pub octets_onward : (packet : List ℕ) → AreOctets packet → AreOctets (onward packet)
 octets_onward packet small = octets_canonical (with_ttl packet (ttl_of packet - 1)) (octets_set packet 8 (ttl_of packet - 1) (omega (arith, small 8)) small)
 
-guard : (b : Bool) (fault : PacketFault) (rest : Option PacketFault) → (if b then Some fault else rest) ≡ None → (b ≡ false) × (rest ≡ None)
+pub guard : (b : Bool) (fault : PacketFault) (rest : Option PacketFault) → (if b then Some fault else rest) ≡ None → (b ≡ false) × (rest ≡ None)
 guard true fault rest e = absurd (cc e)
 guard false fault rest e = (refl, e)
 
