@@ -83,7 +83,7 @@ unfiltered {A} {B} P f (x ∷ xs) h = by_answer (f x) refl (λ k. unfiltered P f
     by_answer None e rest k = (λ y is. absurd (cc (sym e ∙ is)), rest k)
     by_answer (Some b) e rest k = (λ y is. (let same : b ≡ y = (let both : Some b ≡ Some y = sym e ∙ is in cc) in subst P same k.0), rest k.1)
 
-by_grants : (P : Join → Type 0) (ports : List Linked) → Every P (in_order (λ (x : Join) (y : Join). end_le x.input y.input) (flat_map joins_at ports))
+pub by_grants : (P : Join → Type 0) (ports : List Linked) → Every P (in_order (λ (x : Join) (y : Join). end_le x.input y.input) (flat_map joins_at ports))
     → Every (λ (x : Linked). Every (λ (g : Grant). (input : End) → input_of g.state ≡ Some input → P (record { input = input; port = x.setup.port; grant = g })) x.port.grants) ports
 by_grants P ports h = every_map (λ (x : Linked). Every P (joins_at x)) (λ (x : Linked). Every (λ (g : Grant). (input : End) → input_of g.state ≡ Some input → P (record { input = input; port = x.setup.port; grant = g })) x.port.grants) ports
     (λ x all. every_map (λ (g : Grant). (j : Join) → join_to x.setup.port g ≡ Some j → P j) (λ (g : Grant). (input : End) → input_of g.state ≡ Some input → P (record { input = input; port = x.setup.port; grant = g })) x.port.grants

@@ -8,7 +8,6 @@ use Rattle.net_types.specs.declared.node.PortNo.{PortNo}
 use Rattle.net_types.specs.Label.{number_of_channel}
 use Rattle.ipv4_packet.specs.declared.flow.FlowId.{FlowId}
 use Rattle.ipv4_forward.specs.declared.table.Next.TheVariants.{Via}
-use Rattle.crossbar_model.specs.Channels.{IsLinkPort}
 use Rattle.ordered_lists.specs.Ordered.{Every}
 use Rattle.ordered_lists.proofs.Every.{every_all, every_map, every_map2, every_mapped, every_unmapped}
 use Rattle.port_model.specs.Setup.{Setup}
@@ -30,7 +29,7 @@ use Rattle.controller_facts.proofs.Laws.{has_ports, always_sound}
 use Rattle.controller_law.specs.Law.{IsOpening}
 use Rattle.controller_law.proofs.Ordering.{same_number}
 use Rattle.controller_law.proofs.Whole.{Whole}
-use Rattle.controller_law.proofs.Laws.{always_holds, held_joins}
+use Rattle.controller_law.proofs.Laws.{always_holds, held_joins, links_by}
 use Rattle.world_model.specs.Past.{last_bound}
 use Rattle.link_model.specs.declared.record.Record.{Record}
 use Rattle.controller_bindings.specs.Bindings.{site, IsBoundLast, HasBoundLabels, IsLed, HasLedJoins, IsOfBound, GathersForBound, noted_by_all, JournalsGrow, NotesOwn, Always}
@@ -42,16 +41,13 @@ use Rattle.controller_bindings.proofs.Flows.{next_lives}
 use Rattle.controller_bindings.proofs.Events.{IsTiedTo, inputs_told, input_grows, input_own}
 
 -- *The opening*
-opened_new : (f : PortRange → Setup) (ranges : List PortRange) (instances : ℕ) → Every IsNew (opens_ports f instances ranges)
+pub opened_new : (f : PortRange → Setup) (ranges : List PortRange) (instances : ℕ) → Every IsNew (opens_ports f instances ranges)
 opened_new f [] instances = tt
 opened_new f (range ∷ ranges) instances = (record { labels = refl; grants = refl; chains = refl }, opened_new f ranges (instances + 1))
 
-opened_at : (node : NodeId) (f : PortRange → Setup) (ranges : List PortRange) (instances : ℕ) → ((range : PortRange) → (f range).node ≡ node) → Every (λ (x : Linked). x.setup.node ≡ node) (opens_ports f instances ranges)
+pub opened_at : (node : NodeId) (f : PortRange → Setup) (ranges : List PortRange) (instances : ℕ) → ((range : PortRange) → (f range).node ≡ node) → Every (λ (x : Linked). x.setup.node ≡ node) (opens_ports f instances ranges)
 opened_at node f [] instances own = tt
 opened_at node f (range ∷ ranges) instances own = (own range, opened_at node f ranges (instances + 1) own)
-
-links_by : (o : Opening) → IsOpening o → Every (λ (setup : Setup). IsLinkPort setup.port) (setups_by o)
-links_by o is = every_mapped (setup_of o.node o.address o.timers o.policy) (λ (setup : Setup). IsLinkPort setup.port) o.ranges is.links
 
 nodes_by : (o : Opening) → Every (λ (setup : Setup). setup.node ≡ o.node) (setups_by o)
 nodes_by o = every_mapped (setup_of o.node o.address o.timers o.policy) (λ (setup : Setup). setup.node ≡ o.node) o.ranges (every_all (λ (range : PortRange). o.node ≡ o.node) o.ranges (λ range. refl))

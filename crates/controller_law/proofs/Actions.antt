@@ -140,7 +140,7 @@ module _ (setups : List Setup) (setup : Setup) (w : Work) (fresh : IsFresh setup
   restarts_can = all_can (closing setup w.port.session) (restarts_kept setups setup fresh.work.linked w fresh.work.kept).actions (closing_may setup AnyEnd AnyPort setups w.port.session fresh.work.kept.port.labels)
 
 -- a message in range, of any channel
-heard_anyway : (message : Message) → InRange message → Lives message
+pub heard_anyway : (message : Message) → InRange message → Lives message
 heard_anyway (Adjacency hello) r = tt
 heard_anyway (Redirect sender peer number lifetime channel flow) r = (omega (arith, r.0), tt, r.2)
 heard_anyway (Reclaim sender peer number channel flow) r = (tt, r.1)

@@ -25,22 +25,22 @@ use Rattle.port_model.specs.Desk.{Desk, all_on, asked, last_transaction, is_led_
 use Rattle.port_model.specs.Setup.{Setup, home_of, label_end}
 use Rattle.port_model.specs.Labels.{Label, Offered, label_number}
 use Rattle.port_model.specs.Grants as grants
-use Rattle.port_model.specs.Grants.{Grant, GrantState, ByController, ByInput, grant_label, grant_for, is_by_controller}
+use Rattle.port_model.specs.Grants.{Grant, GrantState, ByController, ByInput, grant_label}
 use Rattle.port_model.specs.Port.{Session, Work, label_at, labels_of}
 use Rattle.port_model.specs.Joins as port_joins
 use Rattle.port_model.specs.Joins.{joins_label}
-use Rattle.port_facts.specs.Port.{IsLabelEnd, IsGrant, joins_label as joins_label_shape}
-use Rattle.port_facts.proofs.Keyed.{on_both, on_each, at_key, at_every, put_every, at_put_same}
+use Rattle.port_facts.specs.Port.{IsLabelEnd, joins_label as joins_label_shape}
+use Rattle.port_facts.proofs.Keyed.{on_both, on_each, at_key, put_every, at_put_same}
 use Rattle.world_model.specs.Controller.{Controller, Acted, Linked, port_key, linked_at, with_desk, free_slots, default_channel}
 use Rattle.world_model.specs.Sending.{with_cells, sends}
 use Rattle.world_model.specs.Asking.{asks_next, asks, takes_back}
 use Rattle.world_model.specs.Resets.{begins, node_resets}
 use Rattle.world_model.specs.Performing.{works, works_as}
 use Rattle.world_model.specs.Joins.{Join, output_of, enters_grant, enters_label, joins, label_on}
-use Rattle.controller_facts.proofs.Moves.{Worked, by_joining, by_lending, Found, HasPorts, found_setup, found_at_own, found_port}
+use Rattle.controller_facts.proofs.Moves.{Worked, by_joining, by_lending, Found, HasPorts, found_at_own, found_port}
 use Rattle.controller_facts.proofs.Joining.{IsJoin, image_is}
 use Rattle.controller_facts.proofs.Conditions.{of_label}
-use Rattle.controller_facts.proofs.Entering.{OnPort, on_port, lends_labels}
+use Rattle.controller_facts.proofs.Entering.{granted_end, OnPort, on_port, lends_labels}
 use Rattle.controller_facts.proofs.Laws.{has_ports}
 use Rattle.controller_law.specs.Order.{lends, lends_at, is_lent, IsLentTo}
 use Rattle.controller_law.proofs.Lists.{any_at, any_put_leads}
@@ -172,13 +172,7 @@ module _ (setups : List Setup) where
   joins_holds a input label linked grant end on offered found granted sending h =
       let join : Join = record { input = input; port = linked.setup.port; grant = grant } in
       let has : HasPorts setups a = has_ports setups a h.sound in
-      let out : IsLabelEnd setups (output_of join) = record {
-        setup = linked.setup;
-        number = grant.label;
-        linked = found_setup setups a linked linked.setup.port has found;
-        in_range = (at_every grant_label (IsGrant setups linked.setup) grant.label linked.port.grants grant (found_port setups a linked linked.setup.port has found).grants granted).in_range;
-        is = refl;
-      } in
+      let out : IsLabelEnd setups (output_of join) = granted_end setups a linked grant has found granted in
       let held : IsHeldAt a input = held_at a input label on h in
       let before : OnPort a.controller.ports input label = on_port a.controller input label on in
       let lends : Acted = enters_grant a join in

@@ -49,7 +49,7 @@ open_joined : (setup : PortRange → Setup) (now : List Linked) (ranges : List P
 open_joined setup now [] n = tt
 open_joined setup now (range ∷ ranges) n = (tt, open_joined setup now ranges (n + 1))
 
-links_by : (o : Opening) → IsOpening o → Every (λ (setup : Setup). IsLinkPort setup.port) (setups_by o)
+pub links_by : (o : Opening) → IsOpening o → Every (λ (setup : Setup). IsLinkPort setup.port) (setups_by o)
 links_by o is = every_mapped (setup_of o.node o.address o.timers o.policy) (λ (setup : Setup). IsLinkPort setup.port) o.ranges is.links
 
 opening_holds : (o : Opening) → IsOpening o → Whole (setups_by o) (opened_by o)

@@ -12,7 +12,7 @@ use Rattle.adjacency_table.specs.declared.message.Said.{Said}
 use Rattle.adjacency_table.specs.declared.message.Answer.{Answer}
 use Rattle.adjacency_table.specs.declared.message.Answer.TheVariants.{Quiet, Send, Open, Reset}
 use Rattle.adjacency_table.specs.Side as sides
-use Rattle.adjacency_table.specs.Side.{Side, IsSide, is_estab, is_open}
+use Rattle.adjacency_table.specs.Side.{Side, IsSide, is_open}
 use Rattle.adjacency_table.specs.Hello.{same_peer, hello_of, ifmp_answer, heard_from}
 use Rattle.gsmp_wire.specs.declared.request.Request.TheVariants.{AddBranch, DeleteTree}
 use Rattle.ifmp_wire.specs.declared.message.Message.TheVariants.{Adjacency}
@@ -98,7 +98,7 @@ module _ {A B : Type 0} (key : A → ℕ) (f : A → Option B) where
   without_other j k xs other = ap (option_and_then f) (at_others j k xs other)
 
 -- *Clearing*
-clearing_of : (s : State) → is_clearing s ≡ true → s ≡ Clearing
+pub clearing_of : (s : State) → is_clearing s ≡ true → s ≡ Clearing
 clearing_of Clearing e = refl
 clearing_of SynSent e = absurd (cc e)
 clearing_of SynRcvd e = absurd (cc e)

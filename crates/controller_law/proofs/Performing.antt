@@ -55,7 +55,7 @@ use Rattle.controller_law.proofs.Holding.{Holds, sends_holds, sends_control_hold
 differs : (b : Bool) → b ≡ true → b ≡ false → ⊥
 differs b t f = absurd (cc (sym t ∙ f))
 
-every_given : {A : Type 0} (C : Type 0) (Q : A → Type 0) (xs : List A) → (C → Every Q xs) → Every (λ x. C → Q x) xs
+pub every_given : {A : Type 0} (C : Type 0) (Q : A → Type 0) (xs : List A) → (C → Every Q xs) → Every (λ x. C → Q x) xs
 every_given C Q [] h = tt
 every_given C Q (x ∷ xs) h = ((λ c. (h c).0), every_given C Q xs (λ c. (h c).1))
 

@@ -25,7 +25,7 @@ use Rattle.port_model.specs.declared.action.Action.TheVariants.{Note}
 use Rattle.port_model.specs.Setup.{Setup, home_of}
 use Rattle.port_model.specs.Labels.{Label, LabelState, Wiring, Offered, Recalled, Wired, label_number}
 use Rattle.port_model.specs.Grants as grants
-use Rattle.port_model.specs.Grants.{Grant, GrantState, ByController, ByInput, grant_label}
+use Rattle.port_model.specs.Grants.{Grant, ByController, ByInput, grant_label}
 use Rattle.port_model.specs.Port.{Session, Port, label_at, labels_of}
 use Rattle.port_model.specs.Hearing.{label_by}
 use Rattle.port_model.specs.Joins as port_joins
@@ -33,8 +33,8 @@ use Rattle.port_model.specs.Joins.{joins_label}
 use Rattle.port_model.specs.Answers as port_answers
 use Rattle.port_model.specs.Answers.{freed_in, freed}
 use Rattle.port_model.specs.Resets.{cleared}
-use Rattle.port_facts.specs.Port.{IsLabelEnd, IsGrant, IsShaped, AnyChannel}
-use Rattle.port_facts.proofs.Keyed.{on_both, by_eq, at_key, at_every, at_put_same, at_put_other}
+use Rattle.port_facts.specs.Port.{IsLabelEnd, IsShaped, AnyChannel}
+use Rattle.port_facts.proofs.Keyed.{on_both, by_eq, at_key, at_put_same, at_put_other}
 use Rattle.port_facts.proofs.Steps.{GoesOn}
 use Rattle.port_facts.proofs.Rules.{IsTree, done_goes}
 use Rattle.port_facts.proofs.Found.{by_number}
@@ -46,9 +46,9 @@ use Rattle.world_model.specs.Performing.{performs, performs_in_estab, Rule, work
 use Rattle.world_model.specs.Joins.{Join, output_of, enters_grant, enters_label, joins, label_on}
 use Rattle.world_model.specs.Meeting.{is_clearing, awaits_nothing, may_clear, tells_port}
 use Rattle.controller_facts.specs.Sound.{IsSound}
-use Rattle.controller_facts.proofs.Moves.{Found, HasPorts, found_setup, found_at_own, found_port}
+use Rattle.controller_facts.proofs.Moves.{Found, HasPorts, found_at_own}
 use Rattle.controller_facts.proofs.Joining.{image_is}
-use Rattle.controller_facts.proofs.Entering.{OnPort, on_port, lends_labels}
+use Rattle.controller_facts.proofs.Entering.{granted_end, OnPort, on_port, lends_labels}
 use Rattle.controller_facts.proofs.Conditions.{of_label}
 use Rattle.controller_facts.proofs.Laws.{has_ports}
 use Rattle.controller_law.specs.Match.{MovesJoined, joined_in, lent_in, joined_at, lent_at, clearing_at}
@@ -274,13 +274,7 @@ module _ (setups : List Setup) where
       has = has_ports setups a h.sound
 
       out : IsLabelEnd setups (output_of join)
-      out = record {
-        setup = linked.setup;
-        number = grant.label;
-        linked = found_setup setups a linked linked.setup.port has found;
-        in_range = (at_every grant_label (IsGrant setups linked.setup) grant.label linked.port.grants grant (found_port setups a linked linked.setup.port has found).grants granted).in_range;
-        is = refl;
-      }
+      out = granted_end setups a linked grant has found granted
 
       held : IsHeldAt setups a input
       held = held_at setups a input label on (holds_of a h)
