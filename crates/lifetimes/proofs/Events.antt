@@ -67,6 +67,7 @@ use Rattle.lifetimes.specs.Aging.{NotSet}
 use Rattle.lifetimes.proofs.Grants.{IsFate, Unset, hears_all, counts_all, used_all, ticks_all}
 use Rattle.lifetimes.proofs.Performing.{IsKept, Fits as FitsIn, found_fits, fold_fits, frame_fits, sends_fits, sends_control_fits, sends_request_fits, placed_fits, node_fits, at_port_fits}
 use Rattle.lifetimes.proofs.Joining.{K as KIn, kept as kept_in, IsUsed, matching_used, tries_joins_fits, change_comes_fits, meets_fits, answer_comes_fits}
+use Rattle.controller_law.proofs.Ordering.{same_number}
 
 -- who takes the cells of a port's channels is at the port that is found
 abbrev pub Belongs : Controller → Channel → Taker → Type 0
@@ -94,10 +95,6 @@ put_there a p linked after found same =
     let key : port_key linked ≡ p.0 = at_key port_key p.0 a.controller.ports linked found in
     let own : at port_key (port_key after) a.controller.ports ≡ Some linked = subst (λ n. at port_key n a.controller.ports ≡ Some linked) (sym (ap (λ (s : Setup). s.port.0) same ∙ key)) found in
     subst (λ (s : Setup). at port_key s.port.0 (with_linked a after).controller.ports ≡ Some after) same (at_put_same port_key after a.controller.ports linked own)
-
--- ports of one number are one
-pub same_number : (x y : PortNo) → x.0 ≡ y.0 → x ≡ y
-same_number x y e = ap (λ (n : ℕ). record { 0 = n }) e
 
 -- *What isn't a setting* of this grant's lifetime is none to the port
 pub unset_here : (a : Acted) (cell : Cell) (port : PortNo) (label : ℕ) (linked : Linked) (source : Addr) (message : IfmpMessage) → NotSet a port label (CellComes cell) → Hears a (CellComes cell) linked source message

@@ -43,7 +43,7 @@ use Rattle.world_model.specs.Topology.{Topology, peer_of}
 use Rattle.world_model.specs.World.{World, Site, site_key, site_at, controller_acts, at_controller, switch_acts, at_switch}
 use Rattle.world_model.specs.Places.{queue_in, queue_at, with_queue_in, with_queue_of, with_queue}
 use Rattle.world_model.specs.Step as steps
-use Rattle.world_model.specs.Step.{injects_by, injects, arrives_at, arrives, carries_head, loses_head, forges_at, forges, acts}
+use Rattle.world_model.specs.Step.{injects_by, injects, arrives_at, carries_head, loses_head, forges, acts}
 use Rattle.lifetimes.specs.Run.{if_at, head_comes, head_leaves, comes_to}
 use Rattle.lifetimes.proofs.Opened.{IsFed}
 
@@ -130,7 +130,7 @@ Nothing node = None
 number_is : (m n : ℕ) → m ≡ n → (m == n) ≡ true
 number_is m n e = grind (arith, nat_tests)
 
-number_isnt : (m n : ℕ) → m ≢ n → (m == n) ≡ false
+pub number_isnt : (m n : ℕ) → m ≢ n → (m == n) ≡ false
 number_isnt m n e = grind (arith, nat_tests)
 
 some_same : (x y : Controller) → Some x ≡ Some y → x ≡ y

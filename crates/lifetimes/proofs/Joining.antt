@@ -1,8 +1,7 @@
 -- joins, answers of the switch and changes of routes set no lifetime
 
-use Rattle.std.proofs.Common.{◌≡◌, ℕ, Bool, true, false, List, [], ◌∷◌, ◌++◌, Option, None, Some, refl, sym, ◌∙◌, subst, if◌then◌else◌, map, fold}
+use Rattle.std.proofs.Common.{◌≡◌, ℕ, true, false, List, [], ◌∷◌, ◌++◌, Option, None, Some, refl, sym, ◌∙◌, subst, if◌then◌else◌, map, fold}
 use Rattle.std.specs.Prelude.{◌&&◌, flat_map}
-use Rattle.std.specs.List.{filter_map, cons_option}
 use Rattle.std.specs.Option.{option_map, option_map_or, option_or}
 use Rattle.net_types.specs.declared.node.PortNo.{PortNo}
 use Rattle.net_types.specs.declared.channel.Channel.{Channel}
@@ -24,7 +23,6 @@ use Rattle.link_model.specs.declared.record.Record.TheVariants.{Part}
 use Rattle.frame_model.specs.Frame.{frame_cells}
 use Rattle.crossbar_model.specs.Crossbar.{same_end}
 use Rattle.ordered_lists.specs.Ordered.{Every}
-use Rattle.keyed_lists.specs.Keyed.{in_order}
 use Rattle.port_model.specs.Desk.{empty_desk}
 use Rattle.port_model.specs.DeskAnswers.{Answered, Unknown, Done, Ports, Failed, answered, after_answer}
 use Rattle.port_model.specs.Setup.{Setup, home_of}
@@ -35,7 +33,7 @@ use Rattle.port_model.specs.Saying.{closes}
 use Rattle.port_model.specs.Joins as port_joins
 use Rattle.port_model.specs.Answers as port_answers
 use Rattle.port_model.specs.Resets.{cleared}
-use Rattle.port_facts.proofs.Keyed.{on_both, at_key, entered_every}
+use Rattle.port_facts.proofs.Keyed.{on_both, at_key}
 use Rattle.port_facts.proofs.Found.{find_every, find_passes}
 use Rattle.port_facts.proofs.Rules.{and_first}
 use Rattle.world_model.specs.Controller.{Acted, Linked, port_key, linked_at, ports_of, with_linked, with_desk, note, default_end, default_home}
@@ -45,21 +43,9 @@ use Rattle.world_model.specs.Performing.{at_port}
 use Rattle.world_model.specs.Joins.{Join, join_to, joins_at, end_le, joins_of, join_of, parts, releases_join, releases_input, released_inputs, resets_spent, releases, port_by, join_through, join_by, join_for, may_join, enters_grant, output_of, enters_label, joins, tries_label, label_on, tries_join, inputs_at, tries_joins}
 use Rattle.world_model.specs.Meeting.{meets, up_ports, empties, default_branches, ends_meeting, has_emptied, port_of, tells_port, behind_delete_all, causes_in_estab, causes, may_clear, clears_of, clears_port, clears, done, answers_desk, answer_comes}
 use Rattle.world_model.specs.Changes.{changed_joins, takes_join_back, begins_change, takes_change, may_take, takes_each, takes_changes, change_comes}
-use Rattle.controller_facts.proofs.Joining.{every_flat_map}
+use Rattle.controller_facts.proofs.Joining.{every_flat_map, every_filter_map, every_in_order}
 use Rattle.lifetimes.proofs.Grants.{IsFate, lent_all, given_back_all, joined_all, parted_all, closes_all, done_all, resets_all, restarts_all}
 use Rattle.lifetimes.proofs.Performing.{IsKept, Fits as FitsIn, found_fits, fold_fits, placed_fits, node_fits, asks_fits, takes_back_fits, at_port_fits}
-
-every_filter_map : {A B : Type 0} (Q : A → Type 0) (P : B → Type 0) (f : A → Option B) → ((x : A) → Q x → (y : B) → f x ≡ Some y → P y) → (xs : List A) → Every Q xs → Every P (filter_map f xs)
-every_filter_map Q P f each [] h = tt
-every_filter_map {A} {B} Q P f each (x ∷ xs) h = by_answer (f x) refl (every_filter_map Q P f each xs h.1)
-  where
-    by_answer : (o : Option B) → f x ≡ o → Every P (filter_map f xs) → Every P (cons_option o (filter_map f xs))
-    by_answer None e rest = rest
-    by_answer (Some y) e rest = (each x h.0 y e, rest)
-
-every_in_order : {A : Type 0} (P : A → Type 0) (le : A → A → Bool) (xs : List A) → Every P xs → Every P (in_order le xs)
-every_in_order P le [] h = tt
-every_in_order P le (x ∷ xs) h = entered_every (λ y. 0) P le x (in_order le xs) h.0 (every_in_order P le xs h.1)
 
 pub by_controller_lives : (state : GrantState) → is_by_controller state ≡ true → is_leaving state ≡ false
 by_controller_lives ByController e = refl

@@ -13,6 +13,7 @@ use Rattle.port_model.specs.Requests.{is_on, is_on_port, is_delete_all, withdraw
 use Rattle.port_model.specs.Desk.{Desk, Standing, asked, withdrawn, is_led_home, on_input, all_on}
 use Rattle.port_model.specs.Setup.{home_of}
 use Rattle.port_facts.proofs.Keyed.{on_each}
+use Rattle.port_facts.proofs.Rules.{and_first}
 use Rattle.controller_law.proofs.Lists.{either}
 use Rattle.lifetimes.proofs.Calm.{LeadsBack}
 
@@ -27,10 +28,6 @@ port_is m n e = grind (arith, nat_tests)
 
 port_same : (m n : ℕ) → m ≡ n → (m == n) ≡ true
 port_same m n e = grind (arith, nat_tests)
-
-first : (a b : Bool) → (a && b) ≡ true → a ≡ true
-first true b e = refl
-first false b e = absurd (cc e)
 
 -- *One of a list*
 either_or : {P : Type 0} (a b : Bool) → (a ≡ true → P) → (b ≡ true → P) → (a || b) ≡ true → P
@@ -77,7 +74,7 @@ module _ (e : End) where
 
   -- such a request is on the input, or is Delete All of its port
   pub leads_by : (request : Request) → Leads request → (is_on e request || is_delete_all e.port request) ≡ true
-  leads_by (MoveBranch moved from to) l = (let same : moved ≡ e = end_is moved e (first (same_end moved e) (same_end to (home_of e)) l) in on_left (same_end e moved) false (subst (λ (x : End). same_end e x ≡ true) (sym same) (same_as_itself e)))
+  leads_by (MoveBranch moved from to) l = (let same : moved ≡ e = end_is moved e (and_first (same_end moved e) (same_end to (home_of e)) l) in on_left (same_end e moved) false (subst (λ (x : End). same_end e x ≡ true) (sym same) (same_as_itself e)))
   leads_by (DeleteTree deleted) l = (let same : deleted ≡ e = end_is deleted e l in on_left (same_end e deleted) false (subst (λ (x : End). same_end e x ≡ true) (sym same) (same_as_itself e)))
   leads_by (DeleteAll port) l = l
   leads_by (AddBranch input output) l = absurd (cc l)
@@ -102,7 +99,7 @@ module _ (e : End) where
 
   -- *What is on the input* that it leads
   on_same : (d : End) (request : Request) → Leads request → is_on d request ≡ true → d ≡ e
-  on_same d (MoveBranch moved from to) l on = end_is d moved on ∙ end_is moved e (first (same_end moved e) (same_end to (home_of e)) l)
+  on_same d (MoveBranch moved from to) l on = end_is d moved on ∙ end_is moved e (and_first (same_end moved e) (same_end to (home_of e)) l)
   on_same d (DeleteTree deleted) l on = end_is d deleted on ∙ end_is deleted e l
   on_same d (DeleteAll port) l on = absurd (cc on)
   on_same d (AddBranch input output) l on = absurd (cc l)
@@ -112,7 +109,7 @@ module _ (e : End) where
 
   port_of : (p : PortNo) (request : Request) → Leads request → (is_on_port p request || is_delete_all p request) ≡ true → (p.0 == e.port.0) ≡ true
   port_of p (MoveBranch moved from to) l on = either_or (moved.port.0 == p.0) false
-      (λ t. port_same p.0 e.port.0 (sym (port_is moved.port.0 p.0 t) ∙ ap (λ (x : End). x.port.0) (end_is moved e (first (same_end moved e) (same_end to (home_of e)) l)))) (λ t. absurd (cc t)) on
+      (λ t. port_same p.0 e.port.0 (sym (port_is moved.port.0 p.0 t) ∙ ap (λ (x : End). x.port.0) (end_is moved e (and_first (same_end moved e) (same_end to (home_of e)) l)))) (λ t. absurd (cc t)) on
   port_of p (DeleteTree deleted) l on = either_or (deleted.port.0 == p.0) false (λ t. port_same p.0 e.port.0 (sym (port_is deleted.port.0 p.0 t) ∙ ap (λ (x : End). x.port.0) (end_is deleted e l))) (λ t. absurd (cc t)) on
   port_of p (DeleteAll other) l on = port_same p.0 e.port.0 (sym (port_is other.0 p.0 on) ∙ port_is other.0 e.port.0 l)
   port_of p (AddBranch input output) l on = absurd (cc l)

@@ -17,6 +17,7 @@ use Rattle.ordered_lists.proofs.Every.{every_all, every_join, every_mapped}
 use Rattle.port_model.specs.Setup.{Setup, is_in_range, control_end}
 use Rattle.port_model.specs.Grants.{Grant, is_leaving, is_by_controller, New, Refreshed, OutOfRange, Taken as TakenBy, IsLeaving, GrantsFull, Acceptance, acceptance}
 use Rattle.port_facts.specs.Port.{IsGrant, IsPort}
+use Rattle.port_facts.proofs.Rules.{and_second, and_first}
 use Rattle.world_model.specs.Controller.{Acted, Linked}
 use Rattle.world_model.specs.Cells.{same_channel, ForDefault, port_on}
 use Rattle.controller_facts.specs.Inputs.{Input, CellComes, PacketEnters, Ticks, Restarts, ChangeComes, FrameIsForged, CellLeaves, Meanwhile, takes_input, takes_inputs}
@@ -39,14 +40,6 @@ parts true true c e = (refl, refl)
 parts true false c e = absurd (cc e)
 parts false b c e = absurd (cc e)
 
-first_of : (a b : Bool) → (a && b) ≡ true → a ≡ true
-first_of true b e = refl
-first_of false b e = absurd (cc e)
-
-second_of : (a b : Bool) → (a && b) ≡ true → b ≡ true
-second_of true b e = e
-second_of false b e = absurd (cc e)
-
 below_16 : (n : ℕ) → is_label_number n ≡ true → n / 1024 < 16
 below_16 n e = less (n / 1024) (parts (nat_lt (n / 1024) 16) (nat_le 32 (n % 1024)) (nat_lt (n % 1024) 1024) e).0
   where
@@ -65,8 +58,8 @@ equal m n e = grind (arith, nat_tests)
 -- two labels' channels on the control link are one only where both ports and both labels are
 one_end : (q p : PortNo) (m l : ℕ) → is_label_number m ≡ true → is_label_number l ≡ true → same_channel (control_end q m).channel (control_end p l).channel ≡ true → (q.0 ≡ p.0) × (m ≡ l)
 one_end q p m l is_m is_l e =
-    let vpi : 16 * q.0 + m / 1024 ≡ 16 * p.0 + l / 1024 = equal (16 * q.0 + m / 1024) (16 * p.0 + l / 1024) (first_of (16 * q.0 + m / 1024 == 16 * p.0 + l / 1024) (m % 1024 == l % 1024) e) in
-    let vci : m % 1024 ≡ l % 1024 = equal (m % 1024) (l % 1024) (second_of (16 * q.0 + m / 1024 == 16 * p.0 + l / 1024) (m % 1024 == l % 1024) e) in
+    let vpi : 16 * q.0 + m / 1024 ≡ 16 * p.0 + l / 1024 = equal (16 * q.0 + m / 1024) (16 * p.0 + l / 1024) (and_first (16 * q.0 + m / 1024 == 16 * p.0 + l / 1024) (m % 1024 == l % 1024) e) in
+    let vci : m % 1024 ≡ l % 1024 = equal (m % 1024) (l % 1024) (and_second (16 * q.0 + m / 1024 == 16 * p.0 + l / 1024) (m % 1024 == l % 1024) e) in
     let high : m / 1024 ≡ l / 1024 = same_low q.0 p.0 (m / 1024) (l / 1024) (below_16 m is_m) (below_16 l is_l) vpi in
     (same_high q.0 p.0 (m / 1024) (l / 1024) (below_16 m is_m) (below_16 l is_l) vpi, sym (number_of_channel-label_channel_of m) ∙ ap (λ k. k * 1024 + m % 1024) high ∙ ap (λ k. l / 1024 * 1024 + k) vci ∙ number_of_channel-label_channel_of l)
   where
@@ -122,7 +115,7 @@ module _ (port : PortNo) (label : ℕ) (is_label : is_label_number label ≡ tru
 
   default_sent : (queue : List Cell) (channel : Channel) (mark : Mark) (payload : List ℕ) → channel.vci ≡ 15 → Sent queue → Sent (queue ++ frame_cells channel mark payload)
   default_sent queue channel mark payload default h = more_sent queue channel mark payload
-      (by_test (same_channel channel mine) (λ e. no_default channel.vci default (above_31 label is_label) (equal channel.vci (label % 1024) (second_of (channel.vpi == mine.vpi) (channel.vci == label % 1024) e)))) h
+      (by_test (same_channel channel mine) (λ e. no_default channel.vci default (above_31 label is_label) (equal channel.vci (label % 1024) (and_second (channel.vpi == mine.vpi) (channel.vci == label % 1024) e)))) h
 
   grant_sent : (queue : List Cell) (q : PortNo) (grant : Grant) (mark : Mark) (payload : List ℕ) → Gone q.0 grant → is_by_controller grant.state ≡ true → Sent queue → Sent (queue ++ frame_cells (control_end q grant.label).channel mark payload)
   grant_sent queue q grant mark payload gone used h = more_sent queue (control_end q grant.label).channel mark payload

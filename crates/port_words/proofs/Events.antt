@@ -160,7 +160,7 @@ module _ (t : Terms) where
       by (On port) = on_h port (grant_by a.controller port (onward packet))
 
   -- *The adjacency with the switch*
-  steps_h : (a : Acted) (step : sides.Step Party) → H a → H (steps a step)
+  pub steps_h : (a : Acted) (step : sides.Step Party) → H a → H (steps a step)
   steps_h a step h = by (gsmp_answer step.answer)
     where
       turned : Acted
@@ -177,7 +177,7 @@ module _ (t : Terms) where
       by Reset = node_h t turned k
 
   -- *Tick*
-  again_h : (a : Acted) → H a → H (sends_again a)
+  pub again_h : (a : Acted) → H a → H (sends_again a)
   again_h a h = on_both H (is_estab a.controller.adjacency.state) (fold sends_request a (sent_again a.controller.desk)) a (fold_h t sends_request (sends_request_h t) (sent_again a.controller.desk) a h) h
 
 module _ (t : Terms) (speaks : (port : PortNo) (instance : ℕ) → t.own port instance → t.told port instance) where
@@ -363,7 +363,7 @@ module _ (t : Terms) (speaks : (port : PortNo) (instance : ℕ) → t.own port i
   }
 
   -- what an answer causes, a binding among it
-  caused_h : (a : Acted) (request : Request) → IsSteadily t a → IsSteadily t (causes a request)
+  pub caused_h : (a : Acted) (request : Request) → IsSteadily t a → IsSteadily t (causes a request)
   caused_h a (AddBranch input output) h = on_each (IsSteadily t) (is_estab a.controller.adjacency.state) (causes_in_estab a (AddBranch input output)) a
       (λ estab. by estab (input.port.0 == 0) refl) (λ closed. h)
     where

@@ -2,7 +2,6 @@
 
 use Rattle.std.proofs.Common.{◌≡◌, ℕ, Bool, true, false, List, [], ◌∷◌, ◌++◌, Option, None, Some, refl, sym, subst, if◌then◌else◌, map, fold}
 use Rattle.std.specs.Prelude.{◌&&◌, flat_map}
-use Rattle.std.specs.List.{filter_map, cons_option}
 use Rattle.std.specs.Option.{option_map}
 use Rattle.net_types.specs.declared.node.PortNo.{PortNo}
 use Rattle.net_types.specs.declared.channel.End.{End}
@@ -18,7 +17,6 @@ use Rattle.gsmp_wire.specs.declared.request.Request.TheVariants.{AddBranch, Move
 use Rattle.link_model.specs.declared.record.Record.TheVariants.{Part}
 use Rattle.crossbar_model.specs.Crossbar.{same_end}
 use Rattle.ordered_lists.specs.Ordered.{Every}
-use Rattle.keyed_lists.specs.Keyed.{in_order}
 use Rattle.port_model.specs.Desk.{empty_desk}
 use Rattle.port_model.specs.Setup.{home_of}
 use Rattle.port_model.specs.Labels.{Label}
@@ -27,7 +25,7 @@ use Rattle.port_model.specs.Saying.{closes}
 use Rattle.port_model.specs.Joins as port_joins
 use Rattle.port_model.specs.Answers as port_answers
 use Rattle.port_model.specs.Resets.{cleared}
-use Rattle.port_facts.proofs.Keyed.{on_both, at_key, entered_every}
+use Rattle.port_facts.proofs.Keyed.{on_both, at_key}
 use Rattle.port_facts.proofs.Found.{find_every}
 use Rattle.world_model.specs.Controller.{Acted, Linked, port_key, linked_at, ports_of, with_linked, with_desk, note, default_end, default_home}
 use Rattle.world_model.specs.Asking.{asks}
@@ -36,9 +34,8 @@ use Rattle.world_model.specs.Performing.{at_port}
 use Rattle.world_model.specs.Joins.{Join, join_to, joins_at, end_le, joins_of, join_of, parts, releases_join, releases_input, released_inputs, resets_spent, releases, port_by, join_through, join_by, join_for, may_join, enters_grant, output_of, enters_label, joins, tries_label, label_on, tries_join, inputs_at, tries_joins}
 use Rattle.world_model.specs.Meeting.{meets, up_ports, empties, default_branches, ends_meeting, has_emptied, port_of, tells_port, behind_delete_all, causes_in_estab, causes, may_clear, clears_of, clears_port}
 use Rattle.world_model.specs.Changes.{changed_joins, takes_join_back, begins_change, takes_change, may_take, takes_each, takes_changes, change_comes}
-use Rattle.controller_facts.proofs.Joining.{every_flat_map}
+use Rattle.controller_facts.proofs.Joining.{every_flat_map, every_filter_map, every_in_order}
 use Rattle.std.specs.Prelude.{◌+◌, ◌==◌, length}
-use Rattle.std.proofs.Common.{ap}
 use Rattle.port_model.specs.Messages.{is_up}
 use Rattle.port_facts.proofs.Keyed.{on_each}
 use Rattle.adjacency_table.specs.declared.State.{State}
@@ -53,25 +50,11 @@ use Rattle.port_words.proofs.Rules.{parted_v, joined_v, lent_v, given_back_v}
 use Rattle.port_words.proofs.Hearing.{BindsAny, done_v, cleared_steady}
 use Rattle.port_words.proofs.Sending.{note_h, put_h, found_h, fold_h}
 use Rattle.port_words.proofs.Performing.{asks_h, takes_back_h, at_port_h}
-
-every_filter_map : {A B : Type 0} (Q : A → Type 0) (P : B → Type 0) (f : A → Option B) → ((x : A) → Q x → (y : B) → f x ≡ Some y → P y) → (xs : List A) → Every Q xs → Every P (filter_map f xs)
-every_filter_map Q P f each [] h = tt
-every_filter_map {A} {B} Q P f each (x ∷ xs) h = by_answer (f x) refl (every_filter_map Q P f each xs h.1)
-  where
-    by_answer : (o : Option B) → f x ≡ o → Every P (filter_map f xs) → Every P (cons_option o (filter_map f xs))
-    by_answer None e rest = rest
-    by_answer (Some y) e rest = (each x h.0 y e, rest)
-
-every_in_order : {A : Type 0} (P : A → Type 0) (le : A → A → Bool) (xs : List A) → Every P xs → Every P (in_order le xs)
-every_in_order P le [] h = tt
-every_in_order P le (x ∷ xs) h = entered_every (λ y. 0) P le x (in_order le xs) h.0 (every_in_order P le xs h.1)
+use Rattle.controller_law.proofs.Ordering.{same_number}
 
 -- the grant for a flow is one of the port's
-grant_for_there : (P : Grant → Type 0) (grants : List Grant) (flow : FlowId) (grant : Grant) → Every P grants → grant_for grants flow ≡ Some grant → P grant
+pub grant_for_there : (P : Grant → Type 0) (grants : List Grant) (flow : FlowId) (grant : Grant) → Every P grants → grant_for grants flow ≡ Some grant → P grant
 grant_for_there P grants flow grant all e = find_every P (λ (g : Grant). is_by_controller g.state && same_flow g.flow flow) grants grant all e
-
-port_is : (p q : PortNo) → p.0 ≡ q.0 → p ≡ q
-port_is p q e = ap (λ (n : ℕ). record { 0 = n }) e
 
 -- *A controller some of whose ports were cleared*
 pub data Clears (a : Acted) : Acted → Type 0 where
@@ -183,7 +166,7 @@ module _ (t : Terms) (speaks : (port : PortNo) (instance : ℕ) → t.own port i
 
   -- a grant of a port is one of the port that is found there
   there : (a : Acted) (at_port : PortNo) (linked : Linked) (grant : Grant) → linked_at a.controller at_port ≡ Some linked → IsGranted t at_port grant → IsGranted t linked.setup.port grant
-  there a at_port linked grant found g = subst (λ (p : PortNo). IsGranted t p grant) (port_is at_port linked.setup.port (sym (at_key port_key at_port.0 a.controller.ports linked found))) g
+  there a at_port linked grant found g = subst (λ (p : PortNo). IsGranted t p grant) (same_number at_port linked.setup.port (sym (at_key port_key at_port.0 a.controller.ports linked found))) g
 
   parts_h : (a : Acted) (input : End) → (IsSteadily t) a → (IsSteadily t) (parts a input)
   parts_h a input h = at_port_h t (note a (Part a.controller.node input.port (number_of_channel input.channel))) input.port (λ setup desk w. port_joins.parted w (number_of_channel input.channel))
@@ -229,7 +212,7 @@ module _ (t : Terms) (speaks : (port : PortNo) (instance : ℕ) → t.own port i
       by_found None found = h
       by_found (Some linked) found = by_grant linked (found_h t a at_port linked found h) (grant_for linked.port.grants next) refl
 
-  tries_label_h : (a : Acted) (input : End) (o : Option Label) → (IsSteadily t) a → (IsSteadily t) (tries_label a input o)
+  pub tries_label_h : (a : Acted) (input : End) (o : Option Label) → (IsSteadily t) a → (IsSteadily t) (tries_label a input o)
   tries_label_h a input None h = h
   tries_label_h a input (Some held) h = on_both (IsSteadily t) (may_join a.controller input held) (joins a (join_for a.controller input held.flow)) a
       (joins_by a input (port_by (best a.controller.table (flow_destination held.flow))) (next_hop_of held.flow) h) h
