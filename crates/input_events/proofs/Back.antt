@@ -38,6 +38,7 @@ use Rattle.port_model.specs.Desk.{Standing}
 use Rattle.port_model.specs.DeskAnswers.{Head, head_of, is_of_type, Answered, Unknown, Done, Ports, Failed, succeeded, outcome, answered_with, answered, without_request}
 use Rattle.port_model.specs.Setup.{Setup}
 use Rattle.port_facts.proofs.Found.{find_every, find_passes}
+use Rattle.port_facts.proofs.Rules.{and_second}
 use Rattle.branch_line.specs.Words as lines
 use Rattle.branch_line.specs.Words.{ToController, SwitchGreets, Answer, Outcome, Success, Failure}
 use Rattle.branch_line.specs.Line.{Line}
@@ -61,7 +62,7 @@ use Rattle.input_steps.specs.Hearing.{IsEnded, Reads, MayHold, ComesBack, Passes
 use Rattle.input_steps.specs.Meeting.{in_desk, met_after, AfterAnswer, answered_part}
 use Rattle.input_steps.specs.Part.{Part, part_at, Stands, Reaches, AnyLine}
 use Rattle.input_steps.proofs.Done.{comes_line}
-use Rattle.input_steps.proofs.Held.{is_held}
+use Rattle.input_steps.proofs.Held.{is_held, greets_back}
 use Rattle.input_steps.proofs.Reach.{reaches_then}
 use Rattle.input_steps.proofs.Taken.{done_line as answered_line, ports_line}
 use Rattle.input_steps.proofs.Lists.{filter_skips}
@@ -77,14 +78,6 @@ use Rattle.input_events.proofs.Listing.{next_is, around_of, may_empty}
 use Rattle.input_events.proofs.Spoken.{drawn, fits}
 
 -- *Words*
-greets_back : (w : ToController) (kind : HelloKind) (s r : ℕ) → ◌≡◌ {A = Seen ToController} (Word (erased_back w)) (Word (SwitchGreets kind s r)) → w ≡ SwitchGreets kind s r
-greets_back (SwitchGreets k a b) kind s r h =
-    let x : k ≡ kind = cc h in
-    let y : a ≡ s = cc h in
-    let z : b ≡ r = cc h in
-    λ i. SwitchGreets (x i) (y i) (z i)
-greets_back (Answer under n q o) kind s r h = absurd (cc h)
-
 answer_is : (w : ToController) (n : ℕ) (q : lines.Request) (o : Outcome) → ◌≡◌ {A = Seen ToController} (Word (erased_back w)) (Word (Answer 0 n q o)) → (u : ℕ) × (w ≡ Answer u n q o)
 answer_is (SwitchGreets k a b) n q o h = absurd (cc h)
 answer_is (Answer under m p t) n q o h =
@@ -171,10 +164,6 @@ deleting_of : (standing : List Standing) (test : Standing → Bool) (s : Standin
 deleting_of _ test s (listing x is) found other = absurd (other (all_listed s.request (find_every (λ (z : Standing). z.request ≡ AllPorts) test (x ∷ []) s (is, tt) found)))
 deleting_of standing test s (emptying _ all) found other = find_every (λ (z : Standing). IsDeleting z.request) test standing s all found
 
-second_test : (x y : Bool) → (x && y) ≡ true → y ≡ true
-second_test true y h = h
-second_test false y h = absurd (cc h)
-
 -- *The ports are told*
 never_ports : (m : Message) (head : Head) (found : Option Standing) (s : Standing) (rows : List PortRow) → ((x : Standing) → succeeded m x ≡ Ports s rows → ⊥) → outcome m head found ≡ Ports s rows → ⊥
 never_ports m head None s rows never h = absurd (cc h)
@@ -258,7 +247,7 @@ module _ (setups : List Setup) (links : Every (λ (setup : Setup). IsLinkPort se
     unlisted_by m head s rows heads is =
         let test : Standing → Bool = λ s. s.number == head.number && is_of_type m s.request in
         let to = ports_to m head (find test a.controller.desk.standing) s rows (sym (ap (answered_with a.controller.desk.standing m) heads) ∙ is) in
-        to.1 s.request (second_test (s.number == head.number) (is_of_type m s.request) (find_passes test a.controller.desk.standing s to.0))
+        to.1 s.request (and_second (s.number == head.number) (is_of_type m s.request) (find_passes test a.controller.desk.standing s to.0))
         (find_every (λ (z : Standing). IsOther z.request) test a.controller.desk.standing s (whole.order.met met) to.0)
 
     no_ports : (m : Message) (s : Standing) (rows : List PortRow) → answered a.controller.desk m ≡ Ports s rows → ⊥
@@ -283,7 +272,7 @@ module _ (setups : List Setup) (links : Every (λ (setup : Setup). IsLinkPort se
         (λ i. seen_answer_to input (heads i) (copy_by (heads i) (asks i)))
         ∙ ap (λ (t : Bool). seen_outcome input (record { number = head.number; request = asked.request }) (if t then Some Success else (if head.result == 4 then Some Failure else None))) to.0 in
         let it : (u : ℕ) × (w ≡ Answer u n q Success) = answer_is w n q Success (sym word ∙ shown) in
-        let other : IsAllPorts s.request → ⊥ = unlisted_type m s to.2 s.request (second_test (s.number == head.number) (is_of_type m s.request) (find_passes test a.controller.desk.standing s to.1)) in
+        let other : IsAllPorts s.request → ⊥ = unlisted_type m s to.2 s.request (and_second (s.number == head.number) (is_of_type m s.request) (find_passes test a.controller.desk.standing s to.1)) in
         let deletes : IsDeleting s.request = deleting_of a.controller.desk.standing test s (whole.order.meeting unmet) to.1 other in
         let hand : Line = record line { at_controller = Answer it.0 n q Success ∷ [] } in
         let left : List Standing = (without_request a.controller.desk s).standing in
@@ -320,7 +309,7 @@ module _ (setups : List Setup) (links : Every (λ (setup : Setup). IsLinkPort se
         let shown : seen_answer (switch_of node) (controller_of node) input true (Some m) ≡ Word (Answer 0 n q Success) =
         ap (λ (t : Bool). seen_outcome input (record { number = n; request = AllPorts }) (if t then Some Success else (if result == 4 then Some Failure else None))) to.0 in
         let it : (u : ℕ) × (w ≡ Answer u n q Success) = answer_is w n q Success (sym word ∙ shown) in
-        let all : s.request ≡ AllPorts = all_type result code n told_rows s.request (second_test (s.number == n) (is_of_type m s.request) (find_passes test a.controller.desk.standing s to.1)) in
+        let all : s.request ≡ AllPorts = all_type result code n told_rows s.request (and_second (s.number == n) (is_of_type m s.request) (find_passes test a.controller.desk.standing s to.1)) in
         let alone : a.controller.desk.standing ≡ s ∷ [] = alone_of a.controller.desk.standing test s (whole.order.meeting unmet) to.1 all in
         let estab : is_estab a.controller.adjacency.state ≡ true = stands_estab a whole s alone in
         let told = from (three_of result to.0) in

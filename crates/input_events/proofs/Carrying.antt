@@ -5,13 +5,10 @@ use Rattle.std.specs.Prelude.{◌==◌, ◌&&◌, nat_le, nat_lt}
 use Rattle.std.specs.FinMap as finite
 use Rattle.net_types.specs.declared.channel.End.{End}
 use Rattle.net_types.specs.declared.node.NodeId.{NodeId}
-use Rattle.net_types.specs.declared.number.Mark.{Mark}
 use Rattle.net_types.specs.Number.{GivenOut}
 use Rattle.adjacency_table.specs.Side.{is_estab}
 use Rattle.adjacency_table.specs.Greeting.{gsmp_received}
 use Rattle.atm_cells.specs.declared.cell.Cell.{Cell}
-use Rattle.crossbar_model.specs.declared.branch.Branch.{Branch as Led}
-use Rattle.crossbar_model.specs.Crossbar.{cut_by_move}
 use Rattle.frame_model.specs.Frame.{octets_of, last_mark, payload_in, passed, tested_by}
 use Rattle.frame_model.specs.Reassembly.{Reassembly, Taken, marks_of, most_cells, passed_over, without_slot, too_long, joined}
 use Rattle.gsmp_wire.specs.Fields.{decoded}
@@ -29,14 +26,14 @@ use Rattle.world_model.specs.declared.request.Asked.{Asked}
 use Rattle.world_model.specs.declared.request.Failure.{Failure}
 use Rattle.world_model.specs.Switch as switches
 use Rattle.world_model.specs.Switch.{free_slots}
-use Rattle.world_model.specs.Requests.{Changed, noted_cut, ended_by, moved_by, branches_after, cleared, inputs_on, asked_in, is_request}
+use Rattle.world_model.specs.Requests.{Changed, branches_after, cleared, inputs_on, asked_in, is_request}
 use Rattle.world_model.specs.Failures.{failure_of}
 use Rattle.world_model.specs.Answers.{Handled, handled, handled_asked, handled_by}
 use Rattle.world_model.specs.Conduct as conduct
 use Rattle.world_model.specs.World.{Site, World, site_at, with_site}
 use Rattle.shown_cells.specs.Seen.{IsUnmade, Extends}
 use Rattle.input_steps.specs.Part.{part_of, IsNumbered}
-use Rattle.input_steps.proofs.Handled.{all_ended_frames}
+use Rattle.input_steps.proofs.Handled.{all_ended_frames, moved_frames, ended_frames}
 use Rattle.world_views.specs.Between.{IsInput}
 use Rattle.shown_cells.proofs.Tested.{broken_frames, passed_frames}
 use Rattle.input_events.specs.Coming.{HasLines}
@@ -44,18 +41,6 @@ use Rattle.input_events.proofs.Sites.{ReachesOn, reached_by, lines_on, put_at}
 use Rattle.input_events.proofs.Acting.{SwitchGrows, same_frames, says_grows, steps_grow}
 
 -- *A request makes no frame*
-cut_frames : (notes : Journal) (o : Option Mark) → (noted_cut notes o).frames ≡ notes.frames
-cut_frames notes None = refl
-cut_frames notes (Some mark) = refl
-
-ended_frames : (c : Changed) (i : End) (found : Option Led) → (ended_by c i found).notes.frames ≡ c.notes.frames
-ended_frames c i None = refl
-ended_frames c i (Some b) = cut_frames c.notes b.unfinished
-
-moved_frames : (c : Changed) (i to : End) (found : Option Led) → (moved_by c i to found).notes.frames ≡ c.notes.frames
-moved_frames c i to None = refl
-moved_frames c i to (Some b) = cut_frames c.notes (cut_by_move b to)
-
 after_frames : (c : Changed) (r : Request) → (branches_after c r).notes.frames ≡ c.notes.frames
 after_frames c (requests.AddBranch i o) = refl
 after_frames c (requests.MoveBranch i from to) = moved_frames c i to (finite.get c.branches i)

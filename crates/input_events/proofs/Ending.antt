@@ -24,15 +24,14 @@ use Rattle.port_model.specs.Setup.{Setup, home_of}
 use Rattle.port_model.specs.Grants.{Grant}
 use Rattle.port_model.specs.Port.{Session, Work, halts}
 use Rattle.port_model.specs.Saying.{is_spent, closes}
-use Rattle.port_model.specs.Resets.{cleared}
 use Rattle.port_facts.specs.Port.{IsLinked, IsShaped, IsDefaultEnd, opens_input, opens_output}
 use Rattle.port_facts.proofs.Keyed.{at_every, on_both, on_each}
-use Rattle.world_model.specs.Controller.{Acted, Linked, port_key, linked_at, ports_of, with_desk, with_linked, default_channel, default_end, default_home}
+use Rattle.world_model.specs.Controller.{Acted, Linked, port_key, linked_at, ports_of, with_desk, default_channel, default_end, default_home}
 use Rattle.world_model.specs.Asking.{asks, asks_next}
 use Rattle.world_model.specs.Resets.{begins, node_resets}
 use Rattle.world_model.specs.Performing.{works, works_as}
 use Rattle.world_model.specs.Joins.{Join, end_le, join_to, joins_at, released_inputs, releases_input, resets_spent, releases}
-use Rattle.world_model.specs.Meeting.{is_deleting, has_emptied, up_ports, default_branches, ends_meeting, causes_in_estab, causes, may_clear, clears_of, clears_port, clears, done}
+use Rattle.world_model.specs.Meeting.{is_deleting, has_emptied, up_ports, default_branches, ends_meeting, causes_in_estab, causes, clears, done}
 use Rattle.world_model.specs.Changes.{takes_changes}
 use Rattle.controller_facts.specs.Sound.{IsShutLinked}
 use Rattle.controller_facts.proofs.Laws.{has_ports, moves_sound}
@@ -55,9 +54,9 @@ use Rattle.world_model.specs.Switch.{Switch}
 use Rattle.input_steps.specs.Asking.{CanEach, MayAsk}
 use Rattle.input_steps.specs.Meeting.{is_none_left, met_after, answered_part}
 use Rattle.input_steps.specs.Part.{Part, part_at, Leads}
-use Rattle.input_steps.proofs.Done.{changes_leads, ends_leads}
+use Rattle.input_steps.proofs.Done.{changes_leads, ends_leads, clears_still}
 use Rattle.input_steps.proofs.Reach.{leads_then}
-use Rattle.input_steps.proofs.Resets.{IsStill, still_self, still_then, still_fold, still_leads}
+use Rattle.input_steps.proofs.Resets.{IsStill, still_self, still_then, still_leads}
 use Rattle.input_premises.specs.Read.{AreRead}
 use Rattle.input_premises.proofs.Asking.{asks_can}
 use Rattle.input_premises.proofs.Changing.{can_take_each}
@@ -69,14 +68,6 @@ use Rattle.input_premises.proofs.Rows.{fold_rows, asks_rows, clears_rows, releas
 shut_joins : (ports : List Linked) → Every IsShutLinked ports → flat_map joins_at ports ≡ []
 shut_joins [] all = refl
 shut_joins (x ∷ ports) all = ap (λ (gs : List Grant). filter_map (join_to x.setup.port) gs ++ flat_map joins_at ports) all.0.grants ∙ shut_joins ports all.1
-
-clear_still : (a : Acted) (o : Option Linked) → IsStill a (clears_of a o)
-clear_still a None = still_self a
-clear_still a (Some linked) = on_both (IsStill a) (may_clear a.controller linked) (with_linked a (record linked { port = cleared linked.port })) a
-    (record { adjacency = refl; desk = refl; met = refl; gathered = refl; queue = refl; frames = refl; controls = refl; instances = omega arith }) (still_self a)
-
-clears_still : (a : Acted) → IsStill a (clears a)
-clears_still a = still_fold clears_port (λ b port. clear_still b (linked_at b.controller port)) (ports_of a.controller) a
 
 deleting_is : (request : Request) → IsDeleting request → is_deleting request ≡ true
 deleting_is (DeleteAll port) d = refl

@@ -42,6 +42,7 @@ use Rattle.input_steps.proofs.SwitchCells.{gsmp_cell_comes}
 use Rattle.input_steps.proofs.ControllerCells.{cell_comes_back}
 use Rattle.input_steps.proofs.Queues.{queue_loses, back_loses}
 use Rattle.input_steps.proofs.Reach.{reaches_self}
+use Rattle.input_steps.proofs.Switching.{set_first}
 use Rattle.world_views.specs.Between.{setups_of, IsInput}
 use Rattle.input_events.specs.Coming.{IsSteadySite, IsToSwitch, IsFromSwitch, IsRunning, HasLines, IsFar, CanCarry, CanLose, IsOrdinary}
 use Rattle.input_events.proofs.Heard.{comes}
@@ -65,10 +66,6 @@ use Rattle.controller_facts.proofs.Nodes.{moves_node}
 use Rattle.input_events.proofs.Acting.{same_inputs, above_of, beside, SwitchGrows, numbered_of, ticks_lines, restart_lines, change_lines, packet_lines, cell_lines, switch_tick_lines, switch_restart_lines, switched_lines}
 
 -- *Queues*
-set_first : (queues : List (List Cell)) (cells : List Cell) → 1 ≤ length queues → slice_index_or (slice_set queues 0 cells) 0 [] ≡ cells
-set_first [] cells some = absurd (omega (arith, some))
-set_first (q ∷ queues) cells some = refl
-
 set_behind : (queues : List (List Cell)) (k : ℕ) (cells : List Cell) → slice_index_or (slice_set queues (suc k) cells) 0 [] ≡ slice_index_or queues 0 []
 set_behind [] k cells = refl
 set_behind (q ∷ queues) k cells = refl
@@ -77,7 +74,7 @@ set_other : (queues : List (List Cell)) (k : ℕ) (cells : List Cell) → 1 ≤ 
 set_other queues zero cells above = absurd (omega (arith, above))
 set_other queues (suc k) cells above = set_behind queues k cells
 
-set_length : (queues : List (List Cell)) (k : ℕ) (cells : List Cell) → length (slice_set queues k cells) ≡ length queues
+pub set_length : (queues : List (List Cell)) (k : ℕ) (cells : List Cell) → length (slice_set queues k cells) ≡ length queues
 set_length [] zero cells = refl
 set_length [] (suc k) cells = refl
 set_length (q ∷ queues) zero cells = refl

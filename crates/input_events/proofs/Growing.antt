@@ -33,7 +33,7 @@ use Rattle.link_model.specs.Ledger.{payload_of}
 use Rattle.link_model.specs.Notes.{noted}
 use Rattle.frame_model.specs.Frame.{frame_cells, made, next_mark}
 use Rattle.frame_model.specs.Sending.{Sent}
-use Rattle.port_model.specs.Desk.{empty_desk, is_led_home, message_at, sent_again}
+use Rattle.port_model.specs.Desk.{empty_desk, message_at, sent_again}
 use Rattle.port_model.specs.Setup.{Setup, home_of, control_end}
 use Rattle.port_model.specs.Labels.{Label}
 use Rattle.port_model.specs.Grants.{Grant}
@@ -46,7 +46,7 @@ use Rattle.port_facts.proofs.Keyed.{on_both, on_each}
 use Rattle.port_facts.proofs.Steps.{Goes}
 use Rattle.world_model.specs.Controller.{Controller, Acted, Linked, free_slots, linked_at, ports_of, with_desk, default_channel, default_home}
 use Rattle.world_model.specs.Sending.{with_cells, sends, sends_control, says_gsmp}
-use Rattle.world_model.specs.Asking.{sends_request, asks, takes_back}
+use Rattle.world_model.specs.Asking.{sends_request}
 use Rattle.world_model.specs.Resets.{begins, cuts_default_of, cuts_default, cuts_gsmp, node_resets, node_restarts}
 use Rattle.world_model.specs.Performing.{Rule, at_port}
 use Rattle.world_model.specs.Packets.{is_control, sends_next, goes_by, grant_by, forwarded, routes}
@@ -61,7 +61,7 @@ use Rattle.shown_cells.specs.Seen.{IsUnmade, Extends}
 use Rattle.shown_cells.proofs.Made.{extends_self, extends_made, unmade_packet}
 use Rattle.controller_views.specs.Ends.{Grows}
 use Rattle.controller_views.specs.Lifted.{Growing}
-use Rattle.controller_views.proofs.Growing.{grow_self, grow_on, grow_fold, sends_grow, node_resets_grow, asks_grow, at_port_grow}
+use Rattle.controller_views.proofs.Growing.{grow_self, grow_on, grow_fold, sends_grow, node_resets_grow, asks_grow, at_port_grow, takes_back_grow}
 use Rattle.input_steps.proofs.Resets.{IsStill, note_still}
 use Rattle.shown_cells.proofs.Tested.{cut_frames}
 use Rattle.input_events.specs.Coming.{IsNext}
@@ -119,9 +119,6 @@ rule_grows setups a port rule goes = at_port_grow a port rule
     (λ linked found. (let w : Work = rule linked.setup a.controller.desk (begins a linked) in (worked_draws setups linked.setup a.controller.desk (begins a linked) w (by_rule w (goes linked found))).0))
 
 -- *Asking and joining*
-takes_back_grows : (a : Acted) (input output : End) → Growing a (takes_back a input output)
-takes_back_grows a input output = on_both (Growing a) (is_led_home a.controller.desk input (home_of input)) a (asks a (MoveBranch input output (home_of input))) (grow_self a) (asks_grow a (MoveBranch input output (home_of input)))
-
 same_number : (m n : ℕ) → n ≡ m → m ≤ n
 same_number m n e = omega (arith, e)
 
@@ -203,7 +200,7 @@ begins_grow : (a : Acted) (change : RouteChange) → Growing a (begins_change a 
 begins_grow a change = (let b : Acted = record a { controller = record a.controller { is_begun = true } } in
     on_both (Growing a) a.controller.is_begun a (fold takes_join_back b (changed_joins a.controller change)) (grow_self a)
     (grow_on a b (fold takes_join_back b (changed_joins a.controller change)) (changed a b refl refl)
-    (grow_fold takes_join_back (λ c join. takes_back_grows c join.input (output_of join)) (changed_joins a.controller change) b)))
+    (grow_fold takes_join_back (λ c join. takes_back_grow c join.input (output_of join)) (changed_joins a.controller change) b)))
 
 each_grow : (changes : List RouteChange) (a : Acted) → Growing a (takes_each a changes)
 each_grow [] a = grow_self a

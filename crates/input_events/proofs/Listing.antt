@@ -22,8 +22,7 @@ use Rattle.port_model.specs.Messages.{is_up, message_of}
 use Rattle.port_model.specs.DeskAnswers.{without_request}
 use Rattle.port_model.specs.Setup.{Setup}
 use Rattle.port_facts.specs.Port.{setup_port, IsLinked, IsLabelEnd, empties_control, empties_port}
-use Rattle.branch_line.specs.Line.{Meeting, Listing, Emptying, Met, MetAndAsked, Line}
-use Rattle.branch_line.specs.Asking.{has_met}
+use Rattle.branch_line.specs.Line.{Line}
 use Rattle.branch_line.specs.Law.{AsksFirst, IsReached}
 use Rattle.branch_line.proofs.First.{always_first}
 use Rattle.branch_line.proofs.Reached.{holds_reached}
@@ -36,11 +35,12 @@ use Rattle.controller_law.proofs.Whole.{Whole}
 use Rattle.world_model.specs.declared.port.PortState.{PortState}
 use Rattle.world_model.specs.Answers.{row_of}
 use Rattle.world_model.specs.Switch.{Switch, control_port, numbers_of}
-use Rattle.input_views.specs.Shown.{before_of, behind_of, IsDeleteAll, PhaseShows}
+use Rattle.input_views.specs.Shown.{before_of, behind_of, PhaseShows}
 use Rattle.input_steps.specs.Asking.{IsReadable}
 use Rattle.input_steps.specs.Meeting.{AreDistinct, Untouched, MayEmpty, IsAround}
 use Rattle.input_steps.specs.Part.{Part, part_at, Stands}
 use Rattle.input_steps.proofs.Lists.{filter_skips, filter_front}
+use Rattle.input_steps.proofs.Taken.{listing}
 use Rattle.input_premises.proofs.Reading.{are_read}
 use Rattle.input_events.specs.Coming.{IsBelow, TellsPorts}
 
@@ -145,12 +145,6 @@ ports_in ports setups same = mapped ports ∙ ap (map port_in) same
     mapped (x ∷ ports) = ap (λ (l : List PortNo). x.setup.port ∷ l) (mapped ports)
 
 -- *The next number*, while All Ports stands alone
-listing : (meeting : Meeting) (s : Standing) → s.request ≡ AllPorts → has_met meeting ≡ false → PhaseShows meeting (s ∷ []) → meeting ≡ Listing
-listing Listing s is met phase = refl
-listing Emptying s is met phase = absurd (subst IsDeleteAll is phase.0)
-listing Met s is met phase = absurd (cc met)
-listing MetAndAsked s is met phase = absurd (cc met)
-
 estab_is : (st : State) → is_estab st ≡ true → st ≡ Estab
 estab_is Estab e = refl
 estab_is Clearing e = absurd (cc e)

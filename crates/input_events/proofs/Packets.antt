@@ -42,13 +42,13 @@ use Rattle.input_premises.proofs.Rows.{KeepsRows, sends_rows, sends_control_rows
 use Rattle.input_events.specs.Coming.{IsNext, GoesByLinks}
 
 -- *Channels* of a port's link on the control link
-home_apart : (port : PortNo) → 1 ≤ port.0 → (default_home port).channel ≢ default_channel
+pub home_apart : (port : PortNo) → 1 ≤ port.0 → (default_home port).channel ≢ default_channel
 home_apart port above e = apart (ap (λ (c : Channel). c.vpi) e)
   where
     apart : (default_home port).channel.vpi ≡ 0 → ⊥
     apart e = absurd (omega (arith, e, above))
 
-control_apart : (port : PortNo) (label : ℕ) → 1 ≤ port.0 → (control_end port label).channel ≢ default_channel
+pub control_apart : (port : PortNo) (label : ℕ) → 1 ≤ port.0 → (control_end port label).channel ≢ default_channel
 control_apart port label above e = apart (ap (λ (c : Channel). c.vpi) e)
   where
     apart : (control_end port label).channel.vpi ≡ 0 → ⊥

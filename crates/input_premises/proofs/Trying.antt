@@ -14,8 +14,8 @@ use Rattle.port_model.specs.Labels.{Label, Offered, label_number}
 use Rattle.port_model.specs.Grants.{Grant, ByController, grant_label}
 use Rattle.port_model.specs.Port.{Work, label_at, labels_of}
 use Rattle.port_model.specs.Joins as port_joins
-use Rattle.port_facts.specs.Port.{IsLabelEnd, IsGrant, joins_label}
-use Rattle.port_facts.proofs.Keyed.{on_each, at_every}
+use Rattle.port_facts.specs.Port.{IsLabelEnd, joins_label}
+use Rattle.port_facts.proofs.Keyed.{on_each}
 use Rattle.port_facts.proofs.Instances.{joined_gave, lent_gave}
 use Rattle.port_facts.proofs.Rules.{and_first}
 use Rattle.world_model.specs.Controller.{Acted, Linked, linked_at}
@@ -23,9 +23,9 @@ use Rattle.world_model.specs.Resets.{begins, with_work}
 use Rattle.world_model.specs.Performing.{performs_in_estab}
 use Rattle.world_model.specs.Joins.{Join, output_of, join_for, is_offered, may_join, enters_grant, enters_label, joins, tries_label, label_on, tries_join}
 use Rattle.world_model.specs.Routes.{route_stays}
-use Rattle.controller_facts.proofs.Moves.{Found, HasPorts, found_setup, found_port}
+use Rattle.controller_facts.proofs.Moves.{Found, HasPorts}
 use Rattle.controller_facts.proofs.Joining.{image_is}
-use Rattle.controller_facts.proofs.Entering.{is_offered_by, OnPort, on_port, lends_labels, IsFor, found_for}
+use Rattle.controller_facts.proofs.Entering.{granted_end, is_offered_by, OnPort, on_port, lends_labels, IsFor, found_for}
 use Rattle.controller_facts.proofs.Laws.{has_ports}
 use Rattle.controller_law.proofs.Holding.{Holds, lent_met}
 use Rattle.controller_law.proofs.Entering.{IsLentNow, lent_at_port, enters_label_lent, joins_holds}
@@ -72,13 +72,7 @@ module _ (setups : List Setup) (input : End) (above : 1 ≤ input.port.0) where
     has = has_ports setups a h.sound
 
     out : IsLabelEnd setups (output_of join)
-    out = record {
-      setup = linked.setup;
-      number = grant.label;
-      linked = found_setup setups a linked linked.setup.port has own;
-      in_range = (at_every grant_label (IsGrant setups linked.setup) grant.label linked.port.grants grant (found_port setups a linked linked.setup.port has own).grants granted).in_range;
-      is = refl;
-    }
+    out = granted_end setups a linked grant has own granted
 
     before : OnPort a.controller.ports i label
     before = on_port a.controller i label on

@@ -35,7 +35,7 @@ use Rattle.controller_law.proofs.Lists.{any_at, any_put_leads, each_any}
 use Rattle.controller_law.proofs.Asked.{MayAct, MayActs, IsLast, IsNoReset, AsksNoBranch, may_more, Both, goes_asks}
 use Rattle.controller_law.proofs.Resetting.{goes_silent}
 use Rattle.controller_law.proofs.Holding.{Holds, placed_holds, joined_at, lent_met, live_met}
-use Rattle.controller_law.proofs.Performing.{Fits, does_each}
+use Rattle.controller_law.proofs.Performing.{Fits, does_each, every_given}
 use Rattle.input_steps.specs.Asking.{CanEach, CanPerform, CanPerformInEstab, CanApply}
 use Rattle.input_premises.specs.Read.{AreRead}
 use Rattle.input_premises.proofs.Unhalted.{WithdrawsNone, IsUnhalted, goes_unhalted}
@@ -43,10 +43,6 @@ use Rattle.input_premises.proofs.Rows.{fold_rows, in_estab_rows}
 use Rattle.input_premises.proofs.Asking.{asks_can, takes_can}
 use Rattle.input_premises.proofs.Free.{AsksOther, IsFree, in_estab_free}
 use Rattle.input_premises.proofs.Resetting.{fold_last, link_above, can_reset_port}
-
-every_given : {A : Type 0} (C : Type 0) (Q : A → Type 0) (xs : List A) → (C → Every Q xs) → Every (λ x. C → Q x) xs
-every_given C Q [] h = tt
-every_given C Q (x ∷ xs) h = ((λ c. (h c).0), every_given C Q xs (λ c. (h c).1))
 
 abbrev Never : PortNo → Type 0
 Never port = ⊥

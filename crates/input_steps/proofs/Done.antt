@@ -47,7 +47,7 @@ clear_still a (Some linked) = by (may_clear a.controller linked)
     by true = record { adjacency = refl; desk = refl; met = refl; gathered = refl; queue = refl; frames = refl; controls = refl; instances = omega arith }
     by false = still_self a
 
-clears_still : (a : Acted) → IsStill a (clears a)
+pub clears_still : (a : Acted) → IsStill a (clears a)
 clears_still a = still_fold clears_port (λ b port. clear_still b (linked_at b.controller port)) (ports_of a.controller) a
 
 module _ (node : NodeId) (input : End) (switch : Switch) where

@@ -20,7 +20,7 @@ use Rattle.crossbar_model.specs.Crossbar.{Branches, output_of, cut_by_move}
 use Rattle.std.specs.FinMap as finite
 use Rattle.port_model.specs.DeskAnswers.{Head, head_of}
 use Rattle.branch_line.specs.Words as lines
-use Rattle.branch_line.specs.Words.{ToSwitch, ControllerGreets, Copy, ToController, Answer, Outcome, Success, Failure}
+use Rattle.branch_line.specs.Words.{ToSwitch, ControllerGreets, Copy, ToController, Answer, Success, Failure}
 use Rattle.branch_line.specs.Line.{Line}
 use Rattle.branch_line.specs.Switch.{reply, takes_requests, branch_after, handle}
 use Rattle.branch_line.specs.Moves.{SwitchTakes, LoseAtSwitch}
@@ -49,11 +49,11 @@ use Rattle.input_steps.proofs.Asks.{seen_to_switch}
 use Rattle.input_steps.proofs.Switching.{HasQueue, seen_back, switch_said, said_back, with_chain, greeted_line}
 
 -- *A request makes no frame*, and no port
-noted_frames : (notes : Journal) (o : Option Mark) → (noted_cut notes o).frames ≡ notes.frames
+pub noted_frames : (notes : Journal) (o : Option Mark) → (noted_cut notes o).frames ≡ notes.frames
 noted_frames notes None = refl
 noted_frames notes (Some mark) = refl
 
-ended_frames : (c : Changed) (i : End) (found : Option Led) → (ended_by c i found).notes.frames ≡ c.notes.frames
+pub ended_frames : (c : Changed) (i : End) (found : Option Led) → (ended_by c i found).notes.frames ≡ c.notes.frames
 ended_frames c i None = refl
 ended_frames c i (Some b) = noted_frames c.notes b.unfinished
 
@@ -61,7 +61,7 @@ pub all_ended_frames : (c : Changed) (is : List End) → (all_ended c is).notes.
 all_ended_frames c [] = refl
 all_ended_frames c (i ∷ is) = all_ended_frames (ended c i) is ∙ ended_frames c i (finite.get c.branches i)
 
-moved_frames : (c : Changed) (i to : End) (found : Option Led) → (moved_by c i to found).notes.frames ≡ c.notes.frames
+pub moved_frames : (c : Changed) (i to : End) (found : Option Led) → (moved_by c i to found).notes.frames ≡ c.notes.frames
 moved_frames c i to None = refl
 moved_frames c i to (Some b) = noted_frames c.notes (cut_by_move b to)
 

@@ -14,7 +14,7 @@ use Rattle.port_model.specs.Desk.{Standing}
 use Rattle.port_model.specs.DeskAnswers as answers
 use Rattle.port_model.specs.DeskAnswers.{Head, head_of, is_of_type}
 use Rattle.branch_line.specs.Words as lines
-use Rattle.branch_line.specs.Words.{ToController, SwitchGreets, Answer, Outcome}
+use Rattle.branch_line.specs.Words.{ToController, SwitchGreets, Answer}
 use Rattle.branch_line.specs.Line.{Line}
 use Rattle.world_model.specs.declared.request.Asked.{Asked}
 use Rattle.world_model.specs.Requests.{asked_in}
@@ -37,7 +37,7 @@ abbrev message_in : Result Message Fault → Option Message
 message_in (Ok m) = Some m
 message_in (Err fault) = None
 
-greets_back : (w : ToController) (kind : HelloKind) (s r : ℕ) → ◌≡◌ {A = Seen ToController} (Word (erased_back w)) (Word (SwitchGreets kind s r)) → w ≡ SwitchGreets kind s r
+pub greets_back : (w : ToController) (kind : HelloKind) (s r : ℕ) → ◌≡◌ {A = Seen ToController} (Word (erased_back w)) (Word (SwitchGreets kind s r)) → w ≡ SwitchGreets kind s r
 greets_back (SwitchGreets k a b) kind s r h =
     let x : k ≡ kind = cc h in
     let y : a ≡ s = cc h in

@@ -29,7 +29,7 @@ use Rattle.frame_model.specs.Frame.{frame_cells, made}
 use Rattle.frame_model.specs.Sending.{Sent}
 use Rattle.port_facts.proofs.Keyed.{on_both}
 use Rattle.crossbar_model.specs.Crossbar.{Crossbar, queue_of, sent}
-use Rattle.branch_line.specs.Words.{ToController, SwitchGreets, ControllerGreets, Answer}
+use Rattle.branch_line.specs.Words.{ToController, SwitchGreets, ControllerGreets}
 use Rattle.branch_line.specs.Line.{Line, spoken}
 use Rattle.branch_line.specs.Switch.{reply, reset_switch, tick_switch}
 use Rattle.branch_line.specs.Moves.{SwitchTakes, SwitchTicks, SwitchResets, LoseAtSwitch}
@@ -52,7 +52,7 @@ use Rattle.input_steps.proofs.Parties.{greeting_is, greeting_seen, Reads, answer
 abbrev pub with_back : Part → (payload : List ℕ) → (fits : Bool) → Part
 with_back p payload fits = record (with_made p payload) { back = pool fits p.back (frame_cells default_channel (next_control p.numbers) payload) }
 
-set_first : (queues : List (List Cell)) (cells : List Cell) → 1 ≤ length queues → slice_index_or (slice_set queues 0 cells) 0 [] ≡ cells
+pub set_first : (queues : List (List Cell)) (cells : List Cell) → 1 ≤ length queues → slice_index_or (slice_set queues 0 cells) 0 [] ≡ cells
 set_first [] cells some = absurd (omega (arith, some))
 set_first (q ∷ queues) cells some = refl
 

@@ -15,7 +15,7 @@ use Rattle.gsmp_wire.specs.declared.request.Request.TheVariants.{AllPorts}
 use Rattle.gsmp_wire.specs.declared.rows.PortRow.{PortRow}
 use Rattle.ordered_lists.specs.Ordered.{Every, InOrder}
 use Rattle.port_model.specs.Desk.{Standing}
-use Rattle.port_model.specs.DeskAnswers.{Head, head_of, is_of_type, without_request, after_answer}
+use Rattle.port_model.specs.DeskAnswers.{Head, without_request}
 use Rattle.port_model.specs.DeskAnswers as answers
 use Rattle.branch_line.specs.Words.{Request as LineRequest, message_type, Success, ToController, Answer}
 use Rattle.branch_line.specs.Line.{Other, Meeting, Listing, Emptying, Met, MetAndAsked, Line}
@@ -62,7 +62,7 @@ number_self : (n : ℕ) → (n == n) ≡ true
 number_self n = grind (arith, nat_tests)
 
 -- a line that isn't met, where All Ports stands, is Listing
-listing : (meeting : Meeting) (s : Standing) → s.request ≡ AllPorts → has_met meeting ≡ false → PhaseShows meeting (s ∷ []) → meeting ≡ Listing
+pub listing : (meeting : Meeting) (s : Standing) → s.request ≡ AllPorts → has_met meeting ≡ false → PhaseShows meeting (s ∷ []) → meeting ≡ Listing
 listing Listing s is met phase = refl
 listing Emptying s is met phase = absurd (subst IsDeleteAll is phase.0)
 listing Met s is met phase = absurd (cc met)
