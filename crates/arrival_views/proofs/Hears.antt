@@ -40,7 +40,7 @@ use Rattle.arrival_views.specs.Cells.{IsTold, heard_work, CanHear}
 use Rattle.arrival_views.proofs.Chains.{with_taken, moved_then, empties, empties_all, goes_moved, joins_chain, leaves_front, stays_front, Came, FirstCame}
 
 -- *What a whole frame says* is what its last cell shows
-told_is : (payload packet : List ℕ) (message : Message) → IsTold payload packet message → told_of payload ≡ Some (record { source = source_of packet; message = message })
+pub told_is : (payload packet : List ℕ) (message : Message) → IsTold payload packet message → told_of payload ≡ Some (record { source = source_of packet; message = message })
 told_is payload packet message h =
     ap (λ (r : Result (List ℕ) EncapsFault). option_and_then told_in (told r)) h.unwrapped
     ∙ (ap (λ (b : Bool). option_map (λ (m : Message). record { source = source_of packet; message = m }) (if b then told (ifmp_decoded (drop 20 packet)) else None)) h.protocol

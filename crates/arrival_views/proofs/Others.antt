@@ -67,10 +67,10 @@ channel_of c q p same is e = λ i. record { vpi = vpi i; vci = vci i }
     vci : c.vci ≡ 15
     vci = ap (λ (z : Channel). z.vci) link_is
 
-port_of_default : (c : Channel) (p : PortNo) → c ≡ channel_at (OnControl p) default_channel → (port_on c).0 ≡ p.0
+pub port_of_default : (c : Channel) (p : PortNo) → c ≡ channel_at (OnControl p) default_channel → (port_on c).0 ≡ p.0
 port_of_default c p is = omega (arith, ap (λ (z : Channel). z.vpi) is)
 
-default_on_link : (c : Channel) (p : PortNo) → c ≡ channel_at (OnControl p) default_channel → same_channel (on_link c) default_channel ≡ true
+pub default_on_link : (c : Channel) (p : PortNo) → c ≡ channel_at (OnControl p) default_channel → same_channel (on_link c) default_channel ≡ true
 default_on_link c p is =
     let vpi : c.vpi % 16 ≡ 0 = omega (arith, ap (λ (z : Channel). z.vpi) is) in
     let vci : c.vci ≡ 15 = ap (λ (z : Channel). z.vci) is in

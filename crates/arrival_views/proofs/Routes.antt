@@ -39,6 +39,7 @@ use Rattle.ordered_lists.specs.Ordered.{Every}
 use Rattle.keyed_lists.specs.Keyed.{at}
 use Rattle.port_facts.proofs.Keyed.{by_eq, on_both}
 use Rattle.port_facts.proofs.Found.{find_passes, find_every}
+use Rattle.port_facts.proofs.Rules.{and_first}
 use Rattle.label_line.specs.Cells as lines
 use Rattle.label_line.specs.Cells.{Role, Downstream, Upstream}
 use Rattle.label_line.specs.Line as states
@@ -46,7 +47,7 @@ use Rattle.label_line.specs.Line.{Line}
 use Rattle.label_line.specs.Moves.{SendLabelled, step, run}
 use Rattle.label_line.specs.Upstream.{sends_labelled}
 use Rattle.port_model.specs.Setup.{control_end}
-use Rattle.port_model.specs.Grants.{Grant, GrantState, Idle, ByController, ByInput, Leaving, grant_label, grant_for, grant_of_kind, grant_matching, is_by_controller}
+use Rattle.port_model.specs.Grants.{Grant, GrantState, ByController, grant_label, grant_for, grant_of_kind, grant_matching, is_by_controller}
 use Rattle.world_model.specs.Controller.{Acted, Linked, linked_at, default_channel, default_home}
 use Rattle.world_model.specs.Cells.{same_channel}
 use Rattle.world_model.specs.Sending.{with_cells, sends, sends_control}
@@ -65,6 +66,7 @@ use Rattle.controller_views.specs.Lifted.{IsProper}
 use Rattle.controller_views.proofs.Parts.{quiet_leads}
 use Rattle.controller_views.proofs.Sends.{with_sent, Resends, sent_cases, sent_quietly, sends_quietly, port_default, port_label, label_vpi, label_vci, resends_goes, nothing_sent}
 use Rattle.controller_views.proofs.Works.{linked_is, port_is, quiet_note}
+use Rattle.controller_facts.proofs.Entering.{by_controller}
 
 -- *A packet that is no message of IFMP*, and what is sent on of it
 abbrev of_told : List ℕ → Message → Told
@@ -101,22 +103,12 @@ record IsSender (label : ℕ) (grants : List Grant) (grant : Grant) : Type 0 whe
   found : at grant_label label grants ≡ Some grant
   state : grant.state ≡ ByController
 
-both_true : (a b : Bool) → (a && b) ≡ true → a ≡ true
-both_true true b e = refl
-both_true false b e = absurd (cc e)
-
-state_is : (state : GrantState) → is_by_controller state ≡ true → state ≡ ByController
-state_is Idle e = absurd (cc e)
-state_is ByController e = refl
-state_is (ByInput input) e = absurd (cc e)
-state_is (Leaving input owed) e = absurd (cc e)
-
 sender_for : (label : ℕ) (grants : List Grant) (o : Option FlowId) (grant : Grant) → Once label grants → option_map_or (grant_for grants) o None ≡ Some grant → grant.label ≡ label
     → IsSender label grants grant
 sender_for label grants None grant once found same = absurd (cc found)
 sender_for label grants (Some flow) grant once found same = record {
   found = once_found label (λ g. is_by_controller g.state && same_flow g.flow flow) grants grant once found same;
-  state = state_is grant.state (both_true (is_by_controller grant.state) (same_flow grant.flow flow)
+  state = by_controller grant.state (and_first (is_by_controller grant.state) (same_flow grant.flow flow)
       (find_passes (λ g. is_by_controller g.state && same_flow g.flow flow) grants grant found));
 }
 
@@ -128,11 +120,11 @@ sender_matching label grants packet grant once found same = by (grant_of_kind gr
     by None e f = sender_for label grants (flow_of Two packet) grant once f same
     by (Some g) e f = sender_for label grants (flow_of One packet) grant once (e ∙ f) same
 
-for_every : (P : Grant → Type 0) (grants : List Grant) (o : Option FlowId) (grant : Grant) → Every P grants → option_map_or (grant_for grants) o None ≡ Some grant → P grant
+pub for_every : (P : Grant → Type 0) (grants : List Grant) (o : Option FlowId) (grant : Grant) → Every P grants → option_map_or (grant_for grants) o None ≡ Some grant → P grant
 for_every P grants None grant each found = absurd (cc found)
 for_every P grants (Some flow) grant each found = find_every P (λ g. is_by_controller g.state && same_flow g.flow flow) grants grant each found
 
-matching_every : (P : Grant → Type 0) (grants : List Grant) (packet : List ℕ) (grant : Grant) → Every P grants → grant_matching grants packet ≡ Some grant → P grant
+pub matching_every : (P : Grant → Type 0) (grants : List Grant) (packet : List ℕ) (grant : Grant) → Every P grants → grant_matching grants packet ≡ Some grant → P grant
 matching_every P grants packet grant each found = by (grant_of_kind grants One packet) refl found
   where
     by : (o : Option Grant) → grant_of_kind grants One packet ≡ o → option_or o (grant_of_kind grants Two packet) ≡ Some grant → P grant
