@@ -3,10 +3,7 @@
 use Rattle.std.proofs.Common.{◌≡◌, ℕ, Bool, true, false, true≢false, List, [], ◌∷◌, ◌++◌, length, Option, None, Some, Result, Ok, Err, refl, sym, ◌∙◌, ap, subst, append_assoc, append-nil, ◌⊎◌, inl, inr, if◌then◌else◌}
 use Rattle.std.specs.Prelude.{◌==◌, ◌&&◌, ◌||◌, not, nat_le, nat_lt}
 use Rattle.std.specs.List.{list_any}
-use Rattle.std.specs.Option.{option_map_or}
 use Rattle.std.specs.FinMap.{get}
-use Rattle.std.specs.Str.{bytes_eq}
-use Rattle.std.proofs.lemmas.Slice.Eq.{bytes_eq-Decides}
 use Rattle.net_types.specs.declared.channel.End.{End}
 use Rattle.net_types.specs.declared.number.Mark.{Mark}
 use Rattle.net_types.specs.declared.adjacency.Greeting.{Greeting}
@@ -24,7 +21,6 @@ use Rattle.gsmp_wire.specs.declared.request.Request.{Request}
 use Rattle.gsmp_wire.specs.declared.request.Request.TheVariants.{AddBranch, MoveBranch, DeleteTree, VerifyTree, DeleteAll, PortManagement, AllPorts}
 use Rattle.gsmp_wire.specs.Layout.{octets_of as message_octets}
 use Rattle.gsmp_wire.specs.Fields.{decoded}
-use Rattle.link_model.specs.declared.frames.Frame.{Frame}
 use Rattle.link_model.specs.declared.record.Record.{Record}
 use Rattle.link_model.specs.declared.record.Record.TheVariants.{Loss, Chance, Bad}
 use Rattle.link_model.specs.declared.record.Cause.TheVariants.{PoolFull, Cut}
@@ -47,6 +43,7 @@ use Rattle.world_model.specs.Conduct.{with_cells, says, answers, steps, replied,
 use Rattle.port_facts.proofs.Keyed.{on_both}
 use Rattle.world_model.specs.Headline.{is_wild, IsTame}
 use Rattle.branch_shapes.specs.Shapes.{ended_by as chain_ended}
+use Rattle.shown_cells.proofs.Tested.{frame_is, last_is}
 
 -- *Records are added* behind those before them
 record Longer (before after : Journal) : Type 0 where
@@ -151,18 +148,6 @@ wild_within (x ∷ xs) ys mark = by (is_wild x) (wild_within xs ys mark)
     by true e = refl
     by false e = e
 
-made_under : (frames : List Frame) (mark : Mark) (payload : List ℕ) → is_frame frames mark payload ≡ true → payload_of frames mark ≡ Some payload
-made_under frames mark payload h = by (payload_of frames mark) h
-  where
-    by : (o : Option (List ℕ)) → option_map_or (λ kept. bytes_eq kept payload) o false ≡ true → o ≡ Some payload
-    by None k = absurd (cc k)
-    by (Some kept) k = ap (λ (z : List ℕ). Some z) ((bytes_eq-Decides kept payload).0 k)
-
-last_is : (cells : List Cell) (cell : Cell) → last_mark (cells ++ cell ∷ []) ≡ cell.mark
-last_is [] cell = refl
-last_is (c ∷ []) cell = refl
-last_is (c ∷ d ∷ cells) cell = last_is (d ∷ cells) cell
-
 module _ (a : Acted) (cell : Cell) where
   abbrev t : Taken
   t = taken a.notes (nat_lt 0 (free_slots a.switch)) a.switch.reassembly cell
@@ -194,7 +179,7 @@ module _ (a : Acted) (cell : Cell) where
       by_frame : t.notes ≡ a.notes → last_mark (first ∷ cells) ≡ cell.mark → (f : Bool) → is_frame t.notes.frames (last_mark (first ∷ cells)) payload ≡ f
           → IsTame (read (record b { notes = if f then t.notes else noted t.notes (Chance (last_mark (first ∷ cells))) }) (decoded payload)).notes.records → payload_of a.notes.frames cell.mark ≡ Some payload
       by_frame notes mark true f tame = subst (λ (j : Journal). payload_of j.frames cell.mark ≡ Some payload) notes
-          (subst (λ (m : Mark). payload_of t.notes.frames m ≡ Some payload) mark (made_under t.notes.frames (last_mark (first ∷ cells)) payload f))
+          (subst (λ (m : Mark). payload_of t.notes.frames m ≡ Some payload) mark (frame_is t.notes.frames (last_mark (first ∷ cells)) payload f))
       by_frame notes mark false f tame =
           let g = read_grows (record b { notes = noted t.notes (Chance (last_mark (first ∷ cells))) }) (decoded payload) in
           absurd (true≢false (sym (wild_within t.notes.records g.more (last_mark (first ∷ cells))) ∙ ap (list_any is_wild) (sym g.is) ∙ tame))

@@ -50,11 +50,11 @@ use Rattle.branch_shapes.specs.Shapes.{AreShaped, HasShapes, Brings, CellsKeepSh
 use Rattle.branch_shapes.proofs.Asked.{shaped_put, ended_all, asked_shaped}
 
 -- *What a request says of itself*: under its number it is a copy
-copy_as : (result code number : ℕ) {t : Bool} {found : Option Asked} (asked : Asked) → t ≡ true → found ≡ Some asked
+pub copy_as : (result code number : ℕ) {t : Bool} {found : Option Asked} (asked : Asked) → t ≡ true → found ≡ Some asked
     → (if t then copy_by (Some (record { result = result; code = code; number = number })) found else None) ≡ Some (record { number = number; request = asked.request })
 copy_as result code number asked is e = ap₂ (λ (b : Bool) (o : Option Asked). if b then copy_by (Some (record { result = result; code = code; number = number })) o else None) is e
 
-copy_is : (m : Message) (asked : Asked) → is_request m ≡ true → asked_in m ≡ Some asked → (number : ℕ) × (copy_of m ≡ Some (record { number = number; request = asked.request }))
+pub copy_is : (m : Message) (asked : Asked) → is_request m ≡ true → asked_in m ≡ Some asked → (number : ℕ) × (copy_of m ≡ Some (record { number = number; request = asked.request }))
 copy_is (Adjacency greeting) asked r e = absurd (cc e)
 copy_is (BranchMessage kind result code number session input_port input output_port output branches priority) asked r e = (number, copy_as result code number asked r e)
 copy_is (Move result code number session input_port input output_port output target_port target branches priority) asked r e = (number, copy_as result code number asked r e)

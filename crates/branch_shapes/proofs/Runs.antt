@@ -35,6 +35,7 @@ use Rattle.world_views.specs.Between as worlds
 use Rattle.world_views.specs.Between.{EachSite, setups_of}
 use Rattle.branch_shapes.specs.Events.{HasOwnShapes, CopiesAreShaped, RunsKeepShapes}
 use Rattle.branch_shapes.proofs.Sites.{Shaped, numbers_same, events_keep}
+use Rattle.causes.proofs.Runs.{after_one}
 
 -- *A new site*
 record IsNew (site : Site) : Type 0 where
@@ -43,7 +44,7 @@ record IsNew (site : Site) : Type 0 where
   queue : site.controller.queue ≡ []
   chain : site.switch.reassembly.chain ≡ []
 
-begun_ports : (own : Instance) (ports : List PortNo) → numbers_of (map (begun own) ports) ≡ ports
+pub begun_ports : (own : Instance) (ports : List PortNo) → numbers_of (map (begun own) ports) ≡ ports
 begun_ports own [] = refl
 begun_ports own (port ∷ ports) = ap (λ (rest : List PortNo). port ∷ rest) (begun_ports own ports)
 
@@ -65,7 +66,7 @@ new_each policy t w place (node ∷ nodes) all =
     new_each policy t (with_opened policy t w place node) (suc place) nodes
     (every_join IsNew w.sites (opened_site policy t (record { 0 = place }) node w.numbers ∷ []) all (new_site policy t (record { 0 = place }) node w.numbers, tt))
 
-none_among : (cells : List Cell) (cell : Cell) → cells ≡ [] → Contains cells cell → ⊥
+pub none_among : (cells : List Cell) (cell : Cell) → cells ≡ [] → Contains cells cell → ⊥
 none_among [] cell none among = omega (arith, among.1)
 none_among (c ∷ cells) cell none among = cc none
 
@@ -90,11 +91,6 @@ opening_shapes policy t = whole (opened policy t)
     nothing node site found =
         ap (λ o. option_map_or (λ (x : Site). x.switch.reassembly.chain) o [] ++ on_channel default_channel (option_map_or (λ (x : Site). queue_in x (Down node)) o [])) found
         ∙ ap (λ (cells : List Cell). cells ++ on_channel default_channel site.controller.queue) (new node site found).chain ∙ ap (on_channel default_channel) (new node site found).queue
-
--- *A run*
-after_one : (t : Topology) (w : World) (before : List Event) (event : Event) → world_after t w (before ++ event ∷ []) ≡ next t (world_after t w before) event
-after_one t w [] event = refl
-after_one t w (first ∷ before) event = after_one t (next t w first) before event
 
 module _ (policy : Policy) (t : Topology) (events : List Event) (is : IsTopology t)
     (each : (before after : List Event) (event : Event) → events ≡ before ++ event ∷ after → IsTame (next t (world_after t (opened policy t) before) event).notes.records)

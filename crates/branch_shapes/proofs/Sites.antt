@@ -45,6 +45,7 @@ use Rattle.world_model.specs.Step.{note, forges, injects_by, arrives_at, carries
 use Rattle.world_model.specs.Ways.{requests_chain_at, gsmp_to_switch, on_channel, copy_under}
 use Rattle.lifetimes.proofs.Opened.{IsFed, opening_fed}
 use Rattle.lifetimes.proofs.Runs.{run_fed}
+use Rattle.lifetimes.proofs.Feeding.{acted_by}
 use Rattle.causes.proofs.Shown.{peer_back}
 use Rattle.world_views.specs.Between.{setups_of}
 use Rattle.world_views.proofs.Put.{put_found, Sited, put_sited}
@@ -61,21 +62,18 @@ Shaped site = HasShapes (setups_of site.controller) site.switch
 fed_sound : (site : Site) (fed : IsFed site) → IsSound (setups_by fed.o) site.controller
 fed_sound site fed = subst (λ (c : Controller). IsSound (setups_by fed.o) c) fed.now (always_sound fed.o fed.inputs fed.is.differ)
 
-abbrev acted_at : Journal → GivenOut → Controller → Acted
-acted_at notes numbers c = record { controller = c; notes = notes; numbers = numbers }
-
-same_setups : (notes : Journal) (numbers : GivenOut) (site : Site) → IsFed site → (input : Input) → setups_of (takes_input (acted_at notes numbers site.controller) input).controller ≡ setups_of site.controller
+same_setups : (notes : Journal) (numbers : GivenOut) (site : Site) → IsFed site → (input : Input) → setups_of (takes_input (acted_by notes numbers site.controller) input).controller ≡ setups_of site.controller
 same_setups notes numbers site fed input =
-    (input_sound (setups_by fed.o) (acted_at notes numbers site.controller) input (fed_sound site fed)).ports.same ∙ sym (fed_sound site fed).ports.same
+    (input_sound (setups_by fed.o) (acted_by notes numbers site.controller) input (fed_sound site fed)).ports.same ∙ sym (fed_sound site fed).ports.same
 
 -- *An actor acts*
-controller_keeps : (v : World) (node : NodeId) (act : Acted → Acted) (input : Input) → ((c : Controller) → (act (acted_at v.notes v.numbers c)).controller ≡ (takes_input (acted_at v.notes v.numbers c) input).controller)
+controller_keeps : (v : World) (node : NodeId) (act : Acted → Acted) (input : Input) → ((c : Controller) → (act (acted_by v.notes v.numbers c)).controller ≡ (takes_input (acted_by v.notes v.numbers c) input).controller)
     → Sited IsFed v.sites → Sited Shaped v.sites → Sited Shaped (at_controller v node act).sites
 controller_keeps v node act input is fed all = by (site_at v node) refl
   where
     by : (o : Option Site) → site_at v node ≡ o → Sited Shaped (controller_acts v o act).sites
     by None found = all
-    by (Some site) found = put_sited Shaped (record site { controller = (act (acted_at v.notes v.numbers site.controller)).controller }) v.sites
+    by (Some site) found = put_sited Shaped (record site { controller = (act (acted_by v.notes v.numbers site.controller)).controller }) v.sites
         (subst (λ (s : List Setup). HasShapes s site.switch) (sym (ap setups_of (is site.controller) ∙ same_setups v.notes v.numbers site (fed node site found) input)) (all node site found)) all
 
 switch_keeps : (v : World) (node : NodeId) (act : switches.Acted → switches.Acted)
@@ -190,7 +188,7 @@ module _ (topology : Topology) (is : IsTopology topology) (v : World) (fed : Sit
   enters : (node : NodeId) (octets : List ℕ) (o : Option Refusal) → inject_refusal octets ≡ o → Sited Shaped (injects_by (record v { sent = v.sent + 1 }) node octets o).sites
   enters node octets (Some name) e = all
   enters node octets None e = controller_keeps (record v { sent = v.sent + 1 }) node (λ a. injected a (v.sent + 1) octets) (PacketEnters (v.sent + 1) octets)
-      (λ c. ap (λ (o : Option Refusal). (enters_unless (acted_at v.notes v.numbers c) (v.sent + 1) octets o).controller) (sym e)) fed all
+      (λ c. ap (λ (o : Option Refusal). (enters_unless (acted_by v.notes v.numbers c) (v.sent + 1) octets o).controller) (sym e)) fed all
 
   loses : (place : Place) (queue : List Cell) → Sited Shaped (loses_head v place queue).sites
   loses place [] = all

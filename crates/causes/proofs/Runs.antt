@@ -250,7 +250,7 @@ first_tame t w [] tame = (records_then w [] tame).0
 first_tame t w (event ∷ events) tame = (records_then w (worlds_from t (next t w event) events) tame).0
 
 -- *A run in order*, from what is so of each front of it
-after_one : (t : Topology) (w : World) (before : List Event) (event : Event) → world_after t w (before ++ event ∷ []) ≡ next t (world_after t w before) event
+pub after_one : (t : Topology) (w : World) (before : List Event) (event : Event) → world_after t w (before ++ event ∷ []) ≡ next t (world_after t w before) event
 after_one t w [] event = refl
 after_one t w (first ∷ before) event = after_one t (next t w first) before event
 

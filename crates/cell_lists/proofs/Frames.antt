@@ -30,17 +30,17 @@ pub record IsCut (mark : Mark) (payload : List ℕ) (cells : List Cell) : Type 0
   pub marked : final.mark ≡ mark
   pub size : length front + 1 ≡ cells_for (length payload)
 
-every_value : (P : Cell → Type 0) (f : ℕ → Cell) (n : ℕ) → ((k : ℕ) → k < n → P (f k)) → Every P (map f (range_with_len 0 n))
+pub every_value : (P : Cell → Type 0) (f : ℕ → Cell) (n : ℕ) → ((k : ℕ) → k < n → P (f k)) → Every P (map f (range_with_len 0 n))
 every_value P f zero each = tt
 every_value P f (suc n) each =
     let more : map f (range_with_len 0 (suc n)) ≡ map f (range_with_len 0 n) ++ f n ∷ [] =
     ap (λ m. map f (range_with_len 0 m)) (sym (add-one n)) ∙ map-range_with_len_more f 0 n n (zero-add n) in
     subst (Every P) (sym more) (every_join P (map f (range_with_len 0 n)) (f n ∷ []) (every_value P f n (λ k low. each k (omega (arith, low)))) (each n (omega arith), tt))
 
-not_last : (k n size : ℕ) → k < n → size ≡ 48 * (n + 1) → (48 * (k + 1) == size) ≡ false
+pub not_last : (k n size : ℕ) → k < n → size ≡ 48 * (n + 1) → (48 * (k + 1) == size) ≡ false
 not_last k n size low is = grind (arith, nat_tests)
 
-is_last : (n size : ℕ) → size ≡ 48 * (n + 1) → (48 * (n + 1) == size) ≡ true
+pub is_last : (n size : ℕ) → size ≡ 48 * (n + 1) → (48 * (n + 1) == size) ≡ true
 is_last n size is = grind (arith, nat_tests)
 
 pub frame_is_cut : (mark : Mark) (payload : List ℕ) → IsCut mark payload (frame_cells plain mark payload)

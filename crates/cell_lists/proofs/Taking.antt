@@ -65,7 +65,7 @@ broken_none (mark ∷ marks) notes h =
     let next : Journal = noted notes (Loss mark Broken) in
     subst (λ (b : Bool). (broken (if b then notes else next) marks).entries ≡ notes.entries) (sym h.0) (broken_none marks notes h.1)
 
-own_mark : (mark : Mark) → same_mark mark mark ≡ true
+pub own_mark : (mark : Mark) → same_mark mark mark ≡ true
 own_mark mark = grind (arith, nat_tests)
 
 pub own_entry : (entries : List Entry) (mark : Mark) (cause : Cause) → has_entry (entries ++ record { mark = mark; cause = cause } ∷ []) mark ≡ true
@@ -99,7 +99,7 @@ broken_last [] notes mark =
     by (has_entry notes.entries mark) refl
 broken_last (first ∷ marks) notes mark = broken_last marks (if has_entry notes.entries first then notes else noted notes (Loss first Broken)) mark
 
-marks_of-push : (cells : List Cell) (cell : Cell) → marks_of (cells ++ cell ∷ []) ≡ marks_of cells ++ cell.mark ∷ []
+pub marks_of-push : (cells : List Cell) (cell : Cell) → marks_of (cells ++ cell ∷ []) ≡ marks_of cells ++ cell.mark ∷ []
 marks_of-push [] cell = refl
 marks_of-push (first ∷ cells) cell = ap (λ marks. first.mark ∷ marks) (marks_of-push cells cell)
 
