@@ -32,7 +32,8 @@ use Rattle.controller_facts.proofs.Moves.{HasPorts, answering, moves_to, moves_p
 use Rattle.controller_facts.proofs.Joining.{releases_goes}
 use Rattle.controller_facts.proofs.Events.{IsTaker, kept_ports}
 use Rattle.lasting_joins.proofs.Lent.{node_keeps, tells_keep}
-use Rattle.lasting_joins.proofs.Lasting.{empties_last, releases_keep, clears_last, changes_last, steps_last, default_lasts, label_lasts}
+use Rattle.lasting_joins.proofs.Keeping.{releases_keep, clears_last}
+use Rattle.lasting_joins.proofs.Lasting.{empties_last, changes_last, steps_last, default_lasts, label_lasts}
 use Rattle.lasting_joins.proofs.Unmet.{unmet_desk}
 use Rattle.lasting_joins.proofs.Tries.{taken_by, gathered_met}
 
@@ -58,7 +59,7 @@ module _ (setups : List Setup) where
     pub last : IsLast desk standing
 
   -- what a success causes
-  abbrev Emptied : Acted → Request → Type 0
+  abbrev pub Emptied : Acted → Request → Type 0
   Emptied a request = (is_deleting request ≡ true) × (has_emptied a.controller ≡ true)
 
   caused_ends : (a : Acted) (request : Request) → HasPorts setups a → a.controller.has_met ≡ false → (causes_in_estab a request).controller.has_met ≡ true → Emptied a request
@@ -75,10 +76,8 @@ module _ (setups : List Setup) where
   caused_ends a (PortManagement port function) h unmet met = not_met a.controller.has_met ((tells_keep setups 0 0 Nobody a (PortManagement port function) port h).met met) unmet
   caused_ends a AllPorts h unmet met = not_met a.controller.has_met met unmet
 
-  done_ends : (a : Acted) (request : Request) → IsSound setups a.controller → a.controller.has_met ≡ false → (done a request).controller.has_met ≡ true → Emptied a request
-  done_ends a request sound unmet met =
-      by (is_estab released.controller.adjacency.state) refl
-      ((clears_last setups 0 0 Nobody (ports_of caused.controller) caused).met ((changes_last setups 0 0 Nobody (clears caused)).met met))
+  pub answered_ends : (a : Acted) (request : Request) → IsSound setups a.controller → a.controller.has_met ≡ false → (clears (causes (releases a request) request)).controller.has_met ≡ true → Emptied a request
+  answered_ends a request sound unmet met = by (is_estab released.controller.adjacency.state) refl ((clears_last setups 0 0 Nobody (ports_of caused.controller) caused).met met)
     where
       released : Acted
       released = releases a request
@@ -96,6 +95,9 @@ module _ (setups : List Setup) where
       by true e k = (let x : Emptied released request = caused_ends released request ports still k in
           (x.0, ap (λ (d : Desk). not (list_any (λ (s : Standing). is_deleting s.request) d.standing)) (sym (unmet_desk setups a request sound unmet)) ∙ x.1))
       by false e k = not_met released.controller.has_met k still
+
+  done_ends : (a : Acted) (request : Request) → IsSound setups a.controller → a.controller.has_met ≡ false → (done a request).controller.has_met ≡ true → Emptied a request
+  done_ends a request sound unmet met = answered_ends a request sound unmet ((changes_last setups 0 0 Nobody (clears (causes (releases a request) request))).met met)
 
   answer_ends : (a : Acted) (message : Message) → IsSound setups a.controller → a.controller.has_met ≡ false → (answer_comes a message).controller.has_met ≡ true → EndsMeeting a.controller.desk message
   answer_ends a message sound unmet met = by (answered a.controller.desk message) refl met

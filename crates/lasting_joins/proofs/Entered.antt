@@ -1,7 +1,7 @@
 -- the joins that a tick enters: each to an output that nobody else is joined to, and that stays lent while the switch is met
 
-use Rattle.std.proofs.Common.{◌≡◌, ◌≢◌, ℕ, Bool, true, false, List, [], ◌∷◌, length, Option, None, Some, refl, sym, ◌∙◌, ap, subst, fold, if◌then◌else◌}
-use Rattle.std.specs.Prelude.{◌&&◌, not, nat_lt, is_none, nat_eq}
+use Rattle.std.proofs.Common.{◌≡◌, ℕ, Bool, true, false, List, [], ◌∷◌, length, Option, None, Some, refl, sym, ◌∙◌, ap, subst, fold, if◌then◌else◌}
+use Rattle.std.specs.Prelude.{◌&&◌, not, nat_lt, is_none}
 use Rattle.std.specs.Option.{option_map, option_map_or, option_and_then}
 use Rattle.net_types.specs.declared.channel.End.{End}
 use Rattle.net_types.specs.declared.node.PortNo.{PortNo}
@@ -20,22 +20,22 @@ use Rattle.port_model.specs.Setup.{Setup, home_of, label_end}
 use Rattle.port_model.specs.Labels.{Label, Offered, label_number}
 use Rattle.port_model.specs.Grants as grants
 use Rattle.port_model.specs.Grants.{Grant, ByController, ByInput, grant_label, grant_for, is_by_controller}
-use Rattle.port_model.specs.Port.{Session, Work, label_at, labels_of}
+use Rattle.port_model.specs.Port.{Session, label_at, labels_of}
 use Rattle.port_model.specs.Joins as port_joins
-use Rattle.port_facts.specs.Port.{IsLabelEnd, IsGrant, joins_label}
+use Rattle.port_facts.specs.Port.{IsLabelEnd, IsGrant}
 use Rattle.port_facts.proofs.Keyed.{at_key, at_every, apart_at, at_put_same}
 use Rattle.port_facts.proofs.Found.{find_passes}
-use Rattle.port_facts.proofs.Rules.{and_first}
-use Rattle.world_model.specs.Controller.{Controller, Acted, Linked, port_key, linked_at}
+use Rattle.port_facts.proofs.Rules.{and_first, and_second}
+use Rattle.world_model.specs.Controller.{Acted, Linked, port_key, linked_at}
 use Rattle.world_model.specs.Resets.{begins}
-use Rattle.world_model.specs.Performing.{works, at_port}
+use Rattle.world_model.specs.Performing.{works}
 use Rattle.world_model.specs.Routes.{route_stays}
 use Rattle.world_model.specs.Joins.{Join, output_of, join_through, join_by, port_by, join_for, is_offered, may_join, enters_grant, enters_label, joins, label_on, tries_label, tries_join}
-use Rattle.controller_facts.specs.Sound.{IsSound, IsShutLinked, IsLinkedPort}
+use Rattle.controller_facts.specs.Sound.{IsSound, IsShutLinked}
 use Rattle.controller_facts.proofs.Laws.{has_ports, moves_sound}
 use Rattle.controller_facts.proofs.Moves.{HasPorts, Found, by_joining, by_lending, found_setup, found_at_own, found_port, moves_ports}
 use Rattle.controller_facts.proofs.Performing.{at_port_goes}
-use Rattle.controller_facts.proofs.Joining.{image_is, labels_at}
+use Rattle.controller_facts.proofs.Joining.{image_is}
 use Rattle.controller_facts.proofs.Entering.{OnPort, on_port, lends_labels, is_offered_by, by_controller, tries_join_goes}
 use Rattle.controller_law.specs.Match.{lent_in, lent_at}
 use Rattle.controller_law.proofs.Releasing.{number_at}
@@ -64,10 +64,6 @@ pub record IsEntering (a : Acted) (input : End) (join : Join) : Type 0 where
   pub next : FlowId
   pub next_is : next_hop_of label.flow ≡ Some next
   pub same : same_flow join.grant.flow next ≡ true
-
-and_then_second : (a b : Bool) → (a && b) ≡ true → b ≡ true
-and_then_second true b e = e
-and_then_second false b e = absurd (cc e)
 
 module _ (setups : List Setup) where
   entering : (a : Acted) (input : End) (join : Join) → HasPorts setups a → entered a.controller input ≡ Some join → IsEntering a input join
@@ -106,7 +102,7 @@ module _ (setups : List Setup) where
                 route = route ∙ ap (λ (p : PortNo). Some (Via p)) (sym same_port);
                 next = next;
                 next_is = next_is;
-                same = and_then_second (is_by_controller grant.state) (same_flow grant.flow next) passes;
+                same = and_second (is_by_controller grant.state) (same_flow grant.flow next) passes;
               })
 
       by_next : (label : Label) → label_on a.controller input ≡ Some label → label.state ≡ Offered → (port : PortNo) → best a.controller.table (flow_destination label.flow) ≡ Some (Via port) → (o : Option FlowId) → next_hop_of label.flow ≡ o

@@ -1,8 +1,7 @@
 -- what each event leaves of a grant that is lent, while the switch stays met
 
-use Rattle.std.proofs.Common.{◌≡◌, ℕ, Bool, true, false, List, [], ◌∷◌, ◌++◌, drop, Option, None, Some, Result, Ok, Err, refl, sym, ◌∙◌, ap, subst, fold, if◌then◌else◌}
-use Rattle.std.specs.Prelude.{◌==◌, ◌&&◌, nat_lt, not, map, filter, find}
-use Rattle.std.specs.Option.{option_and_then}
+use Rattle.std.proofs.Common.{◌≡◌, ℕ, true, List, [], ◌∷◌, ◌++◌, drop, Option, None, Some, Result, Ok, Err, refl, sym, ◌∙◌, ap, subst, fold}
+use Rattle.std.specs.Prelude.{◌==◌, not, map}
 use Rattle.net_types.specs.declared.channel.Channel.{Channel}
 use Rattle.net_types.specs.declared.channel.End.{End}
 use Rattle.net_types.specs.declared.node.PortNo.{PortNo}
@@ -10,7 +9,6 @@ use Rattle.net_types.specs.declared.number.Mark.{Mark}
 use Rattle.net_types.specs.declared.adjacency.Greeting.{Greeting}
 use Rattle.net_types.specs.declared.adjacency.Party.{Party}
 use Rattle.net_types.specs.Number.{next_control, with_control}
-use Rattle.atm_cells.specs.declared.cell.Cell.{Cell}
 use Rattle.adjacency_table.specs.declared.message.Answer.{Answer}
 use Rattle.adjacency_table.specs.declared.message.Answer.TheVariants.{Quiet, Send, Open, Reset}
 use Rattle.adjacency_table.specs.Side.{Step, is_estab}
@@ -30,47 +28,40 @@ use Rattle.gsmp_wire.specs.declared.fault.Fault.{Fault}
 use Rattle.gsmp_wire.specs.declared.message.Message.{Message}
 use Rattle.gsmp_wire.specs.declared.message.Message.TheVariants as messages
 use Rattle.gsmp_wire.specs.declared.request.Request.{Request}
-use Rattle.gsmp_wire.specs.declared.request.Request.TheVariants.{AddBranch, MoveBranch, DeleteTree, VerifyTree, DeleteAll, PortManagement, AllPorts}
-use Rattle.gsmp_wire.specs.declared.rows.PortRow.{PortRow}
+use Rattle.gsmp_wire.specs.declared.request.Request.TheVariants.{MoveBranch, DeleteAll, AllPorts}
 use Rattle.gsmp_wire.specs.Fields.{decoded as gsmp_decoded}
-use Rattle.gsmp_wire.specs.Layout.{octets_of as gsmp_octets}
-use Rattle.ordered_lists.specs.Ordered.{Every}
-use Rattle.port_model.specs.Desk.{Desk, Standing, empty_desk, sent_again, message_at}
-use Rattle.port_model.specs.Requests.{leads_home}
+use Rattle.port_model.specs.Desk.{Standing, empty_desk, sent_again}
 use Rattle.port_model.specs.DeskAnswers.{Answered, Unknown, Done, Ports, Failed, answered, after_answer, without_request}
 use Rattle.port_model.specs.Setup.{Setup, home_of}
 use Rattle.port_model.specs.Labels.{Label}
-use Rattle.port_model.specs.Port.{Work, label_at}
 use Rattle.port_model.specs.Counting.{counts, used}
 use Rattle.port_model.specs.Hearing.{hears}
 use Rattle.port_model.specs.Ticks as port_ticks
 use Rattle.port_facts.specs.Port.{Lives, IsShaped, AnyChannel}
-use Rattle.port_facts.proofs.Keyed.{on_both, on_each}
-use Rattle.port_facts.proofs.Found.{find_every}
+use Rattle.port_facts.proofs.Keyed.{on_both}
 use Rattle.port_facts.proofs.Rules.{used_goes, counts_goes}
 use Rattle.port_facts.proofs.Hearings.{hears_goes, ticks_goes}
 use Rattle.port_facts.proofs.Steps.{GoesOn, Goes}
-use Rattle.world_model.specs.Controller.{Acted, Linked, linked_at, with_linked, with_desk, note, ports_of, chains_with}
+use Rattle.world_model.specs.Controller.{Acted, Linked, linked_at, with_desk, note, ports_of}
 use Rattle.world_model.specs.Sending.{sends, sends_control, says_gsmp}
-use Rattle.world_model.specs.Asking.{sends_request, asks, takes_back}
+use Rattle.world_model.specs.Asking.{sends_request, asks}
 use Rattle.world_model.specs.Resets.{begins, node_resets}
 use Rattle.world_model.specs.Performing.{Rule, at_port}
-use Rattle.world_model.specs.Joins.{Join, joins_of, releases_input, released_inputs, resets_spent, releases, output_of}
-use Rattle.world_model.specs.Meeting.{meets, up_ports, empties, tells_port, behind_delete_all, ends_meeting, has_emptied, causes_in_estab, causes, clears_port, clears, done, answers_desk, takes_answer, answer_comes, port_of_input, port_of, default_branches}
+use Rattle.world_model.specs.Joins.{Join, releases, output_of}
+use Rattle.world_model.specs.Meeting.{meets, up_ports, empties, causes, clears, done, takes_answer, answer_comes}
 use Rattle.world_model.specs.Gsmp.{answers, steps, told, gsmp_holds}
 use Rattle.world_model.specs.Changes.{changed_joins, takes_join_back, begins_change, takes_change, may_take, takes_each, takes_changes, change_comes}
-use Rattle.world_model.specs.Packets.{is_control, sends_next, goes_by, grant_by, forwarded, routes, injected, control_protocol}
-use Rattle.world_model.specs.Cells.{Taker, ForGsmp, ForDefault, ForLabel, label_holds, ifmp_holds, counted_at, packet_holds, default_holds, frame_holds, opened_frame, with_reassembly}
-use Rattle.world_model.specs.Controller.{default_end, default_home}
+use Rattle.world_model.specs.Packets.{is_control, sends_next, goes_by, grant_by, forwarded, routes, control_protocol}
+use Rattle.world_model.specs.Cells.{Taker, ForGsmp, ForDefault, ForLabel, label_holds, ifmp_holds, counted_at, packet_holds, default_holds, frame_holds}
 use Rattle.world_model.specs.Ticks.{sends_again, ticks_port, ticks_ports}
 use Rattle.controller_facts.proofs.Lifetimes.{decoded_lives}
 use Rattle.controller_facts.proofs.Moves.{HasPorts, Found, by_rule, found_setup, found_at_own, found_port, begun, moves_ports}
-use Rattle.controller_facts.proofs.Performing.{Any, any_ports}
-use Rattle.controller_facts.proofs.Joining.{every_filter, releases_input_goes, resets_spent_goes, releases_goes}
-use Rattle.controller_facts.proofs.Events.{routes_goes, steps_goes, sends_again_goes, ticks_port_goes, causes_goes, clears_goes}
-use Rattle.controller_law.specs.Match.{lent_in, lent_at}
+use Rattle.controller_facts.proofs.Joining.{every_filter}
+use Rattle.controller_facts.proofs.Events.{routes_goes, ticks_port_goes}
+use Rattle.controller_law.specs.Match.{lent_at}
 use Rattle.controller_law.proofs.Pairing.{SamePairs, same_pairs, goes_pairs}
-use Rattle.lasting_joins.proofs.Lent.{sent_cases, Keeps, itself, keeps_on, keeps_fold, same_keeps, put_keeps, node_keeps, asks_keep, worked_keeps, tells_keep, spent_keeps, input_keeps, clears_keep}
+use Rattle.lasting_joins.proofs.Keeping.{Releasing, answered_keeps}
+use Rattle.lasting_joins.proofs.Lent.{sent_cases, Keeps, node_keeps, asks_keep, worked_keeps}
 
 module _ (setups : List Setup) (q m : ℕ) (Unled : End → Type 0) where
   abbrev K : Acted → Acted → Type 0
@@ -222,63 +213,15 @@ module _ (setups : List Setup) (q m : ℕ) (Unled : End → Type 0) where
   pub empties_last : (a : Acted) → Lasts a (empties a)
   empties_last a = lasts_fold asks asks_last (map DeleteAll (record { 0 = 0 } ∷ up_ports a.controller)) a
 
-  inputs_keep : (inputs : List End) (a : Acted) → Every (λ (e : End). Unled e → ⊥) inputs → HasPorts setups a → K a (fold releases_input a inputs)
-  inputs_keep [] a all h = itself setups q m Unled a
-  inputs_keep (e ∷ inputs) a all h = keeps_on setups q m Unled a (releases_input a e) (fold releases_input (releases_input a e) inputs) (input_keeps setups q m Unled a e all.0 h)
-      (inputs_keep inputs (releases_input a e) all.1 (moves_ports setups (releases_input_goes setups a e h) h))
-
-  inputs_ports : (inputs : List End) (a : Acted) → HasPorts setups a → HasPorts setups (fold releases_input a inputs)
-  inputs_ports [] a h = h
-  inputs_ports (e ∷ inputs) a h = inputs_ports inputs (releases_input a e) (moves_ports setups (releases_input_goes setups a e h) h)
-
-  spent_keep : (ports : List PortNo) (a : Acted) → HasPorts setups a → K a (fold resets_spent a ports)
-  spent_keep [] a h = itself setups q m Unled a
-  spent_keep (port ∷ ports) a h = keeps_on setups q m Unled a (resets_spent a port) (fold resets_spent (resets_spent a port) ports) (spent_keeps setups q m Unled a port h)
-      (spent_keep ports (resets_spent a port) (moves_ports setups (resets_spent_goes setups a port h) h))
-
-  passing : {A : Type 0} (P : A → Type 0) (test : A → Bool) → ((x : A) → test x ≡ true → P x) → (xs : List A) → Every P (filter test xs)
-  passing P test each [] = tt
-  passing P test each (x ∷ xs) = on_each (Every P) (test x) (x ∷ filter test xs) (filter test xs) (λ t. (each x t, passing P test each xs)) (λ t. passing P test each xs)
-
-  abbrev Releasing : Request → Type 0
-  Releasing request = (input : End) → leads_home input (home_of input) request ≡ true → Unled input → ⊥
-
-  pub releases_keep : (a : Acted) (request : Request) → Releasing request → HasPorts setups a → K a (releases a request)
-  releases_keep a request led h =
-      let inputs : List End = released_inputs a.controller request in
-      let released : Acted = fold releases_input a inputs in
-      keeps_on setups q m Unled a released (releases a request)
-      (inputs_keep inputs a (passing (λ (e : End). Unled e → ⊥) (λ (input : End). leads_home input (home_of input) request) led (map (λ (join : Join). join.input) (joins_of a.controller))) h)
-      (spent_keep (ports_of released.controller) released (inputs_ports inputs a h))
-
-  causes_in_keep : (a : Acted) (request : Request) → a.controller.has_met ≡ true → HasPorts setups a → K a (causes_in_estab a request)
-  causes_in_keep a (AddBranch input output) met h = tells_keep setups q m Unled a (AddBranch input output) (port_of_input input output) h
-  causes_in_keep a (MoveBranch input from to) met h = tells_keep setups q m Unled a (MoveBranch input from to) (port_of_input input to) h
-  causes_in_keep a (DeleteTree input) met h = tells_keep setups q m Unled a (DeleteTree input) input.port h
-  causes_in_keep a (VerifyTree input) met h = tells_keep setups q m Unled a (VerifyTree input) input.port h
-  causes_in_keep a (DeleteAll port) met h = subst (λ (t : Bool). K a (if t then asks a (AddBranch (default_end port) (default_home port)) else (if has_emptied a.controller then ends_meeting a else a))) (sym met)
-      (asks_keep setups q m Unled a (AddBranch (default_end port) (default_home port)))
-  causes_in_keep a (PortManagement port function) met h = tells_keep setups q m Unled a (PortManagement port function) port h
-  causes_in_keep a AllPorts met h = itself setups q m Unled a
-
-  pub clears_last : (ports : List PortNo) (a : Acted) → K a (fold clears_port a ports)
-  clears_last ports a = keeps_fold setups q m Unled clears_port (λ b port. clears_keep setups q m Unled b port) ports a
-
   -- a success, while the switch is met
-  done_lasts : (a : Acted) (request : Request) → Releasing request → a.controller.has_met ≡ true → HasPorts setups a → Lasts a (done a request)
+  done_lasts : (a : Acted) (request : Request) → Releasing setups q m Unled request → a.controller.has_met ≡ true → HasPorts setups a → Lasts a (done a request)
   done_lasts a request led met h =
-      let released : Acted = releases a request in
-      let caused : Acted = causes released request in
-      let k : K a released = releases_keep a request led h in
-      let c : K released caused = on_each (K released) (is_estab released.controller.adjacency.state) (causes_in_estab released request) released
-      (λ estab. causes_in_keep released request (k.stays_met estab met) (moves_ports setups (releases_goes setups a request h) h)) (λ t. itself setups q m Unled released) in
-      lasts_on a (clears caused) (done a request)
-      (of_keeps a (clears caused) (keeps_on setups q m Unled a released (clears caused) k (keeps_on setups q m Unled released caused (clears caused) c (clears_last (ports_of caused.controller) caused))))
-      (changes_last (clears caused))
+      let before : Acted = clears (causes (releases a request) request) in
+      lasts_on a before (done a request) (of_keeps a before (answered_keeps setups q m Unled a request led met h)) (changes_last before)
 
   -- what an answer is to
   done_shaped : (a : Acted) (message : Message) (s : Standing) → HasPorts setups a → answered a.controller.desk message ≡ Done s → a.controller.has_met ≡ true
-      → Releasing s.request → Lasts a (answer_comes a message)
+      → Releasing setups q m Unled s.request → Lasts a (answer_comes a message)
   done_shaped a message s h is met led = subst (λ (x : Answered). Lasts a (takes_answer a x)) (sym is)
       (lasts_on a b (done b s.request) (same_lasts a b refl refl) (done_lasts b s.request led met (record { ports = h.ports; shaped = every_filter (λ (x : Standing). IsShaped setups x.request) (λ (x : Standing). not (x.number == s.number)) a.controller.desk.standing h.shaped })))
     where
@@ -286,7 +229,7 @@ module _ (setups : List Setup) (q m : ℕ) (Unled : End → Type 0) where
       b = with_desk a (without_request a.controller.desk s)
 
   pub answer_lasts : (a : Acted) (message : Message) → HasPorts setups a → a.controller.has_met ≡ true
-      → ((s : Standing) → answered a.controller.desk message ≡ Done s → Releasing s.request) → Lasts a (answer_comes a message)
+      → ((s : Standing) → answered a.controller.desk message ≡ Done s → Releasing setups q m Unled s.request) → Lasts a (answer_comes a message)
   answer_lasts a message h met led = by (answered a.controller.desk message) refl
     where
       by : (x : Answered) → answered a.controller.desk message ≡ x → Lasts a (answer_comes a message)
@@ -297,7 +240,7 @@ module _ (setups : List Setup) (q m : ℕ) (Unled : End → Type 0) where
           (of_keeps _ _ (node_keeps setups q m Unled (with_desk a (after_answer a.controller.desk (Failed s code))))))
 
   told_lasts : (a : Acted) (message : Message) → HasPorts setups a → a.controller.has_met ≡ true
-      → ((s : Standing) → answered a.controller.desk message ≡ Done s → Releasing s.request) → Lasts a (told a message)
+      → ((s : Standing) → answered a.controller.desk message ≡ Done s → Releasing setups q m Unled s.request) → Lasts a (told a message)
   told_lasts a (messages.Adjacency greeting) h met led = steps_last a (gsmp_received a.controller.adjacency greeting)
   told_lasts a (messages.Branch kind result code number session input_port input output_port output branches priority) h met led =
       answer_lasts a (messages.Branch kind result code number session input_port input output_port output branches priority) h met led
@@ -307,13 +250,13 @@ module _ (setups : List Setup) (q m : ℕ) (Unled : End → Type 0) where
   told_lasts a (messages.AllPorts result code number rows) h met led = answer_lasts a (messages.AllPorts result code number rows) h met led
 
   gsmp_lasts : (a : Acted) (r : Result Message Fault) → HasPorts setups a → a.controller.has_met ≡ true
-      → ((message : Message) (s : Standing) → r ≡ Ok message → answered a.controller.desk message ≡ Done s → Releasing s.request) → Lasts a (gsmp_holds a r)
+      → ((message : Message) (s : Standing) → r ≡ Ok message → answered a.controller.desk message ≡ Done s → Releasing setups q m Unled s.request) → Lasts a (gsmp_holds a r)
   gsmp_lasts a (Ok message) h met led = told_lasts a message h met (λ s is. led message s refl is)
   gsmp_lasts a (Err fault) h met led = note_lasts a _
 
   -- by who takes the cells of the channel: at a success of the switch the inputs that it releases aren't among these
   abbrev pub Frees : Acted → Taker → (payload : List ℕ) → Type 0
-  Frees a ForGsmp payload = (message : Message) (s : Standing) → gsmp_decoded payload ≡ Ok message → answered a.controller.desk message ≡ Done s → Releasing s.request
+  Frees a ForGsmp payload = (message : Message) (s : Standing) → gsmp_decoded payload ≡ Ok message → answered a.controller.desk message ≡ Done s → Releasing setups q m Unled s.request
   Frees a (ForDefault linked) payload = Unit {0}
   Frees a (ForLabel linked label) payload = Unit {0}
 

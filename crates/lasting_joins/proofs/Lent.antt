@@ -67,7 +67,7 @@ sent_cases P a channel mark payload p q = on_both (λ (s : Sent Controller). P (
     (record { queues = a.controller; notes = noted (made a.notes mark payload) (Loss mark PoolFull) }) p q
 
 -- *A port's grants*
-abbrev lent_by : Grant → Option End
+abbrev pub lent_by : Grant → Option End
 lent_by grant = grants.input_of grant.state
 
 tells_grants : (w : Work) (message : Unnumbered) → (tells w message).port.grants ≡ w.port.grants

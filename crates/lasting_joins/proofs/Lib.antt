@@ -1,4 +1,5 @@
 pub mod Lent
+pub mod Keeping
 pub mod Lasting
 pub mod Tries
 pub mod Entered

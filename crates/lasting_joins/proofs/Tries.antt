@@ -1,11 +1,10 @@
 -- joins that are tried leave each grant that is lent, and cells do, while the switch stays met
 
-use Rattle.std.proofs.Common.{◌≡◌, ◌≢◌, ℕ, Bool, true, false, List, [], ◌∷◌, ◌++◌, length, Option, None, Some, refl, sym, ◌∙◌, ap, subst, fold, if◌then◌else◌}
+use Rattle.std.proofs.Common.{◌≡◌, ℕ, Bool, true, false, List, [], ◌∷◌, length, Option, None, Some, refl, sym, ◌∙◌, ap, subst, fold, if◌then◌else◌}
 use Rattle.std.specs.Prelude.{◌&&◌, not, nat_lt, is_none, flat_map}
 use Rattle.std.specs.Option.{option_map, option_and_then}
 use Rattle.net_types.specs.declared.channel.End.{End}
 use Rattle.net_types.specs.declared.node.PortNo.{PortNo}
-use Rattle.net_types.specs.declared.number.Mark.{Mark}
 use Rattle.net_types.specs.declared.adjacency.Party.{Party}
 use Rattle.net_types.specs.Label.{number_of_channel, label_number_of}
 use Rattle.atm_cells.specs.declared.cell.Cell.{Cell}
@@ -19,43 +18,39 @@ use Rattle.ipv4_packet.specs.Flow.{next_hop_of}
 use Rattle.ipv4_packet.specs.Parts.{same_flow, flow_destination}
 use Rattle.gsmp_wire.specs.declared.request.Request.TheVariants.{MoveBranch}
 use Rattle.link_model.specs.Notes.{Journal}
-use Rattle.frame_model.specs.Frame.{octets_of, last_mark, payload_in, Tested, tested, tested_by}
+use Rattle.frame_model.specs.Frame.{octets_of, last_mark, payload_in, tested_by}
 use Rattle.frame_model.specs.Reassembly.{Taken, taken, nothing_taken}
 use Rattle.ordered_lists.specs.Ordered.{Every}
-use Rattle.keyed_lists.specs.Keyed.{at, put}
+use Rattle.keyed_lists.specs.Keyed.{at}
 use Rattle.port_model.specs.Desk.{on_input, most_asked}
-use Rattle.port_model.specs.Setup.{Setup, home_of, label_end}
+use Rattle.port_model.specs.Setup.{Setup, home_of}
 use Rattle.port_model.specs.Labels.{Label, Offered, label_number, is_bound}
 use Rattle.port_model.specs.Grants as grants
 use Rattle.port_model.specs.Grants.{Grant, ByController, ByInput, grant_label, grant_for, is_by_controller}
 use Rattle.port_model.specs.Port.{Work, labels_of, label_at}
 use Rattle.port_model.specs.Joins as port_joins
-use Rattle.port_facts.specs.Port.{IsLabelEnd, IsGrant, joins_label}
-use Rattle.port_facts.proofs.Keyed.{on_both, on_each, by_eq, at_every, apart_at, at_put_other}
+use Rattle.port_facts.specs.Port.{IsLabelEnd}
+use Rattle.port_facts.proofs.Keyed.{on_both, on_each, by_eq, apart_at, at_put_other}
 use Rattle.port_facts.proofs.Found.{find_passes}
 use Rattle.port_facts.proofs.Rules.{and_first}
-use Rattle.world_model.specs.Controller.{Acted, Linked, port_key, default_channel, free_slots, linked_at, note, ports_of}
-use Rattle.world_model.specs.Asking.{asks}
+use Rattle.world_model.specs.Controller.{Acted, Linked, port_key, default_channel, free_slots, linked_at, ports_of}
 use Rattle.world_model.specs.Routes.{route_stays}
 use Rattle.world_model.specs.Resets.{begins, with_work, cuts_default_of, cuts_default, cuts_gsmp, node_resets, node_restarts}
 use Rattle.world_model.specs.Performing.{at_port}
 use Rattle.world_model.specs.Joins.{Join, output_of, join_through, join_by, port_by, join_for, is_offered, may_join, enters_grant, enters_label, joins, tries_label, label_on, tries_join, inputs_at, tries_joins}
 use Rattle.world_model.specs.Gsmp.{steps}
 use Rattle.world_model.specs.Controller.{chains_with}
-use Rattle.world_model.specs.Cells.{Taker, ForGsmp, ForDefault, ForLabel, same_channel, label_taker, taker_at, port_on, on_link, reassembly_of, with_reassembly, opened_frame, ends_frame, after_cell, takes_cell, cell_comes}
+use Rattle.world_model.specs.Cells.{Taker, ForGsmp, ForDefault, ForLabel, same_channel, label_taker, taker_at, port_on, on_link, reassembly_of, with_reassembly, opened_frame, ends_frame, takes_cell, cell_comes}
 use Rattle.world_model.specs.Ticks.{sends_again, ticks_ports, ticks_by, ticks}
-use Rattle.controller_facts.proofs.Moves.{HasPorts, Found, Worked, by_joining, by_lending, ages, found_setup, found_at_own, found_port, moves_ports}
+use Rattle.controller_facts.proofs.Moves.{HasPorts, Found, by_joining, by_lending, ages, found_at_own, found_port, moves_ports}
 use Rattle.controller_facts.proofs.Performing.{at_port_goes}
 use Rattle.controller_facts.proofs.Joining.{every_flat_map, each_there, image_is}
-use Rattle.controller_facts.proofs.Entering.{OnPort, on_port, lends_labels, is_offered_by, by_controller, inputs_of_port, tries_join_goes}
+use Rattle.controller_facts.proofs.Entering.{granted_end, OnPort, on_port, lends_labels, is_offered_by, by_controller, inputs_of_port, tries_join_goes}
 use Rattle.controller_facts.proofs.Events.{IsTaker, kept_ports, steps_goes, sends_again_goes, ticks_ports_goes}
 use Rattle.controller_law.specs.Match.{lent_in, lent_at}
 use Rattle.controller_law.proofs.Matched.{here_before, there_now}
-use Rattle.lasting_joins.proofs.Lent.{Keeps, itself, keeps_on, put_keeps, rule_keeps, worked_keeps, asks_keep, node_keeps}
+use Rattle.lasting_joins.proofs.Lent.{Keeps, keeps_on, put_keeps, rule_keeps, worked_keeps, asks_keep, node_keeps, lent_by}
 use Rattle.lasting_joins.proofs.Lasting.{Lasts, of_keeps, lasts_self, lasts_on, lasts_fold, same_lasts, steps_last, again_lasts, ports_last, Frees, frame_lasts}
-
-abbrev lent_by : Grant → Option End
-lent_by grant = grants.input_of grant.state
 
 module _ (setups : List Setup) (q m : ℕ) (Unled : End → Type 0) where
   abbrev K : Acted → Acted → Type 0
@@ -110,13 +105,7 @@ module _ (setups : List Setup) (q m : ℕ) (Unled : End → Type 0) where
       → HasPorts setups a → L a (joins a (Some (record { input = input; port = linked.setup.port; grant = grant })))
   joins_on a input label linked grant end on_it offered found granted sending h =
       let join : Join = record { input = input; port = linked.setup.port; grant = grant } in
-      let output : IsLabelEnd setups (output_of join) = record {
-        setup = linked.setup;
-        number = grant.label;
-        linked = found_setup setups a linked linked.setup.port (h) found;
-        in_range = (at_every grant_label (IsGrant setups linked.setup) grant.label linked.port.grants grant (found_port setups a linked linked.setup.port (h) found).grants granted).in_range;
-        is = refl;
-      } in
+      let output : IsLabelEnd setups (output_of join) = granted_end setups a linked grant h found granted in
       let lends : Acted = enters_grant a join in
       let before : OnPort a.controller.ports input label = on_port a.controller input label on_it in
       let lent_ports : HasPorts setups lends = moves_ports setups (at_port_goes setups a linked.setup.port (λ setup desk w. port_joins.lent w grant input) h

@@ -27,18 +27,18 @@ use Rattle.port_model.specs.Grants.{Grant, ByController, grant_label, grant_for,
 use Rattle.port_model.specs.Port.{labels_of}
 use Rattle.port_model.specs.Saying.{closes}
 use Rattle.port_model.specs.Joins as port_joins
-use Rattle.port_facts.specs.Port.{IsLabelEnd, IsGrant, parts_label, joins_label}
-use Rattle.port_facts.proofs.Keyed.{on_both, at_every, apart_at}
+use Rattle.port_facts.specs.Port.{IsLabelEnd, parts_label, joins_label}
+use Rattle.port_facts.proofs.Keyed.{on_both, apart_at}
 use Rattle.port_facts.proofs.Found.{find_every, find_passes}
 use Rattle.port_facts.proofs.Rules.{and_first}
 use Rattle.world_model.specs.Controller.{Acted, Linked, linked_at, ports_of, note}
 use Rattle.world_model.specs.Routes.{route_stays}
 use Rattle.world_model.specs.Joins.{Join, joins_of, join_of, parts, releases_join, releases_input, released_inputs, resets_spent, releases, output_of, join_through, join_by, port_by, join_for, is_offered, may_join, enters_grant, enters_label, joins, tries_label, label_on, tries_join, inputs_at, tries_joins}
 use Rattle.world_model.specs.Changes.{is_changed, changed_joins, takes_join_back, begins_change, takes_change, may_take, takes_each, takes_changes, change_comes}
-use Rattle.controller_facts.proofs.Moves.{HasPorts, Found, by_closing, by_parting, by_giving_back, by_joining, by_lending, found_setup, found_at_own, found_port}
+use Rattle.controller_facts.proofs.Moves.{HasPorts, Found, by_closing, by_parting, by_giving_back, by_joining, by_lending, found_at_own, found_port}
 use Rattle.controller_facts.proofs.Joining.{every_flat_map, every_filter, IsJoin, joins_are, join_input, join_output, each_there, granted_there, parts_grants, AnyEnd, any_ends, image_is}
 use Rattle.controller_facts.proofs.Performing.{Any, any_ports}
-use Rattle.controller_facts.proofs.Entering.{OnPort, on_port, lends_labels, is_offered_by, by_controller, inputs_of_port}
+use Rattle.controller_facts.proofs.Entering.{granted_end, OnPort, on_port, lends_labels, is_offered_by, by_controller, inputs_of_port}
 use Rattle.quiet_controllers.specs.Quiet.{May, Enters, here, later, entered, entered_for}
 use Rattle.quiet_controllers.proofs.Sending.{Holds, On, ports_of_quiet, same_on}
 use Rattle.quiet_controllers.proofs.Asking.{quiet_fold, asks_on, takes_back_on, at_port_on}
@@ -119,13 +119,7 @@ module _ (setups : List Setup) (Allowed : End → End → Type 0) (controls : �
       → Goes a (joins a (Some (record { input = input; port = linked.setup.port; grant = grant })))
   joins_on a input label linked grant end on offered found granted sending may h =
       let join : Join = record { input = input; port = linked.setup.port; grant = grant } in
-      let output : IsLabelEnd setups (output_of join) = record {
-        setup = linked.setup;
-        number = grant.label;
-        linked = found_setup setups a linked linked.setup.port (ports_in a h) found;
-        in_range = (at_every grant_label (IsGrant setups linked.setup) grant.label linked.port.grants grant (found_port setups a linked linked.setup.port (ports_in a h) found).grants granted).in_range;
-        is = refl;
-      } in
+      let output : IsLabelEnd setups (output_of join) = granted_end setups a linked grant (ports_in a h) found granted in
       let lends : Acted = enters_grant a join in
       let before : OnPort a.controller.ports input label = on_port a.controller input label on in
       asks_on setups Allowed controls frames queue (enters_label lends join) (MoveBranch input (home_of input) (output_of join)) (joins_label input (output_of join) end output) may
