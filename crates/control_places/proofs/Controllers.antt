@@ -33,10 +33,11 @@ use Rattle.world_model.specs.Packets.{inject_refusal}
 use Rattle.world_model.specs.Sending.{with_cells, sends, sends_control, says_gsmp}
 use Rattle.controller_facts.specs.Inputs.{Input, CellComes, PacketEnters, Ticks, Restarts, ChangeComes, FrameIsForged, CellLeaves, Meanwhile, enters_unless, takes_input}
 use Rattle.run_facts.specs.Frames.{IsFree}
-use Rattle.run_facts.proofs.Frames.{made_elsewhere, free_next, free_packet}
+use Rattle.run_facts.proofs.Frames.{free_next, free_packet}
 use Rattle.running_worlds.proofs.MadeCells.{Ends, taken_by}
 use Rattle.run_facts.proofs.Walks.{Has, change_walk, tick_walk, restart_walk}
 use Rattle.control_places.proofs.Coming.{routed_walk, cell_walk}
+use Rattle.shown_cells.proofs.Made.{made_elsewhere}
 
 -- *The payload of a message of GSMP*, read or written
 pub data IsOfGsmp (payload : List ℕ) : Type 0 where

@@ -1,6 +1,6 @@
 -- so it is behind each event that comes, and at the opening
 
-use Rattle.std.proofs.Common.{◌≡◌, ℕ, zero, suc, ◌<◌, ◌≤◌, List, [], ◌∷◌, length, slice_index_or, Option, None, Some, Result, Ok, Err, refl, sym, ◌∙◌, ap, subst, arith, ◌⊎◌, inl, inr}
+use Rattle.std.proofs.Common.{◌≡◌, ℕ, zero, suc, ◌≤◌, List, [], ◌∷◌, Option, None, Some, Result, Ok, Err, refl, sym, ◌∙◌, ap, subst, arith, ◌⊎◌, inl, inr}
 use Rattle.std.specs.Prelude.{Contains, slice_index}
 use Rattle.std.specs.Option.{option_map, option_map_or, option_and_then}
 use Rattle.net_types.specs.declared.node.NodeId.{NodeId}
@@ -48,6 +48,7 @@ use Rattle.run_facts.proofs.Runs.{any_marked}
 use Rattle.run_facts.proofs.Steps.{runs_have_fronts, events_are_steps}
 use Rattle.run_facts.proofs.Grown.{frames_stay}
 use Rattle.run_facts.proofs.Owns.{input_owns}
+use Rattle.run_facts.proofs.Numbers.{some_of}
 use Rattle.running_worlds.proofs.Worlds.{events_true}
 use Rattle.running_worlds.proofs.Kept.{made_kept, given}
 use Rattle.running_worlds.proofs.MadeTame.{controllers_pass, switches_pass}
@@ -61,14 +62,6 @@ use Rattle.control_places.proofs.Events.{event_behind}
 every_of : {A : Type 0} (P : A → Type 0) (xs : List A) → ((x : A) → Contains xs x → P x) → Every P xs
 every_of P [] each = tt
 every_of P (y ∷ ys) each = (each y (zero, omega arith, refl), every_of P ys (λ x c. each x (suc c.0, omega (arith, c.1), c.2)))
-
-some_of : {A : Type 0} (P : A → Type 0) (xs : List A) (x : A) → Every P xs → Contains xs x → P x
-some_of {A} P xs x all c = by xs all c.0 c.1 c.2
-  where
-    by : (ys : List A) → Every P ys → (k : ℕ) → k < length ys → slice_index_or ys k x ≡ x → P x
-    by [] a k low e = absurd (omega (arith, low))
-    by (y ∷ ys) a zero low e = subst P e a.0
-    by (y ∷ ys) a (suc k) low e = by ys a.1 k (omega (arith, low)) e
 
 -- *What was said* is read
 read_in : (o : Option (List ℕ)) (message : Message) → option_and_then gsmp_of o ≡ Some message → (payload : List ℕ) × (o ≡ Some payload) × (decoded payload ≡ Ok message)

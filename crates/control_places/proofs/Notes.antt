@@ -15,6 +15,7 @@ use Rattle.frame_model.specs.Reassembly.{Reassembly, Taken, most_cells, marks_of
 use Rattle.ordered_lists.specs.Ordered.{Every}
 use Rattle.port_facts.proofs.Keyed.{on_both, on_each, every_more}
 use Rattle.world_model.specs.Headline.{is_bad}
+use Rattle.run_facts.proofs.Taking.{IsByLast}
 
 -- *No record is `Bad`*
 abbrev pub IsFair : Record → Type 0
@@ -64,21 +65,17 @@ tested_fair notes cells (Some payload) h = on_both AreFair (is_frame notes.frame
     (note_fair notes (Chance (last_mark cells)) refl h)
 
 -- *A chain is ended* by a last cell
-abbrev EndsByLast : Cell → List Cell → Type 0
-EndsByLast cell [] = Unit {0}
-EndsByLast cell (first ∷ cells) = cell.header.last ≡ true
-
 pub ended_by_last : (notes : Journal) (slot : Bool) (r : Reassembly) (cell first : Cell) (chain : List Cell) → (taken notes slot r cell).ended ≡ first ∷ chain → cell.header.last ≡ true
-ended_by_last notes slot r cell first chain e = subst (EndsByLast cell) e each
+ended_by_last notes slot r cell first chain e = subst (IsByLast cell) e each
   where
     Is : Taken → Type 0
-    Is t = EndsByLast cell t.ended
+    Is t = IsByLast cell t.ended
 
-    any : (cells : List Cell) → cell.header.last ≡ true → EndsByLast cell cells
+    any : (cells : List Cell) → cell.header.last ≡ true → IsByLast cell cells
     any [] last = tt
     any (x ∷ xs) last = last
 
-    each : EndsByLast cell (taken notes slot r cell).ended
+    each : IsByLast cell (taken notes slot r cell).ended
     each = on_both Is r.is_skipping (passed_over notes r cell) _ tt (on_both Is (not slot) (without_slot notes r cell) _ tt
         (on_both Is (nat_le most_cells (length r.chain)) (too_long notes r cell) (joined notes r cell) tt
         (on_each Is cell.header.last (record { reassembly = record r { chain = [] }; notes = notes; ended = r.chain ++ cell ∷ [] }) (record { reassembly = record r { chain = r.chain ++ cell ∷ [] }; notes = notes; ended = [] })

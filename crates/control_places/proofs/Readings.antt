@@ -47,7 +47,7 @@ use Rattle.frame_readings.proofs.Apart.{snaps_apart}
 use Rattle.frame_readings.proofs.Packets.{is_forwarded, is_heard}
 use Rattle.frame_readings.proofs.Reading.{read_label}
 use Rattle.ownership.specs.Places.{IsPlaced, of_gsmp, of_link}
-use Rattle.running_worlds.proofs.Labels.{IsOfLabel, flow_bound}
+use Rattle.running_worlds.proofs.Labels.{IsOfLabel, flow_bound, own_is}
 use Rattle.control_places.proofs.Frames.{IsOfGsmp, IsWhole, IsOfFlow}
 
 -- *GSMP's channel* is of port 0, which no link leads from
@@ -179,13 +179,6 @@ default_can past to last mark payload some default is (plain d e far led packet 
 default_can past to last mark payload some default is (labelled apart far led flow under other packet f carries come newest) as_made made = absurd (cc (default, apart))
 
 -- *A label's channel*
-own_is : (node : NodeId) (port : PortNo) (far : LinkEnd) → own_end node port ≡ Some far → site node port ≡ far
-own_is node port far e = by (port.0 == 0) e
-  where
-    by : (b : Bool) → ◌≡◌ {A = Option LinkEnd} (if b then None else Some (record { node = node; port = port })) (Some far) → site node port ≡ far
-    by true e = absurd (cc e)
-    by false e = (let both : Some (site node port) ≡ Some far = e in cc)
-
 pub label_can : (past : Past) (node : NodeId) (a : Acted) (channel : Channel) (last : Bool) (mark : Mark) (linked : Linked) (label : Label) (payload : List ℕ) → HasBoundLabels node past.records a → IsOfLabel a.controller channel linked label
     → Means past (heading_at past.topology (Up node) channel) last mark → payload_of (frames_of past) mark ≡ Some payload → IsOfFlow label payload
 label_can past node a channel last mark linked label payload bound is (early same e n) made = absurd (cc (is.other, same))

@@ -30,18 +30,19 @@ use Rattle.world_model.specs.World.{World, Site, site_at, controller_acts, at_co
 use Rattle.world_model.specs.Places.{place_node, queue_at, with_queue_in, with_queue_of, with_queue}
 use Rattle.world_model.specs.Step.{injects_by, arrives_at, carries_head, loses_head, acts}
 use Rattle.world_views.specs.Shown.{acting}
-use Rattle.running_worlds.proofs.MadeSites.{put_found, switching}
+use Rattle.running_worlds.proofs.MadeSites.{put_found}
 use Rattle.control_places.proofs.Notes.{AreFair, note_fair}
 use Rattle.control_places.proofs.RefusedWalks.{ticks_fair, node_restarts_fair, change_comes_fair}
 use Rattle.control_places.proofs.Frames.{EndsRight, taken_by, injected_fair, cell_fair}
 use Rattle.control_places.proofs.RefusedSwitches as switch
+use Rattle.input_events.proofs.Acting.{beside}
 
 -- *What is asked of an event*: each frame that a cell ends can be read, and no cell comes over a link to port 0
 abbrev pub UpRight : World → NodeId → Cell → Type 0
 UpRight v node cell = (site : Site) → site_at v node ≡ Some site → (taker : Taker) → taker_of site.controller cell.header.channel ≡ Some taker → EndsRight taker (taken_by (acting v site) taker cell).ended
 
 abbrev pub DownRight : World → NodeId → Cell → Type 0
-DownRight v node cell = (site : Site) → site_at v node ≡ Some site → conduct.is_gsmp control_port cell.header.channel ≡ true → switch.EndsRight (switch.taken_by (switching v site) cell).ended
+DownRight v node cell = (site : Site) → site_at v node ≡ Some site → conduct.is_gsmp control_port cell.header.channel ≡ true → switch.EndsRight (switch.taken_by (beside v site) cell).ended
 
 abbrev pub IsRight : Topology → World → Event → Type 0
 IsRight topology v (Carry (Down node)) = (cell : Cell) (cells : List Cell) → queue_at v (Down node) ≡ cell ∷ cells → DownRight v node cell
@@ -58,7 +59,7 @@ controller_fair u node act h each = by (site_at u node) refl
     by None found = h
     by (Some site) found = each site found
 
-switch_fair : (u : World) (node : NodeId) (act : switches.Acted → switches.Acted) → AreFair u.notes → ((site : Site) → site_at u node ≡ Some site → AreFair (act (switching u site)).notes) → AreFair (at_switch u node act).notes
+switch_fair : (u : World) (node : NodeId) (act : switches.Acted → switches.Acted) → AreFair u.notes → ((site : Site) → site_at u node ≡ Some site → AreFair (act (beside u site)).notes) → AreFair (at_switch u node act).notes
 switch_fair u node act h each = by (site_at u node) refl
   where
     by : (o : Option Site) → site_at u node ≡ o → AreFair (switch_acts u o act).notes
@@ -96,7 +97,7 @@ module _ (topology : Topology) (v : World) (h : AreFair v.notes) where
 
   -- to the switch
   comes_down : (node : NodeId) (cell : Cell) (cells : List Cell) → DownRight v node cell → (o : Option Site) → site_at v node ≡ o → AreFair (at_switch (with_queue_of v (Down node) cells o) node (λ a. conduct.cell_comes a control_port cell)).notes
-  comes_down node cell cells right None found = switch_fair v node (λ a. conduct.cell_comes a control_port cell) h (λ site there. switch.cell_fair (switching v site) control_port cell (right site there) h)
+  comes_down node cell cells right None found = switch_fair v node (λ a. conduct.cell_comes a control_port cell) h (λ site there. switch.cell_fair (beside v site) control_port cell (right site there) h)
   comes_down node cell cells right (Some old) found = switch_fair (with_queue_of v (Down node) cells (Some old)) node (λ a. conduct.cell_comes a control_port cell) h
       (λ site there. elim (put_found (with_queue_in old (Down node) cells) v.sites node.0 site there) [
         | inl same ↦ subst Comes same (comes old found)
@@ -104,10 +105,10 @@ module _ (topology : Topology) (v : World) (h : AreFair v.notes) where
       ])
     where
       Comes : Site → Type 0
-      Comes site = AreFair (conduct.cell_comes (switching v site) control_port cell).notes
+      Comes site = AreFair (conduct.cell_comes (beside v site) control_port cell).notes
 
-      comes : (site : Site) → site_at v node ≡ Some site → AreFair (conduct.cell_comes (switching v site) control_port cell).notes
-      comes site was = switch.cell_fair (switching v site) control_port cell (right site was) h
+      comes : (site : Site) → site_at v node ≡ Some site → AreFair (conduct.cell_comes (beside v site) control_port cell).notes
+      comes site was = switch.cell_fair (beside v site) control_port cell (right site was) h
 
   -- over a link: it isn't of GSMP's channel
   away : (port : PortNo) (rest : Bool) → 1 ≤ port.0 → ((port.0 == 0) && rest) ≡ true → ⊥
@@ -119,7 +120,7 @@ module _ (topology : Topology) (v : World) (h : AreFair v.notes) where
   comes_over : (place : Place) (cell : Cell) (cells : List Cell) (o : Option LinkEnd) → ((far : LinkEnd) → o ≡ Some far → 1 ≤ far.port.0) → AreFair (arrives_at (with_queue v place cells) cell o).notes
   comes_over place cell cells None above = popped place cells
   comes_over place cell cells (Some far) above = switch_fair (with_queue v place cells) far.node (λ a. conduct.cell_comes a far.port cell) (popped place cells)
-      (λ site found. switch.cell_fair (switching (with_queue v place cells) site) far.port cell (λ g. absurd (away far.port _ (above far refl) g)) (popped place cells))
+      (λ site found. switch.cell_fair (beside (with_queue v place cells) site) far.port cell (λ g. absurd (away far.port _ (above far refl) g)) (popped place cells))
 
   carries_down : (node : NodeId) (queue : List Cell) → queue_at v (Down node) ≡ queue → IsRight topology v (Carry (Down node)) → AreFair (carries_head topology v (Down node) queue).notes
   carries_down node [] is right = h
@@ -149,8 +150,8 @@ module _ (topology : Topology) (v : World) (h : AreFair v.notes) where
   event_fair (Carry place) right = carries place right
   event_fair (Lose place) right = loses place (queue_at v place)
   event_fair (Tick node) right = controller_fair v node ticks h (λ site found. ticks_fair (acting v site) h)
-  event_fair (TickSwitch node) right = switch_fair v node conduct.tick_comes h (λ site found. switch.ticks_fair (switching v site) h)
+  event_fair (TickSwitch node) right = switch_fair v node conduct.tick_comes h (λ site found. switch.ticks_fair (beside v site) h)
   event_fair (Restart node) right = controller_fair v node node_restarts h (λ site found. node_restarts_fair (acting v site) h)
-  event_fair (RestartSwitch node) right = switch_fair v node conduct.restarted h (λ site found. switch.restarts_fair (switching v site) h)
+  event_fair (RestartSwitch node) right = switch_fair v node conduct.restarted h (λ site found. switch.restarts_fair (beside v site) h)
   event_fair (Forge place channel payload) right = absurd right
   event_fair (Route node change) right = controller_fair v node (λ a. change_comes a change) h (λ site found. change_comes_fair (acting v site) change h)

@@ -33,7 +33,6 @@ use Rattle.run_facts.proofs.Takers.{gsmp_of}
 use Rattle.actor_pace.proofs.Cells.{ended_last}
 use Rattle.running_worlds.proofs.Labels.{of_label}
 use Rattle.running_worlds.proofs.Made.{up, down}
-use Rattle.running_worlds.proofs.MadeSites.{switching}
 use Rattle.running_worlds.proofs.Kept.{given}
 use Rattle.control_places.specs.Refused.{NothingIsRefused}
 use Rattle.control_places.proofs.Notes.{none_bad, ended_by_last}
@@ -41,6 +40,7 @@ use Rattle.control_places.proofs.Frames.{IsOfGsmp, EndsRight, CanBeRead, taken_b
 use Rattle.control_places.proofs.RefusedSwitches as switch
 use Rattle.control_places.proofs.Readings.{no_peer, no_end, gsmp_can, IsOfDefault, of_default, some_end, default_can, label_can}
 use Rattle.control_places.proofs.RefusedEvents.{IsRight, event_fair}
+use Rattle.input_events.proofs.Acting.{beside}
 
 module _ (policy : Policy) (topology : Topology) (before : List Event) (world : IsWorld (past_of policy topology before)) (places : HasPlaces (past_of policy topology before)) where
   abbrev past : Past
@@ -97,9 +97,9 @@ module _ (policy : Policy) (topology : Topology) (before : List Event) (world : 
       gsmp_can past (heading_at topology (Down node) cell.header.channel) node cell payload away away last (world.meanings (Down node) cell front.can.meant there) (places node front.can.meant cell (inl there)) made
 
   down_right : (node : NodeId) → Comes policy topology before (Carry (Down node)) → IsRight topology v (Carry (Down node))
-  down_right node c cell cells queue site found gsmp = by (switch.taken_by (switching v site) cell).ended refl
+  down_right node c cell cells queue site found gsmp = by (switch.taken_by (beside v site) cell).ended refl
     where
-      by : (ended : List Cell) → (switch.taken_by (switching v site) cell).ended ≡ ended → switch.EndsRight ended
+      by : (ended : List Cell) → (switch.taken_by (beside v site) cell).ended ≡ ended → switch.EndsRight ended
       by [] e = tt
       by (first ∷ chain) e = λ payload ok. read_down node c cell cells payload queue gsmp
           (ended_by_last v.notes (nat_lt 0 (switches.free_slots site.switch)) site.switch.reassembly cell first chain e)

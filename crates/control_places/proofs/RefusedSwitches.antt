@@ -26,7 +26,7 @@ use Rattle.link_model.specs.declared.record.Cause.TheVariants.{PoolFull, Cut, Un
 use Rattle.link_model.specs.Notes.{Journal, noted}
 use Rattle.frame_model.specs.Sending.{Sent}
 use Rattle.frame_model.specs.Frame.{frame_cells, made, octets_of, payload_in, tested_by}
-use Rattle.frame_model.specs.Reassembly.{Taken, taken}
+use Rattle.frame_model.specs.Reassembly.{Taken}
 use Rattle.port_facts.proofs.Keyed.{on_both, on_each}
 use Rattle.crossbar_model.specs.declared.branch.Branch.{Branch}
 use Rattle.crossbar_model.specs.declared.routed.Routed.{Routed}
@@ -41,6 +41,7 @@ use Rattle.world_model.specs.Answers.{Handled, handled, handled_asked, handled_b
 use Rattle.world_model.specs.Conduct.{with_cells, says, answers, steps, replied, requested, told, read, after_test, ends_frame, gsmp_cell, passed, switched_cell, is_gsmp, cell_comes, tick_comes, restarted}
 use Rattle.control_places.proofs.Notes.{AreFair, note_fair, cut_fair, taken_fair, tested_fair}
 use Rattle.control_places.proofs.Frames.{IsOfGsmp}
+pub use Rattle.running_worlds.proofs.Switch.{taken_by}
 
 -- *No record is `Bad`* of a switch at work
 abbrev pub Has : Acted → Type 0
@@ -130,9 +131,6 @@ ends_fair a [] can h = h
 ends_fair a (cell ∷ cells) can h = test_fair a (cell ∷ cells) (payload_in (octets_of (cell ∷ cells))) can h
 
 -- *A cell comes*
-abbrev pub taken_by : Acted → Cell → Taken
-taken_by a cell = taken a.notes (nat_lt 0 (free_slots a.switch)) a.switch.reassembly cell
-
 gsmp_fair : (a : Acted) (cell : Cell) → EndsRight (taken_by a cell).ended → Has a → Has (gsmp_cell a cell)
 gsmp_fair a cell ends h =
     let t : Taken = taken_by a cell in

@@ -22,9 +22,10 @@ use Rattle.world_model.specs.Places.{place_node, queue_in, queue_at, with_queue_
 use Rattle.world_views.specs.Shown.{acting}
 use Rattle.run_facts.specs.Inputs.{SwitchInput, switch_takes}
 use Rattle.run_facts.specs.Frames.{IsFree, Stay}
-use Rattle.running_worlds.proofs.MadeSites.{Sited, put_sited, switching}
+use Rattle.running_worlds.proofs.MadeSites.{Sited, put_sited}
 use Rattle.control_places.proofs.Controllers.{AreRight, rights_later, IsGiven, input_right}
 use Rattle.control_places.proofs.Switches.{LeadsHome, queue_set, switch_good}
+use Rattle.input_events.proofs.Acting.{beside}
 
 module _ (t : Topology) where
   abbrev pub LinkedTo : NodeId → PortNo → Type 0
@@ -89,12 +90,12 @@ module _ (t : Topology) where
       by : (o : Option Site) → site_at u here ≡ o → Stay u.notes.frames (switch_acts u o (λ a. switch_takes a input)).notes.frames → Behind (switch_acts u o (λ a. switch_takes a input))
       by None found stay = unchanged u h
       by (Some site) found stay =
-          let b : switches.Acted = switch_takes (switching u site) input in
+          let b : switches.Acted = switch_takes (beside u site) input in
           let k : IsBefore u.notes.frames site = h here site found in
           put_sited (IsAfter b.notes.frames) (record site { switch = b.switch }) u.sites
           (record {
             down = (later u.notes.frames b.notes.frames stay site k).down;
-            up = switch_good (LinkedTo site.controller.node) (switching u site) input k.leads (free, k.up);
+            up = switch_good (LinkedTo site.controller.node) (beside u site) input k.leads (free, k.up);
           }) (λ n x e. later u.notes.frames b.notes.frames stay x (h n x e))
 
   -- *A queue loses its head*

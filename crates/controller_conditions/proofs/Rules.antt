@@ -1,14 +1,13 @@
 -- each rule of a port can be done where its controller comes to it: ticks, what is heard, counted and answered, and the
 -- reset of a port whose numbers are spent
 
-use Rattle.std.proofs.Common.{◌≡◌, ℕ, Bool, true, false, List, [], ◌∷◌, Some, refl, sym, ◌∙◌, ap, subst, if◌then◌else◌, fold, arith}
+use Rattle.std.proofs.Common.{◌≡◌, ℕ, Bool, true, false, List, [], ◌∷◌, Some, refl, sym, ◌∙◌, ap, subst, if◌then◌else◌, fold}
 use Rattle.std.specs.Prelude.{nat_eq}
 use Rattle.net_types.specs.declared.node.PortNo.{PortNo}
 use Rattle.net_types.specs.declared.prefix.Addr.{Addr}
 use Rattle.adjacency_table.specs.Side.{is_estab}
 use Rattle.gsmp_wire.specs.declared.request.Request.{Request}
 use Rattle.ifmp_wire.specs.declared.message.Message.{Message}
-use Rattle.ifmp_wire.specs.declared.message.Message.TheVariants.{Adjacency, Redirect, Reclaim, ReclaimAck, LabelRange, Error}
 use Rattle.ifmp_wire.specs.Message.{InRange}
 use Rattle.keyed_lists.specs.Keyed.{at, put}
 use Rattle.port_model.specs.Setup.{Setup}
@@ -17,7 +16,7 @@ use Rattle.port_model.specs.Hearing.{hears}
 use Rattle.port_model.specs.Ticks as port_ticks
 use Rattle.port_model.specs.Counting.{counts}
 use Rattle.port_model.specs.Answers as port_answers
-use Rattle.port_facts.specs.Port.{IsShut, Lives}
+use Rattle.port_facts.specs.Port.{IsShut}
 use Rattle.port_facts.proofs.Rules.{counts_goes, done_goes}
 use Rattle.port_facts.proofs.Hearings.{hears_goes, ticks_goes}
 use Rattle.port_facts.proofs.Steps as steps_of
@@ -30,7 +29,7 @@ use Rattle.world_model.specs.Joins.{resets_spent}
 use Rattle.world_model.specs.Ticks.{ticks_port}
 use Rattle.controller_facts.proofs.Moves.{by_rule, Moves, stays, further, moves_ports, HasPorts, found_at_own, found_port}
 use Rattle.controller_facts.proofs.Performing.{at_port_goes}
-use Rattle.controller_law.proofs.Actions.{asks_what_can_be_done}
+use Rattle.controller_law.proofs.Actions.{asks_what_can_be_done, heard_anyway}
 use Rattle.controller_law.proofs.Holding.{live_met}
 use Rattle.controller_law.proofs.Performing.{at_port_holds}
 use Rattle.controller_law.proofs.Ordering.{same_number}
@@ -40,15 +39,6 @@ use Rattle.controller_conditions.specs.Kept.{AreLinks, AreIn}
 use Rattle.controller_conditions.proofs.Ready.{in_before, Ready, ready_by, ready_ports, fresh_port}
 use Rattle.controller_conditions.proofs.Doing.{can_reset_port}
 use Rattle.controller_conditions.proofs.Working.{can_work}
-
--- a message in range, of any channel
-pub heard_anyway : (message : Message) → InRange message → Lives message
-heard_anyway (Adjacency hello) r = tt
-heard_anyway (Redirect sender peer number lifetime channel flow) r = (omega (arith, r.0), tt, r.2)
-heard_anyway (Reclaim sender peer number channel flow) r = (tt, r.1)
-heard_anyway (ReclaimAck sender peer number channel flow) r = tt
-heard_anyway (LabelRange sender peer number least greatest) r = tt
-heard_anyway (Error sender peer number code channel) r = tt
 
 -- *A port that is put back as it stands* changes nothing
 put_itself : {A : Type 0} (key : A → ℕ) (x : A) (xs : List A) → at key (key x) xs ≡ Some x → put key x xs ≡ xs

@@ -32,16 +32,12 @@ use Rattle.controller_law.proofs.Asked.{MayActs, IsLast, IsNoReset, AsksNoBranch
 use Rattle.controller_law.proofs.Resetting.{goes_silent}
 use Rattle.controller_law.proofs.Ordering.{same_number}
 use Rattle.controller_law.proofs.Holding.{placed_holds, joined_at}
-use Rattle.controller_law.proofs.Performing.{Fits}
+use Rattle.controller_law.proofs.Performing.{Fits, every_given}
 use Rattle.controller_law.proofs.Steady.{Steady, at_port_steady}
 use Rattle.router.specs.Conditions.{CanDo, CanPerform, EachCanBePerformed, CanWork}
 use Rattle.controller_conditions.specs.Kept.{AreLinks, AreIn}
 use Rattle.controller_conditions.proofs.Ready.{in_before, Ready, ready_by, ready_ports}
 use Rattle.controller_conditions.proofs.Doing.{fold_last, can_do, Begun, After, MayNow, Done, nothing_done, one_done, ready_after, can_reset_port}
-
-every_given : {A : Type 0} (C : Type 0) (Q : A → Type 0) (xs : List A) → (C → Every Q xs) → Every (λ x. C → Q x) xs
-every_given C Q [] h = tt
-every_given C Q (x ∷ xs) h = ((λ c. (h c).0), every_given C Q xs (λ c. (h c).1))
 
 abbrev Never : PortNo → Type 0
 Never port = ⊥

@@ -31,7 +31,7 @@ every_at_place P (y ∷ xs) x all zero low e = subst P e all.0
 every_at_place P (y ∷ xs) x all (suc k) low e = every_at_place P xs x all.1 k (omega (arith, low)) e
 
 -- *A lent grant* that is found by its output
-join_found : (c : Controller) (input output : End) → lent_at c.ports output.port.0 (number_of_channel output.channel) ≡ Some input → IsJoin c input output
+pub join_found : (c : Controller) (input output : End) → lent_at c.ports output.port.0 (number_of_channel output.channel) ≡ Some input → IsJoin c input output
 join_found c input output = by_port (linked_at c output.port) refl
   where
     by_grant : (linked : Linked) → linked_at c output.port ≡ Some linked → (o : Option Grant) → at grant_label (number_of_channel output.channel) linked.port.grants ≡ o

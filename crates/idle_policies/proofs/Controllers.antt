@@ -7,13 +7,9 @@ use Rattle.net_types.specs.declared.node.PortNo.{PortNo}
 use Rattle.net_types.specs.declared.prefix.Addr.{Addr}
 use Rattle.net_types.specs.declared.channel.Channel.{Channel}
 use Rattle.net_types.specs.declared.number.Mark.{Mark}
-use Rattle.net_types.specs.declared.adjacency.Greeting.{Greeting}
-use Rattle.net_types.specs.declared.adjacency.Party.{Party}
 use Rattle.net_types.specs.Number.{next_control, with_control}
-use Rattle.adjacency_table.specs.declared.message.Answer.{Answer}
-use Rattle.adjacency_table.specs.declared.message.Answer.TheVariants.{Quiet, Send, Open, Reset}
-use Rattle.adjacency_table.specs.Side.{Step, is_estab}
-use Rattle.adjacency_table.specs.Greeting.{gsmp_answer, gsmp_received}
+use Rattle.adjacency_table.specs.Side.{is_estab}
+use Rattle.adjacency_table.specs.Greeting.{gsmp_received}
 use Rattle.ipv4_packet.specs.Packet.{protocol_of, source_of, first_fault}
 use Rattle.ipv4_packet.specs.Flow.{kind_of}
 use Rattle.ipv4_packet.specs.declared.validate.PacketFault.{PacketFault}
@@ -49,21 +45,22 @@ use Rattle.port_model.specs.Labels.{Label}
 use Rattle.port_model.specs.Setup.{control_end}
 use Rattle.port_facts.proofs.Keyed.{on_both, at_every, every_more}
 use Rattle.world_model.specs.Controller.{Acted, Linked, port_key, ports_of, with_desk, note, default_home}
-use Rattle.world_model.specs.Sending.{with_cells, sends, sends_control, says_gsmp}
+use Rattle.world_model.specs.Sending.{with_cells, sends, sends_control}
 use Rattle.world_model.specs.Resets.{begins}
 use Rattle.world_model.specs.Packets.{is_control, sends_next, goes_by, grant_by, forwarded, routes, control_protocol}
 use Rattle.world_model.specs.Joins.{releases}
 use Rattle.world_model.specs.Meeting.{port_of_input, causes_in_estab, causes, clears, done, answers_desk, answer_comes}
-use Rattle.world_model.specs.Gsmp.{answers, steps, told, gsmp_holds}
+use Rattle.world_model.specs.Gsmp.{told, gsmp_holds}
 use Rattle.world_model.specs.Cells.{Taker, ForGsmp, ForDefault, ForLabel, label_holds, ifmp_holds, counted_at, packet_holds, default_holds, frame_holds, opened_frame}
 use Rattle.world_model.specs.Headline.{OffersNothing}
 use Rattle.controller_views.proofs.Sends.{sent_cases}
 use Rattle.port_words.specs.Words.{Terms, IsSent, waited, IsNoted, IsSteadyAt, IsSteadily, IsMade, was_made}
 use Rattle.port_words.proofs.Rules.{used_v}
 use Rattle.port_words.proofs.Hearing.{hears_v}
-use Rattle.port_words.proofs.Sending.{note_h, gsmp_h}
+use Rattle.port_words.proofs.Sending.{note_h}
 use Rattle.port_words.proofs.Performing.{node_h, at_port_h}
-use Rattle.port_words.proofs.Joining.{releases_h, causes_h, clears_h, takes_changes_h, empties_h, meets_h}
+use Rattle.port_words.proofs.Joining.{releases_h, causes_h, clears_h, takes_changes_h, empties_h}
+use Rattle.port_words.proofs.Events.{steps_h}
 use Rattle.idle_policies.proofs.Ports.{idle_terms, agrees, counts_i, added_i}
 
 -- a port's policy offers nothing
@@ -131,23 +128,6 @@ module _ (node : NodeId) (address : Addr) where
       by Expired = note_i a _ tt h
       by (On port) = on_i port (grant_by a.controller port (onward packet))
 
-  -- *The adjacency with the switch*
-  steps_i : (a : Acted) (step : Step Party) → H a → H (steps a step)
-  steps_i a step h = by (gsmp_answer step.answer)
-    where
-      turned : Acted
-      turned = record a { controller = record a.controller { adjacency = step.side } }
-
-      k : H turned
-      k = record { address = h.address; ports = h.ports; cells = h.cells; records = h.records; frames = h.frames }
-
-      by : (answer : Answer Greeting Party) → H (answers turned answer)
-      by Quiet = k
-      by (Send greeting) = gsmp_h t turned (messages.Adjacency greeting) k
-      by (Open None own) = meets_h t turned k
-      by (Open (Some greeting) own) = meets_h t (says_gsmp turned (messages.Adjacency greeting)) (gsmp_h t turned (messages.Adjacency greeting) k)
-      by Reset = node_h t turned k
-
   -- *Answers of the switch*
   caused_i : (a : Acted) (request : Request) → H a → H (causes a request)
   caused_i a (AddBranch input output) h = on_both H (is_estab a.controller.adjacency.state) (causes_in_estab a (AddBranch input output)) a
@@ -177,7 +157,7 @@ module _ (node : NodeId) (address : Addr) where
       by (Failed s code) = node_h t (with_desk a (after_answer a.controller.desk (Failed s code))) (at_desk (Failed s code))
 
   told_i : (a : Acted) (message : Message) → H a → H (told a message)
-  told_i a (messages.Adjacency greeting) h = steps_i a (gsmp_received a.controller.adjacency greeting) h
+  told_i a (messages.Adjacency greeting) h = steps_h t a (gsmp_received a.controller.adjacency greeting) h
   told_i a (messages.Branch kind result code number session input_port input output_port output branches priority) h =
       answer_i a (messages.Branch kind result code number session input_port input output_port output branches priority) h
   told_i a (messages.Move result code number session input_port input output_port output target_port target branches priority) h =

@@ -1,9 +1,8 @@
 -- nothing else of an input is left once a request that led it home was answered
 
-use Rattle.std.proofs.Common.{◌≡◌, ◌≢◌, ℕ, zero, suc, ◌<◌, ◌≤◌, Bool, true, false, List, [], ◌∷◌, ◌++◌, length, Option, None, Some, refl, sym, ◌∙◌, ap, subst, arith, Contains, slice_index_or, ◌⊎◌, inl, inr, if◌then◌else◌}
-use Rattle.std.specs.Prelude.{◌==◌, ◌&&◌, not, filter, find, is_some}
+use Rattle.std.proofs.Common.{◌≡◌, ℕ, zero, suc, ◌<◌, Bool, true, false, List, [], ◌∷◌, ◌++◌, Option, None, Some, refl, sym, ◌∙◌, ap, subst, arith, Contains, ◌⊎◌, inl, inr, if◌then◌else◌}
+use Rattle.std.specs.Prelude.{◌==◌, not, filter, is_some}
 use Rattle.std.specs.Option.{option_and_then}
-use Rattle.std.proofs.lemmas.Bool.Decides.{nat_tests}
 use Rattle.net_types.specs.declared.channel.End.{End}
 use Rattle.net_types.specs.declared.node.NodeId.{NodeId}
 use Rattle.net_types.specs.Number.{GivenOut}
@@ -18,7 +17,8 @@ use Rattle.gsmp_wire.specs.declared.request.Request.TheVariants.{AddBranch, Move
 use Rattle.crossbar_model.specs.Crossbar.{same_end, output_of}
 use Rattle.link_model.specs.declared.frames.Frame.{Frame}
 use Rattle.link_model.specs.Ledger.{payload_of}
-use Rattle.ordered_lists.specs.Ordered.{Every, InOrder}
+use Rattle.ordered_lists.specs.Ordered.{Every}
+use Rattle.ordered_lists.proofs.Every.{every_right}
 use Rattle.port_model.specs.Desk.{Standing}
 use Rattle.port_model.specs.Requests.{leads_home}
 use Rattle.port_model.specs.DeskAnswers.{without_request}
@@ -29,20 +29,19 @@ use Rattle.controller_law.proofs.Asked.{same_end_itself}
 use Rattle.controller_law.proofs.Matched.{end_is}
 use Rattle.branch_line.specs.Words as lines
 use Rattle.branch_line.specs.Words.{OnInput, Elsewhere, Copy, ControllerGreets, asked_branch, ToSwitch}
-use Rattle.branch_line.specs.Line.{Line, Asked, Apart, Unasked, Stands as StandsAsked, Answered, Met, way_to_switch}
-use Rattle.branch_line.specs.Law.{IsReached, IsSettled, IsSettledInEstab, IsOfTheLast, IsAskedFor, IsEmptied, IsEmptyWhenMet}
+use Rattle.branch_line.specs.Line.{Asked, Apart, Unasked, Stands as StandsAsked, Answered, way_to_switch}
+use Rattle.branch_line.specs.Law.{IsSettled, IsSettledInEstab, IsOfTheLast, IsAskedFor}
 use Rattle.branch_line.proofs.Reached.{holds_reached}
-use Rattle.branch_line.proofs.Runs.{always_lem, settled_lem, emptied_lem}
+use Rattle.branch_line.proofs.Runs.{always_lem, settled_lem}
 use Rattle.world_model.specs.World.{Site}
-use Rattle.world_model.specs.Ways.{gsmp_of, gsmp_under, copy_of, copy_under}
+use Rattle.world_model.specs.Ways.{gsmp_of, copy_of, copy_under}
 use Rattle.world_model.specs.Users.{leads}
-use Rattle.shown_cells.specs.Seen.{Seen, Nothing, Word, Unknown, Shows, nothing, hidden, word}
-use Rattle.input_views.specs.Words.{erased, seen_request, seen_copy, seen_on_gsmp, seen_cell, own_request, word_of, word_by, type_of, own_of, is_own}
+use Rattle.shown_cells.specs.Seen.{Seen, Nothing, Word, Shows, nothing, hidden, word}
+use Rattle.input_views.specs.Words.{erased, seen_request, seen_copy, seen_on_gsmp, seen_cell, own_request, word_by, type_of, own_of, is_own}
 use Rattle.input_views.specs.Shown.{controller_of, switch_of, AskedShows}
-use Rattle.input_steps.specs.Part.{Part, part_at, IsNumbered, IsEarlier, Stands}
 use Rattle.input_steps.specs.Asking.{concerns, on_input}
-use Rattle.input_steps.specs.Meeting.{met_after, AfterAnswer, answered_part}
 use Rattle.joined_worlds.proofs.Answered.{IsBehind}
+use Rattle.port_facts.proofs.Rules.{and_second, and_first}
 
 -- *A request that leads home*, as its input's line has it
 abbrev pub IsHomely : lines.InputRequest → Type 0
@@ -51,19 +50,11 @@ IsHomely (lines.MoveBranch from to) = to.port.0 ≡ 0
 IsHomely lines.DeleteTree = Unit {0}
 IsHomely lines.DeleteAll = Unit {0}
 
-first_true : (a b : Bool) → (a && b) ≡ true → a ≡ true
-first_true true b e = refl
-first_true false b e = absurd (cc e)
-
-second_true : (a b : Bool) → (a && b) ≡ true → b ≡ true
-second_true true b e = e
-second_true false b e = absurd (cc e)
-
 pub home_request : (input : End) (request : Request) → leads_home input (home_of input) request ≡ true → (concerns input request ≡ true) × IsHomely (on_input request)
 home_request input (AddBranch i o) e = absurd (cc e)
 home_request input (MoveBranch i from to) e =
-    let same : i ≡ input = end_is i input (first_true (same_end i input) (same_end to (home_of input)) e) in
-    let home : to ≡ home_of input = end_is to (home_of input) (second_true (same_end i input) (same_end to (home_of input)) e) in
+    let same : i ≡ input = end_is i input (and_first (same_end i input) (same_end to (home_of input)) e) in
+    let home : to ≡ home_of input = end_is to (home_of input) (and_second (same_end i input) (same_end to (home_of input)) e) in
     (subst (λ (x : End). same_end input x ≡ true) (sym same) (same_end_itself input), ap (λ (x : End). x.port.0) home)
 home_request input (DeleteTree i) e = (subst (λ (x : End). same_end input x ≡ true) (sym (end_is i input e)) (same_end_itself input), tt)
 home_request input (VerifyTree i) e = absurd (cc e)
@@ -115,10 +106,6 @@ in_cells P c (word e rest) all (suc k, low, is) = in_cells P c rest all.1 (k, om
 every_left : {A : Type 0} (P : A → Type 0) (xs ys : List A) → Every P (xs ++ ys) → Every P xs
 every_left P [] ys all = tt
 every_left P (x ∷ xs) ys all = (all.0, every_left P xs ys all.1)
-
-every_right : {A : Type 0} (P : A → Type 0) (xs ys : List A) → Every P (xs ++ ys) → Every P ys
-every_right P [] ys all = all
-every_right P (x ∷ xs) ys all = every_right P xs ys all.1
 
 -- a copy is seen as one
 module _ (node : NodeId) (input : End) where

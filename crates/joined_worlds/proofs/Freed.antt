@@ -1,13 +1,13 @@
 -- what an answer of the switch leaves of an input that it leads home: nothing by which it is led to a label
 
-use Rattle.std.proofs.Common.{◌≡◌, ℕ, zero, suc, ◌<◌, Bool, true, false, List, [], ◌∷◌, ◌++◌, length, Option, None, Some, refl, sym, ◌∙◌, ap, subst, arith, Contains, ◌⊎◌, inl, inr, if◌then◌else◌}
+use Rattle.std.proofs.Common.{◌≡◌, ℕ, ◌<◌, Bool, true, false, List, [], ◌∷◌, Option, None, Some, refl, sym, ◌∙◌, ap, subst, arith, Contains, if◌then◌else◌}
 use Rattle.std.specs.Prelude.{◌==◌, ◌&&◌, ◌||◌, not, filter, find}
 use Rattle.std.specs.List.{list_any}
-use Rattle.std.specs.Option.{option_and_then, option_map_or}
+use Rattle.std.specs.Option.{option_and_then}
 use Rattle.std.proofs.lemmas.Bool.Decides.{nat_tests}
 use Rattle.net_types.specs.declared.channel.End.{End}
 use Rattle.net_types.specs.declared.node.NodeId.{NodeId}
-use Rattle.net_types.specs.declared.node.Place.TheVariants.{Down, Up}
+use Rattle.net_types.specs.declared.node.Place.TheVariants.{Down}
 use Rattle.net_types.specs.Label.{number_of_channel}
 use Rattle.atm_cells.specs.declared.cell.Cell.{Cell}
 use Rattle.adjacency_table.specs.Side.{is_estab}
@@ -18,16 +18,17 @@ use Rattle.gsmp_wire.specs.declared.request.Request.{Request}
 use Rattle.gsmp_wire.specs.declared.request.Request.TheVariants.{AddBranch, MoveBranch, DeleteTree, VerifyTree, DeleteAll, PortManagement, AllPorts}
 use Rattle.ordered_lists.specs.Ordered.{Every, InOrder}
 use Rattle.link_model.specs.Ledger.{payload_of}
-use Rattle.crossbar_model.specs.Crossbar.{queue_of, output_of}
+use Rattle.crossbar_model.specs.Crossbar.{queue_of}
 use Rattle.port_model.specs.Desk.{Standing}
 use Rattle.port_model.specs.Requests.{leads_home}
-use Rattle.port_model.specs.DeskAnswers.{Head, head_of, is_of_type, Done, Unknown, Ports, Failed, outcome, answered_with, answered, after_answer, without_request}
+use Rattle.port_model.specs.DeskAnswers.{head_of, is_of_type, Done, Unknown, Ports, Failed, outcome, answered_with, answered, after_answer, without_request}
 use Rattle.world_model.specs.Switch.{control_port}
 use Rattle.port_model.specs.Setup.{Setup, home_of}
 use Rattle.port_model.specs.Grants.{Grant, input_of}
 use Rattle.port_facts.specs.Port.{IsLabelEnd, IsShaped, asks_ports, empties_control, empties_port, opens_input, opens_output, leads_label, leads_grant, joins_label, parts_label, frees_label}
 use Rattle.port_facts.proofs.Found.{find_passes}
-use Rattle.world_model.specs.Controller.{Acted, Linked, default_channel}
+use Rattle.port_facts.proofs.Rules.{and_second}
+use Rattle.world_model.specs.Controller.{Linked, default_channel}
 use Rattle.world_model.specs.Cells.{same_channel}
 use Rattle.world_model.specs.Meeting.{is_deleting, has_emptied}
 use Rattle.controller_facts.specs.Sound.{IsSound, IsEarlier}
@@ -36,12 +37,12 @@ use Rattle.controller_law.specs.Match.{lent_in, lent_at}
 use Rattle.controller_law.specs.Order.{IsOrderly, IsMeeting, listing, emptying, IsDeleting}
 use Rattle.controller_law.proofs.Parting.{lent_proper}
 use Rattle.branch_line.specs.Words as lines
-use Rattle.branch_line.specs.Line.{Line, Asked, Apart, Unasked, Stands as StandsAsked, Answered, Met}
+use Rattle.branch_line.specs.Line.{Asked, Apart, Unasked, Stands as StandsAsked, Answered}
 use Rattle.branch_line.specs.Law.{IsEmptied, IsEmptyWhenMet}
 use Rattle.branch_line.proofs.Reached.{holds_reached}
 use Rattle.branch_line.proofs.Runs.{always_lem, emptied_lem}
 use Rattle.world_model.specs.World.{World, Site, site_at}
-use Rattle.world_model.specs.Ways.{gsmp_of, gsmp_to_switch, requests_chain_at, answers_chain_at, on_channel, copy_under}
+use Rattle.world_model.specs.Ways.{gsmp_of, gsmp_to_switch, requests_chain_at, answers_chain_at, on_channel}
 use Rattle.world_model.specs.Places.{queue_at}
 use Rattle.world_model.specs.Past.{Past}
 use Rattle.world_model.specs.Users.{leads}
@@ -53,9 +54,11 @@ use Rattle.input_steps.specs.Meeting.{met_after, is_none_left}
 use Rattle.world_views.specs.Shown.{acting}
 use Rattle.world_views.specs.Pairs.{Pairs, IsJoin}
 use Rattle.world_views.specs.Between.{IsWorld, IsShapedBranch, home, out, joined, setups_of}
-use Rattle.pairs.proofs.SitePairs.{SitePairs, branch, desk, chain, queue, of_pairs, to_pairs, by_first, in_left, in_right, in_filter, in_tail, first_of, gathered_by, waiting_by}
+use Rattle.pairs.proofs.Opening.{none_in}
+use Rattle.pairs.proofs.SitePairs.{SitePairs, branch, desk, chain, queue, of_pairs, by_first, in_left, in_right, in_filter, gathered_by, waiting_by}
 use Rattle.joined_worlds.proofs.Answered.{IsSuccess, success_of, IsBehind, answer_line}
 use Rattle.joined_worlds.proofs.Free.{IsHomely, home_request, no_branch, no_chain, no_queue, no_other}
+use Rattle.quiet_controllers.proofs.Beginning.{in_tail}
 
 pub every_in : {A : Type 0} (P : A → Type 0) (xs : List A) (x : A) → Every P xs → Contains xs x → P x
 every_in P [] x all h = absurd (omega (arith, h.1))
@@ -68,9 +71,6 @@ find_in {A} test (y ∷ xs) x e = by (test y) e (λ k. find_in test xs x k)
     by : (b : Bool) → (if b then Some y else find test xs) ≡ Some x → (find test xs ≡ Some x → Contains xs x) → Contains (y ∷ xs) x
     by true k rest = (0, omega arith, (let same : y ≡ x = cc k in same))
     by false k rest = in_tail y x xs (rest k)
-
-none_there : {A : Type 0} (xs : List A) (x : A) → xs ≡ [] → Contains xs x → ⊥
-none_there {A} xs x is h = absurd (omega (arith, (let k : Contains {X = A} [] x = subst (λ (zs : List A). Contains zs x) is h in k.1)))
 
 -- *Numbers* of what stands rise
 not_self : (n m : ℕ) → (n == m) ≡ true → n < m → ⊥
@@ -118,10 +118,6 @@ never_listed standing (messages.AllPorts r c n rows) s t e = by (find (λ (x : S
     by : (o : Option Standing) → outcome (messages.AllPorts r c n rows) (record { result = r; code = c; number = n }) o ≡ Done s → ⊥
     by None k = cc k
     by (Some x) k = by_result x (r == 3) (r == 4) k
-
-and_right : (a b : Bool) → (a && b) ≡ true → b ≡ true
-and_right true b e = e
-and_right false b e = absurd (cc e)
 
 -- *A request of a shape* that leads one label to another is on a label of a link
 module _ (setups : List Setup) where
@@ -184,10 +180,6 @@ none_left test (x ∷ xs) all e = by (test x) e (λ k. none_left test xs all.1 k
         any_first false b t l = cc t
     by false k rest = rest k
 
-not_both : (b : Bool) → b ≡ true → b ≡ false → ⊥
-not_both true t f = cc f
-not_both false t f = cc t
-
 -- *Before the answer*
 module _ (past : Past) (world : IsWorld past) (own_chains : HasOwnChains past.now) (node : NodeId) (site : Site) (found : site_at past.now node ≡ Some site)
     (sound : IsSound (setups_of site.controller) site.controller) (order : IsOrderly site.controller) where
@@ -237,12 +229,12 @@ module _ (past : Past) (world : IsWorld past) (own_chains : HasOwnChains past.no
       where
         by : (b : Bool) → is_estab site.controller.adjacency.state ≡ b → b ≡ true
         by true e = refl
-        by false e = absurd (none_there site.controller.desk.standing s (sound.desk.waits e) stands)
+        by false e = absurd (none_in site.controller.desk.standing s (sound.desk.waits e) stands)
 
     unlisted : IsAllPorts s.request → ⊥
     unlisted all = never_listed site.controller.desk.standing m s
         (subst (λ (r : Request). is_of_type m r ≡ true) (asked_all s.request all)
-        (and_right (s.number == k.head.number) (is_of_type m s.request) (find_passes (λ (x : Standing). x.number == k.head.number && is_of_type m x.request) site.controller.desk.standing s k.found))) done
+        (and_second (s.number == k.head.number) (is_of_type m s.request) (find_passes (λ (x : Standing). x.number == k.head.number && is_of_type m x.request) site.controller.desk.standing s k.found))) done
 
     numbered : IsNumbered site.controller.desk
     numbered = record { below = sound.desk.below; earlier = sound.desk.earlier }

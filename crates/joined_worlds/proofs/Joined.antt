@@ -1,8 +1,8 @@
 -- once its switch is met, each two labels that are joined behind an event, or may be, are a join of the controller; and no two
 -- inputs are joined to one output
 
-use Rattle.std.proofs.Common.{◌≡◌, ℕ, ◌<◌, Bool, true, false, List, [], ◌∷◌, ◌++◌, Option, None, Some, Ok, refl, sym, ◌∙◌, ap, subst, fold, arith, ◌⊎◌, inl, inr, if◌then◌else◌}
-use Rattle.std.specs.Prelude.{◌==◌, nat_lt, flat_map, option_map}
+use Rattle.std.proofs.Common.{◌≡◌, ℕ, ◌<◌, Bool, true, false, List, ◌∷◌, Option, None, Some, Ok, refl, sym, ◌∙◌, ap, subst, arith, ◌⊎◌, inl, inr, if◌then◌else◌}
+use Rattle.std.specs.Prelude.{◌==◌, nat_lt, flat_map}
 use Rattle.std.specs.Option.{option_and_then}
 use Rattle.std.proofs.lemmas.Bool.Decides.{nat_tests}
 use Rattle.net_types.specs.declared.channel.End.{End}
@@ -17,8 +17,6 @@ use Rattle.adjacency_table.specs.Side.{ticked}
 use Rattle.net_types.specs.declared.adjacency.Party.{Party}
 use Rattle.gsmp_wire.specs.declared.message.Message.{Message}
 use Rattle.gsmp_wire.specs.Fields.{decoded}
-use Rattle.keyed_lists.specs.Keyed.{at}
-use Rattle.ordered_lists.specs.Ordered.{Every}
 use Rattle.frame_model.specs.Frame.{octets_of, payload_in}
 use Rattle.frame_model.specs.Reassembly.{taken}
 use Rattle.link_model.specs.declared.record.Refusal.{Refusal}
@@ -26,12 +24,11 @@ use Rattle.port_model.specs.Desk.{Standing}
 use Rattle.port_model.specs.Requests.{leads_home}
 use Rattle.port_model.specs.DeskAnswers.{Done, answered}
 use Rattle.port_model.specs.Setup.{Policy, Setup, home_of}
-use Rattle.port_model.specs.Grants.{Grant, grant_label, input_of}
-use Rattle.port_facts.specs.Port.{IsLabelEnd}
-use Rattle.world_model.specs.Controller.{Controller, Acted, Linked, default_channel, free_slots, linked_at}
-use Rattle.world_model.specs.Joins.{inputs_at, tries_join, tries_joins}
+use Rattle.port_model.specs.Grants.{Grant, input_of}
+use Rattle.world_model.specs.Controller.{Controller, Acted, Linked, default_channel, free_slots}
+use Rattle.world_model.specs.Joins.{inputs_at, tries_joins}
 use Rattle.world_model.specs.Gsmp.{steps}
-use Rattle.world_model.specs.Packets.{inject_refusal, injected}
+use Rattle.world_model.specs.Packets.{inject_refusal}
 use Rattle.world_model.specs.Cells.{same_channel, cell_comes}
 use Rattle.world_model.specs.Ticks.{sends_again, ticks_ports, ticks_by, ticks}
 use Rattle.controller_facts.specs.Inputs.{Input, CellComes, PacketEnters, Ticks, Restarts, ChangeComes, FrameIsForged, CellLeaves, Meanwhile, takes_input, enters_unless}
@@ -45,7 +42,7 @@ use Rattle.world_model.specs.declared.event.Event.TheVariants.{Inject, Carry, Lo
 use Rattle.world_model.specs.Topology.{Topology}
 use Rattle.world_model.specs.World.{World, Site, site_at}
 use Rattle.world_model.specs.Run.{put_away}
-use Rattle.world_model.specs.Ways.{gsmp_of, told}
+use Rattle.world_model.specs.Ways.{told}
 use Rattle.world_model.specs.Past.{Past, past_of}
 use Rattle.lifetimes.specs.Run.{if_at, comes_to}
 use Rattle.lifetimes.proofs.Feeding.{after_of}
@@ -55,14 +52,13 @@ use Rattle.run_facts.proofs.Nodes.{runs_have_nodes}
 use Rattle.run_facts.proofs.Chains.{runs_have_own_chains}
 use Rattle.run_facts.proofs.Steps.{runs_have_fronts}
 use Rattle.running_worlds.specs.Running.{EventsAreOrdinary}
-use Rattle.quiet_controllers.specs.Quiet.{Enters}
 use Rattle.quiet_controllers.specs.Law.{TickEnters, before_joins}
 use Rattle.pairs.specs.Events.{IsEntered, EntersAt}
-use Rattle.pairs.proofs.SitePairs.{SitePairs, of_pairs}
+use Rattle.pairs.proofs.SitePairs.{of_pairs}
 use Rattle.pairs.specs.Past.{RunsMakeNoPairs}
 use Rattle.joined_worlds.proofs.Freed.{led_home, meeting_ends}
 use Rattle.joined_worlds.proofs.Settled.{node_is}
-use Rattle.lasting_joins.proofs.Lasting.{Lasts, Frees, lasts_self, same_lasts, sends_last, routes_last, change_lasts}
+use Rattle.lasting_joins.proofs.Lasting.{Lasts, lasts_self, same_lasts, sends_last, routes_last, change_lasts}
 use Rattle.lasting_joins.proofs.Tries.{tries_ends, mid_ports, mid_lasts, ticks_last, cell_lasts, restarts_last}
 use Rattle.lasting_joins.proofs.Ending.{IsMeetingsEnd, cell_ends}
 use Rattle.lasting_joins.proofs.Entered.{enters_met, lent_enters, enters_once, enters_lent}
@@ -71,26 +67,13 @@ use Rattle.world_views.specs.Pairs.{Pairs, IsJoin}
 use Rattle.world_views.specs.Between.{IsWorld, HasAllJoins, HasAllLedOnce, setups_of}
 use Rattle.world_views.specs.Kept.{Comes, Keeps, behind}
 use Rattle.joined_worlds.proofs.Stepped.{after_is, IsFirstUp, cell_came, front_up, IsTrueFrame, true_frame}
+use Rattle.controller_bindings.proofs.Lasts.{some_same}
+use Rattle.fed_worlds.proofs.Asked.{join_found}
 
 -- *A grant that is lent* is found by its output, and by its number
 pub join_lent : (c : Controller) (input output : End) → IsJoin c input output → lent_at c.ports output.port.0 (number_of_channel output.channel) ≡ Some input
 join_lent c input output j = ap (option_and_then (λ (x : Linked). lent_in x.port.grants (number_of_channel output.channel))) j.found
     ∙ (ap (option_and_then (λ (g : Grant). input_of g.state)) j.granted ∙ j.lent)
-
-pub lent_join : (c : Controller) (input output : End) → lent_at c.ports output.port.0 (number_of_channel output.channel) ≡ Some input → IsJoin c input output
-lent_join c input output = by_port (linked_at c output.port) refl
-  where
-    by_grant : (linked : Linked) → linked_at c output.port ≡ Some linked → (o : Option Grant) → at grant_label (number_of_channel output.channel) linked.port.grants ≡ o
-        → option_and_then (λ (grant : Grant). input_of grant.state) o ≡ Some input → IsJoin c input output
-    by_grant linked found None granted e = absurd (cc e)
-    by_grant linked found (Some grant) granted e = record { linked = linked; found = found; grant = grant; granted = granted; lent = e }
-
-    by_port : (o : Option Linked) → linked_at c output.port ≡ o → option_and_then (λ (linked : Linked). lent_in linked.port.grants (number_of_channel output.channel)) o ≡ Some input → IsJoin c input output
-    by_port None found e = absurd (cc e)
-    by_port (Some linked) found e = by_grant linked found (at grant_label (number_of_channel output.channel) linked.port.grants) refl e
-
-same_site : {A : Type 0} (x y : A) → Some x ≡ Some y → x ≡ y
-same_site x y e = cc
 
 not_both : {P : Type 0} (b : Bool) → b ≡ true → b ≡ false → P
 not_both true t f = absurd (cc f)
@@ -220,7 +203,7 @@ module _ (running : EventsAreOrdinary) (old : RunsMakeNoPairs) (policy : Policy)
               let k : L a (takes_input a i) = input_keeps i e in
               let now : (takes_input a i).controller.has_met ≡ true = ap (λ (c : Controller). c.has_met) (sym same) ∙ met in
               subst (λ (c : Controller). IsJoin c input output) (sym same)
-              (lent_join (takes_input a i).controller input output (k.lent now input refl (join_lent site.controller input output (join_of (k.met now)))))
+              (join_found (takes_input a i).controller input output (k.lent now input refl (join_lent site.controller input output (join_of (k.met now)))))
 
     -- *One that is entered*
     module _ (ticks_here : comes_to w node event ≡ Some Ticks) (input output : End) (enters : TickEnters a input output) where
@@ -229,7 +212,7 @@ module _ (running : EventsAreOrdinary) (old : RunsMakeNoPairs) (policy : Policy)
           let mid : Acted = before_joins a in
           let is : after.controller ≡ (tries_joins mid).controller = after_is policy topology before event node site after found there ∙ ap (after_of (put_away w).notes w.numbers site.controller) ticks_here
           ∙ ap (λ (x : Acted). x.controller) (tick_is a enters.going) in
-          subst (λ (c : Controller). IsJoin c input output) (sym is) (lent_join (tries_joins mid).controller input output
+          subst (λ (c : Controller). IsJoin c input output) (sym is) (join_found (tries_joins mid).controller input output
           (enters_lent setups input output (flat_map inputs_at mid.controller.ports) mid (mid_sound setups a sound) (tries_ends setups 0 0 Any mid (mid_ports setups 0 0 Any a ports))
           (ap (λ (c : Controller). c.has_met) (sym is) ∙ met) enters.enters))
 
@@ -299,7 +282,7 @@ module _ (running : EventsAreOrdinary) (old : RunsMakeNoPairs) (policy : Policy)
       let mid : Acted = before_joins a in
       let sound : IsSound setups x.site.controller = (of_run node x.site x.found).conduct.sound in
       let ports : HasPorts setups a = has_ports setups a sound in
-      let same : y.site ≡ x.site = same_site y.site x.site (sym y.found ∙ x.found) in
+      let same : y.site ≡ x.site = some_same y.site x.site (sym y.found ∙ x.found) in
       enters_once setups one other output (flat_map inputs_at mid.controller.ports) mid (mid_sound setups a sound) (tries_ends setups 0 0 Any mid (mid_ports setups 0 0 Any a ports)) x.enters.enters
       (subst (λ (s : Site). TickEnters (acting (put_away w) s) other output) same y.enters).enters
 

@@ -1,7 +1,7 @@
 -- what is asked of a network and of an event, so that no pair is made, is so in every run before the first forged frame
 
-use Rattle.std.proofs.Common.{◌≡◌, ◌≢◌, ℕ, ◌≤◌, Bool, true, false, not, List, [], ◌∷◌, ◌++◌, length, Option, None, Some, refl, sym, ◌∙◌, ap, subst, arith, Contains, if◌then◌else◌}
-use Rattle.std.specs.Prelude.{◌==◌, nat_le, nat_lt}
+use Rattle.std.proofs.Common.{◌≡◌, ◌≢◌, ℕ, ◌≤◌, Bool, true, false, List, [], ◌∷◌, ◌++◌, Option, None, Some, refl, sym, ◌∙◌, ap, subst, arith, Contains, if◌then◌else◌}
+use Rattle.std.specs.Prelude.{◌==◌, nat_lt}
 use Rattle.std.specs.Option.{option_map_or, option_and_then}
 use Rattle.std.proofs.lemmas.Bool.Decides.{nat_tests}
 use Rattle.net_types.specs.declared.node.NodeId.{NodeId}
@@ -11,14 +11,12 @@ use Rattle.atm_cells.specs.declared.cell.Cell.{Cell}
 use Rattle.gsmp_wire.specs.declared.message.Message.{Message}
 use Rattle.gsmp_wire.specs.declared.message.Message.TheVariants as messages
 use Rattle.link_model.specs.Ledger.{payload_of}
-use Rattle.link_model.specs.Notes.{Journal}
 use Rattle.frame_model.specs.Frame.{octets_of, last_mark, payload_in}
-use Rattle.frame_model.specs.Reassembly.{Reassembly, Taken, taken, most_cells, passed_over, without_slot, too_long, joined}
+use Rattle.frame_model.specs.Reassembly.{Reassembly, taken}
 use Rattle.crossbar_model.specs.Crossbar.{queue_of}
 use Rattle.world_model.specs.Switch as switches
 use Rattle.world_model.specs.Switch.{control_port}
 use Rattle.port_model.specs.Setup.{Policy}
-use Rattle.port_facts.proofs.Keyed.{on_each}
 use Rattle.world_model.specs.Controller.{Linked, default_channel}
 use Rattle.world_model.specs.Controller as controllers
 use Rattle.world_model.specs.Cells.{Taker, ForGsmp, ForDefault, ForLabel, same_channel, taker_of, reassembly_of, taker_at, label_taker, port_on, on_link}
@@ -32,7 +30,7 @@ use Rattle.world_model.specs.Places.{queue_in, queue_at}
 use Rattle.world_model.specs.Run.{put_away, next}
 use Rattle.world_model.specs.Past.{Past, past_of}
 use Rattle.world_model.specs.Ways.{told, gsmp_of}
-use Rattle.input_steps.specs.Hearing.{IsEnded, PassesTrue}
+use Rattle.input_steps.specs.Hearing.{PassesTrue}
 use Rattle.input_premises.proofs.Reading.{are_read}
 use Rattle.input_events.specs.Coming.{IsRunning, IsOrdinary, IsFar, IsFromSwitch, CanCarry}
 use Rattle.frame_readings.specs.Reading.{MarksAreRead}
@@ -46,24 +44,10 @@ use Rattle.world_views.specs.Kept.{Comes, Keeps, behind}
 use Rattle.quiet_controllers.specs.Heard.{RowsAreRead, IsHeard}
 use Rattle.pairs.specs.Events.{IsAtDesk, IsHonest, CarriesHonestly, PacketsAskNothing, HasOldPairs, EventsMakeNoPairs}
 use Rattle.pairs.specs.Past.{RunsMakeNoPairs}
+use Rattle.running_worlds.proofs.MadeTame.{IsWhole, whole_chain}
 use Rattle.shown_cells.proofs.Tested.{frame_is, last_is}
 
--- *A chain that a cell ended* is all of it
-pub record HasEnded (slot : Bool) (r : Reassembly) (cell : Cell) (ended : List Cell) : Type 0 where
-  pub ends : IsEnded slot r cell
-  pub whole : ended ≡ r.chain ++ cell ∷ []
-
-pub has_ended : (notes : Journal) (slot : Bool) (r : Reassembly) (cell first : Cell) (rest : List Cell) → (taken notes slot r cell).ended ≡ first ∷ rest → HasEnded slot r cell (first ∷ rest)
-has_ended notes slot r cell first rest = on_each P r.is_skipping (passed_over notes r cell) _ (λ t e. absurd (cc e))
-    (λ listens. on_each P (not slot) (without_slot notes r cell) _ (λ t e. absurd (cc e))
-    (λ slot_is. on_each P (nat_le most_cells (length r.chain)) (too_long notes r cell) (joined notes r cell) (λ t e. absurd (cc e))
-    (λ short. on_each P cell.header.last (record { reassembly = record r { chain = [] }; notes = notes; ended = r.chain ++ cell ∷ [] }) (record { reassembly = record r { chain = r.chain ++ cell ∷ [] }; notes = notes; ended = [] })
-    (λ last e. record { ends = record { listens = listens; slot_is = slot_is; short = short; last = last }; whole = sym e }) (λ t e. absurd (cc e)))))
-  where
-    P : Taken → Type 0
-    P t = t.ended ≡ first ∷ rest → HasEnded slot r cell (first ∷ rest)
-
--- so a chain that passes is the frame of the cell's mark
+-- *A chain that passes* is the frame of the cell's mark
 true_payload : (frames : _) (r : Reassembly) (cell : Cell) (ended : List Cell) (payload : List ℕ) → ended ≡ r.chain ++ cell ∷ [] → PassesTrue frames (r.chain ++ cell ∷ []) → payload_in (octets_of ended) ≡ Some payload → payload_of frames cell.mark ≡ Some payload
 true_payload frames r cell ended payload whole passes is =
     ap (payload_of frames) (sym (last_is r.chain cell)) ∙ frame_is frames (last_mark (r.chain ++ cell ∷ [])) payload (passes payload (ap (λ (cells : List Cell). payload_in (octets_of cells)) (sym whole) ∙ is))
@@ -71,7 +55,7 @@ true_payload frames r cell ended payload whole passes is =
 three_of : (n : ℕ) → (n == 3) ≡ true → n ≡ 3
 three_of n e = grind (arith, nat_tests)
 
-not_both : (b : Bool) → b ≡ true → b ≡ false → ⊥
+pub not_both : (b : Bool) → b ≡ true → b ≡ false → ⊥
 not_both true t f = cc f
 not_both false t f = cc t
 
@@ -128,14 +112,14 @@ module _ (nodes : RunsHaveNodes) (fronts : RunsHaveFronts) (steps : EventsAreSte
 
         gsmp : (r : Reassembly) → r ≡ site.controller.reassembly → same_channel cell.header.channel default_channel ≡ true → (taken (put_away w).notes (nat_lt 0 (controllers.free_slots site.controller)) r cell).ended ≡ first ∷ rest → IsHeard (setups_of site.controller) cell.mark ForGsmp payload
         gsmp r same here e m said =
-            let h : HasEnded (nat_lt 0 (controllers.free_slots site.controller)) r cell (first ∷ rest) = has_ended (put_away w).notes (nat_lt 0 (controllers.free_slots site.controller)) r cell first rest e in
-            let k : HasEnded (nat_lt 0 (controllers.free_slots site.controller)) site.controller.reassembly cell (first ∷ rest) = subst (λ (x : Reassembly). HasEnded (nat_lt 0 (controllers.free_slots site.controller)) x cell (first ∷ rest)) same h in
-            let frame : payload_of w.notes.frames cell.mark ≡ Some payload = true_payload w.notes.frames site.controller.reassembly cell (first ∷ rest) payload k.whole ((can cell cells site is found).1 here k.ends) passes in
+            let h : IsWhole (nat_lt 0 (controllers.free_slots site.controller)) r cell (first ∷ rest) = whole_chain (put_away w).notes (nat_lt 0 (controllers.free_slots site.controller)) r cell first rest e in
+            let k : IsWhole (nat_lt 0 (controllers.free_slots site.controller)) site.controller.reassembly cell (first ∷ rest) = subst (λ (x : Reassembly). IsWhole (nat_lt 0 (controllers.free_slots site.controller)) x cell (first ∷ rest)) same h in
+            let frame : payload_of w.notes.frames cell.mark ≡ Some payload = true_payload w.notes.frames site.controller.reassembly cell (first ∷ rest) payload k.whole ((can cell cells site is found).1 here k.is_ended) passes in
             rows_read node site found m (runs.answered node site found cell m (head_waits node site cell cells found is) here
             (ap (option_and_then gsmp_of) frame ∙ ap told said))
 
         away : same_channel cell.header.channel default_channel ≡ false → (r : Reassembly) → (taken (put_away w).notes (nat_lt 0 (controllers.free_slots site.controller)) r cell).ended ≡ first ∷ rest → is_control cell.mark ≡ false → cell.mark.packet ≢ 0
-        away other r e plain = ((can cell cells site is found).0 other (has_ended (put_away w).notes (nat_lt 0 (controllers.free_slots site.controller)) r cell first rest e).ends.last plain).0
+        away other r e plain = ((can cell cells site is found).0 other (whole_chain (put_away w).notes (nat_lt 0 (controllers.free_slots site.controller)) r cell first rest e).is_ended.last plain).0
 
         by : (b : Bool) → same_channel cell.header.channel default_channel ≡ b → (t : Taker) → taker_of site.controller cell.header.channel ≡ Some t
             → (taken (put_away w).notes (nat_lt 0 (controllers.free_slots site.controller)) (reassembly_of site.controller t) cell).ended ≡ first ∷ rest → IsHeard (setups_of site.controller) cell.mark t payload
@@ -164,8 +148,8 @@ module _ (nodes : RunsHaveNodes) (fronts : RunsHaveFronts) (steps : EventsAreSte
 
     carries : (place : Place) → CanCarry topology w place → CarriesHonestly topology (put_away w) place
     carries (Down node) can = λ site cell cells found is here first rest payload ended passes.
-        (let k : HasEnded (nat_lt 0 (switches.free_slots site.switch)) site.switch.reassembly cell (first ∷ rest) = has_ended (put_away w).notes (nat_lt 0 (switches.free_slots site.switch)) site.switch.reassembly cell first rest ended in
-        true_payload w.notes.frames site.switch.reassembly cell (first ∷ rest) payload k.whole (can cell cells site is found here k.ends) passes)
+        (let k : IsWhole (nat_lt 0 (switches.free_slots site.switch)) site.switch.reassembly cell (first ∷ rest) = whole_chain (put_away w).notes (nat_lt 0 (switches.free_slots site.switch)) site.switch.reassembly cell first rest ended in
+        true_payload w.notes.frames site.switch.reassembly cell (first ∷ rest) payload k.whole (can cell cells site is found here k.is_ended) passes)
     carries (Up node) can = λ site cell cells found is. record {
       by_links = (at_desk node site found).by_links;
       heard = heard_now node site cell cells found is can;

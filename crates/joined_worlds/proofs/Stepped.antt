@@ -33,11 +33,9 @@ use Rattle.input_events.specs.Coming.{CanCarry}
 use Rattle.run_facts.proofs.Steps.{events_are_steps}
 use Rattle.world_views.specs.Kept.{behind}
 use Rattle.shown_cells.proofs.Tested.{frame_is, last_is}
-use Rattle.joined_worlds.proofs.Premises.{HasEnded, has_ended}
+use Rattle.running_worlds.proofs.MadeTame.{IsWhole, whole_chain}
 use Rattle.joined_worlds.proofs.Settled.{node_is}
-
-some_same : {A : Type 0} (x y : A) → Some x ≡ Some y → x ≡ y
-some_same x y e = cc
+use Rattle.controller_bindings.proofs.Lasts.{some_same}
 
 -- *What the controller is* behind the event
 module _ (policy : Policy) (topology : Topology) (before : List Event) (event : Event) where
@@ -112,10 +110,10 @@ pub true_frame : (topology : Topology) (w : World) (node : NodeId) (site : Site)
     → (taken (put_away w).notes (nat_lt 0 (free_slots site.controller)) site.controller.reassembly cell).ended ≡ first ∷ rest → payload_in (octets_of (first ∷ rest)) ≡ Some payload
     → IsTrueFrame w.notes.frames cell payload
 true_frame topology w node site cell cells found is can here first rest payload ended passes =
-    let k : HasEnded (nat_lt 0 (free_slots site.controller)) site.controller.reassembly cell (first ∷ rest) = has_ended (put_away w).notes (nat_lt 0 (free_slots site.controller)) site.controller.reassembly cell first rest ended in
-    let true_one : PassesTrue w.notes.frames (site.controller.reassembly.chain ++ cell ∷ []) = (can cell cells site is found).1 here k.ends in
+    let k : IsWhole (nat_lt 0 (free_slots site.controller)) site.controller.reassembly cell (first ∷ rest) = whole_chain (put_away w).notes (nat_lt 0 (free_slots site.controller)) site.controller.reassembly cell first rest ended in
+    let true_one : PassesTrue w.notes.frames (site.controller.reassembly.chain ++ cell ∷ []) = (can cell cells site is found).1 here k.is_ended in
     record {
-      last = k.ends.last;
+      last = k.is_ended.last;
       made = ap (payload_of w.notes.frames) (sym (last_is site.controller.reassembly.chain cell))
           ∙ frame_is w.notes.frames (last_mark (site.controller.reassembly.chain ++ cell ∷ [])) payload (true_one payload (ap (λ (xs : List Cell). payload_in (octets_of xs)) (sym k.whole) ∙ passes));
     }

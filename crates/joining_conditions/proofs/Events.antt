@@ -11,7 +11,7 @@ use Rattle.controller_conditions.specs.Kept.{AreIn}
 use Rattle.controller_conditions.specs.Calls.{hearing, counting}
 use Rattle.controller_conditions.proofs.Ready.{ready_of, ready_ports}
 use Rattle.controller_conditions.proofs.Restarting.{can_reset_node}
-use Rattle.controller_conditions.proofs.Rules.{heard_anyway, can_hear, can_count}
+use Rattle.controller_conditions.proofs.Rules.{can_hear, can_count}
 use Rattle.controller_conditions.proofs.Kept.{whole_kept, ready_kept, numbers_suffice}
 use Rattle.controller_conditions.proofs.Calls.{restart_numbers}
 use Rattle.joining_conditions.specs.Events.{TicksCanGoBy, NodeCanRestart, ChangesCanCome, MessagesCanBeTold, PortsCanHear, PortsCanCount}
@@ -19,6 +19,7 @@ use Rattle.joining_conditions.proofs.Keeping.{keeps_joins}
 use Rattle.joining_conditions.proofs.Changing.{can_take_changes, ready_changed}
 use Rattle.joining_conditions.proofs.Answering.{can_be_told}
 use Rattle.joining_conditions.proofs.Ticking.{can_tick_all}
+use Rattle.controller_law.proofs.Actions.{heard_anyway}
 
 pub ticks_can_go_by : TicksCanGoBy
 ticks_can_go_by a h left = can_tick_all h.setups h.links a (whole_kept a h) h.flows left (numbers_suffice a Ticks tt h left)

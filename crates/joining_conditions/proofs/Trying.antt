@@ -20,8 +20,8 @@ use Rattle.port_model.specs.Labels.{Label, Offered, label_number}
 use Rattle.port_model.specs.Grants.{Grant, ByController, grant_label}
 use Rattle.port_model.specs.Port.{label_at, labels_of}
 use Rattle.port_model.specs.Joins as port_joins
-use Rattle.port_facts.specs.Port.{IsLabelEnd, IsGrant, IsPort, joins_label}
-use Rattle.port_facts.proofs.Keyed.{on_each, at_every}
+use Rattle.port_facts.specs.Port.{IsLabelEnd, IsPort, joins_label}
+use Rattle.port_facts.proofs.Keyed.{on_each}
 use Rattle.port_facts.proofs.Rules.{and_first, and_second}
 use Rattle.port_facts.proofs.Weighed.{labels_count}
 use Rattle.world_model.specs.Controller.{Acted, Linked, linked_at}
@@ -30,7 +30,7 @@ use Rattle.world_model.specs.Routes.{route_stays}
 use Rattle.controller_facts.proofs.Moves.{by_lending, by_joining, Found, Moves, stays, further, moves_ports, HasPorts, found_setup, found_at_own, found_port}
 use Rattle.controller_facts.proofs.Performing.{at_port_goes}
 use Rattle.controller_facts.proofs.Joining.{image_is, every_flat_map, each_there}
-use Rattle.controller_facts.proofs.Entering.{is_offered_by, OnPort, on_port, lends_labels, inputs_of_port, tries_join_goes, IsFor, found_for}
+use Rattle.controller_facts.proofs.Entering.{granted_end, is_offered_by, OnPort, on_port, lends_labels, inputs_of_port, tries_join_goes, IsFor, found_for}
 use Rattle.controller_facts.proofs.Laws.{has_ports}
 use Rattle.controller_law.proofs.Lists.{each_any}
 use Rattle.controller_law.proofs.Holding.{Holds}
@@ -84,13 +84,7 @@ module _ (setups : List Setup) (links : AreLinks setups) where
     has = has_ports setups a h.sound
 
     out : IsLabelEnd setups (output_of join)
-    out = record {
-      setup = linked.setup;
-      number = grant.label;
-      linked = found_setup setups a linked linked.setup.port has own;
-      in_range = (at_every grant_label (IsGrant setups linked.setup) grant.label linked.port.grants grant (found_port setups a linked linked.setup.port has own).grants granted).in_range;
-      is = refl;
-    }
+    out = granted_end setups a linked grant has own granted
 
     before : OnPort a.controller.ports input label
     before = on_port a.controller input label on

@@ -83,7 +83,7 @@ pub routes_grow : (a : Acted) (came : Mark) (packet : List ℕ) → IsFree a cam
 routes_grow a came packet free = forwarded_grows a came packet (hop_of a.controller.table packet) free
 
 -- *A packet that isn't refused* has a header, and is no message of IFMP
-first_passed : (b : Bool) (fault : PacketFault) (rest : Option PacketFault) → (if b then Some fault else rest) ≡ None → b ≡ false
+pub first_passed : (b : Bool) (fault : PacketFault) (rest : Option PacketFault) → (if b then Some fault else rest) ≡ None → b ≡ false
 first_passed true fault rest e = absurd (cc e)
 first_passed false fault rest e = refl
 
@@ -91,7 +91,7 @@ not_refused : (b : Bool) (refusal : Refusal) → (if b then Some refusal else No
 not_refused true refusal e = absurd (cc e)
 not_refused false refusal e = refl
 
-long_by : (n : ℕ) → nat_lt n 20 ≡ false → 20 ≤ n
+pub long_by : (n : ℕ) → nat_lt n 20 ≡ false → 20 ≤ n
 long_by n e = grind (arith, nat_tests)
 
 plain_by : (octets : List ℕ) (o : Option PacketFault) → first_fault octets ≡ o → refused_by octets o ≡ None → IsPlain octets

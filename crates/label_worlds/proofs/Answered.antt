@@ -7,8 +7,7 @@ use Rattle.std.specs.Option.{option_and_then}
 use Rattle.std.proofs.lemmas.Bool.Decides.{nat_tests}
 use Rattle.net_types.specs.declared.node.PortNo.{PortNo}
 use Rattle.net_types.specs.declared.channel.End.{End}
-use Rattle.adjacency_table.specs.declared.State.{State}
-use Rattle.adjacency_table.specs.declared.State.TheVariants.{Clearing, SynSent, SynRcvd, Estab}
+use Rattle.adjacency_table.specs.declared.State.TheVariants.{Clearing}
 use Rattle.adjacency_table.specs.Side.{is_estab}
 use Rattle.adjacency_table.specs.Greeting.{gsmp_received}
 use Rattle.gsmp_wire.specs.declared.fault.Fault.{Fault}
@@ -42,6 +41,7 @@ use Rattle.world_model.specs.Gsmp.{told, gsmp_holds}
 use Rattle.controller_facts.proofs.Moves.{HasPorts, moves_to, answering}
 use Rattle.controller_facts.proofs.Laws.{has_ports}
 use Rattle.controller_law.specs.Match.{lent_in, lent_at}
+use Rattle.controller_law.proofs.Pairing.{clearing_of}
 use Rattle.controller_views.specs.Ends.{EndGoes}
 use Rattle.controller_views.specs.Lifted.{IsProper}
 use Rattle.controller_views.proofs.Parts.{kept_chain, end_stays, end_then, quiet_leads}
@@ -66,12 +66,6 @@ none_left (grant ∷ grants) e = absurd (not_empty (length grants) e)
     not_empty : (n : ℕ) → (suc n == 0) ≡ true → ⊥
     not_empty n e = grind (arith, nat_tests)
 
-is_cleared : (state : State) → is_clearing state ≡ true → state ≡ Clearing
-is_cleared Clearing e = refl
-is_cleared SynSent e = absurd (cc e)
-is_cleared SynRcvd e = absurd (cc e)
-is_cleared Estab e = absurd (cc e)
-
 record MayClear (c : Controller) (linked : Linked) : Type 0 where
   clearing : linked.port.adjacency.state ≡ Clearing
   none : linked.port.grants ≡ []
@@ -84,7 +78,7 @@ may_be c linked may =
     let switch : (c.has_met && is_up c.desk.rows linked.setup.port) ≡ true = and_first (c.has_met && is_up c.desk.rows linked.setup.port) (awaits_nothing c linked.setup.port)
     (and_second (is_clearing linked.port.adjacency.state && length linked.port.grants == 0) ((c.has_met && is_up c.desk.rows linked.setup.port) && awaits_nothing c linked.setup.port) may) in
     record {
-      clearing = is_cleared linked.port.adjacency.state (and_first (is_clearing linked.port.adjacency.state) (length linked.port.grants == 0) port);
+      clearing = clearing_of linked.port.adjacency.state (and_first (is_clearing linked.port.adjacency.state) (length linked.port.grants == 0) port);
       none = none_left linked.port.grants (and_second (is_clearing linked.port.adjacency.state) (length linked.port.grants == 0) port);
       met = and_first c.has_met (is_up c.desk.rows linked.setup.port) switch;
     }

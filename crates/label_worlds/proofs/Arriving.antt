@@ -1,6 +1,6 @@
 -- a cell comes to a controller from its switch, in a network between events: what is asked of it holds
 
-use Rattle.std.proofs.Common.{◌≡◌, ℕ, ◌≤◌, ◌<◌, ◌+◌, ◌*◌, ◌/◌, ◌%◌, Bool, true, false, List, [], ◌∷◌, ◌++◌, length, Option, None, Some, Result, Ok, Err, refl, sym, ◌∙◌, ap, subst, arith, if◌then◌else◌}
+use Rattle.std.proofs.Common.{◌≡◌, ℕ, ◌≤◌, ◌<◌, ◌+◌, ◌*◌, ◌/◌, Bool, true, false, List, [], ◌∷◌, ◌++◌, length, Option, None, Some, Result, Ok, Err, refl, sym, ◌∙◌, ap, subst, arith, if◌then◌else◌}
 use Rattle.std.specs.Prelude.{◌^◌, ◌==◌, drop}
 use Rattle.std.proofs.lemmas.Bool.Decides.{nat_tests}
 use Rattle.std.specs.Option.{option_and_then}
@@ -11,7 +11,8 @@ use Rattle.net_types.specs.declared.node.Place.TheVariants.{Up}
 use Rattle.net_types.specs.declared.channel.Channel.{Channel}
 use Rattle.net_types.specs.declared.number.Mark.{Mark}
 use Rattle.net_types.specs.declared.prefix.Addr.{Addr}
-use Rattle.net_types.specs.Label.{label_channel_of, label_number_of, is_label_number, number_of_channel}
+use Rattle.net_types.specs.Label.{label_number_of, is_label_number}
+use Rattle.net_types.proofs.Labels.{number_of_channel-label_channel_of}
 use Rattle.atm_cells.specs.declared.cell.Cell.{Cell}
 use Rattle.ipv4_packet.specs.Packet.{protocol_of, source_of, first_fault}
 use Rattle.ipv4_packet.specs.declared.validate.PacketFault.{PacketFault}
@@ -45,7 +46,7 @@ use Rattle.port_model.specs.Setup.{Setup}
 use Rattle.port_model.specs.Labels.{Label}
 use Rattle.port_model.specs.Port.{label_at}
 use Rattle.port_model.specs.Grants as grants
-use Rattle.port_model.specs.Grants.{Grant, grant_label}
+use Rattle.port_model.specs.Grants.{Grant}
 use Rattle.port_model.specs.Counting.{counts, used}
 use Rattle.port_model.specs.Hearing.{hears}
 use Rattle.world_model.specs.Controller.{Controller, Acted, Linked, port_key, linked_at, with_linked, note, chains_with, default_channel}
@@ -72,6 +73,7 @@ use Rattle.controller_views.proofs.AtPort.{at_port_leads}
 use Rattle.arrival_views.specs.Packets.{IsFree, of_control, of_packet, IsPlain, HasLabelGrants}
 use Rattle.arrival_views.specs.Cells.{PassesByRight, EndsFrame, IsDefault, unchained, ended_at, CanCome, ended_by}
 use Rattle.arrival_views.proofs.Routes.{routes_lead}
+use Rattle.arrival_views.proofs.Others.{default_on_link, port_of_default}
 use Rattle.controller_views.specs.Ready.{IsReady, FitsLink}
 use Rattle.controller_lifts.proofs.Lifts.{can_hear, counts_lifted, used_lifted}
 use Rattle.controller_lifts.proofs.Kept.{same_ports, put_goes}
@@ -93,7 +95,8 @@ use Rattle.label_events.specs.Acts.{Arrives}
 use Rattle.pairs.specs.Settles.{StaysJoined, Settles, SettlesAt}
 use Rattle.label_worlds.proofs.Answered.{Settled, gsmp_leads}
 use Rattle.label_worlds.proofs.Growing.{frame_grows, cell_grows}
-use Rattle.label_worlds.proofs.Frames.{packet_fits, plain_packet, Hearable, label_is, IsDefaultTaker, default_is, free, hearable, forwarded_fit, label_fit}
+use Rattle.label_worlds.proofs.Frames.{plain_packet, Hearable, label_is, IsDefaultTaker, default_is, free, hearable, forwarded_fit, label_fit}
+use Rattle.running_worlds.proofs.Rules.{packet_fits}
 
 -- *Any controller* that is ready: what it does with a whole frame
 module _ (setups : List Setup) (link : LinkLabel) (proper : IsProper link) (fit : FitsLink link) (like : Type 0) (role : Role) where
@@ -217,9 +220,6 @@ down_leads link like a b f unmade line e =
     let g : EndGoes link ⊥ Downstream a b [] line = f unmade line (down_ends link like ⊥ a.notes.frames a.numbers.instances a.controller line e) in
     record { moves = g.moves; after = g.after; is = g.is; end = down_ends link ⊥ like b.notes.frames b.numbers.instances b.controller g.after g.end; rest = g.rest; grows = g.grows }
 
-number_is : (n : ℕ) → number_of_channel (label_channel_of n) ≡ n
-number_is n = omega arith
-
 -- *Channels of the control link*: a port's default channel
 default_channel_on : (channel : Channel) (q p : PortNo) → q.0 ≡ p.0 → port_on channel ≡ q → same_channel (on_link channel) default_channel ≡ true → channel ≡ channel_at (OnControl p) default_channel
 default_channel_on c q p same is e = λ i. record { vpi = vpi i; vci = vci i }
@@ -242,20 +242,11 @@ not_gsmp c p above is =
     let some : 0 < c.vpi = omega (arith, vpi, above) in
     grind (arith, nat_tests, some)
 
-is_default : (c : Channel) (p : PortNo) → c ≡ channel_at (OnControl p) default_channel → same_channel (on_link c) default_channel ≡ true
-is_default c p is =
-    let vpi : c.vpi % 16 ≡ 0 = omega (arith, ap (λ (z : Channel). z.vpi) is) in
-    let vci : c.vci ≡ 15 = ap (λ (z : Channel). z.vci) is in
-    grind (arith, nat_tests, vpi, vci)
-
-on_port : (c : Channel) (p : PortNo) → c ≡ channel_at (OnControl p) default_channel → (port_on c).0 ≡ p.0
-on_port c p is = omega (arith, ap (λ (z : Channel). z.vpi) is)
-
 default_taker : (c : Controller) (channel : Channel) (p : PortNo) (linked : Linked) → 0 < p.0 → channel ≡ channel_at (OnControl p) default_channel → linked_at c p ≡ Some linked → taker_of c channel ≡ Some (ForDefault linked)
 default_taker c channel p linked above is found =
     ap (λ (b : Bool). if b then Some ForGsmp else taker_at (linked_at c (port_on channel)) (on_link channel)) (not_gsmp channel p above is)
-    ∙ (ap (λ (o : Option Linked). taker_at o (on_link channel)) (ap (λ (q : PortNo). linked_at c q) (port_is (port_on channel) p (on_port channel p is)) ∙ found)
-    ∙ ap (λ (b : Bool). if b then Some (ForDefault linked) else label_taker linked (option_and_then (label_at linked.port) (label_number_of (on_link channel)))) (is_default channel p is))
+    ∙ (ap (λ (o : Option Linked). taker_at o (on_link channel)) (ap (λ (q : PortNo). linked_at c q) (port_is (port_on channel) p (port_of_default channel p is)) ∙ found)
+    ∙ ap (λ (b : Bool). if b then Some (ForDefault linked) else label_taker linked (option_and_then (label_at linked.port) (label_number_of (on_link channel)))) (default_on_link channel p is))
 
 -- *In a network*
 module _ (past : Past) (world : IsWorld past) (node : NodeId) (site : Site) (cell : Cell) (cells : List Cell) (found : site_at past.now node ≡ Some site)
@@ -297,7 +288,7 @@ module _ (past : Past) (world : IsWorld past) (node : NodeId) (site : Site) (cel
     -- an answer, where joins to the label are settled
     lent_of : (s : Standing) (j : StaysJoined link site.controller s) → lent_at site.controller.ports (link.port Upstream).0 link.label ≡ Some j.input
     lent_of s j = ap (option_and_then (λ (x : Linked). lent_in x.port.grants link.label)) j.join.found
-        ∙ (ap (λ (n : ℕ). lent_in j.join.linked.port.grants n) (sym (number_is link.label))
+        ∙ (ap (λ (n : ℕ). lent_in j.join.linked.port.grants n) (sym (number_of_channel-label_channel_of link.label))
         ∙ (ap (option_and_then (λ (g : Grant). grants.input_of g.state)) j.join.granted ∙ j.join.lent))
 
     settled_up : (s : Standing) → Settles link like site.controller s → Settled setups link proper fit like Upstream (ended_by a ForGsmp) s

@@ -1,6 +1,6 @@
 -- the two ends of a link, by the topology; and where a switch's branches lead, by their shapes
 
-use Rattle.std.proofs.Common.{◌≡◌, ℕ, zero, suc, ◌≤◌, ◌<◌, ◌^◌, Bool, true, false, List, [], ◌∷◌, Option, None, Some, refl, sym, ◌∙◌, ap, subst, arith, All}
+use Rattle.std.proofs.Common.{◌≡◌, ℕ, zero, suc, ◌≤◌, ◌<◌, ◌^◌, List, [], ◌∷◌, Option, None, Some, refl, sym, ◌∙◌, ap, subst, arith, All}
 use Rattle.std.specs.Prelude.{slice_get}
 use Rattle.std.specs.Option.{option_map}
 use Rattle.net_types.specs.declared.channel.End.{End}
@@ -35,9 +35,7 @@ use Rattle.world_views.proofs.Labels.{in_range_label}
 use Rattle.causes.proofs.Shown.{IsPeer, peer_back}
 use Rattle.label_events.specs.Queues as events
 use Rattle.label_events.specs.Queues.{HasLowPorts, LeadsOut, LeadsOn, LeadsFromLinks, IsAcross}
-
-some_is : {X : Type 0} (x y : X) → Some x ≡ Some y → x ≡ y
-some_is x y e = cc
+use Rattle.controller_bindings.proofs.Lasts.{some_same}
 
 -- *The ends* of a link
 module _ (topology : Topology) (is : IsTopology topology) (link : LinkLabel) (of : IsLinkLabel topology link) where
@@ -64,13 +62,13 @@ module _ (topology : Topology) (is : IsTopology topology) (link : LinkLabel) (of
       record {
         above = omega (arith, p.port.0);
         apart = p.apart;
-        back = λ role own. some_is from (end_of (other role) link) (sym p.back ∙ (ap (λ (x : LinkEnd). peer_of topology x.node x.port) own ∙ leads role));
+        back = λ role own. some_same from (end_of (other role) link) (sym p.back ∙ (ap (λ (x : LinkEnd). peer_of topology x.node x.port) own ∙ leads role));
       }
 
   -- the addresses
   found_address : (nodes : List Node) (k : ℕ) (node : Node) → All (λ (n : Node). n.address.0 < 2 ^ 32) nodes → slice_get nodes k ≡ Some node → node.address.0 < 2 ^ 32
   found_address [] k node all e = absurd (cc e)
-  found_address (x ∷ nodes) zero node all e = subst (λ (n : Node). n.address.0 < 2 ^ 32) (some_is x node e) (all 0 x (omega arith))
+  found_address (x ∷ nodes) zero node all e = subst (λ (n : Node). n.address.0 < 2 ^ 32) (some_same x node e) (all 0 x (omega arith))
   found_address (x ∷ nodes) (suc k) node all e = found_address nodes k node (λ j d few. all (suc j) d (omega (arith, few))) e
 
   node_address : (n : ℕ) (o : Option Node) → HasAddresses topology → (number : NodeId) → number.0 ≡ n → node_at topology number ≡ o → (a : _) → HasAddress o a → a.0 < 2 ^ 32

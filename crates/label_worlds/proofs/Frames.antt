@@ -1,55 +1,46 @@
 -- what a whole frame is that comes to a controller from its switch: by the mark of its last cell
 
-use Rattle.std.proofs.Common.{◌≡◌, ◌≢◌, ℕ, ◌≤◌, ◌<◌, ◌+◌, Bool, true, false, List, [], ◌∷◌, length, Option, None, Some, Result, Ok, refl, sym, ◌∙◌, ap, subst, arith, if◌then◌else◌}
-use Rattle.std.specs.Prelude.{◌^◌, ◌==◌, ◌&&◌, not, nat_lt, drop, Contains}
-use Rattle.std.specs.Option.{option_or, option_map, option_map_or, option_and_then}
+use Rattle.std.proofs.Common.{◌≡◌, ◌≢◌, ℕ, ◌<◌, ◌+◌, Bool, true, false, List, [], ◌∷◌, length, Option, None, Some, Result, Ok, refl, sym, ◌∙◌, ap, subst, arith, if◌then◌else◌}
+use Rattle.std.specs.Prelude.{◌^◌, ◌==◌, ◌&&◌, nat_lt, Contains}
+use Rattle.std.specs.Option.{option_map_or, option_and_then}
 use Rattle.std.proofs.lemmas.Bool.Decides.{nat_tests}
-use Rattle.octet_fields.specs.Fields.{u16_at}
-use Rattle.octet_fields.proofs.FieldLemmas.{AreOctets, u16_at-fits, u32_at-fits}
 use Rattle.net_types.specs.declared.node.NodeId.{NodeId}
 use Rattle.net_types.specs.declared.node.PortNo.{PortNo}
 use Rattle.net_types.specs.declared.node.Place.TheVariants.{Up}
 use Rattle.net_types.specs.declared.number.Mark.{Mark}
 use Rattle.net_types.specs.declared.channel.Channel.{Channel}
 use Rattle.net_types.specs.Label.{is_label_channel, label_number_of, number_of_channel}
-use Rattle.ipv4_packet.specs.Packet.{tos_of, ttl_of, protocol_of, source_of, destination_of, first_fault}
-use Rattle.ipv4_packet.specs.declared.validate.PacketFault.{PacketFault}
+use Rattle.ipv4_packet.specs.Packet.{protocol_of, source_of, first_fault}
 use Rattle.ipv4_packet.specs.declared.validate.PacketFault.TheVariants.{Short}
 use Rattle.atm_cells.specs.declared.cell.Cell.{Cell}
 use Rattle.ipv4_packet.specs.declared.flow.FlowId.{FlowId}
 use Rattle.ipv4_packet.specs.declared.flow.FlowId.TheVariants as flows
-use Rattle.ipv4_packet.specs.declared.flow.FlowKind.{FlowKind}
-use Rattle.ipv4_packet.specs.declared.flow.FlowKind.TheVariants.{One, Two}
-use Rattle.ipv4_packet.specs.Identifier.{FitsFields}
-use Rattle.ipv4_packet.specs.Flow.{shows_ports, flow_of}
 use Rattle.flow_encaps.specs.declared.default.EncapsFault.{EncapsFault}
 use Rattle.flow_encaps.specs.Unwrapped.{default_unwrapped, unwrapped}
 use Rattle.ifmp_wire.specs.declared.message.Message.{Message}
-use Rattle.ifmp_wire.specs.declared.reader.Fault.{Fault}
 use Rattle.ifmp_wire.specs.Message.{InRange, FitsMessage, octets_of}
-use Rattle.ifmp_wire.specs.Fields.{decoded}
 use Rattle.wire_laws.proofs.Packets.{protocol_is}
 use Rattle.link_model.specs.Ledger.{payload_of}
 use Rattle.ordered_lists.specs.Ordered.{Every}
 use Rattle.port_facts.proofs.Keyed.{by_eq, at_key, at_every}
 use Rattle.port_model.specs.Labels.{Label, LabelState, Wiring, is_bound, label_number}
 use Rattle.port_model.specs.Port.{label_at, labels_of}
-use Rattle.port_model.specs.Counting.{packet_flow}
 use Rattle.world_model.specs.Controller.{Controller, Linked, port_key, linked_at, default_channel}
 use Rattle.world_model.specs.Packets.{is_control, control_protocol}
 use Rattle.world_model.specs.Cells.{Taker, ForGsmp, ForDefault, ForLabel, port_on, on_link, same_channel, label_taker, taker_at, taker_of}
 use Rattle.controller_bindings.specs.Bindings.{HasBoundLabels, IsBoundLast}
+use Rattle.controller_bindings.proofs.Lasts.{some_same}
 use Rattle.crossbar_model.specs.Crossbar.{queue_of}
 use Rattle.world_model.specs.Switch.{control_port}
-use Rattle.shown_cells.specs.Label.{Told, told_in, told_of}
+use Rattle.shown_cells.specs.Label.{Told}
 use Rattle.controller_views.proofs.Works.{port_is}
 use Rattle.arrival_views.specs.Packets.{IsFree, of_control, of_packet, IsPlain}
 use Rattle.arrival_views.specs.Cells.{IsTold}
+use Rattle.arrival_views.proofs.Hears.{told_is}
 use Rattle.world_model.specs.declared.link.LinkEnd.{LinkEnd}
 use Rattle.world_model.specs.Conditions.{IsPlace}
 use Rattle.world_model.specs.World.{Site, site_at}
 use Rattle.world_model.specs.Places.{queue_in, queue_at}
-use Rattle.world_model.specs.Ways.{told}
 use Rattle.world_model.specs.Past.{Past, frames_of, last_bound}
 use Rattle.world_model.specs.Run.{put_away}
 use Rattle.world_views.specs.Made.{IsFit}
@@ -58,34 +49,10 @@ use Rattle.world_views.specs.Shown.{acting}
 use Rattle.world_views.specs.Between.{IsWorld}
 use Rattle.frame_readings.specs.Reading.{IsToldAs, Holds, sent as holds_sent, told as holds_told}
 use Rattle.frame_readings.proofs.Reading.{read_default, read_told, read_label}
-
--- *A packet's flow* has its fields' widths
-guarded : (b : Bool) (flow found : FlowId) → FitsFields flow → ◌≡◌ {A = Option FlowId} (if b then Some flow else None) (Some found) → FitsFields found
-guarded true flow found fits e = (let same : flow ≡ found = cc in subst FitsFields same fits)
-guarded false flow found fits e = absurd (cc e)
-
-flow_fits : (kind : FlowKind) (packet : List ℕ) → AreOctets packet → (flow : FlowId) → flow_of kind packet ≡ Some flow → FitsFields flow
-flow_fits One packet small flow e = guarded (not (ttl_of packet == 0) && shows_ports packet)
-    (flows.One (tos_of packet) (ttl_of packet) (protocol_of packet) (source_of packet) (destination_of packet) (u16_at packet 20) (u16_at packet 22)) flow
-    (omega (arith, small 1), omega (arith, small 8), omega (arith, small 9), u32_at-fits packet 12 small, u32_at-fits packet 16 small, u16_at-fits packet 20 small, u16_at-fits packet 22 small) e
-flow_fits Two packet small flow e = guarded (not (ttl_of packet == 0)) (flows.Two (ttl_of packet) (source_of packet) (destination_of packet)) flow
-    (omega (arith, small 8), u32_at-fits packet 12 small, u32_at-fits packet 16 small) e
-
-pub packet_fits : (packet : List ℕ) → IsFit packet → (flow : FlowId) → packet_flow packet ≡ Some flow → FitsFields flow
-packet_fits packet fit flow e = by (flow_of One packet) refl e
-  where
-    by : (o : Option FlowId) → flow_of One packet ≡ o → option_or o (flow_of Two packet) ≡ Some flow → FitsFields flow
-    by None is e = flow_fits Two packet (λ i. fit.octets i) flow e
-    by (Some found) is e = flow_fits One packet (λ i. fit.octets i) flow (is ∙ e)
+use Rattle.running_worlds.proofs.Labels.{IsOfLabel}
+use Rattle.label_events.proofs.Enters.{first_passed, long_by}
 
 -- *A packet that isn't refused* has a header
-first_passed : (b : Bool) (fault : PacketFault) (rest : Option PacketFault) → (if b then Some fault else rest) ≡ None → b ≡ false
-first_passed true fault rest e = absurd (cc e)
-first_passed false fault rest e = refl
-
-long_by : (n : ℕ) → nat_lt n 20 ≡ false → 20 ≤ n
-long_by n e = grind (arith, nat_tests)
-
 pub plain_packet : (packet : List ℕ) → first_fault packet ≡ None → (protocol_of packet == control_protocol) ≡ false → IsPlain packet
 plain_packet packet whole other = record { long = long_by (length packet) (first_passed (nat_lt (length packet) 20) Short _ whole); protocol = other }
 
@@ -95,23 +62,7 @@ pub record Hearable (packet : List ℕ) (message : Message) : Type 0 where
   pub range : InRange message
   pub fits : FitsMessage message
 
-told_is : (payload packet : List ℕ) (message : Message) → IsTold payload packet message → told_of payload ≡ Some (record { source = source_of packet; message = message })
-told_is payload packet message t = ap (λ (r : Result (List ℕ) EncapsFault). option_and_then told_in (told r)) t.unwrapped
-    ∙ (ap (λ (b : Bool). option_map (λ (m : Message). record { source = source_of packet; message = m }) (if b then told (decoded (drop 20 packet)) else None)) t.protocol
-    ∙ ap (λ (r : Result Message Fault). option_map (λ (m : Message). record { source = source_of packet; message = m }) (told r)) t.decoded)
-
 -- *Takers*
-pub record IsLabelTaker (c : Controller) (channel : Channel) (linked : Linked) (label : Label) : Type 0 where
-  pub found : linked_at c (port_on channel) ≡ Some linked
-  pub other : same_channel (on_link channel) default_channel ≡ false
-  pub number : ℕ
-  pub is : label_number_of (on_link channel) ≡ Some number
-  pub held : label_at linked.port number ≡ Some label
-  pub bound : is_bound label.state ≡ true
-
-same_some : {A : Type 0} (x y : A) → ◌≡◌ {A = Option A} (Some x) (Some y) → x ≡ y
-same_some x y e = cc
-
 not_none : {A : Type 0} (x : A) → ◌≡◌ {A = Option A} None (Some x) → ⊥
 not_none x e = absurd (cc e)
 
@@ -130,46 +81,46 @@ default_of (ForDefault linked) = true
 default_of taker = false
 
 module _ (c : Controller) (channel : Channel) where
-  pub label_is : (linked : Linked) (label : Label) → taker_of c channel ≡ Some (ForLabel linked label) → IsLabelTaker c channel linked label
+  pub label_is : (linked : Linked) (label : Label) → taker_of c channel ≡ Some (ForLabel linked label) → IsOfLabel c channel linked label
   label_is linked label e = by_gsmp (same_channel channel default_channel) e
     where
       by_state : (x : Linked) → linked_at c (port_on channel) ≡ Some x → same_channel (on_link channel) default_channel ≡ false → (n : ℕ) → label_number_of (on_link channel) ≡ Some n → (y : Label) → label_at x.port n ≡ Some y
-          → (b : Bool) → is_bound y.state ≡ b → (if b then Some (ForLabel x y) else None) ≡ Some (ForLabel linked label) → IsLabelTaker c channel linked label
+          → (b : Bool) → is_bound y.state ≡ b → (if b then Some (ForLabel x y) else None) ≡ Some (ForLabel linked label) → IsOfLabel c channel linked label
       by_state x found other n is y held false bound e = absurd (not_none (ForLabel linked label) e)
       by_state x found other n is y held true bound e =
-          let taker : ForLabel x y ≡ ForLabel linked label = same_some (ForLabel x y) (ForLabel linked label) e in
-          let one : x ≡ linked = same_some x linked (ap linked_of taker) in
-          let two : y ≡ label = same_some y label (ap label_of taker) in
+          let taker : ForLabel x y ≡ ForLabel linked label = some_same (ForLabel x y) (ForLabel linked label) e in
+          let one : x ≡ linked = some_same x linked (ap linked_of taker) in
+          let two : y ≡ label = some_same y label (ap label_of taker) in
           record {
             found = found ∙ ap Some one;
             other = other;
             number = n;
-            is = is;
+            numbered = is;
             held = ap (λ (z : Linked). label_at z.port n) (sym one) ∙ (held ∙ ap Some two);
             bound = ap (λ (z : Label). is_bound z.state) (sym two) ∙ bound;
           }
 
       by_held : (x : Linked) → linked_at c (port_on channel) ≡ Some x → same_channel (on_link channel) default_channel ≡ false → (n : ℕ) → label_number_of (on_link channel) ≡ Some n → (o : Option Label) → label_at x.port n ≡ o
-          → label_taker x o ≡ Some (ForLabel linked label) → IsLabelTaker c channel linked label
+          → label_taker x o ≡ Some (ForLabel linked label) → IsOfLabel c channel linked label
       by_held x found other n is None held e = absurd (not_none (ForLabel linked label) e)
       by_held x found other n is (Some y) held e = by_state x found other n is y held (is_bound y.state) refl e
 
       by_number : (x : Linked) → linked_at c (port_on channel) ≡ Some x → same_channel (on_link channel) default_channel ≡ false → (o : Option ℕ) → label_number_of (on_link channel) ≡ o
-          → label_taker x (option_and_then (label_at x.port) o) ≡ Some (ForLabel linked label) → IsLabelTaker c channel linked label
+          → label_taker x (option_and_then (label_at x.port) o) ≡ Some (ForLabel linked label) → IsOfLabel c channel linked label
       by_number x found other None is e = absurd (not_none (ForLabel linked label) e)
       by_number x found other (Some n) is e = by_held x found other n is (label_at x.port n) refl e
 
       by_default : (x : Linked) → linked_at c (port_on channel) ≡ Some x → (b : Bool) → same_channel (on_link channel) default_channel ≡ b
-          → (if b then Some (ForDefault x) else label_taker x (option_and_then (label_at x.port) (label_number_of (on_link channel)))) ≡ Some (ForLabel linked label) → IsLabelTaker c channel linked label
-      by_default x found true other e = absurd (not_none label (ap label_of (same_some (ForDefault x) (ForLabel linked label) e)))
+          → (if b then Some (ForDefault x) else label_taker x (option_and_then (label_at x.port) (label_number_of (on_link channel)))) ≡ Some (ForLabel linked label) → IsOfLabel c channel linked label
+      by_default x found true other e = absurd (not_none label (ap label_of (some_same (ForDefault x) (ForLabel linked label) e)))
       by_default x found false other e = by_number x found other (label_number_of (on_link channel)) refl e
 
-      by_found : (o : Option Linked) → linked_at c (port_on channel) ≡ o → taker_at o (on_link channel) ≡ Some (ForLabel linked label) → IsLabelTaker c channel linked label
+      by_found : (o : Option Linked) → linked_at c (port_on channel) ≡ o → taker_at o (on_link channel) ≡ Some (ForLabel linked label) → IsOfLabel c channel linked label
       by_found None found e = absurd (not_none (ForLabel linked label) e)
       by_found (Some x) found e = by_default x found (same_channel (on_link channel) default_channel) refl e
 
-      by_gsmp : (b : Bool) → (if b then Some ForGsmp else taker_at (linked_at c (port_on channel)) (on_link channel)) ≡ Some (ForLabel linked label) → IsLabelTaker c channel linked label
-      by_gsmp true e = absurd (not_none label (ap label_of (same_some ForGsmp (ForLabel linked label) e)))
+      by_gsmp : (b : Bool) → (if b then Some ForGsmp else taker_at (linked_at c (port_on channel)) (on_link channel)) ≡ Some (ForLabel linked label) → IsOfLabel c channel linked label
+      by_gsmp true e = absurd (not_none label (ap label_of (some_same ForGsmp (ForLabel linked label) e)))
       by_gsmp false e = by_found (linked_at c (port_on channel)) refl e
 
   pub record IsDefaultTaker (linked : Linked) : Type 0 where
@@ -184,12 +135,12 @@ module _ (c : Controller) (channel : Channel) where
       never_label x (Some y) e = by (is_bound y.state) e
         where
           by : (b : Bool) → (if b then Some (ForLabel x y) else None) ≡ Some (ForDefault linked) → ⊥
-          by true e = absurd (cc (ap default_of (same_some (ForLabel x y) (ForDefault linked) e)))
+          by true e = absurd (cc (ap default_of (some_same (ForLabel x y) (ForDefault linked) e)))
           by false e = not_none (ForDefault linked) e
 
       by_default : (x : Linked) → linked_at c (port_on channel) ≡ Some x → (b : Bool) → same_channel (on_link channel) default_channel ≡ b
           → (if b then Some (ForDefault x) else label_taker x (option_and_then (label_at x.port) (label_number_of (on_link channel)))) ≡ Some (ForDefault linked) → IsDefaultTaker linked
-      by_default x found true own e = record { found = found ∙ ap Some (same_some x linked (ap linked_of (same_some (ForDefault x) (ForDefault linked) e))); own = own }
+      by_default x found true own e = record { found = found ∙ ap Some (some_same x linked (ap linked_of (some_same (ForDefault x) (ForDefault linked) e))); own = own }
       by_default x found false own e = absurd (never_label x (option_and_then (label_at x.port) (label_number_of (on_link channel))) e)
 
       by_found : (o : Option Linked) → linked_at c (port_on channel) ≡ o → taker_at o (on_link channel) ≡ Some (ForDefault linked) → IsDefaultTaker linked
@@ -197,7 +148,7 @@ module _ (c : Controller) (channel : Channel) where
       by_found (Some x) found e = by_default x found (same_channel (on_link channel) default_channel) refl e
 
       by_gsmp : (b : Bool) → (if b then Some ForGsmp else taker_at (linked_at c (port_on channel)) (on_link channel)) ≡ Some (ForDefault linked) → IsDefaultTaker linked
-      by_gsmp true e = absurd (not_none linked (ap linked_of (same_some ForGsmp (ForDefault linked) e)))
+      by_gsmp true e = absurd (not_none linked (ap linked_of (some_same ForGsmp (ForDefault linked) e)))
       by_gsmp false e = by_found (linked_at c (port_on channel)) refl e
 
 -- *In a network* between events
@@ -247,19 +198,19 @@ module _ (past : Past) (world : IsWorld past) (node : NodeId) (site : Site) (cel
     where
       by : (b : Bool) → (if b then None else Some (record { node = node; port = port })) ≡ Some far → record { node = node; port = port } ≡ far
       by true e = absurd (not_none far e)
-      by false e = same_some (record { node = node; port = port }) far e
+      by false e = some_same (record { node = node; port = port }) far e
 
   number_by : (channel : Channel) (n : ℕ) → label_number_of channel ≡ Some n → number_of_channel channel ≡ n
   number_by channel n e = by (is_label_channel channel) e
     where
       by : (b : Bool) → (if b then Some (number_of_channel channel) else None) ≡ Some n → number_of_channel channel ≡ n
-      by true e = same_some (number_of_channel channel) n e
+      by true e = some_same (number_of_channel channel) n e
       by false e = absurd (not_none n e)
 
   not_wiring : (state : LabelState) → is_bound state ≡ true → state ≢ Wiring
   not_wiring state bound is = absurd (cc (sym (ap is_bound is) ∙ bound))
 
-  pub label_fit : HasBoundLabels node past.records (acting past.now site) → (linked : Linked) (label : Label) (payload packet : List ℕ) → IsLabelTaker site.controller cell.header.channel linked label
+  pub label_fit : HasBoundLabels node past.records (acting past.now site) → (linked : Linked) (label : Label) (payload packet : List ℕ) → IsOfLabel site.controller cell.header.channel linked label
       → payload_of past.now.notes.frames cell.mark ≡ Some payload → unwrapped label.flow payload ≡ Ok packet → IsFit packet
   label_fit bound linked label payload packet t made is = by (heading_at past.topology (Up node) cell.header.channel) refl cell.header.last cell.mark refl means
     where
@@ -267,7 +218,7 @@ module _ (past : Past) (world : IsWorld past) (node : NodeId) (site : Site) (cel
       port = port_is linked.setup.port (port_on cell.header.channel) (at_key port_key (port_on cell.header.channel).0 site.controller.ports linked t.found)
 
       number : label.number ≡ number_of_channel (on_link cell.header.channel)
-      number = at_key label_number t.number (labels_of linked.port) label t.held ∙ sym (number_by (on_link cell.header.channel) t.number t.is)
+      number = at_key label_number t.number (labels_of linked.port) label t.held ∙ sym (number_by (on_link cell.header.channel) t.number t.numbered)
 
       last : last_bound past.records (record { node = node; port = port_on cell.header.channel }) (number_of_channel (on_link cell.header.channel)) ≡ Some label.flow
       last = subst (λ (p : PortNo). last_bound past.records (record { node = node; port = p }) (number_of_channel (on_link cell.header.channel)) ≡ Some label.flow) port
@@ -286,9 +237,9 @@ module _ (past : Past) (world : IsWorld past) (node : NodeId) (site : Site) (cel
       by to e last_one mark same (plain own is_last far end octets made_so come new) = absurd (not_default to e own)
       by to e last_one mark same (labelled other far end flow bound_so payload_so octets made_so carried come new) =
           let far_is : record { node = node; port = port_on cell.header.channel } ≡ far = own_is (port_on cell.header.channel) far (sym (ap (λ (h : Heading). h.end) e) ∙ end) in
-          let flow_is : flow ≡ label.flow = same_some flow label.flow (sym bound_so ∙ (ap (λ (h : Heading). last_bound past.records far (number_of_channel h.channel)) e
+          let flow_is : flow ≡ label.flow = some_same flow label.flow (sym bound_so ∙ (ap (λ (h : Heading). last_bound past.records far (number_of_channel h.channel)) e
           ∙ (ap (λ (x : LinkEnd). last_bound past.records x (number_of_channel (on_link cell.header.channel))) (sym far_is) ∙ last))) in
-          let payload_is : payload_so ≡ payload = same_some payload_so payload (sym made_so ∙ (ap (λ (m : Mark). payload_of (frames_of past) m) same ∙ made)) in
+          let payload_is : payload_so ≡ payload = some_same payload_so payload (sym made_so ∙ (ap (λ (m : Mark). payload_of (frames_of past) m) same ∙ made)) in
           let read : unwrapped label.flow payload ≡ Ok octets = subst (λ (f : FlowId). unwrapped f payload ≡ Ok octets) flow_is
           (subst (λ (p : List ℕ). unwrapped flow p ≡ Ok octets) payload_is (read_label flow payload_so octets carried)) in
           let one : octets ≡ packet = same_ok octets packet (sym read ∙ is) in

@@ -50,6 +50,7 @@ use Rattle.controller_views.proofs.AtPort.{at_port_leads}
 use Rattle.controller_lifts.proofs.Lifts.{joined_says, lent_says}
 use Rattle.quiet_controllers.specs.Quiet.{entered_for, entered, Enters, here, later}
 use Rattle.label_worlds.specs.Enters.{EntersTo}
+use Rattle.controller_bindings.proofs.Lasts.{some_same}
 
 -- *More may be joined* behind than before: from every line that is shown with the one, moves lead to one that is shown with
 -- the other
@@ -147,9 +148,6 @@ pub record IsEntering (a : Acted) (input : ChannelEnd) (join : Join) : Type 0 wh
   sending : grant.state ≡ ByController
   is : record { input = input; port = linked.setup.port; grant = grant } ≡ join
 
-same_some : {A : Type 0} (x y : A) → ◌≡◌ {A = Option A} (Some x) (Some y) → x ≡ y
-same_some x y e = cc
-
 tries_by : (a : Acted) (input : ChannelEnd) (label : Label) (b : Bool) → (if b then joins a (join_for a.controller input label.flow) else a) ≡ joins a (if b then join_for a.controller input label.flow else None)
 tries_by a input label true = refl
 tries_by a input label false = refl
@@ -175,7 +173,7 @@ module _ (setups : List Setup) where
             found = found_at_own setups a linked port found;
             granted = apart_at grant_label (λ (g : Grant). is_by_controller g.state && same_flow g.flow next) linked.port.grants grant (found_port setups a linked port h found).apart is;
             sending = by_controller grant.state (and_first (is_by_controller grant.state) (same_flow grant.flow next) passes);
-            is = same_some (record { input = input; port = linked.setup.port; grant = grant }) join e;
+            is = some_same (record { input = input; port = linked.setup.port; grant = grant }) join e;
           }
 
       by_found : (o : Option Linked) → linked_at a.controller port ≡ o → join_through input next o ≡ Some join → IsEntering a input join
@@ -288,7 +286,7 @@ module _ (setups : List Setup) where
           λ other. turns_on link Upstream like like more a (tries_join a input) (fold tries_join (tries_join a input) inputs)
           (subst (λ (b : Acted). EndLeads link like Upstream a [] b []) (next_is (Some join) is) (join_leads link proper like Upstream a input join e))
           (rest (behind_one like more a input inputs (λ other_join found to. other (subst (λ (j : Join). (j.port.0 ≡ (link.port Upstream).0) × (j.grant.label ≡ link.label))
-          (same_some other_join join (sym found ∙ is)) (same_output other_join to))) f)) in
+          (some_same other_join join (sym found ∙ is)) (same_output other_join to))) f)) in
           by_eq join.port.0 (link.port Upstream).0
           (λ port t. by_eq join.grant.label link.label
           (λ label u. turns_on link Upstream like more more a (tries_join a input) (fold tries_join (tries_join a input) inputs)

@@ -1,6 +1,6 @@
 -- the line of each label of each link is kept by every event
 
-use Rattle.std.proofs.Common.{◌≡◌, ◌<◌, List, [], ◌∷◌, ◌++◌, refl, sym, ◌∙◌, ap, subst}
+use Rattle.std.proofs.Common.{◌≡◌, ◌<◌, List, [], ◌++◌, refl, sym, ◌∙◌, ap, subst}
 use Rattle.net_types.specs.declared.node.NodeId.{NodeId}
 use Rattle.net_types.specs.declared.node.Place.TheVariants.{Down, Up, Out}
 use Rattle.net_types.specs.declared.channel.End.{End}
@@ -14,7 +14,7 @@ use Rattle.world_model.specs.declared.event.Event.TheVariants.{Inject, Carry, Lo
 use Rattle.world_model.specs.Topology.{Topology}
 use Rattle.world_model.specs.Conditions.{IsTopology, IsEvent}
 use Rattle.world_model.specs.World.{World, opened}
-use Rattle.world_model.specs.Run.{next, world_after}
+use Rattle.world_model.specs.Run.{next}
 use Rattle.world_model.specs.Past.{Past, past_of}
 use Rattle.world_model.specs.Headline.{IsTame}
 use Rattle.port_views.specs.Link.{LinkLabel}
@@ -29,11 +29,7 @@ use Rattle.label_worlds.specs.Conduct.{now_of, then_of, CellsArrive, TicksLead, 
 use Rattle.label_worlds.proofs.Ends.{proper, apart}
 use Rattle.run_facts.proofs.Forged.{none_forged}
 use Rattle.label_worlds.proofs.Events.{IsPlain, follows_lose, follows_down, follows_over, follows_inject, follows_restart, follows_route, follows_switch, follows_switch_restart}
-
--- *One event more*
-after_one : (topology : Topology) (w : World) (before : List Event) (event : Event) → world_after topology w (before ++ event ∷ []) ≡ next topology (world_after topology w before) event
-after_one topology w [] event = refl
-after_one topology w (first ∷ before) event = after_one topology (next topology w first) before event
+use Rattle.causes.proofs.Runs.{after_one}
 
 -- *The sites* before an event, and that no frame is forged in it
 abbrev pub SitesArePlain : Type 0

@@ -20,7 +20,7 @@ use Rattle.world_model.specs.Topology.{Topology}
 use Rattle.world_model.specs.Conditions.{IsEvent}
 use Rattle.world_model.specs.World.{World, Site, site_at, at_controller, opened}
 use Rattle.world_model.specs.Places.{queue_in, queue_at}
-use Rattle.world_model.specs.Run.{next, put_away, world_after}
+use Rattle.world_model.specs.Run.{next, put_away}
 use Rattle.world_model.specs.Past.{Past, past_of}
 use Rattle.world_model.specs.Headline.{IsRun, IsTame}
 use Rattle.world_views.specs.Pairs.{Pairs, IsLike}
@@ -40,10 +40,7 @@ use Rattle.pairs.specs.Asked.{AnswersSettle}
 use Rattle.pairs.specs.Past.{RunsMakeNoPairs}
 use Rattle.label_worlds.proofs.Arriving.{arrives}
 use Rattle.label_worlds.proofs.Ticking.{Ticks, tick_goes}
-
-one_more : (topology : Topology) (w : World) (before : List Event) (event : Event) → world_after topology w (before ++ event ∷ []) ≡ next topology (world_after topology w before) event
-one_more topology w [] event = refl
-one_more topology w (first ∷ before) event = one_more topology (next topology w first) before event
+use Rattle.causes.proofs.Runs.{after_one}
 
 -- *Of a run*
 module _ (nodes : RunsHaveNodes) (room : RunsHaveRoom) (policy : Policy) (topology : Topology) (before : List Event) (event : Event) (comes : Comes policy topology before event)
@@ -64,7 +61,7 @@ module _ (nodes : RunsHaveNodes) (room : RunsHaveRoom) (policy : Policy) (topolo
   meant = (comes.run.each before [] event refl).meant
 
   then_is : then_of policy topology before event ≡ next topology past.now event
-  then_is = one_more topology (opened policy topology) before event
+  then_is = after_one topology (opened policy topology) before event
 
   tame : IsTame (next topology past.now event).notes.records
   tame = subst (λ (v : World). IsTame v.notes.records) then_is (runs_have_fronts policy topology before event comes).new_tame

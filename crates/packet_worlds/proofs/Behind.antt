@@ -40,6 +40,7 @@ use Rattle.world_views.specs.Between.{IsWorld}
 use Rattle.world_views.specs.Kept.{behind}
 use Rattle.causes.proofs.Shown.{IsPeer, peer_back}
 use Rattle.run_facts.specs.Steps.{IsPast, IsStep, Stays}
+use Rattle.run_facts.proofs.Numbers.{some_of}
 use Rattle.packet_worlds.proofs.Meant.{in_frames, IsProper, MeansAt}
 use Rattle.packet_worlds.proofs.Good.{IsTrueRecord}
 use Rattle.packet_worlds.proofs.Headings.{own_is, label_is, channel_is}
@@ -48,7 +49,6 @@ use Rattle.packet_worlds.specs.Channels.{HasChannels}
 use Rattle.packet_worlds.specs.Law.{HasPackets}
 use Rattle.packet_worlds.proofs.Bound.{bound_stays, none_binds, none_own, got_split, got_within}
 use Rattle.packet_worlds.proofs.Turns.{IsOld, IsUnlabelled, Ends}
-use Rattle.packet_worlds.proofs.Sites.{every_among}
 
 -- a channel of the control link is that of its port
 whole_channel : (channel : Channel) → channel_on_control (port_on channel) (on_link channel) ≡ channel
@@ -151,7 +151,7 @@ module _ (policy : Policy) (topology : Topology) (topology_is : IsTopology topol
         by : BindsNone v.notes.records ⊎ IsUnlabelled topology w v → Every (λ (item : Record). bound_by far label item ≡ None) Q.now.notes.records
         by (inl none) = none_binds Q.now.notes.records far label (subst BindsNone (sym records_are) none)
         by (inr old) =
-            let cell_old : IsOld topology w place cell = every_among (IsOld topology w place) (queue_at v place) cell (old place there) c in
+            let cell_old : IsOld topology w place cell = some_of (IsOld topology w place) (queue_at v place) cell (old place there) c in
             let found : IsUser topology P.now far label = cell_uses topology topology_is P.now place cell there (was_there cell_old) far led other (channels place cell there (was_there cell_old)) in
             none_own Q.now.notes.records far label (λ item flow in_now e. (
             let bind_is : item ≡ Bind found.way.down.node found.way.down.port label flow = e ∙ ap (λ (x : LinkEnd). Bind x.node x.port label flow) (sym found.down) in
@@ -178,7 +178,7 @@ module _ (policy : Policy) (topology : Topology) (topology_is : IsTopology topol
     cell_at place cell there c = subst (λ (z : World). Contains (queue_at z place) cell) now_is c
 
     meaning : (place : Place) (cell : Cell) → IsPlace topology place → Contains (queue_at Q.now place) cell → MeansAt B v.notes.frames place cell
-    meaning place cell there c = every_among (MeansAt B v.notes.frames place) (queue_at v place) cell (ends.good.meant place there) (cell_at place cell there c)
+    meaning place cell there c = some_of (MeansAt B v.notes.frames place) (queue_at v place) cell (ends.good.meant place there) (cell_at place cell there c)
 
     -- *Fates*
     fates_are : (k : ℕ) → fates_of Q k ≡ count_by (is_fate_of k) P.records + count_by (is_fate_of k) v.notes.records
@@ -227,10 +227,10 @@ module _ (policy : Policy) (topology : Topology) (topology_is : IsTopology topol
         true_fates = record {
           delivered = λ at x node number packet there c. fate_of at x (Delivered node number packet) number (IsDelivered node packet) there c
               (λ was. is.packets.true_fates.delivered at x node number packet was c)
-              (λ in_v. every_among (IsTrueRecord B (length before)) v.notes.records (Delivered node number packet) ends.good.truths in_v);
+              (λ in_v. some_of (IsTrueRecord B (length before)) v.notes.records (Delivered node number packet) ends.good.truths in_v);
           dropped = λ at x node number cause there c. fate_of at x (Dropped node number cause) number (IsDropped node cause) there c
               (λ was. is.packets.true_fates.dropped at x node number cause was c)
-              (λ in_v. every_among (IsTrueRecord B (length before)) v.notes.records (Dropped node number cause) ends.good.truths in_v);
+              (λ in_v. some_of (IsTrueRecord B (length before)) v.notes.records (Dropped node number cause) ends.good.truths in_v);
         };
       };
       channels = λ place cell there c. (meaning place cell there c).1;

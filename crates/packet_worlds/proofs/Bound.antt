@@ -1,6 +1,6 @@
 -- the flow that a label was bound to last, behind more records
 
-use Rattle.std.proofs.Common.{◌≡◌, ◌⊎◌, inl, inr, ℕ, zero, suc, ◌<◌, ◌+◌, ◌==◌, ◌&&◌, Bool, true, false, List, [], ◌∷◌, ◌++◌, length, Option, None, Some, refl, sym, ◌∙◌, ap, arith, if◌then◌else◌}
+use Rattle.std.proofs.Common.{◌≡◌, ◌⊎◌, inl, inr, ℕ, zero, suc, ◌<◌, ◌+◌, ◌==◌, ◌&&◌, Bool, true, false, List, [], ◌∷◌, ◌++◌, length, None, Some, refl, ◌∙◌, ap, arith, if◌then◌else◌}
 use Rattle.std.specs.Prelude.{Contains, slice_get}
 use Rattle.std.specs.List.{list_any, count_by}
 use Rattle.std.specs.Option.{option_or}
@@ -12,29 +12,18 @@ use Rattle.link_model.specs.declared.record.Record.TheVariants.{Bind}
 use Rattle.net_types.specs.declared.node.NodeId.{NodeId}
 use Rattle.net_types.specs.declared.node.PortNo.{PortNo}
 use Rattle.ordered_lists.specs.Ordered.{Every}
+use Rattle.run_facts.proofs.Frames.{bound_then}
 use Rattle.packet_worlds.proofs.Lists.{or_left, or_right, count_by-skip}
 use Rattle.world_model.specs.declared.link.LinkEnd.{LinkEnd}
 use Rattle.world_model.specs.Past.{bound_by, last_bound}
 use Rattle.world_model.specs.Headline.{is_bind}
-
-or_none : {A : Type 0} (o : Option A) → option_or o None ≡ o
-or_none None = refl
-or_none (Some x) = refl
-
-or_assoc : {A : Type 0} (a b c : Option A) → option_or (option_or a b) c ≡ option_or a (option_or b c)
-or_assoc None b c = refl
-or_assoc (Some x) b c = refl
-
-bound_append : (xs ys : List Record) (end : LinkEnd) (label : ℕ) → last_bound (xs ++ ys) end label ≡ option_or (last_bound ys end label) (last_bound xs end label)
-bound_append [] ys end label = sym (or_none (last_bound ys end label))
-bound_append (x ∷ xs) ys end label = ap (λ o. option_or o (bound_by end label x)) (bound_append xs ys end label) ∙ or_assoc (last_bound ys end label) (last_bound xs end label) (bound_by end label x)
 
 bound_none : (ys : List Record) (end : LinkEnd) (label : ℕ) → Every (λ (item : Record). bound_by end label item ≡ None) ys → last_bound ys end label ≡ None
 bound_none [] end label each = refl
 bound_none (y ∷ ys) end label each = ap (λ o. option_or o (bound_by end label y)) (bound_none ys end label each.1) ∙ each.0
 
 pub bound_stays : (xs ys : List Record) (end : LinkEnd) (label : ℕ) → Every (λ (item : Record). bound_by end label item ≡ None) ys → last_bound (xs ++ ys) end label ≡ last_bound xs end label
-bound_stays xs ys end label each = bound_append xs ys end label ∙ ap (λ o. option_or o (last_bound xs end label)) (bound_none ys end label each)
+bound_stays xs ys end label each = bound_then xs ys end label ∙ ap (λ o. option_or o (last_bound xs end label)) (bound_none ys end label each)
 
 unbinding : (end : LinkEnd) (label : ℕ) (item : Record) → is_bind item ≡ false → bound_by end label item ≡ None
 unbinding end label (records.Delivered node packet octets) e = refl
@@ -58,7 +47,7 @@ none_binds [] end label none = tt
 none_binds (y ∷ ys) end label none = (unbinding end label y (or_left (is_bind y) (list_any is_bind ys) none), none_binds ys end label (or_right (is_bind y) (list_any is_bind ys) none))
 
 -- or no record is its binding
-and_parts : (a b : Bool) → a && b ≡ true → (a ≡ true) × (b ≡ true)
+pub and_parts : (a b : Bool) → a && b ≡ true → (a ≡ true) × (b ≡ true)
 and_parts true true e = (refl, refl)
 and_parts true false e = absurd (cc e)
 and_parts false b e = absurd (cc e)

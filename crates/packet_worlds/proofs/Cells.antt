@@ -8,7 +8,7 @@ use Rattle.net_types.specs.declared.node.PortNo.{PortNo}
 use Rattle.net_types.specs.declared.node.Place.TheVariants.{Down, Up}
 use Rattle.net_types.specs.declared.channel.Channel.{Channel}
 use Rattle.net_types.specs.declared.number.Mark.{Mark}
-use Rattle.net_types.specs.Label.{number_of_channel, label_number_of, is_label_channel}
+use Rattle.net_types.specs.Label.{number_of_channel, label_number_of}
 use Rattle.atm_cells.specs.declared.cell.Cell.{Cell}
 use Rattle.link_model.specs.declared.record.Record.TheVariants.{Loss, Chance}
 use Rattle.link_model.specs.declared.record.Cause.TheVariants.{PoolFull, Unbound}
@@ -26,7 +26,7 @@ use Rattle.world_model.specs.Topology.{peer_of}
 use Rattle.world_model.specs.Past.{last_bound}
 use Rattle.world_model.specs.Headline.{IsTame}
 use Rattle.world_views.specs.Marks.{heading_at, Means}
-use Rattle.packet_worlds.proofs.Ledger.{entered, broken_cells, last_mark-push, is_made}
+use Rattle.packet_worlds.proofs.Ledger.{entered, broken_cells, is_made}
 use Rattle.packet_worlds.proofs.Cut.{one}
 use Rattle.packet_worlds.proofs.Meant.{in_frames}
 use Rattle.packet_worlds.proofs.Good.{Turn, Now, IsTurn, IsGood, nothing, good_hand, good_loss, good_broken, good_without}
@@ -35,6 +35,8 @@ use Rattle.packet_worlds.proofs.Sends.{now_of, HasGrants, IsReady}
 use Rattle.packet_worlds.proofs.Quietly.{BindsNone, push_none, AllowsDefault, AreFew}
 use Rattle.way_words.proofs.Switching.{taken_cases}
 use Rattle.packet_worlds.proofs.Takes.{broken_none, opened_grows, chain_ended, fair, HasLabels, Leaves, holds_gsmp, holds_default, holds_label}
+use Rattle.packet_worlds.proofs.Sites.{number_same}
+use Rattle.shown_cells.proofs.Tested.{last_is}
 
 -- *Who takes it*
 data Took (c : Controller) (channel : Channel) : Option Taker → Type 0 where
@@ -81,13 +83,6 @@ taker_is : (c : Controller) (channel : Channel) (taker : Taker) → Took c chann
 taker_is c channel ForGsmp took_it = tt
 taker_is c channel (ForDefault linked) (default at_port found far on) = found_own c (port_on channel) at_port found
 taker_is c channel (ForLabel linked label_one) (label at_port found other l number is at_one bound) = found_own c (port_on channel) at_port found
-
-number_same : (channel : Channel) (number : ℕ) → label_number_of channel ≡ Some number → number_of_channel channel ≡ number
-number_same channel number e = by (is_label_channel channel) e
-  where
-    by : (b : Bool) → (if b then Some (number_of_channel channel) else None) ≡ Some number → number_of_channel channel ≡ number
-    by true f = cc
-    by false f = absurd (cc f)
 
 module _ (t : Turn) where
   -- the table and the grants of a controller whose channel has taken a cell
@@ -195,7 +190,7 @@ module _ (t : Turn) (turn : IsTurn t) (node : NodeId) (here : t.place ≡ Down n
     ended taker r chain (Some payload) took_it last tame =
         let b : Acted = with_reassembly a taker r in
         let mark : Mark = last_mark (chain ++ cell ∷ []) in
-        let same : mark ≡ cell.mark = last_mark-push chain cell in
+        let same : mark ≡ cell.mark = last_is chain cell in
         let is_one : is_frame a.notes.frames mark payload ≡ true = fair a.notes mark payload (opened_frame (record b { notes = passed a.notes mark payload }) taker cell.mark (Some payload)).notes.records
         (opened_grows (record b { notes = passed a.notes mark payload }) taker cell.mark (Some payload)) tame in
         let right : passed a.notes mark payload ≡ a.notes = ap (λ (v : Bool). if v then a.notes else noted a.notes (Chance mark)) is_one in

@@ -1,8 +1,7 @@
 -- the cells of a frame: all but the last one are no last cells, and all have its mark
 
-use Rattle.std.proofs.Common.{◌≡◌, ℕ, zero, suc, ◌<◌, ◌+◌, ◌-◌, ◌*◌, ◌==◌, true, false, cond, List, [], ◌∷◌, ◌++◌, map, length, refl, sym, ◌∙◌, ap, subst, arith, add-one, zero-add}
+use Rattle.std.proofs.Common.{◌≡◌, ℕ, ◌+◌, ◌-◌, ◌*◌, ◌==◌, true, false, cond, List, [], ◌∷◌, ◌++◌, map, length, refl, ◌∙◌, ap, arith, zero-add}
 use Rattle.std.specs.List.{range_with_len}
-use Rattle.std.proofs.lemmas.Bool.Decides.{nat_tests}
 use Rattle.std.proofs.lemmas.List.FromFn.{map-range_with_len_more, length-map-range_with_len}
 use Rattle.net_types.specs.declared.channel.Channel.{Channel}
 use Rattle.net_types.specs.declared.number.Mark.{Mark}
@@ -11,9 +10,9 @@ use Rattle.aal5_frames.specs.Frame.{cell_of, cells_for, pdu_of}
 use Rattle.aal5_frames.proofs.Cells.{cells_all, length-pdu_of}
 use Rattle.frame_model.specs.Frame.{frame_cells}
 use Rattle.ordered_lists.specs.Ordered.{Every}
-use Rattle.ordered_lists.proofs.Every.{every_join}
 use Rattle.packet_worlds.proofs.Lists.{count_by-append, count_by-cons, count_by-skip}
 use Rattle.world_views.specs.Marks.{ends, ends_in}
+use Rattle.cell_lists.proofs.Frames.{every_value, not_last, is_last}
 
 -- one where the numbers are the same, and else nothing
 abbrev pub one : ℕ → ℕ → ℕ
@@ -33,20 +32,6 @@ pub record IsCut (channel : Channel) (mark : Mark) (payload : List ℕ) (cells :
   pub marked : final.mark ≡ mark
   pub goes : final.header.channel ≡ channel
   pub size : length front + 1 ≡ cells_for (length payload)
-
--- what holds of each value of a function holds of each element that it gives
-every_value : (P : Cell → Type 0) (f : ℕ → Cell) (n : ℕ) → ((k : ℕ) → k < n → P (f k)) → Every P (map f (range_with_len 0 n))
-every_value P f zero each = tt
-every_value P f (suc n) each =
-    let more : map f (range_with_len 0 (suc n)) ≡ map f (range_with_len 0 n) ++ f n ∷ [] =
-    ap (λ m. map f (range_with_len 0 m)) (sym (add-one n)) ∙ map-range_with_len_more f 0 n n (zero-add n) in
-    subst (Every P) (sym more) (every_join P (map f (range_with_len 0 n)) (f n ∷ []) (every_value P f n (λ k low. each k (omega (arith, low)))) (each n (omega arith), tt))
-
-not_last : (k n size : ℕ) → k < n → size ≡ 48 * (n + 1) → (48 * (k + 1) == size) ≡ false
-not_last k n size low is = grind (arith, nat_tests)
-
-is_last : (n size : ℕ) → size ≡ 48 * (n + 1) → (48 * (n + 1) == size) ≡ true
-is_last n size is = grind (arith, nat_tests)
 
 pub frame_is_cut : (channel : Channel) (mark : Mark) (payload : List ℕ) → IsCut channel mark payload (frame_cells channel mark payload)
 frame_is_cut channel mark payload =

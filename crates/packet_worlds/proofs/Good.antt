@@ -19,7 +19,7 @@ use Rattle.frame_model.specs.Reassembly.{Reassembly, broken, noted_all, distinct
 use Rattle.frame_model.specs.Frame.{made}
 use Rattle.ordered_lists.specs.Ordered.{Every}
 use Rattle.ordered_lists.proofs.Every.{every_join, every_map2}
-use Rattle.packet_worlds.proofs.Lists.{if_cases, count_by-append, none_front}
+use Rattle.packet_worlds.proofs.Lists.{count_by-append, none_front}
 use Rattle.world_model.specs.Fates.{IsDelivered, IsDropped, is_fate_of, has_loss_of}
 use Rattle.world_model.specs.Places.{same_queue}
 use Rattle.world_model.specs.Conditions.{IsPlace}
@@ -29,6 +29,7 @@ use Rattle.world_views.specs.Marks.{heading_at, ends_in}
 use Rattle.packet_worlds.proofs.Ledger.{none_stays}
 use Rattle.packet_worlds.proofs.Cut.{one}
 use Rattle.packet_worlds.proofs.Meant.{IsApart, MeansAt, means_stays}
+use Rattle.port_facts.proofs.Keyed.{on_each}
 
 -- *An actor's turn*: the run with this event, but for the records, which are those before it; the time of the event; the
 -- queue that changes, and all others; how many last cells of each packet stand in these; how many packets were sent
@@ -132,7 +133,7 @@ module _ (t : Turn) where
   pub good_broken : (hand : ℕ → ℕ) (n : Now) (notes : Journal) (marks : List Mark) → IsGood t hand (record n { notes = notes }) → IsGood t hand (record n { notes = broken notes marks })
   good_broken hand n notes [] good = good
   good_broken hand n notes (mark ∷ marks) good =
-      if_cases (λ (first : Journal). IsGood t hand (record n { notes = broken first marks })) (has_entry notes.entries mark) notes (noted notes (Loss mark Broken))
+      on_each (λ (first : Journal). IsGood t hand (record n { notes = broken first marks })) (has_entry notes.entries mark) notes (noted notes (Loss mark Broken))
       (λ e. good_broken hand n notes marks good)
       (λ e. good_broken hand n (noted notes (Loss mark Broken)) marks (good_loss hand (record n { notes = notes }) mark Broken good))
 

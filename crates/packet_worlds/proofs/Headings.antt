@@ -23,6 +23,8 @@ use Rattle.world_model.specs.Cells.{port_on, on_link, same_channel}
 use Rattle.world_model.specs.declared.link.LinkEnd.{LinkEnd}
 use Rattle.world_model.specs.Topology.{Topology, peer_of}
 use Rattle.world_views.specs.Marks.{Heading, own_end, heading_at}
+use Rattle.packet_worlds.proofs.Hops.{some_flow}
+use Rattle.packet_worlds.proofs.Ledger.{and_right, and_left}
 
 -- *A channel of a port, as it shows on the control link*
 path_in : (q v : ℕ) → v < 16 → (16 * q + v) / 16 ≡ q
@@ -65,20 +67,12 @@ pub record IsLabel (channel : Channel) : Type 0 where
   pub least : 32 ≤ channel.vci
   pub greatest : channel.vci < 1024
 
-both_left : (a b : Bool) → a && b ≡ true → a ≡ true
-both_left true b e = refl
-both_left false b e = absurd (cc e)
-
-both_right : (a b : Bool) → a && b ≡ true → b ≡ true
-both_right true b e = e
-both_right false b e = absurd (cc e)
-
 pub label_is : (channel : Channel) → is_label_channel channel ≡ true → IsLabel channel
 label_is channel e =
-    let back : (nat_le 32 channel.vci && nat_lt channel.vci 1024) ≡ true = both_right (nat_lt channel.vpi 16) (nat_le 32 channel.vci && nat_lt channel.vci 1024) e in
-    let first : nat_lt channel.vpi 16 ≡ true = both_left (nat_lt channel.vpi 16) (nat_le 32 channel.vci && nat_lt channel.vci 1024) e in
-    let second : nat_le 32 channel.vci ≡ true = both_left (nat_le 32 channel.vci) (nat_lt channel.vci 1024) back in
-    let third : nat_lt channel.vci 1024 ≡ true = both_right (nat_le 32 channel.vci) (nat_lt channel.vci 1024) back in
+    let back : (nat_le 32 channel.vci && nat_lt channel.vci 1024) ≡ true = and_right (nat_lt channel.vpi 16) (nat_le 32 channel.vci && nat_lt channel.vci 1024) e in
+    let first : nat_lt channel.vpi 16 ≡ true = and_left (nat_lt channel.vpi 16) (nat_le 32 channel.vci && nat_lt channel.vci 1024) e in
+    let second : nat_le 32 channel.vci ≡ true = and_left (nat_le 32 channel.vci) (nat_lt channel.vci 1024) back in
+    let third : nat_lt channel.vci 1024 ≡ true = and_right (nat_le 32 channel.vci) (nat_lt channel.vci 1024) back in
     record { vpi = grind (arith, nat_tests, first); least = grind (arith, nat_tests, second); greatest = grind (arith, nat_tests, third) }
 
 pub no_default : (channel : Channel) → IsLabel channel → same_channel channel default_channel ≡ false
@@ -91,9 +85,6 @@ no_default channel is =
     by true b e = e
     by false b e = refl
 
-pub number_is : (label : ℕ) → number_of_channel (label_channel_of label) ≡ label
-number_is label = omega arith
-
 pub channel_is : (channel : Channel) → IsLabel channel → label_channel_of (number_of_channel channel) ≡ channel
 channel_is channel is =
     let vpi : (channel.vpi * 1024 + channel.vci) / 1024 ≡ channel.vpi = omega (arith, is.greatest) in
@@ -104,17 +95,13 @@ channel_is channel is =
 flow_by : (g : Grant) (flow : FlowId) (kind : FlowKind) (packet : List ℕ) → (is_by_controller g.state && same_flow g.flow flow) ≡ true → flow_of kind packet ≡ Some flow
     → ((f : FlowId) → flow_of kind packet ≡ Some f → kind_of f ≡ kind) → flow_of (kind_of g.flow) packet ≡ Some g.flow
 flow_by g flow kind packet passes found kinds =
-    let same : g.flow ≡ flow = flow_is g.flow flow (both_right (is_by_controller g.state) (same_flow g.flow flow) passes) in
+    let same : g.flow ≡ flow = flow_is g.flow flow (and_right (is_by_controller g.state) (same_flow g.flow flow) passes) in
     let of_kind : kind_of g.flow ≡ kind = ap kind_of same ∙ kinds flow found in
     ap (λ (k : FlowKind). flow_of k packet) of_kind ∙ (found ∙ ap (λ (f : FlowId). Some f) (sym same))
 
-some_kind : (b : Bool) (f g : FlowId) → (if b then Some f else None) ≡ Some g → f ≡ g
-some_kind true f g e = cc
-some_kind false f g e = absurd (cc e)
-
 kind_is : (kind : FlowKind) (packet : List ℕ) (f : FlowId) → flow_of kind packet ≡ Some f → kind_of f ≡ kind
-kind_is One packet f e = (let same = some_kind _ _ f e in ap kind_of (sym same))
-kind_is Two packet f e = (let same = some_kind _ _ f e in ap kind_of (sym same))
+kind_is One packet f e = (let same = some_flow _ _ f e in ap kind_of (sym same))
+kind_is Two packet f e = (let same = some_flow _ _ f e in ap kind_of (sym same))
 
 of_kind : (grants : List Grant) (kind : FlowKind) (packet : List ℕ) (g : Grant) → grant_of_kind grants kind packet ≡ Some g → flow_of (kind_of g.flow) packet ≡ Some g.flow
 of_kind grants kind packet g e = by (flow_of kind packet) refl e

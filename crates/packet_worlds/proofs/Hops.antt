@@ -36,7 +36,7 @@ abbrev pub flow_hop : List Route → FlowId → Hop
 flow_hop routes flow = hop_by (flow_ttl flow) (best routes (flow_destination flow))
 
 -- a packet's flow has its time to live and its destination
-some_flow : (test : Bool) (flow other : FlowId) → (if test then Some flow else None) ≡ Some other → flow ≡ other
+pub some_flow : (test : Bool) (flow other : FlowId) → (if test then Some flow else None) ≡ Some other → flow ≡ other
 some_flow true flow other e = cc
 some_flow false flow other e = absurd (cc e)
 

@@ -16,9 +16,10 @@ use Rattle.link_model.specs.Ledger.{payload_of, same_mark, has_entry, is_frame}
 use Rattle.link_model.specs.Notes.{Journal, noted}
 use Rattle.link_model.proofs.Latest.{payload_of_push}
 use Rattle.frame_model.specs.Reassembly.{broken, marks_of}
-use Rattle.frame_model.specs.Frame.{last_mark}
 use Rattle.world_model.specs.Fates.{has_loss_of}
 use Rattle.packet_worlds.proofs.Lists.{any_back}
+use Rattle.port_views.proofs.Hellos.{number_is}
+use Rattle.cell_lists.proofs.Taking.{marks_of-push, own_mark}
 
 -- the parts of a conjunction of tests
 pub and_left : (a b : Bool) → a && b ≡ true → a ≡ true
@@ -31,26 +32,20 @@ and_right false b e = absurd (cc e)
 
 -- *Marks and payloads*
 
-equal_numbers : (a b : ℕ) → (a == b) ≡ true → a ≡ b
-equal_numbers a b e = grind (arith, nat_tests)
-
 other_numbers : (a b : ℕ) → a ≢ b → (a == b) ≡ false
-other_numbers a b n = elim (a == b) as (λ v. (a == b) ≡ v → v ≡ false) [ true ↦ λ e. absurd (n (equal_numbers a b e)) | false ↦ λ e. refl ] refl
+other_numbers a b n = elim (a == b) as (λ v. (a == b) ≡ v → v ≡ false) [ true ↦ λ e. absurd (n (number_is a b e)) | false ↦ λ e. refl ] refl
 
 pub same_payload : (frames : List Frame) (a b : Mark) → same_mark a b ≡ true → payload_of frames a ≡ payload_of frames b
 same_payload frames a b e =
     ap₂ (λ p f. payload_of frames (record { packet = p; frame = f }))
-    (equal_numbers a.packet b.packet (and_left (a.packet == b.packet) (a.frame == b.frame) e))
-    (equal_numbers a.frame b.frame (and_right (a.packet == b.packet) (a.frame == b.frame) e))
+    (number_is a.packet b.packet (and_left (a.packet == b.packet) (a.frame == b.frame) e))
+    (number_is a.frame b.frame (and_right (a.packet == b.packet) (a.frame == b.frame) e))
 
 pub other_packet : (a b : Mark) → a.packet ≢ b.packet → same_mark a b ≡ false
 other_packet a b n = rw (other_numbers a.packet b.packet n) refl
 
 pub other_frame : (a b : Mark) → a.frame ≢ b.frame → same_mark a b ≡ false
 other_frame a b n = elim (a.packet == b.packet) as (λ v. v && (a.frame == b.frame) ≡ false) [ true ↦ other_numbers a.frame b.frame n | false ↦ refl ]
-
-pub own_mark : (mark : Mark) → same_mark mark mark ≡ true
-own_mark mark = grind (arith, nat_tests)
 
 -- a frame is made under a mark under which none was: the payloads of all other marks stay
 pub payload_stays : (frames : List Frame) (frame : Frame) (mark : Mark) (payload : List ℕ) → payload_of frames frame.mark ≡ None
@@ -105,14 +100,5 @@ broken_last [] notes mark =
     by (has_entry notes.entries mark) refl
 broken_last (first ∷ marks) notes mark = broken_last marks (if has_entry notes.entries first then notes else noted notes (Loss first Broken)) mark
 
-marks_of-push : (cells : List Cell) (cell : Cell) → marks_of (cells ++ cell ∷ []) ≡ marks_of cells ++ cell.mark ∷ []
-marks_of-push [] cell = refl
-marks_of-push (first ∷ cells) cell = ap (λ marks. first.mark ∷ marks) (marks_of-push cells cell)
-
 pub broken_cells : (notes : Journal) (cells : List Cell) (cell : Cell) → has_loss_of cell.mark.packet (broken notes (marks_of (cells ++ cell ∷ []))).entries ≡ true
 broken_cells notes cells cell = rw (marks_of-push cells cell) (broken_last (marks_of cells) notes cell.mark)
-
-pub last_mark-push : (cells : List Cell) (cell : Cell) → last_mark (cells ++ cell ∷ []) ≡ cell.mark
-last_mark-push [] cell = refl
-last_mark-push (first ∷ []) cell = refl
-last_mark-push (first ∷ second ∷ cells) cell = last_mark-push (second ∷ cells) cell

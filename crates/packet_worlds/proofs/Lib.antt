@@ -20,7 +20,6 @@ pub mod Nets
 pub mod Turns
 pub mod SwitchWorlds
 pub mod Events
-pub mod Links
 pub mod Sites
 pub mod Bound
 pub mod Starts

@@ -1,6 +1,6 @@
 -- what holds of the elements of lists, and of how many pass a test
 
-use Rattle.std.proofs.Common.{◌≡◌, ℕ, zero, suc, ◌+◌, Bool, true, false, ◌||◌, cond, if◌then◌else◌, List, [], ◌∷◌, ◌++◌, refl, arith, slice_index_or, replicate}
+use Rattle.std.proofs.Common.{◌≡◌, ℕ, zero, suc, ◌+◌, Bool, true, false, ◌||◌, cond, List, [], ◌∷◌, ◌++◌, refl, arith, slice_index_or, replicate}
 use Rattle.std.specs.List.{list_any, count_by}
 use Rattle.std.proofs.lemmas.List.Sums.{sum_by-cons, sum_by-append}
 use Rattle.ordered_lists.specs.Ordered.{Every}
@@ -13,12 +13,6 @@ or_left false b e = refl
 pub or_right : (a b : Bool) → a || b ≡ false → b ≡ false
 or_right true b e = absurd (cc e)
 or_right false b e = e
-
--- a choice has what both outcomes have
-pub if_cases : {X : Type 0} (P : X → Type 0) (b : Bool) (x y : X) → (b ≡ true → P x) → (b ≡ false → P y)
-    → P (if b then x else y)
-if_cases P true x y first second = first refl
-if_cases P false x y first second = second refl
 
 -- the same element in each place
 pub each_replicate : {X : Type 0} (F : X → Type 0) (n : ℕ) (x d : X) → F x → F d → (a : ℕ) → F (slice_index_or (replicate n x) a d)

@@ -1,6 +1,6 @@
 -- a packet that no test refuses is one behind a hop too
 
-use Rattle.std.proofs.Common.{◌≡◌, ℕ, ◌-◌, ◌/◌, ◌%◌, ◌≤◌, ◌==◌, nat_lt, not, Bool, true, false, if◌then◌else◌, List, length, Option, None, Some, refl, sym, ◌∙◌, arith, slice_index}
+use Rattle.std.proofs.Common.{◌≡◌, ℕ, ◌-◌, ◌/◌, ◌%◌, ◌≤◌, ◌==◌, nat_lt, not, if◌then◌else◌, List, length, Option, None, Some, refl, sym, ◌∙◌, arith, slice_index}
 use Rattle.std.proofs.lemmas.Bool.Decides.{nat_tests}
 use Rattle.ipv4_packet.specs.Packet.{ttl_of, total_length_of, header_sum, with_ttl, canonical, first_fault}
 use Rattle.ipv4_packet.specs.declared.validate.PacketFault.{PacketFault}
@@ -8,6 +8,7 @@ use Rattle.ipv4_packet.specs.declared.validate.PacketFault.TheVariants.{Short, V
 use Rattle.ipv4_packet.proofs.HeaderLemmas.{on_header}
 use Rattle.ipv4_packet.proofs.RouteLemmas.{length-rerouted, header_sum-rerouted, total_length_of-rerouted}
 use Rattle.ipv4_forward.specs.Hop.{onward}
+use Rattle.controller_facts.proofs.Onward.{guard}
 
 -- the first test that fails, by the numbers that are tested: length, first octet, Total Length, sum
 abbrev fault_by : (size first total sum : ℕ) → Option PacketFault
@@ -19,10 +20,6 @@ fault_by size first total sum =
     else if nat_lt 1500 size then Some TooLong
     else if not (sum == 65535) then Some Checksum
     else None
-
-guard : (b : Bool) (fault : PacketFault) (rest : Option PacketFault) → (if b then Some fault else rest) ≡ None → (b ≡ false) × (rest ≡ None)
-guard true fault rest e = absurd (cc e)
-guard false fault rest e = (refl, e)
 
 -- octets that no test refuses
 record IsSound (octets : List ℕ) : Type 0 where

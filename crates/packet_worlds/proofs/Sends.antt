@@ -2,7 +2,7 @@
 
 use Rattle.std.proofs.Common.{◌≡◌, ℕ, ◌<◌, ◌+◌, ◌==◌, ◌&&◌, Bool, true, false, List, length, Option, None, Some, refl, sym, ◌∙◌, ap, subst, arith, if◌then◌else◌}
 use Rattle.std.specs.Prelude.{nat_lt, nat_le}
-use Rattle.std.specs.Option.{option_and_then, option_map_or, option_or}
+use Rattle.std.specs.Option.{option_and_then}
 use Rattle.std.proofs.lemmas.Bool.Decides.{nat_tests}
 use Rattle.net_types.specs.declared.node.NodeId.{NodeId}
 use Rattle.net_types.specs.declared.node.PortNo.{PortNo}
@@ -12,6 +12,7 @@ use Rattle.net_types.specs.declared.channel.Channel.{Channel}
 use Rattle.net_types.specs.declared.number.Mark.{Mark}
 use Rattle.net_types.specs.Number.{next_control, with_control}
 use Rattle.net_types.specs.Label.{label_channel_of, is_label_number}
+use Rattle.net_types.proofs.Labels.{number_of_channel-label_channel_of}
 use Rattle.ipv4_packet.specs.Packet.{destination_of}
 use Rattle.ipv4_forward.specs.Best.{best}
 use Rattle.ipv4_forward.specs.Hop.{hop_of, onward}
@@ -21,9 +22,7 @@ use Rattle.ipv4_forward.specs.declared.outcome.Hop.{Hop}
 use Rattle.ipv4_forward.specs.declared.outcome.Hop.TheVariants.{Here, On, NoRoute, Expired}
 use Rattle.atm_cells.specs.declared.cell.Cell.{Cell}
 use Rattle.ipv4_packet.specs.declared.flow.FlowId.{FlowId}
-use Rattle.ipv4_packet.specs.declared.flow.FlowKind.TheVariants.{One, Two}
 use Rattle.ipv4_packet.specs.Flow.{kind_of, flow_of}
-use Rattle.ipv4_packet.specs.Parts.{same_flow}
 use Rattle.ordered_lists.specs.Ordered.{Every}
 use Rattle.flow_encaps.specs.Default.{default_payload}
 use Rattle.flow_encaps.specs.Labelled.{labelled_payload, Carries}
@@ -38,11 +37,9 @@ use Rattle.link_model.specs.Ledger.{payload_of}
 use Rattle.link_model.specs.Notes.{noted}
 use Rattle.frame_model.specs.Frame.{made, next_mark, frame_cells}
 use Rattle.frame_model.specs.Sending.{Sent}
-use Rattle.packet_worlds.proofs.Lists.{if_cases}
 use Rattle.port_model.specs.Setup.{control_end}
-use Rattle.port_model.specs.Grants.{Grant, is_by_controller, grant_for, grant_of_kind, grant_matching}
-use Rattle.port_facts.proofs.Found.{find_every}
-use Rattle.port_facts.proofs.Keyed.{at_key, at_every}
+use Rattle.port_model.specs.Grants.{Grant, grant_matching}
+use Rattle.port_facts.proofs.Keyed.{at_key, at_every, on_each}
 use Rattle.world_model.specs.Controller.{Controller, Acted, Linked, free_slots, linked_at, port_key, default_channel, default_home}
 use Rattle.world_model.specs.Sending.{with_cells, sends, sends_control, says_gsmp, says_ifmp}
 use Rattle.world_model.specs.Packets.{is_control, sends_next, goes_by, grant_by, forwarded, routes}
@@ -61,7 +58,8 @@ use Rattle.packet_worlds.proofs.Cut.{one}
 use Rattle.packet_worlds.proofs.Meant.{in_frames, IsProper, default_proper, still_come}
 use Rattle.packet_worlds.proofs.Good.{Turn, Now, IsTurn, IsGood, nothing, good_noted}
 use Rattle.packet_worlds.proofs.Frames.{IsNewFrame, good_put, good_full, good_controls, new_control, own_control, new_next}
-use Rattle.packet_worlds.proofs.Headings.{leads_down, IsLabel, label_is, no_default, number_is, matching_flow}
+use Rattle.packet_worlds.proofs.Headings.{leads_down, IsLabel, label_is, no_default, matching_flow}
+use Rattle.arrival_views.proofs.Routes.{matching_every}
 
 abbrev pub now_of : Acted → Now
 now_of a = record { cells = a.controller.queue; notes = a.notes; controls = a.numbers.controls }
@@ -89,17 +87,6 @@ pub record IsReady (t : Turn) (a : Acted) : Type 0 where
       → (far : LinkEnd) × (peer_of t.base.topology a.controller.node port ≡ Some far) × (is_linked t.base.topology far.node far.port ≡ true)
   pub granted : Every (HasGrants t a.controller.node) a.controller.ports
 
-for_every : (P : Grant → Type 0) (grants : List Grant) (o : Option FlowId) (grant : Grant) → Every P grants → option_map_or (grant_for grants) o None ≡ Some grant → P grant
-for_every P grants None grant each found = absurd (cc found)
-for_every P grants (Some flow) grant each found = find_every P (λ g. is_by_controller g.state && same_flow g.flow flow) grants grant each found
-
-matching_every : (P : Grant → Type 0) (grants : List Grant) (packet : List ℕ) (grant : Grant) → Every P grants → grant_matching grants packet ≡ Some grant → P grant
-matching_every P grants packet grant each found = by (grant_of_kind grants One packet) refl found
-  where
-    by : (o : Option Grant) → grant_of_kind grants One packet ≡ o → option_or o (grant_of_kind grants Two packet) ≡ Some grant → P grant
-    by None e f = for_every P grants (flow_of Two packet) grant each f
-    by (Some g) e f = for_every P grants (flow_of One packet) grant each (e ∙ f)
-
 granted_is : (t : Turn) (a : Acted) (packet : List ℕ) (port : PortNo) (grant : Grant) (far : LinkEnd) → IsReady t a → grant_by a.controller port packet ≡ Some grant
     → peer_of t.base.topology a.controller.node port ≡ Some far → IsGrantOf t far grant
 granted_is t a packet port grant far ready is led = by (linked_at a.controller port) refl is
@@ -118,7 +105,7 @@ module _ (t : Turn) where
       → ((k : ℕ) → 0 < k → hand k ≡ one mark.packet k + other k) → IsGood t hand (now_of a) → IsGood t other (now_of (sends a channel mark payload))
   good_sends hand other a channel mark payload new own good =
       let cells : List Cell = frame_cells channel mark payload in
-      if_cases (λ (s : Sent Controller). IsGood t other (record { cells = s.queues.queue; notes = s.notes; controls = a.numbers.controls })) (nat_le (length cells) (free_slots a.controller))
+      on_each (λ (s : Sent Controller). IsGood t other (record { cells = s.queues.queue; notes = s.notes; controls = a.numbers.controls })) (nat_le (length cells) (free_slots a.controller))
       (record { queues = with_cells a.controller cells; notes = made a.notes mark payload })
       (record { queues = a.controller; notes = noted (made a.notes mark payload) (Loss mark PoolFull) })
       (λ room. good_put t hand other (now_of a) channel mark payload new own good)
@@ -221,7 +208,7 @@ module _ (t : Turn) where
         good_next a came (control_end port grant.label).channel payload come.counted newest
         (λ new is_made. (
         let own : Means now (record { end = peer_of t.base.topology node port; channel = channel }) true next =
-        labelled (no_default channel label) far linked grant.flow (ap (λ (n : ℕ). last_bound t.base.records far n) (number_is grant.label) ∙ known.1) payload packet is_made
+        labelled (no_default channel label) far linked grant.flow (ap (λ (n : ℕ). last_bound t.base.records far n) (number_of_channel-label_channel_of grant.label) ∙ known.1) payload packet is_made
         (wraps grant.flow (granted_flow a.controller port packet grant is))
         (still_come t.base a.notes.frames frames came.packet far.node packet come) (λ e. new) in
         subst (λ (p : Place). Means now (heading_at t.base.topology p (control_end port grant.label).channel) true next) (sym ready.place)

@@ -1,6 +1,6 @@
 -- what a world of a run tells of each node before an event
 
-use Rattle.std.proofs.Common.{◌≡◌, ◌≢◌, ℕ, suc, ◌<◌, ◌==◌, Bool, true, false, cond, List, [], ◌∷◌, length, Option, None, Some, zero, refl, sym, ◌∙◌, ap, subst, arith, map, slice_index_or, if◌then◌else◌}
+use Rattle.std.proofs.Common.{◌≡◌, ◌≢◌, ℕ, suc, ◌<◌, ◌==◌, Bool, true, false, cond, List, [], ◌∷◌, length, Option, None, Some, refl, sym, ◌∙◌, ap, subst, arith, map, if◌then◌else◌}
 use Rattle.std.specs.Prelude.{Contains, is_some, ◌&&◌, nat_le, find}
 use Rattle.std.specs.Option.{option_map, option_and_then, option_map_or}
 use Rattle.std.proofs.lemmas.Bool.Decides.{nat_tests}
@@ -13,6 +13,7 @@ use Rattle.net_types.specs.declared.channel.Channel.{Channel}
 use Rattle.net_types.specs.declared.channel.End.{End}
 use Rattle.net_types.specs.declared.number.Mark.{Mark}
 use Rattle.net_types.specs.Label.{label_channel_of, number_of_channel, label_number_of, is_label_channel, is_label_number}
+use Rattle.net_types.proofs.Labels.{number_of_channel-label_channel_of}
 use Rattle.ipv4_packet.specs.Packet.{destination_of}
 use Rattle.ipv4_forward.specs.Best.{best, is_best}
 use Rattle.ipv4_forward.specs.Hop.{onward}
@@ -54,29 +55,24 @@ use Rattle.world_views.specs.Pairs.{by_branch}
 use Rattle.world_views.specs.Between.{setups_of, default, label, IsShapedBranch, home, out, joined, HasShapes, HasAllUsers, HasAllHops}
 use Rattle.causes.proofs.Shown.{IsPeer, peer_back}
 use Rattle.run_facts.specs.Nodes.{IsNodeOfRun}
+use Rattle.run_facts.proofs.Numbers.{some_of}
 use Rattle.controller_facts.proofs.Onward.{octets_onward}
 use Rattle.packet_worlds.proofs.Hops as laws
 use Rattle.packet_worlds.proofs.Meant.{in_frames, IsProper}
-use Rattle.packet_worlds.proofs.Headings.{leads_down, leads_up, own_there, label_is, no_default, number_is}
+use Rattle.packet_worlds.proofs.Headings.{leads_down, leads_up, own_there, label_is, no_default}
 use Rattle.packet_worlds.proofs.Sends.{HasGrants}
-use Rattle.packet_worlds.proofs.Takes.{HasLabels}
-use Rattle.packet_worlds.proofs.Links.{link_of, link_is}
+use Rattle.packet_worlds.proofs.Takes.{HasLabels, some_flow}
+use Rattle.unused_labels.proofs.Links.{link_of, link_is}
 use Rattle.packet_worlds.proofs.Turns.{arrives_as, LeadsOn, IsKnown}
-
-first_true : (a b : Bool) → a && b ≡ true → a ≡ true
-first_true true b e = refl
-first_true false b e = absurd (cc e)
+use Rattle.packet_worlds.proofs.Ledger.{and_left}
 
 range_label : (setup : Setup) (number : ℕ) → is_in_range setup number ≡ true → is_label_number number ≡ true
-range_label setup number e = first_true (is_label_number number) (nat_le setup.least number && nat_le number setup.greatest) e
+range_label setup number e = and_left (is_label_number number) (nat_le setup.least number && nat_le number setup.greatest) e
 
 not_wiring : (state : LabelState) → is_bound state ≡ true → state ≢ Wiring
 not_wiring state bound e = (let clash : false ≡ true = ap is_bound (sym e) ∙ bound in cc clash)
 
-some_flow : (a b : FlowId) (o : Option FlowId) → o ≡ Some a → o ≡ Some b → a ≡ b
-some_flow a b o e f = let both : Some a ≡ Some b = sym e ∙ f in cc
-
-number_same : (channel : Channel) (number : ℕ) → label_number_of channel ≡ Some number → number_of_channel channel ≡ number
+pub number_same : (channel : Channel) (number : ℕ) → label_number_of channel ≡ Some number → number_of_channel channel ≡ number
 number_same channel number e = by (is_label_channel channel) e
   where
     by : (b : Bool) → (if b then Some (number_of_channel channel) else None) ≡ Some number → number_of_channel channel ≡ number
@@ -86,14 +82,6 @@ number_same channel number e = by (is_label_channel channel) e
 every_of_grants : (P : Grant → Type 0) (xs : List Grant) → ((x : Grant) → Contains xs x → P x) → Every P xs
 every_of_grants P [] each = tt
 every_of_grants P (x ∷ xs) each = (each x (0, omega arith, refl), every_of_grants P xs (λ y c. each y (suc c.0, omega (arith, c.1), c.2)))
-
-pub every_among : {A : Type 0} (P : A → Type 0) (xs : List A) (x : A) → Every P xs → Contains xs x → P x
-every_among {A} P xs x all among = at_place xs all among.0 among.1 among.2
-  where
-    at_place : (ys : List A) → Every P ys → (k : ℕ) → k < length ys → slice_index_or ys k x ≡ x → P x
-    at_place [] each k low e = absurd (omega (arith, low))
-    at_place (y ∷ ys) each zero low e = subst P e each.0
-    at_place (y ∷ ys) each (suc k) low e = at_place ys each.1 k (omega (arith, low)) e
 
 label_low : {setups : List Setup} (end : End) → IsLabelEnd setups end → end.channel.vpi < 16
 label_low end is = subst (λ (c : Channel). c.vpi < 16) (sym (ap (λ (e : End). e.channel) is.is)) (label_is (label_channel_of is.number) (range_label is.setup is.number is.in_range)).vpi
@@ -165,7 +153,7 @@ module _ (policy : Policy) (past : Past) (topology_is : IsTopology past.topology
   flows_of linked is port far led = every_of_grants (λ (grant : Grant). (is_label_number grant.label ≡ true) × (last_bound past.records far grant.label ≡ Some grant.flow)) linked.port.grants (λ grant there. (range_label linked.setup grant.label (among grant there).in_range, bound grant there))
     where
       among : (grant : Grant) → Contains linked.port.grants grant → IsGrant (setups_of site.controller) linked.setup grant
-      among grant there = every_among (IsGrant (setups_of site.controller) linked.setup) linked.port.grants grant port.grants there
+      among grant there = some_of (IsGrant (setups_of site.controller) linked.setup) linked.port.grants grant port.grants there
 
       bound : (grant : Grant) → Contains linked.port.grants grant → last_bound past.records far grant.label ≡ Some grant.flow
       bound grant there =
@@ -262,7 +250,7 @@ module _ (policy : Policy) (past : Past) (topology_is : IsTopology past.topology
             (no_default (label_channel_of to.number) (label_is (label_channel_of to.number) is_label_one))
 
         output_number : number_of_channel output.channel ≡ to.number
-        output_number = ap (λ (e : End). number_of_channel e.channel) to.is ∙ number_is to.number
+        output_number = ap (λ (e : End). number_of_channel e.channel) to.is ∙ number_of_channel-label_channel_of to.number
 
         led_out : (heading_at base.topology (Out node output.port) output.channel).end ≡ Some far_is.0
         led_out = ap (λ (u : Topology). peer_of u node output.port) is.topology ∙ far_is.1

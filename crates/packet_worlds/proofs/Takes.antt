@@ -31,7 +31,7 @@ use Rattle.link_model.specs.Notes.{Journal, noted}
 use Rattle.refusal_names.specs.Names.{packet_refusal}
 use Rattle.frame_model.specs.Reassembly.{broken}
 use Rattle.frame_model.specs.Frame.{tested, passed}
-use Rattle.packet_worlds.proofs.Lists.{if_cases, none_front, any_back}
+use Rattle.packet_worlds.proofs.Lists.{none_front, any_back}
 use Rattle.wire_laws.proofs.Packets.{protocol_is}
 use Rattle.port_model.specs.Labels.{Label, is_bound}
 use Rattle.port_model.specs.Port.{label_at}
@@ -47,7 +47,6 @@ use Rattle.world_views.specs.Marks.{heading_at, own_end, HasCome, IsNewest, Mean
 use Rattle.packet_worlds.proofs.Walk.{Kept, used_kept, counted_kept, ifmp_holds_kept, gsmp_holds_kept}
 use Rattle.packet_worlds.proofs.Records.{routes_has, opened_has}
 use Rattle.packet_worlds.proofs.Hops as laws
-use Rattle.packet_worlds.proofs.Ledger.{last_mark-push}
 use Rattle.packet_worlds.proofs.Cut.{one}
 use Rattle.packet_worlds.proofs.Meant.{in_frames}
 use Rattle.packet_worlds.proofs.Good.{Turn, IsTurn, IsGood, nothing, good_hand}
@@ -55,12 +54,15 @@ use Rattle.packet_worlds.proofs.Frames.{one_none}
 use Rattle.packet_worlds.proofs.Headings.{own_is}
 use Rattle.packet_worlds.proofs.Sends.{now_of, IsReady, good_routes}
 use Rattle.packet_worlds.proofs.Quietly.{BindsNone, NoBind, push_none, fate_none, AllowsDefault, AreFew, few_kept, both_kept, good_kept, IsQuiet, may_quiet, bind_quiet, IsSilent, may_silent, none_kept}
+use Rattle.packet_worlds.proofs.Bound.{and_parts}
+use Rattle.shown_cells.proofs.Tested.{last_is}
+use Rattle.port_facts.proofs.Keyed.{on_each}
 
 -- broken frames bind nothing
 pub broken_none : (notes : Journal) (marks : List Mark) → BindsNone notes.records → BindsNone (broken notes marks).records
 broken_none notes [] h = h
 broken_none notes (mark ∷ marks) h =
-    if_cases (λ (first : Journal). BindsNone (broken first marks).records) (has_entry notes.entries mark) notes (noted notes (Loss mark Broken))
+    on_each (λ (first : Journal). BindsNone (broken first marks).records) (has_entry notes.entries mark) notes (noted notes (Loss mark Broken))
     (λ e. broken_none notes marks h) (λ e. broken_none (noted notes (Loss mark Broken)) marks (push_none notes.records (Loss mark Broken) refl h))
 
 -- *Records grow*
@@ -87,7 +89,7 @@ pub chain_ended : (a : Acted) (taker : Taker) (cells : List Cell) (cell : Cell)
     → ends_frame a taker (cells ++ cell ∷ []) ≡ after_test a taker cell.mark (tested a.notes (cells ++ cell ∷ []))
 chain_ended a taker [] cell = refl
 chain_ended a taker (first ∷ cells) cell =
-    ap (λ (mark : Mark). after_test a taker mark (tested a.notes (first ∷ cells ++ cell ∷ []))) (last_mark-push (first ∷ cells) cell)
+    ap (λ (mark : Mark). after_test a taker mark (tested a.notes (first ∷ cells ++ cell ∷ []))) (last_is (first ∷ cells) cell)
 
 -- and one that passes and leaves no chance is what was made
 pub fair : (notes : Journal) (mark : Mark) (payload : List ℕ) (records : List Record) → Grows (passed notes mark payload).records records → IsTame records → is_frame notes.frames mark payload ≡ true
@@ -112,16 +114,11 @@ pub record Leaves (t : Turn) (P : Cell → Type 0) (a : Acted) : Type 0 where
 some_payload : (a b : List ℕ) (o : Option (List ℕ)) → o ≡ Some a → o ≡ Some b → a ≡ b
 some_payload a b o e f = let both : Some a ≡ Some b = sym e ∙ f in cc
 
-some_flow : (a b : FlowId) (o : Option FlowId) → o ≡ Some a → o ≡ Some b → a ≡ b
+pub some_flow : (a b : FlowId) (o : Option FlowId) → o ≡ Some a → o ≡ Some b → a ≡ b
 some_flow a b o e f = let both : Some a ≡ Some b = sym e ∙ f in cc
 
 not_both : (b : Bool) → b ≡ true → b ≡ false → ⊥
 not_both b e f = (let clash : true ≡ false = sym e ∙ f in cc clash)
-
-and_parts : (a b : Bool) → a && b ≡ true → (a ≡ true) × (b ≡ true)
-and_parts true true e = (refl, refl)
-and_parts true false e = absurd (cc e)
-and_parts false b e = absurd (cc e)
 
 and_false : (a b : Bool) → b ≡ true → a && b ≡ false → a ≡ false
 and_false true b e f = sym e ∙ f

@@ -1,6 +1,6 @@
 -- a network between two turns of its actors: what holds of one queue and of all others holds of all
 
-use Rattle.std.proofs.Common.{◌≡◌, ◌≢◌, ◌⊎◌, inl, inr, ℕ, suc, ◌<◌, ◌≤◌, ◌+◌, ◌==◌, ◌&&◌, Bool, true, false, List, [], length, Option, None, Some, refl, sym, ◌∙◌, ap, ap₂, subst, arith, count_by}
+use Rattle.std.proofs.Common.{◌≡◌, ◌≢◌, ◌⊎◌, inl, inr, ℕ, suc, ◌<◌, ◌≤◌, ◌+◌, ◌==◌, Bool, true, false, List, [], length, Option, None, Some, refl, sym, ◌∙◌, ap, ap₂, subst, arith, count_by}
 use Rattle.std.specs.Prelude.{is_some}
 use Rattle.std.specs.List.{list_any}
 use Rattle.std.proofs.lemmas.Bool.Decides.{nat_tests}
@@ -27,6 +27,7 @@ use Rattle.world_views.specs.Marks.{ends_in, last_cells}
 use Rattle.causes.proofs.Shown.{peer_back}
 use Rattle.packet_worlds.proofs.Meant.{MeansAt}
 use Rattle.packet_worlds.proofs.Good.{Turn, IsTurn, IsTrueRecord, IsGood}
+use Rattle.packet_worlds.proofs.Bound.{and_parts}
 
 -- *The network of a topology*
 pub record IsNet (topology : Topology) (w : World) : Type 0 where
@@ -65,16 +66,12 @@ no_peer topology is node = by (peer_of topology node (record { 0 = 0 })) refl
     by (Some far) e = (let own = (peer_back topology is (record { node = node; port = record { 0 = 0 } }) far e).own in absurd (omega (arith, own.0)))
 
 -- *Two places are one queue*, or aren't
-same_parts : (a b : Bool) → a && b ≡ true → (a ≡ true) × (b ≡ true)
-same_parts true true e = (refl, refl)
-same_parts true false e = absurd (cc e)
-same_parts false b e = absurd (cc e)
 
 pub one_place : (topology : Topology) (is : IsTopology topology) (place other : Place) → IsPlace topology place → IsPlace topology other → same_queue place other ≡ true → place ≡ other
 one_place topology is place other here there same = by place other here there node number
   where
     parts : (((place_node place).0 == (place_node other).0) ≡ true) × ((queue_number place == queue_number other) ≡ true)
-    parts = same_parts ((place_node place).0 == (place_node other).0) (queue_number place == queue_number other) same
+    parts = and_parts ((place_node place).0 == (place_node other).0) (queue_number place == queue_number other) same
 
     node : (place_node place).0 ≡ (place_node other).0
     node = (let e = parts.0 in grind (arith, nat_tests, e))

@@ -20,10 +20,10 @@ use Rattle.world_model.specs.Ways.{copy_under}
 use Rattle.world_model.specs.Users.{leads}
 use Rattle.quiet_controllers.specs.Quiet.{AskTheSame, IsQuiet}
 use Rattle.quiet_controllers.specs.Law.{IsAtWork, Asks, by_desk, by_cell}
-use Rattle.quiet_controllers.proofs.Beginning.{contained, asked_may}
+use Rattle.quiet_controllers.proofs.Beginning.{contained, asked_may, in_tail}
 use Rattle.world_views.specs.Shown.{acting}
 use Rattle.world_views.proofs.Put.{put_found}
-use Rattle.pairs.proofs.SitePairs.{in_tail, SitePairs, branch, desk, chain, queue, waiting_by}
+use Rattle.pairs.proofs.SitePairs.{SitePairs, branch, desk, chain, queue, waiting_by}
 use Rattle.pairs.proofs.Branches.{IsLed}
 
 same_node : (m n : NodeId) → m.0 ≡ n.0 → m ≡ n
@@ -43,7 +43,7 @@ put_sited P new sites p all k x e = elim (put_found new sites k x e) [
   | inr before ↦ all k x before
 ]
 
-is_zero : (n : ℕ) → (n ≡ 0) ⊎ (n ≢ 0)
+pub is_zero : (n : ℕ) → (n ≡ 0) ⊎ (n ≢ 0)
 is_zero zero = inl refl
 is_zero (suc n) = inr (λ e. absurd (omega (arith, e)))
 

@@ -1,12 +1,11 @@
 -- each event makes no pair, but those of the joins that a tick enters
 
-use Rattle.std.proofs.Common.{◌≡◌, ◌≢◌, ℕ, ◌+◌, ◌<◌, ◌≤◌, Bool, true, false, List, [], ◌∷◌, ◌++◌, Option, None, Some, refl, sym, ◌∙◌, ap, subst, arith, Contains, ◌⊎◌, inl, inr, if◌then◌else◌}
-use Rattle.std.specs.Prelude.{nat_lt, ◌==◌, ◌&&◌, nat_eq, flat_map}
+use Rattle.std.proofs.Common.{◌≡◌, ◌≢◌, ℕ, ◌+◌, ◌<◌, ◌≤◌, Bool, true, false, List, [], ◌∷◌, ◌++◌, Option, None, Some, refl, sym, ◌∙◌, ap, subst, arith, Contains, ◌⊎◌, inl, inr}
+use Rattle.std.specs.Prelude.{◌==◌, ◌&&◌, flat_map}
 use Rattle.std.specs.Option.{option_and_then}
 use Rattle.std.proofs.lemmas.Bool.Decides.{nat_tests}
 use Rattle.net_types.specs.declared.channel.End.{End}
 use Rattle.net_types.specs.declared.node.NodeId.{NodeId}
-use Rattle.net_types.specs.declared.node.PortNo.{PortNo}
 use Rattle.net_types.specs.declared.node.Place.{Place}
 use Rattle.net_types.specs.declared.node.Place.TheVariants.{Down, Up, Out}
 use Rattle.net_types.specs.declared.number.Mark.{Mark}
@@ -15,19 +14,14 @@ use Rattle.adjacency_table.specs.Side.{ticked}
 use Rattle.atm_cells.specs.declared.cell.Cell.{Cell}
 use Rattle.link_model.specs.declared.frames.Frame.{Frame}
 use Rattle.link_model.specs.declared.record.Refusal.{Refusal}
-use Rattle.link_model.specs.Ledger.{payload_of}
-use Rattle.frame_model.specs.Frame.{octets_of, payload_in}
-use Rattle.frame_model.specs.Reassembly.{taken}
-use Rattle.keyed_lists.specs.Keyed.{at, put}
+use Rattle.keyed_lists.specs.Keyed.{at}
 use Rattle.port_facts.proofs.Keyed.{at_key}
-use Rattle.port_model.specs.Setup.{Setup}
 use Rattle.port_model.specs.Desk.{Standing}
 use Rattle.world_model.specs.Switch as switches
-use Rattle.world_model.specs.Switch.{control_port, free_slots}
+use Rattle.world_model.specs.Switch.{control_port}
 use Rattle.world_model.specs.Conduct as conduct
-use Rattle.world_model.specs.Controller.{Acted, default_channel}
+use Rattle.world_model.specs.Controller.{Acted}
 use Rattle.world_model.specs.Cells as controller_cells
-use Rattle.world_model.specs.Cells.{same_channel}
 use Rattle.world_model.specs.Joins.{inputs_at}
 use Rattle.world_model.specs.Packets.{inject_refusal, injected}
 use Rattle.world_model.specs.Ticks as controller_ticks
@@ -44,23 +38,22 @@ use Rattle.world_model.specs.declared.event.Event.{Event}
 use Rattle.world_model.specs.declared.event.Event.TheVariants.{Inject, Carry, Lose, Tick, TickSwitch, Restart, RestartSwitch, Forge, Route}
 use Rattle.world_model.specs.declared.link.LinkEnd.{LinkEnd}
 use Rattle.world_model.specs.Topology.{Topology, peer_of}
-use Rattle.world_model.specs.World.{World, Site, site_key, site_at, controller_acts, at_controller, switch_acts, at_switch}
+use Rattle.world_model.specs.World.{World, Site, site_key, site_at, at_controller, at_switch}
 use Rattle.world_model.specs.Places.{place_node, queue_in, queue_at, with_queue_in, with_queue_of, with_queue}
-use Rattle.world_model.specs.Run.{put_away, next}
+use Rattle.world_model.specs.Run.{put_away}
 use Rattle.world_model.specs.Step.{step, acts, injects_by, arrives_at, carries_head, loses_head}
 use Rattle.world_model.specs.Ways.{gsmp_of, copy_of, copy_under, requests_chain_at, answers_chain_at}
 use Rattle.world_model.specs.Users.{leads}
 use Rattle.quiet_controllers.specs.Quiet.{IsQuiet, Enters}
-use Rattle.quiet_controllers.specs.Heard.{LeadsToLinks, CanCome}
 use Rattle.quiet_controllers.specs.Law.{IsAtWork, Asks, by_desk, by_cell, before_joins}
 use Rattle.quiet_controllers.proofs.Beginning.{begins_quiet}
 use Rattle.quiet_controllers.proofs.Events.{cell_comes_on, injected_on, ticks_on, restarts_on}
 use Rattle.quiet_controllers.proofs.Joining.{change_comes_on}
 use Rattle.world_views.specs.Shown.{acting}
 use Rattle.world_views.specs.Pairs.{Pairs, by_branch, by_desk as pair_desk, by_copy}
-use Rattle.world_views.specs.Between.{EachSite, HasNumbers, setups_of}
-use Rattle.pairs.specs.Events.{IsEntered, EntersAt, HasOldPairs, IsAtDesk, CarriesHonestly, IsHonest, PacketsAskNothing, EventsMakeNoPairs}
-use Rattle.pairs.proofs.SitePairs.{first_of, in_left, in_tail, SitePairs, branch, desk, chain, queue, to_pairs, of_pairs, put_there, gathered_by, waiting_by}
+use Rattle.world_views.specs.Between.{EachSite, setups_of}
+use Rattle.pairs.specs.Events.{EntersAt, IsAtDesk, CarriesHonestly, IsHonest, EventsMakeNoPairs}
+use Rattle.pairs.proofs.SitePairs.{first_of, in_left, desk, queue, to_pairs, of_pairs, put_there, gathered_by, waiting_by}
 use Rattle.controller_facts.proofs.Nodes.{moves_node}
 use Rattle.pairs.proofs.Branches.{IsLed, cell_led, tick_led, restart_led}
 use Rattle.pairs.proofs.Acts.{HasMarks, Sited, put_sited, Fits, loses, May, IsGood, controller_sited, controller_here, switch_sited, switch_here, begins_led, queue_sited, marks_less, marks_sited}
@@ -68,7 +61,7 @@ use Rattle.pairs.proofs.Acts.{HasMarks, Sited, put_sited, Fits, loses, May, IsGo
 same_node : (m n : NodeId) → m.0 ≡ n.0 → m ≡ n
 same_node m n e = ap (λ (k : ℕ). record { 0 = k }) e
 
-one_more : (n : ℕ) → n + 1 ≢ 0
+pub one_more : (n : ℕ) → n + 1 ≢ 0
 one_more n e = absurd (omega (arith, e))
 
 -- *A network* w with its records put away

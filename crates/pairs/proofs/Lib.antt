@@ -1,4 +1,5 @@
 pub mod Branches
 pub mod SitePairs
+pub mod Opening
 pub mod Acts
 pub mod Events

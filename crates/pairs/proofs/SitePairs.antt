@@ -1,6 +1,6 @@
 -- what leads one label to another at a site: by a branch, at the desk, in the chain of the switch, or in the queue to it
 
-use Rattle.std.proofs.Common.{◌≡◌, ◌≢◌, ℕ, zero, suc, ◌+◌, ◌<◌, ◌≤◌, Bool, true, false, List, [], ◌∷◌, ◌++◌, length, Option, None, Some, refl, sym, ◌∙◌, ap, subst, arith, Contains, slice_index_or, ◌⊎◌, inl, inr, if◌then◌else◌}
+use Rattle.std.proofs.Common.{◌≡◌, ℕ, zero, suc, Bool, true, false, List, [], ◌∷◌, ◌++◌, Option, None, Some, refl, sym, ◌∙◌, ap, subst, arith, Contains, if◌then◌else◌}
 use Rattle.std.specs.Prelude.{filter, option_map}
 use Rattle.std.specs.Option.{option_map_or, option_and_then}
 use Rattle.net_types.specs.declared.channel.End.{End}
@@ -15,18 +15,16 @@ use Rattle.crossbar_model.specs.Crossbar.{output_of}
 use Rattle.port_model.specs.Desk.{Standing}
 use Rattle.world_model.specs.Controller.{Controller, default_channel}
 use Rattle.world_model.specs.Cells.{same_channel}
-use Rattle.world_model.specs.World.{World, Site, site_key, site_at, with_site}
+use Rattle.world_model.specs.World.{World, Site, site_key, site_at}
 use Rattle.world_model.specs.Places.{queue_in, queue_at}
-use Rattle.world_model.specs.Ways.{standing_at, output_at, requests_chain_at, on_channel, gsmp_to_switch, copy_under}
+use Rattle.world_model.specs.Ways.{requests_chain_at, on_channel, copy_under}
 use Rattle.world_model.specs.Users.{leads}
 use Rattle.world_views.specs.Pairs.{Pairs, by_branch, by_desk, by_copy}
+use Rattle.quiet_controllers.proofs.Beginning.{in_tail}
 
 -- *Lists*
 pub first_of : {A : Type 0} (x : A) (xs : List A) → Contains (x ∷ xs) x
 first_of x xs = (0, omega arith, refl)
-
-pub in_tail : {A : Type 0} (x y : A) (xs : List A) → Contains xs y → Contains (x ∷ xs) y
-in_tail x y xs h = (suc h.0, omega (arith, h.1), h.2)
 
 pub by_first : {A : Type 0} {P : Type 0} (x y : A) (xs : List A) → Contains (x ∷ xs) y → (x ≡ y → P) → (Contains xs y → P) → P
 by_first x y xs (zero, low, e) here later = here e

@@ -1,6 +1,6 @@
 -- each event leaves each site so
 
-use Rattle.std.proofs.Common.{◌≡◌, ◌≢◌, ℕ, ◌+◌, ◌<◌, ◌≤◌, Bool, true, false, List, [], ◌∷◌, ◌++◌, Option, None, Some, refl, sym, ◌∙◌, ap, subst, arith, Contains, inl, inr}
+use Rattle.std.proofs.Common.{◌≡◌, ℕ, ◌+◌, ◌<◌, ◌≤◌, Bool, true, false, List, [], ◌∷◌, ◌++◌, Option, None, Some, refl, sym, ◌∙◌, ap, subst, arith, Contains, inl, inr}
 use Rattle.std.specs.Prelude.{nat_lt, ◌==◌, ◌&&◌}
 use Rattle.std.specs.Option.{option_and_then}
 use Rattle.std.proofs.lemmas.Bool.Decides.{nat_tests}
@@ -13,6 +13,7 @@ use Rattle.net_types.specs.declared.node.Place.TheVariants.{Down, Up, Out}
 use Rattle.net_types.specs.declared.number.Mark.{Mark}
 use Rattle.net_types.specs.Label.{is_label_number, number_of_channel}
 use Rattle.net_types.specs.Number.{GivenOut}
+use Rattle.net_types.proofs.Labels.{number_of_channel-label_channel_of}
 use Rattle.ipv4_packet.specs.Packet.{protocol_of}
 use Rattle.atm_cells.specs.declared.cell.Cell.{Cell}
 use Rattle.link_model.specs.declared.frames.Frame.{Frame}
@@ -62,10 +63,11 @@ use Rattle.running_worlds.proofs.MadeCells as made_cells
 use Rattle.pairs.proofs.SitePairs.{first_of, in_left, in_either, to_pairs, put_there, gathered_by, waiting_by}
 use Rattle.controller_facts.proofs.Nodes.{moves_node}
 use Rattle.pairs.proofs.Branches.{IsLed, cell_led, tick_led, restart_led}
-use Rattle.pairs.proofs.Acts.{HasMarks, Sited, put_sited, marks_less, marks_sited}
+use Rattle.pairs.proofs.Acts.{HasMarks, Sited, put_sited, marks_less, marks_sited, is_zero}
+use Rattle.pairs.proofs.Events.{one_more}
 use Rattle.passed_cells.proofs.Sending.{Any, IsAsked, IsSent, IsCounted, Reads, P, begins_sent, kept, routes_sent, cell_sent}
-use Rattle.passed_cells.proofs.Grants.{IsClear, control_apart, number_back, leads_elsewhere, taken_clear}
-use Rattle.passed_cells.proofs.Sites.{SitePassed, Joined, AsksNothing, is_zero, asked_before, stays, controller_passed, May, IsGood, contained, Led, begins_led, switch_passed, loses}
+use Rattle.passed_cells.proofs.Grants.{IsClear, control_apart, leads_elsewhere, taken_clear}
+use Rattle.passed_cells.proofs.Sites.{SitePassed, Joined, AsksNothing, asked_before, stays, controller_passed, May, IsGood, contained, Led, begins_led, switch_passed, loses}
 
 -- *An output* of a pair is the channel of a label
 pub record IsLabelled (output : End) : Type 0 where
@@ -88,7 +90,7 @@ away_grants : (c : Controller) (output : End) (l : IsLabelled output) → IsClea
 away_grants c output l clear q packet grant e = subst (λ (x : End). same_channel (control_end q grant.label).channel (home_of x).channel ≡ false) (sym l.is) (leads_elsewhere c output.port l.number l.number_is clear q packet grant e)
 
 labelled_number : (output : End) (l : IsLabelled output) → number_of_channel output.channel ≡ l.number
-labelled_number output l = ap (λ (e : End). number_of_channel e.channel) l.is ∙ number_back l.number
+labelled_number output l = ap (λ (e : End). number_of_channel e.channel) l.is ∙ number_of_channel-label_channel_of l.number
 
 -- what is read of a frame that was made
 pub reads_of : (setups : List Setup) (taker : Taker) (cells : List Cell) → made_cells.Ends setups taker cells → Reads taker cells
@@ -100,9 +102,6 @@ reads_of setups (ForDefault linked) (first ∷ cells) ends = λ payload ok packe
     by : (mark : Mark) (payload packet : List ℕ) → (protocol_of packet == control_protocol) ≡ false → Holds mark payload packet → IsCounted mark
     by mark payload packet other (sent counted fit filled) = counted
     by mark payload packet other (was_told item t same) = absurd (cc (sym other ∙ (ap (λ (p : List ℕ). protocol_of p == control_protocol) same ∙ (is_heard mark payload item t).control)))
-
-one_more : (n : ℕ) → n + 1 ≢ 0
-one_more n e = absurd (omega (arith, e))
 
 -- *An actor acts* in a network
 module _ (x : World) (marks : Sited (HasMarks x.numbers.controls) x.sites) (passed : Sited (SitePassed x.notes.frames) x.sites) where

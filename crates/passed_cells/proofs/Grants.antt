@@ -7,7 +7,7 @@ use Rattle.std.proofs.lemmas.Bool.Decides.{nat_tests}
 use Rattle.net_types.specs.declared.node.PortNo.{PortNo}
 use Rattle.net_types.specs.declared.channel.Channel.{Channel}
 use Rattle.net_types.specs.declared.channel.End.{End}
-use Rattle.net_types.specs.Label.{is_label_number, number_of_channel, label_channel_of}
+use Rattle.net_types.specs.Label.{is_label_number, number_of_channel}
 use Rattle.ordered_lists.specs.Ordered.{Every}
 use Rattle.keyed_lists.specs.Keyed.{at, put}
 use Rattle.link_model.specs.Notes.{Journal}
@@ -21,6 +21,7 @@ use Rattle.world_model.specs.Controller.{Controller, Acted, Linked, port_key, li
 use Rattle.world_model.specs.Cells.{Taker, ForGsmp, ForDefault, ForLabel, same_channel, port_on, taker_of, with_reassembly}
 use Rattle.world_model.specs.Packets.{grant_by}
 use Rattle.controller_facts.specs.Sound.{IsSound, IsLinkedPort, IsShutLinked}
+use Rattle.controller_facts.proofs.Joining.{every_both}
 use Rattle.lifetimes.proofs.Joining.{IsUsed, matching_used}
 use Rattle.lifetimes.proofs.Events.{Belongs, taker_belongs}
 use Rattle.world_views.specs.Pairs.{IsJoin}
@@ -59,9 +60,6 @@ same_label q p m n low less e = (let both = equal (16 * q + m / 1024) (16 * p + 
     labels : (a b : ℕ) → (16 * q + m / 1024 ≡ 16 * p + n / 1024) × (m % 1024 ≡ n % 1024) → m ≡ n
     labels a b both = whole m n (rests q p (m / 1024) (n / 1024) low less both.0) both.1
 
-pub number_back : (n : ℕ) → number_of_channel (label_channel_of n) ≡ n
-number_back n = omega arith
-
 -- *The controller sends nothing* to label n of port p
 abbrev pub IsHarmless : (p n : ℕ) → (q : ℕ) → Grant → Type 0
 IsHarmless p n q grant = (is_label_number grant.label ≡ true) × (q ≡ p → is_by_controller grant.state ≡ true → grant.label ≡ n → ⊥)
@@ -95,10 +93,6 @@ first_and false b e = e
 every_also : {A : Type 0} (P Q : A → Type 0) (xs : List A) → ((x : A) → P x → Q x) → Every P xs → Every Q xs
 every_also P Q [] f all = tt
 every_also P Q (x ∷ xs) f all = (f x all.0, every_also P Q xs f all.1)
-
-every_both : {A : Type 0} (P Q : A → Type 0) (xs : List A) → Every P xs → Every Q xs → Every (λ x. P x × Q x) xs
-every_both P Q [] all also = tt
-every_both P Q (x ∷ xs) all also = ((all.0, also.0), every_both P Q xs all.1 also.1)
 
 pub joined_clear : (setups : List Setup) (c : Controller) (input output : End) → IsSound setups c → (c.has_met ≡ true → IsJoin c input output) → IsClear c output.port.0 (number_of_channel output.channel)
 joined_clear setups c input output sound join q linked found = by c.has_met refl

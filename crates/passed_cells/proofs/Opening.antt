@@ -1,6 +1,6 @@
 -- at the opening nothing is joined and nothing waits
 
-use Rattle.std.proofs.Common.{◌≡◌, ℕ, suc, List, [], ◌∷◌, ◌++◌, Some, refl, sym, ◌∙◌, ap, subst, arith, Contains}
+use Rattle.std.proofs.Common.{◌≡◌, ℕ, suc, List, [], ◌∷◌, Some, refl, sym, ◌∙◌, ap, subst, arith, Contains}
 use Rattle.std.specs.Option.{option_map}
 use Rattle.std.specs.FinMap.{empty, get-empty}
 use Rattle.net_types.specs.declared.channel.End.{End}
@@ -19,7 +19,7 @@ use Rattle.world_views.specs.Between.{HasAllPassed}
 use Rattle.world_views.specs.Kept.{Begins}
 use Rattle.passed_cells.specs.Passed.{HasRequests}
 use Rattle.passed_cells.proofs.Sites.{SitePassed}
-use Rattle.passed_cells.proofs.Runs.{to_passed, to_requests}
+use Rattle.passed_cells.proofs.Runs.{to_passed, to_requests, split}
 
 record IsBlank (site : Site) : Type 0 where
   branches : site.switch.crossbar.branches ≡ empty
@@ -33,10 +33,6 @@ all_blank policy topology (node ∷ nodes) place w h = all_blank policy topology
 
 none : {A : Type 0} {P : Type 0} (x : A) → Contains [] x → P
 none x h = absurd (omega (arith, h.1))
-
-split : {A : Type 0} (before after : List A) (x : A) → [] ≡ before ++ x ∷ after → ⊥
-split [] after x e = cc e
-split (y ∷ before) after x e = cc e
 
 blank_passed : (frames : List Frame) (site : Site) → IsBlank site → SitePassed frames site
 blank_passed frames site h = record {

@@ -28,7 +28,7 @@ use Rattle.passed_cells.proofs.Events.{IsLabelled}
 none : {A : Type 0} {P : Type 0} (x : A) → Contains [] x → P
 none x h = absurd (omega (arith, h.1))
 
-split : {A : Type 0} (before after : List A) (x : A) → [] ≡ before ++ x ∷ after → ⊥
+pub split : {A : Type 0} (before after : List A) (x : A) → [] ≡ before ++ x ∷ after → ⊥
 split [] after x e = cc e
 split (y ∷ before) after x e = cc e
 

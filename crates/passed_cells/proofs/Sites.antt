@@ -1,6 +1,6 @@
 -- at a site: what leads to a label, and the cells that wait for the switch
 
-use Rattle.std.proofs.Common.{◌≡◌, ◌≢◌, ℕ, zero, suc, ◌<◌, ◌≤◌, Bool, true, false, List, [], ◌∷◌, ◌++◌, None, Some, refl, sym, ◌∙◌, ap, subst, arith, Contains, inl, inr, ◌⊎◌, if◌then◌else◌}
+use Rattle.std.proofs.Common.{◌≡◌, ◌≢◌, ℕ, zero, suc, ◌<◌, ◌≤◌, Bool, true, false, List, [], ◌∷◌, ◌++◌, None, Some, refl, sym, ◌∙◌, ap, subst, arith, Contains, inl, inr, if◌then◌else◌}
 use Rattle.net_types.specs.declared.channel.End.{End}
 use Rattle.net_types.specs.declared.node.Place.{Place}
 use Rattle.net_types.specs.declared.node.Place.TheVariants.{Down, Up, Out}
@@ -8,6 +8,7 @@ use Rattle.net_types.specs.declared.number.Mark.{Mark}
 use Rattle.atm_cells.specs.declared.cell.Cell.{Cell}
 use Rattle.link_model.specs.declared.frames.Frame.{Frame}
 use Rattle.ordered_lists.specs.Ordered.{Every}
+use Rattle.ordered_lists.proofs.Every.{every_right}
 use Rattle.crossbar_model.specs.Crossbar.{output_of}
 use Rattle.port_model.specs.Desk.{Standing}
 use Rattle.port_model.specs.Setup.{home_of}
@@ -20,9 +21,10 @@ use Rattle.world_model.specs.Ways.{copy_under}
 use Rattle.world_model.specs.Users.{leads}
 use Rattle.world_views.specs.Tied.{waiting_on}
 use Rattle.quiet_controllers.specs.Quiet.{AskTheSame}
-use Rattle.pairs.proofs.SitePairs.{SitePairs, branch, chain, queue, in_tail}
+use Rattle.quiet_controllers.proofs.Beginning.{every_contained, in_tail}
+use Rattle.pairs.proofs.SitePairs.{SitePairs, branch, chain, queue}
 use Rattle.pairs.proofs.Branches.{IsLed}
-use Rattle.pairs.proofs.Acts.{HasMarks}
+use Rattle.pairs.proofs.Acts.{HasMarks, is_zero}
 
 -- *Cells of a channel*
 abbrev IsOn : End → Cell → Bool
@@ -50,10 +52,6 @@ tail_on output cell cells e = by (IsOn output cell) e
     by : (b : Bool) → (if b then cell ∷ waiting_on output cells else waiting_on output cells) ≡ [] → waiting_on output cells ≡ []
     by true e = absurd (cc e)
     by false e = e
-
-every_back : {A : Type 0} (P : A → Type 0) (xs ys : List A) → Every P (xs ++ ys) → Every P ys
-every_back P [] ys all = all
-every_back P (x ∷ xs) ys all = every_back P xs ys all.1
 
 -- a cell among two lists, and what stands behind it
 pub data Behind {A : Type 0} (xs ys before after : List A) (x : A) : Type 0 where
@@ -98,10 +96,6 @@ pub record Joined (output : End) (before after : List Cell) : Type 0 where
 
 abbrev pub AsksNothing : List Frame → Type 0
 AsksNothing frames = (mark : Mark) → mark.packet ≢ 0 → copy_under frames mark ≡ None
-
-pub is_zero : (n : ℕ) → (n ≡ 0) ⊎ (n ≢ 0)
-is_zero zero = inl refl
-is_zero (suc n) = inr (λ e. absurd (omega (arith, e)))
 
 -- *An event*: frames that were made, and those behind it
 module _ (controls : ℕ) (old new : List Frame) (nothing : AsksNothing new) (same : AskTheSame controls old new) where
@@ -150,8 +144,8 @@ module _ (controls : ℕ) (old new : List Frame) (nothing : AsksNothing new) (sa
           by (in_first mid first last) = subst (λ (xs : List Cell). waiting_on output xs ≡ []) (sym last)
               (more_on output mid j.new (h.behind input output s before mid cell above on first
               (asked_before cell s (m.queues cell (subst (λ (xs : List Cell). Contains xs cell) (sym first) (there before mid cell))) copy) e) j.elsewhere)
-          by (in_second front second) = none_on output after (every_back (IsElsewhere output) (cell ∷ []) after
-              (every_back (IsElsewhere output) front (cell ∷ after) (subst (Every (IsElsewhere output)) second j.elsewhere)))
+          by (in_second front second) = none_on output after (every_right (IsElsewhere output) (cell ∷ []) after
+              (every_right (IsElsewhere output) front (cell ∷ after) (subst (Every (IsElsewhere output)) second j.elsewhere)))
 
 -- *A switch acts*: a branch leads where no cell waits
 abbrev pub May : Site → End → End → Type 0
@@ -165,10 +159,6 @@ pub contained : {A : Type 0} (P : A → Type 0) (xs : List A) (x : A) → Every 
 contained P [] x all h = absurd (omega (arith, h.1))
 contained P (y ∷ xs) x all (zero, low, e) = subst P e all.0
 contained P (y ∷ xs) x all (suc k, low, e) = contained P xs x all.1 (k, omega (arith, low), e)
-
-every_contained : {A : Type 0} (P : A → Type 0) (xs : List A) → ((x : A) → Contains xs x → P x) → Every P xs
-every_contained P [] each = tt
-every_contained P (x ∷ xs) each = (each x (0, omega arith, refl), every_contained P xs (λ y k. each y (in_tail x y xs k)))
 
 abbrev pub Led : (controls : ℕ) → List Frame → Site → switches.Acted → Type 0
 Led controls frames site b = IsLed (May site) (IsGood controls frames site) controls frames b

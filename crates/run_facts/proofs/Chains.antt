@@ -1,7 +1,6 @@
 -- so it is in every world of every run
 
-use Rattle.std.proofs.Common.{◌≡◌, ℕ, zero, suc, ◌<◌, ◌+◌, List, [], ◌∷◌, ◌++◌, length, slice_index_or, Option, None, Some, refl, sym, ap, subst, arith}
-use Rattle.std.specs.Prelude.{Contains}
+use Rattle.std.proofs.Common.{◌≡◌, ℕ, suc, ◌+◌, List, [], ◌∷◌, ◌++◌, Option, None, Some, refl, sym, ap, subst}
 use Rattle.std.specs.Option.{option_map, option_map_or}
 use Rattle.net_types.specs.declared.node.NodeId.{NodeId}
 use Rattle.net_types.specs.declared.node.PortNo.{PortNo}
@@ -28,7 +27,6 @@ use Rattle.world_model.specs.Resets.{node_restarts}
 use Rattle.world_model.specs.Changes.{change_comes}
 use Rattle.controller_facts.specs.Inputs.{Input, CellComes, PacketEnters, Ticks, Restarts, ChangeComes, FrameIsForged, enters_unless, takes_input}
 use Rattle.run_facts.specs.Inputs as turns
-use Rattle.run_facts.specs.Inputs.{SwitchInput, switch_takes}
 use Rattle.world_model.specs.declared.event.Event.{Event}
 use Rattle.world_model.specs.declared.event.Event.TheVariants.{Inject, Carry, Lose, Tick, TickSwitch, Restart, RestartSwitch, Forge, Route}
 use Rattle.world_model.specs.declared.link.LinkEnd.{LinkEnd}
@@ -40,6 +38,7 @@ use Rattle.world_model.specs.Run.{put_away, next, world_after}
 use Rattle.world_model.specs.Ways.{answers_chain_at, requests_chain_at}
 use Rattle.run_facts.specs.Chains.{HasOwnChains, RunsHaveOwnChains}
 use Rattle.run_facts.proofs.Gathering.{IsOwn, input_chain, sends_same, switch_chain}
+use Rattle.run_facts.proofs.Numbers.{some_of}
 
 -- *A site*
 pub record IsOwnSite (site : Site) : Type 0 where
@@ -148,14 +147,6 @@ opens_own : (policy : Policy) (t : Topology) (nodes : List Node) (w : World) (pl
 opens_own policy t [] w place h = h
 opens_own policy t (node ∷ nodes) w place h = opens_own policy t nodes (with_opened policy t w place node) (suc place)
     (every_more IsOwnSite w.sites (opened_site policy t (record { 0 = place }) node w.numbers) h (record { answers = tt; requests = tt }))
-
-some_of : {A : Type 0} (P : A → Type 0) (xs : List A) (x : A) → Every P xs → Contains xs x → P x
-some_of {A} P xs x all c = by xs all c.0 c.1 c.2
-  where
-    by : (ys : List A) → Every P ys → (k : ℕ) → k < length ys → slice_index_or ys k x ≡ x → P x
-    by [] a k low e = absurd (omega (arith, low))
-    by (y ∷ ys) a zero low e = subst P e a.0
-    by (y ∷ ys) a (suc k) low e = by ys a.1 k (omega (arith, low)) e
 
 pub own_chains : (w : World) → AreOwn w → HasOwnChains w
 own_chains w h node cell c = some_of IsOwn (requests_chain_at w node ++ answers_chain_at w node) cell (every_join IsOwn (requests_chain_at w node) (answers_chain_at w node) (requests (site_at w node) refl) (answers (site_at w node) refl)) c

@@ -1,16 +1,14 @@
 -- frames are made under free marks, and records are noted that bind nothing
 
-use Rattle.std.proofs.Common.{◌≡◌, ◌≢◌, ℕ, ◌+◌, Bool, true, false, cond, List, [], ◌∷◌, ◌++◌, Option, None, Some, refl, sym, ◌∙◌, ap, arith, if◌then◌else◌, map}
+use Rattle.std.proofs.Common.{◌≡◌, ◌≢◌, ℕ, ◌+◌, Bool, List, [], ◌∷◌, ◌++◌, Option, None, Some, refl, sym, ◌∙◌, ap, arith, if◌then◌else◌, map}
 use Rattle.std.specs.Option.{option_or}
 use Rattle.net_types.specs.declared.number.Mark.{Mark}
 use Rattle.link_model.specs.declared.frames.Frame.{Frame}
 use Rattle.link_model.specs.declared.record.Record.{Record}
 use Rattle.link_model.specs.declared.record.Record.TheVariants.{Loss, Chance}
 use Rattle.link_model.specs.declared.record.Cause.TheVariants.{PoolFull, Broken, Cut}
-use Rattle.link_model.specs.Ledger.{payload_of, same_mark, has_entry, is_frame}
+use Rattle.link_model.specs.Ledger.{payload_of, has_entry, is_frame}
 use Rattle.link_model.specs.Notes.{Journal, noted}
-use Rattle.link_model.proofs.Latest.{payload_of_push}
-use Rattle.link_model.proofs.Marks.{same_mark-Decides}
 use Rattle.frame_model.specs.Frame.{tested, tested_by, payload_in, octets_of, last_mark}
 use Rattle.frame_model.specs.Reassembly.{Reassembly, Taken, taken, passed_over, without_slot, too_long, joined, most_cells, marks_of, broken, noted_all, distinct, cut}
 use Rattle.port_facts.proofs.Keyed.{on_both}
@@ -19,16 +17,9 @@ use Rattle.world_model.specs.Past.{bound_by, last_bound}
 use Rattle.atm_cells.specs.declared.cell.Cell.{Cell}
 use Rattle.std.specs.Prelude.{not, nat_le, length}
 use Rattle.run_facts.specs.Frames.{IsFree, Stay, BindsNone}
+use Rattle.shown_cells.proofs.Made.{made_elsewhere}
 
--- *Frames*. Another mark's payload stays
-pub made_elsewhere : (frames : List Frame) (mark other : Mark) (payload : List ℕ) → mark ≢ other
-    → payload_of (frames ++ record { mark = mark; payload = payload } ∷ []) other ≡ payload_of frames other
-made_elsewhere frames mark other payload n = payload_of_push frames (record { mark = mark; payload = payload }) other
-    ∙ elim (same_mark mark other) as (λ b. same_mark mark other ≡ b → cond b (Some payload) (payload_of frames other) ≡ payload_of frames other) [
-      | true ↦ λ t. absurd (n ((same_mark-Decides mark other).0 t))
-      | false ↦ λ t. refl
-    ] refl
-
+-- *Frames*: the number of the next one is free
 pub free_next : (controls : ℕ) (frames : List Frame) (payload : List ℕ) → IsFree controls frames
     → IsFree (controls + 1) (frames ++ record { mark = record { packet = 0; frame = controls + 1 }; payload = payload } ∷ [])
 free_next controls frames payload h k less =

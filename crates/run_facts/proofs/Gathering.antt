@@ -1,6 +1,6 @@
 -- a controller and a switch gather cells of GSMP's channel alone in its chain
 
-use Rattle.std.proofs.Common.{◌≡◌, ℕ, Bool, true, false, List, [], ◌∷◌, ◌++◌, length, Option, None, Some, Result, Ok, Err, refl, sym, ◌∙◌, subst}
+use Rattle.std.proofs.Common.{◌≡◌, ℕ, Bool, true, List, [], ◌∷◌, ◌++◌, length, Option, None, Some, Result, Ok, Err, refl, sym, ◌∙◌, subst}
 use Rattle.std.specs.Prelude.{◌==◌, ◌&&◌, nat_le, nat_lt}
 use Rattle.net_types.specs.declared.node.PortNo.{PortNo}
 use Rattle.net_types.specs.declared.channel.Channel.{Channel}
@@ -31,6 +31,7 @@ use Rattle.frame_model.specs.Reassembly.{Taken, taken}
 use Rattle.ordered_lists.specs.Ordered.{Every}
 use Rattle.ordered_lists.proofs.Every.{every_join, every_all}
 use Rattle.port_facts.proofs.Keyed.{on_both, on_each}
+use Rattle.port_facts.proofs.Rules.{and_second}
 use Rattle.crossbar_model.specs.declared.routed.Routed.{Routed}
 use Rattle.crossbar_model.specs.declared.routed.Routed.TheVariants as routes_of
 use Rattle.crossbar_model.specs.Crossbar.{routed}
@@ -168,13 +169,9 @@ passed_same a port cell (routes_of.Out output) = refl
 passed_same a port cell routes_of.Unconnected = refl
 passed_same a port cell routes_of.PoolFull = refl
 
-and_right : (a b : Bool) → (a && b) ≡ true → b ≡ true
-and_right true b e = e
-and_right false b e = absurd (cc e)
-
 pub switch_chain : (a : switches.Acted) (input : SwitchInput) → Every IsOwn a.switch.reassembly.chain → Every IsOwn (switch_takes a input).switch.reassembly.chain
 switch_chain a (turns.CellComes port cell) h = on_each (λ (b : switches.Acted). Every IsOwn b.switch.reassembly.chain) (switch.is_gsmp port cell.header.channel) (switch.gsmp_cell a cell) (switch.switched_cell a port cell)
-    (λ own. gsmp_chain a cell (and_right (port.0 == 0) ((cell.header.channel.vpi == 0) && (cell.header.channel.vci == 15)) own) h)
+    (λ own. gsmp_chain a cell (and_second (port.0 == 0) ((cell.header.channel.vpi == 0) && (cell.header.channel.vci == 15)) own) h)
     (λ other. subst (λ r. Every IsOwn r.chain) (sym (passed_same a port cell (routed a.switch.crossbar (switches.free_slots a.switch) port cell))) h)
 switch_chain a turns.Ticks h = subst (λ r. Every IsOwn r.chain) (sym (steps_same a (ticked a.switch.adjacency))) h
 switch_chain a turns.Restarts h = tt

@@ -35,7 +35,7 @@ use Rattle.world_views.specs.Kept.{Keeps, Begins}
 use Rattle.run_facts.proofs.Marked.{IsController, IsSwitch, IsPort, SiteMarked, WorldMarked, queue_marked}
 use Rattle.run_facts.proofs.Runs.{Any, any_marked}
 
-some_of : {A : Type 0} (P : A → Type 0) (xs : List A) (x : A) → Every P xs → Contains xs x → P x
+pub some_of : {A : Type 0} (P : A → Type 0) (xs : List A) (x : A) → Every P xs → Contains xs x → P x
 some_of {A} P xs x all c = by xs all c.0 c.1 c.2
   where
     by : (ys : List A) → Every P ys → (k : ℕ) → k < length ys → slice_index_or ys k x ≡ x → P x

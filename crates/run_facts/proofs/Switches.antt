@@ -237,7 +237,7 @@ after_quiet c (DeleteAll port) = all_quiet (inputs_on c.branches port) c
 after_quiet c (PortManagement port function) = on_both (IsQuiet c) (function == 2) (all_ended c (inputs_on c.branches port)) c (all_quiet (inputs_on c.branches port) c) (quiet_self c)
 after_quiet c AllPorts = quiet_self c
 
-abbrev handled_as : Acted → Handled → Acted
+abbrev pub handled_as : Acted → Handled → Acted
 handled_as a h = record a { switch = h.switch; notes = h.notes }
 
 handled_leaves : (a : Acted) (m : Message) (o : Option Asked) → Leaves 0 a (handled_as a (handled_asked a.switch a.notes m o))

@@ -25,7 +25,7 @@ taken_chain P notes slot r cell same none more = on_both Of r.is_skipping (passe
     Of t = P t.reassembly.chain
 
 -- a chain ends at a last cell alone
-abbrev IsByLast : Cell → List Cell → Type 0
+abbrev pub IsByLast : Cell → List Cell → Type 0
 IsByLast cell [] = Unit {0}
 IsByLast cell (first ∷ rest) = cell.header.last ≡ true
 

@@ -43,7 +43,7 @@ use Rattle.run_facts.proofs.Switches as switching
 use Rattle.run_facts.proofs.Switches.{switch_leaves}
 use Rattle.lifetimes.specs.Run.{acted_in, if_at, head_comes, head_leaves, comes_to}
 use Rattle.lifetimes.proofs.Opened.{IsFed}
-use Rattle.lifetimes.proofs.Feeding.{inputs_join}
+use Rattle.lifetimes.proofs.Feeding.{inputs_join, acted_by, number_isnt}
 use Rattle.world_model.specs.declared.event.Event.{Event}
 use Rattle.world_model.specs.declared.event.Event.TheVariants.{Inject, Carry, Lose, Tick, TickSwitch, Restart, RestartSwitch, Forge, Route}
 use Rattle.world_model.specs.declared.link.LinkEnd.{LinkEnd}
@@ -81,9 +81,6 @@ noted_is a (FrameIsForged channel mark payload) own = refl
 noted_is a CellLeaves own = refl
 noted_is a (Meanwhile notes numbers) own = absurd own
 
-abbrev acted_by : Journal → GivenOut → Controller → Acted
-acted_by notes numbers c = record { controller = c; notes = notes; numbers = numbers }
-
 own_records : (x : Site) (fed : IsFed x) (notes : Journal) (numbers : GivenOut) (input : Input) → IsOwn input → notes.records ≡ []
     → Every (IsOfNode x.controller.node) (takes_input (acted_by notes numbers x.controller) input).notes.records
 own_records x fed notes numbers input own none =
@@ -105,9 +102,6 @@ told_by node a (Some input) port label = last_bound (takes_input a input).notes.
 
 number_is : (m n : ℕ) → m ≡ n → (m == n) ≡ true
 number_is m n e = grind (arith, nat_tests, e)
-
-number_isnt : (m n : ℕ) → m ≢ n → (m == n) ≡ false
-number_isnt m n e = grind (arith, nat_tests)
 
 by_node : (P : Option Input → Type 0) (here node : NodeId) (input : Option Input) → (here.0 ≡ node.0 → P input) → (here.0 ≢ node.0 → P None) → P (if_at here node input)
 by_node P here node input same other = by_eq here.0 node.0 (λ e t. subst (λ b. P (if b then input else None)) (sym (number_is here.0 node.0 e)) (same e))

@@ -10,7 +10,7 @@ use Rattle.adjacency_table.specs.declared.message.Answer.{Answer}
 use Rattle.adjacency_table.specs.declared.message.Answer.TheVariants.{Quiet, Send, Open, Reset}
 use Rattle.adjacency_table.specs.declared.message.Said.{Said}
 use Rattle.adjacency_table.specs.Side as sides
-use Rattle.adjacency_table.specs.Side.{Side, IsSide, is_estab, is_open}
+use Rattle.adjacency_table.specs.Side.{Side, is_estab, is_open}
 use Rattle.adjacency_table.specs.Greeting.{greeting_of, gsmp_answer, gsmp_received, heard_in, same_party}
 use Rattle.atm_cells.specs.declared.cell.Cell.{Cell}
 use Rattle.crossbar_model.specs.Channels.{IsLinkPort}
@@ -41,6 +41,7 @@ use Rattle.port_facts.specs.Port.{IsShaped}
 use Rattle.port_facts.proofs.Keyed.{on_both}
 use Rattle.port_facts.proofs.Found.{find_every, find_passes}
 use Rattle.port_facts.proofs.Turns.{IsTurned, received_turns}
+use Rattle.port_facts.proofs.Rules.{and_second}
 use Rattle.world_model.specs.Controller.{Controller, Acted, Linked, free_slots, ports_of, with_desk, default_channel}
 use Rattle.world_model.specs.Sending.{with_cells, says_gsmp}
 use Rattle.world_model.specs.Meeting.{takes_answer}
@@ -75,10 +76,6 @@ other_branch kinds.Delete AllPorts e = absurd (cc e)
 other_branch kinds.Verify AllPorts e = absurd (cc e)
 other_branch kinds.DeleteAll AllPorts e = absurd (cc e)
 
-second_test : (x y : Bool) → (x && y) ≡ true → y ≡ true
-second_test true y h = h
-second_test false y h = absurd (cc h)
-
 three_is : (n : ℕ) → (n == 3) ≡ true → n ≡ 3
 three_is n e = grind (arith, nat_tests)
 
@@ -109,7 +106,7 @@ module _ (standing : List Standing) where
     done_answer (Some s) found = by (head.result == 3)
       where
         by : (t : Bool) → IsAnswer m (if t then succeeded m s else (if head.result == 4 then Failed s head.code else Unknown))
-        by true = subst (IsAnswer m) (sym (done s)) (of_other s (stood_by test s found) (other s.request (second_test (s.number == head.number) (is_of_type m s.request) (find_passes test standing s found))))
+        by true = subst (IsAnswer m) (sym (done s)) (of_other s (stood_by test s found) (other s.request (and_second (s.number == head.number) (is_of_type m s.request) (find_passes test standing s found))))
         by false = failing m s head.code (head.result == 4)
 
   ports_answer : (result code number : ℕ) (rows : List PortRow) (o : Option Standing) → IsAnswer (messages.AllPorts result code number rows) (outcome (messages.AllPorts result code number rows) (record { result = result; code = code; number = number }) o)

@@ -1,7 +1,7 @@
 -- what a controller asks, and what a port at work has asked: it has a shape, and Delete All waits until all ports are
 -- told to be up
 
-use Rattle.std.proofs.Common.{◌≡◌, ◌≢◌, ℕ, ◌+◌, ◌<◌, ◌≤◌, true, false, not, List, [], ◌∷◌, ◌++◌, map, filter, length, fold, Option, None, Some, refl, sym, ◌∙◌, ap, subst, arith, if◌then◌else◌}
+use Rattle.std.proofs.Common.{◌≡◌, ◌≢◌, ℕ, ◌+◌, ◌<◌, ◌≤◌, true, false, not, List, [], ◌∷◌, ◌++◌, map, filter, length, fold, Option, None, Some, refl, sym, ◌∙◌, subst, arith, if◌then◌else◌}
 use Rattle.std.specs.Prelude.{◌==◌, nat_le}
 use Rattle.std.proofs.lemmas.Bool.Decides.{nat_tests}
 use Rattle.net_types.specs.declared.channel.Channel.{Channel}
@@ -54,6 +54,7 @@ use Rattle.running_worlds.specs.Fine.{IsFine, Allows}
 use Rattle.running_worlds.specs.Mode.{Mode, Told, Untold, IsMildStanding, Knows}
 use Rattle.running_worlds.proofs.Cells.{since_made, since_said, since_elsewhere, since_packet}
 use Rattle.running_worlds.proofs.Greetings.{request_asks}
+use Rattle.input_events.proofs.Packets.{home_apart}
 
 abbrev pub AllowsAction : Mode → Action → Type 0
 AllowsAction m (Ask request needed) = Allows m request
@@ -70,12 +71,6 @@ told_allows (CutChain label ∷ xs) = (tt, told_allows xs)
 told_allows (TakeBack input output ∷ xs) = (tt, told_allows xs)
 told_allows (Withdraw input ∷ xs) = (tt, told_allows xs)
 told_allows (actions.Reset ∷ xs) = (tt, told_allows xs)
-
-home_apart : (port : PortNo) → 1 ≤ port.0 → (default_home port).channel ≢ default_channel
-home_apart port above e = apart (ap (λ (c : Channel). c.vpi) e)
-  where
-    apart : (default_home port).channel.vpi ≡ 0 → ⊥
-    apart e = absurd (omega (arith, e, above))
 
 pub room_left : (n : ℕ) → n ≤ last_transaction → (n == last_transaction) ≡ false → n < last_transaction
 room_left n le e = grind (arith, nat_tests)

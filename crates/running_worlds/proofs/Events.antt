@@ -62,6 +62,7 @@ use Rattle.input_steps.specs.Hearing.{IsEnded, PassesTrue}
 use Rattle.input_steps.proofs.Resets.{note_still}
 use Rattle.input_events.specs.Coming.{IsNext, GoesByLinks, IsFromSwitch}
 use Rattle.input_events.proofs.Cells.{IsKept, other_cell_leads}
+use Rattle.input_events.proofs.Packets.{control_apart, home_apart}
 use Rattle.shown_cells.proofs.Tested.{broken_frames, cut_frames, frame_is, last_is, passed_frames}
 use Rattle.running_worlds.specs.Mode.{Mode, Told, Untold}
 use Rattle.running_worlds.proofs.Asking.{Queued, still_fine, node_fine, request_fine, elsewhere_fine, packet_fine, at_port_fine}
@@ -69,18 +70,6 @@ use Rattle.running_worlds.proofs.Joining.{Well, tries_joins_well}
 use Rattle.running_worlds.specs.Calls.{in_mode}
 use Rattle.running_worlds.proofs.Answers.{Goes as Ends, steps_go, holds_go}
 use Rattle.running_worlds.proofs.Mild.{rule_allowed}
-
-home_apart : (port : PortNo) → 1 ≤ port.0 → (default_home port).channel ≢ default_channel
-home_apart port above e = apart (ap (λ (c : Channel). c.vpi) e)
-  where
-    apart : (default_home port).channel.vpi ≡ 0 → ⊥
-    apart e = absurd (omega (arith, e, above))
-
-control_apart : (port : PortNo) (label : ℕ) → 1 ≤ port.0 → (control_end port label).channel ≢ default_channel
-control_apart port label above e = apart (ap (λ (c : Channel). c.vpi) e)
-  where
-    apart : (control_end port label).channel.vpi ≡ 0 → ⊥
-    apart e = absurd (omega (arith, e, above))
 
 below_last : (m n : ℕ) → m < n → n ≤ last_transaction → m < last_transaction
 below_last m n less le = omega (arith, less, le)

@@ -1,6 +1,6 @@
 -- each event leaves nothing but what may be said
 
-use Rattle.std.proofs.Common.{◌≡◌, ℕ, ◌+◌, ◌≤◌, zero, suc, Bool, true, false, List, [], ◌∷◌, ◌++◌, length, Option, None, Some, refl, sym, ◌∙◌, ap, subst, arith, slice_set, if◌then◌else◌}
+use Rattle.std.proofs.Common.{◌≡◌, ℕ, ◌+◌, ◌≤◌, Bool, true, false, List, [], ◌∷◌, ◌++◌, length, Option, None, Some, refl, sym, ◌∙◌, subst, arith, if◌then◌else◌}
 use Rattle.std.specs.Prelude.{nat_lt, Contains}
 use Rattle.std.specs.Option.{option_map_or}
 use Rattle.std.proofs.lemmas.Bool.Decides.{nat_tests}
@@ -43,6 +43,7 @@ use Rattle.input_steps.specs.Hearing.{IsEnded, PassesTrue}
 use Rattle.input_events.specs.Coming.{IsNext, IsToSwitch, IsFromSwitch, IsFar, CanCarry, CanLose, IsOrdinary, IsRunning}
 use Rattle.controller_facts.proofs.Nodes.{moves_node}
 use Rattle.input_events.proofs.Sites.{put_at}
+use Rattle.input_events.proofs.Events.{set_length}
 use Rattle.world_views.specs.Between.{EachSite, setups_of}
 use Rattle.world_views.specs.Shown.{acting}
 use Rattle.running_worlds.specs.Mode.{Mode}
@@ -55,12 +56,6 @@ use Rattle.running_worlds.proofs.Left.{each_put, left_shorter}
 use Rattle.running_worlds.proofs.Acts.{IsFirm, whole_of, Begins, AllLeft, Fine, Ends, FineSwitch, controller_acts_left, switch_acts_left}
 
 -- *A queue is shorter*
-set_length : (queues : List (List Cell)) (k : ℕ) (cells : List Cell) → length (slice_set queues k cells) ≡ length queues
-set_length [] zero cells = refl
-set_length [] (suc k) cells = refl
-set_length (q ∷ queues) zero cells = refl
-set_length (q ∷ queues) (suc k) cells = ap suc (set_length queues k cells)
-
 firm_shorter : (place : Place) (site : Site) (cells : List Cell) → IsFirm site → IsFirm (with_queue_in site place cells)
 firm_shorter (Down node) site cells f = record { links = f.links; sound = moves_sound (setups_of site.controller) a (record a { controller = record a.controller { queue = cells } }) (moves_to (popping a cells)) f.sound; order = f.order; matched = f.matched; rows = f.rows; by_links = f.by_links; queues = f.queues; tells = f.tells; same_ports = f.same_ports; away = f.away }
   where

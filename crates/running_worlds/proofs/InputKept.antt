@@ -37,6 +37,7 @@ use Rattle.running_worlds.specs.New.{control_mark, AsksShaped, TellsUp, IsNew}
 use Rattle.running_worlds.proofs.Cells.{IsEither}
 use Rattle.running_worlds.specs.Left.{OldAsks, OldTells, port_list, Left, IsKnown, known, IsLeft}
 use Rattle.running_worlds.proofs.Lists.{every_among, among_right, among_filter, among_tail}
+use Rattle.causes.proofs.Parts.{zero_is}
 
 -- *Lists*
 module _ {A : Type 0} where
@@ -82,9 +83,6 @@ module _ {A : Type 0} where
 mark_is : (mark : Mark) → mark.packet ≡ 0 → mark ≡ control_mark mark.frame
 mark_is mark e = ap (λ (n : ℕ). record { packet = n; frame = mark.frame }) e
 
-is_zero : (n : ℕ) → (n == 0) ≡ true → n ≡ 0
-is_zero n e = grind (arith, nat_tests)
-
 isnt_zero : (n : ℕ) → (n == 0) ≡ false → n ≢ 0
 isnt_zero n e z = by_test (subst (λ (m : ℕ). (m == 0) ≡ false) z e)
   where
@@ -98,7 +96,7 @@ module _ (read : MarksAreRead) (began frames : List Frame) (marks : ℕ) (made :
     where
       by : (b : Bool) → (mark.packet == 0) ≡ b → gsmp_under began mark ≡ Some m
       by true e =
-          let zero : mark.packet ≡ 0 = is_zero mark.packet e in
+          let zero : mark.packet ≡ 0 = zero_is mark.packet e in
           subst (λ (x : Mark). gsmp_under began x ≡ Some m) (sym (mark_is mark zero))
           (ap (option_and_then gsmp_of) (sym (same mark.frame (low zero))) ∙ subst (λ (x : Mark). gsmp_under frames x ≡ Some m) (mark_is mark zero) under)
       by false e = absurd (cc (sym (read.no_gsmp frames mark made (isnt_zero mark.packet e)) ∙ under))

@@ -1,7 +1,6 @@
 -- at the opening nothing stands, nothing is on its way, and each line starts
 
 use Rattle.std.proofs.Common.{◌≡◌, ℕ, ◌+◌, ◌<◌, ◌≤◌, suc, true, false, true≢false, List, [], ◌∷◌, ◌++◌, map, Option, None, Some, refl, sym, ◌∙◌, ap, subst, arith}
-use Rattle.std.specs.Prelude.{Contains}
 use Rattle.std.specs.List.{list_any}
 use Rattle.std.specs.Option.{option_map, option_map_or}
 use Rattle.std.specs.FinMap.{get-empty}
@@ -41,6 +40,7 @@ use Rattle.input_views.specs.Words.{own_of, others_of}
 use Rattle.input_views.specs.Shown.{controller_of, switch_of, before_of, behind_of, ShowsRequests, ShowsAnswers, IsAllPorts}
 use Rattle.world_views.specs.Between.{setups_of, HasShapes, HasPortsUp, HasNumbers, HasInputLine, HasAllShapes, HasAllPortsUp, HasAllNumbers, HasAllInputs}
 use Rattle.world_views.specs.Kept.{Begins}
+use Rattle.branch_shapes.proofs.Runs.{none_among, begun_ports}
 
 -- *A new site*
 record IsNew (site : Site) : Type 0 where
@@ -56,10 +56,6 @@ record IsNew (site : Site) : Type 0 where
   branches : (input : End) → output_of site.switch.crossbar.branches input ≡ None
   ports : numbers_of site.switch.ports ≡ control_port ∷ ports_of site.controller
   up : Every (λ (state : PortState). state.is_up ≡ true) site.switch.ports
-
-begun_ports : (own : Instance) (ports : List PortNo) → numbers_of (map (begun own) ports) ≡ ports
-begun_ports own [] = refl
-begun_ports own (port ∷ ports) = ap (λ (rest : List PortNo). port ∷ rest) (begun_ports own ports)
 
 begun_up : (own : Instance) (ports : List PortNo) → Every (λ (state : PortState). state.is_up ≡ true) (map (begun own) ports)
 begun_up own [] = tt
@@ -85,10 +81,6 @@ new_each : (policy : Policy) (t : Topology) (w : World) (place : ℕ) (nodes : L
 new_each policy t w place [] all = all
 new_each policy t w place (node ∷ nodes) all = new_each policy t (with_opened policy t w place node) (suc place) nodes
     (every_join IsNew w.sites (opened_site policy t (record { 0 = place }) node w.numbers ∷ []) all (new_site policy t (record { 0 = place }) node w.numbers, tt))
-
-none_among : (cells : List Cell) (cell : Cell) → cells ≡ [] → Contains cells cell → ⊥
-none_among [] cell none among = omega (arith, among.1)
-none_among (c ∷ cells) cell none among = cc none
 
 module _ (policy : Policy) (t : Topology) where
   abbrev w : World

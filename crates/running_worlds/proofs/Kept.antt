@@ -53,10 +53,11 @@ use Rattle.running_worlds.proofs.Switch.{IsSized}
 use Rattle.input_steps.specs.Asking.{IsAsked}
 use Rattle.input_premises.proofs.Asking.{shaped_asked}
 use Rattle.running_worlds.proofs.Labels.{of_label, label_read}
-use Rattle.running_worlds.proofs.MadeSites.{IsKnown, Before, Behind, switching}
+use Rattle.running_worlds.proofs.MadeSites.{IsKnown, Before, Behind}
 use Rattle.running_worlds.proofs.MadeEvents.{IsGiven, event_behind}
 use Rattle.running_worlds.proofs.Forged.{never_forged}
 use Rattle.running_worlds.proofs.Taken.{ended_mark}
+use Rattle.input_events.proofs.Acting.{beside}
 
 -- *A chain that passes* is the frame of its last cell
 abbrev pub IsTrue : List Frame → List Cell → Type 0
@@ -74,7 +75,7 @@ abbrev pub SwitchesPass : Type 0
 SwitchesPass = (policy : Policy) (topology : Topology) (before : List Event) (node : NodeId) → Comes policy topology before (Carry (Down node))
     → (site : Site) (cell first : Cell) (cells chain : List Cell) → site_at (past_of policy topology before).now node ≡ Some site
     → queue_at (past_of policy topology before).now (Down node) ≡ cell ∷ cells → is_gsmp control_port cell.header.channel ≡ true
-    → (switch.taken_by (switching (put_away (past_of policy topology before).now) site) cell).ended ≡ first ∷ chain
+    → (switch.taken_by (beside (put_away (past_of policy topology before).now) site) cell).ended ≡ first ∷ chain
     → IsTrue (frames_of (past_of policy topology before)) (first ∷ chain)
 
 module _ (nodes : RunsHaveNodes) (fronts : RunsHaveFronts) (policy : Policy) (topology : Topology) (before : List Event) (event : Event) (c : Comes policy topology before event) (w : IsWorld (past_of policy topology before)) where
@@ -152,8 +153,8 @@ module _ (nodes : RunsHaveNodes) (fronts : RunsHaveFronts) (policy : Policy) (to
       within (y ∷ front) back x h = (let rest = within front back x h in (suc rest.0, omega (arith, rest.1), rest.2))
 
   ends_down : (node : NodeId) (site : Site) (cell : Cell) (cells : List Cell) → site_at (past_of policy topology before).now node ≡ Some site → queue_at (past_of policy topology before).now (Down node) ≡ cell ∷ cells
-      → is_gsmp control_port cell.header.channel ≡ true → (ended : List Cell) → (switch.taken_by (switching here site) cell).ended ≡ ended
-      → ((first : Cell) (chain : List Cell) → (switch.taken_by (switching here site) cell).ended ≡ first ∷ chain → IsTrue (frames_of (past_of policy topology before)) (first ∷ chain))
+      → is_gsmp control_port cell.header.channel ≡ true → (ended : List Cell) → (switch.taken_by (beside here site) cell).ended ≡ ended
+      → ((first : Cell) (chain : List Cell) → (switch.taken_by (beside here site) cell).ended ≡ first ∷ chain → IsTrue (frames_of (past_of policy topology before)) (first ∷ chain))
       → switch.Ends ended
   ends_down node site cell cells found queue gsmp [] e passes = tt
   ends_down node site cell cells found queue gsmp (first ∷ chain) e passes = λ payload ok m read.
@@ -179,7 +180,7 @@ module _ (nodes : RunsHaveNodes) (fronts : RunsHaveFronts) (steps : EventsAreSte
 
   down_given : (node : NodeId) → Given (Carry (Down node))
   down_given node c w cell cells queue site found gsmp = ends_down nodes fronts policy topology before (Carry (Down node)) c w node site cell cells found queue gsmp
-      (switch.taken_by (switching (put_away (past_of policy topology before).now) site) cell).ended refl (λ first chain e. down policy topology before node c site cell first cells chain found queue gsmp e)
+      (switch.taken_by (beside (put_away (past_of policy topology before).now) site) cell).ended refl (λ first chain e. down policy topology before node c site cell first cells chain found queue gsmp e)
 
   out_given : (node : NodeId) (port : PortNo) → Given (Carry (Out node port))
   out_given node port c w far peer = (peer_back topology c.run.topology_is (record { node = node; port = port }) far peer).port.0

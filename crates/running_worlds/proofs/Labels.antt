@@ -1,6 +1,6 @@
 -- a frame that comes under a label is read as the packet that it carries under the label's flow
 
-use Rattle.std.proofs.Common.{◌≡◌, ◌≢◌, ℕ, ◌<◌, Bool, true, false, List, Option, None, Some, Result, Ok, refl, sym, ◌∙◌, ap, subst, arith, if◌then◌else◌}
+use Rattle.std.proofs.Common.{◌≡◌, ◌≢◌, ℕ, ◌<◌, Bool, true, false, List, Option, None, Some, Result, Ok, refl, sym, ◌∙◌, subst, arith, if◌then◌else◌}
 use Rattle.std.specs.Prelude.{◌==◌}
 use Rattle.std.specs.Option.{option_and_then}
 use Rattle.net_types.specs.declared.channel.Channel.{Channel}
@@ -27,6 +27,7 @@ use Rattle.world_model.specs.Past.{Past, frames_of, last_bound}
 use Rattle.world_views.specs.Made.{IsFit}
 use Rattle.world_views.specs.Marks.{own_end, heading_at, Means, early, control, local, plain, labelled}
 use Rattle.frame_readings.proofs.Reading.{read_label}
+use Rattle.controller_law.proofs.Ordering.{same_number}
 
 -- *The taker of a label's channel*: the label of that number at the port of the channel
 pub record IsOfLabel (c : Controller) (channel : Channel) (linked : Linked) (label : Label) : Type 0 where
@@ -93,20 +94,17 @@ not_wiring Offered e is = cc is
 not_wiring (Recalled last acknowledged) e is = cc is
 not_wiring Wired e is = cc e
 
-same_port : (p q : PortNo) → p.0 ≡ q.0 → p ≡ q
-same_port p q e = ap (λ (n : ℕ). record { 0 = n }) e
-
 pub flow_bound : (node : NodeId) (records : List Record) (a : Acted) (channel : Channel) (linked : Linked) (label : Label) → HasBoundLabels node records a → IsOfLabel a.controller channel linked label
     → last_bound records (site node (port_on channel)) (number_of_channel (on_link channel)) ≡ Some label.flow
 flow_bound node records a channel linked label bound is =
-    let port : linked.setup.port ≡ port_on channel = same_port linked.setup.port (port_on channel) (at_key port_key (port_on channel).0 a.controller.ports linked is.found) in
+    let port : linked.setup.port ≡ port_on channel = same_number linked.setup.port (port_on channel) (at_key port_key (port_on channel).0 a.controller.ports linked is.found) in
     let number : label.number ≡ is.number = at_key label_number is.number (labels_of linked.port) label is.held in
     let last : IsBoundLast node records linked.setup.port label = at_every label_number (IsBoundLast node records linked.setup.port) is.number (labels_of linked.port) label
     (at_every port_key (λ (x : Linked). Every (IsBoundLast node records x.setup.port) (labels_of x.port)) (port_on channel).0 a.controller.ports linked bound is.found) is.held in
     (λ i. last_bound records (site node (sym port i)) ((number_is (on_link channel) is.number is.numbered ∙ sym number) i)) ∙ last (not_wiring label.state is.bound)
 
 -- the end that a cell goes to at its controller
-own_is : (node : NodeId) (port : PortNo) (far : LinkEnd) → own_end node port ≡ Some far → site node port ≡ far
+pub own_is : (node : NodeId) (port : PortNo) (far : LinkEnd) → own_end node port ≡ Some far → site node port ≡ far
 own_is node port far e = by (port.0 == 0) e
   where
     by : (b : Bool) → ◌≡◌ {A = Option LinkEnd} (if b then None else Some (record { node = node; port = port })) (Some far) → site node port ≡ far

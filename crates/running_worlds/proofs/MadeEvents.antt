@@ -35,7 +35,8 @@ use Rattle.running_worlds.proofs.Meeting.{controller_ticks_to}
 use Rattle.running_worlds.proofs.MadeCells.{Ends, taken_by, cell_comes_to, injected_to, node_restarts_to}
 use Rattle.running_worlds.proofs.Switch as switch
 use Rattle.running_worlds.proofs.Switch.{IsSized}
-use Rattle.running_worlds.proofs.MadeSites.{Before, Behind, unchanged, put_found, switching, controller_behind, switch_behind, pop_before}
+use Rattle.running_worlds.proofs.MadeSites.{Before, Behind, unchanged, put_found, controller_behind, switch_behind, pop_before}
+use Rattle.input_events.proofs.Acting.{beside}
 
 -- *What is asked of an event*: a packet is octets; a chain that ends is of a frame that was made; nothing is forged
 abbrev pub UpTrue : World → NodeId → Cell → Type 0
@@ -43,7 +44,7 @@ UpTrue v node cell = (site : Site) → site_at v node ≡ Some site → (taker :
     → Ends (setups_of site.controller) taker (taken_by (setups_of site.controller) (acting v site) taker cell).ended
 
 abbrev pub DownTrue : World → NodeId → Cell → Type 0
-DownTrue v node cell = (site : Site) → site_at v node ≡ Some site → switch_conduct.is_gsmp control_port cell.header.channel ≡ true → switch.Ends (switch.taken_by (switching v site) cell).ended
+DownTrue v node cell = (site : Site) → site_at v node ≡ Some site → switch_conduct.is_gsmp control_port cell.header.channel ≡ true → switch.Ends (switch.taken_by (beside v site) cell).ended
 
 abbrev pub IsGiven : Topology → World → Event → Type 0
 IsGiven topology v (Inject node octets) = AreOctets octets
@@ -95,7 +96,7 @@ module _ (topology : Topology) (v : World) (before : IsSmall v) (h : Before v) w
   comes_down : (node : NodeId) (cell : Cell) (cells : List Cell) → DownTrue v node cell → (o : Option Site) → site_at v node ≡ o → IsSmall (at_switch (with_queue_of v (Down node) cells o) node (λ a. switch_conduct.cell_comes a control_port cell))
       → Before (with_queue_of v (Down node) cells o) → Behind (at_switch (with_queue_of v (Down node) cells o) node (λ a. switch_conduct.cell_comes a control_port cell))
   comes_down node cell cells true_down None found behind popped = switch_behind v node (λ a. switch_conduct.cell_comes a control_port cell) h
-      (λ site there sized. switch.cell_comes_to (switching v site) control_port cell sized (true_down site there)) behind
+      (λ site there sized. switch.cell_comes_to (beside v site) control_port cell sized (true_down site there)) behind
   comes_down node cell cells true_down (Some old) found behind popped = switch_behind (with_queue_of v (Down node) cells (Some old)) node (λ a. switch_conduct.cell_comes a control_port cell) popped
       (λ site there. elim (put_found (with_queue_in old (Down node) cells) v.sites node.0 site there) [
         | inl same ↦ subst Leads same (comes old found)
@@ -103,10 +104,10 @@ module _ (topology : Topology) (v : World) (before : IsSmall v) (h : Before v) w
       ]) behind
     where
       Leads : Site → Type 0
-      Leads site = IsSized site.switch.ports → switch.To (switching v site) (switch_conduct.cell_comes (switching v site) control_port cell)
+      Leads site = IsSized site.switch.ports → switch.To (beside v site) (switch_conduct.cell_comes (beside v site) control_port cell)
 
-      comes : (site : Site) → site_at v node ≡ Some site → IsSized site.switch.ports → switch.To (switching v site) (switch_conduct.cell_comes (switching v site) control_port cell)
-      comes site was sized = switch.cell_comes_to (switching v site) control_port cell sized (true_down site was)
+      comes : (site : Site) → site_at v node ≡ Some site → IsSized site.switch.ports → switch.To (beside v site) (switch_conduct.cell_comes (beside v site) control_port cell)
+      comes site was sized = switch.cell_comes_to (beside v site) control_port cell sized (true_down site was)
 
   carries_down : (node : NodeId) (queue : List Cell) → queue_at v (Down node) ≡ queue → IsGiven topology v (Carry (Down node)) → IsSmall (carries_head topology v (Down node) queue) → Behind (carries_head topology v (Down node) queue)
   carries_down node [] first given behind = unchanged v h
@@ -130,7 +131,7 @@ module _ (topology : Topology) (v : World) (before : IsSmall v) (h : Before v) w
       by : (o : Option LinkEnd) → peer_of topology node port ≡ o → IsSmall (arrives_at (with_queue v (Out node port) cells) cell o) → Behind (arrives_at (with_queue v (Out node port) cells) cell o)
       by None peer behind = unchanged (with_queue v (Out node port) cells) (pop_before v (Out node port) cells before h)
       by (Some far) peer behind = switch_behind (with_queue v (Out node port) cells) far.node (λ a. switch_conduct.cell_comes a far.port cell) (pop_before v (Out node port) cells before h)
-          (λ site there sized. switch.cell_comes_to (switching (with_queue v (Out node port) cells) site) far.port cell sized (λ g. absurd (away far.port.0 _ (given far peer) g))) behind
+          (λ site there sized. switch.cell_comes_to (beside (with_queue v (Out node port) cells) site) far.port cell sized (λ g. absurd (away far.port.0 _ (given far peer) g))) behind
 
   carries : (place : Place) → IsGiven topology v (Carry place) → IsSmall (acts topology v (Carry place)) → Behind (acts topology v (Carry place))
   carries (Down node) given behind = carries_down node (queue_at v (Down node)) refl given behind
@@ -147,8 +148,8 @@ module _ (topology : Topology) (v : World) (before : IsSmall v) (h : Before v) w
   event_behind (Carry place) given behind = carries place given behind
   event_behind (Lose place) given behind = loses place (queue_at v place)
   event_behind (Tick node) given behind = controller_behind v node ticks h (λ site found. controller_ticks_to (setups_of site.controller) (acting v site) (ports_of_site node site found)) behind
-  event_behind (TickSwitch node) given behind = switch_behind v node switch_conduct.tick_comes h (λ site found sized. switch.ticks_to (switching v site)) behind
+  event_behind (TickSwitch node) given behind = switch_behind v node switch_conduct.tick_comes h (λ site found sized. switch.ticks_to (beside v site)) behind
   event_behind (Restart node) given behind = controller_behind v node node_restarts h (λ site found. node_restarts_to (setups_of site.controller) (acting v site) (ports_of_site node site found)) behind
-  event_behind (RestartSwitch node) given behind = switch_behind v node switch_conduct.restarted h (λ site found sized. switch.restarts_to (switching v site)) behind
+  event_behind (RestartSwitch node) given behind = switch_behind v node switch_conduct.restarted h (λ site found sized. switch.restarts_to (beside v site)) behind
   event_behind (Forge place channel payload) given behind = absurd given
   event_behind (Route node change) given behind = controller_behind v node (λ a. change_comes a change) h (λ site found. change_comes_to (setups_of site.controller) (acting v site) change (ports_of_site node site found)) behind

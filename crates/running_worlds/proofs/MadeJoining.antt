@@ -23,17 +23,17 @@ use Rattle.port_model.specs.Setup.{Setup, home_of}
 use Rattle.port_model.specs.Labels.{Label, Offered, label_number}
 use Rattle.port_model.specs.Grants.{Grant, ByController, grant_label, grant_for, is_by_controller}
 use Rattle.port_model.specs.Port.{labels_of}
-use Rattle.port_facts.specs.Port.{IsLabelEnd, IsGrant, IsPort, parts_label, joins_label}
-use Rattle.port_facts.proofs.Keyed.{on_both, on_each, at_every, apart_at}
+use Rattle.port_facts.specs.Port.{IsLabelEnd, IsPort, parts_label, joins_label}
+use Rattle.port_facts.proofs.Keyed.{on_both, on_each, apart_at}
 use Rattle.port_facts.proofs.Found.{find_every, find_passes}
 use Rattle.port_facts.proofs.Rules.{and_first}
 use Rattle.world_model.specs.Controller.{Acted, Linked, linked_at, ports_of, note}
 use Rattle.world_model.specs.Routes.{route_stays}
 use Rattle.world_model.specs.Joins.{Join, joins_of, join_of, parts, releases_join, releases_input, released_inputs, resets_spent, releases, port_by, join_through, join_by, join_for, is_offered, may_join, enters_grant, output_of, enters_label, joins, tries_label, label_on, tries_join, inputs_at, tries_joins}
 use Rattle.world_model.specs.Changes.{is_changed, changed_joins, takes_join_back, begins_change, takes_change, may_take, takes_each, takes_changes, change_comes}
-use Rattle.controller_facts.proofs.Moves.{Found, routing, moves_to, HasPorts, found_setup, found_at_own, found_port}
+use Rattle.controller_facts.proofs.Moves.{Found, routing, moves_to, HasPorts, found_at_own, found_port}
 use Rattle.controller_facts.proofs.Joining.{every_filter, every_flat_map, IsJoin, each_there, joins_are, join_input, join_output, parts_grants, granted_there, image_is}
-use Rattle.controller_facts.proofs.Entering.{OnPort, on_port, is_offered_by, by_controller, lends_labels, inputs_of_port}
+use Rattle.controller_facts.proofs.Entering.{granted_end, OnPort, on_port, is_offered_by, by_controller, lends_labels, inputs_of_port}
 use Rattle.controller_facts.proofs.Laws.{moves_sound}
 use Rattle.running_worlds.proofs.Walk.{Loose, To, loosely, stays, goes_on, goes_loose, to_fold, loose_fold, alike_to, note_to}
 use Rattle.running_worlds.proofs.Performed.{asks_to, takes_back_to}
@@ -112,13 +112,7 @@ module _ (setups : List Setup) where
       → To setups a (joins a (Some (record { input = input; port = linked.setup.port; grant = grant })))
   joins_to a input label linked grant h end on offered found granted sending =
       let join : Join = record { input = input; port = linked.setup.port; grant = grant } in
-      let output : IsLabelEnd setups (output_of join) = record {
-        setup = linked.setup;
-        number = grant.label;
-        linked = found_setup setups a linked linked.setup.port h found;
-        in_range = (at_every grant_label (IsGrant setups linked.setup) grant.label linked.port.grants grant (found_port setups a linked linked.setup.port h found).grants granted).in_range;
-        is = refl;
-      } in
+      let output : IsLabelEnd setups (output_of join) = granted_end setups a linked grant h found granted in
       let lends : Acted = enters_grant a join in
       let before : OnPort a.controller.ports input label = on_port a.controller input label on in
       goes_on setups h (lent_to setups a linked.setup.port grant input h end sending

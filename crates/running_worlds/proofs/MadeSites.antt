@@ -1,6 +1,6 @@
 -- a controller or a switch of a network acts: the numbers of each node still fit, and each frame is a packet's or a message's
 
-use Rattle.std.proofs.Common.{◌≡◌, ◌<◌, List, [], ◌∷◌, Option, None, Some, refl, sym, subst}
+use Rattle.std.proofs.Common.{◌≡◌, ◌<◌, List, Option, None, Some, refl, sym, subst}
 use Rattle.std.specs.Prelude.{◌^◌}
 use Rattle.net_types.specs.declared.node.NodeId.{NodeId}
 use Rattle.net_types.specs.declared.node.Place.{Place}
@@ -10,12 +10,10 @@ use Rattle.ordered_lists.specs.Ordered.{Every}
 use Rattle.crossbar_model.specs.Channels.{IsLinkPort}
 use Rattle.world_model.specs.Switch as switches
 use Rattle.port_model.specs.Setup.{Setup}
-use Rattle.world_model.specs.Controller.{Acted, Linked}
+use Rattle.world_model.specs.Controller.{Acted}
 use Rattle.controller_facts.proofs.Moves.{popping, moves_to}
-use Rattle.controller_views.specs.Ready.{IsReadyPort, IsReady}
-use Rattle.controller_lifts.proofs.Kept.{Of}
-use Rattle.controller_lifts.proofs.Ready.{Fits}
-use Rattle.controller_lifts.proofs.Unspent.{Unspent}
+use Rattle.controller_views.specs.Ready.{IsReady}
+use Rattle.controller_lifts.proofs.Ready.{both_ready, split_unspent, split_fits}
 use Rattle.world_model.specs.World.{World, Site, site_at, controller_acts, at_controller, switch_acts, at_switch}
 use Rattle.world_model.specs.Places.{place_node, with_queue_in, with_queue_of, with_queue}
 pub use Rattle.world_views.proofs.Put.{put_found, Sited, put_sited}
@@ -25,6 +23,7 @@ use Rattle.world_views.specs.Shown.{acting}
 use Rattle.running_worlds.proofs.Walk.{Base, base_moves, Carried, To, alike_to}
 use Rattle.running_worlds.proofs.Switch as switch
 use Rattle.running_worlds.proofs.Switch.{IsSized, IsGood}
+use Rattle.input_events.proofs.Acting.{beside}
 
 -- *A node before an event*
 pub record IsKnown (site : Site) : Type 0 where
@@ -46,23 +45,11 @@ pub unchanged : (v : World) → Before v → Behind v
 unchanged v h = record { made = h.made; sites = λ node site e. (h.sites node site e).ready }
 
 -- *A controller*: its parts
-fits_each : (xs : List Linked) → Every IsReadyPort xs → Every (Of Fits) xs
-fits_each [] h = tt
-fits_each (x ∷ xs) h = ((h.0.setup, h.0.fits), fits_each xs h.1)
-
-unspent_each : (xs : List Linked) → Every IsReadyPort xs → Every (Of Unspent) xs
-unspent_each [] h = tt
-unspent_each (x ∷ xs) h = (h.0.unspent, unspent_each xs h.1)
-
-ready_each : (xs : List Linked) → Every (Of Unspent) xs → Every (Of Fits) xs → Every IsReadyPort xs
-ready_each [] u f = tt
-ready_each (x ∷ xs) u f = (record { unspent = u.0; setup = f.0.0; fits = f.0.1 }, ready_each xs u.1 f.1)
-
 base_of : (v : World) (site : Site) → IsKnown site → Base (setups_of site.controller) (acting v site)
 base_of v site h = record { sound = h.ready.controller.sound; flows = h.ready.controller.flows; ranged = h.ready.controller.ranged; links = h.links; address = h.address }
 
 carried_of : (v : World) (site : Site) → AreMade v.notes.frames → IsKnown site → Carried (setups_of site.controller) (acting v site)
-carried_of v site made h = record { wide = fits_each site.controller.ports h.ready.controller.ports; rows = h.ready.rows; side = h.ready.side; made = made }
+carried_of v site made h = record { wide = split_fits site.controller.ports h.ready.controller.ports; rows = h.ready.rows; side = h.ready.side; made = made }
 
 -- what a controller leads to is ready, and what was made is a packet's or a message's
 pub record IsLed (site : Site) (b : Acted) : Type 0 where
@@ -102,7 +89,7 @@ led v site b made h to small = record {
       sound = base.sound;
       flows = base.flows;
       ranged = base.ranged;
-      ports = ready_each b.controller.ports (to.unspent small h.ready.controller.sound (unspent_each site.controller.ports h.ready.controller.ports)) after.wide;
+      ports = both_ready b.controller.ports (to.unspent small h.ready.controller.sound (split_unspent site.controller.ports h.ready.controller.ports)) after.wide;
     }
 
 pub controller_behind : (v : World) (node : NodeId) (act : Acted → Acted) → Before v
@@ -117,11 +104,8 @@ controller_behind v node act h to = by (site_at v node) refl
         record { made = l.made; sites = put_sited IsReadySite (record site { controller = (act (acting v site)).controller }) v.sites l.ready (λ n x e. (h.sites n x e).ready) }
 
 -- *A switch*
-abbrev pub switching : World → Site → switches.Acted
-switching v site = record { switch = site.switch; notes = v.notes; numbers = v.numbers }
-
 pub switch_behind : (v : World) (node : NodeId) (act : switches.Acted → switches.Acted) → Before v
-    → ((site : Site) → site_at v node ≡ Some site → IsSized site.switch.ports → switch.To (switching v site) (act (switching v site)))
+    → ((site : Site) → site_at v node ≡ Some site → IsSized site.switch.ports → switch.To (beside v site) (act (beside v site)))
     → (at_switch v node act).numbers.instances < 2 ^ 32 → Behind (at_switch v node act)
 switch_behind v node act h to = by (site_at v node) refl
   where
@@ -129,10 +113,10 @@ switch_behind v node act h to = by (site_at v node) refl
     by None found small = unchanged v h
     by (Some site) found small =
         let k : IsKnown site = h.sites node site found in
-        let good : IsGood (act (switching v site)) = (to site found k.sized).good small (record { side = k.ready.switch_side; ports = k.ready.ports; made = h.made }) in
+        let good : IsGood (act (beside v site)) = (to site found k.sized).good small (record { side = k.ready.switch_side; ports = k.ready.ports; made = h.made }) in
         record {
           made = good.made;
-          sites = put_sited IsReadySite (record site { switch = (act (switching v site)).switch }) v.sites
+          sites = put_sited IsReadySite (record site { switch = (act (beside v site)).switch }) v.sites
               (record { controller = k.ready.controller; rows = k.ready.rows; side = k.ready.side; switch_side = good.side; ports = good.ports }) (λ n x e. (h.sites n x e).ready);
         }
 

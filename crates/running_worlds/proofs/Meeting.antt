@@ -37,7 +37,7 @@ use Rattle.controller_facts.proofs.Moves.{IsGsmpTurn, hears as hears_greeting, a
 use Rattle.controller_facts.proofs.Performing.{Any, any_ports, ports_linked}
 use Rattle.controller_facts.specs.Sound.{IsSound}
 use Rattle.controller_facts.proofs.Joining.{every_filter}
-use Rattle.controller_facts.proofs.Events.{sends_again_goes}
+use Rattle.controller_facts.proofs.Events.{ups_linked, default_of, emptied_port, sends_again_goes}
 use Rattle.controller_lifts.proofs.Kept.{Of}
 use Rattle.controller_lifts.proofs.Ready.{Fits as FitsIn}
 use Rattle.controller_lifts.proofs.Unspent.{Unspent}
@@ -60,40 +60,30 @@ module _ (setups : List Setup) where
         unspent = λ small sound u. u;
       }
 
-  ups_linked : (a : Acted) → HasPorts setups a → Every (IsLinked setups) (up_ports a.controller)
-  ups_linked a h = every_filter (IsLinked setups) (is_up a.controller.desk.rows) (ports_of a.controller) (ports_linked setups a h)
-
   empties_to : (a : Acted) → HasPorts setups a → To setups a (empties a)
-  empties_to a h = asks_each_to setups (map DeleteAll (record { 0 = 0 } ∷ up_ports a.controller)) (empties_control (record { 0 = 0 }) refl, shapes (up_ports a.controller) (ups_linked a h)) a h
+  empties_to a h = asks_each_to setups (map DeleteAll (record { 0 = 0 } ∷ up_ports a.controller)) (empties_control (record { 0 = 0 }) refl, shapes (up_ports a.controller) (ups_linked setups a h)) a h
     where
       shapes : (ports : List PortNo) → Every (IsLinked setups) ports → Every (IsShaped setups) (map DeleteAll ports)
       shapes [] e = tt
       shapes (port ∷ ports) e = (empties_port port e.0, shapes ports e.1)
 
-  default_of : (port : PortNo) → IsLinked setups port → IsDefaultEnd setups (default_end port)
-  default_of port linked = record { port = inr linked; vpi = refl; vci = refl }
-
   ends_meeting_to : (a : Acted) → HasPorts setups a → is_estab a.controller.adjacency.state ≡ true → To setups a (ends_meeting a)
   ends_meeting_to a h estab =
       let met : Acted = record a { controller = record a.controller { has_met = true } } in
       goes_on setups h (alike_to setups a met (moves_to (ending_meeting a estab)) refl refl refl refl)
-      (λ k. asks_each_to setups (flat_map default_branches (up_ports a.controller)) (shapes (up_ports a.controller) (ups_linked a h)) met k)
+      (λ k. asks_each_to setups (flat_map default_branches (up_ports a.controller)) (shapes (up_ports a.controller) (ups_linked setups a h)) met k)
     where
       shapes : (ports : List PortNo) → Every (IsLinked setups) ports → Every (IsShaped setups) (flat_map default_branches ports)
       shapes [] e = tt
-      shapes (port ∷ ports) e = (opens_input (default_end port) (default_of port e.0), (opens_output (default_end port) (default_of port e.0), shapes ports e.1))
+      shapes (port ∷ ports) e = (opens_input (default_end port) (default_of setups port e.0), (opens_output (default_end port) (default_of setups port e.0), shapes ports e.1))
 
   -- *What an answer causes*
   tells_to : (a : Acted) (request : Request) (port : PortNo) → HasPorts setups a → To setups a (tells_port a request (Some port))
   tells_to a request port h = done_to setups a port request h
 
-  emptied_port : (port : PortNo) → IsShaped setups (DeleteAll port) → IsDefaultEnd setups (default_end port)
-  emptied_port port (empties_control other none) = record { port = inl none; vpi = refl; vci = refl }
-  emptied_port port (empties_port other linked) = record { port = inr linked; vpi = refl; vci = refl }
-
   behind_to : (a : Acted) (port : PortNo) → HasPorts setups a → IsShaped setups (DeleteAll port) → is_estab a.controller.adjacency.state ≡ true → To setups a (behind_delete_all a port)
   behind_to a port h shaped estab = on_both (To setups a) a.controller.has_met (asks a (AddBranch (default_end port) (default_home port))) (if has_emptied a.controller then ends_meeting a else a)
-      (asks_to setups a (AddBranch (default_end port) (default_home port)) h (opens_input (default_end port) (emptied_port port shaped)))
+      (asks_to setups a (AddBranch (default_end port) (default_home port)) h (opens_input (default_end port) (emptied_port setups port shaped)))
       (on_both (To setups a) (has_emptied a.controller) (ends_meeting a) a (ends_meeting_to a h estab) (stays setups a))
 
   causes_in_to : (a : Acted) (request : Request) → HasPorts setups a → IsShaped setups request → is_estab a.controller.adjacency.state ≡ true → To setups a (causes_in_estab a request)

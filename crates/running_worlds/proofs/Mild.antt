@@ -22,14 +22,12 @@ use Rattle.controller_facts.proofs.Laws.{has_ports}
 use Rattle.controller_law.proofs.Asked.{MayAct, MayActs, IsNoReset, IsTo, Both, goes_asks}
 use Rattle.controller_law.proofs.Resetting.{goes_silent}
 use Rattle.controller_law.proofs.Whole.{Whole}
+use Rattle.controller_law.proofs.Matched.{Never}
 use Rattle.running_worlds.specs.Mode.{Mode, Told, Untold}
 use Rattle.running_worlds.proofs.Asking.{AllowsAction, told_allows}
 
 abbrev AnyEnd : End → Type 0
 AnyEnd input = Unit {0}
-
-abbrev Never : PortNo → Type 0
-Never port = ⊥
 
 module _ (setup : Setup) where
   mild_one : (d : Desk) (x : Action) → MayAct setup AnyEnd Never d x → IsNoReset setup AnyEnd Never x → AllowsAction Untold x

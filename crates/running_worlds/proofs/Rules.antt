@@ -60,7 +60,7 @@ guarded : (b : Bool) (flow found : FlowId) → FitsFields flow → ◌≡◌ {A 
 guarded true flow found fits e = (let same : flow ≡ found = cc in subst FitsFields same fits)
 guarded false flow found fits e = absurd (cc e)
 
-flow_fits : (kind : FlowKind) (packet : List ℕ) → AreOctets packet → (flow : FlowId) → flow_of kind packet ≡ Some flow → FitsFields flow
+pub flow_fits : (kind : FlowKind) (packet : List ℕ) → AreOctets packet → (flow : FlowId) → flow_of kind packet ≡ Some flow → FitsFields flow
 flow_fits One packet small flow e = guarded (not (ttl_of packet == 0) && shows_ports packet)
     (flows.One (tos_of packet) (ttl_of packet) (protocol_of packet) (source_of packet) (destination_of packet) (u16_at packet 20) (u16_at packet 22)) flow
     (omega (arith, small 1), omega (arith, small 8), omega (arith, small 9), u32_at-fits packet 12 small, u32_at-fits packet 16 small, u16_at-fits packet 20 small, u16_at-fits packet 22 small) e

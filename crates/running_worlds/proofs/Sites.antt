@@ -1,6 +1,6 @@
 -- what is so of each site of a network in a run, so that events are moves of its lines
 
-use Rattle.std.proofs.Common.{◌≡◌, ◌≢◌, ℕ, ◌+◌, ◌*◌, ◌<◌, ◌≤◌, suc, Bool, true, false, List, [], ◌∷◌, ◌++◌, map, filter, length, Option, None, Some, inl, inr, refl, sym, ◌∙◌, ap, subst, arith, if◌then◌else◌}
+use Rattle.std.proofs.Common.{◌≡◌, ◌≢◌, ℕ, ◌≤◌, suc, Bool, true, false, List, [], ◌∷◌, map, length, Option, None, Some, refl, sym, ◌∙◌, ap, subst, arith, if◌then◌else◌}
 use Rattle.std.specs.Prelude.{◌==◌, Contains, find, is_some, nat_le}
 use Rattle.std.specs.FinMap.{get}
 use Rattle.std.specs.Option.{option_and_then, option_map, option_map_or}
@@ -14,13 +14,12 @@ use Rattle.net_types.specs.declared.node.PortNo.{PortNo}
 use Rattle.net_types.specs.declared.node.Place.TheVariants.{Down, Up}
 use Rattle.ipv4_packet.specs.Packet.{destination_of, ttl_of}
 use Rattle.ipv4_forward.specs.Best.{is_best}
-use Rattle.ipv4_forward.specs.Hop.{hop_by, hop_of}
+use Rattle.ipv4_forward.specs.Hop.{hop_by}
 use Rattle.ipv4_forward.specs.declared.outcome.Hop.TheVariants.{On, Expired}
 use Rattle.ipv4_forward.specs.declared.table.Next.{Next}
 use Rattle.ipv4_forward.specs.declared.table.Next.TheVariants.{Local, Via}
 use Rattle.ipv4_forward.specs.declared.table.Route.{Route}
 use Rattle.atm_cells.specs.declared.cell.Cell.{Cell}
-use Rattle.gsmp_wire.specs.declared.message.Message.{Message}
 use Rattle.gsmp_wire.specs.declared.message.Message.TheVariants as messages
 use Rattle.gsmp_wire.specs.Range.{FitsRows}
 use Rattle.crossbar_model.specs.declared.branch.Branch.{Branch}
@@ -29,36 +28,30 @@ use Rattle.crossbar_model.specs.Crossbar.{queue_of}
 use Rattle.ordered_lists.specs.Ordered.{Every, InOrder}
 use Rattle.ordered_lists.proofs.Every.{every_map, every_unmapped}
 use Rattle.keyed_lists.specs.Keyed.{at}
-use Rattle.port_model.specs.Desk.{Standing}
 use Rattle.world_model.specs.declared.port.PortState.{PortState}
 use Rattle.world_model.specs.Switch.{control_port, numbers_of}
 use Rattle.world_model.specs.Answers.{row_of}
 use Rattle.port_model.specs.Setup.{Setup, Policy, home_of}
-use Rattle.port_facts.specs.Port.{setup_port, IsLinked, IsLabelEnd, IsShaped}
+use Rattle.port_facts.specs.Port.{setup_port, IsLinked}
 use Rattle.port_facts.proofs.Found.{find_every}
 use Rattle.port_facts.proofs.Keyed.{at_key, at_every}
 use Rattle.world_model.specs.Controller.{Controller, Linked, linked_at, ports_of, port_key, default_channel}
 use Rattle.world_model.specs.Cells.{same_channel}
 use Rattle.controller_facts.proofs.Conditions.{label_has_home}
 use Rattle.world_model.specs.Conditions.{IsLinkedNext}
-use Rattle.world_model.specs.World.{World, Site, site_at}
+use Rattle.world_model.specs.World.{Site, site_at}
 use Rattle.world_model.specs.Places.{queue_in, queue_at}
 use Rattle.world_model.specs.Past.{Past, frames_of}
-use Rattle.world_model.specs.Ways.{gsmp_under, copy_of, copy_under, on_channel, requests_chain_at, answers_chain_at, gsmp_to_switch, gsmp_to_controller}
+use Rattle.world_model.specs.Ways.{copy_of, on_channel, requests_chain_at, answers_chain_at}
 use Rattle.input_steps.specs.Hearing.{LeadsAway}
-use Rattle.input_premises.specs.Steady.{IsSteady}
-use Rattle.input_events.specs.Coming.{GoesByLinks, IsBelow, TellsPorts, IsToSwitch, IsFromSwitch, HasSaid, HasAnswered, IsSteadySite}
+use Rattle.input_events.specs.Coming.{GoesByLinks, IsBelow, TellsPorts, HasSaid, HasAnswered, IsSteadySite}
 use Rattle.frame_readings.specs.Reading as readings
-use Rattle.frame_readings.specs.Reading.{MarksAreRead, IsSaidAs}
+use Rattle.frame_readings.specs.Reading.{MarksAreRead}
 use Rattle.world_views.specs.Ready.{IsReadySite}
 use Rattle.world_views.specs.Made.{AreMade}
 use Rattle.world_views.specs.Between.{setups_of, IsPortEnd, default, label, IsShapedBranch, home, out, joined, HasShapes, HasPortsUp}
-use Rattle.run_facts.specs.Nodes.{IsNodeOf, HasPort, HasLinkPorts, IsConducted, IsNodeOfRun}
+use Rattle.run_facts.specs.Nodes.{HasPort, HasLinkPorts, IsNodeOfRun}
 use Rattle.running_worlds.proofs.Lists.{all_every, ascending, among_right, among_filter}
-
--- *Routes lead to ports of links*
-same_numbers : (p q : PortNo) → p.0 ≡ q.0 → p ≡ q
-same_numbers p q e = ap (λ (n : ℕ). record { 0 = n }) e
 
 module _ (past : Past) (node : NodeId) (c : Controller) (ports : HasLinkPorts past.topology node c) where
   links : Every (λ (setup : Setup). IsLinkPort setup.port) (setups_of c)

@@ -21,7 +21,7 @@ use Rattle.controller_facts.proofs.Laws.{has_ports, moves_sound}
 use Rattle.controller_facts.proofs.Numbers.{moves_never_fall}
 use Rattle.controller_facts.proofs.Unmet.{put_each, none_with, ports_apart}
 use Rattle.controller_lifts.proofs.Kept.{IsClosed, Of, Each, Goes, goes_fold, done_goes}
-use Rattle.controller_lifts.proofs.Unspent.{Unspent}
+use Rattle.controller_lifts.proofs.Unspent.{Unspent, each_more}
 
 -- the numbers of a port aren't spent, or it is one of these
 pub data IsAmong (key : ℕ) : List PortNo → Type 0 where
@@ -33,10 +33,6 @@ UnspentBut ports setup port = (is_spent port.session ≡ false) ⊎ IsAmong setu
 
 but_closed : (ports : List PortNo) → IsClosed (UnspentBut ports)
 but_closed ports = record { reset = λ setup port n f h. inl refl; restart = λ setup port n f h. inl refl }
-
-each_more : (P Q : Linked → Type 0) → ((x : Linked) → P x → Q x) → (xs : List Linked) → Every P xs → Every Q xs
-each_more P Q f [] h = tt
-each_more P Q f (x ∷ xs) h = (f x h.0, each_more P Q f xs h.1)
 
 -- where the adjacency with the switch isn't in Estab every port is shut
 down_unspent : (setups : List Setup) (ports : List PortNo) (a : Acted) → IsSound setups a.controller → is_estab a.controller.adjacency.state ≡ false → Each (UnspentBut ports) a

@@ -27,7 +27,7 @@ use Rattle.gsmp_reading.specs.Said.{IsSaid}
 use Rattle.link_model.specs.declared.frames.Frame.{Frame}
 use Rattle.link_model.specs.declared.record.Record.TheVariants.{Loss}
 use Rattle.link_model.specs.declared.record.Cause.TheVariants.{PoolFull}
-use Rattle.link_model.specs.Notes.{Journal, noted}
+use Rattle.link_model.specs.Notes.{noted}
 use Rattle.frame_model.specs.Frame.{made, frame_cells, octets_of as cell_octets, payload_in, tested_by}
 use Rattle.frame_model.specs.Reassembly.{Taken, taken}
 use Rattle.frame_model.specs.Sending.{Sent}
@@ -43,7 +43,7 @@ use Rattle.world_model.specs.declared.port.PortState.{PortState}
 use Rattle.world_model.specs.declared.request.Asked.{Asked}
 use Rattle.world_model.specs.declared.request.Failure.{Failure}
 use Rattle.world_model.specs.Switch.{Switch, Acted, control_port, gsmp_channel, free_slots, begun}
-use Rattle.world_model.specs.Requests.{Changed, noted_cut, moved_by, moved_to, ended_by, ended, all_ended, inputs_on, cleared, branches_after, asked_in, is_request, ports_after}
+use Rattle.world_model.specs.Requests.{Changed, moved_by, moved_to, ended_by, ended, all_ended, inputs_on, cleared, branches_after, asked_in, is_request, ports_after}
 use Rattle.world_model.specs.Failures.{failure_of}
 use Rattle.world_model.specs.Answers.{row_of, Handled, handled_by, handled_asked, handled}
 use Rattle.world_model.specs.Conduct.{with_cells, says, answers, steps, replied, requested, told, read, after_test, ends_frame, gsmp_cell, passed, switched_cell, is_gsmp, cell_comes, tick_comes, restarted}
@@ -55,7 +55,9 @@ use Rattle.running_worlds.proofs.Making.{made_more}
 use Rattle.input_premises.proofs.Written.{IsWritten}
 use Rattle.running_worlds.proofs.Greeted.{AnswersWell, received_side, received_answers, ticked_side, ticked_answers}
 use Rattle.input_steps.specs.Asking.{IsAsked}
+use Rattle.input_steps.proofs.Handled.{noted_frames}
 use Rattle.input_events.proofs.Answering.{TellsRows, answer_written}
+use Rattle.run_facts.proofs.Switches.{handled_as}
 
 -- *A switch in a run*: its parties fit, it can tell its ports, and each frame is a packet's or a message's
 pub record IsGood (a : Acted) : Type 0 where
@@ -129,10 +131,6 @@ pub ticks_to : (a : Acted) → To a (tick_comes a)
 ticks_to a = steps_to a (ticked a.switch.adjacency) (ticked_side a.switch.adjacency) (ticked_answers a.switch.adjacency)
 
 -- *Branches* change, and no frame is made
-noted_frames : (notes : Journal) (unfinished : Option Mark) → (noted_cut notes unfinished).frames ≡ notes.frames
-noted_frames notes None = refl
-noted_frames notes (Some mark) = refl
-
 ended_frames : (c : Changed) (input : End) → (ended c input).notes.frames ≡ c.notes.frames
 ended_frames c input = by (get c.branches input)
   where
@@ -170,16 +168,13 @@ same_ports ports (requests.DeleteAll port) asked = refl
 same_ports ports (requests.PortManagement port function) asked = absurd asked
 same_ports ports requests.AllPorts asked = refl
 
-abbrev after : Acted → Handled → Acted
-after a h = record a { switch = h.switch; notes = h.notes }
-
-handled_to : (a : Acted) (m : Message) (o : Option Asked) → ((asked : Asked) → o ≡ Some asked → IsAsked asked.request) → To a (after a (handled_asked a.switch a.notes m o))
-handled_to a m None is = alike a (after a (handled_asked a.switch a.notes m None)) refl refl refl refl
+handled_to : (a : Acted) (m : Message) (o : Option Asked) → ((asked : Asked) → o ≡ Some asked → IsAsked asked.request) → To a (handled_as a (handled_asked a.switch a.notes m o))
+handled_to a m None is = alike a (handled_as a (handled_asked a.switch a.notes m None)) refl refl refl refl
 handled_to a m (Some asked) is = by (failure_of a.switch.ports a.switch.vpis a.switch.crossbar.branches asked)
   where
-    by : (o : Option Failure) → To a (after a (handled_by a.switch a.notes m asked.request o))
-    by (Some failure) = alike a (after a (handled_by a.switch a.notes m asked.request (Some failure))) refl refl refl refl
-    by None = alike a (after a (handled_by a.switch a.notes m asked.request None)) refl refl (same_ports a.switch.ports asked.request (is asked refl))
+    by : (o : Option Failure) → To a (handled_as a (handled_by a.switch a.notes m asked.request o))
+    by (Some failure) = alike a (handled_as a (handled_by a.switch a.notes m asked.request (Some failure))) refl refl refl refl
+    by None = alike a (handled_as a (handled_by a.switch a.notes m asked.request None)) refl refl (same_ports a.switch.ports asked.request (is asked refl))
         (branches_frames (record { branches = a.switch.crossbar.branches; notes = a.notes }) asked.request)
 
 -- a copy of what is asked says so
@@ -219,11 +214,11 @@ requested_to a m sized fits was_said well = on_each (To a) (is_request m && is_e
     by : is_request m ≡ true → To a (replied a (handled a.switch a.notes m))
     by is =
         let h : Handled = handled a.switch a.notes m in
-        let first : To a (after a h) = handled_to a m (asked_in m) (asked_well m is well) in
-        let last : IsGood a → To (after a h) (says (after a h) h.answer) = λ g. says_to (after a h) h.answer (λ k. answer_written a.switch a.notes (tells a.switch.ports sized g.ports) m fits was_said well is) in
+        let first : To a (handled_as a h) = handled_to a m (asked_in m) (asked_well m is well) in
+        let last : IsGood a → To (handled_as a h) (says (handled_as a h) h.answer) = λ g. says_to (handled_as a h) h.answer (λ k. answer_written a.switch a.notes (tells a.switch.ports sized g.ports) m fits was_said well is) in
         record { rises = rising h; good = λ small g. (last g).good small (first.good (omega (arith, small, (last g).rises)) g) }
       where
-        rising : (h : Handled) → a.numbers.instances ≤ (says (after a h) h.answer).numbers.instances
+        rising : (h : Handled) → a.numbers.instances ≤ (says (handled_as a h) h.answer).numbers.instances
         rising h = omega arith
 
 told_to : (a : Acted) (m : Message) → IsSized a.switch.ports → Fits m → IsSaid m → AsksWell m → To a (told a m)

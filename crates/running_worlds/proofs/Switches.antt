@@ -1,6 +1,6 @@
 -- what a switch tells its controller of its ports: all are up
 
-use Rattle.std.proofs.Common.{◌≡◌, ℕ, ◌+◌, ◌≤◌, zero, suc, Bool, true, false, true≢false, not, List, [], ◌∷◌, ◌++◌, map, length, find, Option, None, Some, Result, Ok, Err, refl, sym, ◌∙◌, ap, ap₂, subst, arith, slice_set, slice_index_or, if◌then◌else◌}
+use Rattle.std.proofs.Common.{◌≡◌, ℕ, ◌+◌, ◌≤◌, zero, suc, Bool, true, false, true≢false, not, List, [], ◌∷◌, ◌++◌, map, length, find, Option, None, Some, Result, Ok, Err, refl, sym, ◌∙◌, ap, subst, arith, slice_set, slice_index_or, if◌then◌else◌}
 use Rattle.std.specs.Prelude.{◌==◌, ◌&&◌, ◌||◌, nat_le, nat_lt}
 use Rattle.std.specs.List.{list_any}
 use Rattle.std.specs.Option.{option_and_then, option_map_or}
@@ -22,7 +22,7 @@ use Rattle.atm_cells.specs.declared.cell.Cell.{Cell}
 use Rattle.crossbar_model.specs.declared.branch.Branch.{Branch as Led}
 use Rattle.crossbar_model.specs.declared.routed.Routed.{Routed}
 use Rattle.crossbar_model.specs.declared.routed.Routed.TheVariants as routes
-use Rattle.crossbar_model.specs.Crossbar.{Crossbar, queue_of, input_of, on_channel_of, routed, switched_on, cut_by_move}
+use Rattle.crossbar_model.specs.Crossbar.{Crossbar, queue_of, input_of, on_channel_of, routed, switched_on}
 use Rattle.gsmp_wire.specs.declared.fault.Fault.{Fault}
 use Rattle.gsmp_wire.specs.declared.message.Message.{Message}
 use Rattle.gsmp_wire.specs.declared.message.Message.TheVariants.{Adjacency, Branch, Move, Port, AllPorts}
@@ -49,15 +49,15 @@ use Rattle.world_model.specs.declared.port.PortState.{PortState}
 use Rattle.world_model.specs.declared.request.Asked.{Asked}
 use Rattle.world_model.specs.declared.request.Failure.{Failure}
 use Rattle.world_model.specs.Switch.{Switch, Acted, control_port, gsmp_channel, free_slots, numbers_of, begun}
-use Rattle.world_model.specs.Requests.{Changed, end_at, branch_request, noted_cut, ended_by, moved_by, branches_after, ports_after, cleared, inputs_on, asked_in, is_request}
+use Rattle.world_model.specs.Requests.{Changed, end_at, branch_request, branches_after, ports_after, cleared, inputs_on, asked_in, is_request}
 use Rattle.world_model.specs.Failures.{failure_of}
 use Rattle.world_model.specs.Answers.{row_of, handled, handled_asked, handled_by}
 use Rattle.world_model.specs.Conduct.{with_cells, says, answers, steps, replied, requested, told, read, after_test, ends_frame, after_cell, gsmp_cell, passed as passed_cell, switched_cell, tick_comes, restarted}
 use Rattle.world_model.specs.Controller.{default_channel}
-use Rattle.world_model.specs.Ways.{gsmp_of, gsmp_under, copy_by, copy_of, told as heard}
+use Rattle.world_model.specs.Ways.{gsmp_of, gsmp_under, told as heard}
 use Rattle.input_steps.specs.Asking.{IsReadable}
 use Rattle.input_steps.specs.Hearing.{IsEnded, LeadsAway, PassesTrue}
-use Rattle.input_steps.proofs.Handled.{all_ended_frames}
+use Rattle.input_steps.proofs.Handled.{all_ended_frames, moved_frames, ended_frames}
 use Rattle.input_premises.proofs.Asking.{shaped_asked}
 use Rattle.input_events.specs.Coming.{TellsPorts, IsToSwitch}
 use Rattle.input_events.proofs.Answering.{answer_reads}
@@ -68,6 +68,7 @@ use Rattle.running_worlds.specs.New.{is_on_gsmp, TellsUp, SinceThen}
 use Rattle.running_worlds.specs.Calls.{IsTelling}
 use Rattle.running_worlds.proofs.Cells.{IsEither, since_made, since_said}
 use Rattle.running_worlds.proofs.Greetings.{greeting_tells}
+use Rattle.branch_shapes.proofs.Kept.{copy_is}
 
 -- *Rows of ports that are up*
 abbrev has_number : List PortState → PortNo → Bool
@@ -108,18 +109,6 @@ rows_up states ports all same =
     (subst (Every (λ (port : PortNo). is_up (map row_of states) port ≡ true)) same each).1
 
 -- *A request makes no frame*
-noted_frames : (notes : Journal) (o : Option Mark) → (noted_cut notes o).frames ≡ notes.frames
-noted_frames notes None = refl
-noted_frames notes (Some mark) = refl
-
-ended_frames : (c : Changed) (i : End) (found : Option Led) → (ended_by c i found).notes.frames ≡ c.notes.frames
-ended_frames c i None = refl
-ended_frames c i (Some b) = noted_frames c.notes b.unfinished
-
-moved_frames : (c : Changed) (i to : End) (found : Option Led) → (moved_by c i to found).notes.frames ≡ c.notes.frames
-moved_frames c i to None = refl
-moved_frames c i to (Some b) = noted_frames c.notes (cut_by_move b to)
-
 after_frames : (c : Changed) (r : Request) → (branches_after c r).notes.frames ≡ c.notes.frames
 after_frames c (requests.AddBranch i o) = refl
 after_frames c (requests.MoveBranch i from to) = moved_frames c i to (get c.branches i)
@@ -141,17 +130,6 @@ same_ports setups _ (leads_grant end e) ports = refl
 same_ports setups _ (joins_label input output i o) ports = refl
 same_ports setups _ (parts_label input output i o) ports = refl
 same_ports setups _ (frees_label end e) ports = refl
-
-copy_as : (result code number : ℕ) {t : Bool} {found : Option Asked} (asked : Asked) → t ≡ true → found ≡ Some asked
-    → (if t then copy_by (Some (record { result = result; code = code; number = number })) found else None) ≡ Some (record { number = number; request = asked.request })
-copy_as result code number asked is e = ap₂ (λ (b : Bool) (o : Option Asked). if b then copy_by (Some (record { result = result; code = code; number = number })) o else None) is e
-
-copy_is : (m : Message) (asked : Asked) → is_request m ≡ true → asked_in m ≡ Some asked → (number : ℕ) × (copy_of m ≡ Some (record { number = number; request = asked.request }))
-copy_is (Adjacency greeting) asked r e = absurd (cc e)
-copy_is (Branch kind result code number session input_port input output_port output branches priority) asked r e = (number, copy_as result code number asked r e)
-copy_is (Move result code number session input_port input output_port output target_port target branches priority) asked r e = (number, copy_as result code number asked r e)
-copy_is (Port result code number port session function) asked r e = (number, copy_as result code number asked r e)
-copy_is (AllPorts result code number rows) asked r e = (number, copy_as result code number asked r e)
 
 -- *What it answers*
 four_three : (m n : ℕ) → m ≡ 4 → n ≡ 3 → m ≡ n → ⊥

@@ -4,7 +4,6 @@ use Rattle.std.proofs.Common.{◌≡◌, ℕ, Bool, true, false, true≢false, n
 use Rattle.std.specs.Prelude.{◌+◌, ◌||◌, nat_le, nat_lt}
 use Rattle.std.specs.List.{list_any}
 use Rattle.std.specs.Option.{option_and_then}
-use Rattle.net_types.specs.declared.node.NodeId.{NodeId}
 use Rattle.net_types.specs.declared.number.Mark.{Mark}
 use Rattle.net_types.specs.Label.{label_number_of}
 use Rattle.net_types.specs.Number.{GivenOut}
@@ -23,7 +22,7 @@ use Rattle.port_model.specs.Labels.{Label, is_bound}
 use Rattle.port_model.specs.Port.{label_at}
 use Rattle.port_facts.proofs.Found.{by_number as label_there}
 use Rattle.world_model.specs.Controller.{Acted, Linked, free_slots, linked_at, chains_with, default_channel}
-use Rattle.world_model.specs.Opening.{opens_ports, setup_of}
+use Rattle.world_model.specs.Opening.{setup_of}
 use Rattle.world_model.specs.Cells.{Taker, ForGsmp, ForDefault, ForLabel, port_on, on_link, same_channel, label_taker, taker_at, taker_of, reassembly_of, with_reassembly, frame_holds, ends_frame, after_test, after_cell, takes_cell, cell_comes}
 use Rattle.controller_facts.specs.Inputs.{takes_inputs}
 use Rattle.controller_facts.specs.Sound.{Opening, opened_by, setups_by}
@@ -33,13 +32,13 @@ use Rattle.controller_law.specs.Law.{IsOpening}
 use Rattle.controller_law.proofs.Laws.{always_holds}
 use Rattle.controller_law.proofs.Whole.{Whole, chained_whole}
 use Rattle.controller_bindings.specs.Bindings.{noted_by_all}
-use Rattle.controller_bindings.proofs.Anew.{IsNew}
 use Rattle.controller_facts.proofs.Unmet.{ports_apart}
 use Rattle.controller_facts.specs.Inputs.{Input}
 use Rattle.world_model.specs.declared.range.PortRange.{PortRange}
 use Rattle.net_types.specs.declared.channel.Channel.{Channel}
 use Rattle.controller_bindings.proofs.Tied.{Tied, NoCut, Settled, anew_tied}
 use Rattle.controller_bindings.proofs.Events.{IsTiedTo, IsTakerOf, inputs_told, frame_bound, gathered_bound}
+use Rattle.controller_bindings.proofs.Laws.{opened_at, opened_new}
 use Rattle.world_model.specs.Headline.{is_wild, IsTame}
 use Rattle.input_steps.specs.Hearing.{IsEnded, PassesTrue}
 
@@ -59,15 +58,6 @@ wild_last (x ∷ xs) mark = by (is_wild x) (wild_last xs mark)
     by : (b : Bool) → list_any is_wild (xs ++ Chance mark ∷ []) ≡ true → (b || list_any is_wild (xs ++ Chance mark ∷ [])) ≡ true
     by true e = refl
     by false e = e
-
--- *What was told of a controller so far*, that was opened and took inputs
-opened_new : (f : PortRange → Setup) (ranges : List PortRange) (instances : ℕ) → Every IsNew (opens_ports f instances ranges)
-opened_new f [] instances = tt
-opened_new f (range ∷ ranges) instances = (record { labels = refl; grants = refl; chains = refl }, opened_new f ranges (instances + 1))
-
-opened_at : (node : NodeId) (f : PortRange → Setup) (ranges : List PortRange) (instances : ℕ) → ((range : PortRange) → (f range).node ≡ node) → Every (λ (x : Linked). x.setup.node ≡ node) (opens_ports f instances ranges)
-opened_at node f [] instances own = tt
-opened_at node f (range ∷ ranges) instances own = (own range, opened_at node f ranges (instances + 1) own)
 
 module _ (o : Opening) (is : IsOpening o) where
   pub links : Every (λ (setup : Setup). IsLinkPort setup.port) (setups_by o)

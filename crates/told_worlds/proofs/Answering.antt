@@ -1,7 +1,7 @@
 -- what is joined to a label stays so until changes of routes are taken, where a cell comes to a controller
 
-use Rattle.std.proofs.Common.{◌≡◌, ◌≢◌, ℕ, zero, suc, ◌<◌, Bool, true, false, List, [], ◌∷◌, ◌++◌, Option, None, Some, Result, Ok, Err, refl, sym, ◌∙◌, ap, subst, arith, inl, inr}
-use Rattle.std.specs.Prelude.{Contains, not, nat_lt, ◌==◌}
+use Rattle.std.proofs.Common.{◌≡◌, ℕ, Bool, true, false, List, ◌∷◌, Option, Some, Ok, refl, sym, ◌∙◌, ap, subst}
+use Rattle.std.specs.Prelude.{nat_lt}
 use Rattle.std.specs.Option.{option_and_then}
 use Rattle.net_types.specs.declared.channel.End.{End}
 use Rattle.net_types.specs.declared.node.NodeId.{NodeId}
@@ -15,32 +15,29 @@ use Rattle.gsmp_wire.specs.declared.message.Message.{Message}
 use Rattle.gsmp_wire.specs.Fields.{decoded as gsmp_decoded}
 use Rattle.link_model.specs.Ledger.{payload_of, is_frame}
 use Rattle.frame_model.specs.Frame.{tested, tested_by, payload_in, octets_of}
-use Rattle.frame_model.specs.Reassembly.{Reassembly, taken}
-use Rattle.ordered_lists.specs.Ordered.{Every}
+use Rattle.frame_model.specs.Reassembly.{taken}
 use Rattle.port_model.specs.Desk.{Standing}
 use Rattle.port_model.specs.Requests.{leads_home}
 use Rattle.port_model.specs.DeskAnswers.{Done, answered, after_answer}
-use Rattle.port_model.specs.Setup.{Policy, Setup, home_of}
-use Rattle.port_facts.specs.Port.{IsShaped}
+use Rattle.port_model.specs.Setup.{Policy, home_of}
 use Rattle.world_model.specs.Controller.{Controller, Acted, free_slots, with_desk}
 use Rattle.world_model.specs.Meeting.{is_deleting, has_emptied}
-use Rattle.world_model.specs.Cells.{Taker, ForGsmp, ForDefault, ForLabel, taker_of, reassembly_of}
+use Rattle.world_model.specs.Cells.{ForGsmp, ForDefault, ForLabel, taker_of}
 use Rattle.controller_facts.specs.Sound.{IsSound}
-use Rattle.controller_facts.proofs.Moves.{HasPorts, moves_to, further, gathering, answering, moves_ports}
+use Rattle.controller_facts.proofs.Moves.{moves_to, further, gathering, answering}
 use Rattle.controller_facts.proofs.Laws.{has_ports, moves_sound}
 use Rattle.controller_law.specs.Match.{lent_at}
 use Rattle.lasting_joins.proofs.Lent.{Keeps}
-use Rattle.controller_bindings.proofs.Lasts.{tested_grows}
+use Rattle.controller_bindings.proofs.Lasts.{tested_grows, some_same}
 use Rattle.shown_cells.proofs.Tested.{last_is}
 use Rattle.run_facts.proofs.Taking.{tested_frames}
-use Rattle.input_steps.specs.Hearing.{IsEnded, PassesTrue}
 use Rattle.input_steps.proofs.SwitchCells.{frame_is}
 use Rattle.world_model.specs.declared.link.LinkEnd.{LinkEnd}
 use Rattle.world_model.specs.declared.event.Event.{Event}
 use Rattle.world_model.specs.declared.event.Event.TheVariants.{Carry}
 use Rattle.world_model.specs.Topology.{Topology, peer_of}
 use Rattle.world_model.specs.Conditions.{IsTopology}
-use Rattle.world_model.specs.World.{World, Site, site_at}
+use Rattle.world_model.specs.World.{Site, site_at}
 use Rattle.world_model.specs.Places.{queue_at}
 use Rattle.world_model.specs.Ways.{gsmp_of, gsmp_under, told}
 use Rattle.world_model.specs.Past.{Past, past_of, last_bound}
@@ -49,23 +46,21 @@ use Rattle.world_views.specs.Ready.{setups_of}
 use Rattle.frame_readings.specs.Reading.{FramesAreRead}
 use Rattle.run_facts.specs.Nodes.{IsNodeOfRun}
 use Rattle.running_worlds.specs.Running.{ChainsAreTrue}
+use Rattle.running_worlds.proofs.MadeTame.{IsWhole, whole_chain}
 use Rattle.port_words.specs.Words.{Terms, IsSteadily}
 use Rattle.port_words.proofs.Sending.{grows_h}
 use Rattle.port_words.proofs.Events.{IsHeeded, gathered_by, gathered_h}
-use Rattle.told_worlds.specs.Before.{end_at, terms}
+use Rattle.lasting_joins.proofs.Keeping.{Releasing, answered_keeps}
+use Rattle.lasting_joins.proofs.Ending.{answered_ends}
+use Rattle.told_worlds.specs.Before.{terms}
 use Rattle.told_worlds.proofs.Start.{start, started}
 use Rattle.told_worlds.proofs.Heeds.{heeded}
-use Rattle.told_worlds.proofs.Keeping.{Releasing, answered_keeps}
 use Rattle.told_worlds.proofs.Routing.{IsLent}
-use Rattle.told_worlds.proofs.Unmet.{answered_unmet}
 use Rattle.told_worlds.proofs.Steady.{any, answered_h, lent_flow}
-use Rattle.told_worlds.proofs.Tables.{IsWhole, whole_chain, now, before_changes, Stays, CellStays}
+use Rattle.told_worlds.proofs.Tables.{now, before_changes, CellStays}
 
 abbrev every : PortNo → ℕ → FlowId → Type 0
 every port label flow = Unit {0}
-
-some_same : {A : Type 0} (x y : A) → Some x ≡ Some y → x ≡ y
-some_same x y e = cc
 
 module _ (policy : Policy) (topology : Topology) (before : List Event) (is_topology : IsTopology topology) (world : IsWorld (past_of policy topology before))
     (node : NodeId) (site : Site) (found : site_at (past_of policy topology before).now node ≡ Some site) (run : IsNodeOfRun policy (past_of policy topology before) node site)
@@ -148,8 +143,9 @@ module _ (policy : Policy) (topology : Topology) (before : List Event) (is_topol
             lent_flow (record t { own = any }) (before_changes 0 m (flow_destination flow) port b s) port m input flow
             (answered_h t (λ p instance own. own) (λ p label f h. tt) (λ p label f h. tt) now_b s.request now_h) one
             (keeps.lent met input refl (ap (λ ports. lent_at ports port.0 m) now_ports ∙ j.1))
-        by false is = absurd (answered_unmet (setups_of site.controller) now_b s.request now_sound (now_met ∙ is)
-            (λ d e. k.emptied is d (sym (ap (λ (c : Controller). has_emptied (record c { desk = after_answer c.desk (Done s) })) same) ∙ e)) met)
+        by false is =
+            let ends = answered_ends (setups_of site.controller) now_b s.request now_sound (now_met ∙ is) met in
+            absurd (k.emptied is ends.0 (sym (ap (λ (c : Controller). has_emptied (record c { desk = after_answer c.desk (Done s) })) same) ∙ ends.1))
 
     pub stays : (taker_of site.controller cell.header.channel ≡ Some ForGsmp → cell.header.last ≡ true → (message : Message) (s : Standing) → gsmp_under past.now.notes.frames cell.mark ≡ Some message → answered site.controller.desk message ≡ Done s → Kept s)
         → CellStays port.0 m (flow_destination flow) port a cell

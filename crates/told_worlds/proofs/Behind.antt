@@ -1,19 +1,19 @@
 -- a network behind an event: what each end of a link holds, and where the cells between two ends come from
 
 use Rattle.std.proofs.Common.{◌≡◌, ◌≢◌, ℕ, ◌≤◌, Bool, true, false, List, [], Option, None, Some, refl, sym, ◌∙◌, ap, subst, arith, inl, inr}
-use Rattle.std.specs.Prelude.{Contains, ◌⊎◌, ◌&&◌, ◌+◌, ◌*◌}
+use Rattle.std.specs.Prelude.{Contains, ◌⊎◌, ◌+◌, ◌*◌}
 use Rattle.std.specs.Option.{option_map_or}
 use Rattle.net_types.specs.declared.node.NodeId.{NodeId}
 use Rattle.net_types.specs.declared.node.PortNo.{PortNo}
 use Rattle.net_types.specs.declared.node.Place.TheVariants.{Down, Up, Out}
 use Rattle.net_types.specs.declared.channel.Channel.{Channel}
 use Rattle.net_types.specs.declared.channel.End.{End}
-use Rattle.net_types.specs.Label.{is_label_number, label_channel_of}
+use Rattle.net_types.specs.Label.{label_channel_of}
 use Rattle.atm_cells.specs.declared.cell.Cell.{Cell}
 use Rattle.ordered_lists.specs.Ordered.{Every}
 use Rattle.port_facts.proofs.Keyed.{at_key, at_every}
 use Rattle.port_facts.specs.Port.{IsLabelEnd}
-use Rattle.port_model.specs.Setup.{Setup, home_of, is_in_range}
+use Rattle.port_model.specs.Setup.{Setup, home_of}
 use Rattle.world_model.specs.Controller.{Acted, Linked, linked_at, port_key, default_channel, default_home}
 use Rattle.world_model.specs.Cells.{same_channel}
 use Rattle.world_model.specs.declared.link.LinkEnd.{LinkEnd}
@@ -23,12 +23,14 @@ use Rattle.world_model.specs.Places.{queue_at, queue_in}
 use Rattle.world_model.specs.Ways.{linked_end, chain_at, on_channel}
 use Rattle.world_model.specs.Past.{Past}
 use Rattle.world_views.specs.Between.{IsPortEnd, default, label, IsShapedBranch, home, out, joined}
+use Rattle.world_views.proofs.Labels.{in_range_label}
 use Rattle.causes.proofs.Shown.{IsPeer}
 use Rattle.port_words.specs.Words.{Terms, IsSteadyAt, IsSent, IsNoted, IsSteadily}
 use Rattle.unused_labels.proofs.Seen.{every_contained}
 use Rattle.unused_labels.proofs.Reading.{filtered, above_32}
 use Rattle.told_worlds.specs.Before.{end_at, quiet_terms, gsmp_terms, was_own}
 use Rattle.told_worlds.proofs.Ways.{OnWay, in_chain, in_up, in_out, in_down, Less, less_way, queue_then, linked_then}
+use Rattle.controller_law.proofs.Ordering.{same_number}
 
 -- *The words of an event* of a node, by whether a cell of GSMP comes there
 abbrev pub event_terms : (of_gsmp : Bool) → Past → NodeId → Site → Terms
@@ -66,10 +68,6 @@ less_behind past u less = record {
   cells = λ from to peer there c way. was c (less_way past.now u less from to c way) refl;
 }
 
--- *A controller acts*
-port_same : (a b : PortNo) → a.0 ≡ b.0 → a ≡ b
-port_same a b e = ap (λ (n : ℕ). record { 0 = n }) e
-
 module _ (past : Past) (u : World) (less : Less past.now u) (node : NodeId) (old site : Site) (old_found : site_at past.now node ≡ Some old) (found : site_at u node ≡ Some site) (of_gsmp : Bool) (a : Acted)
     (so : IsSteadily (event_terms of_gsmp past node old) a) where
   abbrev after : Site
@@ -95,7 +93,7 @@ module _ (past : Past) (u : World) (less : Less past.now u) (node : NodeId) (old
   has_acted = record { site = old; found = old_found; noted = so.records }
 
   at_own : (port : PortNo) (linked : Linked) → linked_at a.controller port ≡ Some linked → IsSteadyAt t linked × (linked.setup.port ≡ port)
-  at_own port linked e = (at_every port_key (IsSteadyAt t) port.0 a.controller.ports linked so.ports e, port_same linked.setup.port port (at_key port_key port.0 a.controller.ports linked e))
+  at_own port linked e = (at_every port_key (IsSteadyAt t) port.0 a.controller.ports linked so.ports e, same_number linked.setup.port port (at_key port_key port.0 a.controller.ports linked e))
 
   acted_at : (end : LinkEnd) (linked : Linked) → end.node ≡ node → IsSteadyAt t linked → linked.setup.port ≡ end.port → EndSo past then_acted end linked
   acted_at end linked n steady port = subst (λ (m : NodeId). EndSo past then_acted (record { node = m; port = end.port }) linked) (sym n) (acted of_gsmp has_acted steady port)
@@ -141,12 +139,6 @@ module _ (past : Past) (u : World) (less : Less past.now u) (node : NodeId) (old
   }
 
 -- *Shapes* of what leads to and from a default channel
-in_range_label : (setup : Setup) (number : ℕ) → is_in_range setup number ≡ true → is_label_number number ≡ true
-in_range_label setup number e = first (is_label_number number) _ e
-  where
-    first : (a b : Bool) → a && b ≡ true → a ≡ true
-    first true b h = refl
-    first false b h = absurd (cc h)
 
 label_vci : (setups : List Setup) (end : End) → IsLabelEnd setups end → end.channel.vci ≢ 15
 label_vci setups end is e = above_32 (label_channel_of is.number) (in_range_label is.setup is.number is.in_range) (sym (ap (λ (x : End). x.channel.vci) is.is) ∙ e)

@@ -20,7 +20,7 @@ use Rattle.world_model.specs.Resets.{node_restarts}
 use Rattle.world_model.specs.Changes.{change_comes}
 use Rattle.world_model.specs.Packets.{injected, inject_refusal}
 use Rattle.shown_cells.proofs.Frames.{same_self}
-use Rattle.world_model.specs.Switch.{control_port, gsmp_channel}
+use Rattle.world_model.specs.Switch.{control_port}
 use Rattle.world_model.specs.Switch as switches
 use Rattle.world_model.specs.Conduct as switch
 use Rattle.world_model.specs.declared.link.LinkEnd.{LinkEnd}
@@ -54,9 +54,7 @@ use Rattle.told_worlds.proofs.Bound.{ticks_so, restarts_so, changes_so, injects_
 use Rattle.told_worlds.proofs.Ways.{OnWay, in_chain, in_up, in_out, in_down, Less, popped_less}
 use Rattle.told_worlds.proofs.Behind.{event_terms, EndSo, still, acted, CellSo as CellBehind, was, sent, IsBehind, less_behind, controller_behind}
 use Rattle.told_worlds.proofs.Switched.{waiting_behind, passed_behind}
-
-some_same : {A : Type 0} (x y : A) → Some x ≡ Some y → x ≡ y
-some_same x y e = cc
+use Rattle.controller_bindings.proofs.Lasts.{some_same}
 
 -- the count of events and the tally are no part of it
 counted : (past : Past) (x : World) (events : ℕ) (tally : Tally) → IsBehind past x → IsBehind past (record x { events = events; tally = tally })

@@ -1,7 +1,7 @@
 -- what comes to a controller from its switch is what its ports take up
 
-use Rattle.std.proofs.Common.{◌≡◌, ◌≢◌, ℕ, zero, Bool, true, false, List, [], ◌∷◌, ◌++◌, length, Option, None, Some, Ok, refl, sym, ◌∙◌, ap, subst, arith, inl, inr, if◌then◌else◌}
-use Rattle.std.specs.Prelude.{Contains, not, nat_lt, nat_le, ◌&&◌, ◌==◌, drop}
+use Rattle.std.proofs.Common.{◌≡◌, ◌≢◌, ℕ, zero, Bool, true, false, List, ◌∷◌, Option, None, Some, Ok, refl, sym, ◌∙◌, ap, subst, arith, inl, inr, if◌then◌else◌}
+use Rattle.std.specs.Prelude.{Contains, not, nat_lt, ◌&&◌, ◌==◌, drop}
 use Rattle.std.proofs.lemmas.Bool.Decides.{nat_tests}
 use Rattle.std.specs.Prelude.{◌*◌, ◌+◌, ◌/◌, ◌%◌}
 use Rattle.std.specs.Option.{option_and_then}
@@ -20,9 +20,7 @@ use Rattle.ifmp_wire.specs.declared.message.Message.{Message}
 use Rattle.ifmp_wire.specs.declared.message.Message.TheVariants.{Adjacency, Redirect, Reclaim, ReclaimAck, LabelRange, Error}
 use Rattle.ifmp_wire.specs.Fields.{decoded}
 use Rattle.link_model.specs.Ledger.{payload_of, is_frame}
-use Rattle.link_model.specs.Notes.{Journal}
 use Rattle.frame_model.specs.Frame.{payload_in, octets_of}
-use Rattle.frame_model.specs.Reassembly.{Reassembly, Taken, taken, passed_over, without_slot, too_long, joined, most_cells}
 use Rattle.port_model.specs.Setup.{Policy}
 use Rattle.ipv4_packet.specs.Parts.{same_flow}
 use Rattle.keyed_lists.specs.Keyed.{at}
@@ -37,7 +35,6 @@ use Rattle.controller_facts.proofs.Moves.{found_port, found_at_own}
 use Rattle.lifetimes.proofs.Events.{taker_belongs}
 use Rattle.run_facts.proofs.Takers.{default_of}
 use Rattle.shown_cells.proofs.Tested.{last_is}
-use Rattle.input_steps.specs.Hearing.{IsEnded}
 use Rattle.input_steps.proofs.SwitchCells.{frame_is}
 use Rattle.world_model.specs.declared.link.LinkEnd.{LinkEnd}
 use Rattle.world_model.specs.declared.event.Event.{Event}
@@ -64,30 +61,14 @@ use Rattle.unused_labels.proofs.Reading.{filtered_back}
 use Rattle.port_words.proofs.Hearing.{Agrees}
 use Rattle.port_words.proofs.Events.{Ends, HoldsPacket, IsHeeded}
 use Rattle.told_worlds.specs.Before.{end_at, OfPeer, terms}
+use Rattle.running_worlds.proofs.MadeTame.{IsWhole, whole_chain}
 use Rattle.told_worlds.proofs.Start.{Peered, peered, to_is, way_to, from_is, way_from, linked_is, started}
 use Rattle.told_worlds.proofs.Agreed.{redirect_agrees, reclaim_agrees, IsTaken, taken_is}
-
-some_same : {A : Type 0} (x y : A) → Some x ≡ Some y → x ≡ y
-some_same x y e = cc
+use Rattle.controller_bindings.proofs.Lasts.{some_same}
 
 first_true : (a b : Bool) → (a && b) ≡ true → a ≡ true
 first_true true b e = refl
 first_true false b e = absurd (cc e)
-
--- *A chain is ended* by a last cell that is taken
-record IsWhole (slot : Bool) (r : Reassembly) (cell : Cell) (ended : List Cell) : Type 0 where
-  pub is_ended : IsEnded slot r cell
-  pub whole : ended ≡ r.chain ++ cell ∷ []
-
-whole_chain : (notes : Journal) (slot : Bool) (r : Reassembly) (cell first : Cell) (cells : List Cell) → (taken notes slot r cell).ended ≡ first ∷ cells → IsWhole slot r cell (first ∷ cells)
-whole_chain notes slot r cell first cells = on_each To r.is_skipping (passed_over notes r cell) _ (λ b e. absurd (cc e))
-    (λ listens. on_each To (not slot) (without_slot notes r cell) _ (λ b e. absurd (cc e))
-    (λ has. on_each To (nat_le most_cells (length r.chain)) (too_long notes r cell) (joined notes r cell) (λ b e. absurd (cc e))
-    (λ short. on_each To cell.header.last (record { reassembly = record r { chain = [] }; notes = notes; ended = r.chain ++ cell ∷ [] }) (record { reassembly = record r { chain = r.chain ++ cell ∷ [] }; notes = notes; ended = [] })
-    (λ last e. record { is_ended = record { listens = listens; slot_is = has; short = short; last = last }; whole = sym e }) (λ b e. absurd (cc e)))))
-  where
-    To : Taken → Type 0
-    To t = t.ended ≡ first ∷ cells → IsWhole slot r cell (first ∷ cells)
 
 -- *The channel of a label's number*
 channel_back : (channel : Channel) (label : ℕ) → label_number_of channel ≡ Some label → channel ≡ label_channel_of label

@@ -1,7 +1,7 @@
 -- each event leaves joins one hop apart
 
-use Rattle.std.proofs.Common.{◌≡◌, ◌≢◌, ℕ, zero, suc, ◌<◌, Bool, true, false, List, [], ◌∷◌, ◌++◌, Option, None, Some, refl, sym, ◌∙◌, ap, subst, arith, ◌⊎◌, inl, inr, if◌then◌else◌}
-use Rattle.std.specs.Prelude.{Contains, is_some, flat_map, nat_eq, ◌&&◌}
+use Rattle.std.proofs.Common.{◌≡◌, ℕ, suc, ◌<◌, Bool, true, false, List, [], ◌∷◌, ◌++◌, Option, None, Some, refl, sym, ◌∙◌, ap, subst, arith, inl, inr, if◌then◌else◌}
+use Rattle.std.specs.Prelude.{Contains, is_some, flat_map, nat_eq}
 use Rattle.std.specs.Option.{option_map, option_map_or, option_and_then}
 use Rattle.net_types.specs.declared.channel.Channel.{Channel}
 use Rattle.net_types.specs.declared.channel.End.{End}
@@ -9,12 +9,12 @@ use Rattle.net_types.specs.declared.node.NodeId.{NodeId}
 use Rattle.net_types.specs.declared.node.PortNo.{PortNo}
 use Rattle.net_types.specs.declared.node.Place.TheVariants.{Down, Up}
 use Rattle.net_types.specs.Label.{is_label_channel, is_label_number, label_channel_of, label_number_of, number_of_channel}
+use Rattle.net_types.proofs.Labels.{number_of_channel-label_channel_of}
 use Rattle.adjacency_table.specs.declared.State.{State}
 use Rattle.adjacency_table.specs.declared.State.TheVariants.{Clearing, SynSent, SynRcvd, Estab}
 use Rattle.adjacency_table.specs.Side.{is_estab, ticked}
 use Rattle.atm_cells.specs.declared.cell.Cell.{Cell}
 use Rattle.ipv4_packet.specs.declared.flow.FlowId.{FlowId}
-use Rattle.ipv4_packet.specs.Flow.{next_hop_of}
 use Rattle.ipv4_packet.specs.Parts.{flow_destination}
 use Rattle.gsmp_wire.specs.declared.message.Message.{Message}
 use Rattle.ipv4_forward.specs.Best.{best}
@@ -29,24 +29,26 @@ use Rattle.crossbar_model.specs.Crossbar.{queue_of}
 use Rattle.port_model.specs.Desk.{Standing}
 use Rattle.port_model.specs.DeskAnswers.{Done, answered}
 use Rattle.world_model.specs.Switch.{control_port}
-use Rattle.port_model.specs.Setup.{Policy, Setup, label_end, is_in_range}
-use Rattle.port_model.specs.Labels.{Label, Wiring, label_number}
+use Rattle.port_model.specs.Setup.{Policy, label_end}
+use Rattle.port_model.specs.Labels.{Label, label_number}
 use Rattle.port_model.specs.Grants as grants
 use Rattle.port_model.specs.Grants.{Grant, grant_label}
 use Rattle.port_model.specs.Port.{Session, labels_of}
 use Rattle.port_facts.specs.Port.{IsPort, IsLabel, IsLabelEnd}
 use Rattle.port_facts.proofs.Keyed.{at_every, at_key}
+use Rattle.port_facts.proofs.Rules.{and_first}
 use Rattle.world_model.specs.Controller.{Controller, Acted, Linked, port_key, linked_at}
-use Rattle.world_model.specs.Joins.{Join, inputs_at, tries_join}
+use Rattle.world_model.specs.Joins.{inputs_at, tries_join}
 use Rattle.world_model.specs.Cells.{ForGsmp, taker_of, cell_comes, same_channel}
 use Rattle.world_model.specs.Controller.{default_channel}
 use Rattle.world_model.specs.Changes.{change_comes}
 use Rattle.world_model.specs.Meeting.{is_clearing}
 use Rattle.world_model.specs.Ticks.{ticks}
-use Rattle.controller_facts.specs.Sound.{IsSound, IsShutLinked}
-use Rattle.controller_facts.proofs.Moves.{HasPorts, found_port}
-use Rattle.controller_law.specs.Match.{lent_in, lent_at, joined_in, joined_at, clearing_at}
+use Rattle.controller_facts.specs.Sound.{IsShutLinked}
+use Rattle.controller_facts.proofs.Moves.{found_port}
+use Rattle.controller_law.specs.Match.{lent_in, lent_at, joined_in}
 use Rattle.controller_bindings.proofs.Flows.{next_destination}
+use Rattle.controller_bindings.proofs.Lasts.{some_same}
 use Rattle.label_line.specs.Cells.{Downstream, Upstream}
 use Rattle.lasting_joins.proofs.Tries.{mid_ports, tries_ends}
 use Rattle.quiet_controllers.specs.Quiet.{Enters, here, later}
@@ -59,9 +61,9 @@ use Rattle.world_model.specs.World.{World, Site, site_at, controller_acts}
 use Rattle.world_model.specs.Places.{queue_at, queue_in}
 use Rattle.world_model.specs.Reached.{table_in}
 use Rattle.world_model.specs.Run.{next, put_away}
-use Rattle.world_model.specs.Ways.{session_at, grants_at, requests_chain_at, to_switch, gsmp_to_switch, on_channel, gsmp_under}
+use Rattle.world_model.specs.Ways.{grants_at, requests_chain_at, on_channel, gsmp_under}
 use Rattle.world_model.specs.Past.{Past, past_of, last_bound}
-use Rattle.world_model.specs.Users.{ByBranch, ByRequest, User, Uses, connected, asked, copied, LeadsOn}
+use Rattle.world_model.specs.Users.{ByBranch, ByRequest, User, Uses, connected, asked, copied}
 use Rattle.world_model.specs.Owned.{StandsForLast}
 use Rattle.world_model.specs.Headline.{IsTame}
 use Rattle.causes.proofs.Shown.{peer_back}
@@ -75,7 +77,7 @@ use Rattle.running_worlds.specs.Running.{TameEventsAreTrue}
 use Rattle.run_facts.specs.Nodes.{IsNodeOfRun}
 use Rattle.run_facts.proofs.Nodes.{runs_have_nodes}
 use Rattle.run_facts.proofs.Steps.{events_are_steps, runs_have_fronts}
-use Rattle.pairs.specs.Events.{EntersAt, IsEntered}
+use Rattle.pairs.specs.Events.{EntersAt}
 use Rattle.pairs.proofs.SitePairs.{in_left, in_right, in_either, of_filter}
 use Rattle.pairs.specs.Past.{RunsMakeNoPairs}
 use Rattle.pairs.specs.Settles.{Settles}
@@ -91,7 +93,7 @@ use Rattle.told_worlds.proofs.Routing.{IsLent, changes_keep}
 use Rattle.told_worlds.proofs.Entering.{IsHop, mid_steady, enters_hop}
 use Rattle.told_worlds.proofs.Tables.{cell_routed}
 use Rattle.told_worlds.proofs.Answering.{Kept, stays}
-use Rattle.told_worlds.proofs.HopBound.{bound_same}
+use Rattle.packet_worlds.proofs.Bound.{bound_stays, none_own}
 use Rattle.told_worlds.proofs.Worlds.{stays_routed}
 use Rattle.actor_pace.proofs.Paces.{Paces, paces_then, paces_fold, at_port_paces}
 use Rattle.told_worlds.proofs.Pacing.{steps_paces, sends_again_paces}
@@ -103,9 +105,6 @@ use Rattle.port_model.specs.Ticks as port_ticks
 node_is : (m n : NodeId) → m.0 ≡ n.0 → m ≡ n
 node_is m n e = ap (λ (k : ℕ). record { 0 = k }) e
 
-some_same : {A : Type 0} (x y : A) → Some x ≡ Some y → x ≡ y
-some_same x y e = cc
-
 -- *The number of a label's channel*
 numbered_same : (channel : Channel) (n : ℕ) → label_number_of channel ≡ Some n → number_of_channel channel ≡ n
 numbered_same channel n e = by (is_label_channel channel) e
@@ -114,20 +113,13 @@ numbered_same channel n e = by (is_label_channel channel) e
     by true k = some_same (number_of_channel channel) n k
     by false k = absurd (cc k)
 
-number_again : (n : ℕ) → number_of_channel (label_channel_of n) ≡ n
-number_again n = omega arith
-
 numbered : (n : ℕ) → is_label_number n ≡ true → label_number_of (label_channel_of n) ≡ Some n
-numbered n is = ap (λ (b : Bool). if b then Some (number_of_channel (label_channel_of n)) else None) is ∙ ap (λ (k : ℕ). Some k) (number_again n)
+numbered n is = ap (λ (b : Bool). if b then Some (number_of_channel (label_channel_of n)) else None) is ∙ ap (λ (k : ℕ). Some k) (number_of_channel-label_channel_of n)
 
 -- an input that is joined is one of those tried
 enters_end : (P : End → Type 0) (input output : End) (inputs : List End) (a : Acted) → Every P inputs → Enters input output a inputs → P input
 enters_end P input output _ a all (here _ inputs join e out) = all.0
 enters_end P input output _ a all (later _ tried inputs rest) = enters_end P input output inputs (tries_join a tried) all.1 rest
-
-first_true : (a b : Bool) → (a && b) ≡ true → a ≡ true
-first_true true b e = refl
-first_true false b e = absurd (cc e)
 
 at_among : {A : Type 0} (key : A → ℕ) (k : ℕ) (xs : List A) (x : A) → at key k xs ≡ Some x → Contains xs x
 at_among key k [] x e = absurd (cc e)
@@ -179,7 +171,8 @@ module _ (read : FramesAreRead) (chains : TameEventsAreTrue) (old : RunsMakeNoPa
   on = (let peer = peer_back topology comes.run.topology_is (end_of Upstream link) far of.way.downstream in omega (arith, peer.own.0))
 
   last_same : (end : LinkEnd) (label : ℕ) → ((flow : FlowId) → Contains after.now.notes.records (Bind end.node end.port label flow) → ⊥) → last_bound after.records end label ≡ last_bound past.records end label
-  last_same end label never = ap (λ (rs : List Record). last_bound rs end label) (events_are_steps policy topology before event).records ∙ bound_same past.records after.now.notes.records end label never
+  last_same end label never = ap (λ (rs : List Record). last_bound rs end label) (events_are_steps policy topology before event).records ∙ bound_stays past.records after.now.notes.records end label
+      (none_own after.now.notes.records end label (λ item flow there is. never flow (subst (Contains after.now.notes.records) is there)))
 
   module _ (input : End) (above : 0 < input.port.0) where
     -- *A pair that was before* uses the label
@@ -205,7 +198,7 @@ module _ (read : FramesAreRead) (chains : TameEventsAreTrue) (old : RunsMakeNoPa
       joined site found met = world.joins up site found met input output above on pair
 
       lent_of : (site : Site) (i : End) → IsJoin site.controller i output → lent_at site.controller.ports port.0 link.label ≡ Some i
-      lent_of site i j = subst (λ (n : ℕ). lent_at site.controller.ports port.0 n ≡ Some i) (number_again link.label)
+      lent_of site i j = subst (λ (n : ℕ). lent_at site.controller.ports port.0 n ≡ Some i) (number_of_channel-label_channel_of link.label)
           (ap (option_and_then (λ (x : Linked). lent_in x.port.grants (number_of_channel output.channel))) j.found ∙ (ap (option_and_then (λ (g : Grant). grants.input_of g.state)) j.granted ∙ j.lent))
 
       -- no label is bound anew that is joined
@@ -289,7 +282,7 @@ module _ (read : FramesAreRead) (chains : TameEventsAreTrue) (old : RunsMakeNoPa
           lent : site.controller.has_met ≡ true → IsLent site.controller.ports port.0 link.label (flow_destination s.flow)
           lent met =
               let j : IsJoin site.controller input output = joined site at_up met in
-              let granted : at grant_label link.label j.linked.port.grants ≡ Some j.grant = subst (λ (n : ℕ). at grant_label n j.linked.port.grants ≡ Some j.grant) (number_again link.label) j.granted in
+              let granted : at grant_label link.label j.linked.port.grants ≡ Some j.grant = subst (λ (n : ℕ). at grant_label n j.linked.port.grants ≡ Some j.grant) (number_of_channel-label_channel_of link.label) j.granted in
               let flows : last_bound past.records far link.label ≡ Some j.grant.flow = (world.users link of).grants j.grant (among at_up j granted) (label_of j granted) in
               record {
                 linked = j.linked;
@@ -367,7 +360,7 @@ module _ (read : FramesAreRead) (chains : TameEventsAreTrue) (old : RunsMakeNoPa
       port_is = ap (λ (x : End). x.port) hop.is
 
       label_is : link.label ≡ hop.label
-      label_is = sym (number_again link.label) ∙ (ap (λ (x : End). number_of_channel x.channel) hop.is ∙ number_again hop.label)
+      label_is = sym (number_of_channel-label_channel_of link.label) ∙ (ap (λ (x : End). number_of_channel x.channel) hop.is ∙ number_of_channel-label_channel_of hop.label)
 
       input_end : IsLabelEnd (setups_of site.controller) input
       input_end = enters_end (IsLabelEnd (setups_of site.controller)) input output (flat_map inputs_at mid.controller.ports) mid
@@ -375,7 +368,7 @@ module _ (read : FramesAreRead) (chains : TameEventsAreTrue) (old : RunsMakeNoPa
 
       input_numbered : label_number_of input.channel ≡ Some (number_of_channel input.channel)
       input_numbered = subst (λ (x : End). label_number_of x.channel ≡ Some (number_of_channel x.channel)) (sym input_end.is)
-          (numbered input_end.number (first_true (is_label_number input_end.number) _ input_end.in_range) ∙ ap (λ (n : ℕ). Some n) (sym (number_again input_end.number)))
+          (numbered input_end.number (and_first (is_label_number input_end.number) _ input_end.in_range) ∙ ap (λ (n : ℕ). Some n) (sym (number_of_channel-label_channel_of input_end.number)))
 
       route : best (table_in up w) (flow_destination hop.flow) ≡ Some (Via port)
       route = subst (λ (o : Option Site). best (option_map_or (λ (x : Site). x.controller.table) o []) (flow_destination hop.flow) ≡ Some (Via port)) (sym found)

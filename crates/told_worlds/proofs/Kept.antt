@@ -33,7 +33,7 @@ use Rattle.port_model.specs.Labels.{Label}
 use Rattle.port_model.specs.Port.{Session}
 use Rattle.world_model.specs.Controller.{Linked, default_home}
 use Rattle.world_model.specs.Cells.{same_channel}
-use Rattle.controller_bindings.proofs.Lasts.{last_more}
+use Rattle.controller_bindings.proofs.Lasts.{last_more, some_same}
 use Rattle.controller_views.specs.Lifted.{payload_by, IsProper}
 use Rattle.label_line.specs.Cells.{Role, Downstream, Upstream}
 use Rattle.label_line.specs.Law.{Always, SpareIsUnused}
@@ -71,9 +71,6 @@ use Rattle.told_worlds.proofs.Ways.{OnWay, in_down, on_way, way_on}
 use Rattle.told_worlds.proofs.Behind.{event_terms, HasActed, EndSo, still, acted, CellSo, was, sent, IsBehind}
 use Rattle.told_worlds.proofs.Events.{then_behind}
 use Rattle.told_worlds.proofs.Known.{IsKnown, known_way, said_before, get_front, get_last, last_among, none_among}
-
-some_same : {A : Type 0} (x y : A) → Some x ≡ Some y → x ≡ y
-some_same x y e = cc
 
 -- *An RSTACK's code* tells it apart
 own_code : ℕ → Bool

@@ -12,14 +12,11 @@ pub mod Known
 pub mod Kept
 pub mod Opening
 pub mod Pacing
-pub mod Keeping
 pub mod Routing
 pub mod Entering
-pub mod Unmet
 pub mod Steady
 pub mod Tables
 pub mod Answering
-pub mod HopBound
 pub mod Worlds
 pub mod Hops
 pub mod HopOpening

@@ -22,12 +22,14 @@ use Rattle.port_model.specs.Port.{Session, labels_of}
 use Rattle.port_facts.specs.Port.{IsPort, IsLabel, IsBefore, IsGrant, HasFlows}
 use Rattle.ipv4_packet.specs.Flow.{IsFlow}
 use Rattle.port_facts.proofs.Keyed.{at_every, each_found}
+use Rattle.port_facts.proofs.Rules.{and_first}
 use Rattle.port_widths.specs.Widths.{FitsLabel}
 use Rattle.world_model.specs.Controller.{Controller, Acted, Linked, linked_at, port_key}
 use Rattle.world_model.specs.Opening.{setup_of}
 use Rattle.controller_facts.proofs.Moves.{Found}
 use Rattle.controller_facts.proofs.Joining.{each_there}
 use Rattle.controller_bindings.specs.Bindings.{IsBoundLast}
+use Rattle.controller_bindings.proofs.Lasts.{some_same}
 use Rattle.controller_views.specs.Ready.{IsReadyPort}
 use Rattle.world_model.specs.declared.link.LinkEnd.{LinkEnd}
 use Rattle.world_model.specs.declared.event.Event.{Event}
@@ -52,15 +54,8 @@ use Rattle.unused_labels.proofs.Links.{link_of, link_is}
 use Rattle.port_words.specs.Words.{Terms, Stands, StandsAs, IsGranted, IsSteadyAt, IsMade, was_made, IsSent, IsSteadily, waited}
 use Rattle.told_worlds.specs.Before.{end_at, IsBindable, IsWiringAt, IsBoundTo, OfPeer, terms, is_wiring, is_bound_to}
 
-some_same : {A : Type 0} (x y : A) → Some x ≡ Some y → x ≡ y
-some_same x y e = cc
-
 shifted : {A : Type 0} (x y : A) (xs : List A) → Contains xs y → Contains (x ∷ xs) y
 shifted x y xs (k, less, is) = (suc k, omega (arith, less), is)
-
-first_true : (a b : Bool) → (a && b) ≡ true → a ≡ true
-first_true true b e = refl
-first_true false b e = absurd (cc e)
 
 pub every_from : {A : Type 0} (P : A → Type 0) (xs : List A) → ((x : A) → Contains xs x → P x) → Every P xs
 every_from P [] each = tt
@@ -151,7 +146,7 @@ module _ (policy : Policy) (topology : Topology) (before : List Event) (is_topol
 
     may_bind : (label : Label) → Contains (labels_of linked.port) label → IsBindable label.number label.flow
     may_bind label has = record {
-      number_is = first_true (is_label_number label.number) _ (every_contained (IsLabel (setups_of site.controller) linked.setup) (labels_of linked.port) label port_is.labels has).in_range;
+      number_is = and_first (is_label_number label.number) _ (every_contained (IsLabel (setups_of site.controller) linked.setup) (labels_of linked.port) label port_is.labels has).in_range;
       fits = every_contained FitsLabel (labels_of linked.port) label ready.fits.labels has;
       is_flow = every_contained (λ (x : Label). IsFlow x.flow) (labels_of linked.port) label (at_every port_key (λ (x : Linked). HasFlows x.port) linked.setup.port.0 site.controller.ports linked run.conduct.flows at_port).labels has;
     }

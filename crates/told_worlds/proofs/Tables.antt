@@ -1,21 +1,14 @@
 -- the route of a join's flow stays while a cell comes
 
-use Rattle.std.proofs.Common.{◌≡◌, ◌≢◌, ℕ, zero, suc, ◌<◌, ◌≤◌, Bool, true, false, List, [], ◌∷◌, ◌++◌, length, Option, None, Some, Result, Ok, Err, refl, sym, ◌∙◌, ap, subst, arith, inl, inr, if◌then◌else◌, fold}
-use Rattle.std.specs.Prelude.{Contains, is_some, not, nat_lt, nat_le, ◌⊎◌, ◌&&◌, ◌==◌, ◌+◌, filter, map}
-use Rattle.std.specs.Option.{option_map, option_map_or, option_and_then}
-use Rattle.net_types.specs.declared.channel.End.{End}
-use Rattle.net_types.specs.declared.node.NodeId.{NodeId}
+use Rattle.std.proofs.Common.{◌≡◌, ℕ, true, List, [], ◌∷◌, Option, None, Some, Result, Ok, Err, refl, ◌∙◌, ap, arith}
+use Rattle.std.specs.Prelude.{nat_lt, ◌+◌, map}
 use Rattle.net_types.specs.declared.node.PortNo.{PortNo}
-use Rattle.net_types.specs.declared.node.Place.TheVariants.{Up}
 use Rattle.net_types.specs.declared.number.Mark.{Mark}
 use Rattle.net_types.specs.declared.prefix.Addr.{Addr}
 use Rattle.adjacency_table.specs.Greeting.{gsmp_received}
 use Rattle.atm_cells.specs.declared.cell.Cell.{Cell}
-use Rattle.ipv4_packet.specs.declared.flow.FlowId.{FlowId}
-use Rattle.ipv4_packet.specs.Parts.{flow_destination}
 use Rattle.flow_encaps.specs.Unwrapped.{default_unwrapped, unwrapped}
 use Rattle.ipv4_forward.specs.Best.{best}
-use Rattle.ipv4_forward.specs.declared.table.Next.{Next}
 use Rattle.ipv4_forward.specs.declared.table.Next.TheVariants.{Via}
 use Rattle.ipv4_forward.specs.declared.table.Route.{Route}
 use Rattle.gsmp_wire.specs.declared.fault.Fault.{Fault as GsmpFault}
@@ -23,42 +16,21 @@ use Rattle.gsmp_wire.specs.declared.message.Message.{Message}
 use Rattle.gsmp_wire.specs.declared.message.Message.TheVariants as messages
 use Rattle.gsmp_wire.specs.declared.request.Request.TheVariants.{DeleteAll}
 use Rattle.gsmp_wire.specs.Fields.{decoded as gsmp_decoded}
-use Rattle.link_model.specs.declared.frames.Frame.{Frame}
-use Rattle.link_model.specs.Ledger.{payload_of, is_frame}
-use Rattle.link_model.specs.Notes.{Journal}
-use Rattle.frame_model.specs.Frame.{Tested, tested, tested_by, payload_in, octets_of, last_mark}
-use Rattle.frame_model.specs.Reassembly.{Reassembly, Taken, taken, passed_over, without_slot, too_long, joined, most_cells}
+use Rattle.frame_model.specs.Frame.{tested_by, payload_in, octets_of, last_mark}
+use Rattle.frame_model.specs.Reassembly.{Taken, taken}
 use Rattle.port_model.specs.Desk.{Standing}
 use Rattle.port_model.specs.DeskAnswers.{Answered, Unknown, Done, Ports, Failed, answered, after_answer}
-use Rattle.port_facts.proofs.Keyed.{on_both, on_each}
-use Rattle.world_model.specs.Controller.{Controller, Acted, Linked, free_slots, ports_of, with_desk}
+use Rattle.world_model.specs.Controller.{Acted, free_slots, ports_of, with_desk}
 use Rattle.world_model.specs.Asking.{asks}
 use Rattle.world_model.specs.Resets.{node_resets}
 use Rattle.world_model.specs.Joins.{releases}
 use Rattle.world_model.specs.Meeting.{up_ports, clears, clears_port, causes, done, takes_answer, answer_comes}
-use Rattle.world_model.specs.Changes.{takes_changes}
 use Rattle.world_model.specs.Gsmp.{steps, told, gsmp_holds}
-use Rattle.world_model.specs.Cells.{Taker, ForGsmp, ForDefault, ForLabel, taker_of, takes_cell, reassembly_of, with_reassembly, label_holds, default_holds, frame_holds, opened_frame, ends_frame, after_cell, cell_comes}
-use Rattle.input_steps.specs.Hearing.{IsEnded}
+use Rattle.world_model.specs.Cells.{Taker, ForGsmp, ForDefault, ForLabel, taker_of, takes_cell, reassembly_of, with_reassembly, label_holds, default_holds, frame_holds, opened_frame, ends_frame, cell_comes}
 use Rattle.actor_pace.proofs.Paces.{Paces, paces_then, paces_fold, asks_paces, node_resets_paces}
 use Rattle.told_worlds.proofs.Pacing.{releases_paces, causes_paces, clears_of_paces, steps_paces, label_holds_paces, default_paces, with_reassembly_paces, noted_paces}
 use Rattle.told_worlds.proofs.Routing.{IsLent, changes_keep}
 use Rattle.world_model.specs.Controller.{linked_at}
-
--- *A chain is ended* by a last cell that is taken
-pub record IsWhole (slot : Bool) (r : Reassembly) (cell : Cell) (ended : List Cell) : Type 0 where
-  pub is_ended : IsEnded slot r cell
-  pub whole : ended ≡ r.chain ++ cell ∷ []
-
-pub whole_chain : (notes : Journal) (slot : Bool) (r : Reassembly) (cell first : Cell) (cells : List Cell) → (taken notes slot r cell).ended ≡ first ∷ cells → IsWhole slot r cell (first ∷ cells)
-whole_chain notes slot r cell first cells = on_each To r.is_skipping (passed_over notes r cell) _ (λ b e. absurd (cc e))
-    (λ listens. on_each To (not slot) (without_slot notes r cell) _ (λ b e. absurd (cc e))
-    (λ has. on_each To (nat_le most_cells (length r.chain)) (too_long notes r cell) (joined notes r cell) (λ b e. absurd (cc e))
-    (λ short. on_each To cell.header.last (record { reassembly = record r { chain = [] }; notes = notes; ended = r.chain ++ cell ∷ [] }) (record { reassembly = record r { chain = r.chain ++ cell ∷ [] }; notes = notes; ended = [] })
-    (λ last e. record { is_ended = record { listens = listens; slot_is = has; short = short; last = last }; whole = sym e }) (λ b e. absurd (cc e)))))
-  where
-    To : Taken → Type 0
-    To t = t.ended ≡ first ∷ cells → IsWhole slot r cell (first ∷ cells)
 
 module _ (q m : ℕ) (d : Addr) (port : PortNo) where
   abbrev pub Routed : Acted → Type 0
