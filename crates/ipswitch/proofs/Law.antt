@@ -15,6 +15,7 @@ use Rattle.world_views.specs.Kept.{HasAddresses, Comes, BindsUnusedAt}
 use Rattle.steady_routes.specs.Law.{changes_route, ChangesNoRoute, AreJourneys, FatesAreJourneys}
 use Rattle.idle_policies.specs.Law.{NothingIsBound}
 use Rattle.ownership.specs.Owning.{IsKept, HasOwnWays, LabelsAreOwned, AreInOrder, WaysAreInOrder}
+use Rattle.ownership.specs.Copies.{AreAllCopiesInOrder, CopiesAreInOrder}
 use Rattle.ownership.specs.Places.{WaysAreOwn}
 use Rattle.ownership.specs.Binds.{EachBindIsUnused}
 use Rattle.ipswitch.specs.Law.{InFronts, LifetimesEnd, IsTrueRun}
@@ -45,6 +46,7 @@ pub record Reads : Type 0 where
   pub ways : WaysAreOwn
   pub owned : LabelsAreOwned
   pub ordered : WaysAreInOrder
+  pub copies : CopiesAreInOrder
   pub unused : (policy : Policy) (topology : Topology) (before : List Event) (event : Event) → Comes policy topology before event
       → IsWhole (past_of policy topology before) → BindsUnusedAt policy topology before event
   pub binds : EachBindIsUnused
@@ -105,6 +107,12 @@ module _ (r : Reads) (whole : HoldsInRuns IsWhole) (policy : Policy) (topology :
       let w = whole policy topology before run addresses tame in
       r.ordered (past_of policy topology before) (is_kept r.nodes policy topology before run addresses w.world) (own_ways r.nodes r.ways policy topology before run addresses w)
 
+  copies_fronts : (events : List Event) → IsRun policy topology events → InFronts policy topology events AreAllCopiesInOrder
+  copies_fronts events run before after split tame =
+      let run = front_run policy topology before after (subst (IsRun policy topology) split run) in
+      let w = whole policy topology before run addresses tame in
+      r.copies (past_of policy topology before) (is_kept r.nodes policy topology before run addresses w.world)
+
   in_harmony : (events : List Event) → IsRun policy topology events → InFronts policy topology events IsInHarmony
   in_harmony events run before after split tame =
       (whole policy topology before (front_run policy topology before after (subst (IsRun policy topology) split run)) addresses tame).harmony
@@ -137,6 +145,7 @@ module _ (r : Reads) (whole : HoldsInRuns IsWhole) (policy : Policy) (topology :
     routing = routed events run;
     owned = owned_fronts events run;
     ordered = ordered_fronts events run;
+    copies = copies_fronts events run;
     harmony = in_harmony events run;
     causes = caused events run;
     lifetimes = lifetimes_end events;

@@ -18,6 +18,7 @@ use Rattle.world_model.specs.Causes.{HasCauses}
 use Rattle.world_model.specs.Headline.{IsRun, IsTame, Headline, AreOwned, IsInHarmony, OffersNothing, BindsNothing}
 use Rattle.world_views.specs.Kept.{HasAddresses}
 use Rattle.ownership.specs.Owning.{AreInOrder}
+use Rattle.ownership.specs.Copies.{AreAllCopiesInOrder}
 use Rattle.steady_routes.specs.Law.{ChangesNoRoute, AreJourneys}
 use Rattle.lifetimes.specs.Aging.{HasEnded}
 use Rattle.lifetimes.specs.Law.{SendsNone, EndsByReset}
@@ -68,8 +69,10 @@ pub record IsTrueRun (policy : Policy) (topology : Topology) (events : List Even
   pub routing : Headline policy topology events
   -- each label of each link is owned
   pub owned : InFronts policy topology events AreOwned
-  -- redirection messages on each way of each link are in the order of their numbers
+  -- redirection messages on each way of each link are in the order of their numbers, and so are copies of requests on their
+  -- way to a switch
   pub ordered : InFronts policy topology events AreInOrder
+  pub copies : InFronts policy topology events AreAllCopiesInOrder
   -- nothing is refused, and no message says that a label is taken or of another flow
   pub harmony : InFronts policy topology events IsInHarmony
   -- each frame that is broken stands beside its cause

@@ -10,3 +10,4 @@ pub mod Matching
 pub mod Heard
 pub mod Numbers
 pub mod Order
+pub mod Copies

@@ -1,4 +1,5 @@
 pub mod Order
 pub mod Owning
+pub mod Copies
 pub mod Places
 pub mod Binds

@@ -1,13 +1,16 @@
 //! Each label of each link is owned in a network of a run, between its events: who uses it stands for the flow that it was
 //! bound to last, nobody uses one that is spare or wired, a spare one leads to its controller, none that isn't recalled is
 //! reclaimed, and an end in Estab knows a peer that was cleared. And what is said on each way of a link is in the order of its
-//! numbers. It is read off what holds of the network. There is no code that runs.
+//! numbers, as copies of requests are on their way to a switch. It is read off what holds of the network. There is no code
+//! that runs.
 #![tactic(auto)]
 
 ghost use Rattle.ownership.specs.Binds.{EachBindIsUnused};
+ghost use Rattle.ownership.specs.Copies.{CopiesAreInOrder};
 ghost use Rattle.ownership.specs.Owning.{LabelsAreOwned, WaysAreInOrder};
 ghost use Rattle.ownership.specs.Places.{WaysAreOwn};
 
+use branch_line::input_law;
 use frame_readings::frames_are_read;
 use label_line::label_is_owned;
 use run_facts::nodes_are_steady;
@@ -15,15 +18,17 @@ use unused_labels::labels_are_unused;
 
 /// Each label is owned where what goes between the ends of a link, and between a controller and its switch, is on its own
 /// channel; and so it is where control frames go as GSMP on its channel, or by a port of a link. It calls the laws of frames that
-/// are read, of each run, of a label's line and of labels that nobody uses, and its contract is the statement.
+/// are read, of each run, of the lines of labels and of inputs, and of labels that nobody uses, and its contract is the statement.
 pub fn labels_are_owned()
     ensures owned { LabelsAreOwned }
     ensures ordered { WaysAreInOrder }
+    ensures copies { CopiesAreInOrder }
     ensures ways { WaysAreOwn }
     ensures binds { EachBindIsUnused }
 {
     frames_are_read();
     nodes_are_steady();
     label_is_owned();
+    input_law();
     labels_are_unused();
 }

@@ -1,4 +1,4 @@
--- the law of the label's line, and that nobody uses a spare label, is asked of the functions that are called
+-- the laws of the lines of labels and inputs, and that nobody uses a spare label, are asked of the functions that are called
 
 use Rattle.ownership.proofs.Binds.{each_bind}
 use Rattle.ownership.proofs.Own.{own_channels}
@@ -8,6 +8,7 @@ use Rattle.ownership.proofs.Knows.{knows}
 use Rattle.ownership.proofs.Joined.{spare_leads_home}
 use Rattle.ownership.proofs.Reclaims.{no_reclaims}
 use Rattle.ownership.proofs.Order.{ways_in_order}
+use Rattle.ownership.proofs.Copies.{copies_in_order}
 use Rattle.ownership.proofs.labels_are_owned.Goals as goal
 
 pub returns : goal.returns
@@ -23,6 +24,7 @@ returns c = record {
         upstream_knows = knows past kept way.up way.down (kept.world.cleared way on).0;
       };
   ordered = ways_in_order c.label_is_owned.ensures.numbers_are_in_order;
+  copies = copies_in_order c.input_law.ensures.only_new c.input_law.ensures.copies_in_order;
   ways = ways_are_own c.frames_are_read.ensures.marks c.nodes_are_steady.ensures.drawn;
   binds = each_bind;
 }

@@ -78,6 +78,7 @@ returns c =
       ways = c.labels_are_owned.ensures.ways;
       owned = c.labels_are_owned.ensures.owned;
       ordered = c.labels_are_owned.ensures.ordered;
+      copies = c.labels_are_owned.ensures.copies;
       unused = unused;
       binds = c.labels_are_owned.ensures.binds;
       once = c.packets_are_kept.ensures.once;
