@@ -1,3 +1,4 @@
+pub mod Chains
 pub mod Coming
 pub mod Controllers
 pub mod Events

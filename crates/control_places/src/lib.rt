@@ -10,9 +10,13 @@
 //! packet under the flow of a label, and what stands on a default channel, which is unwrapped, tested as a packet and, if it is a
 //! message of IFMP, read. `proofs/Readings` has that what comes on each of these channels can be read; `proofs/Ports`,
 //! `RefusedWalks`, `Frames` and `RefusedSwitches` go over all that a controller and a switch do, and `proofs/RefusedEvents` over
-//! the events. There is no code that runs.
+//! the events.
+//!
+//! A chain that passes its test has the payload of its last cell's frame, at each channel that takes cells (`proofs/Chains`):
+//! where it has another, the event notes a record `Chance`. There is no code that runs.
 #![tactic(auto)]
 
+ghost use Rattle.control_places.specs.Chains.{ChainsAreTheirFrames};
 ghost use Rattle.control_places.specs.Law.{PlacesAreKept, PlacesBegin};
 ghost use Rattle.control_places.specs.Refused.{NothingIsRefused};
 
@@ -38,6 +42,15 @@ pub fn nothing_is_refused()
     ensures events { NothingIsRefused }
 {
     frames_are_read();
+    nodes_are_steady();
+    worlds_are_running();
+}
+
+/// A chain that passes its test has the payload of its last cell's frame, in each event of a run behind which no frame was forged
+/// and none has passed by chance. It calls the laws of each run and of worlds that run, and its contract is the statement.
+pub fn chains_are_their_frames()
+    ensures events { ChainsAreTheirFrames }
+{
     nodes_are_steady();
     worlds_are_running();
 }

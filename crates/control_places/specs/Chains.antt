@@ -1,0 +1,16 @@
+-- A chain that passes its test counts as the frame of its last cell
+
+use Rattle.std.specs.Prelude.{List, [], ◌∷◌, ◌++◌}
+use Rattle.port_model.specs.Setup.{Policy}
+use Rattle.world_model.specs.declared.event.Event.{Event}
+use Rattle.world_model.specs.Topology.{Topology}
+use Rattle.world_model.specs.Stretches.{CountsAsItsFrame}
+use Rattle.world_model.specs.Past.{past_of}
+use Rattle.world_model.specs.Headline.{IsTame}
+
+-- *A chain that passes* has the payload of its last cell's frame, in each event of a run behind which no frame was forged and
+-- none has passed by chance
+abbrev pub ChainsAreTheirFrames : Type 0
+ChainsAreTheirFrames = (policy : Policy) (topology : Topology) (before : List Event) (event : Event)
+    → IsTame (past_of policy topology (before ++ event ∷ [])).records
+    → CountsAsItsFrame (past_of policy topology before).now event
