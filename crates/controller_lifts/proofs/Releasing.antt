@@ -28,7 +28,6 @@ use Rattle.port_widths.proofs.Rules.{parted_fit, given_back_fit}
 use Rattle.world_model.specs.Controller.{Controller, Acted, Linked, port_key, linked_at, ports_of, note}
 use Rattle.world_model.specs.Resets.{begins, with_work}
 use Rattle.world_model.specs.Performing.{resets_as, resets_of, resets_port, does_in_estab, works_as, works, at_port}
-use Rattle.world_model.specs.Resets as resetting
 use Rattle.world_model.specs.Joins.{Join, join_of, joins_of, parts, releases_join, releases_input, released_inputs, resets_spent, releases}
 use Rattle.port_model.specs.Resets.{resets}
 use Rattle.controller_facts.specs.Sound.{IsSound}

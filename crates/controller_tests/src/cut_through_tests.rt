@@ -4,17 +4,38 @@ ghost use Rattle.std.specs.Prelude.{◌≡◌, Some};
 ghost use Rattle.port_model.specs.Grants as grants;
 ghost use Rattle.grant_table.specs.Table.{state_of};
 
-use crate::values::{HOME, INPUT, INPUT_HOME, LABEL, carried_out};
-use branch_desk::redeem;
+use branch_desk::{Answered, Desk, redeem};
 use cut_through::{Join, plan, route_of, undo};
 use grant_table::{Accepted, GrantTable};
-use gsmp_wire::Request;
+use gsmp_wire::{BranchKind, Message, Request};
 use ipv4_forward::{Next, Table};
 use ipv4_packet::FlowId;
-use net_types::{Addr, PortNo, Prefix};
+use net_types::{Addr, Channel, End, PortNo, Prefix};
 use std::alloc::Global;
 use std::process::Abort;
 use std::test::Fail;
+
+/// Label 32 of port 1, and the channel of the control port that stands for it.
+const INPUT: End = End {
+    port: PortNo(1),
+    channel: Channel { vpi: 0, vci: 32 },
+};
+
+const INPUT_ON_CONTROL: End = End {
+    port: PortNo(0),
+    channel: Channel { vpi: 16, vci: 32 },
+};
+
+/// Label 40 of port 2, and the channel of the control port that stands for it.
+const OUTPUT: End = End {
+    port: PortNo(2),
+    channel: Channel { vpi: 0, vci: 40 },
+};
+
+const OUTPUT_ON_CONTROL: End = End {
+    port: PortNo(0),
+    channel: Channel { vpi: 32, vci: 40 },
+};
 
 /// A connection from 10.0.1.1 to 10.0.3.1.
 fn connection(ttl: u8) -> FlowId {
@@ -52,17 +73,39 @@ fn routed(rt: &impl Abort, alloc: Global, next: Next) -> Result<Table, Fail> {
     Ok(table)
 }
 
-/// The branch of label 32 is made, and the controller sends under it.
+/// The branch of label 40 is made, and the controller sends under it.
 fn start(rt: &impl Abort, alloc: Global, table: &mut GrantTable)
-    requires { state_of table.old 32 ≡ Some grants.Idle }
+    requires { state_of table.old 40 ≡ Some grants.Idle }
 {
-    let add = Request::AddBranch {
-        input: HOME,
-        output: LABEL,
+    let Ok(mut desk) = Desk::open(alloc) else {
+        panic!(rt; "there is memory")
     };
-    let (done, ticket) = carried_out(rt, alloc, add);
-    table.started(32, &done);
+    let add = Request::AddBranch {
+        input: OUTPUT_ON_CONTROL,
+        output: OUTPUT,
+    };
+    let ticket = desk.ask_needed(add);
+    let answered = desk.answer(&Message::Branch {
+        kind: BranchKind::Add,
+        result: 3,
+        code: 0,
+        transaction: 1,
+        session: 0,
+        input_port: 0,
+        input: OUTPUT_ON_CONTROL.channel,
+        output_port: 2,
+        output: OUTPUT.channel,
+        branches: 1,
+        priority: 0,
+    });
+    let Answered::Done(done) = answered else {
+        panic!(rt; "the request is done")
+    };
+    assert_eq!(rt; done.request(), add);
+    assert!(rt; done.number() == ticket.number());
+    table.started(40, &done);
     redeem(done, ticket);
+    desk.abandon();
 }
 
 /// No join is planned for a flow at its last hop, away from its route, or without a grant of the flow
@@ -83,7 +126,7 @@ fn joins_are_planned_for_the_flow_one_hop_further(rt: HostRuntime) -> Result<(),
             connection(3),
             Some(Join {
                 input: INPUT,
-                output: LABEL,
+                output: OUTPUT,
             }),
         ),
     ] {
@@ -91,7 +134,7 @@ fn joins_are_planned_for_the_flow_one_hop_further(rt: HostRuntime) -> Result<(),
         let Ok(mut grants) = opened else {
             panic!(rt; "there is memory")
         };
-        let accepted = grants.accept(32, flow, 60);
+        let accepted = grants.accept(40, flow, 60);
         assert_eq!(rt; accepted, Ok(Accepted::New));
         assert_eq!(rt;
             plan(INPUT, &connection(4), &table, PortNo(2), &grants),
@@ -120,12 +163,12 @@ fn joins_are_planned_for_the_flow_one_hop_further(rt: HostRuntime) -> Result<(),
 fn a_join_is_undone(rt: HostRuntime) {
     let join = Join {
         input: INPUT,
-        output: LABEL,
+        output: OUTPUT,
     };
     let back = Request::MoveBranch {
         input: INPUT,
-        from: LABEL,
-        to: INPUT_HOME,
+        from: OUTPUT,
+        to: INPUT_ON_CONTROL,
     };
     assert_eq!(rt; undo(&join), back);
 }

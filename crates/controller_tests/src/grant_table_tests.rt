@@ -1,11 +1,10 @@
 //! What a port makes of the labels that it is offered.
 
-use crate::values::{HOME, HOSTS, INPUT, INPUT_HOME, LABEL, carried_out};
-use branch_desk::redeem;
+use branch_desk::{Answered, Desk, redeem};
 use grant_table::{AcceptFault, Accepted, GrantState, GrantTable, GrantView};
-use gsmp_wire::Request;
+use gsmp_wire::{BranchKind, Message, Request};
 use ipv4_packet::FlowId;
-use net_types::Addr;
+use net_types::{Addr, Channel, End, PortNo};
 use std::test::Fail;
 
 /// A datagram from 10.0.1.1, port 5001, to 10.0.3.1, port 5002, with Time To Live 4.
@@ -23,6 +22,35 @@ const CONNECTION: FlowId = FlowId::One {
     destination: Addr(0x0a00_0301),
     source_port: 5001,
     destination_port: 5002,
+};
+
+/// Its flow of type 2.
+const HOSTS: FlowId = FlowId::Two {
+    ttl: 4,
+    source: Addr(0x0a00_0101),
+    destination: Addr(0x0a00_0301),
+};
+
+/// Label 32 of port 2, and the channel of the control port that stands for it.
+const LABEL: End = End {
+    port: PortNo(2),
+    channel: Channel { vpi: 0, vci: 32 },
+};
+
+const LABEL_ON_CONTROL: End = End {
+    port: PortNo(0),
+    channel: Channel { vpi: 32, vci: 32 },
+};
+
+/// Label 40 of port 1, and the channel of the control port that stands for it.
+const INPUT: End = End {
+    port: PortNo(1),
+    channel: Channel { vpi: 0, vci: 40 },
+};
+
+const INPUT_ON_CONTROL: End = End {
+    port: PortNo(0),
+    channel: Channel { vpi: 16, vci: 40 },
 };
 
 /// Each label with what a REDIRECT of it is answered, in a table of labels 900 to 1100 (VPI 0 up to
@@ -84,7 +112,8 @@ fn lifetimes_run_out(rt: HostRuntime) -> Result<(), Fail> {
 
 /// A grant is used once its branch is made, is lent, comes back and ends.
 #[test]
-fn a_grant_lives(rt: HostRuntime) {
+fn a_grant_lives(rt: HostRuntime) -> Result<(), Fail> {
+    let mut desk = Desk::open(rt.alloc())?;
     let opened = GrantTable::open(rt.alloc(), 32, 95);
     let Ok(mut table) = opened else {
         panic!(rt; "there is memory")
@@ -93,10 +122,28 @@ fn a_grant_lives(rt: HostRuntime) {
     assert!(rt; ipv4_packet::check(&DATAGRAM).is_ok());
     assert_eq!(rt; table.find(&DATAGRAM), None);
     let add = Request::AddBranch {
-        input: HOME,
+        input: LABEL_ON_CONTROL,
         output: LABEL,
     };
-    let (done, ticket) = carried_out(&rt, rt.alloc(), add);
+    let ticket = desk.ask_needed(add);
+    let answered = desk.answer(&Message::Branch {
+        kind: BranchKind::Add,
+        result: 3,
+        code: 0,
+        transaction: 1,
+        session: 0,
+        input_port: 0,
+        input: LABEL_ON_CONTROL.channel,
+        output_port: 2,
+        output: LABEL.channel,
+        branches: 1,
+        priority: 0,
+    });
+    let Answered::Done(done) = answered else {
+        panic!(rt; "the request is done")
+    };
+    assert_eq!(rt; done.request(), add);
+    assert!(rt; done.number() == ticket.number());
     table.started(32, &done);
     redeem(done, ticket);
     assert_eq!(rt; table.find(&DATAGRAM), Some(32));
@@ -105,9 +152,28 @@ fn a_grant_lives(rt: HostRuntime) {
     let back = Request::MoveBranch {
         input: INPUT,
         from: LABEL,
-        to: INPUT_HOME,
+        to: INPUT_ON_CONTROL,
     };
-    let (done, ticket) = carried_out(&rt, rt.alloc(), back);
+    let ticket = desk.ask_needed(back);
+    let answered = desk.answer(&Message::Move {
+        result: 3,
+        code: 0,
+        transaction: 2,
+        session: 0,
+        input_port: 1,
+        input: INPUT.channel,
+        output_port: 2,
+        output: LABEL.channel,
+        target_port: 0,
+        target: INPUT_ON_CONTROL.channel,
+        branches: 1,
+        priority: 0,
+    });
+    let Answered::Done(done) = answered else {
+        panic!(rt; "the request is done")
+    };
+    assert_eq!(rt; done.request(), back);
+    assert!(rt; done.number() == ticket.number());
     table.leave(32, true);
     assert_eq!(rt;
         table.get(32),
@@ -123,4 +189,6 @@ fn a_grant_lives(rt: HostRuntime) {
     redeem(done, ticket);
     assert!(rt; table.is_empty());
     table.abandon();
+    desk.abandon();
+    Ok(())
 }

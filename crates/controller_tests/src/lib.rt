@@ -21,5 +21,3 @@ mod reclaimed_tests;
 mod redirect_state_tests;
 #[cfg(test)]
 mod request_book_tests;
-#[cfg(test)]
-mod values;

@@ -1,17 +1,17 @@
 //! Lives of a port.
 
 ghost use Rattle.std.specs.Prelude.{◌≡◌, true, IsTrue, Some};
+ghost use Rattle.grant_table.specs.Table.{releases};
 ghost use Rattle.keyed_lists.specs.Keyed.{at};
 ghost use Rattle.port_model.specs.Grants.{Grant, grant_label, input_of};
 ghost use Rattle.ifmp_wire.specs.Message.{InRange};
 
-use crate::values::{HOME, HOSTS, INPUT, INPUT_HOME, LABEL, carried_out};
-use branch_desk::{Desk, redeem};
+use branch_desk::{Answered, Desk, redeem};
 use flow_classifier::XyPolicy;
 use grant_table::GrantState;
-use gsmp_wire::Request;
+use gsmp_wire::{BranchKind, Message as SwitchMessage, Request};
 use ifmp_wire::Message;
-use ipv4_packet::check;
+use ipv4_packet::{FlowId, check};
 use link_model::Record;
 use net_types::{Addr, Channel, End, Hello, HelloKind, Instance, NodeId, OutOfMemory, PortNo};
 use redirect_state::{Action, Actions, Link, Timers};
@@ -19,11 +19,41 @@ use std::alloc::Global;
 use std::process::Abort;
 use std::test::Fail;
 
-/// A packet of the flow, of no more than its header.
+/// The flow from 10.0.1.1 to 10.0.3.1 with Time To Live 4.
+const FLOW: FlowId = FlowId::Two {
+    ttl: 4,
+    source: Addr(0x0a00_0101),
+    destination: Addr(0x0a00_0301),
+};
+
+/// A packet of it, of no more than its header.
 const PACKET: [u8; 20] = [
     0x45, 0x00, 0x00, 0x14, 0x00, 0x00, 0x00, 0x00, 0x04, 0x06, 0x9e, 0xe3, 0x0a, 0x00, 0x01, 0x01,
     0x0a, 0x00, 0x03, 0x01,
 ];
+
+/// Label 32 of port 2, under which the port is granted, and which it hands out.
+const LABEL: End = End {
+    port: PortNo(2),
+    channel: Channel { vpi: 0, vci: 32 },
+};
+
+/// The channel of the control link that stands for it.
+const HOME: End = End {
+    port: PortNo(0),
+    channel: Channel { vpi: 32, vci: 32 },
+};
+
+/// An input, and the channel of the control link that stands for it.
+const INPUT: End = End {
+    port: PortNo(1),
+    channel: Channel { vpi: 0, vci: 40 },
+};
+
+const INPUT_HOME: End = End {
+    port: PortNo(0),
+    channel: Channel { vpi: 16, vci: 40 },
+};
 
 const OWN: Addr = Addr(0x0a00_0201);
 
@@ -216,10 +246,36 @@ fn start(
     output: End,
     out: &mut Actions,
 ) -> Result<(), OutOfMemory> {
-    let (done, ticket) = carried_out(rt, alloc, Request::AddBranch { input, output });
+    let mut desk = Desk::open(alloc)?;
+    let add = Request::AddBranch { input, output };
+    let ticket = desk.ask_needed(add);
+    let answered = desk.answer(&success(BranchKind::Add, input, output));
+    let Answered::Done(done) = answered else {
+        panic!(rt; "the request is done")
+    };
+    assert_eq!(rt; done.request(), add);
+    assert!(rt; done.number() == ticket.number());
     let started = link.on_done(&done, out);
     redeem(done, ticket);
+    desk.abandon();
     started
+}
+
+/// A success of the switch, of the first request that is asked of it.
+fn success(kind: BranchKind, input: End, output: End) -> SwitchMessage {
+    SwitchMessage::Branch {
+        kind,
+        result: 3,
+        code: 0,
+        transaction: 1,
+        session: 0,
+        input_port: input.port.0 as u32,
+        input: input.channel,
+        output_port: output.port.0 as u32,
+        output: output.channel,
+        branches: 1,
+        priority: 0,
+    }
 }
 
 /// The grant is lent to the input.
@@ -251,6 +307,26 @@ fn is_lent(link: &Link<XyPolicy>) -> bool
     }
 }
 
+/// Whether a request leads the input to the controller.
+fn leads_home(request: Request) -> bool
+    ensures { IsTrue result → releases request INPUT ≡ true }
+{
+    match request {
+        Request::MoveBranch {
+            input: End {
+                port: PortNo(1),
+                channel: Channel { vpi: 0, vci: 40 },
+            },
+            from: _,
+            to: End {
+                port: PortNo(0),
+                channel: Channel { vpi: 16, vci: 40 },
+            },
+        } => true,
+        _ => false,
+    }
+}
+
 /// The input is led to the controller.
 fn release(
     rt: &impl Abort,
@@ -261,14 +337,38 @@ fn release(
     if !is_lent(link) {
         panic!(rt; "label 32 isn't lent to the input")
     }
+    let mut desk = Desk::open(alloc)?;
     let moved = Request::MoveBranch {
         input: INPUT,
         from: LABEL,
         to: INPUT_HOME,
     };
-    let (done, ticket) = carried_out(rt, alloc, moved);
+    let ticket = desk.ask_needed(moved);
+    let answered = desk.answer(&SwitchMessage::Move {
+        result: 3,
+        code: 0,
+        transaction: 1,
+        session: 0,
+        input_port: 1,
+        input: INPUT.channel,
+        output_port: 2,
+        output: LABEL.channel,
+        target_port: 0,
+        target: INPUT_HOME.channel,
+        branches: 1,
+        priority: 0,
+    });
+    let Answered::Done(done) = answered else {
+        panic!(rt; "the request is done")
+    };
+    let request = done.request();
+    if !leads_home(request) {
+        panic!(rt; "it doesn't lead the input to the controller")
+    }
+    assert!(rt; done.number() == ticket.number());
     let released = link.back(32, &done, out);
     redeem(done, ticket);
+    desk.abandon();
     released
 }
 
@@ -300,7 +400,7 @@ fn redirect(
         number,
         lifetime,
         label: LABEL.channel,
-        flow: HOSTS,
+        flow: FLOW,
     };
     hear(alloc, link, &redirect, out)
 }
@@ -317,7 +417,7 @@ fn reclaim(
         peer: Instance(7),
         number,
         label: LABEL.channel,
-        flow: HOSTS,
+        flow: FLOW,
     };
     hear(alloc, link, &reclaim, out)
 }

@@ -14,6 +14,7 @@ use Rattle.world_views.specs.Between.{IsWorld, HasPacketsOnce}
 use Rattle.world_views.specs.Kept.{HasAddresses, Comes, BindsUnusedAt}
 use Rattle.steady_routes.specs.Law.{changes_route, ChangesNoRoute, AreJourneys, FatesAreJourneys}
 use Rattle.idle_policies.specs.Law.{NothingIsBound}
+use Rattle.control_places.specs.Chains.{ChainsAreTheirFrames}
 use Rattle.ownership.specs.Owning.{IsKept, HasOwnWays, LabelsAreOwned, AreInOrder, WaysAreInOrder}
 use Rattle.ownership.specs.Copies.{AreAllCopiesInOrder, CopiesAreInOrder}
 use Rattle.ownership.specs.Places.{WaysAreOwn}
@@ -47,6 +48,7 @@ pub record Reads : Type 0 where
   pub owned : LabelsAreOwned
   pub ordered : WaysAreInOrder
   pub copies : CopiesAreInOrder
+  pub frames : ChainsAreTheirFrames
   pub unused : (policy : Policy) (topology : Topology) (before : List Event) (event : Event) → Comes policy topology before event
       → IsWhole (past_of policy topology before) → BindsUnusedAt policy topology before event
   pub binds : EachBindIsUnused
@@ -146,6 +148,7 @@ module _ (r : Reads) (whole : HoldsInRuns IsWhole) (policy : Policy) (topology :
     owned = owned_fronts events run;
     ordered = ordered_fronts events run;
     copies = copies_fronts events run;
+    frames = λ before after event split tame. r.frames policy topology before event tame;
     harmony = in_harmony events run;
     causes = caused events run;
     lifetimes = lifetimes_end events;

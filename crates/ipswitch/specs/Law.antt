@@ -1,6 +1,6 @@
 -- What is true of the run of a script: of the network that its lines describe, under the policy that they name
 
-use Rattle.std.specs.Prelude.{◌≡◌, ℕ, ◌+◌, ◌≤◌, true, List, ◌∷◌, ◌++◌, Some}
+use Rattle.std.specs.Prelude.{◌≡◌, ℕ, ◌+◌, ◌≤◌, true, List, [], ◌∷◌, ◌++◌, Some}
 use Rattle.net_types.specs.declared.node.NodeId.{NodeId}
 use Rattle.net_types.specs.declared.node.PortNo.{PortNo}
 use Rattle.net_types.specs.declared.node.Place.TheVariants.{Down}
@@ -14,6 +14,7 @@ use Rattle.world_model.specs.World.{World, controller_at, opened}
 use Rattle.world_model.specs.Places.{queue_at}
 use Rattle.world_model.specs.Run.{next, world_after}
 use Rattle.world_model.specs.Past.{Past, past_of}
+use Rattle.world_model.specs.Stretches.{CountsAsItsFrame}
 use Rattle.world_model.specs.Causes.{HasCauses}
 use Rattle.world_model.specs.Headline.{IsRun, IsTame, Headline, AreOwned, IsInHarmony, OffersNothing, BindsNothing}
 use Rattle.world_views.specs.Kept.{HasAddresses}
@@ -73,6 +74,9 @@ pub record IsTrueRun (policy : Policy) (topology : Topology) (events : List Even
   -- way to a switch
   pub ordered : InFronts policy topology events AreInOrder
   pub copies : InFronts policy topology events AreAllCopiesInOrder
+  -- a chain that passes its test is the frame of its last cell
+  pub frames : (before after : List Event) (event : Event) → events ≡ before ++ event ∷ after
+      → IsTame (past_of policy topology (before ++ event ∷ [])).records → CountsAsItsFrame (past_of policy topology before).now event
   -- nothing is refused, and no message says that a label is taken or of another flow
   pub harmony : InFronts policy topology events IsInHarmony
   -- each frame that is broken stands beside its cause

@@ -4,7 +4,7 @@ ghost use Rattle.std.specs.Prelude.{ℕ, List};
 ghost use Rattle.ipswitch.specs.declared.task.Task.{Task};
 ghost use Rattle.ipswitch.specs.Law.{IsTrueTask, RunsAreTrue};
 
-use control_places::{control_frames_have_places, nothing_is_refused};
+use control_places::{chains_are_their_frames, control_frames_have_places, nothing_is_refused};
 use idle_policies::nothing_is_bound;
 use joined_worlds::{answers_settle_joins, joins_are_kept, runs_make_no_pairs};
 use label_worlds::labels_are_followed;
@@ -22,8 +22,8 @@ use told_worlds::{
 
 /// What is true of every run of a network: cut-through changes nothing of what routing makes of packets,
 /// before the first frame that was forged or passed its test by chance; so long labels are owned, what is
-/// said on a link and asked of a switch is in the order of its numbers, broken frames have their causes,
-/// nothing is refused, and no message disowns a label; grants end by their lifetimes. Where no route
+/// said on a link and asked of a switch is in the order of its numbers, a chain that passes its test is its
+/// last cell's frame, broken frames have their causes, nothing is refused, and no message disowns a label; grants end by their lifetimes. Where no route
 /// changes fates are journeys, and where nothing is offered nothing is bound. It calls the laws that it
 /// stands on, and its contract is the statement.
 fn runs_are_true()
@@ -43,6 +43,7 @@ fn runs_are_true()
     packets_are_kept();
     control_frames_have_places();
     labels_are_owned();
+    chains_are_their_frames();
     labels_are_never_disowned();
     nothing_is_refused();
     fates_are_journeys();

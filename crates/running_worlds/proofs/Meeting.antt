@@ -1,6 +1,6 @@
 -- the adjacency with the switch, meeting it, its answers and ticks keep the widths, and what is made is a message's
 
-use Rattle.std.proofs.Common.{◌≡◌, ℕ, zero, suc, ◌<◌, ◌≤◌, true, List, [], ◌∷◌, Option, None, Some, refl, arith, map, fold, inl, inr, if◌then◌else◌}
+use Rattle.std.proofs.Common.{◌≡◌, ℕ, zero, suc, ◌<◌, ◌≤◌, true, List, [], ◌∷◌, Option, None, Some, refl, arith, map, fold, if◌then◌else◌}
 use Rattle.std.specs.Prelude.{◌^◌, ◌==◌, ◌&&◌, find, take, flat_map}
 use Rattle.net_types.specs.declared.node.PortNo.{PortNo}
 use Rattle.net_types.specs.declared.adjacency.Party.{Party}
@@ -17,12 +17,11 @@ use Rattle.gsmp_wire.specs.declared.rows.PortRow.{PortRow}
 use Rattle.gsmp_wire.specs.declared.request.Request.{Request}
 use Rattle.gsmp_wire.specs.declared.request.Request.TheVariants.{AddBranch, MoveBranch, DeleteTree, VerifyTree, DeleteAll, PortManagement, AllPorts}
 use Rattle.ordered_lists.specs.Ordered.{Every}
-use Rattle.port_model.specs.Messages.{is_up}
 use Rattle.port_model.specs.Desk.{Standing, empty_desk, sent_again, last_transaction}
 use Rattle.port_model.specs.DeskAnswers.{Head, head_of, is_of_type, Answered, Unknown, Done, Ports, Failed, succeeded, outcome, answered_with, after_answer}
 use Rattle.port_model.specs.Setup.{Setup}
 use Rattle.port_model.specs.Resets.{cleared}
-use Rattle.port_facts.specs.Port.{IsLinked, IsDefaultEnd, IsShaped, asks_ports, empties_control, empties_port, opens_input, opens_output}
+use Rattle.port_facts.specs.Port.{IsLinked, IsShaped, asks_ports, empties_control, empties_port, opens_input, opens_output}
 use Rattle.port_facts.proofs.Keyed.{on_both, on_each, at_every, put_every}
 use Rattle.port_facts.proofs.Found.{find_every}
 use Rattle.port_widths.proofs.Rules.{cleared_fit}
@@ -34,9 +33,8 @@ use Rattle.world_model.specs.Meeting.{meets, up_ports, empties, default_branches
 use Rattle.world_model.specs.Gsmp.{answers, steps, told}
 use Rattle.world_model.specs.Ticks.{sends_again, ticks_port, ticks_ports, ticks_by, ticks}
 use Rattle.controller_facts.proofs.Moves.{IsGsmpTurn, hears as hears_greeting, ages, answering, meeting, ending_meeting, turning, clearing, moves_to, HasPorts, IsShapedStanding, found_at_own}
-use Rattle.controller_facts.proofs.Performing.{Any, any_ports, ports_linked}
+use Rattle.controller_facts.proofs.Performing.{Any, any_ports}
 use Rattle.controller_facts.specs.Sound.{IsSound}
-use Rattle.controller_facts.proofs.Joining.{every_filter}
 use Rattle.controller_facts.proofs.Events.{ups_linked, default_of, emptied_port, sends_again_goes}
 use Rattle.controller_lifts.proofs.Kept.{Of}
 use Rattle.controller_lifts.proofs.Ready.{Fits as FitsIn}

@@ -79,6 +79,7 @@ returns c =
       owned = c.labels_are_owned.ensures.owned;
       ordered = c.labels_are_owned.ensures.ordered;
       copies = c.labels_are_owned.ensures.copies;
+      frames = c.chains_are_their_frames.ensures.events;
       unused = unused;
       binds = c.labels_are_owned.ensures.binds;
       once = c.packets_are_kept.ensures.once;
