@@ -23,9 +23,9 @@ use told_worlds::{
 /// What is true of every run of a network: cut-through changes nothing of what routing makes of packets,
 /// before the first frame that was forged or passed its test by chance; so long labels are owned, what is
 /// said on a link and asked of a switch is in the order of its numbers, a chain that passes its test is its
-/// last cell's frame, broken frames have their causes, nothing is refused, and no message disowns a label; grants end by their lifetimes. Where no route
-/// changes fates are journeys, and where nothing is offered nothing is bound. It calls the laws that it
-/// stands on, and its contract is the statement.
+/// last cell's frame, broken frames have their causes, nothing is refused, and no message disowns a label;
+/// grants end by their lifetimes. Where no route changes fates are journeys, and where nothing is offered
+/// nothing is bound. It calls the laws that it stands on, and its contract is the statement.
 fn runs_are_true()
     ensures { RunsAreTrue }
 {
