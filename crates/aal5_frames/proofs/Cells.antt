@@ -95,11 +95,6 @@ carried channel mark pdu octets k n old out is same end size =
     ∙ (λ i. take (48 * end i) (same i))
     ∙ take_all (48 * n) octets (omega arith)
 
--- the PDU is all of what is cut off in front
-pub cut_off : (payload pdu rest : List ℕ) (n : ℕ) → pdu ≡ pdu_of payload → n ≡ cells_for (length payload) → take (48 * n) (pdu ++ rest) ≡ pdu_of payload
-cut_off payload pdu rest n is count =
-    take_at pdu rest (48 * n) (ap length is ∙ length-pdu_of payload ∙ ap (λ k. 48 * k) (sym count)) ∙ is
-
 -- Length and CRC are written one after the other
 pub sealed : (xs len crc : List ℕ) → 8 ≤ length xs → length len ≡ 2 → length crc ≡ 4
     → put_mid (length xs - 4) (length xs - (length xs - 4)) (put_mid (length xs - 6) (length xs - 4 - (length xs - 6)) xs len) crc

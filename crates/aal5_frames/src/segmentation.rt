@@ -14,6 +14,9 @@ use net_types::{Channel, Mark};
 /// The greatest CPCS-PDU, in octets: that of 32 cells.
 pub const MAX_FRAME: usize = 1536;
 
+/// The most cells of a short frame, as those of most messages are.
+pub const FEW_CELLS: usize = 4;
+
 /// How many cells carry a payload of `len` octets.
 pub fn cells_of(len: usize) -> usize
     requires { (1 ≤ len) × (len ≤ 1528) }
@@ -60,6 +63,20 @@ fn cell_at(pdu: &[u8], k: usize, channel: Channel, mark: Mark) -> Cell
     }
 }
 
+/// Writes the cells of a payload's PDU, which is made in `pdu`, to the front of `out`.
+fn write_cells(payload: &[u8], channel: Channel, mark: Mark, pdu: &mut [u8], out: &mut [Cell])
+    requires len { (1 ≤ length payload.now) × (length payload.now ≤ 1528) }
+    requires pdu { length pdu.old ≡ 48 * cells_for (length payload.now) }
+    requires room { cells_for (length payload.now) ≤ length out.old }
+    ensures written { out.new ≡ cells_with channel mark (pdu_of payload.now) ++ drop (cells_for (length payload.now)) out.old }
+    ensures pdu { IsPdu payload.now (flat_map (λ c. c.payload) (take (cells_for (length payload.now)) out.new)) }
+{
+    write_pdu(payload, pdu);
+    for k in 0..cells_of(payload.len()) {
+        out[k] = cell_at(pdu, k, channel, mark);
+    }
+}
+
 /// Writes the cells of `payload`'s CPCS-PDU to the front of `out`, all on `channel` with `mark` and
 /// the last alone marked as last, and answers how many they are. Pad and UU are zero.
 pub fn segment(payload: &[u8], channel: Channel, mark: Mark, out: &mut [Cell]) -> usize
@@ -70,11 +87,12 @@ pub fn segment(payload: &[u8], channel: Channel, mark: Mark, out: &mut [Cell]) -
     ensures pdu { IsPdu payload.now (flat_map (λ c. c.payload) (take result out.new)) }
 {
     let count = cells_of(payload.len());
-    let mut buffer = [0; MAX_FRAME];
-    write_pdu(payload, &mut buffer[..48 * count]);
-    let pdu = &buffer[..48 * count];
-    for k in 0..count {
-        out[k] = cell_at(pdu, k, channel, mark);
+    if count <= FEW_CELLS {
+        let mut pdu = [0; 48 * FEW_CELLS];
+        write_cells(payload, channel, mark, &mut pdu[..48 * count], out);
+    } else {
+        let mut pdu = [0; MAX_FRAME];
+        write_cells(payload, channel, mark, &mut pdu[..48 * count], out);
     }
     count
 }

@@ -112,10 +112,7 @@ fn pass_on<E: PortEngine>(
     ensures acted { OnOk result (acted E.seen router.new notes.new numbers.new ≡ counted_at (routes (acted E.seen router.old notes.old numbers.old) mark packet.now) port packet.now) }
     ensures joined { OnOk result (AreJoined E.seen router.new) }
 {
-    let mut octets = [0; MAX_PACKET];
-    let octets = &mut octets[..packet.len()];
-    octets.copy_from_slice(packet);
-    router.route(mark, octets, numbers, notes)?;
+    router.route(mark, packet, numbers, notes)?;
     router.count(port, packet, numbers, notes)
 }
 
@@ -175,17 +172,17 @@ fn take_rebuilt<E: PortEngine>(
     port: PortNo,
     number: u16,
     mark: Mark,
-    packet: &mut [u8],
+    packet: &[u8],
     numbers: &mut Numbers,
     notes: &mut Notes,
 ) -> Result<(), OutOfMemory>
     requires joined { AreJoined E.seen router.old }
-    requires packet { IsPacket packet.old }
+    requires packet { IsPacket packet.now }
     requires frame { mark.frame < 2 ^ 63 }
     requires routes { HasLinkRoutes (controller_of E.seen router.old) }
     requires mark { HasMark (acted E.seen router.old notes.old numbers.old) }
     requires bound { IsSome (flow_on (controller_of E.seen router.old) port number) }
-    ensures acted { OnOk result (acted E.seen router.new notes.new numbers.new ≡ used_at (routes (acted E.seen router.old notes.old numbers.old) mark packet.old) port number) }
+    ensures acted { OnOk result (acted E.seen router.new notes.new numbers.new ≡ used_at (routes (acted E.seen router.old notes.old numbers.old) mark packet.now) port number) }
     ensures joined { OnOk result (AreJoined E.seen router.new) }
 {
     router.route(mark, packet, numbers, notes)?;
@@ -222,7 +219,7 @@ pub(crate) fn take_labelled<E: PortEngine>(
             port,
             number,
             mark,
-            &mut octets[..len],
+            &octets[..len],
             numbers,
             notes,
         ),

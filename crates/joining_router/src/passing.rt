@@ -53,16 +53,16 @@ impl<E: PortEngine> JoiningRouter<E> {
     pub fn route(
         &mut self,
         came: Mark,
-        packet: &mut [u8],
+        packet: &[u8],
         numbers: &mut Numbers,
         notes: &mut Notes,
     ) -> Result<(), OutOfMemory>
         requires joined { AreJoined E.seen self.old }
-        requires packet { IsPacket packet.old }
+        requires packet { IsPacket packet.now }
         requires frame { came.frame < 2 ^ 63 }
-        requires port { (port : PortValue) → hop_of self.old.router.routes.table packet.old ≡ On port → IsLinkPort port }
+        requires port { (port : PortValue) → hop_of self.old.router.routes.table packet.now ≡ On port → IsLinkPort port }
         requires mark { is_control came ≡ true → numbers.old.controls + 1 < 2 ^ 64 }
-        ensures acted { OnOk result (acted E.seen self.new notes.new numbers.new ≡ routes (acted E.seen self.old notes.old numbers.old) came packet.old) }
+        ensures acted { OnOk result (acted E.seen self.new notes.new numbers.new ≡ routes (acted E.seen self.old notes.old numbers.old) came packet.now) }
         ensures joined { OnOk result (AreJoined E.seen self.new) }
     {
         self.router.route(came, packet, numbers, notes)
@@ -81,7 +81,7 @@ impl<E: PortEngine> JoiningRouter<E> {
         ensures acted { (numbers : GivenOut) → OnOk result (acted E.seen self.new notes.new numbers ≡ injected (acted E.seen self.old notes.old numbers) number packet.now) }
         ensures joined { OnOk result (AreJoined E.seen self.new) }
     {
-        self.router.enter_packet(number, packet, notes)
+        self.router.enter(number, packet, notes)
     }
 
     /// A packet has come on the channel of a label of a port, which is bound where the port is linked.

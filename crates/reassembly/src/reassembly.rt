@@ -10,6 +10,7 @@ ghost use Rattle.frame_model.specs.Frame.{tested};
 ghost use Rattle.reassembly.specs.Receipt.{reassembly_in, received, received_by};
 
 use crate::chain::take_all;
+use aal5_frames::FEW_CELLS;
 use atm_cells::{BLANK_CELL, Cell};
 use cell_pool::{CHAIN_CELLS, Chain, ChainStore};
 use frame_model::{note_broken, note_cut_chain, test_frame};
@@ -52,7 +53,8 @@ impl Reassembly {
         }
     }
 
-    /// Empties the chain, and skips up to and with the next last cell, of which this may be one.
+    /// Empties the chain, and skips up to and with the next last cell, of which this may be one. The
+    /// cells stand at the front of `out`, and the answer is how many there were.
     fn skip_from<S: ChainStore>(&mut self, store: &mut S, cell: &Cell, out: &mut [Cell]) -> usize
         requires threaded { IsLine (S.region store.old) self.old.chain }
         requires apart { IsApartFromEach (S.region store.old) (S.lines store.old) self.old.chain }
@@ -66,7 +68,9 @@ impl Reassembly {
         ensures rest { S.rest store.new ≡ S.rest store.old }
     {
         self.is_skipping = !cell.header.last;
-        take_all(store, &mut self.chain, out)
+        let count = self.chain.len();
+        take_all(store, &mut self.chain, &mut out[..count]);
+        count
     }
 
     /// No slot is free for the cell.
@@ -114,6 +118,31 @@ impl Reassembly {
         note_broken(notes, &cells[..count + 1])
     }
 
+    /// Tests the cells of the chain, which are taken out to `cells`, where there is room for just these.
+    fn test_cells<S: ChainStore>(
+        &mut self,
+        store: &mut S,
+        cells: &mut [Cell],
+        notes: &mut Notes,
+        octets: &mut [u8],
+    ) -> Result<Option<usize>, OutOfMemory>
+        requires threaded { IsLine (S.region store.old) self.old.chain }
+        requires apart { IsApartFromEach (S.region store.old) (S.lines store.old) self.old.chain }
+        requires cells { length cells.old ≡ len_of self.old.chain }
+        requires some { (1 ≤ length cells.old) × (length cells.old ≤ 32) }
+        requires room { 1536 ≤ length octets.old }
+        ensures reassembly { reassembly_in (S.region store.new) self.new ≡ record (reassembly_in (S.region store.old) self.old) { chain = [] } }
+        ensures notes { OnOk result (notes.new ≡ (tested notes.old (cells_of (S.region store.old) self.old.chain)).notes) }
+        ensures payload { IfOk result (λ len. option_map (λ n. take n octets.new) len ≡ (tested notes.old (cells_of (S.region store.old) self.old.chain)).payload) }
+        ensures len { IfOk result (λ len. IfSome len (λ n. n ≤ 1528)) }
+        ensures chain { ChangesBeside (S.region store.old) (S.region store.new) (S.lines store.old) self.old.chain self.new.chain }
+        ensures lines { S.lines store.new ≡ S.lines store.old }
+        ensures rest { S.rest store.new ≡ S.rest store.old }
+    {
+        take_all(store, &mut self.chain, cells);
+        test_frame(notes, cells, octets)
+    }
+
     /// The chain ends with a last cell: it is tested, and its slots are free again.
     fn end_frame<S: ChainStore>(
         &mut self,
@@ -133,9 +162,14 @@ impl Reassembly {
         ensures lines { S.lines store.new ≡ S.lines store.old }
         ensures rest { S.rest store.new ≡ S.rest store.old }
     {
-        let mut cells = [BLANK_CELL; CHAIN_CELLS];
-        let count = take_all(store, &mut self.chain, &mut cells);
-        test_frame(notes, &cells[..count], octets)
+        let count = self.chain.len();
+        if count <= FEW_CELLS {
+            let mut cells = [BLANK_CELL; FEW_CELLS];
+            self.test_cells(store, &mut cells[..count], notes, octets)
+        } else {
+            let mut cells = [BLANK_CELL; CHAIN_CELLS];
+            self.test_cells(store, &mut cells[..count], notes, octets)
+        }
     }
 
     /// The cell joins the chain; a last one ends it.
@@ -223,9 +257,10 @@ impl Reassembly {
         ensures rest { S.rest store.new ≡ S.rest store.old }
     {
         let mut cells = [BLANK_CELL; CHAIN_CELLS];
-        let count = take_all(store, &mut self.chain, &mut cells);
+        let cells = &mut cells[..self.chain.len()];
+        take_all(store, &mut self.chain, cells);
         self.is_skipping = false;
-        note_cut_chain(notes, &cells[..count])
+        note_cut_chain(notes, cells)
     }
 
     /// Gives up the channel's cells.

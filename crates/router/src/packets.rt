@@ -1,7 +1,7 @@
 //! *Forwarding* (RFC 1812 5.2.1): a packet at the node is delivered, dropped, or sent on, under a grant's
 //! label where its flow has one.
 
-ghost use Rattle.std.specs.Prelude.{◌≡◌, ◌≤◌, ◌<◌, ◌+◌, ◌^◌, true, IfSome, IsTrue, None, OnOk, Some, if◌then◌else◌, option_map};
+ghost use Rattle.std.specs.Prelude.{◌≡◌, ◌≤◌, ◌<◌, ◌+◌, ◌^◌, true, IfSome, IsTrue, None, OnOk, Some, if◌then◌else◌, option_map, length};
 ghost use Rattle.net_types.specs.declared.node.PortNo.{PortNo as PortNoValue};
 ghost use Rattle.net_types.specs.Label.{is_label_number};
 ghost use Rattle.net_types.specs.Number.{GivenOut, next_control, with_control};
@@ -23,7 +23,6 @@ ghost use Rattle.router.specs.Packets.{granted, payload_by, shown, way_by};
 
 use crate::engine::PortEngine;
 use crate::router::Router;
-use aal5_frames::MAX_FRAME;
 use flow_encaps::{wrap_default, wrap_flow};
 use grant_table::GrantTable;
 use gsmp_client::{default_end, home_of, label_end};
@@ -34,6 +33,9 @@ use net_types::{Mark, Numbers, Octets, OutOfMemory, PortNo};
 
 /// The greatest packet, in octets.
 const MAX_PACKET: usize = 1500;
+
+/// The greatest short packet, in octets: on a default channel its frame has at most four cells.
+const SHORT_PACKET: usize = 176;
 
 /// A grant under which a packet is sent.
 #[derive(Clone, Copy, Debug)]
@@ -100,45 +102,71 @@ impl<E: PortEngine> Router<E> {
         }
     }
 
-    /// Sends a packet on by a port's default channel, in a frame of this mark.
+    /// Sends a packet on by a port's default channel, in a frame of this mark, whose payload is made in
+    /// `room`.
     fn go_plain(
         &mut self,
         mark: Mark,
         port: PortNo,
         packet: &[u8],
+        room: &mut [u8],
         notes: &mut Notes,
     ) -> Result<(), OutOfMemory>
         requires port { (1 ≤ port.0) × (port.0 ≤ 8) }
         requires packet { IsPacket packet.now }
+        requires room { length packet.now + 8 ≤ length room.old }
         ensures acted { (numbers : GivenOut) → OnOk result (acted E.seen self.new notes.new numbers ≡ sends (acted E.seen self.old notes.old numbers) (default_home port).channel mark (default_payload packet.now)) }
         ensures links { self.new.links ≡ self.old.links }
     {
-        let mut payload = [0; MAX_FRAME];
-        let len = wrap_default(packet, &mut payload);
+        let len = wrap_default(packet, room);
         let channel = home_of(default_end(port)).channel;
-        self.send(channel, mark, &payload[..len], notes)
+        self.send(channel, mark, &room[..len], notes)
     }
 
-    /// Sends a packet on by a port under a grant's label, in a frame of this mark.
+    /// Sends a packet on by a port under a grant's label, in a frame of this mark, whose payload is made
+    /// in `room`.
     fn go_labelled(
         &mut self,
         mark: Mark,
         port: PortNo,
         permit: &Permit,
         packet: &[u8],
+        room: &mut [u8],
         notes: &mut Notes,
     ) -> Result<(), OutOfMemory>
         requires port { (1 ≤ port.0) × (port.0 ≤ 8) }
         requires packet { IsPacket packet.now }
+        requires room { length packet.now + 8 ≤ length room.old }
         requires flow { flow_of (kind_of permit.now.flow) packet.now ≡ Some permit.now.flow }
         requires label { IsTrue (is_label_number permit.now.number) }
         ensures acted { (numbers : GivenOut) → OnOk result (acted E.seen self.new notes.new numbers ≡ sends (acted E.seen self.old notes.old numbers) (control_end port permit.now.number).channel mark (labelled_payload (kind_of permit.now.flow) packet.now)) }
         ensures links { self.new.links ≡ self.old.links }
     {
-        let mut payload = [0; MAX_FRAME];
-        let len = wrap_flow(&permit.flow, packet, &mut payload);
+        let len = wrap_flow(&permit.flow, packet, room);
         let channel = home_of(label_end(port, permit.number)).channel;
-        self.send(channel, mark, &payload[..len], notes)
+        self.send(channel, mark, &room[..len], notes)
+    }
+
+    /// Sends a packet on by a port, in a frame of this mark, whose payload is made in `room`: under a
+    /// grant's label, or on the default channel.
+    fn go_by(
+        &mut self,
+        mark: Mark,
+        port: PortNo,
+        packet: &[u8],
+        room: &mut [u8],
+        notes: &mut Notes,
+    ) -> Result<(), OutOfMemory>
+        requires port { (1 ≤ port.0) × (port.0 ≤ 8) }
+        requires packet { IsPacket packet.now }
+        requires room { length packet.now + 8 ≤ length room.old }
+        ensures acted { (numbers : GivenOut) → OnOk result (acted E.seen self.new notes.new numbers ≡ sends (acted E.seen self.old notes.old numbers) (way_by port (option_map granted (grant_by (controller_of E.seen self.old) port packet.now))).channel mark (payload_by packet.now (option_map granted (grant_by (controller_of E.seen self.old) port packet.now)))) }
+        ensures links { self.new.links ≡ self.old.links }
+    {
+        match self.permit_for(port, packet) {
+            None => self.go_plain(mark, port, packet, room, notes),
+            Some(permit) => self.go_labelled(mark, port, &permit, packet, room, notes),
+        }
     }
 
     /// Sends a packet on by a port, in a frame of this mark: under a grant's label, or on the default
@@ -155,9 +183,10 @@ impl<E: PortEngine> Router<E> {
         ensures acted { (numbers : GivenOut) → OnOk result (acted E.seen self.new notes.new numbers ≡ sends (acted E.seen self.old notes.old numbers) (way_by port (option_map granted (grant_by (controller_of E.seen self.old) port packet.now))).channel mark (payload_by packet.now (option_map granted (grant_by (controller_of E.seen self.old) port packet.now)))) }
         ensures links { self.new.links ≡ self.old.links }
     {
-        match self.permit_for(port, packet) {
-            None => self.go_plain(mark, port, packet, notes),
-            Some(permit) => self.go_labelled(mark, port, &permit, packet, notes),
+        if packet.len() <= SHORT_PACKET {
+            self.go_by(mark, port, packet, &mut [0; 8 + SHORT_PACKET], notes)
+        } else {
+            self.go_by(mark, port, packet, &mut [0; 8 + MAX_PACKET], notes)
         }
     }
 
@@ -191,8 +220,8 @@ impl<E: PortEngine> Router<E> {
         })
     }
 
-    /// Forwards a packet that came in a frame of this mark.
-    pub fn route(
+    /// Forwards a packet that came in a frame of this mark, with the step of its Time To Live.
+    fn forward(
         &mut self,
         came: Mark,
         packet: &mut [u8],
@@ -215,8 +244,8 @@ impl<E: PortEngine> Router<E> {
         }
     }
 
-    /// Forwards a packet that enters here, under this number: its first frame is number 1.
-    pub fn enter(
+    /// Forwards a packet that enters here, with the step of its Time To Live.
+    fn admit(
         &mut self,
         number: u32,
         packet: &mut [u8],
@@ -245,8 +274,27 @@ impl<E: PortEngine> Router<E> {
         }
     }
 
-    /// Forwards a packet that enters here, as it was given, under this number.
-    pub fn enter_packet(
+    /// Forwards a packet that came in a frame of this mark.
+    pub fn route(
+        &mut self,
+        came: Mark,
+        packet: &[u8],
+        numbers: &mut Numbers,
+        notes: &mut Notes,
+    ) -> Result<(), OutOfMemory>
+        requires packet { IsPacket packet.now }
+        requires frame { came.frame < 2 ^ 63 }
+        requires port { (port : PortNoValue) → hop_of self.old.routes.table packet.now ≡ On port → IsLinkPort port }
+        requires mark { is_control came ≡ true → numbers.old.controls + 1 < 2 ^ 64 }
+        ensures acted { OnOk result (acted E.seen self.new notes.new numbers.new ≡ routes (acted E.seen self.old notes.old numbers.old) came packet.now) }
+        ensures links { self.new.links ≡ self.old.links }
+    {
+        let mut octets = packet.to_vec(self.alloc)?;
+        self.forward(came, &mut octets, numbers, notes)
+    }
+
+    /// Forwards a packet that enters here, under this number: its first frame is number 1.
+    pub fn enter(
         &mut self,
         number: u32,
         packet: &[u8],
@@ -257,9 +305,7 @@ impl<E: PortEngine> Router<E> {
         ensures acted { (numbers : GivenOut) → OnOk result (acted E.seen self.new notes.new numbers ≡ injected (acted E.seen self.old notes.old numbers) number packet.now) }
         ensures links { self.new.links ≡ self.old.links }
     {
-        let mut octets = [0; MAX_PACKET];
-        let octets = &mut octets[..packet.len()];
-        octets.copy_from_slice(packet);
-        self.enter(number, octets, notes)
+        let mut octets = packet.to_vec(self.alloc)?;
+        self.admit(number, &mut octets, notes)
     }
 }

@@ -1,18 +1,15 @@
-use Rattle.std.proofs.Common.{ℕ, List, ap, sym, subst, ◌∙◌}
+use Rattle.std.proofs.Common.{sym, subst}
 use Rattle.world_model.specs.Controller.{Acted}
-use Rattle.world_model.specs.Packets.{routes}
 use Rattle.joining_router.specs.Conditions.{CanWorkOn}
-use Rattle.joining_router.specs.Joining.{acted, controller_of}
+use Rattle.joining_router.specs.Joining.{controller_of}
 use Rattle.controller_conditions.specs.Calls.{counting}
 use Rattle.controller_conditions.proofs.Leading.{routes_lead_to_links}
 use Rattle.controller.proofs.packets.pass_on.Goals as goal
 
 pub route-requires-clause-port : goal.route-requires-clause-port
-route-requires-clause-port g c = λ port hop. routes_lead_to_links.hops (controller_of g.E.PortEngine.seen c.args.router.now) c.copy_from_slice.new.self port c.requires.routes hop
+route-requires-clause-port g c = λ port hop. routes_lead_to_links.hops (controller_of g.E.PortEngine.seen c.args.router.now) c.args.packet.now port c.requires.routes hop
 
 pub count-requires-clause-can : goal.count-requires-clause-can
 count-requires-clause-can g c =
-    let seen = g.E.PortEngine.seen in
-    let a = acted seen c.args.router.now c.args.notes.now c.args.numbers.now in
-    let e = c.in_ok-route.ensures.acted ∙ ap (λ (packet : List ℕ). routes a c.args.mark packet) c.copy_from_slice.ensures.after in
+    let e = c.in_ok-route.ensures.acted in
     subst (λ (x : Acted). CanWorkOn x c.args.port (counting c.args.packet.now)) (sym e) c.requires.can

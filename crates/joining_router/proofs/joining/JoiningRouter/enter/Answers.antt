@@ -14,7 +14,7 @@ returns-clause-joined g c =
     let a = node.acted seen c.self.inside.router c.args.notes.now numbers in
     let before = subst (AreJoined seen) (sym c.self.view_is) c.requires.joined in
     let after = injected a c.args.number c.args.packet.now in
-    ok_joined c.enter_packet.result _ after c.self.inside.joins (stayed a after c.self.inside.joins (routes_stays a (record { packet = c.args.number; frame = 0 }) c.args.packet.now) before) (c.enter_packet.ensures.acted numbers)
+    ok_joined c.enter.result _ after c.self.inside.joins (stayed a after c.self.inside.joins (routes_stays a (record { packet = c.args.number; frame = 0 }) c.args.packet.now) before) (c.enter.ensures.acted numbers)
 
 pub returns-clause-acted : goal.returns-clause-acted
-returns-clause-acted g c = rw (← c.self.view_is) c.enter_packet.ensures.acted
+returns-clause-acted g c = rw (← c.self.view_is) c.enter.ensures.acted
