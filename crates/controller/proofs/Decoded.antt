@@ -1,89 +1,15 @@
--- The octets of a message of IFMP are decoded to it.
+-- What the octets of a message of IFMP are decoded to.
 
-use Rattle.std.proofs.Common.{◌≡◌, ℕ, ◌==◌, true, List, Option, None, Some, Ok, Err, refl, ap, ◌∙◌, leb, if◌then◌else◌}
-use Rattle.std.proofs.lemmas.Nat.{from_be_bytes-to_be_bytes_2, from_be_bytes-to_be_bytes_4}
-use Rattle.net_types.specs.declared.adjacency.HelloKind.{HelloKind}
-use Rattle.net_types.specs.declared.adjacency.HelloKind.TheVariants.{Syn, Synack, Rstack, Ack}
-use Rattle.ipv4_packet.specs.declared.flow.FlowKind.TheVariants.{One as ConnectionKind, Two as HostsKind}
-use Rattle.ipv4_packet.specs.declared.flow.FlowId.{FlowId}
-use Rattle.ipv4_packet.specs.declared.flow.FlowId.TheVariants.{One, Two}
-use Rattle.ipv4_packet.specs.Flow.{kind_of}
-use Rattle.ipv4_packet.specs.Identifier.{identifier, FitsFields}
-use Rattle.ipv4_packet.proofs.IdentifierLemmas.{flow_at-identifier}
+use Rattle.std.proofs.Common.{◌≡◌, ℕ, List, Option, Some, Ok, Err, ap, ◌∙◌}
 use Rattle.ifmp_wire.specs.declared.message.Message.{Message}
-use Rattle.ifmp_wire.specs.declared.message.Message.TheVariants.{Adjacency, Redirect, Reclaim, ReclaimAck, LabelRange, Error}
 use Rattle.ifmp_wire.specs.declared.reader.Fault.{Fault}
-use Rattle.ifmp_wire.specs.Message.{hello_code, flow_type, octets_of, FitsMessage, Tells}
+use Rattle.ifmp_wire.specs.Message.{Tells}
 use Rattle.ifmp_wire.specs.Tests.{first_fault}
-use Rattle.ifmp_wire.specs.Fields.{decoded, decoded_by, flow_in, hello_at, hello_kind, message_at}
-use Rattle.ifmp_wire.proofs.AcceptLemmas.{first_fault-octets_of}
-
-kind_again : (kind : HelloKind) → hello_kind (hello_code kind) ≡ kind
-kind_again Syn = refl
-kind_again Synack = refl
-kind_again Rstack = refl
-kind_again Ack = refl
-
-code_is_small : (kind : HelloKind) → leb (hello_code kind) 3 ≡ true
-code_is_small Syn = refl
-code_is_small Synack = refl
-code_is_small Rstack = refl
-code_is_small Ack = refl
-
-flow_again : (flow : FlowId) → FitsFields flow → flow_in (if flow_type (kind_of flow) == flow_type ConnectionKind then ConnectionKind else HostsKind) (identifier flow) ≡ flow
-flow_again (One tos ttl protocol source destination source_port destination_port) fits = flow_at-identifier (One tos ttl protocol source destination source_port destination_port) fits
-flow_again (Two ttl source destination) fits = flow_at-identifier (Two ttl source destination) fits
-
-message_again : (message : Message) → FitsMessage message → message_at (octets_of message) ≡ message
-message_again (Adjacency hello) fits =
-    let k = kind_again hello.kind in
-    let a = from_be_bytes-to_be_bytes_4 hello.sender.0 fits.0.0 in
-    let b = from_be_bytes-to_be_bytes_4 hello.peer.0 fits.0.1 in
-    let c = from_be_bytes-to_be_bytes_4 hello.identity.0 fits.0.2 in
-    let d = from_be_bytes-to_be_bytes_4 hello.next fits.1 in
-    let read : Adjacency (hello_at (octets_of (Adjacency hello))) ≡ Adjacency hello = λ i. Adjacency (record { kind = k i; sender = record { 0 = a i }; peer = record { 0 = b i }; identity = record { 0 = c i }; next = d i }) in
-    rw (code_is_small hello.kind) read
-message_again (Redirect sender peer number lifetime label flow) fits =
-    let a = from_be_bytes-to_be_bytes_4 sender.0 fits.0.0 in
-    let b = from_be_bytes-to_be_bytes_4 peer.0 fits.0.1 in
-    let c = from_be_bytes-to_be_bytes_4 number fits.0.2 in
-    let d = from_be_bytes-to_be_bytes_2 lifetime fits.1 in
-    let e = from_be_bytes-to_be_bytes_2 label.vci fits.2 in
-    let f = flow_again flow fits.3 in
-    λ i. Redirect (record { 0 = a i }) (record { 0 = b i }) (c i) (d i) (record { vpi = label.vpi; vci = e i }) (f i)
-message_again (Reclaim sender peer number label flow) fits =
-    let a = from_be_bytes-to_be_bytes_4 sender.0 fits.0.0 in
-    let b = from_be_bytes-to_be_bytes_4 peer.0 fits.0.1 in
-    let c = from_be_bytes-to_be_bytes_4 number fits.0.2 in
-    let e = from_be_bytes-to_be_bytes_2 label.vci fits.1 in
-    let f = flow_again flow fits.2 in
-    λ i. Reclaim (record { 0 = a i }) (record { 0 = b i }) (c i) (record { vpi = label.vpi; vci = e i }) (f i)
-message_again (ReclaimAck sender peer number label flow) fits =
-    let a = from_be_bytes-to_be_bytes_4 sender.0 fits.0.0 in
-    let b = from_be_bytes-to_be_bytes_4 peer.0 fits.0.1 in
-    let c = from_be_bytes-to_be_bytes_4 number fits.0.2 in
-    let e = from_be_bytes-to_be_bytes_2 label.vci fits.1 in
-    let f = flow_again flow fits.2 in
-    λ i. ReclaimAck (record { 0 = a i }) (record { 0 = b i }) (c i) (record { vpi = label.vpi; vci = e i }) (f i)
-message_again (LabelRange sender peer number least greatest) fits =
-    let a = from_be_bytes-to_be_bytes_4 sender.0 fits.0.0 in
-    let b = from_be_bytes-to_be_bytes_4 peer.0 fits.0.1 in
-    let c = from_be_bytes-to_be_bytes_4 number fits.0.2 in
-    let d = from_be_bytes-to_be_bytes_2 least.vci fits.1 in
-    let e = from_be_bytes-to_be_bytes_2 greatest.vci fits.2 in
-    λ i. LabelRange (record { 0 = a i }) (record { 0 = b i }) (c i) (record { vpi = least.vpi; vci = d i }) (record { vpi = greatest.vpi; vci = e i })
-message_again (Error sender peer number code label) fits =
-    let a = from_be_bytes-to_be_bytes_4 sender.0 fits.0.0 in
-    let b = from_be_bytes-to_be_bytes_4 peer.0 fits.0.1 in
-    let c = from_be_bytes-to_be_bytes_4 number fits.0.2 in
-    let e = from_be_bytes-to_be_bytes_2 label.vci fits.2 in
-    λ i. Error (record { 0 = a i }) (record { 0 = b i }) (c i) code (record { vpi = label.vpi; vci = e i })
+use Rattle.ifmp_wire.specs.Fields.{decoded, decoded_by}
+use Rattle.wire_laws.proofs.Ifmp.{read_back}
 
 pub decoded_told : (octets : List ℕ) (message : Message) → Tells octets message → decoded octets ≡ Ok message
-unfolding decoded
-decoded_told octets message told =
-    let accepted : first_fault octets ≡ None = ap first_fault told.spelled ∙ first_fault-octets_of message told.in_range told.fits in
-    ap (λ (o : Option Fault). decoded_by o octets) accepted ∙ ap (λ (octets : List ℕ). Ok (message_at octets)) told.spelled ∙ ap (λ (m : Message). Ok m) (message_again message told.fits)
+decoded_told octets message told = ap decoded told.spelled ∙ read_back message told.in_range told.fits
 
 pub decoded_refused : (octets : List ℕ) (fault : Fault) → first_fault octets ≡ Some fault → decoded octets ≡ Err fault
 unfolding decoded

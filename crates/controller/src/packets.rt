@@ -214,15 +214,7 @@ pub(crate) fn take_labelled<E: PortEngine>(
     };
     let mut octets = [0; MAX_PACKET];
     match unwrap_flow(&flow, payload, &mut octets) {
-        Ok(len) => take_rebuilt(
-            router,
-            port,
-            number,
-            mark,
-            &octets[..len],
-            numbers,
-            notes,
-        ),
+        Ok(len) => take_rebuilt(router, port, number, mark, &octets[..len], numbers, notes),
         Err(fault) => refuse(router, Layer::Encaps, encaps_refusal(fault), notes),
     }
 }

@@ -9,10 +9,13 @@ ghost use Rattle.world_model.specs.Conditions.{IsNode, IsTopology};
 ghost use Rattle.world_model.specs.declared.event.Event.TheVariants.{Route as RouteComes};
 ghost use Rattle.ideal_fates.specs.Told.{nothing_told, tables_under, opened_for, counted, after_event, after_line, sent_record, records_of, records_at, end_of, HasTables, FitsLine, FitsEvent};
 
+mod lines;
+
 use crate::packet::packet_record;
 use crate::tables::Tables;
 use ipv4_forward::RouteChange;
 use lab_text::Text;
+pub use lines::{Reported, ideal};
 use link_model::Record;
 use net_types::{NodeId, Octets, OutOfMemory};
 use record_text::write_record;

@@ -4,13 +4,9 @@
 
 mod fates;
 mod hops;
-mod lines;
 mod packet;
 mod tables;
-#[cfg(test)]
-mod tests;
 
-pub use fates::Fates;
+pub use fates::{Fates, Reported, ideal};
 pub use hops::{Ending, journey};
-pub use lines::{Reported, ideal};
 pub use tables::Tables;

@@ -8,7 +8,7 @@ ghost use Rattle.script_model.specs.Reading.{line_says};
 ghost use Rattle.script_model.specs.Script.{script_from, script_of};
 ghost use Rattle.ideal_fates.specs.Told.{rest_of, last_told, Follows};
 
-use crate::fates::Fates;
+use super::Fates;
 use lab_text::{Text, split_line};
 use net_types::{Octets, OutOfMemory};
 use refusal_text::write_refused;

@@ -3,7 +3,7 @@ use Rattle.lab_text.specs.Lines.{lines_of}
 use Rattle.script_model.specs.Reading.{line_says}
 use Rattle.script_model.specs.Script.{script_from}
 use Rattle.ideal_fates.specs.Told.{rest_of, Follows}
-use Rattle.ideal_fates.proofs.lines.read_lines.Given as goal
+use Rattle.ideal_fates.proofs.fates.lines.read_lines.Given as goal
 
 -- what is written and what is left to be told are together what was left before
 abbrev pub invariant-loop-rest : goal.invariant-loop-rest

@@ -7,7 +7,7 @@ use Rattle.script_model.specs.State.{ScriptState}
 use Rattle.ideal_fates.specs.Told.{after_line, records_of}
 use Rattle.ideal_fates.proofs.Following.{is_made}
 use Rattle.ideal_fates.proofs.Reading.{line_more, refused_more, follows_more, octets_more, lines_more}
-use Rattle.ideal_fates.proofs.lines.read_lines.Goals as goal
+use Rattle.ideal_fates.proofs.fates.lines.read_lines.Goals as goal
 
 pub take-requires-clause-topology : goal.take-requires-clause-topology
 take-requires-clause-topology c =

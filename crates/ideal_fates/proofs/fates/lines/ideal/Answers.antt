@@ -5,7 +5,7 @@ use Rattle.script_model.specs.Script.{Script, script_from}
 use Rattle.script_model.specs.State.{ScriptState}
 use Rattle.ideal_fates.specs.Told.{rest_of}
 use Rattle.ideal_fates.proofs.Reading.{whole_said, whole_told}
-use Rattle.ideal_fates.proofs.lines.ideal.Goals as goal
+use Rattle.ideal_fates.proofs.fates.lines.ideal.Goals as goal
 
 pub returns-clause-report : goal.returns-clause-report
 returns-clause-report c =
