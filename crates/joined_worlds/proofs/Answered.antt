@@ -1,6 +1,6 @@
 -- the line of an input once its controller took a success of its switch
 
-use Rattle.std.proofs.Common.{◌≡◌, ℕ, Bool, true, false, List, [], ◌∷◌, ◌++◌, Option, None, Some, Ok, Result, refl, sym, ◌∙◌, ap, subst, if◌then◌else◌}
+use Rattle.std.proofs.Common.{◌≡◌, ℕ, Bool, true, false, List, [], ◌∷◌, ◌++◌, Option, None, Some, refl, sym, ◌∙◌, ap, subst, if◌then◌else◌}
 use Rattle.std.specs.Prelude.{◌==◌, ◌&&◌, find}
 use Rattle.net_types.specs.declared.channel.End.{End}
 use Rattle.net_types.specs.declared.node.NodeId.{NodeId}
@@ -9,13 +9,11 @@ use Rattle.atm_cells.specs.declared.cell.Cell.{Cell}
 use Rattle.adjacency_table.specs.Side.{is_estab}
 use Rattle.gsmp_wire.specs.declared.message.Message.{Message}
 use Rattle.gsmp_wire.specs.declared.message.Message.TheVariants as messages
-use Rattle.gsmp_wire.specs.Fields.{decoded}
 use Rattle.link_model.specs.declared.frames.Frame.{Frame}
 use Rattle.link_model.specs.Ledger.{payload_of}
-use Rattle.link_model.specs.Notes.{Journal}
 use Rattle.crossbar_model.specs.Crossbar.{queue_of}
 use Rattle.port_model.specs.Desk.{Standing}
-use Rattle.port_model.specs.DeskAnswers.{Head, head_of, is_of_type, Answered, Unknown, Done, Ports, Failed, succeeded, outcome, answered_with, answered, without_request}
+use Rattle.port_model.specs.DeskAnswers.{Head, head_of, is_of_type, Unknown, Done, Failed, succeeded, outcome, answered_with, answered, without_request}
 use Rattle.world_model.specs.declared.request.Asked.{Asked}
 use Rattle.world_model.specs.Switch.{control_port}
 use Rattle.world_model.specs.Requests.{asked_in}
@@ -31,11 +29,11 @@ use Rattle.world_model.specs.World.{Site}
 use Rattle.world_model.specs.Ways.{gsmp_of, copy_by}
 use Rattle.shown_cells.specs.Seen.{IsUnmade, Seen, Nothing, Word, nothing}
 use Rattle.shown_cells.proofs.Shows.{First, no_word, a_word, first_of}
-use Rattle.input_views.specs.Words.{erased_back, seen_answer, seen_answer_to, seen_outcome, outcome_of, seen_on_gsmp, seen_cell, word_of}
+use Rattle.input_views.specs.Words.{erased_back, seen_answer, seen_answer_to, seen_outcome, seen_on_gsmp, seen_cell, word_of}
 use Rattle.input_views.specs.Shown.{controller_of, switch_of, IsAllPorts, ShowsAnswers}
 use Rattle.input_views.specs.Reaching.{ReachedAs, Anything}
 use Rattle.input_steps.specs.Part.{Part, part_of, part_at, IsNumbered, Stands, Reaches}
-use Rattle.input_steps.specs.Meeting.{in_desk, met_after, AfterAnswer, answered_part}
+use Rattle.input_steps.specs.Meeting.{met_after, AfterAnswer, answered_part}
 use Rattle.input_steps.proofs.ControllerCells.{popped_part, without_first}
 use Rattle.input_steps.proofs.Reach.{stands_of}
 use Rattle.input_steps.proofs.Taken.{done_line}

@@ -1,8 +1,7 @@
 -- each answer that comes to a controller settles what may be joined
 
-use Rattle.std.proofs.Common.{◌≡◌, ℕ, ◌<◌, Bool, true, false, List, [], ◌∷◌, Option, None, Some, refl, sym, ◌∙◌, ap, subst, arith, ◌⊎◌, inl, inr, if◌then◌else◌}
+use Rattle.std.proofs.Common.{◌≡◌, ℕ, ◌<◌, Bool, true, false, List, ◌∷◌, Option, None, Some, refl, sym, ap, subst, arith, inl, inr, if◌then◌else◌}
 use Rattle.std.specs.Option.{option_and_then}
-use Rattle.net_types.specs.declared.channel.End.{End}
 use Rattle.net_types.specs.declared.channel.Channel.{Channel}
 use Rattle.net_types.specs.declared.node.NodeId.{NodeId}
 use Rattle.net_types.specs.declared.node.Place.TheVariants.{Up}
@@ -18,15 +17,14 @@ use Rattle.world_model.specs.Switch.{control_port}
 use Rattle.port_model.specs.Setup.{Policy, home_of, label_end}
 use Rattle.port_model.specs.Port.{label_at}
 use Rattle.world_model.specs.Controller.{Controller, Linked, linked_at, default_channel}
-use Rattle.world_model.specs.Cells.{Taker, ForGsmp, ForDefault, ForLabel, same_channel, taker_of, taker_at, label_taker, port_on, on_link}
+use Rattle.world_model.specs.Cells.{ForGsmp, ForDefault, ForLabel, same_channel, taker_of, taker_at, label_taker, port_on, on_link}
 use Rattle.world_model.specs.Meeting.{is_deleting, has_emptied}
 use Rattle.label_line.specs.Cells.{Downstream, Upstream}
 use Rattle.port_views.specs.Link.{LinkLabel}
 use Rattle.world_model.specs.declared.event.Event.{Event}
 use Rattle.world_model.specs.declared.event.Event.TheVariants.{Carry}
-use Rattle.world_model.specs.declared.link.LinkEnd.{LinkEnd}
 use Rattle.world_model.specs.Topology.{Topology}
-use Rattle.world_model.specs.World.{World, Site, site_at}
+use Rattle.world_model.specs.World.{Site, site_at}
 use Rattle.world_model.specs.Ways.{gsmp_of, gsmp_under}
 use Rattle.world_model.specs.Past.{Past, past_of}
 use Rattle.causes.proofs.Shown.{peer_back}
@@ -35,10 +33,10 @@ use Rattle.run_facts.specs.Steps.{RunsHaveFronts}
 use Rattle.run_facts.specs.Chains.{RunsHaveOwnChains}
 use Rattle.pairs.specs.Past.{RunsMakeNoPairs}
 use Rattle.world_views.specs.Shown.{end_of}
-use Rattle.world_views.specs.Pairs.{Pairs, IsLike, IsJoin}
-use Rattle.world_views.specs.Between.{IsWorld, IsLinkLabel, setups_of}
+use Rattle.world_views.specs.Pairs.{Pairs, IsLike}
+use Rattle.world_views.specs.Between.{IsWorld, IsLinkLabel}
 use Rattle.world_views.specs.Kept.{Comes, behind}
-use Rattle.pairs.specs.Settles.{StaysJoined, Settles, SettlesAt}
+use Rattle.pairs.specs.Settles.{StaysJoined}
 use Rattle.pairs.specs.Asked.{AnswersSettle}
 use Rattle.joined_worlds.proofs.Freed.{led_home, meeting_ends}
 

@@ -5,13 +5,11 @@ use Rattle.std.specs.Prelude.{map, filter}
 use Rattle.net_types.specs.declared.channel.End.{End}
 use Rattle.net_types.specs.declared.node.PortNo.{PortNo}
 use Rattle.adjacency_table.specs.Side.{is_estab}
-use Rattle.gsmp_wire.specs.declared.message.Message.TheVariants as messages
 use Rattle.gsmp_wire.specs.declared.request.Request.{Request}
 use Rattle.gsmp_wire.specs.declared.request.Request.TheVariants.{AddBranch, MoveBranch, DeleteTree, VerifyTree, DeleteAll, PortManagement, AllPorts}
 use Rattle.ordered_lists.specs.Ordered.{Every}
 use Rattle.port_model.specs.Requests.{leads_home}
 use Rattle.port_model.specs.Setup.{Setup, home_of}
-use Rattle.port_model.specs.Ticks as port_ticks
 use Rattle.port_facts.proofs.Keyed.{on_each}
 use Rattle.world_model.specs.Controller.{Acted, ports_of}
 use Rattle.world_model.specs.Asking.{asks}

@@ -20,7 +20,6 @@ use Rattle.world_model.specs.Switch.{control_port}
 use Rattle.world_model.specs.Conduct as switch
 use Rattle.world_model.specs.Controller.{Acted, ports_of}
 use Rattle.world_model.specs.Cells as takes
-use Rattle.world_model.specs.Cells.{same_channel}
 use Rattle.world_model.specs.Packets.{injected}
 use Rattle.world_model.specs.Changes.{change_comes}
 use Rattle.world_model.specs.Resets.{node_restarts}

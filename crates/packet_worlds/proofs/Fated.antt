@@ -1,6 +1,6 @@
 -- a packet that was never accepted has no fate
 
-use Rattle.std.proofs.Common.{◌≡◌, ◌≤◌, ℕ, zero, suc, ◌+◌, ◌==◌, Bool, true, false, List, [], ◌∷◌, flat_map, Some, refl, sym, ◌∙◌, ap, subst, arith, count_by}
+use Rattle.std.proofs.Common.{◌≡◌, ℕ, zero, suc, Bool, true, false, List, [], ◌∷◌, flat_map, Some, refl, sym, ◌∙◌, ap, subst, arith, count_by}
 use Rattle.std.specs.Prelude.{Contains, slice_get}
 use Rattle.std.proofs.lemmas.Bool.Decides.{nat_tests}
 use Rattle.std.proofs.lemmas.List.Concat.{flat_map-cons}
@@ -15,7 +15,7 @@ use Rattle.world_model.specs.Topology.{Topology, Node}
 use Rattle.world_model.specs.World.{World, opened, opens_each, with_opened}
 use Rattle.world_model.specs.Run.{worlds_from}
 use Rattle.world_model.specs.Past.{Past, past_of}
-use Rattle.world_model.specs.Headline.{WasAccepted, AreTrueFates, fates_of, HasFatesOnce}
+use Rattle.world_model.specs.Headline.{WasAccepted, AreTrueFates, HasFatesOnce}
 use Rattle.world_views.specs.Between.{HasPacketsOnce}
 use Rattle.packet_worlds.proofs.Bound.{count_none}
 

@@ -1,28 +1,24 @@
 -- from what is so of a run before an event: the world in which its actors begin is good
 
-use Rattle.std.proofs.Common.{◌≡◌, ◌≢◌, ◌⊎◌, inl, inr, ℕ, zero, suc, ◌<◌, ◌≤◌, ◌+◌, ◌==◌, Bool, true, false, cond, List, [], ◌∷◌, ◌++◌, length, flat_map, None, Some, refl, sym, ◌∙◌, ap, subst, arith, count_by}
-use Rattle.std.specs.Prelude.{Contains, slice_get}
+use Rattle.std.proofs.Common.{◌≡◌, ◌≢◌, ◌⊎◌, inl, inr, ℕ, suc, ◌<◌, ◌≤◌, ◌+◌, ◌==◌, Bool, true, false, cond, List, [], ◌∷◌, ◌++◌, length, None, Some, refl, sym, ◌∙◌, ap, arith, count_by}
+use Rattle.std.specs.Prelude.{slice_get}
 use Rattle.std.proofs.lemmas.Bool.Decides.{nat_tests}
-use Rattle.std.proofs.lemmas.List.Concat.{flat_map-cons}
 use Rattle.std.proofs.lemmas.List.{length-append}
 use Rattle.net_types.specs.declared.node.NodeId.{NodeId}
 use Rattle.net_types.specs.declared.node.Place.{Place}
 use Rattle.net_types.specs.declared.number.Mark.{Mark}
 use Rattle.link_model.specs.declared.frames.Frame.{Frame}
-use Rattle.link_model.specs.declared.record.Record.{Record}
 use Rattle.link_model.specs.declared.record.Record.TheVariants as records
-use Rattle.link_model.specs.Notes.{Journal}
 use Rattle.ordered_lists.specs.Ordered.{Every}
-use Rattle.packet_worlds.proofs.Lists.{count_by-append}
 use Rattle.port_model.specs.Setup.{Policy}
 use Rattle.world_model.specs.Fates.{is_fate_of, has_loss_of}
 use Rattle.world_model.specs.Packets.{inject_refusal}
 use Rattle.world_model.specs.declared.event.Event.{Event}
-use Rattle.world_model.specs.Topology.{Topology, Node}
+use Rattle.world_model.specs.Topology.{Topology}
 use Rattle.world_model.specs.Conditions.{IsPlace}
-use Rattle.world_model.specs.World.{World, opened, opens_each, with_opened}
+use Rattle.world_model.specs.World.{World}
 use Rattle.world_model.specs.Places.{queue_at}
-use Rattle.world_model.specs.Run.{put_away, worlds_from}
+use Rattle.world_model.specs.Run.{put_away}
 use Rattle.world_model.specs.Reached.{Sent, sent_by}
 use Rattle.world_model.specs.Past.{Past, past_of, frames_of}
 use Rattle.world_model.specs.Headline.{WasAccepted}

@@ -1,6 +1,6 @@
 -- Which labels are joined, or may be, behind an event: those that were before it, and at a tick those of the joins that it enters
 
-use Rattle.std.specs.Prelude.{◌≡◌, ◌≢◌, ℕ, ◌<◌, ◌≤◌, ◌⊎◌, true, nat_lt, List, [], ◌∷◌, flat_map, None, Some}
+use Rattle.std.specs.Prelude.{◌≡◌, ◌≢◌, ℕ, ◌<◌, ◌≤◌, ◌⊎◌, true, nat_lt, List, [], ◌∷◌, None, Some}
 use Rattle.net_types.specs.declared.channel.End.{End}
 use Rattle.net_types.specs.declared.node.NodeId.{NodeId}
 use Rattle.net_types.specs.declared.node.Place.{Place}

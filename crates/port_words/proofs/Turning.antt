@@ -17,7 +17,7 @@ use Rattle.adjacency_table.specs.declared.message.Answer.{Answer}
 use Rattle.adjacency_table.specs.declared.message.Answer.TheVariants.{Send, Open}
 use Rattle.adjacency_table.specs.Table.{Reply, Silent, Says, Resets, Row, row, stays, stores_and, enters_by_synack, enters_by_ack, tick_reply}
 use Rattle.adjacency_table.specs.Side as sides
-use Rattle.adjacency_table.specs.Side.{Side, answer_of, answer_to, said, opened, is_entry, followed, received, counted, followed_tick, ticked}
+use Rattle.adjacency_table.specs.Side.{Side, answer_of, answer_to, said, opened, is_entry, followed, counted, followed_tick, ticked}
 use Rattle.adjacency_table.specs.Hello.{same_peer, heard_from, ifmp_received}
 use Rattle.port_facts.proofs.Keyed.{on_both}
 use Rattle.world_views.specs.Tied.{is_rstack}

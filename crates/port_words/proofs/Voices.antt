@@ -11,7 +11,7 @@ use Rattle.adjacency_table.specs.declared.message.Said.{Said}
 use Rattle.adjacency_table.specs.declared.message.Answer.{Answer}
 use Rattle.adjacency_table.specs.declared.message.Answer.TheVariants.{Quiet, Send, Open, Reset}
 use Rattle.adjacency_table.specs.Side as sides
-use Rattle.adjacency_table.specs.Side.{Side, answer_of, answer_to, said, opened, is_open, is_entry, is_estab, followed, received, counted, followed_tick, ticked}
+use Rattle.adjacency_table.specs.Side.{Side, said}
 use Rattle.adjacency_table.specs.Hello.{hello_of, ifmp_answer}
 use Rattle.ifmp_wire.specs.declared.message.Message.{Message}
 use Rattle.ifmp_wire.specs.declared.message.Message.TheVariants.{Adjacency}

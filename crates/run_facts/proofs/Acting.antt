@@ -13,7 +13,6 @@ use Rattle.keyed_lists.specs.Keyed.{at}
 use Rattle.port_facts.proofs.Keyed.{on_both, at_key, at_every, put_every}
 use Rattle.port_model.specs.Setup.{Setup}
 use Rattle.world_model.specs.Switch as switches
-use Rattle.world_model.specs.Switch.{control_port}
 use Rattle.world_model.specs.Controller.{Controller, Acted, free_slots}
 use Rattle.world_model.specs.Sending.{with_cells, sends_control}
 use Rattle.std.specs.Prelude.{nat_le}
@@ -29,10 +28,10 @@ use Rattle.world_model.specs.Opening.{setup_of}
 use Rattle.run_facts.specs.Inputs.{SwitchInput, switch_takes}
 use Rattle.run_facts.specs.Frames.{IsFree}
 use Rattle.run_facts.proofs.Switches as switching
-use Rattle.run_facts.proofs.Switches.{Leaves, switch_leaves, sends_leave}
+use Rattle.run_facts.proofs.Switches.{Leaves, switch_leaves}
 use Rattle.run_facts.proofs.Owns.{own_in, IsDrawn, is_drawn, Owns, input_owns}
 use Rattle.run_facts.proofs.Controllers as controllers
-use Rattle.run_facts.proofs.Controllers.{IsLeft, input_leaves, control_leaves, May}
+use Rattle.run_facts.proofs.Controllers.{IsLeft, input_leaves}
 use Rattle.lifetimes.proofs.Opened.{IsFed}
 use Rattle.world_model.specs.World.{with_site, World, Site, site_key, site_at, controller_acts, at_controller, switch_acts, at_switch}
 use Rattle.run_facts.specs.Drawn.{Holder, own_at, IsNew, Draws}

@@ -27,12 +27,11 @@ use Rattle.world_model.specs.Changes.{change_comes}
 use Rattle.controller_facts.specs.Inputs.{Input, CellComes, PacketEnters, Ticks, Restarts, ChangeComes, enters_unless, takes_input}
 use Rattle.controller_facts.specs.Sound.{IsOwn}
 use Rattle.run_facts.specs.Inputs as turns
-use Rattle.run_facts.specs.Inputs.{SwitchInput, switch_takes}
 use Rattle.run_facts.proofs.Switches as switching
-use Rattle.run_facts.proofs.Switches.{Leaves, switch_leaves, sends_leave}
+use Rattle.run_facts.proofs.Switches.{sends_leave}
 use Rattle.run_facts.proofs.Owns.{own_in}
 use Rattle.run_facts.proofs.Controllers as controllers
-use Rattle.run_facts.proofs.Controllers.{IsLeft, input_leaves, control_leaves, May}
+use Rattle.run_facts.proofs.Controllers.{IsLeft, control_leaves, May}
 use Rattle.world_model.specs.declared.event.Event.{Event}
 use Rattle.world_model.specs.declared.event.Event.TheVariants.{Inject, Carry, Lose, Tick, TickSwitch, Restart, RestartSwitch, Forge, Route}
 use Rattle.world_model.specs.declared.link.LinkEnd.{LinkEnd}

@@ -1,7 +1,7 @@
 -- lists of cells and of ports
 
-use Rattle.std.proofs.Common.{◌≡◌, ℕ, ◌<◌, ◌≤◌, zero, suc, Bool, true, false, List, [], ◌∷◌, ◌++◌, map, filter, length, refl, sym, subst, arith, slice_index_or, if◌then◌else◌}
-use Rattle.std.specs.Prelude.{All, AllPairs, Contains}
+use Rattle.std.proofs.Common.{◌≡◌, ℕ, ◌<◌, zero, suc, Bool, true, false, List, [], ◌∷◌, ◌++◌, map, filter, length, refl, sym, subst, arith, slice_index_or, if◌then◌else◌}
+use Rattle.std.specs.Prelude.{All, Contains}
 use Rattle.net_types.specs.declared.node.PortNo.{PortNo}
 use Rattle.ordered_lists.specs.Ordered.{Every, InOrder}
 use Rattle.input_events.specs.Coming.{IsBelow}

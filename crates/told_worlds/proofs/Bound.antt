@@ -41,7 +41,7 @@ use Rattle.run_facts.specs.Nodes.{IsNodeOfRun}
 use Rattle.running_worlds.specs.Running.{ChainsAreTrue}
 use Rattle.way_words.proofs.Switching.{BindsNone}
 use Rattle.port_words.specs.Words.{Terms, IsNoted, IsSteadily}
-use Rattle.port_words.proofs.Events.{IsHeeded, cell_h, gsmp_cell_h, ticks_h, routes_h, later}
+use Rattle.port_words.proofs.Events.{IsHeeded, cell_h, gsmp_cell_h, ticks_h, routes_h}
 use Rattle.port_words.proofs.Events as words
 use Rattle.port_words.proofs.Performing.{node_restarts_h}
 use Rattle.port_words.proofs.Joining.{change_comes_h}

@@ -1,9 +1,5 @@
 -- the hop of each join that a tick enters, by what was so before it
 
-use Rattle.port_model.specs.Joins as port_joins
-use Rattle.port_model.specs.Answers as port_answers
-use Rattle.adjacency_table.specs.Side as sides
-use Rattle.gsmp_wire.specs.declared.message.Message.TheVariants as messages
 use Rattle.port_model.specs.Ticks as port_ticks
 use Rattle.std.proofs.Common.{◌≡◌, ℕ, Bool, true, false, List, Option, None, Some, refl, sym, ◌∙◌, subst, if◌then◌else◌, ap, length}
 use Rattle.std.specs.Prelude.{◌&&◌, not, nat_lt, is_none}

@@ -20,7 +20,7 @@ use Rattle.ordered_lists.specs.Ordered.{Every}
 use Rattle.world_model.specs.Controller.{Controller, Linked, linked_at, default_channel}
 use Rattle.world_model.specs.Cells.{same_channel}
 use Rattle.label_line.specs.Cells as lines
-use Rattle.label_line.specs.Cells.{Role, Downstream, Upstream}
+use Rattle.label_line.specs.Cells.{Role}
 use Rattle.world_model.specs.declared.link.LinkEnd.{LinkEnd}
 use Rattle.world_model.specs.World.{World, Site, site_at}
 use Rattle.world_model.specs.Places.{queue_at, queue_in, place_node}

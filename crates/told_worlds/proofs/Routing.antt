@@ -1,8 +1,5 @@
 -- a change of routes leaves the route of each join's flow
 
-use Rattle.port_model.specs.Joins as port_joins
-use Rattle.port_model.specs.Answers as port_answers
-use Rattle.port_model.specs.declared.action.Action.TheVariants as actions
 use Rattle.std.proofs.Common.{◌≡◌, ℕ, Bool, true, false, List, [], ◌∷◌, Option, Some, refl, sym, ◌∙◌, ap, subst, inl, inr}
 use Rattle.std.specs.Prelude.{not}
 use Rattle.std.specs.List.{list_any}

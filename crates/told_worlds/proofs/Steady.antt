@@ -10,7 +10,6 @@ use Rattle.gsmp_wire.specs.declared.request.Request.{Request}
 use Rattle.keyed_lists.specs.Keyed.{at}
 use Rattle.port_model.specs.Grants as grants
 use Rattle.port_model.specs.Grants.{Grant, grant_label}
-use Rattle.port_model.specs.Answers as port_answers
 use Rattle.port_facts.proofs.Keyed.{at_every, at_key}
 use Rattle.world_model.specs.Controller.{Acted, Linked, port_key, linked_at, ports_of}
 use Rattle.world_model.specs.Joins.{releases}

@@ -1,10 +1,9 @@
 -- the route of a destination at a node stays in each event of a network, where it does as a cell comes to the node's controller, or a
 -- change of routes
 
-use Rattle.std.proofs.Common.{◌≡◌, ◌≢◌, ℕ, zero, suc, Bool, true, false, List, [], ◌∷◌, Option, None, Some, refl, sym, ◌∙◌, ap, subst, arith}
+use Rattle.std.proofs.Common.{◌≡◌, ◌≢◌, ℕ, List, [], ◌∷◌, Option, None, Some, refl, sym, ◌∙◌, ap, subst, arith}
 use Rattle.std.specs.Prelude.{◌+◌}
 use Rattle.std.specs.Option.{option_map_or}
-use Rattle.net_types.specs.declared.channel.Channel.{Channel}
 use Rattle.net_types.specs.declared.node.NodeId.{NodeId}
 use Rattle.net_types.specs.declared.node.PortNo.{PortNo}
 use Rattle.net_types.specs.declared.node.Place.{Place}
@@ -30,9 +29,9 @@ use Rattle.world_model.specs.declared.link.LinkEnd.{LinkEnd}
 use Rattle.world_model.specs.declared.event.Event.{Event}
 use Rattle.world_model.specs.declared.event.Event.TheVariants.{Inject, Carry, Lose, Tick, TickSwitch, Restart, RestartSwitch, Forge, Route}
 use Rattle.world_model.specs.Topology.{Topology, peer_of}
-use Rattle.world_model.specs.World.{World, Site, site_at, with_site, at_controller, controller_acts, at_switch, switch_acts}
+use Rattle.world_model.specs.World.{World, Site, site_at, with_site, at_controller, controller_acts, switch_acts}
 use Rattle.world_model.specs.Places.{queue_at, queue_in, place_node, with_queue, with_queue_of, with_queue_in}
-use Rattle.world_model.specs.Step.{acts, arrives, arrives_at, carries_head, loses_head, injects_by}
+use Rattle.world_model.specs.Step.{acts, arrives_at, carries_head, loses_head, injects_by}
 use Rattle.world_model.specs.Run.{next, put_away}
 use Rattle.world_model.specs.Reached.{table_in}
 use Rattle.world_model.specs.Headline.{IsTame}

@@ -1,4 +1,4 @@
-use Rattle.std.proofs.Common.{ℕ, List, length, set, sym, ap, subst, ◌∙◌, arith}
+use Rattle.std.proofs.Common.{ℕ, List, length, set, sym, subst, ◌∙◌, arith}
 use Rattle.aal5_frames.specs.Frame.{IsPdu, cells_for, pdu_of}
 use Rattle.aal5_frames.proofs.Cells.{all_written, carried, length-pdu_of, IsPdu-pdu_of, pushed}
 use Rattle.aal5_frames.proofs.segmentation.write_cells.Goals as goal
