@@ -81,7 +81,7 @@ module _ (floor : ℕ) where
       (at_port_paces floor noted join.input.port (λ setup desk w. port_joins.parted w (number_of_channel join.input.channel))))
       (at_port_paces floor (parts a join.input) join.port (λ setup desk w. port_joins.given_back w join.grant))
 
-  releases_paces : (a : Acted) (request : Request) → To a (releases a request)
+  pub releases_paces : (a : Acted) (request : Request) → To a (releases a request)
   releases_paces a request =
       let released : Acted = fold releases_input a (released_inputs a.controller request) in
       paces_then floor a released (releases a request)
@@ -110,16 +110,16 @@ module _ (floor : ℕ) where
   causes_in_paces a (PortManagement port function) = tells_paces a (PortManagement port function) port
   causes_in_paces a AllPorts = itself floor a
 
-  causes_paces : (a : Acted) (request : Request) → To a (causes a request)
+  pub causes_paces : (a : Acted) (request : Request) → To a (causes a request)
   causes_paces a request = on_both (To a) (is_estab a.controller.adjacency.state) (causes_in_estab a request) a (causes_in_paces a request) (itself floor a)
 
-  clears_of_paces : (a : Acted) (o : Option Linked) → To a (clears_of a o)
+  pub clears_of_paces : (a : Acted) (o : Option Linked) → To a (clears_of a o)
   clears_of_paces a None = itself floor a
   clears_of_paces a (Some linked) = on_both (To a) (may_clear a.controller linked) (with_linked a (record linked { port = cleared linked.port })) a
       (same floor a (with_linked a (record linked { port = cleared linked.port })) refl refl refl refl refl refl (ports_put (record linked { port = cleared linked.port }) a.controller.ports)) (itself floor a)
 
   -- *Changes of routes*: one that is taken waits no more
-  begins_change_paces : (a : Acted) (change : RouteChange) → To a (begins_change a change)
+  pub begins_change_paces : (a : Acted) (change : RouteChange) → To a (begins_change a change)
   begins_change_paces a change =
       let begun : Acted = record a { controller = record a.controller { is_begun = true } } in
       on_both (To a) a.controller.is_begun a (fold takes_join_back begun (changed_joins a.controller change)) (itself floor a)
@@ -185,7 +185,7 @@ module _ (floor : ℕ) where
       paces_then floor a said (meets said) (says_gsmp_paces floor a (messages.Adjacency (greeting_of message))) (meets_paces said)
   answers_paces a Reset = node_resets_paces floor a
 
-  steps_paces : (a : Acted) (step : sides.Step Party) → To a (steps a step)
+  pub steps_paces : (a : Acted) (step : sides.Step Party) → To a (steps a step)
   steps_paces a step =
       let turned : Acted = record a { controller = record a.controller { adjacency = step.side } } in
       paces_then floor a turned (steps a step) (same floor a turned refl refl refl refl refl refl refl) (answers_paces turned step.answer)
@@ -201,7 +201,7 @@ module _ (floor : ℕ) where
   told_follows a (messages.AllPorts result code number rows) = answer_comes_follows a (messages.AllPorts result code number rows)
 
   -- a record alone
-  noted_paces : (a b : Acted) → b.controller ≡ a.controller → b.numbers ≡ a.numbers → To a b
+  pub noted_paces : (a b : Acted) → b.controller ≡ a.controller → b.numbers ≡ a.numbers → To a b
   noted_paces a b c n = same floor a b (λ i. (n i).controls) (λ i. (c i).queue) (λ i. (c i).waiting) (λ i. (c i).changes) (λ i. (c i).table) (λ i. (c i).node) (λ i. ports_of (c i))
 
   gsmp_follows : (a : Acted) (r : Result Message GsmpFault) → Up a (gsmp_holds a r)
@@ -226,7 +226,7 @@ module _ (floor : ℕ) where
   routes_paces : (a : Acted) (came : Mark) (packet : List ℕ) → came.frame + 1 ≤ floor → To a (routes a came packet)
   routes_paces a came packet low = forwarded_paces a came packet (hop_of a.controller.table packet) low
 
-  label_holds_paces : (a : Acted) (linked : Linked) (label : Label) (mark : Mark) (r : Result (List ℕ) EncapsFault) → mark.frame + 1 ≤ floor → To a (label_holds a linked label mark r)
+  pub label_holds_paces : (a : Acted) (linked : Linked) (label : Label) (mark : Mark) (r : Result (List ℕ) EncapsFault) → mark.frame + 1 ≤ floor → To a (label_holds a linked label mark r)
   label_holds_paces a linked label mark (Err fault) low = noted_paces a (label_holds a linked label mark (Err fault)) refl refl
   label_holds_paces a linked label mark (Ok packet) low =
       paces_then floor a (routes a mark packet) (label_holds a linked label mark (Ok packet)) (routes_paces a mark packet low)
@@ -243,7 +243,7 @@ module _ (floor : ℕ) where
       (paces_then floor a (routes a mark packet) (counted_at (routes a mark packet) port packet) (routes_paces a mark packet low)
       (at_port_paces floor (routes a mark packet) port (λ setup desk w. counts setup desk w packet)))
 
-  default_paces : (a : Acted) (port : PortNo) (mark : Mark) (r : Result (List ℕ) EncapsFault) → mark.frame + 1 ≤ floor → To a (default_holds a port mark r)
+  pub default_paces : (a : Acted) (port : PortNo) (mark : Mark) (r : Result (List ℕ) EncapsFault) → mark.frame + 1 ≤ floor → To a (default_holds a port mark r)
   default_paces a port mark (Err fault) low = noted_paces a (default_holds a port mark (Err fault)) refl refl
   default_paces a port mark (Ok packet) low = packet_paces a port mark packet (first_fault packet) low
 
@@ -268,7 +268,7 @@ module _ (floor : ℕ) where
       (opened_follows b taker (last_mark (cell ∷ cells)) test.payload (low cell cells refl))
 
   -- *Cells*
-  with_reassembly_paces : (a : Acted) (taker : Taker) (r : Reassembly) → To a (with_reassembly a taker r)
+  pub with_reassembly_paces : (a : Acted) (taker : Taker) (r : Reassembly) → To a (with_reassembly a taker r)
   with_reassembly_paces a ForGsmp r = same floor a (with_reassembly a ForGsmp r) refl refl refl refl refl refl refl
   with_reassembly_paces a (ForDefault linked) r = same floor a (with_reassembly a (ForDefault linked) r) refl refl refl refl refl refl (ports_put (record linked { reassembly = r }) a.controller.ports)
   with_reassembly_paces a (ForLabel linked label) r = same floor a (with_reassembly a (ForLabel linked label) r) refl refl refl refl refl refl (ports_put (record linked { chains = chains_with linked.chains label.number r }) a.controller.ports)
@@ -292,7 +292,7 @@ module _ (floor : ℕ) where
   injected_paces a number packet low = routes_paces a (record { packet = number; frame = 0 }) packet low
 
   -- *Tick*
-  sends_again_paces : (a : Acted) → To a (sends_again a)
+  pub sends_again_paces : (a : Acted) → To a (sends_again a)
   sends_again_paces a = on_both (To a) (is_estab a.controller.adjacency.state) (fold sends_request a (sent_again a.controller.desk)) a
       (paces_fold floor sends_request (λ b s. says_gsmp_paces floor b (message_at b.controller.desk s)) (sent_again a.controller.desk) a) (itself floor a)
 
@@ -305,7 +305,7 @@ module _ (floor : ℕ) where
       (paces_then floor lends joined (joins a (Some join)) (at_port_paces floor lends join.input.port (λ setup desk w. port_joins.joined w (number_of_channel join.input.channel) (output_of join)))
       (asks_paces floor joined (MoveBranch join.input (home_of join.input) (output_of join))))
 
-  tries_label_paces : (a : Acted) (input : End) (o : Option Label) → To a (tries_label a input o)
+  pub tries_label_paces : (a : Acted) (input : End) (o : Option Label) → To a (tries_label a input o)
   tries_label_paces a input None = itself floor a
   tries_label_paces a input (Some label) = on_both (To a) (may_join a.controller input label) (joins a (join_for a.controller input label.flow)) a
       (joins_paces a (join_for a.controller input label.flow)) (itself floor a)

@@ -37,7 +37,7 @@ use Rattle.controller_facts.proofs.Entering.{is_offered_by}
 use Rattle.controller_bindings.proofs.Flows.{one_flow}
 use Rattle.quiet_controllers.specs.Quiet.{Enters, here, later, entered, entered_for}
 use Rattle.quiet_controllers.specs.Law.{before_joins}
-use Rattle.told_worlds.proofs.Pacing.{tries_label_paces}
+use Rattle.actor_pace.proofs.Controllers.{tries_label_paces}
 use Rattle.port_words.proofs.Joining.{grant_for_there, tries_label_h}
 use Rattle.port_words.proofs.Events.{steps_h, again_h}
 use Rattle.controller_law.proofs.Ordering.{same_number}

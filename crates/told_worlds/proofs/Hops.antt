@@ -96,7 +96,7 @@ use Rattle.told_worlds.proofs.Answering.{Kept, stays}
 use Rattle.packet_worlds.proofs.Bound.{bound_stays, none_own}
 use Rattle.told_worlds.proofs.Worlds.{stays_routed}
 use Rattle.actor_pace.proofs.Paces.{Paces, paces_then, paces_fold, at_port_paces}
-use Rattle.told_worlds.proofs.Pacing.{steps_paces, sends_again_paces}
+use Rattle.actor_pace.proofs.Controllers.{steps_paces, sends_again_paces}
 use Rattle.world_model.specs.Ticks.{sends_again, ticks_port}
 use Rattle.world_model.specs.Gsmp.{steps}
 use Rattle.world_model.specs.Controller.{ports_of}

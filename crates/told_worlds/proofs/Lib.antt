@@ -11,7 +11,6 @@ pub mod Events
 pub mod Known
 pub mod Kept
 pub mod Opening
-pub mod Pacing
 pub mod Routing
 pub mod Entering
 pub mod Steady

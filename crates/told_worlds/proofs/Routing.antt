@@ -27,7 +27,7 @@ use Rattle.controller_bindings.proofs.Joining.{by_grants}
 use Rattle.controller_law.proofs.Lists.{any_each}
 use Rattle.net_types.specs.declared.prefix.Addr.{Addr}
 use Rattle.keyed_lists.specs.Keyed.{at}
-use Rattle.told_worlds.proofs.Pacing.{begins_change_paces}
+use Rattle.actor_pace.proofs.Controllers.{begins_change_paces}
 
 -- *A grant that is lent*, of a destination
 pub record IsLent (ports : List Linked) (q m : ℕ) (destination : Addr) : Type 0 where

@@ -28,7 +28,7 @@ use Rattle.world_model.specs.Meeting.{up_ports, clears, clears_port, causes, don
 use Rattle.world_model.specs.Gsmp.{steps, told, gsmp_holds}
 use Rattle.world_model.specs.Cells.{Taker, ForGsmp, ForDefault, ForLabel, taker_of, takes_cell, reassembly_of, with_reassembly, label_holds, default_holds, frame_holds, opened_frame, ends_frame, cell_comes}
 use Rattle.actor_pace.proofs.Paces.{Paces, paces_then, paces_fold, asks_paces, node_resets_paces}
-use Rattle.told_worlds.proofs.Pacing.{releases_paces, causes_paces, clears_of_paces, steps_paces, label_holds_paces, default_paces, with_reassembly_paces, noted_paces}
+use Rattle.actor_pace.proofs.Controllers.{releases_paces, causes_paces, clears_of_paces, steps_paces, label_holds_paces, default_paces, with_reassembly_paces, noted_paces}
 use Rattle.told_worlds.proofs.Routing.{IsLent, changes_keep}
 use Rattle.world_model.specs.Controller.{linked_at}
 

@@ -10,7 +10,7 @@
 //! `specs/Before` has the words of `port_words` for a past of a run, `specs/Bound` the statements of bindings, `specs/Hops` those
 //! of joins, `specs/Disowned` those of messages. `proofs/Start`, `Agreed`, `Heeds` and `Bound` lead a controller through each
 //! event; `Ways` to `Events` say where the cells between two ends of a link come from, and `Kept` reads it off behind an event;
-//! `Pacing` to `Hops` follow the routes of joins; `Saying` reads the payloads that may be made, and `Making` goes over the events
+//! `Routing` to `Hops` follow the routes of joins; `Saying` reads the payloads that may be made, and `Making` goes over the events
 //! for them.
 //! There is no code that runs.
 #![tactic(auto)]
