@@ -5,8 +5,6 @@
 mod command;
 mod grammar;
 mod reading;
-#[cfg(test)]
-mod tests;
 mod word;
 
 pub use command::Command;
