@@ -1,23 +1,22 @@
-//! Lines and reports over sources and sinks in pieces, and calls that fail.
+//! Lines, reports, and whole inputs and outputs, over sources and sinks in pieces, and calls that fail.
 
-ghost use Rattle.std.specs.Prelude.{◌<◌, ◌≤◌};
-
-use lab_io::{Failed, LineReader, MemSink, MemSource, NextLine, ReportWriter, Source, SureSource};
+use lab_io::{
+    Failed, InputFault, LineReader, MemSink, MemSource, NextLine, ReportWriter, Source, SureSource,
+    read_to_end, write_all,
+};
 use net_types::OutOfMemory;
-use std::alloc::Global;
-use std::test::Fail;
+use std::alloc::{AllocError, Global};
+
+const SCRIPT: &str = "node a 10.0.1.1\r\n\n# \rthe end\nsend a 45";
 
 /// The lines of a source, each with `|` behind it, and what came behind them.
 fn read_lines<S: Source>(
     alloc: Global,
     source: &mut S,
-    room: usize,
-) -> Result<(Vec<u8>, Result<NextLine, Failed>), OutOfMemory>
-    requires { 4099 ≤ room }
-{
-    let mut reader = LineReader::open(alloc, room)?;
+) -> Result<(Vec<u8>, Result<NextLine, Failed>), OutOfMemory> {
+    let mut reader = LineReader::open(alloc, 4099)?;
     let mut lines = Vec::new(alloc);
-    for _ in 0..1000 {
+    for _ in 0..10 {
         match reader.next(source) {
             Ok(NextLine::Line { place, len }) => {
                 lines.extend_from_slice(&reader.octets()[place..place + len])?;
@@ -29,138 +28,93 @@ fn read_lines<S: Source>(
     Ok((lines, Ok(NextLine::End)))
 }
 
-const SCRIPT: &str = "node a 10.0.1.1\r\n\n# \rthe end\nsend a 45";
-
-const SCRIPT_LINES: &str = "node a 10.0.1.1\r\n|\n|# \rthe end\n|send a 45|";
-
-/// Inputs, and their lines with `|` behind each.
-const INPUTS: [(&str, &str); 5] = [
-    ("", ""),
-    ("\n", "\n|"),
-    ("\n\n", "\n|\n|"),
-    ("x", "x|"),
-    (SCRIPT, SCRIPT_LINES),
-];
-
 #[test]
-fn lines_come_whole_in_any_pieces(rt: HostRuntime) -> Result<(), Fail> {
-    for piece in [1, 2, 7, 4096] {
-        assert!(rt; piece > 0);
-        for (script, want) in INPUTS {
-            let mut source = SureSource::new(script.as_bytes().to_vec(rt.alloc())?, piece);
-            let (lines, last) = read_lines(rt.alloc(), &mut source, 4099)?;
-            assert!(rt;
-                lines.as_slice() == want.as_bytes(),
-                "{script:?} by {piece}"
-            );
-            assert_eq!(rt; last, Ok(NextLine::End), "{script:?} by {piece}");
-        }
-    }
+fn lines_come_whole_in_pieces(rt: HostRuntime) -> Result<(), OutOfMemory> {
+    let mut source = SureSource::new(SCRIPT.as_bytes().to_vec(rt.alloc())?, 7);
+    let (lines, last) = read_lines(rt.alloc(), &mut source)?;
+    let want = b"node a 10.0.1.1\r\n|\n|# \rthe end\n|send a 45|";
+    assert!(rt; lines.as_slice() == want.as_slice());
+    assert_eq!(rt; last, Ok(NextLine::End));
     Ok(())
 }
 
 /// The lines that stand whole before the read that fails are given, and then the failure is told.
 #[test]
-fn a_read_that_fails_comes_behind_the_lines_before_it(rt: HostRuntime) -> Result<(), Fail> {
-    for (first, last, want) in [
-        (1u32, 17u32, ""),
-        (18, 18, "node a 10.0.1.1\r\n|"),
-        (19, 29, "node a 10.0.1.1\r\n|\n|"),
-        (30, 39, "node a 10.0.1.1\r\n|\n|# \rthe end\n|"),
-    ] {
-        for call in first..last + 1 {
-            let failing = [call].to_vec(rt.alloc())?;
-            let mut source = MemSource::new(SCRIPT.as_bytes().to_vec(rt.alloc())?, 1, failing);
-            let (lines, outcome) = read_lines(rt.alloc(), &mut source, 4099)?;
-            assert!(rt; lines.as_slice() == want.as_bytes(), "read {call}");
-            assert_eq!(rt; outcome, Err(Failed), "read {call}");
-        }
-    }
+fn a_read_that_fails_comes_behind_the_lines_before_it(rt: HostRuntime) -> Result<(), OutOfMemory> {
+    let failing = [25].to_vec(rt.alloc())?;
+    let mut source = MemSource::new(SCRIPT.as_bytes().to_vec(rt.alloc())?, 1, failing);
+    let (lines, last) = read_lines(rt.alloc(), &mut source)?;
+    assert!(rt; lines.as_slice() == b"node a 10.0.1.1\r\n|\n|".as_slice());
+    assert_eq!(rt; last, Err(Failed));
     Ok(())
 }
 
-/// A line of so many octets and an end, behind a short one: given up to 4,096, and else refused.
-#[test]
-fn long_lines_are_read_on_and_not_kept(rt: HostRuntime) -> Result<(), Fail> {
-    for (length, end, last) in [
-        (4096, "", NextLine::End),
-        (4096, "\n", NextLine::End),
-        (4096, "\r\n", NextLine::End),
-        (4096, "\r.\n", NextLine::LongLine),
-        (4097, "", NextLine::LongLine),
-        (4097, "\n", NextLine::LongLine),
-        (4097, "\r\n", NextLine::LongLine),
-        (20_000, "\nnode", NextLine::LongLine),
-    ] {
-        let mut script = b"node\n".to_vec(rt.alloc())?;
-        script.extend_from_slice(vec![in rt.alloc(); b'x'; length]?.as_slice())?;
-        script.extend_from_slice(end.as_bytes())?;
-        for piece in [1, 1000, 65_536] {
-            assert!(rt; piece > 0);
-            let mut source = SureSource::new(script.as_slice().to_vec(rt.alloc())?, piece);
-            let (lines, outcome) = read_lines(rt.alloc(), &mut source, 4099)?;
-            assert_eq!(rt; outcome, Ok(last), "{length} {end:?} by {piece}");
-            let mut want = b"node\n|".to_vec(rt.alloc())?;
-            if last == NextLine::End {
-                want.extend_from_slice(script.as_slice().get(5..).ok_or("a line")?)?;
-                want.push(b'|')?;
-            }
-            assert!(rt;
-                lines.as_slice() == want.as_slice(),
-                "{length} {end:?} by {piece}"
-            );
-        }
-    }
-    Ok(())
-}
-
-/// How many lines a source gives, and what comes behind them.
-fn count_lines<S: Source>(
+/// How many lines these octets have, and what comes behind them.
+fn count_lines(
     alloc: Global,
-    source: &mut S,
+    octets: Vec<u8>,
 ) -> Result<(u32, Result<NextLine, Failed>), OutOfMemory> {
     let mut reader = LineReader::open(alloc, 65_536)?;
-    for count in 0..100_000 {
-        match reader.next(source) {
+    let mut source = SureSource::new(octets, 65_536);
+    for count in 0..5000 {
+        match reader.next(&mut source) {
             Ok(NextLine::Line { .. }) => (),
             other => return Ok((count, other)),
         }
     }
-    Ok((100_000, Ok(NextLine::End)))
+    Ok((5000, Ok(NextLine::End)))
 }
 
-/// Behind 4,095 lines of 4,097 octets, which end at octet 16,777,215.
+/// How often `x` stands in a line, what ends it, and how many lines are given and what comes behind
+/// them.
+const LENGTHS: [(usize, &str, u32, NextLine); 4] = [
+    (4096, "", 1, NextLine::End),
+    (4096, "\r\n\n", 2, NextLine::End),
+    (4097, "\r\n", 0, NextLine::LongLine),
+    (20_000, "\nnode", 0, NextLine::LongLine),
+];
+
 #[test]
-fn an_input_ends_at_its_greatest_octet(rt: HostRuntime) -> Result<(), Fail> {
-    let mut line = vec![in rt.alloc(); b'x'; 4096]?;
-    line.push(b'\n')?;
-    let mut lines = Vec::with_capacity(rt.alloc(), 16_777_217)?;
-    for _ in 0..4095 {
-        lines.extend_from_slice(line.as_slice())?;
-    }
-    for (end, count, last) in [
-        ("x", 4096, NextLine::End),
-        ("\n\n", 4096, NextLine::PastEnd),
-    ] {
-        let mut octets = lines.as_slice().to_vec(rt.alloc())?;
+fn long_lines_are_not_given(rt: HostRuntime) -> Result<(), OutOfMemory> {
+    for (length, end, count, last) in LENGTHS {
+        let mut octets = vec![in rt.alloc(); b'x'; length]?;
         octets.extend_from_slice(end.as_bytes())?;
-        let mut source = SureSource::new(octets, 65_536);
-        let (given, outcome) = count_lines(rt.alloc(), &mut source)?;
-        assert_eq!(rt; given, count, "{end:?}");
-        assert_eq!(rt; outcome, Ok(last), "{end:?}");
+        assert_eq!(rt;
+            count_lines(rt.alloc(), octets)?,
+            (count, Ok(last)),
+            "{length} {end:?}"
+        );
     }
     Ok(())
 }
 
-/// Puts two lines of 12 and 4 octets and flushes.
-fn write_report(
-    alloc: Global,
-    sink: &mut MemSink,
-    room: usize,
-) -> Result<Result<(), Failed>, OutOfMemory>
-    requires { 0 < room }
-{
-    let mut writer = ReportWriter::open(alloc, room)?;
+/// 4,095 lines of 4,097 octets, which end at octet 16,777,215, and this.
+fn behind_long_lines(alloc: Global, end: &str) -> Result<Vec<u8>, AllocError> {
+    let mut line = vec![in alloc; b'x'; 4096]?;
+    line.push(b'\n')?;
+    let mut octets = Vec::with_capacity(alloc, 16_777_217)?;
+    for _ in 0..4095 {
+        octets.extend_from_slice(line.as_slice())?;
+    }
+    octets.extend_from_slice(end.as_bytes())?;
+    Ok(octets)
+}
+
+#[test]
+fn an_input_ends_at_its_greatest_octet(rt: HostRuntime) -> Result<(), OutOfMemory> {
+    let whole = behind_long_lines(rt.alloc(), "x")?;
+    assert_eq!(rt; count_lines(rt.alloc(), whole)?, (4096, Ok(NextLine::End)));
+    let longer = behind_long_lines(rt.alloc(), "\n\n")?;
+    assert_eq!(rt;
+        count_lines(rt.alloc(), longer)?,
+        (4096, Ok(NextLine::PastEnd))
+    );
+    Ok(())
+}
+
+/// Puts two lines of 12 and 4 octets through a room of four, and flushes.
+fn write_report(alloc: Global, sink: &mut MemSink) -> Result<Result<(), Failed>, OutOfMemory> {
+    let mut writer = ReportWriter::open(alloc, 4)?;
     for line in ["deliver a 1\n", "", "end\n"] {
         if writer.put(line.as_bytes(), sink).is_err() {
             return Ok(Err(Failed));
@@ -169,36 +123,63 @@ fn write_report(
     Ok(writer.flush(sink))
 }
 
+/// A write of four that fails, or none of them, and what is written then.
+const WRITES: [(u32, &str); 2] = [(3, "deliver "), (5, "deliver a 1\nend\n")];
+
 #[test]
-fn reports_are_written_whole_through_any_room(rt: HostRuntime) -> Result<(), Fail> {
-    for room in [1, 3, 4, 64] {
-        assert!(rt; room > 0);
-        for piece in [1, 7, 4096] {
-            let mut sink = MemSink::new(rt.alloc(), piece, Vec::new(rt.alloc()))?;
-            let outcome = write_report(rt.alloc(), &mut sink, room)?;
-            assert_eq!(rt; outcome, Ok(()), "{room} by {piece}");
-            assert!(rt;
-                sink.written() == b"deliver a 1\nend\n".as_slice(),
-                "{room} by {piece}"
-            );
-        }
+fn a_report_is_written_up_to_the_write_that_fails(rt: HostRuntime) -> Result<(), OutOfMemory> {
+    for (call, want) in WRITES {
+        let mut sink = MemSink::new(rt.alloc(), 4096, [call].to_vec(rt.alloc())?)?;
+        let outcome = write_report(rt.alloc(), &mut sink)?;
+        assert_eq!(rt; outcome.is_err(), call <= 4, "write {call}");
+        assert!(rt; sink.written() == want.as_bytes(), "write {call}");
     }
     Ok(())
 }
 
-/// Sixteen octets through a room of four are four writes.
+/// What is read of `SCRIPT` in six pieces of 7 and up to this limit, where this read fails; `None`: it
+/// did.
+fn input(alloc: Global, limit: usize, call: u32) -> Result<Option<Vec<u8>>, OutOfMemory> {
+    let octets = SCRIPT.as_bytes().to_vec(alloc)?;
+    let mut source = MemSource::new(octets, 7, [call].to_vec(alloc)?);
+    match read_to_end(alloc, &mut source, limit) {
+        Ok(octets) => Ok(Some(octets)),
+        Err(InputFault::Failed) => Ok(None),
+        Err(InputFault::OutOfMemory(error)) => Err(error),
+    }
+}
+
+/// A limit, a read that fails, and what is read: the seventh meets the end, and none is made at the
+/// limit.
+const INPUTS: [(usize, u32, Option<&str>); 4] = [
+    (39, 8, Some(SCRIPT)),
+    (39, 7, None),
+    (39, 2, None),
+    (10, 3, Some("node a 10.")),
+];
+
 #[test]
-fn a_write_that_fails_leaves_the_rooms_before_it(rt: HostRuntime) -> Result<(), Fail> {
-    for (call, want, fails) in [
-        (1, "", true),
-        (2, "deli", true),
-        (3, "deliver ", true),
-        (4, "deliver a 1\n", true),
-        (5, "deliver a 1\nend\n", false),
-    ] {
-        let mut sink = MemSink::new(rt.alloc(), 4096, [call].to_vec(rt.alloc())?)?;
-        let outcome = write_report(rt.alloc(), &mut sink, 4)?;
-        assert_eq!(rt; outcome.is_err(), fails, "write {call}");
+fn inputs_come_whole_or_up_to_the_limit(rt: HostRuntime) -> Result<(), OutOfMemory> {
+    for (limit, call, want) in INPUTS {
+        let read = input(rt.alloc(), limit, call)?;
+        let want = want.map(|want| want.as_bytes());
+        assert!(rt;
+            read.as_ref().map(|read| read.as_slice()) == want,
+            "{limit}, read {call}"
+        );
+    }
+    Ok(())
+}
+
+/// A write of six that fails, or none of them, and what is written then.
+const OUTPUTS: [(u32, &str); 2] = [(3, "node a 10.0.1."), (7, SCRIPT)];
+
+#[test]
+fn a_write_that_fails_leaves_the_pieces_before_it(rt: HostRuntime) -> Result<(), OutOfMemory> {
+    for (call, want) in OUTPUTS {
+        let mut sink = MemSink::new(rt.alloc(), 7, [call].to_vec(rt.alloc())?)?;
+        let outcome = write_all(&mut sink, SCRIPT.as_bytes());
+        assert_eq!(rt; outcome.is_err(), call <= 6, "write {call}");
         assert!(rt; sink.written() == want.as_bytes(), "write {call}");
     }
     Ok(())

@@ -12,8 +12,6 @@ mod ideal_fates_tests;
 #[cfg(test)]
 mod lab_io_tests;
 #[cfg(test)]
-mod lab_io_transfer_tests;
-#[cfg(test)]
 mod line_text_tests;
 #[cfg(test)]
 mod record_text_tests;

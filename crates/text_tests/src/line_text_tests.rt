@@ -2,9 +2,8 @@
 
 use lab_text::Text;
 use line_text::write_line;
-use script_text::{ScriptState, read_line};
+use script_text::{ReadFault, ScriptState, read_line};
 use std::alloc::Global;
-use std::test::Fail;
 
 /// A flow of four nodes in a row that is cut through, and then a line of each other kind.
 const SCRIPT: &str = "node n1 10.0.1.1
@@ -47,24 +46,22 @@ node n1 10.0.1.1
 labels n1 8 0/32 15/1023
 ";
 
-/// The first of these lines that isn't written as it was read, if there is one.
-fn one_changed(alloc: Global, lines: &str) -> Result<Option<&str>, Fail> {
-    let mut state = ScriptState::new(alloc)?;
-    for line in lines.lines() {
-        let whole = format!(in alloc; "{line}\n")?;
-        let said = read_line(&mut state, whole.as_bytes())?;
-        let mut text = Text::new(alloc);
-        write_line(&said, state.topology(), &mut text)?;
-        if text.as_slice() != whole.as_bytes() {
-            return Ok(Some(line));
-        }
-    }
-    Ok(None)
+/// Whether a line with an LF is written as it was read.
+fn comes_back(alloc: Global, state: &mut ScriptState, line: &str) -> Result<bool, ReadFault> {
+    let whole = format!(in alloc; "{line}\n")?;
+    let said = read_line(state, whole.as_bytes())?;
+    let mut text = Text::new(alloc);
+    write_line(&said, state.topology(), &mut text)?;
+    Ok(text.as_slice() == whole.as_bytes())
 }
 
 #[test]
-fn each_line_is_written_as_it_was_read(rt: HostRuntime) -> Result<(), Fail> {
-    assert_eq!(rt; one_changed(rt.alloc(), SCRIPT)?, None);
-    assert_eq!(rt; one_changed(rt.alloc(), WITH_PATHS)?, None);
+fn each_line_is_written_as_it_was_read(rt: HostRuntime) -> Result<(), ReadFault> {
+    for script in [SCRIPT, WITH_PATHS] {
+        let mut state = ScriptState::new(rt.alloc())?;
+        for line in script.lines() {
+            assert!(rt; comes_back(rt.alloc(), &mut state, line)?, "{line}");
+        }
+    }
     Ok(())
 }

@@ -1,10 +1,10 @@
 //! Lines of records, read and written back.
 
 use lab_text::Text;
+use net_types::OutOfMemory;
 use record_text::{read_record, write_record};
-use script_text::{ScriptState, read_line};
+use script_text::{ReadFault, ScriptState, read_line};
 use std::alloc::Global;
-use std::test::Fail;
 use topology::Topology;
 
 /// Four nodes in a row.
@@ -33,7 +33,10 @@ forged n3:2
 routes n4 10
 ";
 
-/// Lines of records with labels, where those have a VPI.
+/// Two nodes whose labels have a VPI.
+const WITH_PATHS: &str = "version 2\nnode n1 10.0.1.1\nnode n2 10.0.2.1\n";
+
+/// Lines of records with such labels.
 const RECORDS_WITH_PATHS: &str = "bind n2 1 0/32 45001f110a0001010a0003011389138a
 free n2 1 1/1023
 join n2 1 0/32 2 15/32
@@ -41,7 +44,7 @@ part n2 8 2/40
 ";
 
 /// The state behind these lines.
-fn behind(alloc: Global, text: &str) -> Result<ScriptState, Fail> {
+fn behind(alloc: Global, text: &str) -> Result<ScriptState, ReadFault> {
     let mut state = ScriptState::new(alloc)?;
     for line in text.lines() {
         let _said = read_line(&mut state, line.as_bytes())?;
@@ -49,38 +52,24 @@ fn behind(alloc: Global, text: &str) -> Result<ScriptState, Fail> {
     Ok(state)
 }
 
-/// Whether a record is read of this line, and its line is this one.
-fn comes_back(alloc: Global, names: &Topology, line: &[u8]) -> Result<bool, Fail> {
-    let Some(item) = read_record(alloc, line, names)? else {
+/// Whether a record is read of this line and an LF, and its line is this one.
+fn comes_back(alloc: Global, names: &Topology, line: &str) -> Result<bool, OutOfMemory> {
+    let whole = format!(in alloc; "{line}\n")?;
+    let Some(item) = read_record(alloc, whole.as_bytes(), names)? else {
         return Ok(false);
     };
     let mut text = Text::new(alloc);
     write_record(&item, names, &mut text)?;
-    Ok(text.as_slice() == line)
-}
-
-/// The first of these lines that doesn't come back, if there is one.
-fn one_lost<'a>(alloc: Global, names: &Topology, lines: &'a str) -> Result<Option<&'a str>, Fail> {
-    for line in lines.lines() {
-        let whole = format!(in alloc; "{line}\n")?;
-        if !comes_back(alloc, names, whole.as_bytes())? {
-            return Ok(Some(line));
-        }
-    }
-    Ok(None)
+    Ok(text.as_slice() == whole.as_bytes())
 }
 
 #[test]
-fn each_line_is_read_and_written_back(rt: HostRuntime) -> Result<(), Fail> {
-    let state = behind(rt.alloc(), ROW)?;
-    assert_eq!(rt; one_lost(rt.alloc(), state.topology(), RECORDS)?, None);
-    let state = behind(
-        rt.alloc(),
-        "version 2\nnode n1 10.0.1.1\nnode n2 10.0.2.1\n",
-    )?;
-    assert_eq!(rt;
-        one_lost(rt.alloc(), state.topology(), RECORDS_WITH_PATHS)?,
-        None
-    );
+fn each_line_is_read_and_written_back(rt: HostRuntime) -> Result<(), ReadFault> {
+    for (topology, records) in [(ROW, RECORDS), (WITH_PATHS, RECORDS_WITH_PATHS)] {
+        let state = behind(rt.alloc(), topology)?;
+        for line in records.lines() {
+            assert!(rt; comes_back(rt.alloc(), state.topology(), line)?, "{line}");
+        }
+    }
     Ok(())
 }

@@ -1,221 +1,247 @@
 //! Lines that are refused, and lines that aren't.
 
+use net_types::OutOfMemory;
 use script_text::{Line, LineRefusal, ReadFault, ScriptState, read_line, read_string};
-use std::alloc::Global;
-use std::test::Fail;
+use std::alloc::{AllocError, Global};
 
 /// Two nodes with a link.
 const TWO: &str = "node a 10.0.1.1\nnode b 10.0.3.1\nlink a:1 b:1\nroute a 10.0.0.0/8 via 1\n";
 
-/// A line of each row fails the test that is named and none before it, behind no line, behind `TWO`
-/// (`two`), behind an event besides (`begun`), or behind the line of version 2 (`second`).
-const REFUSED: &str = "none UnknownWord nodes a 10.0.1.1
-none UnknownWord Node a 10.0.1.1
-none BadByte tick \u{7f}*
-none BadByte # \u{7}
-none BadByte tick \r*
-none Arity node a
-none Arity node a 10.0.1.1 10.0.1.2
-none BadName node 1a 10.0.1
-none BadName node aB 10.0.1.1
-none BadName node abcdefghijklmnopq 10.0.1.1
-none BadAddress node a 10.0.1
-none BadAddress node a 10.0.1.256
-none BadAddress node a 10.0.01.1
-begun Late node a 10.0.1.1
-two DuplicateName node a 10.0.4.1
-none Arity cells a
-none BadName cells A 0
-none BadNumber cells c 0
-none BadNumber cells c 16385
-none BadNumber cells c 01
-none BadNumber cells c +1
-begun Late cells c 1
-none UnknownName cells c 1
-none Arity labels a 1 40
-none Arity labels a 1 40 50 60
-none BadName labels A 0 31 30
-none BadNumber labels c 0 40 50
-none BadNumber labels c 9 40 50
-none BadNumber labels c 1 31 50
-none BadNumber labels c 1 40 1024
-none BadNumber labels c 1 40 39
-none BadNumber labels c 1 0/40 0/50
-begun Late labels c 1 40 50
-none UnknownName labels c 1 40 50
-second BadChannel labels c 1 40 50
-second BadChannel labels c 1 0/31 0/50
-second BadChannel labels c 1 16/40 16/50
-second BadChannel labels c 1 0/40 0/1024
-second BadNumber labels c 1 1/40 0/1023
-second UnknownName labels c 1 0/40 15/1023
-none Arity link a:1
-none BadPlace link a:0 b:2
-none BadPlace link a:9 b:2
-none BadPlace link a b:2
-none BadPlace link A:1 b:2
-none BadPlace link a:1 b:c
-begun Late link a:2 c:1
-two UnknownName link c:1 c:1
-two UnknownName link a:1 c:1
-two SelfLink link a:1 a:1
-two PortTaken link a:1 b:2
-two PortTaken link a:2 b:1
-none Arity route a 10.0.0.0/8
-none Arity route a 10.0.0.0/8 via 1 2
-none UnknownWord route A 10.0.0.1/8 over 0
-none UnknownWord route A 10.0.0.1/8 via
-none UnknownWord route A 10.0.0.1/8 local 1
-none BadName route A 10.0.0.1/8 via 0
-none BadPrefix route c 10.0.0.1/8 via 0
-none BadPrefix route c 10.0.0.0/33 local
-none BadPrefix route c 10.0.0.0 local
-none BadNumber route c 10.0.0.0/8 via 9
-begun Late route c 10.0.0.0/8 local
-two UnknownName route c 10.0.0.0/8 via 1
-two NoLink route a 10.0.0.0/8 via 2
-two Duplicate route a 10.0.0.0/8 via 1
-two Duplicate route a 10.0.0.0/8 local
-none Arity policy
-none Arity policy xy 1
-none UnknownWord policy always
-none UnknownWord policy yx 0 0
-none BadNumber policy xy 0 1
-none BadNumber policy xy 65536 1
-none BadNumber policy xy 1 65
-begun Late policy never
-none Arity timers 1 2
-none BadNumber timers 0 1 1
-none BadNumber timers 1 65536 1
-none BadNumber timers 1 1 0
-begun Late timers 1 1 1
-none Arity version
-none BadNumber version 3
-none BadNumber version 0
-two Late version 2
-second Late version 2
-begun Arity send a
-begun BadName send A 0
-begun BadHex send c 0
-begun BadHex send c 0g
-begun UnknownName send c 00
-begun Arity carry
-begun Arity lose a:1 b:1
-begun BadPlace carry a:9
-begun BadPlace lose a:C
-begun BadPlace lose :1
-begun UnknownName carry c:c
-begun UnknownName lose c:1
-begun NoLink carry a:2
-begun NoLink lose b:8
-begun Arity tick
-begun BadName tick **
-begun UnknownName tick c
-begun Arity tickswitch a b
-begun BadName tickswitch *
-begun UnknownName tickswitch c
-begun Arity restart
-begun BadName restart *
-begun UnknownName restart c
-begun Arity restartswitch
-begun BadName restartswitch *
-begun UnknownName restartswitch c
-begun Arity run
-begun BadNumber run 0
-begun BadNumber run 100001
-begun Arity forge a:1 0/15
-begun BadPlace forge a:9 256/15 0
-begun BadChannel forge c:1 256/15 0
-begun BadChannel forge c:1 0/65536 0
-begun BadChannel forge c:1 0 0
-begun BadHex forge c:1 0/15 0
-begun UnknownName forge c:1 0/15 00
-begun NoLink forge a:2 255/65535 00
-begun Arity setroute a 10.0.0.0/8
-begun UnknownWord setroute A 10.0.0.1/8 over 0
-begun UnknownWord setroute A 10.0.0.1/8 via
-begun BadName setroute A 10.0.0.1/8 via 0
-begun BadPrefix setroute c 10.0.0.1/8 via 0
-begun BadNumber setroute c 10.0.0.0/8 via 0
-begun UnknownName setroute c 10.0.0.0/8 via 2
-begun NoLink setroute a 10.0.0.0/8 via 2
-begun Arity unroute a
-begun BadName unroute A 10.0.0.1/8
-begun BadPrefix unroute c 10.0.0.1/8
-begun UnknownName unroute c 10.0.0.0/8
-begun NoPrefix unroute a 10.0.0.0/9
-begun NoPrefix unroute b 10.0.0.0/8
+/// The same, and an event.
+const BEGUN: &str =
+    "node a 10.0.1.1\nnode b 10.0.3.1\nlink a:1 b:1\nroute a 10.0.0.0/8 via 1\ntick *\n";
+
+const VERSION: &str = "# labels have a VPI\nversion 2\n";
+
+/// Lines that fail the test that is named and none before it, behind no line.
+const FIRST: &str = "UnknownWord nodes a 10.0.1.1
+UnknownWord Node a 10.0.1.1
+BadByte tick \u{7f}*
+BadByte # \u{7}
+BadByte tick \r*
+Arity node a
+Arity node a 10.0.1.1 10.0.1.2
+BadName node 1a 10.0.1
+BadName node aB 10.0.1.1
+BadName node abcdefghijklmnopq 10.0.1.1
+BadAddress node a 10.0.1
+BadAddress node a 10.0.1.256
+BadAddress node a 10.0.01.1
+Arity cells a
+BadName cells A 0
+BadNumber cells c 0
+BadNumber cells c 16385
+BadNumber cells c 01
+BadNumber cells c +1
+UnknownName cells c 1
+Arity labels a 1 40
+Arity labels a 1 40 50 60
+BadName labels A 0 31 30
+BadNumber labels c 0 40 50
+BadNumber labels c 9 40 50
+BadNumber labels c 1 31 50
+BadNumber labels c 1 40 1024
+BadNumber labels c 1 40 39
+BadNumber labels c 1 0/40 0/50
+UnknownName labels c 1 40 50
+Arity link a:1
+BadPlace link a:0 b:2
+BadPlace link a:9 b:2
+BadPlace link a b:2
+BadPlace link A:1 b:2
+BadPlace link a:1 b:c
+Arity route a 10.0.0.0/8
+Arity route a 10.0.0.0/8 via 1 2
+UnknownWord route A 10.0.0.1/8 over 0
+UnknownWord route A 10.0.0.1/8 via
+UnknownWord route A 10.0.0.1/8 local 1
+BadName route A 10.0.0.1/8 via 0
+BadPrefix route c 10.0.0.1/8 via 0
+BadPrefix route c 10.0.0.0/33 local
+BadPrefix route c 10.0.0.0 local
+BadNumber route c 10.0.0.0/8 via 9
+Arity policy
+Arity policy xy 1
+UnknownWord policy always
+UnknownWord policy yx 0 0
+BadNumber policy xy 0 1
+BadNumber policy xy 65536 1
+BadNumber policy xy 1 65
+Arity timers 1 2
+BadNumber timers 0 1 1
+BadNumber timers 1 65536 1
+BadNumber timers 1 1 0
+Arity version
+BadNumber version 3
+BadNumber version 0
 ";
 
-/// Reads lines, none of which is refused.
-fn behind(alloc: Global, text: &str) -> Result<ScriptState, Fail> {
-    let mut state = ScriptState::new(alloc)?;
-    read_all(&mut state, text)?;
-    Ok(state)
-}
+/// The same behind `VERSION`.
+const IN_VERSION: &str = "BadChannel labels c 1 40 50
+BadChannel labels c 1 0/31 0/50
+BadChannel labels c 1 16/40 16/50
+BadChannel labels c 1 0/40 0/1024
+BadNumber labels c 1 1/40 0/1023
+UnknownName labels c 1 0/40 15/1023
+Late version 2
+";
 
-fn read_all(state: &mut ScriptState, text: &str) -> Result<(), Fail> {
-    for line in text.lines() {
-        let _said = read_line(state, line.as_bytes())?;
-    }
+/// The same behind `TWO`.
+const BEHIND_TWO: &str = "DuplicateName node a 10.0.4.1
+UnknownName link c:1 c:1
+UnknownName link a:1 c:1
+SelfLink link a:1 a:1
+PortTaken link a:1 b:2
+PortTaken link a:2 b:1
+UnknownName route c 10.0.0.0/8 via 1
+NoLink route a 10.0.0.0/8 via 2
+Duplicate route a 10.0.0.0/8 via 1
+Duplicate route a 10.0.0.0/8 local
+Late version 2
+";
+
+/// The same behind `BEGUN`.
+const BEHIND_EVENTS: &str = "Late node a 10.0.1.1
+Late cells c 1
+Late labels c 1 40 50
+Late link a:2 c:1
+Late route c 10.0.0.0/8 local
+Late policy never
+Late timers 1 1 1
+Arity send a
+BadName send A 0
+BadHex send c 0
+BadHex send c 0g
+UnknownName send c 00
+Arity carry
+Arity lose a:1 b:1
+BadPlace carry a:9
+BadPlace lose a:C
+BadPlace lose :1
+UnknownName carry c:c
+UnknownName lose c:1
+NoLink carry a:2
+NoLink lose b:8
+Arity tick
+BadName tick **
+UnknownName tick c
+Arity tickswitch a b
+BadName tickswitch *
+UnknownName tickswitch c
+Arity restart
+BadName restart *
+UnknownName restart c
+Arity restartswitch
+BadName restartswitch *
+UnknownName restartswitch c
+Arity run
+BadNumber run 0
+BadNumber run 100001
+Arity forge a:1 0/15
+BadPlace forge a:9 256/15 0
+BadChannel forge c:1 256/15 0
+BadChannel forge c:1 0/65536 0
+BadChannel forge c:1 0 0
+BadHex forge c:1 0/15 0
+UnknownName forge c:1 0/15 00
+NoLink forge a:2 255/65535 00
+Arity setroute a 10.0.0.0/8
+UnknownWord setroute A 10.0.0.1/8 over 0
+UnknownWord setroute A 10.0.0.1/8 via
+BadName setroute A 10.0.0.1/8 via 0
+BadPrefix setroute c 10.0.0.1/8 via 0
+BadNumber setroute c 10.0.0.0/8 via 0
+UnknownName setroute c 10.0.0.0/8 via 2
+NoLink setroute a 10.0.0.0/8 via 2
+Arity unroute a
+BadName unroute A 10.0.0.1/8
+BadPrefix unroute c 10.0.0.1/8
+UnknownName unroute c 10.0.0.0/8
+NoPrefix unroute a 10.0.0.0/9
+NoPrefix unroute b 10.0.0.0/8
+";
+
+/// Lines, and those that are refused behind them.
+const REFUSED: [(&str, &str); 4] = [
+    ("", FIRST),
+    (VERSION, IN_VERSION),
+    (TWO, BEHIND_TWO),
+    (BEGUN, BEHIND_EVENTS),
+];
+
+/// Reads a line that isn't refused.
+fn take(state: &mut ScriptState, line: &[u8]) -> Result<(), ReadFault> {
+    let _said = read_line(state, line)?;
     Ok(())
 }
 
-/// The state behind the lines that a row names.
-fn named(alloc: Global, name: &str) -> Result<ScriptState, Fail> {
+/// The state behind lines, none of which is refused.
+fn behind(alloc: Global, text: &str) -> Result<ScriptState, ReadFault> {
     let mut state = ScriptState::new(alloc)?;
-    if name == "second" {
-        read_all(&mut state, "# labels have a VPI\nversion 2\n")?;
-    }
-    if name == "two" || name == "begun" {
-        read_all(&mut state, TWO)?;
-    }
-    if name == "begun" {
-        read_all(&mut state, "tick *\n")?;
+    for line in text.lines() {
+        take(&mut state, line.as_bytes())?;
     }
     Ok(state)
 }
 
-/// What a line is refused for, as it is shown.
-fn shown_refusal(alloc: Global, state: &mut ScriptState, line: &str) -> Result<String, Fail> {
-    let fault = read_line(state, line.as_bytes()).err().ok_or("a refusal")?;
-    Ok(format!(in alloc; "{fault:?}")?)
+/// What was refused, if it was.
+fn refused(read: Result<Line, ReadFault>) -> Result<Option<LineRefusal>, OutOfMemory> {
+    match read {
+        Ok(_) => Ok(None),
+        Err(ReadFault::Refused(refusal)) => Ok(Some(refusal)),
+        Err(ReadFault::OutOfMemory(error)) => Err(error),
+    }
+}
+
+fn refusal(state: &mut ScriptState, line: &[u8]) -> Result<Option<LineRefusal>, OutOfMemory> {
+    refused(read_line(state, line))
+}
+
+fn string_refusal(
+    state: &mut ScriptState,
+    text: &[u8],
+) -> Result<Option<LineRefusal>, OutOfMemory> {
+    refused(read_string(state, text))
+}
+
+fn is_named(alloc: Global, refusal: LineRefusal, name: &str) -> Result<bool, AllocError> {
+    Ok(format!(in alloc; "{refusal:?}")?.as_str() == name)
+}
+
+fn is_refused(alloc: Global, before: &str, row: &str) -> Result<bool, ReadFault> {
+    let mut state = behind(alloc, before)?;
+    let Some((name, line)) = row.split_once(' ') else {
+        return Ok(false);
+    };
+    match refusal(&mut state, line.as_bytes())? {
+        Some(refusal) => Ok(is_named(alloc, refusal, name)?),
+        None => Ok(false),
+    }
 }
 
 #[test]
-fn lines_are_refused_by_the_first_test_that_fails(rt: HostRuntime) -> Result<(), Fail> {
-    for row in REFUSED.lines() {
-        let (before, case) = row.split_once(' ').ok_or("lines before")?;
-        let (name, line) = case.split_once(' ').ok_or("a name")?;
-        let mut state = named(rt.alloc(), before)?;
-        let found = shown_refusal(rt.alloc(), &mut state, line)?;
-        let wanted = format!(in rt.alloc(); "Refused({name})")?;
-        assert!(rt; found.as_str() == wanted.as_str(), "{row}");
+fn lines_are_refused_by_the_first_test_that_fails(rt: HostRuntime) -> Result<(), ReadFault> {
+    for (before, rows) in REFUSED {
+        for row in rows.lines() {
+            assert!(rt; is_refused(rt.alloc(), before, row)?, "{row}");
+        }
     }
     Ok(())
 }
 
-/// What a line is refused for, if it is.
-fn refusal(state: &mut ScriptState, line: &[u8]) -> Option<LineRefusal> {
-    match read_line(state, line) {
-        Err(ReadFault::Refused(refusal)) => Some(refusal),
-        _ => None,
-    }
-}
-
-fn repeat(state: &mut ScriptState, line: &[u8], times: u32) -> Result<(), Fail> {
+fn repeat(state: &mut ScriptState, line: &[u8], times: u32) -> Result<(), ReadFault> {
     for _ in 0..times {
-        let _said = read_line(state, line)?;
+        take(state, line)?;
     }
     Ok(())
 }
 
 /// As many nodes as there can be.
-fn nodes(alloc: Global) -> Result<ScriptState, Fail> {
+fn nodes(alloc: Global) -> Result<ScriptState, ReadFault> {
     let mut state = ScriptState::new(alloc)?;
     for i in 0..64 {
         let line = format!(in alloc; "node n{i} 10.0.1.1")?;
-        let _said = read_line(&mut state, line.as_bytes())?;
+        take(&mut state, line.as_bytes())?;
     }
     Ok(state)
 }
@@ -230,12 +256,12 @@ const LIMITS: [(&str, u32, &str); 4] = [
 ];
 
 #[test]
-fn a_script_has_its_limits(rt: HostRuntime) -> Result<(), Fail> {
+fn a_script_has_its_limits(rt: HostRuntime) -> Result<(), ReadFault> {
     let mut state = nodes(rt.alloc())?;
     for (line, times, next) in LIMITS {
         repeat(&mut state, line.as_bytes(), times)?;
         assert_eq!(rt;
-            refusal(&mut state, next.as_bytes()),
+            refusal(&mut state, next.as_bytes())?,
             Some(LineRefusal::TooMany),
             "{next}"
         );
@@ -244,11 +270,11 @@ fn a_script_has_its_limits(rt: HostRuntime) -> Result<(), Fail> {
 }
 
 /// As many routes as a node can have.
-fn routes(alloc: Global) -> Result<ScriptState, Fail> {
+fn routes(alloc: Global) -> Result<ScriptState, ReadFault> {
     let mut state = behind(alloc, "node a 10.0.1.1")?;
     for i in 0..256 {
         let line = format!(in alloc; "route a 10.0.{i}.0/24 local")?;
-        let _said = read_line(&mut state, line.as_bytes())?;
+        take(&mut state, line.as_bytes())?;
     }
     Ok(state)
 }
@@ -275,58 +301,46 @@ const ROUTES: [(&str, LineRefusal, &str); 4] = [
 ];
 
 #[test]
-fn a_table_has_its_limit(rt: HostRuntime) -> Result<(), Fail> {
+fn a_table_has_its_limit(rt: HostRuntime) -> Result<(), ReadFault> {
     let mut state = routes(rt.alloc())?;
     for (next, refused, then) in ROUTES {
         assert_eq!(rt;
-            refusal(&mut state, next.as_bytes()),
+            refusal(&mut state, next.as_bytes())?,
             Some(refused),
             "{next}"
         );
-        read_all(&mut state, then)?;
+        take(&mut state, then.as_bytes())?;
     }
     Ok(())
 }
 
-/// Lines behind `TWO`: the first octets, what follows so many times, what ends the line, and the refusal. A line has
-/// 4,096 octets and its end, and a forged frame 1,528.
-const LONGEST: [(&str, &str, u32, &str, Option<LineRefusal>); 5] = [
-    ("#", "#", 4095, "", None),
-    ("#", "#", 4095, "\r\n", None),
-    ("#", "#", 4096, "\n", Some(LineRefusal::LineTooLong)),
-    ("forge a:1 0/15 ", "00", 1528, "", None),
-    (
-        "forge a:1 0/15 ",
-        "00",
-        1529,
-        "",
-        Some(LineRefusal::BadLength),
-    ),
+/// Lines behind `TWO`: the first octets, how often `0` follows, what ends the line, and the refusal. A
+/// line has 4,096 octets and its end, and a forged frame 1,528.
+const LONGEST: [(&str, usize, &str, Option<LineRefusal>); 5] = [
+    ("#", 4095, "", None),
+    ("#", 4095, "\r\n", None),
+    ("#", 4096, "\n", Some(LineRefusal::LineTooLong)),
+    ("forge a:1 0/15 ", 3056, "", None),
+    ("forge a:1 0/15 ", 3058, "", Some(LineRefusal::BadLength)),
 ];
 
-/// The octets of such a line.
-fn long_line(
-    alloc: Global,
-    first: &str,
-    part: &str,
-    count: u32,
-    end: &str,
-) -> Result<String, Fail> {
-    let mut line = String::new(alloc);
-    line.push_str(first)?;
-    for _ in 0..count {
-        line.push_str(part)?;
-    }
-    line.push_str(end)?;
+fn long_line(alloc: Global, first: &str, count: usize, end: &str) -> Result<Vec<u8>, AllocError> {
+    let mut line = first.as_bytes().to_vec(alloc)?;
+    line.extend_from_slice(vec![in alloc; b'0'; count]?.as_slice())?;
+    line.extend_from_slice(end.as_bytes())?;
     Ok(line)
 }
 
 #[test]
-fn lines_and_frames_have_a_greatest_length(rt: HostRuntime) -> Result<(), Fail> {
+fn lines_and_frames_have_a_greatest_length(rt: HostRuntime) -> Result<(), ReadFault> {
     let mut state = behind(rt.alloc(), TWO)?;
-    for (first, part, count, end, refused) in LONGEST {
-        let line = long_line(rt.alloc(), first, part, count, end)?;
-        assert_eq!(rt; refusal(&mut state, line.as_bytes()), refused);
+    for (first, count, end, refused) in LONGEST {
+        let line = long_line(rt.alloc(), first, count, end)?;
+        assert_eq!(rt;
+            refusal(&mut state, line.as_slice())?,
+            refused,
+            "{first}{count}"
+        );
     }
     Ok(())
 }
@@ -340,22 +354,27 @@ const LINES: [(&str, bool); 5] = [
     ("send a 00Ff", false),
 ];
 
+fn is_blank(state: &mut ScriptState, line: &[u8]) -> Result<bool, ReadFault> {
+    Ok(matches!(read_line(state, line)?, Line::Blank))
+}
+
 #[test]
-fn lines_are_blank_or_have_words(rt: HostRuntime) -> Result<(), Fail> {
+fn lines_are_blank_or_have_words(rt: HostRuntime) -> Result<(), ReadFault> {
     let mut state = behind(rt.alloc(), TWO)?;
-    for (line, is_blank) in LINES {
-        let said = read_line(&mut state, line.as_bytes())?;
-        assert_eq!(rt; matches!(said, Line::Blank), is_blank, "{line:?}");
+    for (line, want) in LINES {
+        assert_eq!(rt; is_blank(&mut state, line.as_bytes())?, want, "{line:?}");
     }
     Ok(())
 }
 
 /// A string of a document has no end.
 #[test]
-fn strings_have_no_end(rt: HostRuntime) -> Result<(), Fail> {
+fn strings_have_no_end(rt: HostRuntime) -> Result<(), ReadFault> {
     let mut state = ScriptState::new(rt.alloc())?;
-    let _said = read_string(&mut state, b"tick *")?;
-    let read = read_string(&mut state, b"tick *\n");
-    assert!(rt; matches!(read, Err(ReadFault::Refused(LineRefusal::BadByte))));
+    assert_eq!(rt; string_refusal(&mut state, b"tick *")?, None);
+    assert_eq!(rt;
+        string_refusal(&mut state, b"tick *\n")?,
+        Some(LineRefusal::BadByte)
+    );
     Ok(())
 }
