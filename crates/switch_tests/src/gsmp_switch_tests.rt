@@ -4,12 +4,15 @@ ghost use Rattle.std.specs.Prelude.{◌≡◌, ◌≤◌, true, length};
 ghost use Rattle.gsmp_wire.specs.Range.{IsInRange};
 ghost use Rattle.world_model.specs.Requests.{is_request};
 
+use crate::entries::are_entries;
 use aal5_frames::segment;
 use atm_cells::{Cell, Header};
 use gsmp_switch::Switch;
 use gsmp_wire::{BranchKind, Message, PortRows};
 use link_model::{Cause, Layer, Notes, Record, Refusal};
-use net_types::{Channel, End, Mark, NodeId, Numbers, PortNo};
+use net_types::{Channel, End, Mark, NodeId, Numbers, OutOfMemory, PortNo};
+use std::alloc::Global;
+use std::marker::Model;
 use std::test::Fail;
 
 /// Labels 40 and 41 of port 1, as that port sees them.
@@ -136,42 +139,137 @@ fn message_of(ask: Ask) -> Message
     }
 }
 
-/// Result and Code of the answer to a request, and Branches, the new session or the number of
-/// records; zeros for want of memory.
-fn outcome(switch: &mut Switch, ask: Ask, notes: &mut Notes) -> (u8, u8, u32) {
-    let Ok(answer) = switch.handle(&message_of(ask), notes) else {
-        return (0, 0, 0);
-    };
+/// Result and Code of an answer, and Branches, the new session or the number of records.
+fn outcome(answer: &Message) -> (u8, u8, u32) {
     match answer {
         Message::Branch {
             result,
             code,
             branches,
             ..
-        } => (result, code, branches as u32),
+        } => (*result, *code, *branches as u32),
         Message::Move {
             result,
             code,
             branches,
             ..
-        } => (result, code, branches as u32),
+        } => (*result, *code, *branches as u32),
         Message::Port {
             result,
             code,
             session,
             ..
-        } => (result, code, session),
+        } => (*result, *code, *session),
         Message::AllPorts {
             result,
             code,
             rows,
             ..
-        } => (result, code, rows.len() as u32),
+        } => (*result, *code, rows.len() as u32),
         Message::Adjacency(_) => (0, 0, 0),
     }
 }
 
-/// Requests to a switch with port 1, the first to draw a number, so that its sessions are 1, and what comes of each.
+/// The first switch, with port 1, and its notes. It must be closed.
+#[must_use]
+struct Bench {
+    switch: Switch,
+    notes: Notes,
+}
+
+impl Model for Bench {
+    ghost Value = { Unit {0} };
+
+    ghost view = { λ _. tt };
+}
+
+impl Bench {
+    /// A new switch with so many slots, the first to draw a number, so that its sessions are 1.
+    fn open(alloc: Global, slots: usize) -> Result<Bench, OutOfMemory>
+        requires { (1 ≤ slots) × (slots ≤ 16384) }
+    {
+        let mut numbers = Numbers::new();
+        let notes = Notes::open(alloc)?;
+        let switch = Switch::open(alloc, NodeId(1), &[PortNo(1)], slots, 1, &mut numbers)?;
+        Ok(Bench { switch, notes })
+    }
+
+    /// What comes of a request; zeros for want of memory.
+    fn ask(&mut self, ask: Ask) -> (u8, u8, u32) {
+        match self.switch.handle(&message_of(ask), &mut self.notes) {
+            Ok(answer) => outcome(&answer),
+            Err(_) => (0, 0, 0),
+        }
+    }
+
+    /// A cell comes on a port. False for want of memory.
+    fn receive(&mut self, port: u8, cell: &Cell) -> bool {
+        let mut numbers = Numbers::new();
+        self.switch
+            .receive(PortNo(port), cell, &mut numbers, &mut self.notes)
+            .is_ok()
+    }
+
+    /// A cell of the frame 0.`frame` comes on a port. False for want of memory.
+    fn take(&mut self, port: u8, channel: Channel, frame: u64, last: bool) -> bool {
+        let cell = Cell {
+            header: Header { channel, last },
+            payload: [0; 48],
+            mark: Mark { packet: 0, frame },
+        };
+        self.receive(port, &cell)
+    }
+
+    /// A frame of the controller comes, in one cell. False for want of memory.
+    fn hear(&mut self, message: &[u8]) -> bool
+        requires { (1 ≤ length message.now) × (length message.now ≤ 40) }
+    {
+        let mark = Mark {
+            packet: 0,
+            frame: 100,
+        };
+        let mut cells = [Cell {
+            header: Header {
+                channel: GSMP,
+                last: false,
+            },
+            payload: [0; 48],
+            mark,
+        }];
+        segment(message, GSMP, mark, &mut cells);
+        self.notes.made(mark, message).is_ok() && self.receive(0, &cells[0])
+    }
+
+    /// Whether the next cell to the controller is the frame of this message, and there is none where
+    /// there is no message.
+    fn says(&mut self, message: Option<&[u8; 40]>) -> bool {
+        match (self.switch.pop(PortNo(0)), message) {
+            (Some(cell), Some(message)) => cell.header.last && cell.payload[..40] == message[..],
+            (None, None) => true,
+            _ => false,
+        }
+    }
+
+    /// The switch starts anew. False for want of memory.
+    fn restart(&mut self) -> bool {
+        let mut numbers = Numbers::new();
+        self.switch.restart(&mut numbers, &mut self.notes).is_ok()
+    }
+
+    /// A tick goes by. False for want of memory.
+    fn tick(&mut self) -> bool {
+        let mut numbers = Numbers::new();
+        self.switch.tick(&mut numbers, &mut self.notes).is_ok()
+    }
+
+    /// Gives up the switch.
+    fn close(self) {
+        let Bench { switch, notes: _ } = self;
+        switch.abandon();
+    }
+}
+
+/// Requests to a switch, and what comes of each.
 const REQUESTS: [(Ask, (u8, u8, u32)); 19] = [
     // Add Branch succeeds where the branch is there; then the failures, by code.
     (Ask::Add(1, 1, LABEL, ON_CONTROL), (3, 0, 1)),
@@ -199,51 +297,13 @@ const REQUESTS: [(Ask, (u8, u8, u32)); 19] = [
 
 #[test]
 fn requests_are_answered(rt: HostRuntime) -> Result<(), Fail> {
-    let mut numbers = Numbers::new();
-    let mut notes = Notes::open(rt.alloc())?;
-    let mut switch = Switch::open(rt.alloc(), NodeId(1), &[PortNo(1)], 4, 1, &mut numbers)?;
+    let mut bench = Bench::open(rt.alloc(), 4)?;
     for (ask, want) in REQUESTS {
-        assert_eq!(rt; outcome(&mut switch, ask, &mut notes), want);
+        assert_eq!(rt; bench.ask(ask), want);
     }
-    assert_eq!(rt; notes.len(), 0);
-    switch.abandon();
+    assert_eq!(rt; bench.notes.len(), 0);
+    bench.close();
     Ok(())
-}
-
-/// A cell of the frame 0.`frame` comes on a port. False for want of memory.
-fn take(
-    switch: &mut Switch,
-    port: u8,
-    channel: Channel,
-    frame: u64,
-    last: bool,
-    notes: &mut Notes,
-) -> bool {
-    let cell = Cell {
-        header: Header { channel, last },
-        payload: [0; 48],
-        mark: Mark { packet: 0, frame },
-    };
-    let mut numbers = Numbers::new();
-    switch
-        .receive(PortNo(port), &cell, &mut numbers, notes)
-        .is_ok()
-}
-
-/// Whether the records are entries of these frames with these causes.
-fn are_entries(notes: &Notes, want: &[(u64, Cause)]) -> bool {
-    for (place, (frame, cause)) in want.iter().enumerate() {
-        match notes.at(place) {
-            Some(
-                Record::Loss {
-                    mark,
-                    cause: entered,
-                },
-            ) if mark.frame == *frame && entered == cause => {}
-            _ => return false,
-        }
-    }
-    notes.len() == want.len()
 }
 
 /// Cells of labels and of the chain of the GSMP channel, by port, channel, frame and whether it is a last one, to a
@@ -271,28 +331,27 @@ const ENTERED: [(u64, Cause); 7] = [
     (6, Cause::Cut),
 ];
 
+/// Label 40 of port 1.
+const INPUT: End = End {
+    port: PortNo(1),
+    channel: LABEL,
+};
+
 /// A cell that is queued stays at the restart.
 #[test]
 fn cells_are_switched_or_entered(rt: HostRuntime) -> Result<(), Fail> {
-    let mut numbers = Numbers::new();
-    let mut notes = Notes::open(rt.alloc())?;
-    let mut switch = Switch::open(rt.alloc(), NodeId(1), &[PortNo(1)], 2, 1, &mut numbers)?;
-    let made = outcome(&mut switch, Ask::Add(1, 1, LABEL, ON_CONTROL), &mut notes);
-    assert_eq!(rt; made, (3, 0, 1));
+    let mut bench = Bench::open(rt.alloc(), 2)?;
+    assert_eq!(rt; bench.ask(Ask::Add(1, 1, LABEL, ON_CONTROL)), (3, 0, 1));
     for (port, channel, frame, last) in CELLS {
-        assert!(rt; take(&mut switch, port, channel, frame, last, &mut notes));
+        assert!(rt; bench.take(port, channel, frame, last));
     }
-    assert!(rt; switch.restart(&mut numbers, &mut notes).is_ok());
-    assert!(rt; are_entries(&notes, &ENTERED));
-    let input = End {
-        port: PortNo(1),
-        channel: LABEL,
-    };
-    assert_eq!(rt; switch.branch(input), None);
-    assert_eq!(rt; switch.fabric().free(), 1);
-    assert!(rt; switch.pop(PortNo(0)).is_some());
-    assert_eq!(rt; switch.switched(), 0);
-    switch.abandon();
+    assert!(rt; bench.restart());
+    assert!(rt; are_entries(&bench.notes, &ENTERED));
+    assert_eq!(rt; bench.switch.branch(INPUT), None);
+    assert_eq!(rt; bench.switch.fabric().free(), 1);
+    assert!(rt; !bench.says(None));
+    assert_eq!(rt; bench.switch.switched(), 0);
+    bench.close();
     Ok(())
 }
 
@@ -326,42 +385,6 @@ const ADDED: [u8; 40] = [
     40, 0, 0, 0, 0, 0, 16, 0, 40, 0, 1, 0, 0,
 ];
 
-/// A frame of the controller comes, in one cell. False for want of memory.
-fn hear(switch: &mut Switch, message: &[u8], notes: &mut Notes) -> bool
-    requires { (1 ≤ length message.now) × (length message.now ≤ 40) }
-{
-    let mark = Mark {
-        packet: 0,
-        frame: 100,
-    };
-    if notes.made(mark, message).is_err() {
-        return false;
-    }
-    let mut cells = [Cell {
-        header: Header {
-            channel: GSMP,
-            last: false,
-        },
-        payload: [0; 48],
-        mark,
-    }];
-    segment(message, GSMP, mark, &mut cells);
-    let mut numbers = Numbers::new();
-    switch
-        .receive(PortNo(0), &cells[0], &mut numbers, notes)
-        .is_ok()
-}
-
-/// Whether the next cell to the controller is the frame of this message, and there is none where there is no
-/// message.
-fn says(switch: &mut Switch, message: Option<&[u8; 40]>) -> bool {
-    match (switch.pop(PortNo(0)), message) {
-        (Some(cell), Some(message)) => cell.header.last && cell.payload[..40] == message[..],
-        (None, None) => true,
-        _ => false,
-    }
-}
-
 /// What is heard, and what is said to it: a request isn't taken before the two know each other.
 const HEARD: [(&[u8; 40], Option<&[u8; 40]>); 4] = [
     (&SYN, Some(&SYNACK)),
@@ -370,56 +393,70 @@ const HEARD: [(&[u8; 40], Option<&[u8; 40]>); 4] = [
     (&ADD, Some(&ADDED)),
 ];
 
-#[test]
-fn a_controller_is_answered(rt: HostRuntime) -> Result<(), Fail> {
-    let mut numbers = Numbers::new();
-    let mut notes = Notes::open(rt.alloc())?;
-    let mut switch = Switch::open(rt.alloc(), NodeId(1), &[PortNo(1)], 4, 1, &mut numbers)?;
-    for (message, answer) in HEARD {
-        assert!(rt; hear(&mut switch, message, &mut notes));
-        assert!(rt; says(&mut switch, answer));
-    }
-    assert_eq!(rt; notes.len(), 0);
-    assert!(rt; hear(&mut switch, &ADD[..39], &mut notes));
-    let bad = matches!(
+/// Whether the first record is that of a message of a wrong size.
+fn is_bad(notes: &Notes) -> bool {
+    matches!(
         notes.at(0),
         Some(Record::Bad {
             node: NodeId(1),
             layer: Layer::Gsmp,
             name: Refusal::Size,
         })
-    );
-    assert!(rt; bad);
-    assert!(rt; switch.tick(&mut numbers, &mut notes).is_ok());
-    assert!(rt; switch.pop(PortNo(0)).is_some());
-    assert_eq!(rt; notes.len(), 1);
-    switch.abandon();
+    )
+}
+
+#[test]
+fn a_controller_is_answered(rt: HostRuntime) -> Result<(), Fail> {
+    let mut bench = Bench::open(rt.alloc(), 4)?;
+    for (message, answer) in HEARD {
+        assert!(rt; bench.hear(message));
+        assert!(rt; bench.says(answer));
+    }
+    assert_eq!(rt; bench.notes.len(), 0);
+    assert!(rt; bench.hear(&ADD[..39]));
+    assert!(rt; is_bad(&bench.notes));
+    assert!(rt; bench.tick());
+    assert!(rt; !bench.says(None));
+    assert_eq!(rt; bench.notes.len(), 1);
+    bench.close();
     Ok(())
 }
 
-/// A frame of two cells is queued at port 1 where two slots are free; else it is entered.
-#[test]
-fn a_forged_frame_is_queued_whole(rt: HostRuntime) -> Result<(), Fail> {
+/// A frame of two cells is forged at port 1 of a switch with so many slots: whether it is there, how many
+/// records are made, and the header of the cell that waits then.
+fn forged(alloc: Global, slots: usize) -> Result<(bool, usize, Option<Header>), OutOfMemory>
+    requires { (1 ≤ slots) × (slots ≤ 16384) }
+{
     let mark = Mark {
         packet: 0,
         frame: 9,
     };
+    let mut numbers = Numbers::new();
+    let mut notes = Notes::open(alloc)?;
+    let mut switch = Switch::open(alloc, NodeId(1), &[PortNo(1)], slots, 1, &mut numbers)?;
+    let forged = switch
+        .forge(PortNo(1), LABEL, &[0; 48], mark, &mut notes)
+        .is_ok();
+    let header = match switch.pop(PortNo(1)) {
+        Some(cell) => Some(cell.header),
+        None => None,
+    };
+    switch.abandon();
+    Ok((
+        forged && notes.ledger().is_frame(mark, &[0; 48]),
+        notes.len(),
+        header,
+    ))
+}
+
+/// A frame of two cells is queued where two slots are free; else it is entered.
+#[test]
+fn a_forged_frame_is_queued_whole(rt: HostRuntime) -> Result<(), Fail> {
     let first = Header {
         channel: LABEL,
         last: false,
     };
-    for (cells, entries, queued) in [(1, 1, None), (2, 0, Some(first))] {
-        assert!(rt; 1 <= cells && cells <= 2);
-        let mut numbers = Numbers::new();
-        let mut notes = Notes::open(rt.alloc())?;
-        let mut switch = Switch::open(rt.alloc(), NodeId(1), &[PortNo(1)], cells, 1, &mut numbers)?;
-        let forged = switch.forge(PortNo(1), LABEL, &[0; 48], mark, &mut notes);
-        assert!(rt; forged.is_ok());
-        assert!(rt; notes.ledger().is_frame(mark, &[0; 48]));
-        assert_eq!(rt; notes.len(), entries);
-        let header = switch.pop(PortNo(1)).map(|cell| cell.header);
-        assert_eq!(rt; header, queued);
-        switch.abandon();
-    }
+    assert_eq!(rt; forged(rt.alloc(), 1)?, (true, 1, None));
+    assert_eq!(rt; forged(rt.alloc(), 2)?, (true, 0, Some(first)));
     Ok(())
 }

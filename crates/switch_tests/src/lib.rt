@@ -4,6 +4,8 @@
 #[cfg(test)]
 mod cell_pool_tests;
 #[cfg(test)]
+mod entries;
+#[cfg(test)]
 mod fabric_tests;
 #[cfg(test)]
 mod gsmp_switch_tests;
