@@ -1,4 +1,4 @@
-//! One slot is given once; queues and chains give their cells in order.
+//! Queues and chains give their cells in order.
 
 use atm_cells::{Cell, Header};
 use cell_pool::{CHAIN_CELLS, Chain, ChainStore, Pool, Queue};
@@ -15,25 +15,6 @@ fn cell(frame: u64) -> Cell {
         payload: [9; 48],
         mark: Mark { packet: 1, frame },
     }
-}
-
-#[test]
-fn one_slot_is_given_once(rt: HostRuntime) -> Result<(), Fail> {
-    let mut pool = Pool::open(rt.alloc(), 1)?;
-    let first = pool.take(&cell(1)).ok_or("no slot")?;
-    match pool.take(&cell(2)) {
-        None => {}
-        Some(slot) => {
-            pool.put(slot);
-            panic!(rt; "a slot of one is given twice");
-        }
-    }
-    assert_eq!(rt; pool.read(&first).mark.frame, 1);
-    pool.put(first);
-    let second = pool.take(&cell(3)).ok_or("no slot after one was put back")?;
-    assert_eq!(rt; pool.free(), 0);
-    pool.put(second);
-    Ok(())
 }
 
 #[test]
