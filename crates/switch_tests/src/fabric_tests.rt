@@ -1,7 +1,6 @@
 //! What a fabric does with cells.
 
 use atm_cells::{Cell, Header};
-use cell_pool::Chain;
 use fabric::{Fabric, Routed};
 use net_types::{Channel, End, Mark, PortNo};
 use std::test::Fail;
@@ -69,21 +68,7 @@ fn a_cell_goes_out_where_it_is_connected_and_a_slot_is_free(rt: HostRuntime) -> 
     assert_eq!(rt; fabric.branch(LABEL), Some(ON_CONTROL));
     assert_eq!(rt; fabric.first_of(PortNo(1)), Some(LABEL));
     assert_eq!(rt; fabric.first_of(PortNo(0)), None);
-    fabric.abandon();
-    Ok(())
-}
-
-/// Two slots, of which a chain takes one.
-#[test]
-fn a_frame_is_sent_whole_or_not_at_all(rt: HostRuntime) -> Result<(), Fail> {
-    let mut fabric = Fabric::open(rt.alloc(), &[PortNo(1)], 2, 1)?;
-    let mut chain = Chain::new();
-    assert!(rt; fabric.chain_push(&mut chain, &cell(15, 1)));
-    assert!(rt; !fabric.send(PortNo(1), &[cell(40, 2), cell(40, 2)]));
-    assert_eq!(rt; fabric.free(), 1);
-    assert!(rt; fabric.send(PortNo(1), &[cell(40, 3)]));
-    fabric.chain_drain(chain);
-    assert_eq!(rt; fabric.region().free(), 1);
+    assert_eq!(rt; fabric.region().free(), 0);
     fabric.abandon();
     Ok(())
 }

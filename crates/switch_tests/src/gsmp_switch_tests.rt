@@ -1,8 +1,9 @@
 //! What a switch answers and enters.
 
-ghost use Rattle.std.specs.Prelude.{◌≡◌, ◌≤◌, true, length};
+ghost use Rattle.std.specs.Prelude.{◌≡◌, ◌≤◌, true, length, IfOk};
 ghost use Rattle.gsmp_wire.specs.Range.{IsInRange};
 ghost use Rattle.world_model.specs.Requests.{is_request};
+ghost use Rattle.world_model.specs.Switch.{has_port};
 
 use crate::entries::are_entries;
 use aal5_frames::segment;
@@ -170,7 +171,16 @@ fn outcome(answer: &Message) -> (u8, u8, u32) {
     }
 }
 
-/// The first switch, with port 1, and its notes. It must be closed.
+/// A new switch with port 1 and so many slots, the first to draw a number, so that its sessions are 1.
+fn opened(alloc: Global, slots: usize) -> Result<Switch, OutOfMemory>
+    requires { (1 ≤ slots) × (slots ≤ 16384) }
+    ensures { IfOk result (λ s. has_port s.ports (record { 0 = 1 }) ≡ true) }
+{
+    let mut numbers = Numbers::new();
+    Switch::open(alloc, NodeId(1), &[PortNo(1)], slots, 1, &mut numbers)
+}
+
+/// The switch and its notes. It must be closed.
 #[must_use]
 struct Bench {
     switch: Switch,
@@ -184,13 +194,12 @@ impl Model for Bench {
 }
 
 impl Bench {
-    /// A new switch with so many slots, the first to draw a number, so that its sessions are 1.
+    /// A new switch with so many slots.
     fn open(alloc: Global, slots: usize) -> Result<Bench, OutOfMemory>
         requires { (1 ≤ slots) × (slots ≤ 16384) }
     {
-        let mut numbers = Numbers::new();
         let notes = Notes::open(alloc)?;
-        let switch = Switch::open(alloc, NodeId(1), &[PortNo(1)], slots, 1, &mut numbers)?;
+        let switch = opened(alloc, slots)?;
         Ok(Bench { switch, notes })
     }
 
@@ -248,6 +257,12 @@ impl Bench {
             (None, None) => true,
             _ => false,
         }
+    }
+
+    /// The header of the next cell at port 1.
+    fn waits(&mut self) -> Option<Header> {
+        let cell = self.switch.pop(PortNo(1))?;
+        Some(cell.header)
     }
 
     /// The switch starts anew. False for want of memory.
@@ -422,41 +437,43 @@ fn a_controller_is_answered(rt: HostRuntime) -> Result<(), Fail> {
     Ok(())
 }
 
-/// A frame of two cells is forged at port 1 of a switch with so many slots: whether it is there, how many
-/// records are made, and the header of the cell that waits then.
-fn forged(alloc: Global, slots: usize) -> Result<(bool, usize, Option<Header>), OutOfMemory>
+/// The mark of a forged frame.
+const FORGED: Mark = Mark {
+    packet: 0,
+    frame: 9,
+};
+
+/// A new switch with so many slots, at whose port 1 a frame of two cells is forged.
+fn forged(alloc: Global, slots: usize) -> Result<Bench, OutOfMemory>
     requires { (1 ≤ slots) × (slots ≤ 16384) }
 {
-    let mark = Mark {
-        packet: 0,
-        frame: 9,
-    };
-    let mut numbers = Numbers::new();
     let mut notes = Notes::open(alloc)?;
-    let mut switch = Switch::open(alloc, NodeId(1), &[PortNo(1)], slots, 1, &mut numbers)?;
-    let forged = switch
-        .forge(PortNo(1), LABEL, &[0; 48], mark, &mut notes)
-        .is_ok();
-    let header = match switch.pop(PortNo(1)) {
-        Some(cell) => Some(cell.header),
-        None => None,
-    };
-    switch.abandon();
-    Ok((
-        forged && notes.ledger().is_frame(mark, &[0; 48]),
-        notes.len(),
-        header,
-    ))
+    let mut switch = opened(alloc, slots)?;
+    match switch.forge(PortNo(1), LABEL, &[0; 48], FORGED, &mut notes) {
+        Ok(()) => Ok(Bench { switch, notes }),
+        Err(error) => {
+            switch.abandon();
+            Err(error)
+        }
+    }
 }
 
 /// A frame of two cells is queued where two slots are free; else it is entered.
 #[test]
 fn a_forged_frame_is_queued_whole(rt: HostRuntime) -> Result<(), Fail> {
+    let mut lost = forged(rt.alloc(), 1)?;
+    assert!(rt; are_entries(&lost.notes, &[(9, Cause::PoolFull)]));
+    assert!(rt; lost.notes.ledger().is_frame(FORGED, &[0; 48]));
+    assert_eq!(rt; lost.waits(), None);
+    lost.close();
+    let mut queued = forged(rt.alloc(), 2)?;
+    assert_eq!(rt; queued.notes.len(), 0);
+    assert!(rt; queued.notes.ledger().is_frame(FORGED, &[0; 48]));
     let first = Header {
         channel: LABEL,
         last: false,
     };
-    assert_eq!(rt; forged(rt.alloc(), 1)?, (true, 1, None));
-    assert_eq!(rt; forged(rt.alloc(), 2)?, (true, 0, Some(first)));
+    assert_eq!(rt; queued.waits(), Some(first));
+    queued.close();
     Ok(())
 }
