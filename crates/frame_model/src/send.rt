@@ -62,6 +62,26 @@ fn send_cells<Place: Copy, Q: Queues<Place>>(
     queues.send(place, &room[..count])
 }
 
+/// The same for a frame that may have 32 cells. It isn't inlined, so that short frames don't fill its
+/// room.
+#[inline(never)]
+fn send_long_frame<Place: Copy, Q: Queues<Place>>(
+    queues: &mut Q,
+    place: Place,
+    channel: Channel,
+    mark: Mark,
+    payload: &[u8],
+) -> bool
+    requires queue { Q.has_queue queues.old place }
+    requires payload { (1 ≤ length payload.now) × (length payload.now ≤ 1528) }
+    ensures all { IsTrue result ↔ (length (frame_cells channel mark payload.now) ≤ Q.free queues.old) }
+    ensures sent { OnTrue result (queues.new ≡ Q.with_cells queues.old place (frame_cells channel mark payload.now)) }
+    ensures none { OnFalse result (queues.new ≡ queues.old) }
+{
+    let mut room = [BLANK_CELL; MOST_CELLS];
+    send_cells(queues, place, channel, mark, payload, &mut room)
+}
+
 /// Sends a frame of 1 to 1528 octets: the notes keep its payload under its mark, and its cells go to
 /// the end of a queue, all, or none with the entry PoolFull where fewer slots are free.
 pub fn send_frame<Place: Copy, Q: Queues<Place>>(
@@ -82,8 +102,7 @@ pub fn send_frame<Place: Copy, Q: Queues<Place>>(
         let mut room = [BLANK_CELL; FEW_CELLS];
         send_cells(queues, place, channel, mark, payload, &mut room)
     } else {
-        let mut room = [BLANK_CELL; MOST_CELLS];
-        send_cells(queues, place, channel, mark, payload, &mut room)
+        send_long_frame(queues, place, channel, mark, payload)
     };
     if !is_sent {
         notes.push(Record::Loss {

@@ -87,7 +87,7 @@ fn hex_pairs(alloc: Global, digits: &[u8]) -> Result<Vec<u8>, AllocError>
     requires { list_all is_ascii_hexdigit digits.now ≡ true }
     ensures { IfOk result (λ octets. octets.items ≡ paired digits.now) }
 {
-    let mut octets = Vec::new(alloc);
+    let mut octets = Vec::with_capacity(alloc, digits.len() / 2)?;
     let mut left = digits;
     while let [high, low, rest @ ..] = left {
         octets.push(16 * digit_value(*high) + digit_value(*low))?;
