@@ -129,6 +129,28 @@ const ACK: [u8; 40] = [
     0x0a, 0x00, 0x03, 0x01, 0x13, 0x89, 0x13, 0x8a,
 ];
 
+/// What comes first, each with the number of its mark: ticks, and frames by their channels.
+const FIRST_FRAMES: [(u64, Option<(Channel, &[u8])>); 8] = [
+    (100, None),
+    (130, Some((GSMP, &MET))),
+    (160, None),
+    (190, Some((PORT_1, &FIRST))),
+    (220, Some((PORT_2, &SECOND))),
+    (250, Some((PORT_2, &REDIRECT))),
+    (280, Some((PORT_1, &PACKET))),
+    (310, None),
+];
+
+/// What comes then, while the grant is lent: a frame by its channel, the one that is sent, by its channel and
+/// without so many octets of its head, and how many records there are. The grant is taken back twice: the
+/// switch is asked once to lead the label to the controller. At the answer the join is parted, and the grant is
+/// given back, once.
+const LAST_FRAMES: [(u64, Channel, &[u8], Option<(Channel, usize, &[u8])>, usize); 3] = [
+    (400, PORT_2, &RECLAIM, Some((GSMP, 0, &MOVE)), 0),
+    (401, PORT_2, &AGAIN, None, 0),
+    (402, GSMP, &MOVED, Some((PORT_2, 28, &ACK)), 1),
+];
+
 /// A controller of node 2, at 10.0.2.1, that offers each flow a label at its first packet. What goes to
 /// 10.0.3.0/24 goes by port 2.
 fn opened(rt: &impl Abort, alloc: Global) -> Result<Router, OutOfMemory> {
@@ -257,20 +279,14 @@ fn serve(
 /// The controller meets its switch and its neighbours, has a grant at port 2, hands label 32 out at port 1,
 /// and joins it to the grant's.
 fn lead_up(rt: &impl Abort, router: &mut Router, notes: &mut Notes) -> Result<(), OutOfMemory> {
-    tick(router, notes)?;
-    serve(rt, router, 100, notes)?;
-    give(rt, router, 120, GSMP, &MET, notes)?;
-    serve(rt, router, 130, notes)?;
-    tick(router, notes)?;
-    serve(rt, router, 150, notes)?;
-    give(rt, router, 170, PORT_1, &FIRST, notes)?;
-    give(rt, router, 171, PORT_2, &SECOND, notes)?;
-    give(rt, router, 172, PORT_2, &REDIRECT, notes)?;
-    serve(rt, router, 180, notes)?;
-    give(rt, router, 200, PORT_1, &PACKET, notes)?;
-    serve(rt, router, 210, notes)?;
-    tick(router, notes)?;
-    serve(rt, router, 230, notes)
+    for (number, frame) in FIRST_FRAMES {
+        match frame {
+            Some((channel, payload)) => give(rt, router, number, channel, payload, notes)?,
+            None => tick(router, notes)?,
+        }
+        serve(rt, router, number + 1, notes)?;
+    }
+    Ok(())
 }
 
 /// Whether the last record is that label 32 of port 1 is joined to label 32 of port 2.
@@ -316,23 +332,26 @@ fn expect(rt: &impl Abort, router: &mut Router, channel: Channel, skipped: usize
     assert_eq!(rt; &octets[skipped..len], wanted);
 }
 
-/// The grant is taken back twice while it is lent: the switch is asked once to lead the label to the
-/// controller, and nothing else is sent. At the answer the join is noted as parted, and the grant is given
-/// back, once.
+/// The grant is taken back while it is lent.
 fn take_back(rt: &impl Abort, router: &mut Router, notes: &mut Notes) -> Result<(), OutOfMemory> {
+    for (number, channel, payload, answer, records) in LAST_FRAMES {
+        give(rt, router, number, channel, payload, notes)?;
+        if let Some((by, skipped, octets)) = answer {
+            expect(rt, router, by, skipped, octets);
+        }
+        assert_eq!(rt; router.pop(), None);
+        assert_eq!(rt; notes.len(), records);
+    }
+    Ok(())
+}
+
+/// It leads up to the join, and takes it back.
+fn live(rt: &impl Abort, router: &mut Router, notes: &mut Notes) -> Result<(), OutOfMemory> {
     lead_up(rt, router, notes)?;
     assert!(rt; is_joined(notes));
     notes.clear();
-    give(rt, router, 300, PORT_2, &RECLAIM, notes)?;
-    expect(rt, router, GSMP, 0, &MOVE);
-    assert_eq!(rt; router.pop(), None);
-    give(rt, router, 301, PORT_2, &AGAIN, notes)?;
-    assert_eq!(rt; router.pop(), None);
-    assert_eq!(rt; notes.len(), 0);
-    give(rt, router, 302, GSMP, &MOVED, notes)?;
+    take_back(rt, router, notes)?;
     assert!(rt; is_parted(notes));
-    expect(rt, router, PORT_2, 28, &ACK);
-    assert_eq!(rt; router.pop(), None);
     Ok(())
 }
 
@@ -340,8 +359,8 @@ fn take_back(rt: &impl Abort, router: &mut Router, notes: &mut Notes) -> Result<
 fn a_lent_grant_is_taken_back(rt: HostRuntime) -> Result<(), Fail> {
     let mut notes = Notes::open(rt.alloc())?;
     let mut router = opened(&rt, rt.alloc())?;
-    let taken = take_back(&rt, &mut router, &mut notes);
+    let lived = live(&rt, &mut router, &mut notes);
     router.abandon();
-    taken?;
+    lived?;
     Ok(())
 }
