@@ -1,41 +1,31 @@
 //! Plans of joins.
 
-ghost use Rattle.std.specs.Prelude.{◌≡◌, Some};
-ghost use Rattle.port_model.specs.Grants as grants;
-ghost use Rattle.grant_table.specs.Table.{state_of};
-
-use branch_desk::{Answered, Desk, redeem};
-use cut_through::{Join, plan, route_of, undo};
+use crate::values::{INPUT, INPUT_HOME, LABEL, start};
+use cut_through::{Join, plan, undo};
 use grant_table::{Accepted, GrantTable};
-use gsmp_wire::{BranchKind, Message, Request};
+use gsmp_wire::Request;
 use ipv4_forward::{Next, Table};
 use ipv4_packet::FlowId;
-use net_types::{Addr, Channel, End, PortNo, Prefix};
+use net_types::{Addr, PortNo, Prefix};
 use std::alloc::Global;
 use std::process::Abort;
-use std::test::Fail;
 
-/// Label 32 of port 1, and the channel of the control port that stands for it.
-const INPUT: End = End {
-    port: PortNo(1),
-    channel: Channel { vpi: 0, vci: 32 },
+/// The input is led to label 32 of port 2.
+const JOIN: Join = Join {
+    input: INPUT,
+    output: LABEL,
 };
 
-const INPUT_ON_CONTROL: End = End {
-    port: PortNo(0),
-    channel: Channel { vpi: 16, vci: 32 },
-};
-
-/// Label 40 of port 2, and the channel of the control port that stands for it.
-const OUTPUT: End = End {
-    port: PortNo(2),
-    channel: Channel { vpi: 0, vci: 40 },
-};
-
-const OUTPUT_ON_CONTROL: End = End {
-    port: PortNo(0),
-    channel: Channel { vpi: 32, vci: 40 },
-};
+/// For a connection with this Time To Live, where label 32 of port 2 is granted for the one with the
+/// second, and its packets go on so: the join. There is none at the last hop, away from the route, nor
+/// without a grant of the flow one hop further.
+const PLANS: [(u8, u8, Next, Option<Join>); 5] = [
+    (4, 3, Next::Via(PortNo(2)), Some(JOIN)),
+    (4, 4, Next::Via(PortNo(2)), None),
+    (1, 0, Next::Via(PortNo(2)), None),
+    (4, 3, Next::Via(PortNo(3)), None),
+    (4, 3, Next::Local, None),
+];
 
 /// A connection from 10.0.1.1 to 10.0.3.1.
 fn connection(ttl: u8) -> FlowId {
@@ -50,125 +40,49 @@ fn connection(ttl: u8) -> FlowId {
     }
 }
 
-/// The two hosts.
-fn hosts(ttl: u8) -> FlowId {
-    FlowId::Two {
-        ttl,
-        source: Addr(0x0a00_0101),
-        destination: Addr(0x0a00_0301),
-    }
-}
-
 /// A table with the route of 10.0.3.0/24.
-fn routed(rt: &impl Abort, alloc: Global, next: Next) -> Result<Table, Fail> {
-    let mut table = Table::open(alloc)?;
-    let prefix = Prefix::new(Addr(0x0a00_0300), 24);
-    let Ok(prefix) = prefix else {
+fn routed(rt: &impl Abort, alloc: Global, next: Next) -> Table {
+    let Ok(mut table) = Table::open(alloc) else {
+        panic!(rt; "there is memory")
+    };
+    let Ok(prefix) = Prefix::new(Addr(0x0a00_0300), 24) else {
         panic!(rt; "it is a prefix")
     };
     let added = table.add(prefix, next);
-    let Ok(()) = added else {
-        panic!(rt; "there is room")
-    };
-    Ok(table)
+    assert!(rt; added.is_ok(), "there is room");
+    table
 }
 
-/// The branch of label 40 is made, and the controller sends under it.
-fn start(rt: &impl Abort, alloc: Global, table: &mut GrantTable)
-    requires { state_of table.old 40 ≡ Some grants.Idle }
-{
-    let Ok(mut desk) = Desk::open(alloc) else {
+/// The join for the connection with this Time To Live, by that table, where the controller sends under
+/// label 32 the one with the second. Before it does there is none.
+fn planned(rt: &impl Abort, alloc: Global, ttl: u8, granted: u8, next: Next) -> Option<Join> {
+    let Ok(mut grants) = GrantTable::open(alloc, 32, 1023) else {
         panic!(rt; "there is memory")
     };
-    let add = Request::AddBranch {
-        input: OUTPUT_ON_CONTROL,
-        output: OUTPUT,
-    };
-    let ticket = desk.ask_needed(add);
-    let answered = desk.answer(&Message::Branch {
-        kind: BranchKind::Add,
-        result: 3,
-        code: 0,
-        transaction: 1,
-        session: 0,
-        input_port: 0,
-        input: OUTPUT_ON_CONTROL.channel,
-        output_port: 2,
-        output: OUTPUT.channel,
-        branches: 1,
-        priority: 0,
-    });
-    let Answered::Done(done) = answered else {
-        panic!(rt; "the request is done")
-    };
-    assert_eq!(rt; done.request(), add);
-    assert!(rt; done.number() == ticket.number());
-    table.started(40, &done);
-    redeem(done, ticket);
-    desk.abandon();
+    let accepted = grants.accept(32, connection(granted), 60);
+    assert_eq!(rt; accepted, Ok(Accepted::New));
+    let table = routed(rt, alloc, next);
+    let flow = connection(ttl);
+    assert_eq!(rt; plan(INPUT, &flow, &table, PortNo(2), &grants), None);
+    start(rt, alloc, &mut grants);
+    let join = plan(INPUT, &flow, &table, PortNo(2), &grants);
+    grants.abandon();
+    join
 }
 
-/// No join is planned for a flow at its last hop, away from its route, or without a grant of the flow
-/// one hop further under which the controller sends.
 #[test]
-fn joins_are_planned_for_the_flow_one_hop_further(rt: HostRuntime) -> Result<(), Fail> {
-    let table = routed(&rt, rt.alloc(), Next::Via(PortNo(2)))?;
-    for ttl in [0, 1] {
-        assert_eq!(rt; route_of(&connection(ttl), &table), None);
+fn joins_are_planned_for_the_flow_one_hop_further(rt: HostRuntime) {
+    for (ttl, granted, next, join) in PLANS {
+        assert_eq!(rt;
+            planned(&rt, rt.alloc(), ttl, granted, next),
+            join,
+            "at {ttl}, {granted}, {next:?}"
+        );
     }
-    assert_eq!(rt; route_of(&connection(2), &table), Some(PortNo(2)));
-    let here = routed(&rt, rt.alloc(), Next::Local)?;
-    assert_eq!(rt; route_of(&connection(4), &here), None);
-    for (flow, of_started) in [
-        (hosts(3), None),
-        (connection(4), None),
-        (
-            connection(3),
-            Some(Join {
-                input: INPUT,
-                output: OUTPUT,
-            }),
-        ),
-    ] {
-        let opened = GrantTable::open(rt.alloc(), 32, 1023);
-        let Ok(mut grants) = opened else {
-            panic!(rt; "there is memory")
-        };
-        let accepted = grants.accept(40, flow, 60);
-        assert_eq!(rt; accepted, Ok(Accepted::New));
-        assert_eq!(rt;
-            plan(INPUT, &connection(4), &table, PortNo(2), &grants),
-            None
-        );
-        start(&rt, rt.alloc(), &mut grants);
-        assert_eq!(rt;
-            plan(INPUT, &connection(4), &table, PortNo(2), &grants),
-            of_started
-        );
-        assert_eq!(rt;
-            plan(INPUT, &connection(4), &table, PortNo(3), &grants),
-            None
-        );
-        assert_eq!(rt;
-            plan(INPUT, &connection(1), &table, PortNo(2), &grants),
-            None
-        );
-        grants.abandon();
-    }
-    Ok(())
-}
-
-/// A join is led back.
-#[test]
-fn a_join_is_undone(rt: HostRuntime) {
-    let join = Join {
-        input: INPUT,
-        output: OUTPUT,
-    };
     let back = Request::MoveBranch {
         input: INPUT,
-        from: OUTPUT,
-        to: INPUT_ON_CONTROL,
+        from: LABEL,
+        to: INPUT_HOME,
     };
-    assert_eq!(rt; undo(&join), back);
+    assert_eq!(rt; undo(&JOIN), back);
 }

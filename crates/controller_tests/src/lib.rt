@@ -2,22 +2,16 @@
 #![tactic(auto)]
 
 #[cfg(test)]
-mod branch_desk_tests;
-#[cfg(test)]
 mod control_link_tests;
 #[cfg(test)]
 mod cut_through_tests;
 #[cfg(test)]
-mod flow_classifier_tests;
-#[cfg(test)]
 mod grant_table_tests;
-#[cfg(test)]
-mod label_book_tests;
-#[cfg(test)]
-mod label_pool_tests;
 #[cfg(test)]
 mod reclaimed_tests;
 #[cfg(test)]
 mod redirect_state_tests;
 #[cfg(test)]
 mod request_book_tests;
+#[cfg(test)]
+mod values;

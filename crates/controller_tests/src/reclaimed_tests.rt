@@ -1,10 +1,5 @@
 //! A controller between two neighbours and its switch.
 
-ghost use Rattle.std.specs.Prelude.{◌≡◌, ◌∷◌, [], IfOk};
-ghost use Rattle.net_types.specs.declared.node.PortNo.{PortNo as PortNoValue};
-ghost use Rattle.ipv4_forward.specs.declared.table.Route.{Route};
-ghost use Rattle.world.specs.Nodes.{AreRoutesOf};
-
 use aal5_frames::{cells_of, check_pdu, segment};
 use atm_cells::{BLANK_CELL, Cell};
 use controller::Controller;

@@ -4,14 +4,16 @@ ghost use Rattle.std.specs.Prelude.{◌≡◌, true, IsTrue, Some};
 ghost use Rattle.grant_table.specs.Table.{releases};
 ghost use Rattle.keyed_lists.specs.Keyed.{at};
 ghost use Rattle.port_model.specs.Grants.{Grant, grant_label, input_of};
+ghost use Rattle.redirect_state.specs.Calls.{is_released_by};
 ghost use Rattle.ifmp_wire.specs.Message.{InRange};
 
-use branch_desk::{Answered, Desk, redeem};
+use crate::values::{HOME, HOSTS, INPUT, INPUT_HOME, LABEL, carried_out};
+use branch_desk::{BranchDone, Desk, redeem};
 use flow_classifier::XyPolicy;
 use grant_table::GrantState;
-use gsmp_wire::{BranchKind, Message as SwitchMessage, Request};
+use gsmp_wire::Request;
 use ifmp_wire::Message;
-use ipv4_packet::{FlowId, check};
+use ipv4_packet::check;
 use link_model::Record;
 use net_types::{Addr, Channel, End, Hello, HelloKind, Instance, NodeId, OutOfMemory, PortNo};
 use redirect_state::{Action, Actions, Link, Timers};
@@ -19,41 +21,11 @@ use std::alloc::Global;
 use std::process::Abort;
 use std::test::Fail;
 
-/// The flow from 10.0.1.1 to 10.0.3.1 with Time To Live 4.
-const FLOW: FlowId = FlowId::Two {
-    ttl: 4,
-    source: Addr(0x0a00_0101),
-    destination: Addr(0x0a00_0301),
-};
-
-/// A packet of it, of no more than its header.
+/// A packet of the flow, of no more than its header.
 const PACKET: [u8; 20] = [
     0x45, 0x00, 0x00, 0x14, 0x00, 0x00, 0x00, 0x00, 0x04, 0x06, 0x9e, 0xe3, 0x0a, 0x00, 0x01, 0x01,
     0x0a, 0x00, 0x03, 0x01,
 ];
-
-/// Label 32 of port 2, under which the port is granted, and which it hands out.
-const LABEL: End = End {
-    port: PortNo(2),
-    channel: Channel { vpi: 0, vci: 32 },
-};
-
-/// The channel of the control link that stands for it.
-const HOME: End = End {
-    port: PortNo(0),
-    channel: Channel { vpi: 32, vci: 32 },
-};
-
-/// An input, and the channel of the control link that stands for it.
-const INPUT: End = End {
-    port: PortNo(1),
-    channel: Channel { vpi: 0, vci: 40 },
-};
-
-const INPUT_HOME: End = End {
-    port: PortNo(0),
-    channel: Channel { vpi: 16, vci: 40 },
-};
 
 const OWN: Addr = Addr(0x0a00_0201);
 
@@ -82,6 +54,14 @@ enum Step {
     Count,
     /// The branch of label 32 to the controller is made.
     Bind,
+    /// Its peer expects this number.
+    Expect { next: u32 },
+    /// Its peer acknowledges that label 32 was reclaimed.
+    Acknowledge,
+    /// Its peer can send under the labels from 33 on alone.
+    Narrow,
+    /// The branch of label 32 is deleted.
+    Free,
     /// It is reset.
     Reset,
     /// Its controller is.
@@ -107,19 +87,20 @@ const RECLAIMED: [(Step, &[&str]); 8] = [
     (Step::Release, &["reclaim ack"]),
 ];
 
-/// The lifetime of a lent grant ends: its join is taken back, and nothing is owed.
-const EXPIRED: [(Step, &[&str]); 7] = [
+/// The lifetime of a lent grant ends at the second tick: its join is taken back, and nothing is owed.
+const EXPIRED: [(Step, &[&str]); 8] = [
     (Step::Clear, &[]),
     (Step::Open, &["hello", "opened"]),
     (
         Step::Redirect {
             number: 1,
-            lifetime: 1,
+            lifetime: 2,
         },
         &["add branch"],
     ),
     (Step::Start, &[]),
     (Step::Lend, &[]),
+    (Step::Tick, &["hello"]),
     (Step::Tick, &["hello", "take back"]),
     (Step::Release, &[]),
 ];
@@ -147,30 +128,71 @@ const ENDED: [(Step, &[&str]); 6] = [
 ];
 
 /// The third packet of a flow gets a label, which is offered; a reset cuts its chain.
-const LABELLED: [(Step, &[&str]); 9] = [
+const RESET: [(Step, &[&str]); 8] = [
     (Step::Clear, &[]),
     (Step::Open, &["hello", "opened"]),
     (Step::Count, &[]),
     (Step::Count, &[]),
     (Step::Count, &["add branch"]),
-    (Step::Bind, &["record", "message"]),
-    (Step::Tick, &["hello"]),
+    (Step::Bind, &["bind", "redirect"]),
     (Step::Reset, &["record", "cut chain", "request"]),
     (Step::Restart, &[]),
+];
+
+/// A label that was idle for more than four ticks is reclaimed at each tick until its peer acknowledges
+/// that, and quit once the peer expects a number above the last RECLAIM's, 4.
+const QUIT: [(Step, &[&str]); 18] = [
+    (Step::Clear, &[]),
+    (Step::Open, &["hello", "opened"]),
+    (Step::Count, &[]),
+    (Step::Count, &[]),
+    (Step::Count, &["add branch"]),
+    (Step::Bind, &["bind", "redirect"]),
+    (Step::Tick, &["hello"]),
+    (Step::Tick, &["hello"]),
+    (Step::Tick, &["hello"]),
+    (Step::Expect { next: 2 }, &[]),
+    (Step::Tick, &["hello"]),
+    (Step::Tick, &["hello", "reclaim"]),
+    (Step::Tick, &["hello", "reclaim"]),
+    (Step::Expect { next: 4 }, &[]),
+    (Step::Tick, &["hello", "reclaim"]),
+    (Step::Acknowledge, &[]),
+    (Step::Expect { next: 5 }, &["cut chain", "delete tree"]),
+    (Step::Free, &["free"]),
+];
+
+/// Label 32 isn't handed out where the peer can't send under it.
+const NARROWED: [(Step, &[&str]); 7] = [
+    (Step::Clear, &[]),
+    (Step::Open, &["hello", "opened"]),
+    (Step::Narrow, &[]),
+    (Step::Count, &[]),
+    (Step::Count, &[]),
+    (Step::Count, &["add branch"]),
+    (Step::Bind, &[]),
 ];
 
 /// A word for an action.
 fn name_of(action: &Action) -> &'static str {
     match action {
         Action::Say(Message::Adjacency(_)) => "hello",
+        Action::Say(Message::Redirect { .. }) => "redirect",
+        Action::Say(Message::Reclaim { .. }) => "reclaim",
         Action::Say(Message::ReclaimAck { .. }) => "reclaim ack",
         Action::Say(_) => "message",
         Action::Ask {
             request: Request::AddBranch { .. },
             needed: _,
         } => "add branch",
+        Action::Ask {
+            request: Request::DeleteTree { .. },
+            needed: _,
+        } => "delete tree",
         Action::Ask { .. } => "request",
         Action::Note(Record::Opened { .. }) => "opened",
+        Action::Note(Record::Bind { .. }) => "bind",
+        Action::Note(Record::Free { .. }) => "free",
         Action::Note(_) => "record",
         Action::TakeBack { .. } => "take back",
         Action::CutChain { .. } => "cut chain",
@@ -246,36 +268,23 @@ fn start(
     output: End,
     out: &mut Actions,
 ) -> Result<(), OutOfMemory> {
-    let mut desk = Desk::open(alloc)?;
-    let add = Request::AddBranch { input, output };
-    let ticket = desk.ask_needed(add);
-    let answered = desk.answer(&success(BranchKind::Add, input, output));
-    let Answered::Done(done) = answered else {
-        panic!(rt; "the request is done")
-    };
-    assert_eq!(rt; done.request(), add);
-    assert!(rt; done.number() == ticket.number());
+    let (done, ticket) = carried_out(rt, alloc, Request::AddBranch { input, output });
     let started = link.on_done(&done, out);
     redeem(done, ticket);
-    desk.abandon();
     started
 }
 
-/// A success of the switch, of the first request that is asked of it.
-fn success(kind: BranchKind, input: End, output: End) -> SwitchMessage {
-    SwitchMessage::Branch {
-        kind,
-        result: 3,
-        code: 0,
-        transaction: 1,
-        session: 0,
-        input_port: input.port.0 as u32,
-        input: input.channel,
-        output_port: output.port.0 as u32,
-        output: output.channel,
-        branches: 1,
-        priority: 0,
-    }
+/// The branch of the label that is handed out is deleted.
+fn free(
+    rt: &impl Abort,
+    alloc: Global,
+    link: &mut Link<XyPolicy>,
+    out: &mut Actions,
+) -> Result<(), OutOfMemory> {
+    let (done, ticket) = carried_out(rt, alloc, Request::DeleteTree { input: LABEL });
+    let freed = link.on_done(&done, out);
+    redeem(done, ticket);
+    freed
 }
 
 /// The grant is lent to the input.
@@ -286,24 +295,6 @@ fn lend(rt: &impl Abort, link: &mut Link<XyPolicy>) {
     match grant.state {
         GrantState::ByController => link.lend(32, INPUT),
         _other => panic!(rt; "the controller sends under it"),
-    }
-}
-
-/// Whether the grant is lent to the input.
-fn is_lent(link: &Link<XyPolicy>) -> bool
-    ensures { IsTrue result → (grant : Grant) × (at grant_label 32 link.now.port.grants ≡ Some grant) × (input_of grant.state ≡ Some INPUT) }
-{
-    let Some(grant) = link.grants().get(32) else {
-        return false;
-    };
-    match grant.input {
-        Some(
-            End {
-                port: PortNo(1),
-                channel: Channel { vpi: 0, vci: 40 },
-            },
-        ) => true,
-        _ => false,
     }
 }
 
@@ -327,6 +318,34 @@ fn leads_home(request: Request) -> bool
     }
 }
 
+/// Whether the grant is lent to the input.
+fn is_lent(link: &Link<XyPolicy>) -> bool
+    ensures { IsTrue result → (grant : Grant) × (at grant_label 32 link.now.port.grants ≡ Some grant) × (input_of grant.state ≡ Some INPUT) }
+{
+    let Some(grant) = link.grants().get(32) else {
+        return false;
+    };
+    match grant.input {
+        Some(
+            End {
+                port: PortNo(1),
+                channel: Channel { vpi: 0, vci: 40 },
+            },
+        ) => true,
+        _ => false,
+    }
+}
+
+/// Whether the grant is lent to the input, and what is done leads the input to the controller.
+fn is_released(link: &Link<XyPolicy>, done: &BranchDone) -> bool
+    ensures { IsTrue result → (grant : Grant) × (at grant_label 32 link.now.port.grants ≡ Some grant) × IsTrue (is_released_by done.now.request grant.state) }
+{
+    if !is_lent(link) {
+        return false;
+    }
+    leads_home(done.request())
+}
+
 /// The input is led to the controller.
 fn release(
     rt: &impl Abort,
@@ -334,54 +353,36 @@ fn release(
     link: &mut Link<XyPolicy>,
     out: &mut Actions,
 ) -> Result<(), OutOfMemory> {
-    if !is_lent(link) {
-        panic!(rt; "label 32 isn't lent to the input")
-    }
-    let mut desk = Desk::open(alloc)?;
     let moved = Request::MoveBranch {
         input: INPUT,
         from: LABEL,
         to: INPUT_HOME,
     };
-    let ticket = desk.ask_needed(moved);
-    let answered = desk.answer(&SwitchMessage::Move {
-        result: 3,
-        code: 0,
-        transaction: 1,
-        session: 0,
-        input_port: 1,
-        input: INPUT.channel,
-        output_port: 2,
-        output: LABEL.channel,
-        target_port: 0,
-        target: INPUT_HOME.channel,
-        branches: 1,
-        priority: 0,
-    });
-    let Answered::Done(done) = answered else {
-        panic!(rt; "the request is done")
-    };
-    let request = done.request();
-    if !leads_home(request) {
-        panic!(rt; "it doesn't lead the input to the controller")
+    let (done, ticket) = carried_out(rt, alloc, moved);
+    if !is_released(link, &done) {
+        panic!(rt; "label 32 isn't lent to the input")
     }
-    assert!(rt; done.number() == ticket.number());
     let released = link.back(32, &done, out);
     redeem(done, ticket);
-    desk.abandon();
     released
 }
 
-/// The side of the peer, of instance 9, knows the port's.
-fn open(alloc: Global, link: &mut Link<XyPolicy>, out: &mut Actions) -> Result<(), OutOfMemory> {
-    let synack = Hello {
-        kind: HelloKind::Synack,
+/// The side of the peer, of instance 9, knows the port's, and expects this number.
+fn greet(
+    alloc: Global,
+    link: &mut Link<XyPolicy>,
+    kind: HelloKind,
+    next: u32,
+    out: &mut Actions,
+) -> Result<(), OutOfMemory> {
+    let hello = Hello {
+        kind,
         sender: Instance(9),
         peer: Instance(7),
         identity: OWN,
-        next: 1,
+        next,
     };
-    hear(alloc, link, &Message::Adjacency(synack), out)
+    hear(alloc, link, &Message::Adjacency(hello), out)
 }
 
 /// The peer grants label 32.
@@ -400,7 +401,7 @@ fn redirect(
         number,
         lifetime,
         label: LABEL.channel,
-        flow: FLOW,
+        flow: HOSTS,
     };
     hear(alloc, link, &redirect, out)
 }
@@ -417,9 +418,37 @@ fn reclaim(
         peer: Instance(7),
         number,
         label: LABEL.channel,
-        flow: FLOW,
+        flow: HOSTS,
     };
     hear(alloc, link, &reclaim, out)
+}
+
+/// The peer acknowledges that label 32 was reclaimed.
+fn acknowledge(
+    alloc: Global,
+    link: &mut Link<XyPolicy>,
+    out: &mut Actions,
+) -> Result<(), OutOfMemory> {
+    let acknowledgement = Message::ReclaimAck {
+        sender: Instance(9),
+        peer: Instance(7),
+        number: 1,
+        label: LABEL.channel,
+        flow: HOSTS,
+    };
+    hear(alloc, link, &acknowledgement, out)
+}
+
+/// The peer tells the labels under which it can send.
+fn narrow(alloc: Global, link: &mut Link<XyPolicy>, out: &mut Actions) -> Result<(), OutOfMemory> {
+    let range = Message::LabelRange {
+        sender: Instance(9),
+        peer: Instance(7),
+        number: 1,
+        least: Channel { vpi: 0, vci: 33 },
+        greatest: Channel { vpi: 0, vci: 40 },
+    };
+    hear(alloc, link, &range, out)
 }
 
 /// A step is taken.
@@ -436,11 +465,15 @@ fn take_step(
             link.cleared();
             Ok(())
         }
-        Step::Open => open(alloc, link, out),
+        Step::Open => greet(alloc, link, HelloKind::Synack, 1, out),
         Step::Redirect { number, lifetime } => redirect(rt, alloc, link, number, lifetime, out),
         Step::Start => start(rt, alloc, link, HOME, LABEL, out),
         Step::Count => count(rt, alloc, link, out),
         Step::Bind => start(rt, alloc, link, LABEL, HOME, out),
+        Step::Expect { next } => greet(alloc, link, HelloKind::Ack, next, out),
+        Step::Acknowledge => acknowledge(alloc, link, out),
+        Step::Free => free(rt, alloc, link, out),
+        Step::Narrow => narrow(alloc, link, out),
         Step::Reset => link.reset(Instance(8), out),
         Step::Restart => link.restart(Instance(9), out),
         Step::Lend => {
@@ -480,7 +513,9 @@ fn a_port_lives(rt: HostRuntime) -> Result<(), Fail> {
         &RECLAIMED as &[(Step, &[&str])],
         &EXPIRED,
         &ENDED,
-        &LABELLED,
+        &RESET,
+        &QUIT,
+        &NARROWED,
     ] {
         let mut link = opened(rt.alloc())?;
         let lived = live(&rt, rt.alloc(), &mut link, life);
