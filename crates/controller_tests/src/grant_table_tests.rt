@@ -1,19 +1,13 @@
 //! What a port makes of the labels that it is offered.
 
-use crate::values::{HOSTS, start};
+use crate::values::HOSTS;
 use grant_table::{AcceptFault, Accepted, GrantTable};
 use ipv4_packet::FlowId;
 use net_types::Addr;
 use std::process::Abort;
 use std::test::Fail;
 
-/// A datagram from 10.0.1.1, port 5001, to 10.0.3.1, port 5002, with Time To Live 4.
-const DATAGRAM: [u8; 28] = [
-    0x45, 0x00, 0x00, 0x1c, 0x00, 0x01, 0x00, 0x00, 0x04, 0x11, 0x9e, 0xcf, 0x0a, 0x00, 0x01, 0x01,
-    0x0a, 0x00, 0x03, 0x01, 0x13, 0x89, 0x13, 0x8a, 0x00, 0x08, 0x00, 0x00,
-];
-
-/// Its flow of type 1.
+/// A flow of type 1 between the two hosts.
 const CONNECTION: FlowId = FlowId::One {
     tos: 0,
     ttl: 4,
@@ -47,19 +41,6 @@ fn answer(rt: &impl Abort, table: &mut GrantTable) {
 fn redirects_are_answered_by_cause(rt: HostRuntime) -> Result<(), Fail> {
     let mut table = GrantTable::open(rt.alloc(), 900, 1100)?;
     answer(&rt, &mut table);
-    table.abandon();
-    Ok(())
-}
-
-/// Packets are sent under a grant once its branch is made.
-#[test]
-fn a_grant_is_used(rt: HostRuntime) -> Result<(), Fail> {
-    let mut table = GrantTable::open(rt.alloc(), 32, 95)?;
-    assert_eq!(rt; table.accept(32, CONNECTION, 60), Ok(Accepted::New));
-    assert!(rt; ipv4_packet::check(&DATAGRAM).is_ok());
-    assert_eq!(rt; table.find(&DATAGRAM), None);
-    start(&rt, rt.alloc(), &mut table);
-    assert_eq!(rt; table.find(&DATAGRAM), Some(32));
     table.abandon();
     Ok(())
 }

@@ -4,8 +4,6 @@
 #[cfg(test)]
 mod control_link_tests;
 #[cfg(test)]
-mod cut_through_tests;
-#[cfg(test)]
 mod grant_table_tests;
 #[cfg(test)]
 mod reclaimed_tests;

@@ -1,12 +1,9 @@
 //! Values that several tests are of: a flow, channels, and requests that a switch has done.
 
-ghost use Rattle.std.specs.Prelude.{◌≡◌, true, Some};
+ghost use Rattle.std.specs.Prelude.{◌≡◌, true};
 ghost use Rattle.branch_desk.specs.Requests.{has_function};
-ghost use Rattle.grant_table.specs.Table.{state_of};
-ghost use Rattle.port_model.specs.Grants as grants;
 
-use branch_desk::{Answered, BranchDone, Desk, Ticket, redeem};
-use grant_table::GrantTable;
+use branch_desk::{Answered, BranchDone, Desk, Ticket};
 use gsmp_wire::{BranchKind, Message, PortRows, Request};
 use ipv4_packet::FlowId;
 use net_types::{Addr, Channel, End, PortNo};
@@ -105,17 +102,4 @@ pub fn carried_out(rt: &impl Abort, alloc: Global, request: Request) -> (BranchD
     assert!(rt; done.number() == ticket.number());
     desk.abandon();
     (done, ticket)
-}
-
-/// The branch of label 32 is made, and the controller sends under it.
-pub fn start(rt: &impl Abort, alloc: Global, table: &mut GrantTable)
-    requires { state_of table.old 32 ≡ Some grants.Idle }
-{
-    let add = Request::AddBranch {
-        input: HOME,
-        output: LABEL,
-    };
-    let (done, ticket) = carried_out(rt, alloc, add);
-    table.started(32, &done);
-    redeem(done, ticket);
 }
