@@ -2,23 +2,15 @@
 //! fails behind its last line.
 
 use crate::tests::{
-    ONE_NODE, ONE_PACKET, THREE_ROUTERS, TWO_MET, TWO_ROUTERS, outcome, outcome_over, source_of,
+    ONE_NODE, ONE_PACKET, THREE_ROUTERS, TWO_MET, TWO_ROUTERS, outcome, outcome_over, push_parts,
+    source_of, text_of,
 };
-use lab_io::read_to_end;
+use lab_io::{MemSink, read_to_end};
 use net_types::OutOfMemory;
 use std::alloc::Global;
 use std::process::Abort;
 use std::str;
 use std::test::Fail;
-
-/// A text so many times.
-fn times(alloc: Global, text: &str, count: u32) -> Result<String, OutOfMemory> {
-    let mut all = String::new(alloc);
-    for _ in 0..count {
-        all.push_str(text)?;
-    }
-    Ok(all)
-}
 
 /// Whether these lines stand in a report in this order, perhaps with others between them.
 fn has_in_order(report: &str, wanted: &[&str]) -> bool {
@@ -39,6 +31,14 @@ fn count_of(report: &str, beginning: &str) -> usize {
         .count()
 }
 
+/// Whether the last line of a report begins so.
+fn has_end(report: &str, beginning: &str) -> bool {
+    report
+        .lines()
+        .last()
+        .is_some_and(|line| line.starts_with(beginning))
+}
+
 /// Both controllers have met their switches, and then one another.
 const MET: &str = "tick *\nrun 200\ntick *\nrun 200\n";
 
@@ -47,127 +47,192 @@ const FOUR_ROUTERS: &str =
 
 const FAR_PACKET: &str = "send n1 4500001c00010000201182cf0a0001010a0003011389138a00080000\n";
 
+/// Four packets of a flow, and what becomes of them.
+const COUNTED: &[(&str, u32)] = &[(MET, 1), (ONE_PACKET, 4), ("run 100\n", 1)];
+
+/// Four packets of a flow, which get it a label, and one that comes under it.
+const BOUND: &[(&str, u32)] = &[
+    (MET, 1),
+    (ONE_PACKET, 4),
+    ("run 100\ntick *\nrun 200\n", 1),
+    (ONE_PACKET, 1),
+    ("run 40\n", 1),
+];
+
+/// Four packets of a flow over three links, which get it labels, and 36 more.
+const JOINED: &[(&str, u32)] = &[
+    (MET, 1),
+    (FAR_PACKET, 4),
+    ("run 100\ntick *\nrun 200\n", 1),
+    (FAR_PACKET, 36),
+    ("run 400\n", 1),
+];
+
+/// A script in parts, each so many times: a network, a flow over it, and what comes behind. Of its report the lines
+/// that stand in it in this order, how many lines begin so, and how its last line begins.
+struct Network {
+    opening: &'static [(&'static str, u32)],
+    flow: &'static [(&'static str, u32)],
+    ending: &'static [(&'static str, u32)],
+    lines: &'static [&'static str],
+    counts: &'static [(&'static str, usize)],
+    end: &'static str,
+}
+
 /// A flow whose fourth packet gets it a label, under which a fifth comes; one whose label is idle, and is
 /// spare again. A restart at the label's node: the next packet comes without a label, and no label is bound
 /// before the neighbours have met. A restart in the middle of a join: the switch keeps it until the controller
 /// has met the switch, and then what comes under the label is lost; the label is bound anew once the
 /// neighbours have met. A switch that restarts, and is met again. A switch with room for one cell, which never
 /// says which ports it has: nothing is connected there. A flow whose label has a VPI.
+const NETWORKS: [Network; 7] = [
+    Network {
+        opening: &[(TWO_ROUTERS, 1)],
+        flow: BOUND,
+        ending: &[],
+        lines: &[
+            "open a 1",
+            "open b 1",
+            "deliver b 1 4500001c0001000003119fcf0a0001010a0003011389138a00080000",
+            "deliver b 2 4500001c0001000003119fcf0a0001010a0003011389138a00080000",
+            "deliver b 3 4500001c0001000003119fcf0a0001010a0003011389138a00080000",
+            "deliver b 4 4500001c0001000003119fcf0a0001010a0003011389138a00080000",
+            "bind b 1 32 450003110a0001010a0003011389138a",
+            "deliver b 5 4500001c0001000003119fcf0a0001010a0003011389138a00080000",
+        ],
+        counts: &[("deliver b ", 5)],
+        end: "end events 13 sent 5 delivered 5 dropped 0 refused 0 losses 0 redirects 1 switched 0 chance 0",
+    },
+    Network {
+        opening: &[(TWO_ROUTERS, 1), ("timers 60 20 1\n", 1)],
+        flow: COUNTED,
+        ending: &[(MET, 1), ("tick *\nrun 200\n", 1)],
+        lines: &[
+            "bind b 1 32 450003110a0001010a0003011389138a",
+            "free b 1 32",
+        ],
+        counts: &[],
+        end: "end events 15 sent 4 delivered 4 dropped 0 refused 0 losses 0 redirects 1 switched 0 chance 0",
+    },
+    Network {
+        opening: &[(TWO_ROUTERS, 1)],
+        flow: BOUND,
+        ending: &[
+            ("restart b\n", 1),
+            (MET, 1),
+            ("tick *\nrun 200\n", 1),
+            (ONE_PACKET, 1),
+            ("run 40\n", 1),
+        ],
+        lines: &[
+            "open b 1",
+            "bind b 1 32 450003110a0001010a0003011389138a",
+            "close b 1",
+            "deliver b 6 4500001c0001000003119fcf0a0001010a0003011389138a00080000",
+        ],
+        counts: &[("open b 1", 1), ("bind b 1 32 ", 1), ("loss 6.", 0)],
+        end: "end events 22 sent 6 delivered 6 dropped 0 refused 0 ",
+    },
+    Network {
+        opening: &[(FOUR_ROUTERS, 1)],
+        flow: JOINED,
+        ending: &[
+            ("restart n2\n", 1),
+            (FAR_PACKET, 1),
+            ("run 100\n", 1),
+            (MET, 1),
+            (FAR_PACKET, 1),
+            ("run 100\n", 1),
+            (MET, 4),
+            (FAR_PACKET, 4),
+            ("run 100\n", 1),
+        ],
+        lines: &[
+            "bind n2 1 32 45001f110a0001010a0003011389138a",
+            "join n2 1 32 2 32",
+            "close n2 1",
+            "deliver n4 41 4500001c000100001d1185cf0a0001010a0003011389138a00080000",
+            "loss 42.1 Unconnected",
+            "open n2 1",
+            "bind n2 1 32 45001f110a0001010a0003011389138a",
+        ],
+        counts: &[("bind n2 1 32 ", 2), ("loss 42.", 1)],
+        end: "end events 78 sent 46 delivered 45 dropped 0 refused 0 ",
+    },
+    Network {
+        opening: &[
+            (THREE_ROUTERS, 1),
+            ("tick *\nrun 200\nrestartswitch b\n", 1),
+        ],
+        flow: &[(ONE_PACKET, 1), ("run 20\n", 1)],
+        ending: &[(MET, 1), (ONE_PACKET, 1), ("run 100\n", 1)],
+        lines: &[
+            "loss 1.1 Unconnected",
+            "deliver c 2 4500001c000100000211a0cf0a0001010a0003011389138a00080000",
+        ],
+        counts: &[("deliver ", 1)],
+        end: "end events 11 sent 2 delivered 1 dropped 0 refused 0 ",
+    },
+    Network {
+        opening: &[(FOUR_ROUTERS, 1), ("cells n2 1\n", 1)],
+        flow: JOINED,
+        ending: &[],
+        lines: &[],
+        counts: &[
+            ("bad ", 0),
+            ("chance ", 0),
+            ("bind n2 ", 0),
+            ("join n2 ", 0),
+        ],
+        end: "end events 48 sent 40 ",
+    },
+    Network {
+        opening: &[
+            ("version 2\n", 1),
+            (TWO_ROUTERS, 1),
+            ("labels a 1 3/40 3/40\nlabels b 1 3/40 3/40\n", 1),
+        ],
+        flow: BOUND,
+        ending: &[],
+        lines: &[
+            "open a 1",
+            "open b 1",
+            "deliver b 4 4500001c0001000003119fcf0a0001010a0003011389138a00080000",
+            "bind b 1 3/40 450003110a0001010a0003011389138a",
+            "deliver b 5 4500001c0001000003119fcf0a0001010a0003011389138a00080000",
+        ],
+        counts: &[("deliver b ", 5)],
+        end: "end events 13 sent 5 delivered 5 dropped 0 refused 0 losses 0 redirects 1 switched 0 chance 0",
+    },
+];
+
+fn script_of(alloc: Global, network: &Network) -> Result<String, OutOfMemory> {
+    let mut script = text_of(alloc, network.opening)?;
+    push_parts(&mut script, network.flow)?;
+    push_parts(&mut script, network.ending)?;
+    Ok(script)
+}
+
+fn assert_reported(rt: &impl Abort, report: &str, network: &Network) {
+    assert!(rt; has_in_order(report, network.lines), "{report}");
+    for (beginning, count) in network.counts {
+        assert_eq!(rt; count_of(report, beginning), *count, "{beginning} {report}");
+    }
+    assert!(rt; has_end(report, network.end), "{report}");
+}
+
+fn assert_network(rt: &impl Abort, alloc: Global, network: &Network) -> Result<(), Fail> {
+    let script = script_of(alloc, network)?;
+    let (given, sink) = outcome(alloc, &["replay"], script.as_str(), 4096)?;
+    assert_eq!(rt; given, 0, "{script}");
+    assert_reported(rt, str::from_utf8(sink.written())?, network);
+    Ok(())
+}
+
 #[test]
 fn worked_networks(rt: HostRuntime) -> Result<(), Fail> {
-    let alloc = rt.alloc();
-    let four = times(alloc, ONE_PACKET, 4)?;
-    let counted = format!(in alloc; "{MET}{four}run 100\n")?;
-    let bound = format!(in alloc; "{counted}tick *\nrun 200\n{ONE_PACKET}run 40\n")?;
-    let four_far = times(alloc, FAR_PACKET, 4)?;
-    let many_far = times(alloc, FAR_PACKET, 36)?;
-    let joined = format!(in alloc; "{MET}{four_far}run 100\ntick *\nrun 200\n{many_far}run 400\n")?;
-    let rows: [(String, &[&str], &[(&str, usize)], &str); 7] = [
-        (
-            format!(in alloc; "{TWO_ROUTERS}{bound}")?,
-            &[
-                "open a 1",
-                "open b 1",
-                "deliver b 1 4500001c0001000003119fcf0a0001010a0003011389138a00080000",
-                "deliver b 2 4500001c0001000003119fcf0a0001010a0003011389138a00080000",
-                "deliver b 3 4500001c0001000003119fcf0a0001010a0003011389138a00080000",
-                "deliver b 4 4500001c0001000003119fcf0a0001010a0003011389138a00080000",
-                "bind b 1 32 450003110a0001010a0003011389138a",
-                "deliver b 5 4500001c0001000003119fcf0a0001010a0003011389138a00080000",
-            ],
-            &[("deliver b ", 5)],
-            "end events 13 sent 5 delivered 5 dropped 0 refused 0 losses 0 redirects 1 switched 0 chance 0",
-        ),
-        (
-            format!(in alloc; "{TWO_ROUTERS}timers 60 20 1\n{counted}{MET}tick *\nrun 200\n")?,
-            &[
-                "bind b 1 32 450003110a0001010a0003011389138a",
-                "free b 1 32",
-            ],
-            &[],
-            "end events 15 sent 4 delivered 4 dropped 0 refused 0 losses 0 redirects 1 switched 0 chance 0",
-        ),
-        (
-            format!(in alloc;
-                "{TWO_ROUTERS}{bound}restart b\n{MET}tick *\nrun 200\n{ONE_PACKET}run 40\n"
-            )?,
-            &[
-                "open b 1",
-                "bind b 1 32 450003110a0001010a0003011389138a",
-                "close b 1",
-                "deliver b 6 4500001c0001000003119fcf0a0001010a0003011389138a00080000",
-            ],
-            &[("open b 1", 1), ("bind b 1 32 ", 1), ("loss 6.", 0)],
-            "end events 22 sent 6 delivered 6 dropped 0 refused 0 ",
-        ),
-        (
-            format!(in alloc;
-                "{FOUR_ROUTERS}{joined}restart n2\n{FAR_PACKET}run 100\n{MET}{FAR_PACKET}run 100\n{MET}{MET}{MET}{MET}{four_far}run 100\n"
-            )?,
-            &[
-                "bind n2 1 32 45001f110a0001010a0003011389138a",
-                "join n2 1 32 2 32",
-                "close n2 1",
-                "deliver n4 41 4500001c000100001d1185cf0a0001010a0003011389138a00080000",
-                "loss 42.1 Unconnected",
-                "open n2 1",
-                "bind n2 1 32 45001f110a0001010a0003011389138a",
-            ],
-            &[("bind n2 1 32 ", 2), ("loss 42.", 1)],
-            "end events 78 sent 46 delivered 45 dropped 0 refused 0 ",
-        ),
-        (
-            format!(in alloc;
-                "{THREE_ROUTERS}tick *\nrun 200\nrestartswitch b\n{ONE_PACKET}run 20\n{MET}{ONE_PACKET}run 100\n"
-            )?,
-            &[
-                "loss 1.1 Unconnected",
-                "deliver c 2 4500001c000100000211a0cf0a0001010a0003011389138a00080000",
-            ],
-            &[("deliver ", 1)],
-            "end events 11 sent 2 delivered 1 dropped 0 refused 0 ",
-        ),
-        (
-            format!(in alloc; "{FOUR_ROUTERS}cells n2 1\n{joined}")?,
-            &[],
-            &[
-                ("bad ", 0),
-                ("chance ", 0),
-                ("bind n2 ", 0),
-                ("join n2 ", 0),
-            ],
-            "end events 48 sent 40 ",
-        ),
-        (
-            format!(in alloc;
-                "version 2\n{TWO_ROUTERS}labels a 1 3/40 3/40\nlabels b 1 3/40 3/40\n{bound}"
-            )?,
-            &[
-                "open a 1",
-                "open b 1",
-                "deliver b 4 4500001c0001000003119fcf0a0001010a0003011389138a00080000",
-                "bind b 1 3/40 450003110a0001010a0003011389138a",
-                "deliver b 5 4500001c0001000003119fcf0a0001010a0003011389138a00080000",
-            ],
-            &[("deliver b ", 5)],
-            "end events 13 sent 5 delivered 5 dropped 0 refused 0 losses 0 redirects 1 switched 0 chance 0",
-        ),
-    ];
-    for (script, lines, counts, end) in rows {
-        let (given, sink) = outcome(alloc, &["replay"], script.as_str(), 4096)?;
-        let report = str::from_utf8(sink.written())?;
-        assert_eq!(rt; given, 0, "{script}");
-        assert!(rt; has_in_order(report, lines), "{script}{report}");
-        for (beginning, count) in counts {
-            assert_eq!(rt; count_of(report, beginning), *count, "{beginning} {script}");
-        }
-        assert!(rt;
-            report
-                .lines()
-                .last()
-                .is_some_and(|line| line.starts_with(end)),
-            "{script}{report}"
-        );
+    for network in &NETWORKS {
+        assert_network(&rt, rt.alloc(), network)?;
     }
     Ok(())
 }
@@ -340,58 +405,114 @@ const REFUSED_FRAMES: [(&str, &str, &str); 31] = [
 
 /// Labelled frames of a flow of type 1, and the first tests that they fail.
 const REFUSED_OF_TYPE_1: [(&str, &str); 4] = [
-    ("001c00010000a2", "encaps Short"),
-    ("001c00010001a2ce00080000", "encaps Reserved"),
-    ("001d00010000a2ce00080000", "encaps Length"),
-    ("001c00010000a2ce00080000", "encaps Checksum"),
+    ("0/32 001c00010000a2", "encaps Short"),
+    ("0/32 001c00010001a2ce00080000", "encaps Reserved"),
+    ("0/32 001d00010000a2ce00080000", "encaps Length"),
+    ("0/32 001c00010000a2ce00080000", "encaps Checksum"),
 ];
 
 /// Labelled frames of a flow of type 2, and the first tests that they fail.
 const REFUSED_OF_TYPE_2: [(&str, &str); 5] = [
-    ("0000001c000100000001a2", "encaps Short"),
+    ("0/32 0000001c000100000001a2", "encaps Short"),
     (
-        "0100001c000100000001a2df0800f7ff00000000",
+        "0/32 0100001c000100000001a2df0800f7ff00000000",
         "encaps Reserved",
     ),
     (
-        "0000001c000100000101a2df0800f7ff00000000",
+        "0/32 0000001c000100000101a2df0800f7ff00000000",
         "encaps Reserved",
     ),
     (
-        "0000001c000100000001a2df0800f7ff0000000000",
+        "0/32 0000001c000100000001a2df0800f7ff0000000000",
         "encaps Length",
     ),
     (
-        "0000001c000100000001a2de0800f7ff00000000",
+        "0/32 0000001c000100000001a2de0800f7ff00000000",
         "encaps Checksum",
     ),
 ];
+
+/// What a packet of 1501 octets begins with.
+const LONG_FRAME: &str = "0/15 aaaa030000000800450005dd000100000411990e0a0001010a0003011389138a";
+
+fn assert_long_refused(rt: &impl Abort, alloc: Global) -> Result<(), Fail> {
+    let frame = text_of(alloc, &[(LONG_FRAME, 1), ("00", 1477)])?;
+    assert_refused(rt, alloc, TWO_MET, "a:1", frame.as_str(), "packet TooLong")
+}
+
+/// A packet of ICMP, whose flow is of type 2.
+const ICMP_PACKET: &str = "send a 4500001c0001000004019edf0a0001010a0003010800f7ff00000000\n";
+
+/// These frames are refused once four of these packets have got their flow a label.
+fn assert_labelled_refused(
+    rt: &impl Abort,
+    alloc: Global,
+    packet: &str,
+    frames: &[(&str, &str)],
+) -> Result<(), Fail> {
+    let begun = text_of(
+        alloc,
+        &[
+            (TWO_ROUTERS, 1),
+            (MET, 1),
+            (packet, 4),
+            ("run 100\ntick *\nrun 200\n", 1),
+        ],
+    )?;
+    for (frame, why) in frames {
+        assert_refused(rt, alloc, begun.as_str(), "a:1", frame, why)?;
+    }
+    Ok(())
+}
 
 /// Each name under which a frame, a packet or a message is refused has a frame that gets it. For labelled frames
 /// a label is bound first, to a flow of UDP and to one of ICMP.
 #[test]
 fn forged_frames(rt: HostRuntime) -> Result<(), Fail> {
-    let alloc = rt.alloc();
     for (queue, frame, why) in REFUSED_FRAMES {
-        assert_refused(&rt, alloc, TWO_MET, queue, frame, why)?;
+        assert_refused(&rt, rt.alloc(), TWO_MET, queue, frame, why)?;
     }
-    let zeros = times(alloc, "00", 1477)?;
-    let long = format!(in alloc;
-        "0/15 aaaa030000000800450005dd000100000411990e0a0001010a0003011389138a{zeros}"
+    assert_long_refused(&rt, rt.alloc())?;
+    assert_labelled_refused(&rt, rt.alloc(), ONE_PACKET, &REFUSED_OF_TYPE_1)?;
+    assert_labelled_refused(&rt, rt.alloc(), ICMP_PACKET, &REFUSED_OF_TYPE_2)
+}
+
+fn push_delivery(alloc: Global, report: &mut String, number: u32) -> Result<(), OutOfMemory> {
+    let line = format!(in alloc;
+        "deliver a {number} 4500001c0001000004119ecf0a0001010a0003011389138a00080000\n"
     )?;
-    assert_refused(&rt, alloc, TWO_MET, "a:1", long.as_str(), "packet TooLong")?;
-    let icmp = "send a 4500001c0001000004019edf0a0001010a0003010800f7ff00000000\n";
-    for (packet, frames) in [
-        (ONE_PACKET, REFUSED_OF_TYPE_1.as_slice()),
-        (icmp, REFUSED_OF_TYPE_2.as_slice()),
-    ] {
-        let four = times(alloc, packet, 4)?;
-        let begun = format!(in alloc; "{TWO_ROUTERS}{MET}{four}run 100\ntick *\nrun 200\n")?;
-        for (payload, why) in frames {
-            let frame = format!(in alloc; "0/32 {payload}")?;
-            assert_refused(&rt, alloc, begun.as_str(), "a:1", frame.as_str(), why)?;
-        }
+    report.push_str(line.as_str())?;
+    Ok(())
+}
+
+/// What is reported of so many packets.
+fn deliveries(alloc: Global, count: u32) -> Result<String, OutOfMemory> {
+    let mut report = String::new(alloc);
+    for number in 1..=count {
+        push_delivery(alloc, &mut report, number)?;
     }
+    Ok(report)
+}
+
+/// The status of a replay whose source fails at this read, what the source has left, and the sink.
+fn end_at(alloc: Global, script: &str, failing: u32) -> Result<(u8, Vec<u8>, MemSink), Fail> {
+    let mut source = source_of(alloc, script, 4096, &[failing])?;
+    let (status, sink) = outcome_over(alloc, &["replay"], &mut source, 4096, &[])?;
+    let left = read_to_end(alloc, &mut source, 4096)?;
+    Ok((status, left, sink))
+}
+
+/// How many packets are sent, and the read behind the last line, which fails.
+const FRONTS: [(u32, u32); 2] = [(100, 3), (2000, 33)];
+
+fn assert_front(rt: &impl Abort, alloc: Global, sends: u32, failing: u32) -> Result<(), Fail> {
+    let script = text_of(alloc, &[(ONE_NODE, 1), (ONE_PACKET, sends)])?;
+    let report = deliveries(alloc, sends)?;
+    let (given, left, sink) = end_at(alloc, script.as_str(), failing)?;
+    assert_eq!(rt; given, 3);
+    assert!(rt; left.is_empty());
+    assert!(rt; report.as_bytes().starts_with(sink.written()));
+    assert!(rt; report.len() <= sink.written().len().saturating_add(65_536));
     Ok(())
 }
 
@@ -399,25 +520,8 @@ fn forged_frames(rt: HostRuntime) -> Result<(), Fail> {
 /// front of what they give, which lacks at most what one buffer holds.
 #[test]
 fn a_read_fault_leaves_a_front(rt: HostRuntime) -> Result<(), Fail> {
-    let alloc = rt.alloc();
-    for (sends, failing) in [(100, 3), (2000, 33)] {
-        let packets = times(alloc, ONE_PACKET, sends)?;
-        let script = format!(in alloc; "{ONE_NODE}{packets}")?;
-        let mut report = String::new(alloc);
-        for before in 0..sends {
-            let number = before + 1;
-            let line = format!(in alloc;
-                "deliver a {number} 4500001c0001000004119ecf0a0001010a0003011389138a00080000\n"
-            )?;
-            report.push_str(line.as_str())?;
-        }
-        let mut source = source_of(alloc, script.as_str(), 4096, &[failing])?;
-        let (given, sink) = outcome_over(alloc, &["replay"], &mut source, 4096, &[])?;
-        let written = sink.written();
-        assert_eq!(rt; given, 3);
-        assert!(rt; read_to_end(alloc, &mut source, 4096)?.is_empty());
-        assert!(rt; report.as_bytes().starts_with(written));
-        assert!(rt; report.len() <= written.len().saturating_add(65_536));
+    for (sends, failing) in FRONTS {
+        assert_front(&rt, rt.alloc(), sends, failing)?;
     }
     Ok(())
 }
