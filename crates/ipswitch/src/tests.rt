@@ -94,6 +94,10 @@ fn assert_outcome(
     Ok(())
 }
 
+fn surely(alloc: Global, words: &[Word], source: &mut SureSource, meter: &mut Meter) -> u8 {
+    run_surely(alloc, words, source, &mut SureSink::new(), meter)
+}
+
 /// The status of a run over a text and a sink that never fail.
 fn sure_status(
     alloc: Global,
@@ -103,8 +107,7 @@ fn sure_status(
 ) -> Result<u8, OutOfMemory> {
     let words = words_of(alloc, texts)?;
     let mut source = SureSource::new(text.as_bytes().to_vec(alloc)?, 7);
-    let mut sink = SureSink::new();
-    Ok(run_surely(alloc, words.as_slice(), &mut source, &mut sink, meter))
+    Ok(surely(alloc, words.as_slice(), &mut source, meter))
 }
 
 pub const ONE_NODE: &str = "node a 10.0.1.1\nroute a 10.0.0.0/8 local\n";
@@ -653,14 +656,34 @@ fn assert_none_fails(
     Ok(())
 }
 
+fn assert_each_read_fails(
+    rt: &impl Abort,
+    alloc: Global,
+    row: &FailingRun,
+    text: &str,
+) -> Result<(), Fail> {
+    for failing in 1..=row.reads {
+        assert_read_fails(rt, alloc, row, text, failing)?;
+    }
+    Ok(())
+}
+
+fn assert_each_write_fails(
+    rt: &impl Abort,
+    alloc: Global,
+    row: &FailingRun,
+    text: &str,
+) -> Result<(), Fail> {
+    for failing in 1..=row.writes {
+        assert_write_fails(rt, alloc, row, text, failing)?;
+    }
+    Ok(())
+}
+
 fn assert_faults_end(rt: &impl Abort, alloc: Global, row: &FailingRun) -> Result<(), Fail> {
     let text = text_of(alloc, &[(row.network, 1), (row.events, 1)])?;
-    for failing in 1..=row.reads {
-        assert_read_fails(rt, alloc, row, text.as_str(), failing)?;
-    }
-    for failing in 1..=row.writes {
-        assert_write_fails(rt, alloc, row, text.as_str(), failing)?;
-    }
+    assert_each_read_fails(rt, alloc, row, text.as_str())?;
+    assert_each_write_fails(rt, alloc, row, text.as_str())?;
     assert_none_fails(rt, alloc, row, text.as_str())
 }
 
