@@ -84,8 +84,9 @@ struct Network {
 /// before the neighbours have met. A restart in the middle of a join: the switch keeps it until the controller
 /// has met the switch, and then what comes under the label is lost; the label is bound anew once the
 /// neighbours have met. A switch that restarts, and is met again. A switch with room for one cell, which never
-/// says which ports it has: nothing is connected there. A flow whose label has a VPI.
-const NETWORKS: [Network; 7] = [
+/// says which ports it has: nothing is connected there. A flow whose label has a VPI. A policy that offers nothing,
+/// and one that offers a flow a label at its second packet in ten ticks.
+const NETWORKS: [Network; 9] = [
     Network {
         opening: &[(TWO_ROUTERS, 1)],
         flow: BOUND,
@@ -203,6 +204,25 @@ const NETWORKS: [Network; 7] = [
         ],
         counts: &[("deliver b ", 5)],
         end: "end events 13 sent 5 delivered 5 dropped 0 refused 0 losses 0 redirects 1 switched 0 chance 0",
+    },
+    Network {
+        opening: &[(TWO_ROUTERS, 1), ("policy never\n", 1)],
+        flow: BOUND,
+        ending: &[],
+        lines: &[],
+        counts: &[("deliver b ", 5), ("bind ", 0)],
+        end: "end events 13 sent 5 delivered 5 dropped 0 refused 0 losses 0 redirects 0 switched 0 chance 0",
+    },
+    Network {
+        opening: &[(TWO_ROUTERS, 1), ("policy xy 2 10\n", 1)],
+        flow: &[(MET, 1), (ONE_PACKET, 2), ("run 100\n", 1)],
+        ending: &[],
+        lines: &[
+            "deliver b 2 4500001c0001000003119fcf0a0001010a0003011389138a00080000",
+            "bind b 1 32 450003110a0001010a0003011389138a",
+        ],
+        counts: &[("deliver b ", 2)],
+        end: "end events 7 sent 2 delivered 2 dropped 0 refused 0 losses 0 redirects 1 switched 0 chance 0",
     },
 ];
 
