@@ -1,6 +1,6 @@
 -- A packet enters where it isn't refused.
 
-use Rattle.std.proofs.Common.{◌≡◌, ◌≢◌, ℕ, ◌==◌, Bool, false, nat_eq, List, Option, None, Some, ap, sym, ◌∙◌, arith, if◌then◌else◌}
+use Rattle.std.proofs.Common.{◌≡◌, ◌≢◌, ℕ, ◌==◌, Bool, false, List, None, Some, ap, sym, ◌∙◌, arith, if◌then◌else◌}
 use Rattle.std.proofs.lemmas.Bool.Decides.{nat_tests}
 use Rattle.ipv4_packet.specs.Packet.{first_fault, protocol_of}
 use Rattle.link_model.specs.declared.record.Refusal.TheVariants.{ControlProtocol}

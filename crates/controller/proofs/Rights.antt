@@ -3,7 +3,7 @@
 use Rattle.std.proofs.Common.{◌≡◌, [], drop, Option, None, Some, Result, Ok, Err, OnOk, sym, subst}
 use Rattle.std.specs.Result.{result_err}
 use Rattle.net_types.specs.declared.memory.OutOfMemory.{OutOfMemory}
-use Rattle.net_types.specs.Number.{AreDrawn, GivenOut, HasNumbersLeft}
+use Rattle.net_types.specs.Number.{AreDrawn, GivenOut}
 use Rattle.link_model.specs.Notes.{Journal}
 use Rattle.world_model.specs.Controller.{Acted}
 use Rattle.controller_facts.specs.Inputs.{Input, CellLeaves, takes_input}

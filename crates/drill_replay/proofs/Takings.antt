@@ -1,14 +1,13 @@
 -- the lines of a drill are taken one after another
 
-use Rattle.std.proofs.Common.{◌≡◌, ◌∙◌, ℕ, List, [], ◌∷◌, ◌++◌, append_assoc, append-nil, Bool, true, false, Option, None, Some, Result, Ok, Err, refl, sym, ap, subst, map}
+use Rattle.std.proofs.Common.{◌≡◌, ◌∙◌, ℕ, List, [], ◌∷◌, ◌++◌, append_assoc, append-nil, Bool, true, false, None, Some, Ok, refl, sym, ap, subst}
 use Rattle.net_types.specs.declared.memory.OutOfMemory.{OutOfMemory}
 use Rattle.lab_io.specs.Report.{Writer}
-use Rattle.lab_text.specs.Text.{line_of}
 use Rattle.port_model.specs.Setup.{Policy}
 use Rattle.world_model.specs.Controller.{Controller}
 use Rattle.world_model.specs.Topology.{Topology}
 use Rattle.script_model.specs.declared.refusal.Refused.{Refused}
-use Rattle.script_model.specs.Drill.{drill_script, drill_words}
+use Rattle.script_model.specs.Drill.{drill_script}
 use Rattle.script_model.specs.Reading.{line_says}
 use Rattle.script_model.specs.Script.{Script, script_from}
 use Rattle.script_model.specs.State.{nothing_read}

@@ -1,6 +1,6 @@
 -- Flows: two are the same exactly where they are one.
 
-use Rattle.std.proofs.Common.{◌≡◌, ℕ, ◌&&◌, nat_eq, Bool, true, false, not, refl, sym, ap, ◌∙◌}
+use Rattle.std.proofs.Common.{◌≡◌, ℕ, ◌&&◌, nat_eq, Bool, true, false, refl, sym, ap, ◌∙◌}
 use Rattle.std.proofs.lemmas.Bool.{eqb-true, eq-eqb}
 use Rattle.net_types.specs.declared.prefix.Addr.{Addr}
 use Rattle.ipv4_packet.specs.declared.flow.FlowId.{FlowId}

@@ -1,6 +1,6 @@
 -- What a `retain` that keeps each row leaves.
 
-use Rattle.std.proofs.Common.{◌≡◌, ◌∙◌, Bool, true, cond, List, [], ◌∷◌, map, ap, subst}
+use Rattle.std.proofs.Common.{◌≡◌, ◌∙◌, Bool, true, cond, List, [], ◌∷◌, map, subst}
 use Rattle.std.specs.Map.Calls.{RetainsPairs}
 
 module _ {K X F : Type 0} (T : F → K → X → Bool → X → F → Type 0) (change : X → X) (f : F)

@@ -1,14 +1,11 @@
 -- Rows of a classifier.
 
-use Rattle.std.proofs.Common.{◌≡◌, ℕ, zero, suc, ◌+◌, ◌-◌, ◌<◌, ◌≤◌, ◌||◌, Bool, true, false, not, cond, List, [], ◌∷◌, ◌++◌, length, take, drop, map, filter, find, fold, min, All, Option, None, Some, refl, sym, ap, ◌∙◌, arith}
-use Rattle.std.specs.List.{list_any, sum_by}
+use Rattle.std.proofs.Common.{◌≡◌, ℕ, ◌+◌, ◌-◌, ◌≤◌, List, [], ◌∷◌, take, map, fold, min, All, refl, ap, ◌∙◌, arith}
+use Rattle.std.specs.List.{sum_by}
 use Rattle.std.proofs.lemmas.List.Elements.{All-head, All-tail, All-map}
 use Rattle.std.proofs.lemmas.List.{length-map}
 use Rattle.std.proofs.lemmas.List.Sums.{sum_by-cons}
-use Rattle.circular_buffer.specs.Buffer.{Buffer, buffer}
-use Rattle.ipv4_packet.specs.declared.flow.FlowId.{FlowId}
-use Rattle.ipv4_packet.specs.Parts.{same_flow}
-use Rattle.port_model.specs.Counts.{Counted, greatest_count, moved, total}
+use Rattle.port_model.specs.Counts.{greatest_count, moved, total}
 use Rattle.flow_classifier.specs.Rows.{AreRows, Row, counted, summed, ticked}
 
 -- added up one by one, or all at once

@@ -1,6 +1,6 @@
 -- The law of counts, over every list of calls of a classifier, the latest call first.
 
-use Rattle.std.specs.Prelude.{ℕ, suc, ◌+◌, ◌==◌, Bool, not, if◌then◌else◌, List, [], ◌∷◌, filter, take, min}
+use Rattle.std.specs.Prelude.{ℕ, ◌+◌, ◌==◌, Bool, not, if◌then◌else◌, List, [], ◌∷◌, filter, take}
 use Rattle.std.specs.List.{list_any}
 use Rattle.ipv4_packet.specs.declared.flow.FlowId.{FlowId}
 use Rattle.ipv4_packet.specs.Parts.{same_flow}

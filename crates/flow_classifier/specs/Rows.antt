@@ -1,7 +1,7 @@
 -- The rows of a classifier: a flow, and a ring of the packets since the last tick, between that and the
 -- one before it, and so on.
 
-use Rattle.std.specs.Prelude.{◌≡◌, ℕ, ◌≤◌, List, All, map, length, take, ◌∷◌, ◌+◌, min, fold}
+use Rattle.std.specs.Prelude.{◌≡◌, ℕ, ◌≤◌, List, All, length, take, ◌∷◌, ◌+◌, min, fold}
 use Rattle.circular_buffer.specs.Buffer.{Buffer, buffer}
 use Rattle.ipv4_packet.specs.declared.flow.FlowId.{FlowId}
 use Rattle.port_model.specs.Counts.{Counted, greatest_count, most_flows}

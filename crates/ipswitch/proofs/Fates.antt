@@ -1,8 +1,8 @@
 -- what is so of a network with regard to packets says that fates are true, once and whole
 
-use Rattle.std.proofs.Common.{◌≡◌, ℕ, zero, suc, ◌+◌, ◌≤◌, ◌<◌, Bool, true, false, List, [], ◌∷◌, ◌++◌, length, Option, None, Some, slice_get, refl, sym, ◌∙◌, ap, subst, arith}
-use Rattle.std.specs.Prelude.{◌==◌, ◌&&◌, Contains, count_by}
-use Rattle.std.specs.List.{list_all, sum_by, flat_map}
+use Rattle.std.proofs.Common.{◌≡◌, ℕ, Bool, true, false, List, [], ◌∷◌, length, refl, arith}
+use Rattle.std.specs.Prelude.{◌==◌, ◌&&◌}
+use Rattle.std.specs.List.{list_all, sum_by}
 use Rattle.std.proofs.lemmas.Bool.Decides.{nat_tests}
 use Rattle.std.proofs.lemmas.List.Sums.{sum_by-cons}
 use Rattle.net_types.specs.declared.node.Place.{Place}
@@ -10,8 +10,8 @@ use Rattle.atm_cells.specs.declared.cell.Cell.{Cell}
 use Rattle.world_model.specs.World.{World}
 use Rattle.world_model.specs.Places.{places, queue_at}
 use Rattle.world_model.specs.Past.{Past}
-use Rattle.world_model.specs.Headline.{is_empty, HasFatesWhole}
-use Rattle.world_views.specs.Marks.{ends_in, last_cells}
+use Rattle.world_model.specs.Headline.{HasFatesWhole}
+use Rattle.world_views.specs.Marks.{ends_in}
 use Rattle.world_views.specs.Between.{HasPacketsOnce}
 
 -- *Links that are empty* hold no last cell

@@ -1,14 +1,11 @@
 -- nothing is refused, and nothing disowns a label, from event to event
 
-use Rattle.std.proofs.Common.{◌≡◌, Bool, false, List, [], ◌++◌, sym, ap, subst, ◌∙◌}
+use Rattle.std.proofs.Common.{◌≡◌, false, List, [], ◌++◌, sym, ap, subst}
 use Rattle.std.specs.List.{list_any}
 use Rattle.link_model.specs.declared.record.Record.{Record}
-use Rattle.port_model.specs.Setup.{Policy}
-use Rattle.world_model.specs.declared.event.Event.{Event}
-use Rattle.world_model.specs.Topology.{Topology}
 use Rattle.world_model.specs.Past.{past_of}
 use Rattle.world_model.specs.Headline.{is_bad, IsInHarmony}
-use Rattle.world_views.specs.Kept.{Comes, Begins, behind}
+use Rattle.world_views.specs.Kept.{Begins, behind}
 use Rattle.run_facts.specs.Steps.{EventsAreSteps}
 use Rattle.packet_worlds.proofs.Lists.{none_join}
 use Rattle.packet_worlds.proofs.Fated.{opened_notes}

@@ -6,7 +6,7 @@ use Rattle.world_model.specs.declared.event.Event.{Event}
 use Rattle.world_model.specs.Topology.{Topology}
 use Rattle.world_model.specs.Past.{Past, past_of}
 use Rattle.world_model.specs.Headline.{IsInHarmony}
-use Rattle.world_views.specs.Between.{IsWorld, HasAllShapes, HasAllPortsUp, HasAllNumbers, HasAllReady, HasAllMade, HasAllLabels, HasAllInputs, HasAllUsers, HasAllCleared, HasAllJoins, HasAllLedOnce, HasAllHops, HasAllPassed}
+use Rattle.world_views.specs.Between.{HasAllShapes, HasAllPortsUp, HasAllNumbers, HasAllReady, HasAllMade, HasAllLabels, HasAllInputs, HasAllUsers, HasAllCleared, HasAllJoins, HasAllLedOnce, HasAllHops, HasAllPassed}
 use Rattle.world_views.specs.Kept.{Comes, Keeps, Begins, behind}
 use Rattle.packet_worlds.specs.Law.{HasPackets}
 use Rattle.passed_cells.specs.Passed.{HasRequests}

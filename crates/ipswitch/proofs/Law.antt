@@ -1,11 +1,10 @@
 -- what is kept in every run gives what is true of it
 
-use Rattle.std.proofs.Common.{◌≡◌, List, [], ◌∷◌, ◌++◌, append_assoc, sym, ap, subst, ◌∙◌}
+use Rattle.std.proofs.Common.{◌≡◌, List, [], ◌∷◌, ◌++◌, append_assoc, sym, subst, ◌∙◌}
 use Rattle.port_model.specs.Setup.{Policy}
 use Rattle.world_model.specs.declared.event.Event.{Event}
-use Rattle.world_model.specs.declared.event.Event.TheVariants.{Tick}
 use Rattle.world_model.specs.Topology.{Topology}
-use Rattle.world_model.specs.Past.{Past, past_of}
+use Rattle.world_model.specs.Past.{past_of}
 use Rattle.world_model.specs.Causes.{HasCauses}
 use Rattle.world_model.specs.Headline.{IsRun, IsTame, Headline, AreOwned, IsInHarmony, HasFatesOnce}
 use Rattle.lifetimes.specs.Run.{IsSetInRuns, EndsInRuns, SendsNoMoreInRuns, IsLedBackInRuns, IsEndedByResetInRuns}

@@ -14,7 +14,6 @@ use Rattle.ipv4_packet.specs.Packet.{protocol_of, source_of, first_fault}
 use Rattle.ipv4_packet.specs.declared.validate.PacketFault.TheVariants.{Short}
 use Rattle.atm_cells.specs.declared.cell.Cell.{Cell}
 use Rattle.ipv4_packet.specs.declared.flow.FlowId.{FlowId}
-use Rattle.ipv4_packet.specs.declared.flow.FlowId.TheVariants as flows
 use Rattle.flow_encaps.specs.declared.default.EncapsFault.{EncapsFault}
 use Rattle.flow_encaps.specs.Unwrapped.{default_unwrapped, unwrapped}
 use Rattle.ifmp_wire.specs.declared.message.Message.{Message}

@@ -17,7 +17,7 @@ use Rattle.world_model.specs.Topology.{Topology, peer_of}
 use Rattle.world_model.specs.World.{World, Site}
 use Rattle.script_model.specs.Reports.{record_lines}
 use Rattle.world.specs.Running.{AreRunning, IsRunningSite, numbered}
-use Rattle.std.specs.Prelude.{Option, Result, Err}
+use Rattle.std.specs.Prelude.{Option, Result}
 use Rattle.std.specs.Result.{IsErrAnd}
 use Rattle.lab_io.specs.Report.{IsPut, Writer}
 use Rattle.network_run.specs.declared.stop.Stop.{Stop}

@@ -1,6 +1,6 @@
 -- What comes in a cell: what its channel makes of it on the control link, the controller's taker makes of it.
 
-use Rattle.std.proofs.Common.{◌≡◌, ℕ, nat_lt, List, Option, Some, None, Result, Ok, Err, OnOk, refl, ap, sym, ◌∙◌}
+use Rattle.std.proofs.Common.{◌≡◌, nat_lt, Some, Result, Ok, Err, OnOk, refl, ap, sym, ◌∙◌}
 use Rattle.std.proofs.lemmas.Bool.{eqb-true}
 use Rattle.std.specs.Option.{option_map_or}
 use Rattle.atm_cells.specs.declared.cell.Cell.{Cell}

@@ -1,13 +1,12 @@
 -- Who takes the cells of a channel, by what its port holds.
 
-use Rattle.std.proofs.Common.{◌≡◌, ℕ, nat_eq, Bool, true, false, List, [], ◌∷◌, Option, Some, None, refl, ap, sym, ◌∙◌, if◌then◌else◌}
+use Rattle.std.proofs.Common.{◌≡◌, ℕ, Bool, true, false, Option, Some, None, refl, ap, sym, ◌∙◌, if◌then◌else◌}
 use Rattle.std.specs.Option.{option_and_then, option_map}
 use Rattle.std.proofs.lemmas.Bool.{eqb-true}
 use Rattle.net_types.specs.declared.node.PortNo.{PortNo}
 use Rattle.net_types.specs.declared.channel.Channel.{Channel}
 use Rattle.net_types.specs.Label.{label_number_of}
 use Rattle.ipv4_packet.specs.declared.flow.FlowId.{FlowId}
-use Rattle.keyed_lists.specs.Keyed.{at}
 use Rattle.control_link.specs.declared.taker.Taker as control
 use Rattle.control_link.specs.declared.taker.Taker.TheVariants as takers
 use Rattle.port_model.specs.Labels.{Label, is_bound, label_number}

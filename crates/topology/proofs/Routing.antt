@@ -1,6 +1,6 @@
 -- routes that can be added, and routes with their keys
 
-use Rattle.std.proofs.Common.{◌≡◌, ℕ, ◌+◌, ◌<◌, ◌≤◌, Bool, true, false, cond, nat_lt, nat_le, List, [], ◌∷◌, ◌++◌, length, map, Option, None, Some, refl, sym, ap, ◌∙◌, arith}
+use Rattle.std.proofs.Common.{◌≡◌, ◌+◌, ◌<◌, ◌≤◌, Bool, true, false, cond, nat_lt, nat_le, List, [], ◌∷◌, ◌++◌, length, map, None, Some, refl, sym, ap, ◌∙◌, arith}
 use Rattle.std.proofs.lemmas.Bool.{leb-true, leb-false, ltb-true}
 use Rattle.std.proofs.lemmas.List.{map-append, length-append}
 use Rattle.std.specs.List.{list_any}
@@ -8,12 +8,10 @@ use Rattle.indexmap.specs.IndexSet.{insert_key}
 use Rattle.net_types.specs.Prefix.{Network}
 use Rattle.ipv4_forward.specs.declared.table.Next.{Next}
 use Rattle.ipv4_forward.specs.declared.table.Route.{Route}
-use Rattle.ipv4_forward.specs.declared.change.ChangeFault.{ChangeFault}
 use Rattle.ipv4_forward.specs.declared.change.ChangeFault.TheVariants as change
 use Rattle.ipv4_forward.specs.Best.{is_same, has_prefix}
 use Rattle.ipv4_forward.specs.Change.{change_fault_by}
 use Rattle.ipv4_forward.proofs.Passing.{distinct_push}
-use Rattle.world_model.specs.declared.refusal.TopologyRefusal.{TopologyRefusal}
 use Rattle.world_model.specs.declared.refusal.TopologyRefusal.TheVariants.{Duplicate, TableFull}
 use Rattle.world_model.specs.Limits.{greatest_routes}
 use Rattle.world_model.specs.Lines.{first_of, route_refusal}

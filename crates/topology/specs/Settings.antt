@@ -1,7 +1,6 @@
 -- what is set for a whole network, as it is kept
 
 use Rattle.std.specs.Prelude.{ℕ, List, Option, None, Some}
-use Rattle.std.specs.Option.{option_map}
 use Rattle.world_model.specs.Topology.{Topology, Node, Link, PolicyLine, Xy, Never, Times}
 use Rattle.topology.specs.declared.settings.Threshold.{Threshold}
 use Rattle.topology.specs.declared.settings.Spans.{Spans}

@@ -23,7 +23,7 @@ use Rattle.world_model.specs.Conditions.{IsAccepted, IsChange, IsLink, IsLinkedC
 use Rattle.world_model.specs.Lines.{is_linked}
 use Rattle.world_model.specs.Places.{place_node, queue_at, queue_number}
 use Rattle.world_model.specs.Topology as topologies
-use Rattle.world_model.specs.Topology.{Topology, Link, peer_among, peer_of, peer_on, same_link_end}
+use Rattle.world_model.specs.Topology.{Topology, Link, peer_among, peer_of, same_link_end}
 use Rattle.world_model.specs.World.{Site, site_at}
 use Rattle.world_model.proofs.Lists.{by_eq}
 use Rattle.world.specs.declared.site.Site.{Site as Node}

@@ -1,6 +1,6 @@
 -- the nodes of a topology are opened one by one
 
-use Rattle.std.proofs.Common.{◌≡◌, ℕ, zero, suc, ◌+◌, ◌*◌, ◌^◌, ◌≤◌, List, [], ◌∷◌, ◌++◌, append_assoc, length, length-append, map, drop, Option, Some, refl, sym, ◌∙◌, ap, subst, arith, sum_by}
+use Rattle.std.proofs.Common.{◌≡◌, ℕ, zero, suc, ◌+◌, ◌≤◌, List, [], ◌∷◌, ◌++◌, append_assoc, length, length-append, map, drop, Option, Some, refl, sym, ◌∙◌, ap, subst, arith, sum_by}
 use Rattle.std.specs.Option.{option_map}
 use Rattle.std.proofs.lemmas.List.Sums.{sum_by-append}
 use Rattle.net_types.specs.declared.node.NodeId.{NodeId}

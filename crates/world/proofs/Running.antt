@@ -9,7 +9,7 @@ use Rattle.net_types.specs.declared.node.Place.TheVariants.{Down, Up, Out}
 use Rattle.atm_cells.specs.declared.cell.Cell.{Cell}
 use Rattle.keyed_lists.specs.Keyed.{at, put}
 use Rattle.world_model.specs.Switch as switches
-use Rattle.world_model.specs.Switch.{control_port, numbers_of}
+use Rattle.world_model.specs.Switch.{numbers_of}
 use Rattle.world_model.specs.Controller as controllers
 use Rattle.world_model.specs.Controller.{Controller, ports_of}
 use Rattle.world_model.specs.Places.{place_node, queue_in, queue_at, with_queue, with_queue_in, with_queue_of, places_of}

@@ -1,6 +1,6 @@
 -- a network runs on behind an event
 
-use Rattle.std.proofs.Common.{◌≡◌, ℕ, ◌+◌, ◌*◌, ◌≤◌, length, map, sym, ◌∙◌, ap, subst, arith}
+use Rattle.std.proofs.Common.{◌≡◌, ◌+◌, ◌*◌, ◌≤◌, length, map, sym, ◌∙◌, ap, subst, arith}
 use Rattle.link_model.specs.Notes.{Journal}
 use Rattle.world_model.specs.Controller.{Controller}
 use Rattle.world_model.specs.declared.event.Event.{Event}
@@ -10,7 +10,7 @@ use Rattle.world_model.specs.Topology.{Topology}
 use Rattle.world_model.specs.World.{World}
 use Rattle.world.specs.declared.world.World.{World as Network}
 use Rattle.world.specs.Coming.{HasCome}
-use Rattle.world.specs.Network.{no_notes, sites_of, world_of}
+use Rattle.world.specs.Network.{sites_of, world_of}
 use Rattle.world.specs.Running.{AreRunning, HavePeers, Runs}
 use Rattle.world.proofs.Events.{Goes, acts_go}
 use Rattle.world.proofs.Running.{places_are, places_from}

@@ -1,4 +1,4 @@
-use Rattle.std.proofs.Common.{get_or, arith, ap, ◌∙◌}
+use Rattle.std.proofs.Common.{arith, ap}
 use Rattle.net_types.specs.Number.{GivenOut}
 use Rattle.control_link.proofs.Blocks.{few_ports, link_port}
 use Rattle.world_model.specs.declared.range.PortRange.{PortRange}

@@ -1,4 +1,4 @@
-use Rattle.std.proofs.Common.{◌≡◌, ◌∙◌, ◌≤◌, ◌+◌, ℕ, suc, List, length, take, slice_get, Option, None, Some, Result, Ok, Err, refl, sym, ap, subst, arith}
+use Rattle.std.proofs.Common.{◌≡◌, ◌∙◌, ◌+◌, ℕ, suc, take, slice_get, Option, None, Result, Ok, refl, sym, subst, arith}
 use Rattle.script_model.specs.declared.refusal.Refused.{Refused}
 use Rattle.script_model.specs.Reading.{string_says}
 use Rattle.network_run.specs.declared.stop.Stop.{Stop}

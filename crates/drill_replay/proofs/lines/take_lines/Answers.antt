@@ -1,4 +1,4 @@
-use Rattle.std.proofs.Common.{◌≡◌, ◌∷◌, Bool, true, false, List, ℕ, Option, Some, None, Ok, ap, subst, sym, refl}
+use Rattle.std.proofs.Common.{◌≡◌, true, false, List, ℕ, Option, None, Ok, subst}
 use Rattle.script_model.specs.declared.refusal.Refused.{Refused}
 use Rattle.script_model.specs.Reading.{line_says}
 use Rattle.network_replay.specs.Along.{GoesOn}

@@ -1,4 +1,4 @@
-use Rattle.std.proofs.Common.{ℕ, length}
+use Rattle.std.proofs.Common.{length}
 use Rattle.drill_replay.proofs.Takings.{IsTaking}
 use Rattle.drill_replay.proofs.lines.take_lines.Given as goal
 

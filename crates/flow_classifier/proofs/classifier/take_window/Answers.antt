@@ -1,5 +1,4 @@
-use Rattle.std.proofs.Common.{◌≡◌, ◌∙◌, false, not, None, sym, ap, filter, map}
-use Rattle.std.specs.List.{list_any}
+use Rattle.std.proofs.Common.{◌∙◌, sym, ap, map}
 use Rattle.circular_buffer.specs.Buffer.{buffer}
 use Rattle.port_model.specs.Counts.{packets_of}
 use Rattle.flow_classifier.specs.Rows.{counted}

@@ -1,6 +1,6 @@
 -- each command replays a script, which is a run
 
-use Rattle.std.proofs.Common.{◌≡◌, ℕ, List}
+use Rattle.std.proofs.Common.{ℕ, List}
 use Rattle.world_model.specs.Topology.{policy_of}
 use Rattle.script_model.specs.Script.{Script, script_of}
 use Rattle.script_model.specs.Documents.{document_script}

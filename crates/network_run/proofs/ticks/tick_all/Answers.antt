@@ -1,4 +1,4 @@
-use Rattle.std.proofs.Common.{◌≡◌, ◌∙◌, ◌+◌, ℕ, List, ap, drop, length, refl, slice_get, Some, suc, subst, sym, take, arith}
+use Rattle.std.proofs.Common.{◌≡◌, ◌∙◌, ◌+◌, ℕ, List, ap, length, refl, slice_get, Some, subst, sym, take, arith}
 use Rattle.link_model.specs.declared.record.Record.{Record}
 use Rattle.lab_io.specs.Report.{IsPut}
 use Rattle.world_model.specs.declared.event.Event.{Event}

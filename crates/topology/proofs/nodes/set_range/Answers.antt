@@ -1,4 +1,4 @@
-use Rattle.std.proofs.Common.{◌≡◌, ◌-◌, ◌∙◌, ap}
+use Rattle.std.proofs.Common.{◌-◌, ◌∙◌, ap}
 use Rattle.world_model.specs.Topology.{Node}
 use Rattle.topology.proofs.Places.{map-set}
 use Rattle.topology.proofs.nodes.set_range.Goals as goal

@@ -1,6 +1,3 @@
-use Rattle.std.proofs.Common.{Option, None, Some}
-use Rattle.net_types.specs.declared.memory.OutOfMemory.{OutOfMemory}
-use Rattle.controller.specs.Right.{IsRightUnless}
 use Rattle.controller.proofs.Rights.{right_popped}
 use Rattle.controller.proofs.node.ControllerNodeController.pop.Goals as goal
 

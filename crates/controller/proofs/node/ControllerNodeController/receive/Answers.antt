@@ -1,4 +1,3 @@
-use Rattle.std.proofs.Common.{sym, subst}
 use Rattle.controller_facts.specs.Inputs.{CellComes}
 use Rattle.controller.proofs.Rights.{draws, right_after, right_before, right_unless}
 use Rattle.controller.proofs.node.ControllerNodeController.receive.Goals as goal

@@ -1,4 +1,3 @@
-use Rattle.std.proofs.Common.{sym, subst}
 use Rattle.controller_facts.specs.Inputs.{Ticks}
 use Rattle.joining_router.specs.Joining.{acted}
 use Rattle.joining_conditions.proofs.Events.{ticks_can_go_by}

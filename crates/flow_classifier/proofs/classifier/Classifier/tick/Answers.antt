@@ -1,8 +1,7 @@
-use Rattle.std.proofs.Common.{◌≡◌, rules, length, map, refl}
-use Rattle.std.proofs.lemmas.List.{length-map}
-use Rattle.flow_classifier.specs.Rows.{Row, ticked}
+use Rattle.std.proofs.Common.{rules, refl}
+use Rattle.flow_classifier.specs.Rows.{ticked}
 use Rattle.flow_classifier.proofs.RetainedRows.{map-RetainsPairs}
-use Rattle.flow_classifier.proofs.Ringed.{ticked_row, moved_rows, ticked_stay}
+use Rattle.flow_classifier.proofs.Ringed.{moved_rows, ticked_stay}
 use Rattle.flow_classifier.proofs.classifier.Classifier.tick.Goals as goal
 
 pub invariant_of-self : goal.invariant_of-self

@@ -1,4 +1,4 @@
-use Rattle.std.proofs.Common.{◌≡◌, ◌∙◌, sym, ap}
+use Rattle.std.proofs.Common.{◌∙◌, ap}
 use Rattle.indexmap.specs.IndexMap.{insert_entry}
 use Rattle.world_model.specs.Topology.{same_link_end}
 use Rattle.topology.proofs.Peers.{ends-push}

@@ -1,9 +1,9 @@
-use Rattle.std.proofs.Common.{◌≡◌, ℕ, ◌+◌, ◌≤◌, ◌∙◌, Bool, false, cond, List, [], ◌∷◌, ◌++◌, length, map, sym, ap, ap₂, arith}
+use Rattle.std.proofs.Common.{◌≡◌, ℕ, ◌+◌, ◌∙◌, false, cond, List, [], ◌∷◌, ◌++◌, map, sym, ap, ap₂, arith}
 use Rattle.std.proofs.lemmas.List.{map-append, length-append}
 use Rattle.std.specs.List.{list_any}
 use Rattle.std.specs.Str.{bytes_eq}
 use Rattle.world_model.specs.Lines.{is_named}
-use Rattle.world_model.specs.Topology.{Node, new_node}
+use Rattle.world_model.specs.Topology.{Node}
 use Rattle.topology.proofs.Places.{bytes_eq-sym, list_any-map, list_any-same, none_listed}
 use Rattle.topology.proofs.nodes.Nodes.push.Goals as goal
 

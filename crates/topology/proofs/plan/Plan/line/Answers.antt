@@ -1,4 +1,3 @@
-use Rattle.std.proofs.Common.{◌≡◌}
 use Rattle.topology.proofs.plan.Plan.line.Goals as goal
 
 pub returns-in-Node : goal.returns-in-Node

@@ -1,4 +1,4 @@
-use Rattle.std.proofs.Common.{◌≡◌, ◌∙◌, sym, ap}
+use Rattle.std.proofs.Common.{◌∙◌, ap}
 use Rattle.indexmap.specs.IndexSet.{insert_key}
 use Rattle.topology.proofs.Keys.{same_key}
 use Rattle.topology.proofs.Routing.{are_indexed-push}

@@ -1,4 +1,4 @@
-use Rattle.std.proofs.Common.{◌≡◌, ◌∙◌, sym, ap}
+use Rattle.std.proofs.Common.{◌∙◌, ap}
 use Rattle.std.specs.List.{list_any}
 use Rattle.ipv4_forward.specs.Best.{is_same}
 use Rattle.topology.specs.Indexes.{key_of, route_key}

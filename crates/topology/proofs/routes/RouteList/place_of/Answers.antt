@@ -1,8 +1,6 @@
-use Rattle.std.proofs.Common.{◌≡◌, ◌∙◌, sym, ap, ap₂, ◌&&◌, ◌==◌, map, Bool}
+use Rattle.std.proofs.Common.{◌∙◌, ap}
 use Rattle.std.specs.List.{position}
-use Rattle.ipv4_forward.specs.declared.table.Route.{Route}
 use Rattle.ipv4_forward.specs.Best.{is_same}
-use Rattle.topology.specs.declared.routes.PrefixKey.{PrefixKey}
 use Rattle.topology.specs.Indexes.{key_of, route_key}
 use Rattle.topology.proofs.Keys.{same_key, key_tests}
 use Rattle.topology.proofs.Places.{position-map, position-same}

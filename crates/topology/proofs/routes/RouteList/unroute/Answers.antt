@@ -1,4 +1,4 @@
-use Rattle.std.proofs.Common.{◌≡◌, ◌∙◌, sym, ap, map, not, filter, false, true, refl, arith}
+use Rattle.std.proofs.Common.{◌≡◌, ◌∙◌, sym, ap, map, not, filter, false, arith}
 use Rattle.std.specs.List.{remove}
 use Rattle.ipv4_forward.specs.declared.table.Route.{Route}
 use Rattle.ipv4_forward.specs.Best.{has_prefix, is_same}

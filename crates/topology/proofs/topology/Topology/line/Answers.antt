@@ -1,4 +1,3 @@
-use Rattle.std.proofs.Common.{◌≡◌}
 use Rattle.topology.proofs.Making.{made_after}
 use Rattle.topology.proofs.topology.Topology.line.Goals as goal
 

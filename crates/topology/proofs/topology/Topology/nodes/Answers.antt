@@ -1,4 +1,3 @@
-use Rattle.std.proofs.Common.{◌≡◌}
 use Rattle.topology.proofs.Making.{made_topology}
 use Rattle.topology.proofs.topology.Topology.nodes.Goals as goal
 

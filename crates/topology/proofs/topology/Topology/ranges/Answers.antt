@@ -1,4 +1,4 @@
-use Rattle.std.proofs.Common.{◌≡◌, Result, Ok, Err, Some, sym, ap}
+use Rattle.std.proofs.Common.{Result, Ok, Err, Some, sym, ap}
 use Rattle.std.specs.Result.{IfOk}
 use Rattle.topology.proofs.topology.Topology.ranges.Goals as goal
 

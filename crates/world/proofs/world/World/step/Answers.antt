@@ -1,4 +1,4 @@
-use Rattle.std.proofs.Common.{◌∙◌, ◌+◌, ap, arith, refl}
+use Rattle.std.proofs.Common.{◌∙◌, ◌+◌, ap, refl}
 use Rattle.world.proofs.Stepped.{runs_on}
 use Rattle.world.proofs.world.World.step.Goals as goal
 
