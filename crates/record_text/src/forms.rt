@@ -8,8 +8,8 @@ use crate::numbers::read_long;
 use ipv4_packet::{FlowId, FlowKind};
 use lab_text::read_number;
 use net_types::{Channel, Mark, NodeId, Place, PortNo, label_number};
-use script_words::{number_in, split_at_sign};
 use topology::Topology;
+use word_forms::{number_in, split_at_sign};
 
 pub(crate) fn read_port(word: &[u8]) -> Option<PortNo>
     ensures { result ≡ port_of word.now }

@@ -14,9 +14,9 @@ use crate::forms::{
 use crate::places::{read_channel, read_queue};
 use crate::routes::{Way, way_of};
 use crate::said::{Said, Side};
-use crate::words::{one_word, three_words, two_words};
 use script_model::LineRefusal;
 use std::alloc::Global;
+use word_forms::{one_word, three_words, two_words};
 
 /// The most rounds of a script.
 const ROUNDS: u32 = 100_000;

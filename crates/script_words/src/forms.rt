@@ -1,18 +1,19 @@
 //! The forms of words that say one value.
 
-ghost use Rattle.std.specs.Prelude.{◌≡◌, ◌≤◌, ◌<◌, ◌^◌, ◌==◌, length, position, IfSome, IfOk, Ok};
+ghost use Rattle.std.specs.Prelude.{◌≡◌, IfOk};
 ghost use Rattle.std.specs.List.{list_all};
 ghost use Rattle.std.specs.Option.{option_map};
-ghost use Rattle.lab_text.specs.Forms.{is_name, is_letter, is_name_octet, number_in, parts, address_of, prefix_of};
+ghost use Rattle.lab_text.specs.Forms.{is_name, is_letter, is_name_octet};
 ghost use Rattle.script_model.specs.Forms.{NameWord, NameOrAll, AddressWord, PrefixWord, NumberWord, HexWord, PayloadWord, read};
 ghost use Rattle.world_model.specs.Conditions.{IsPort, IsWithin};
 ghost use Rattle.script_words.specs.Faults.{Reads, ok_as};
 
 use crate::fault::ReadFault;
-use lab_text::{read_hex, read_number};
+use lab_text::read_hex;
 use net_types::{Addr, Octets, PortNo, Prefix};
 use script_model::LineRefusal;
 use std::alloc::Global;
+use word_forms::{address_of, number_in, prefix_of};
 
 /// The most octets of a forged frame's payload.
 const PAYLOAD: usize = 1528;
@@ -40,70 +41,6 @@ pub fn is_name(word: &[u8]) -> bool
     ensures { result ≡ is_name word.now }
 {
     1 <= word.len() && word.len() <= 16 && is_letter(word[0]) && are_name_octets(word)
-}
-
-/// The number that `word` spells in decimal, where it is within these bounds.
-pub fn number_in(word: &[u8], least: u32, greatest: u32) -> Option<u32>
-    ensures number { result ≡ number_in least greatest word.now }
-    ensures within { IfSome result (λ n. IsWithin least greatest n) }
-{
-    match read_number(word) {
-        Some(number) if least <= number && number <= greatest => Some(number),
-        _ => None,
-    }
-}
-
-fn place_of(word: &[u8], sign: u8) -> Option<usize>
-    ensures place { result ≡ position (λ octet. octet == sign) word.now }
-    ensures within { IfSome result (λ place. place < length word.now) }
-{
-    word.iter().position(|octet| *octet == sign)
-}
-
-/// What stands before and behind the first such sign of `word`; `None` where it has none.
-pub fn split_at_sign(word: &[u8], sign: u8) -> Option<(&[u8], &[u8])>
-    ensures { option_map (λ halves. (halves.0.now, halves.1.now)) result ≡ parts sign word.now }
-{
-    match place_of(word, sign) {
-        Some(place) => Some((&word[..place], &word[place + 1..])),
-        None => None,
-    }
-}
-
-fn octet_of(word: &[u8]) -> Option<u8>
-    ensures { result ≡ number_in 0 255 word.now }
-{
-    match number_in(word, 0, 255) {
-        Some(number) => Some(number as u8),
-        None => None,
-    }
-}
-
-/// An address: four numbers 0 to 255 with dots.
-fn address_of(word: &[u8]) -> Option<Addr>
-    ensures { result ≡ address_of word.now }
-{
-    let (first, others) = split_at_sign(word, b'.')?;
-    let first = octet_of(first)?;
-    let (second, others) = split_at_sign(others, b'.')?;
-    let second = octet_of(second)?;
-    let (third, fourth) = split_at_sign(others, b'.')?;
-    let third = octet_of(third)?;
-    let fourth = octet_of(fourth)?;
-    Some(Addr(u32::from_be_bytes([first, second, third, fourth])))
-}
-
-/// A prefix: an address without host bits, a slash and a length of 0 to 32 bits.
-fn prefix_of(word: &[u8]) -> Option<Prefix>
-    ensures { result ≡ prefix_of word.now }
-{
-    let (addr, len) = split_at_sign(word, b'/')?;
-    let addr = address_of(addr)?;
-    let len = number_in(len, 0, 32)?;
-    match Prefix::new(addr, len as u8) {
-        Ok(prefix) => Some(prefix),
-        Err(_) => None,
-    }
 }
 
 /// A name. Refuses `BadName`.

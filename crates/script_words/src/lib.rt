@@ -1,5 +1,5 @@
-//! The words of a script's lines: which words a line has, how each form of a word is read, and what
-//! a line says by its words, with nodes by their names.
+//! The words of a script's lines: how each form of a word is read, and what a line says by its words,
+//! with nodes by their names.
 #![tactic(auto)]
 
 mod event_lines;
@@ -11,10 +11,8 @@ mod reader;
 mod routes;
 mod said;
 mod topology_lines;
-mod words;
 
 pub use fault::ReadFault;
-pub use forms::{number_in, split_at_sign};
 pub use reader::read_words;
 pub use said::{Said, Side};
 pub use script_model::LineRefusal;

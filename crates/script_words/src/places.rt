@@ -8,10 +8,11 @@ ghost use Rattle.world_model.specs.Conditions.{IsPort};
 ghost use Rattle.script_words.specs.Faults.{ok_as};
 ghost use Rattle.script_words.specs.Told.{side_told};
 
-use crate::forms::{is_name, number_in, split_at_sign};
+use crate::forms::is_name;
 use crate::said::Side;
 use net_types::{Channel, PortNo, label_number};
 use script_model::LineRefusal;
+use word_forms::{number_in, split_at_sign};
 
 fn port_of(word: &[u8]) -> Option<PortNo>
     ensures port { result ≡ port_of word.now }

@@ -8,10 +8,10 @@ ghost use Rattle.script_words.specs.Told.{said_alike};
 ghost use Rattle.script_words.specs.Ways.{way_described, way_changed, HasPort};
 
 use crate::forms::{read_name, read_port, read_prefix};
-use crate::words::{four_words, three_words};
 use ipv4_forward::Next;
 use net_types::Prefix;
 use script_model::LineRefusal;
+use word_forms::{four_words, three_words};
 
 /// A route by the name of its node.
 #[derive(Drop)]

@@ -16,11 +16,11 @@ use crate::forms::{read_address, read_name, read_number_in, read_port, read_time
 use crate::places::{read_end, read_label};
 use crate::routes::{Way, way_of};
 use crate::said::Said;
-use crate::words::{four_words, one_word, three_words, two_words};
 use ipv4_forward::Next;
 use net_types::{Octets, PortNo};
 use script_model::LineRefusal;
 use std::alloc::Global;
+use word_forms::{four_words, one_word, three_words, two_words};
 use world_model::TopologyLine;
 
 /// The most cells of a region.
