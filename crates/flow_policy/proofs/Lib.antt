@@ -1,0 +1,5 @@
+pub mod Ends
+pub mod Fields
+pub mod Covering
+pub mod Covered
+pub mod Said
