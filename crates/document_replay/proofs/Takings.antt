@@ -1,6 +1,6 @@
 -- the lines of a document are taken one after another
 
-use Rattle.std.proofs.Common.{◌≡◌, ◌∙◌, ℕ, zero, suc, ◌≤◌, List, [], ◌∷◌, ◌++◌, length, take, drop, slice_get, Option, None, Some, Result, Ok, Err, sym, ap, subst, append-nil, arith}
+use Rattle.std.proofs.Common.{◌≡◌, ◌∙◌, ℕ, zero, suc, ◌≤◌, List, [], ◌∷◌, ◌++◌, length, take, drop, slice_get, Option, None, Some, Result, Ok, Err, sym, ap, subst, append-nil, arith, option_map}
 use Rattle.std.proofs.lemmas.List.{take_all}
 use Rattle.std.specs.Result.{IsErrAnd}
 use Rattle.lab_io.specs.Report.{IsPut, Writer}
@@ -9,6 +9,7 @@ use Rattle.world_model.specs.Controller.{Controller}
 use Rattle.world_model.specs.Topology.{Topology}
 use Rattle.script_model.specs.declared.refusal.Refused.{Refused}
 use Rattle.script_model.specs.Reading.{string_says}
+use Rattle.script_model.specs.Documents.{behind_rules, numbered_behind}
 use Rattle.script_model.specs.Reports.{body_under, last_line}
 use Rattle.script_model.specs.Script.{Script, script_from}
 use Rattle.script_model.specs.State.{nothing_read}
@@ -19,7 +20,7 @@ use Rattle.network_run.specs.declared.stop.Stop.TheVariants.{OutOfMemory as NoMe
 use Rattle.network_run.specs.Telling.{IsLeft, told}
 use Rattle.network_run.proofs.Telling.{none_of, nothing_put, put_then, stops_by}
 use Rattle.network_replay.specs.declared.replay.Replay.{Replay}
-use Rattle.network_replay.specs.Along.{GoesOn, IsAlong, IsAtLast, IsBegun, IsGoing, world_behind}
+use Rattle.network_replay.specs.Along.{GoesOn, IsAlong, IsAtLast, IsBegun, IsGoing, IsWhole, world_behind}
 use Rattle.network_replay.proofs.Course.{along_ends, along_first, line_begins, stops_along}
 use Rattle.network_replay.proofs.Taking.{strings_are_read}
 use Rattle.document_replay.specs.Lines.{Comes, report_by, script_of_lines}
@@ -112,3 +113,13 @@ past_last (line ∷ lines) (suc place) none = omega (arith, past_last lines plac
 pub err_is : {A : Type 0} (result : Result A Stop) (stop : Stop) → IsErrAnd result (λ (s : Stop). s ≡ stop) → result ≡ Err stop
 err_is (Ok value) stop h = absurd h
 err_is (Err s) stop h = ap Err h
+
+-- *Numbered behind rules*, the script is as whole
+pub whole_behind : {C : Type 0} (seen : C → Controller) (choice : Topology → Policy) (count : ℕ) (script : Script) (refused told : Option Refused) (r : Replay C) → told ≡ option_map (numbered_behind count) refused
+    → IsWhole seen choice script refused r → IsWhole seen choice (behind_rules count script) told r
+whole_behind seen choice count script refused told r is whole = record {
+  topology = whole.topology;
+  event_lines = whole.event_lines;
+  refusal = ap (option_map (numbered_behind count)) whole.refusal ∙ sym is;
+  network = whole.network;
+}

@@ -7,6 +7,7 @@ use Rattle.world_model.specs.Controller.{Controller}
 use Rattle.world_model.specs.Topology.{Topology}
 use Rattle.world_model.specs.World.{opened}
 use Rattle.script_model.specs.declared.refusal.Refused.{Refused}
+use Rattle.script_model.specs.Documents.{Lines, behind_rules, rule_count, script_texts}
 use Rattle.script_model.specs.Reading.{string_says}
 use Rattle.script_model.specs.Reports.{body_under, report_under}
 use Rattle.script_model.specs.Script.{Script, script_from}
@@ -25,9 +26,12 @@ abbrev pub meter_by : (Topology → Policy) → (before : Meter) → Script → 
 meter_by choice before script =
     meter_behind before script.topology (opened (choice script.topology) script.topology) script.events
 
--- the script that the lines of a document are
+-- the script that lines are, and that of a document whose rules are read: its lines stand behind them
 abbrev pub script_of_lines : List (List ℕ) → Script
 script_of_lines lines = script_from string_says nothing_read lines
+
+abbrev pub script_behind_rules : Lines → Script
+script_behind_rules lines = behind_rules (rule_count lines) (script_of_lines (script_texts lines))
 
 -- *What lines come to*: the last line of the report is still to come, or an early end left a front of the lines of
 -- records. No claim needs this word

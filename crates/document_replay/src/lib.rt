@@ -1,8 +1,8 @@
-//! The replay of a script that is a TOML document: the document is read as a whole before its first line
-//! is taken, and the report is written as it grows.
+//! The replay of a script that is a TOML document: the document is read as a whole, and its rules, before
+//! the first line of its script is taken, and the report is written as it grows.
 #![tactic(auto)]
 
 mod document;
 mod lines;
 
-pub use document::replay_document;
+pub use document::{refuse, replay_lines};

@@ -1,10 +1,11 @@
-//! The lines of a document, one by one.
+//! The lines of a document's script, one by one.
 
-ghost use Rattle.std.specs.Prelude.{◌≡◌, IfOk, OnOk};
+ghost use Rattle.std.specs.Prelude.{◌≡◌, option_map, IfOk, OnOk};
 ghost use Rattle.lab_io.specs.Fault.{count_after};
 ghost use Rattle.network_run.specs.Telling.{Puts, StaysWithin, is_failed};
 ghost use Rattle.network_replay.specs.Along.{IsBegun};
-ghost use Rattle.document_replay.specs.Lines.{Comes, meter_by, report_by, script_of_lines};
+ghost use Rattle.script_model.specs.Documents.{numbered_behind, script_texts};
+ghost use Rattle.document_replay.specs.Lines.{Comes, meter_by, report_by, script_behind_rules, script_of_lines};
 
 use document_text::Lines;
 use lab_io::{ReportWriter, Sink};
@@ -26,12 +27,12 @@ fn take_lines<C: NodeController, N: PolicyChoice<C>, K: Sink>(
     meter: &mut Meter,
 ) -> Result<Option<Refused>, Stop>
     requires begun { IsBegun replay.old }
-    ensures comes { Comes C.seen (N.chosen choice.now) writer.old (K.written sink.old) meter.old (script_of_lines lines.now) result replay.new writer.new (K.written sink.new) meter.new }
+    ensures comes { Comes C.seen (N.chosen choice.now) writer.old (K.written sink.old) meter.old (script_of_lines (script_texts lines.now)) result replay.new writer.new (K.written sink.new) meter.new }
     ensures room { StaysWithin writer.old writer.new }
     ensures faults { K.faults sink.new ≡ count_after (is_failed result) (K.faults sink.old) }
 {
-    for place in 0..lines.len() {
-        let Some(text) = lines.at(place) else {
+    for place in 0..lines.script_len() {
+        let Some(text) = lines.script_at(place) else {
             return Ok(None);
         };
         if !replay.has_room(text) {
@@ -44,7 +45,22 @@ fn take_lines<C: NodeController, N: PolicyChoice<C>, K: Sink>(
     Ok(None)
 }
 
-/// Puts the report of the script that the lines are, and tells which of them is refused.
+/// A line of a script is numbered behind so many others. More lines than 32 bits count are want of
+/// memory.
+fn numbered_behind(count: usize, refused: Option<Refused>) -> Result<Option<Refused>, OutOfMemory>
+    ensures { IfOk result (λ told. told ≡ option_map (numbered_behind count) refused) }
+{
+    let Some(Refused::Line { number, name }) = refused else {
+        return Ok(refused);
+    };
+    if count > (u32::MAX - number) as usize {
+        return Err(OutOfMemory::from(AllocError));
+    }
+    let number = count as u32 + number;
+    Ok(Some(Refused::Line { number, name }))
+}
+
+/// Puts the report of the script that the lines behind the rules are, and tells which of them is refused.
 pub fn put_report<C: NodeController, N: PolicyChoice<C>, K: Sink>(
     replay: &mut Replay<C>,
     lines: &Lines,
@@ -54,12 +70,13 @@ pub fn put_report<C: NodeController, N: PolicyChoice<C>, K: Sink>(
     meter: &mut Meter,
 ) -> Result<Option<Refused>, Stop>
     requires begun { IsBegun replay.old }
-    ensures put { Puts result writer.old writer.new (K.written sink.old) (K.written sink.new) (report_by (N.chosen choice.now) (script_of_lines lines.now)) }
-    ensures refused { IfOk result (λ refused. (script_of_lines lines.now).refused ≡ refused) }
-    ensures meter { OnOk result (meter.new ≡ meter_by (N.chosen choice.now) meter.old (script_of_lines lines.now)) }
+    ensures put { Puts result writer.old writer.new (K.written sink.old) (K.written sink.new) (report_by (N.chosen choice.now) (script_behind_rules lines.now)) }
+    ensures refused { IfOk result (λ refused. (script_behind_rules lines.now).refused ≡ refused) }
+    ensures meter { OnOk result (meter.new ≡ meter_by (N.chosen choice.now) meter.old (script_behind_rules lines.now)) }
     ensures faults { K.faults sink.new ≡ count_after (is_failed result) (K.faults sink.old) }
 {
-    let refused = take_lines(replay, lines, choice, writer, sink, meter)?;
+    let found = take_lines(replay, lines, choice, writer, sink, meter)?;
+    let refused = numbered_behind(lines.rule_len(), found)?;
     replay.end(refused, choice, writer, sink)?;
     Ok(refused)
 }

@@ -1,12 +1,12 @@
 //! Reading a document.
 
-ghost use Rattle.std.specs.Prelude.{◌≡◌, ◌≤◌, ◌↔◌, Some, None, Err, IfOk, length};
+ghost use Rattle.std.specs.Prelude.{◌≡◌, ◌≤◌, ◌↔◌, Err, length};
 ghost use Rattle.toml.specs.View.{table_view};
 ghost use Rattle.toml.specs.Errors.{IsMemory};
 ghost use Rattle.script_model.specs.declared.refusal.DocumentRefusal.{DocumentRefusal};
 ghost use Rattle.script_model.specs.Limits.{input_limit};
-ghost use Rattle.script_model.specs.Documents.{document_lines, document_script, refused_document, script_in};
-ghost use Rattle.document_text.specs.Reading.{Reads, ReadsAs, document_of};
+ghost use Rattle.script_model.specs.Documents.{document_lines, document_of};
+ghost use Rattle.document_text.specs.Reading.{IsRead, Reads, ReadsAs, members_of};
 
 use crate::fault::DocumentFault;
 use crate::lines::Lines;
@@ -31,7 +31,7 @@ fn table_fault(error: &Error) -> DocumentFault
 
 /// The table of a document.
 fn table_of(alloc: Global, octets: &[u8]) -> Result<Table, DocumentFault>
-    ensures { ReadsAs table_view (document_of octets.now) result }
+    ensures { ReadsAs table_view (members_of octets.now) result }
 {
     match toml::table_from_slice(alloc, octets) {
         Ok(table) => Ok(table),
@@ -49,16 +49,12 @@ fn read_lines(alloc: Global, octets: &[u8]) -> Result<Lines, DocumentFault>
     }
 }
 
-/// Reads a document, `octets` in UTF-8, whose table has at most the keys `topology` and `events`, each
-/// an array of strings: the lines of a script without their ends, those of `topology` first. Refuses
-/// `ScriptTooLong` where it has more than 16,777,216 octets, and then `Toml` where it is no such
-/// document.
+/// Reads a document, `octets` in UTF-8, whose table has at most the keys `rules`, `topology` and `events`,
+/// each an array of strings: lines without their ends, in this order. Refuses `ScriptTooLong` exactly where
+/// it has more than 16,777,216 octets, and then `Toml` where it is no such document.
 pub fn read_document(alloc: Global, octets: &[u8]) -> Result<Lines, DocumentFault>
-    ensures lines { IfOk result (λ lines. document_lines octets.now ≡ Some lines) }
-    ensures toml { result ≡ Err (DocumentFault.Refused DocumentRefusal.Toml) → document_lines octets.now ≡ None }
+    ensures read { IsRead (document_of octets.now) result }
     ensures script_too_long { (result ≡ Err (DocumentFault.Refused DocumentRefusal.ScriptTooLong)) ↔ (input_limit ≤ length octets.now) }
-    ensures script { IfOk result (λ lines. document_script octets.now ≡ script_in (Some lines)) }
-    ensures refused { (name : DocumentRefusal) → result ≡ Err (DocumentFault.Refused name) → document_script octets.now ≡ refused_document name }
 {
     if INPUT_LIMIT <= octets.len() {
         return Err(DocumentFault::Refused(DocumentRefusal::ScriptTooLong));

@@ -1,9 +1,10 @@
-//! The policy that a script names.
+//! The policy that a script names, and that of rules.
 
 ghost use Rattle.std.specs.Prelude.{◌≡◌};
 
 use controller::Controller;
 use flow_classifier::{NamedPolicy, XyPolicy};
+use flow_policy::{RulePolicy, RuleSet};
 use network_replay::PolicyChoice;
 use router_port::RouterPort;
 use topology::Topology;
@@ -31,5 +32,24 @@ impl PolicyChoice<NamedController> for ByName {
             }
             None => NamedPolicy::Never,
         }
+    }
+}
+
+/// The controller of a node whose ports all go by rules.
+pub(crate) type RuledController<'a> = Controller<RouterPort<RulePolicy<'a>>>;
+
+/// The choice of rules, whatever the script names.
+#[derive(Clone, Copy, Debug)]
+pub(crate) struct ByRules<'a> {
+    pub(crate) rules: &'a RuleSet,
+}
+
+impl<'a> PolicyChoice<RuledController<'a>> for ByRules<'a> {
+    ghost use Rattle.rule_model.specs.Matching.{rules_policy};
+
+    ghost chosen = { λ choice topology. rules_policy choice.rules.now };
+
+    fn choose(&self, _topology: &Topology) -> RulePolicy<'a> {
+        RulePolicy { rules: self.rules }
     }
 }

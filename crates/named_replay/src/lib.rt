@@ -1,5 +1,5 @@
 //! The replay of a script, of a document and of a drill in a network of IP switches, whose nodes all go
-//! by the policy that the script names.
+//! by the policy that the script names, or by the rules of the document.
 #![tactic(auto)]
 
 mod choice;

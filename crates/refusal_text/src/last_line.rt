@@ -1,11 +1,13 @@
 //! What is refused, and why, as a line.
 
 ghost use Rattle.std.specs.Prelude.{◌≡◌, ◌++◌, OnOk};
+ghost use Rattle.rule_model.specs.Names.{rule_refusal_name};
 ghost use Rattle.script_model.specs.Names.{refusal_name, document_refusal_name};
 ghost use Rattle.script_model.specs.Reports.{refused_line};
 
 use lab_text::Text;
 use net_types::OutOfMemory;
+use rule_model::RuleRefusal;
 use script_model::{DocumentRefusal, LineRefusal, Refused};
 
 fn refusal_name(refusal: LineRefusal) -> &'static str
@@ -47,6 +49,21 @@ fn document_refusal_name(refusal: DocumentRefusal) -> &'static str
     }
 }
 
+fn rule_refusal_name(refusal: RuleRefusal) -> &'static str
+    ensures { result.now ≡ rule_refusal_name refusal }
+{
+    match refusal {
+        RuleRefusal::LineTooLong => "LineTooLong",
+        RuleRefusal::BadByte => "BadByte",
+        RuleRefusal::UnknownWord => "UnknownWord",
+        RuleRefusal::Arity => "Arity",
+        RuleRefusal::BadPrefix => "BadPrefix",
+        RuleRefusal::BadPorts => "BadPorts",
+        RuleRefusal::BadNumber => "BadNumber",
+        RuleRefusal::TooManyRules => "TooManyRules",
+    }
+}
+
 /// Writes `refused`, the number of the first refused line, and the name of its refusal; or `refused 0`
 /// and why the document is refused as a whole.
 pub fn write_refused(out: &mut Text, refused: Refused) -> Result<(), OutOfMemory>
@@ -54,6 +71,7 @@ pub fn write_refused(out: &mut Text, refused: Refused) -> Result<(), OutOfMemory
 {
     let (number, name) = match refused {
         Refused::Line { number, name } => (number, refusal_name(name)),
+        Refused::Rule { number, name } => (number, rule_refusal_name(name)),
         Refused::Document(name) => (0, document_refusal_name(name)),
     };
     out.text("refused ")?;

@@ -1,6 +1,6 @@
 -- the topology of a script is one that lines make
 
-use Rattle.std.proofs.Common.{◌≡◌, ℕ, List, [], ◌∷◌, length, take, Bool, true, false, Option, None, Some, Result, Ok, Err, refl, nat_le, option_and_then}
+use Rattle.std.proofs.Common.{◌≡◌, ℕ, List, [], ◌∷◌, take, Option, None, Some, Result, Ok, Err, refl, option_and_then}
 use Rattle.lab_text.specs.Line.{text_fault, line_fault}
 use Rattle.lab_text.specs.Lines.{lines_of}
 use Rattle.lab_text.specs.Words.{line_text}
@@ -14,7 +14,9 @@ use Rattle.script_model.specs.State.{ScriptState, nothing_read}
 use Rattle.script_model.specs.Reading.{fault_name, says_by, text_says, line_says, string_says, state_after}
 use Rattle.script_model.specs.Sayable.{IsSayable}
 use Rattle.script_model.specs.Script.{Script, script_from, script_by, script_of}
-use Rattle.script_model.specs.Documents.{document_lines, document_script, script_in}
+use Rattle.script_model.specs.declared.refusal.Refused.{Refused}
+use Rattle.script_model.specs.declared.refusal.DocumentRefusal.{DocumentRefusal}
+use Rattle.script_model.specs.Documents.{Lines, document_of, document_script, script_by as document_by_rules, script_in, script_texts, rule_refused, rules_read}
 use Rattle.script_model.proofs.ReadLines.{text_is}
 
 -- a line that is said leaves a topology
@@ -64,14 +66,13 @@ pub script_makes : (octets : List ℕ) → IsTopology (script_of octets).topolog
 unfolding script_of
 script_makes octets = from_keeps line_says line_reads nothing_read (lines_of (take input_limit octets)) empty_is
 
-document_in : (lines : Option (List (List ℕ))) → IsTopology (script_in lines).topology
-document_in None = empty_is
-document_in (Some lines) = from_keeps string_says string_reads nothing_read lines empty_is
+document_by : (lines : Lines) (refused : Option Refused) → IsTopology (document_by_rules lines refused).topology
+document_by lines None = from_keeps string_says string_reads nothing_read (script_texts lines) empty_is
+document_by lines (Some refused) = empty_is
+
+document_in : (found : Result Lines DocumentRefusal) → IsTopology (script_in found).topology
+document_in (Ok lines) = document_by lines (rule_refused (rules_read lines))
+document_in (Err name) = empty_is
 
 pub document_makes : (octets : List ℕ) → IsTopology (document_script octets).topology
-unfolding document_script
-document_makes octets = by (nat_le input_limit (length octets)) refl
-  where
-    by : (long : Bool) → nat_le input_limit (length octets) ≡ long → IsTopology (document_script octets).topology
-    by true e = rw e empty_is
-    by false e = rw e (document_in (document_lines octets))
+document_makes octets = document_in (document_of octets)

@@ -11,6 +11,7 @@ pub mod Texts
 pub mod Writing
 pub mod Records
 pub mod Reports
+pub mod Judgement
 pub mod Ideal
 pub mod Drill
 pub mod Sayable

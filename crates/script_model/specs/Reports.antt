@@ -9,11 +9,12 @@ use Rattle.world_model.specs.Topology.{Topology, policy_of}
 use Rattle.world_model.specs.World.{Counts, counts_of, opened}
 use Rattle.world_model.specs.Run.{run, world_after, records_of}
 use Rattle.script_model.specs.declared.refusal.Refused.{Refused}
-use Rattle.script_model.specs.declared.refusal.Refused.TheVariants.{Line, Document}
+use Rattle.script_model.specs.declared.refusal.Refused.TheVariants.{Line, Rule, Document}
+use Rattle.rule_model.specs.Names.{rule_refusal_name}
 use Rattle.script_model.specs.Names.{refusal_name, document_refusal_name}
 use Rattle.script_model.specs.Records.{record_line}
 use Rattle.script_model.specs.Script.{Script, script_of}
-use Rattle.script_model.specs.Documents.{document_script}
+use Rattle.script_model.specs.Documents.{document_script, document_policy}
 
 abbrev pub record_lines : Topology → List Record → List ℕ
 record_lines topology records = flat_map (record_line topology) records
@@ -33,6 +34,7 @@ end_line event_lines counts = line_of (end_words event_lines counts)
 -- or of one in which a line is refused, or which is refused as a whole
 abbrev pub refused_words : Refused → List (List ℕ)
 refused_words (Line number name) = codes "refused" ∷ decimal number ∷ refusal_name name ∷ []
+refused_words (Rule number name) = codes "refused" ∷ decimal number ∷ rule_refusal_name name ∷ []
 refused_words (Document name) = codes "refused" ∷ decimal 0 ∷ document_refusal_name name ∷ []
 
 abbrev pub refused_line : Refused → List ℕ
@@ -67,5 +69,6 @@ report script = report_under (policy_of script.topology) script
 unfoldable pub script_report : List ℕ → List ℕ
 script_report octets = report (script_of octets)
 
+-- a document may have rules for its policy
 unfoldable pub document_report : List ℕ → List ℕ
-document_report octets = report (document_script octets)
+document_report octets = report_under (document_policy octets) (document_script octets)

@@ -1,5 +1,7 @@
 //! Why lines and documents are refused.
 
+use rule_model::RuleRefusal;
+
 /// Why a line is refused, in the order of the tests.
 #[derive(Clone, Copy, Debug, PartialEq, Eq)]
 pub enum LineRefusal {
@@ -65,10 +67,17 @@ pub enum DocumentRefusal {
 pub enum Refused {
     /// A line.
     Line {
-        /// Its number, from 1, blank lines counted.
+        /// Its number, from 1, blank lines counted; of a document, behind those of its rules.
         number: u32,
         /// Why.
         name: LineRefusal,
+    },
+    /// A line of a document's rules.
+    Rule {
+        /// Its number, from 1, blank lines counted.
+        number: u32,
+        /// Why.
+        name: RuleRefusal,
     },
     /// The document.
     Document(DocumentRefusal),

@@ -30,8 +30,9 @@ use Rattle.script_model.specs.Reading.{fault_name, says_by, text_says, line_says
 use Rattle.script_model.specs.Sayable.{IsSayable}
 use Rattle.script_model.specs.Script.{Script, ended, script_from, script_by, script_of, events_of, opened_of}
 use Rattle.script_model.specs.declared.refusal.DocumentRefusal.{DocumentRefusal}
-use Rattle.script_model.specs.declared.refusal.DocumentRefusal.TheVariants.{ScriptTooLong, Toml}
-use Rattle.script_model.specs.Documents.{document_lines, document_script, refused_document, script_in}
+use Rattle.script_model.specs.declared.refusal.Refused.{Refused}
+use Rattle.script_model.specs.declared.refusal.Refused.TheVariants.{Document}
+use Rattle.script_model.specs.Documents.{Lines, document_of, document_script, behind_rules, refused_script, rule_count, rule_refused, rules_read, script_by as document_by_rules, script_in, script_texts}
 use Rattle.script_model.specs.Drill.{drill_words, drill_script}
 use Rattle.script_model.proofs.ReadLines.{text_is}
 use Rattle.network_replay.specs.Along.{HasBegun}
@@ -254,20 +255,25 @@ pub scripts : (octets : List ℕ) → IsScriptRun (script_of octets)
 unfolding script_of
 scripts octets = script_runs (script_from line_says nothing_read (lines_of (take input_limit octets))) (from_goes line_says line_reads (lines_of (take input_limit octets)) nothing_read [] nothing_said)
 
-no_document : (name : DocumentRefusal) → IsScriptRun (refused_document name)
-no_document name = script_runs (refused_document name) (record { addresses = tt; run = λ policy. run_of_none policy empty_topology empty_is })
+no_script : (refused : Refused) → IsScriptRun (refused_script refused)
+no_script refused = script_runs (refused_script refused) (record { addresses = tt; run = λ policy. run_of_none policy empty_topology empty_is })
 
-document_in : (texts : Option (List (List ℕ))) → IsScriptRun (script_in texts)
-document_in None = no_document Toml
-document_in (Some texts) = script_runs (script_from string_says nothing_read texts) (from_goes string_says string_reads texts nothing_read [] nothing_said)
+-- the numbers of its lines don't matter
+behind_run : (count : ℕ) (script : Script) → IsScriptRun script → IsScriptRun (behind_rules count script)
+behind_run count script is = record { addresses = is.addresses; run = is.run }
+
+document_by : (found : Lines) (refused : Option Refused) → IsScriptRun (document_by_rules found refused)
+document_by found None =
+    behind_run (rule_count found) (script_from string_says nothing_read (script_texts found))
+    (script_runs (script_from string_says nothing_read (script_texts found)) (from_goes string_says string_reads (script_texts found) nothing_read [] nothing_said))
+document_by found (Some refused) = no_script refused
+
+document_in : (found : Result Lines DocumentRefusal) → IsScriptRun (script_in found)
+document_in (Ok found) = document_by found (rule_refused (rules_read found))
+document_in (Err name) = no_script (Document name)
 
 pub documents : (octets : List ℕ) → IsScriptRun (document_script octets)
-unfolding document_script
-documents octets = by (nat_le input_limit (length octets)) refl
-  where
-    by : (long : Bool) → nat_le input_limit (length octets) ≡ long → IsScriptRun (document_script octets)
-    by true e = rw e (no_document ScriptTooLong)
-    by false e = rw e (document_in (document_lines octets))
+documents octets = document_in (document_of octets)
 
 pub drills : (n : ℕ) → IsScriptRun (drill_script n)
 unfolding drill_script

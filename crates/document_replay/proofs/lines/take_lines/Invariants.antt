@@ -1,11 +1,12 @@
 use Rattle.std.proofs.Common.{◌≡◌}
+use Rattle.script_model.specs.Documents.{script_texts}
 use Rattle.network_run.specs.Telling.{StaysWithin}
 use Rattle.document_replay.proofs.Takings.{AlongTo}
 use Rattle.document_replay.proofs.lines.take_lines.Given as goal
 
 abbrev pub invariant-loop-place : goal.invariant-loop-place
 invariant-loop-place g l = record {
-  along : AlongTo g.C.NodeController.seen (g.N.PolicyChoice.chosen l.choice) l.fn.writer (g.K.Sink.written l.fn.sink) l.fn.meter l.lines l.place l.replay l.writer (g.K.Sink.written l.sink) l.meter;
+  along : AlongTo g.C.NodeController.seen (g.N.PolicyChoice.chosen l.choice) l.fn.writer (g.K.Sink.written l.fn.sink) l.fn.meter (script_texts l.lines) l.place l.replay l.writer (g.K.Sink.written l.sink) l.meter;
   room : StaysWithin l.fn.writer l.writer;
   faults : g.K.Sink.faults l.sink ≡ g.K.Sink.faults l.fn.sink;
 }
