@@ -1,0 +1,6 @@
+pub mod Fronts
+pub mod Walk
+pub mod Fates
+pub mod Kept
+pub mod Harmony
+pub mod Reading

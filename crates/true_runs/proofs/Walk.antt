@@ -1,0 +1,36 @@
+-- what holds at the opening of a run and is kept by each event holds in every run
+
+use Rattle.std.proofs.Common.{◌≡◌, List, [], ◌∷◌, ◌++◌, append_assoc, append-nil, sym, subst}
+use Rattle.port_model.specs.Setup.{Policy}
+use Rattle.world_model.specs.declared.event.Event.{Event}
+use Rattle.world_model.specs.Topology.{Topology}
+use Rattle.world_model.specs.Past.{Past, past_of}
+use Rattle.world_model.specs.Headline.{IsRun, IsTame}
+use Rattle.world_views.specs.Kept.{HasAddresses, Comes, Begins, behind}
+use Rattle.true_runs.specs.Runs.{HoldsInRuns}
+use Rattle.true_runs.proofs.Fronts.{front_run, front_tame}
+
+-- kept with nothing but itself
+abbrev pub KeepsItself : (Past → Type 0) → Type 0
+KeepsItself P = (policy : Policy) (topology : Topology) (before : List Event) (event : Event)
+    → Comes policy topology before event → P (past_of policy topology before) → P (behind policy topology before event)
+
+module _ (P : Past → Type 0) (keeps : KeepsItself P) (policy : Policy) (topology : Topology) (addresses : HasAddresses topology) where
+  walk : (before after : List Event) → IsRun policy topology (before ++ after) → IsTame (past_of policy topology (before ++ after)).records
+      → P (past_of policy topology before) → P (past_of policy topology (before ++ after))
+  walk before [] run tame w = subst (λ (es : List Event). P (past_of policy topology es)) (sym (append-nil before)) w
+  walk before (event ∷ after) run tame w =
+      let joined : (before ++ event ∷ []) ++ after ≡ before ++ event ∷ after = append_assoc before (event ∷ []) after in
+      let run_joined = subst (IsRun policy topology) (sym joined) run in
+      let tame_joined = subst (λ (es : List Event). IsTame (past_of policy topology es).records) (sym joined) tame in
+      let comes : Comes policy topology before event = record {
+        run = front_run policy topology (before ++ event ∷ []) after run_joined;
+        addresses = addresses;
+        tame = front_tame policy topology (before ++ event ∷ []) after tame_joined;
+      } in
+      subst (λ (es : List Event). P (past_of policy topology es)) joined
+      (walk (before ++ event ∷ []) after run_joined tame_joined (keeps policy topology before event comes w))
+
+pub holds_in_runs : (P : Past → Type 0) → KeepsItself P → Begins P → HoldsInRuns P
+holds_in_runs P keeps begins policy topology events run addresses tame =
+    walk P keeps policy topology addresses [] events run tame (begins policy topology run.topology_is addresses)

@@ -1,0 +1,27 @@
+-- What holds of every run before the first frame that was forged or passed its test by chance
+
+use Rattle.std.specs.Prelude.{List}
+use Rattle.port_model.specs.Setup.{Policy}
+use Rattle.world_model.specs.declared.event.Event.{Event}
+use Rattle.world_model.specs.Topology.{Topology}
+use Rattle.world_model.specs.Past.{Past, past_of}
+use Rattle.world_model.specs.Headline.{IsRun, IsTame, IsInHarmony}
+use Rattle.world_views.specs.Between.{IsWorld}
+use Rattle.world_views.specs.Kept.{HasAddresses}
+use Rattle.packet_worlds.specs.Channels.{HasChannels}
+use Rattle.passed_cells.specs.Passed.{HasRequests}
+use Rattle.ownership.specs.Places.{HasPlaces}
+
+-- so of each such run, whatever the policy, the topology and the events
+abbrev pub HoldsInRuns : (Past → Type 0) → Type 0
+HoldsInRuns P = (policy : Policy) (topology : Topology) (events : List Event) → IsRun policy topology events → HasAddresses topology
+    → IsTame (past_of policy topology events).records → P (past_of policy topology events)
+
+-- *What is kept from event to event*: all of `IsWorld`, on which channels cells, requests and control frames stand, and that
+-- nothing is refused and nothing disowns a label
+pub record IsWhole (past : Past) : Type 0 where
+  pub world : IsWorld past
+  pub channels : HasChannels past
+  pub requests : HasRequests past
+  pub places : HasPlaces past
+  pub harmony : IsInHarmony past
