@@ -14,29 +14,34 @@ use Rattle.clap.specs.Values.{kind_of}
 use Rattle.clap.specs.declared.error.Error.{Error}
 use Rattle.lab_text.specs.Forms.{number_in}
 use Rattle.command_line.specs.declared.command.Command.{Command}
-use Rattle.command_line.specs.declared.command.Command.TheVariants.{Replay, ReplayToml, Ideal, DecodeIfmp, DecodeGsmp, Drill}
+use Rattle.command_line.specs.declared.command.Command.TheVariants.{Replay, ReplayToml, Ideal, Rules, DecodeIfmp, DecodeGsmp, Drill}
 use Rattle.command_line.specs.Commands.{words_of, HasItsNumber, AskFor, IsReading}
 use Rattle.command_line.specs.Grammar.{grammar_app}
 use Rattle.command_line.specs.Reading.{drill, behind_replay, behind_decode, worded, alone, asked, command_in, is_barred, RefusedBy}
 use Rattle.command_line.proofs.Numbers.{drill_told, drill_read, drill_passes}
-use Rattle.command_line.proofs.Parting.{spelled, taken_of, IsGiven, replay_given, ideal_given, replay_word_given, decode_given, drill_given}
+use Rattle.command_line.proofs.Parting.{spelled, taken_of, IsGiven, replay_given, ideal_given, rules_given, replay_word_given, decode_given, drill_given}
 
 is_text : (xs ys : Text) → bytes_eq xs ys ≡ true → xs ≡ ys
 is_text xs ys test = (bytes_eq-Decides xs ys).0 test
 
 -- *A name alone*
 alone_asked : (name : Text) (command : Command) → alone name ≡ Some command → AskFor (name ∷ []) command
-alone_asked name command e = by (bytes_eq name (codes "replay")) refl (bytes_eq name (codes "ideal")) refl e
+alone_asked name command e =
+    is_named (codes "replay") Replay _ refl tt
+    (is_named (codes "ideal") Ideal _ refl tt
+    (is_named (codes "rules") Rules _ refl tt (λ none. absurd (cc)))) e
   where
-    by : (a : Bool) → bytes_eq name (codes "replay") ≡ a → (b : Bool) → bytes_eq name (codes "ideal") ≡ b
-        → (if a then Some Replay else (if b then Some Ideal else None)) ≡ Some command → AskFor (name ∷ []) command
-    by true ea b eb e =
-        let same : Replay ≡ command = cc in
-        subst (AskFor (name ∷ [])) same (record { words_are = ap (λ x. x ∷ []) (is_text name (codes "replay") ea); number = tt })
-    by false ea true eb e =
-        let same : Ideal ≡ command = cc in
-        subst (AskFor (name ∷ [])) same (record { words_are = ap (λ x. x ∷ []) (is_text name (codes "ideal") eb); number = tt })
-    by false ea false eb e = absurd (cc)
+    -- the name is this command's, or what comes else is asked
+    is_named : (known : Text) (asks : Command) (other : Option Command) → words_of asks ≡ known ∷ [] → HasItsNumber asks
+        → (other ≡ Some command → AskFor (name ∷ []) command)
+        → (if bytes_eq name known then Some asks else other) ≡ Some command → AskFor (name ∷ []) command
+    is_named known asks other words number else_asked = by (bytes_eq name known) refl
+      where
+        by : (a : Bool) → bytes_eq name known ≡ a → (if a then Some asks else other) ≡ Some command → AskFor (name ∷ []) command
+        by true ea e =
+            let same : asks ≡ command = cc in
+            subst (AskFor (name ∷ [])) same (record { words_are = ap (λ x. x ∷ []) (is_text name known ea) ∙ sym words; number = number })
+        by false ea e = else_asked e
 
 -- *A word behind a name*
 record IsWordOf (name word : Text) (command : Command) : Type 0 where
@@ -108,6 +113,7 @@ given_words : (command : Command) → HasItsNumber command → IsGiven (words_of
 given_words Replay has = replay_given
 given_words ReplayToml has = replay_word_given (codes "toml") refl
 given_words Ideal has = ideal_given
+given_words Rules has = rules_given
 given_words DecodeIfmp has = decode_given (codes "ifmp") refl
 given_words DecodeGsmp has = decode_given (codes "gsmp") refl
 given_words (Drill number) has =

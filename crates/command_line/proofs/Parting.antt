@@ -29,6 +29,10 @@ is_ideal : IsName (codes "ideal") (bare_leaf (codes "ideal"))
 unfolding clap_on_literals
 is_ideal = record { met = refl; passes = refl; found = refl }
 
+is_rules : IsName (codes "rules") (bare_leaf (codes "rules"))
+unfolding clap_on_literals
+is_rules = record { met = refl; passes = refl; found = refl }
+
 is_decode : IsName (codes "decode") (worded_leaf (codes "decode") true)
 unfolding clap_on_literals
 is_decode = record { met = refl; passes = refl; found = refl }
@@ -111,14 +115,15 @@ module _ (word : Text) (rest : List Text) (plain : are_plain (word ∷ rest) ≡
       let same : name ≡ word = (bytes_eq-Decides name word).0 test in
       subst (λ v. IsTaken (v ∷ rest)) same (take behind (ap (λ v. fault_of grammar_app (v ∷ rest)) same ∙ free))
 
-  taken_by : (a b c d : Bool) → bytes_eq (codes "replay") word ≡ a → bytes_eq (codes "ideal") word ≡ b
-      → bytes_eq (codes "decode") word ≡ c → bytes_eq (codes "drill") word ≡ d → IsTaken (word ∷ rest)
-  taken_by true b c d replay ideal decode drill = named (codes "replay") replay (take_worded (codes "replay") false is_replay rest)
-  taken_by false true c d replay ideal decode drill = named (codes "ideal") ideal (take_bare (codes "ideal") is_ideal rest)
-  taken_by false false true d replay ideal decode drill = named (codes "decode") decode (take_worded (codes "decode") true is_decode rest)
-  taken_by false false false true replay ideal decode drill = named (codes "drill") drill (take_worded (codes "drill") true is_drill rest)
-  taken_by false false false false replay ideal decode drill =
-      let none : subcommand_met names idle word ≡ None = rw (replay, ideal, decode, drill) refl in
+  taken_by : (a b c d e : Bool) → bytes_eq (codes "replay") word ≡ a → bytes_eq (codes "ideal") word ≡ b
+      → bytes_eq (codes "decode") word ≡ c → bytes_eq (codes "drill") word ≡ d → bytes_eq (codes "rules") word ≡ e → IsTaken (word ∷ rest)
+  taken_by true b c d e replay ideal decode drill rules = named (codes "replay") replay (take_worded (codes "replay") false is_replay rest)
+  taken_by false true c d e replay ideal decode drill rules = named (codes "ideal") ideal (take_bare (codes "ideal") is_ideal rest)
+  taken_by false false true d e replay ideal decode drill rules = named (codes "decode") decode (take_worded (codes "decode") true is_decode rest)
+  taken_by false false false true e replay ideal decode drill rules = named (codes "drill") drill (take_worded (codes "drill") true is_drill rest)
+  taken_by false false false false true replay ideal decode drill rules = named (codes "rules") rules (take_bare (codes "rules") is_rules rest)
+  taken_by false false false false false replay ideal decode drill rules =
+      let none : subcommand_met names idle word ≡ None = rw (replay, ideal, decode, drill, rules) refl in
       absurd (stray_fault_of word rest (or_false (is_dash word) (are_plain rest) plain).0 none free)
 
 nothing_fails : fault_of grammar_app [] ≡ [] → ⊥
@@ -127,7 +132,7 @@ nothing_fails e = cc
 
 taken : (words : List Text) → are_plain words ≡ false → fault_of grammar_app words ≡ [] → IsTaken words
 taken [] plain free = absurd (nothing_fails free)
-taken (word ∷ rest) plain free = taken_by word rest plain free _ _ _ _ refl refl refl refl
+taken (word ∷ rest) plain free = taken_by word rest plain free _ _ _ _ _ refl refl refl refl refl
 
 are_plain_of : (words : List Text) → list_any is_barred words ≡ false → are_plain words ≡ false
 are_plain_of [] none = refl
@@ -153,12 +158,18 @@ replay_given = record {
   read_as = is_read_as (codes "replay") (worded_leaf (codes "replay") false) is_replay refl [] None (alone_rows (codes "replay") false);
 }
 
-pub ideal_given : IsGiven (spelled (codes "ideal") None) (asked (codes "ideal") None)
-ideal_given = record {
-  none = refl;
-  free = is_free_of (codes "ideal") (bare_leaf (codes "ideal")) is_ideal [] (bare_passes (codes "ideal"));
-  read_as = is_read_as (codes "ideal") (bare_leaf (codes "ideal")) is_ideal refl [] None (bare_rows (codes "ideal"));
+bare_given : (name : Text) → IsName name (bare_leaf name) → is_barred name ≡ false → IsGiven (spelled name None) (asked name None)
+bare_given name is plain = record {
+  none = rw plain refl;
+  free = is_free_of name (bare_leaf name) is [] (bare_passes name);
+  read_as = is_read_as name (bare_leaf name) is refl [] None (bare_rows name);
 }
+
+pub ideal_given : IsGiven (spelled (codes "ideal") None) (asked (codes "ideal") None)
+ideal_given = bare_given (codes "ideal") is_ideal refl
+
+pub rules_given : IsGiven (spelled (codes "rules") None) (asked (codes "rules") None)
+rules_given = bare_given (codes "rules") is_rules refl
 
 worded_given : (name : Text) (required : Bool) → IsName name (worded_leaf name required) → is_barred name ≡ false → (word : Text)
     → is_barred word ≡ false → IsGiven (spelled name (Some word)) (asked name (Some word))

@@ -2,12 +2,13 @@
 
 use Rattle.std.specs.Prelude.{◌≡◌, ℕ, ◌≤◌, List, [], ◌∷◌, codes, decimal, Option, Some}
 use Rattle.command_line.specs.declared.command.Command.{Command}
-use Rattle.command_line.specs.declared.command.Command.TheVariants.{Replay, ReplayToml, Ideal, DecodeIfmp, DecodeGsmp, Drill}
+use Rattle.command_line.specs.declared.command.Command.TheVariants.{Replay, ReplayToml, Ideal, Rules, DecodeIfmp, DecodeGsmp, Drill}
 
 abbrev pub words_of : Command → List (List ℕ)
 words_of Replay = codes "replay" ∷ []
 words_of ReplayToml = codes "replay" ∷ codes "toml" ∷ []
 words_of Ideal = codes "ideal" ∷ []
+words_of Rules = codes "rules" ∷ []
 words_of DecodeIfmp = codes "decode" ∷ codes "ifmp" ∷ []
 words_of DecodeGsmp = codes "decode" ∷ codes "gsmp" ∷ []
 words_of (Drill number) = codes "drill" ∷ decimal number ∷ []

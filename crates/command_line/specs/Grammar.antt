@@ -25,7 +25,9 @@ grammar_app =
     with_subcommand
     (with_subcommand
     (with_subcommand
+    (with_subcommand
     (with_subcommand top_app (worded (codes "replay") false))
     (bare (codes "ideal")))
     (worded (codes "decode") true))
-    (worded (codes "drill") true)
+    (worded (codes "drill") true))
+    (bare (codes "rules"))

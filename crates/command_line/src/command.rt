@@ -16,6 +16,8 @@ pub enum Command {
     ReplayToml,
     /// `ideal`: tells the fate of each packet of a script by routing alone.
     Ideal,
+    /// `rules`: judges the rules of a document, which of them can never decide.
+    Rules,
     /// `decode ifmp`: tells the messages of hexadecimal lines, in IFMP.
     DecodeIfmp,
     /// `decode gsmp`: the same, in GSMP.
@@ -84,6 +86,7 @@ fn alone(name: &str) -> Option<Command>
     match name {
         "replay" => Some(Command::Replay),
         "ideal" => Some(Command::Ideal),
+        "rules" => Some(Command::Rules),
         _ => None,
     }
 }

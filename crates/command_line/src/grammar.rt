@@ -45,5 +45,6 @@ pub fn grammar<'a>(alloc: Global) -> Result<Command<'a>, AllocError>
         .subcommand(worded(alloc, "replay", false)?)?
         .subcommand(bare(alloc, "ideal"))?
         .subcommand(worded(alloc, "decode", true)?)?
-        .subcommand(worded(alloc, "drill", true)?)
+        .subcommand(worded(alloc, "drill", true)?)?
+        .subcommand(bare(alloc, "rules"))
 }

@@ -8,13 +8,15 @@ use Rattle.std.proofs.lemmas.List.{take-append-le}
 use Rattle.lab_text.specs.Lines.{lines_of}
 use Rattle.message_text.specs.Listing.{fault_from, lines_in}
 use Rattle.script_model.specs.Reading.{line_says}
-use Rattle.script_model.specs.Script.{Script, script_of, script_from}
+use Rattle.script_model.specs.Script.{script_of, script_from}
 use Rattle.script_model.specs.State.{nothing_read}
+use Rattle.script_model.specs.declared.refusal.DocumentRefusal.{DocumentRefusal}
 use Rattle.script_model.specs.declared.refusal.DocumentRefusal.TheVariants.{ScriptTooLong}
-use Rattle.script_model.specs.Documents.{document_script, refused_document}
+use Rattle.script_model.specs.Documents.{Lines, document_of, document_script, script_in}
+use Rattle.script_model.specs.Judgement.{judged_refused}
 use Rattle.ipswitch.specs.declared.task.Task.TheVariants as task
 use Rattle.ipswitch.specs.declared.task.Whole.{Whole}
-use Rattle.ipswitch.specs.declared.task.Whole.TheVariants.{Ideal, Decode}
+use Rattle.ipswitch.specs.declared.task.Whole.TheVariants.{Ideal, Decode, Rules}
 use Rattle.world.specs.declared.counts.Meter.{Meter}
 use Rattle.ipswitch.specs.declared.fault.RunFault.{RunFault}
 use Rattle.ipswitch.specs.Run.{IsDrillDone, is_refused}
@@ -35,15 +37,32 @@ same_front limit there input (octet ∷ rest) e within whole =
       | inr at ↦ rw e (sym (take-append-le limit input (octet ∷ rest) (omega (arith, at))))
     ]
 
-same_refusal : (whole : Whole) (there input : List ℕ) → take 16777217 input ≡ take 16777217 there → is_refused (task.Whole whole) input ≡ is_refused (task.Whole whole) there
+-- *A document* that is as long as the limit is refused, whatever follows
+long_document : (octets : List ℕ) → 16777217 ≤ length octets → document_of octets ≡ Err ScriptTooLong
+unfolding document_of
+long_document octets long = let yes : nat_le 16777217 (length octets) ≡ true = grind (nat_tests, arith, long) in rw yes refl
+
+same_document : (there input rest : List ℕ) → there ≡ input ++ rest → length input ≤ 16777217 → (length input < 16777217 → rest ≡ []) → document_of input ≡ document_of there
+same_document there input rest e within whole =
+    elim (below_or_at (length input) 16777217 within) [
+      | inl low ↦ ap document_of (sym (e ∙ (ap (λ (xs : List ℕ). input ++ xs) (whole low) ∙ append-nil input)))
+      | inr at ↦ long_document input (omega (arith, at))
+          ∙ sym (long_document there (omega (arith, at, ap length e, length-append input rest)))
+    ]
+
+-- *A whole input*
+same_refusal : (whole : Whole) (there input rest : List ℕ) → there ≡ input ++ rest → length input ≤ 16777217 → (length input < 16777217 → rest ≡ []) → is_refused (task.Whole whole) input ≡ is_refused (task.Whole whole) there
 unfolding script_of lines_in
-same_refusal Ideal there input front = ap (λ (octets : List ℕ). is_some (script_from line_says nothing_read (lines_of octets)).refused) front
-same_refusal (Decode protocol) there input front = ap (λ (octets : List ℕ). is_some (fault_from 0 (lines_of octets))) front
+same_refusal Ideal there input rest e within whole =
+    ap (λ (octets : List ℕ). is_some (script_from line_says nothing_read (lines_of octets)).refused) (same_front 16777217 there input rest e within whole)
+same_refusal (Decode protocol) there input rest e within whole =
+    ap (λ (octets : List ℕ). is_some (fault_from 0 (lines_of octets))) (same_front 16777217 there input rest e within whole)
+same_refusal Rules there input rest e within whole =
+    ap (λ (found : Result Lines DocumentRefusal). is_some (judged_refused found)) (same_document there input rest e within whole)
 
 read_refusal : (whole : Whole) (there input : List ℕ) (left_new : Option (List ℕ)) → Consumes (Some there) left_new input → length input ≤ 16777217 → (length input < 16777217 → IsAtEnd left_new) → is_refused (task.Whole whole) input ≡ is_refused (task.Whole whole) there
 read_refusal whole there input None read within ended = absurd read
-read_refusal whole there input (Some rest) read within ended =
-    same_refusal whole there input (same_front 16777217 there input rest read within ended)
+read_refusal whole there input (Some rest) read within ended = same_refusal whole there input rest read within ended
 
 -- what is said of the octets read is said of the octets that were there
 pub complete : (whole : Whole) (left_old left_new : Option (List ℕ)) (there input seen : List ℕ) (refused : Bool) → left_old ≡ Some there → Consumes left_old left_new input → length input ≤ 16777217 → (length input < 16777217 → IsAtEnd left_new)
@@ -51,22 +70,10 @@ pub complete : (whole : Whole) (left_old left_new : Option (List ℕ)) (there in
 complete whole left_old left_new there input seen refused told read within ended at said =
     said ∙ (ap (is_refused (task.Whole whole)) at ∙ read_refusal whole there input left_new (rw told at read) within ended)
 
--- *A document* that is as long as the limit is refused, whatever follows
-long_document : (octets : List ℕ) → 16777217 ≤ length octets → document_script octets ≡ refused_document ScriptTooLong
-unfolding document_script
-long_document octets long = let yes : nat_le 16777217 (length octets) ≡ true = grind (nat_tests, arith, long) in rw yes refl
-
-same_document : (there input rest : List ℕ) → there ≡ input ++ rest → length input ≤ 16777217 → (length input < 16777217 → rest ≡ []) → document_script input ≡ document_script there
-same_document there input rest e within whole =
-    elim (below_or_at (length input) 16777217 within) [
-      | inl low ↦ ap document_script (sym (e ∙ (ap (λ (xs : List ℕ). input ++ xs) (whole low) ∙ append-nil input)))
-      | inr at ↦ long_document input (omega (arith, at))
-          ∙ sym (long_document there (omega (arith, at, ap length e, length-append input rest)))
-    ]
-
+-- *A document*
 document_refusal : (there input : List ℕ) (left_new : Option (List ℕ)) → Consumes (Some there) left_new input → length input ≤ 16777217 → (length input < 16777217 → IsAtEnd left_new) → is_refused task.Document input ≡ is_refused task.Document there
 document_refusal there input None read within ended = absurd read
-document_refusal there input (Some rest) read within ended = ap (λ (script : Script). is_some script.refused) (same_document there input rest read within ended)
+document_refusal there input (Some rest) read within ended = ap (λ (found : Result Lines DocumentRefusal). is_some (script_in found).refused) (same_document there input rest read within ended)
 
 pub document_complete : (left_old left_new : Option (List ℕ)) (there input seen : List ℕ) (refused : Bool) → left_old ≡ Some there → Consumes left_old left_new input → length input ≤ 16777217 → (length input < 16777217 → IsAtEnd left_new)
     → seen ≡ input → refused ≡ is_refused task.Document seen → refused ≡ is_refused task.Document there

@@ -1,8 +1,2 @@
 pub mod Asked
 pub mod Inputs
-pub mod Fronts
-pub mod Walk
-pub mod Fates
-pub mod Kept
-pub mod Harmony
-pub mod Law

@@ -1,92 +1,14 @@
--- What is true of the run of a script: of the network that its lines describe, under the policy that they name
+-- What is true of the run of a script: of the network that its lines describe, under the policy that they name, or under the
+-- rules of its document
 
-use Rattle.std.specs.Prelude.{◌≡◌, ℕ, ◌+◌, ◌≤◌, true, List, [], ◌∷◌, ◌++◌, Some}
-use Rattle.net_types.specs.declared.node.NodeId.{NodeId}
-use Rattle.net_types.specs.declared.node.PortNo.{PortNo}
-use Rattle.net_types.specs.declared.node.Place.TheVariants.{Down}
-use Rattle.net_types.specs.declared.channel.End.{End}
-use Rattle.port_model.specs.Setup.{Policy, control_end}
-use Rattle.port_model.specs.Grants.{Grant, ByInput}
-use Rattle.world_model.specs.declared.event.Event.{Event}
-use Rattle.world_model.specs.declared.event.Event.TheVariants.{Tick}
-use Rattle.world_model.specs.Topology.{Topology, policy_of}
-use Rattle.world_model.specs.World.{World, controller_at, opened}
-use Rattle.world_model.specs.Places.{queue_at}
-use Rattle.world_model.specs.Run.{next, world_after}
-use Rattle.world_model.specs.Past.{Past, past_of}
-use Rattle.world_model.specs.Stretches.{CountsAsItsFrame}
-use Rattle.world_model.specs.Causes.{HasCauses}
-use Rattle.world_model.specs.Headline.{IsRun, IsTame, Headline, AreOwned, IsInHarmony, OffersNothing, BindsNothing}
-use Rattle.world_views.specs.Kept.{HasAddresses}
-use Rattle.ownership.specs.Owning.{AreInOrder}
-use Rattle.ownership.specs.Copies.{AreAllCopiesInOrder}
-use Rattle.steady_routes.specs.Law.{ChangesNoRoute, AreJourneys}
-use Rattle.lifetimes.specs.Aging.{HasEnded}
-use Rattle.lifetimes.specs.Law.{SendsNone, EndsByReset}
-use Rattle.lifetimes.specs.Run.{IsCountedIn, SetsIn, IsSetIn, acted_in, grant_in, comes_to, NotSetIn, IsConductIn, stays_in, IsLedIn, reaches_in}
-use Rattle.world_model.specs.Controller.{Controller}
+use Rattle.std.specs.Prelude.{ℕ, List}
+use Rattle.world_model.specs.Topology.{policy_of}
+use Rattle.true_runs.specs.Law.{IsTrueRun}
 use Rattle.script_model.specs.Script.{Script, script_of}
-use Rattle.script_model.specs.Documents.{document_script}
+use Rattle.script_model.specs.Documents.{document_script, document_policy}
 use Rattle.script_model.specs.Drill.{drill_script}
 use Rattle.ipswitch.specs.declared.task.Task as tasks
 use Rattle.ipswitch.specs.declared.task.Task.TheVariants.{Replay, Document, Drill, Whole}
-
--- *Each front of it* before the first frame that was forged or passed its test by chance
-abbrev pub InFronts : Policy → Topology → List Event → (Past → Type 0) → Type 0
-InFronts policy topology events P = (before after : List Event) → events ≡ before ++ after
-    → IsTame (past_of policy topology before).records → P (past_of policy topology before)
-
--- *Lifetimes*, in each world of it, also behind forged frames: an event that sets a lifetime leaves a grant with that lifetime;
--- one whose lifetime was set and has passed has ended or is leaving, no frame is sent by it, and where it is lent its input is
--- led back, unless the node is reset: nothing else ends the session with the switch there
-abbrev pub world_at : Policy → Topology → (before : List Event) → World
-world_at policy topology before = world_after topology (opened policy topology) before
-
-pub record LifetimesEnd (policy : Policy) (topology : Topology) (events : List Event) : Type 0 where
-  pub set : (before after : List Event) (event : Event) → events ≡ before ++ event ∷ after → (node : NodeId) (port : PortNo) (label lifetime : ℕ)
-      → SetsIn (world_at policy topology before) event node port label lifetime
-      → IsSetIn (next topology (world_at policy topology before) event) node port label lifetime
-  pub ends : (before after : List Event) → events ≡ before ++ after → (node : NodeId) (port : PortNo) (label lifetime ticks : ℕ)
-      → IsCountedIn policy topology node port label lifetime (world_at policy topology before) ticks → lifetime ≤ ticks
-      → HasEnded (grant_in (world_at policy topology before) node port label)
-  pub silent : (before after : List Event) (event : Event) → events ≡ before ++ event ∷ after → (node : NodeId) (port : PortNo) (label lifetime ticks : ℕ)
-      → IsCountedIn policy topology node port label lifetime (world_at policy topology before) ticks → lifetime ≤ ticks
-      → IsConductIn (comes_to (world_at policy topology before) node event) → NotSetIn (world_at policy topology before) event node port label
-      → SendsNone (control_end port label).channel
-      (stays_in (comes_to (world_at policy topology before) node event) (queue_at (world_at policy topology before) (Down node)))
-      (queue_at (next topology (world_at policy topology before) event) (Down node))
-  pub led_back : (before after : List Event) (node : NodeId) → events ≡ before ++ Tick node ∷ after → (port : PortNo) (label lifetime ticks : ℕ)
-      → IsCountedIn policy topology node port label lifetime (world_at policy topology before) ticks → lifetime ≤ ticks + 1
-      → reaches_in (world_at policy topology before) node port ≡ true
-      → (grant : Grant) (input : End) → grant_in (world_at policy topology before) node port label ≡ Some grant → grant.state ≡ ByInput input
-      → IsLedIn (next topology (world_at policy topology before) (Tick node)) node input
-  pub by_reset : (before after : List Event) → events ≡ before ++ after → (node : NodeId) (port : PortNo) (controller : Controller)
-      → controller_at (world_at policy topology before) node ≡ Some controller
-      → EndsByReset (acted_in (world_at policy topology before) controller) port
-
--- *All of it*
-pub record IsTrueRun (policy : Policy) (topology : Topology) (events : List Event) : Type 0 where
-  -- cut-through changes nothing of what routing makes of packets
-  pub routing : Headline policy topology events
-  -- each label of each link is owned
-  pub owned : InFronts policy topology events AreOwned
-  -- redirection messages on each way of each link are in the order of their numbers, and so are copies of requests on their
-  -- way to a switch
-  pub ordered : InFronts policy topology events AreInOrder
-  pub copies : InFronts policy topology events AreAllCopiesInOrder
-  -- a chain that passes its test is the frame of its last cell
-  pub frames : (before after : List Event) (event : Event) → events ≡ before ++ event ∷ after
-      → IsTame (past_of policy topology (before ++ event ∷ [])).records → CountsAsItsFrame (past_of policy topology before).now event
-  -- nothing is refused, and no message says that a label is taken or of another flow
-  pub harmony : InFronts policy topology events IsInHarmony
-  -- each frame that is broken stands beside its cause
-  pub causes : (before after : List Event) → events ≡ before ++ after → IsTame (past_of policy topology before).records
-      → HasCauses policy topology before
-  pub lifetimes : LifetimesEnd policy topology events
-  -- where no route changes, each fate is the packet's journey over the routes of the topology
-  pub journeys : ChangesNoRoute events → InFronts policy topology events AreJourneys
-  -- where the policy offers nothing, no label is ever bound
-  pub unbound : OffersNothing policy → BindsNothing (past_of policy topology events)
 
 -- of a script, under the policy that it names
 abbrev pub IsTrueScript : Script → Type 0
@@ -95,11 +17,6 @@ IsTrueScript script = IsTrueRun (policy_of script.topology) script.topology scri
 -- of what a command replays
 abbrev pub IsTrueTask : tasks.Task → (input : List ℕ) → Type 0
 IsTrueTask Replay input = IsTrueScript (script_of input)
-IsTrueTask Document input = IsTrueScript (document_script input)
+IsTrueTask Document input = IsTrueRun (document_policy input) (document_script input).topology (document_script input).events
 IsTrueTask (Drill number) input = IsTrueScript (drill_script number)
 IsTrueTask (Whole whole) input = Unit {0}
-
--- *Every run* whose nodes' addresses have 32 bits
-abbrev pub RunsAreTrue : Type 0
-RunsAreTrue = (policy : Policy) (topology : Topology) (events : List Event) → IsRun policy topology events → HasAddresses topology
-    → IsTrueRun policy topology events

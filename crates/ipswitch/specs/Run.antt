@@ -7,7 +7,8 @@ use Rattle.lab_text.specs.Line.{input_limit}
 use Rattle.message_text.specs.Listing.{IsListing, fault_in}
 use Rattle.world_model.specs.Topology.{policy_of}
 use Rattle.script_model.specs.Script.{script_of}
-use Rattle.script_model.specs.Documents.{document_script}
+use Rattle.script_model.specs.Documents.{document_script, document_rules, policy_with}
+use Rattle.script_model.specs.Judgement.{rules_report, rules_refused}
 use Rattle.script_model.specs.Drill.{drill_script}
 use Rattle.script_model.specs.Ideal.{ideal_report}
 use Rattle.world.specs.declared.counts.Meter.{Meter}
@@ -17,16 +18,17 @@ use Rattle.drill_replay.specs.Drill as drills
 use Rattle.ipswitch.specs.declared.task.Task as tasks
 use Rattle.ipswitch.specs.declared.task.Task.TheVariants.{Replay, Document, Drill, Whole}
 use Rattle.ipswitch.specs.declared.task.Whole as wholes
-use Rattle.ipswitch.specs.declared.task.Whole.TheVariants.{Ideal, Decode}
+use Rattle.ipswitch.specs.declared.task.Whole.TheVariants.{Ideal, Decode, Rules}
 use Rattle.ipswitch.specs.declared.fault.RunFault.{RunFault}
 use Rattle.ipswitch.specs.declared.fault.RunFault.TheVariants.{Read, Write, OutOfMemory}
 use Rattle.ipswitch.specs.Task.{AskForNone, AskForTask, usage_line}
 
--- *Read as a whole*: a report is that of an input: what routing alone makes of the packets of a script, or what its
--- messages are decoded to
+-- *Read as a whole*: a report is that of an input: what routing alone makes of the packets of a script, what its
+-- messages are decoded to, or how the rules of a document are judged
 abbrev pub IsReport : wholes.Whole → (input report : List ℕ) → Type 0
 IsReport Ideal input report = report ≡ ideal_report input
 IsReport (Decode protocol) input report = IsListing protocol input report
+IsReport Rules input report = report ≡ rules_report input
 
 -- a line of the input is refused
 abbrev pub is_refused : tasks.Task → (input : List ℕ) → Bool
@@ -35,6 +37,7 @@ is_refused Document input = is_some (document_script input).refused
 is_refused (Drill number) input = is_some (drill_script number).refused
 is_refused (Whole Ideal) input = is_some (script_of input).refused
 is_refused (Whole (Decode protocol)) input = is_some (fault_in input)
+is_refused (Whole Rules) input = is_some (rules_refused input)
 
 -- 2 where a line of the input is refused, else 0
 abbrev pub status_of : tasks.Task → (input : List ℕ) → ℕ
@@ -75,19 +78,19 @@ pub record IsSilent (left_old left_new written_old written_new : Option (List �
   pub read : ConsumesSome left_old left_new
   pub written : Appends written_old written_new []
 
--- *A document is replayed*: what is written is the report of the script that it is, and the meter is at the last of its
--- events; or a front of that report is written
+-- *A document is replayed*, under its rules where it has some, else under the policy that its lines name: what is written is
+-- the report of the script that it is, and the meter is at the last of its events; or a front of that report is written
 pub record IsDocumentDone (left_old left_new written_old written_new : Option (List ℕ)) (before meter : Meter) (refused : Bool) : Type 0 where
   pub input : List ℕ
   pub is_read : IsRead left_old left_new input
-  pub written : Appends written_old written_new (documents.report_by policy_of (document_script input))
+  pub written : Appends written_old written_new (documents.report_by (policy_with (document_rules input)) (document_script input))
   pub outcome : refused ≡ is_refused Document input
-  pub meter_is : meter ≡ documents.meter_by policy_of before (document_script input)
+  pub meter_is : meter ≡ documents.meter_by (policy_with (document_rules input)) before (document_script input)
 
 pub record IsDocumentFront (left_old left_new written_old written_new : Option (List ℕ)) : Type 0 where
   pub input : List ℕ
   pub is_read : IsRead left_old left_new input
-  pub written : AppendsFront written_old written_new (documents.report_by policy_of (document_script input))
+  pub written : AppendsFront written_old written_new (documents.report_by (policy_with (document_rules input)) (document_script input))
 
 -- *A drill*: nothing is read, and what is written is the last line of its report, or a front of it
 pub record IsDrillDone (number : ℕ) (left_old left_new written_old written_new : Option (List ℕ)) (before meter : Meter) (refused : Bool) : Type 0 where

@@ -7,13 +7,14 @@ use Rattle.command_line.specs.declared.command.Command.TheVariants as command
 use Rattle.command_line.specs.Commands.{AskFor}
 use Rattle.ipswitch.specs.declared.task.Task.{Task}
 use Rattle.ipswitch.specs.declared.task.Task.TheVariants.{Replay, Document, Drill, Whole}
-use Rattle.ipswitch.specs.declared.task.Whole.TheVariants.{Ideal, Decode}
+use Rattle.ipswitch.specs.declared.task.Whole.TheVariants.{Ideal, Decode, Rules}
 
 -- what a command does
 abbrev pub task_of : Command → Task
 task_of command.Replay = Replay
 task_of command.ReplayToml = Document
 task_of command.Ideal = Whole Ideal
+task_of command.Rules = Whole Rules
 task_of command.DecodeIfmp = Whole (Decode Ifmp)
 task_of command.DecodeGsmp = Whole (Decode Gsmp)
 task_of (command.Drill number) = Drill number
@@ -30,7 +31,7 @@ AskForNone words = (task : Task) → AskForTask words task → ⊥
 
 -- what is written then
 abbrev pub usage_line : List ℕ
-usage_line = codes "usage: ipswitch replay|replay toml|ideal|decode ifmp|decode gsmp|drill N\n"
+usage_line = codes "usage: ipswitch replay|replay toml|ideal|decode ifmp|decode gsmp|drill N|rules\n"
 
 -- *What is read of words*: the task that they ask for, and none exactly where they ask for none
 pub record IsTaskOf (words : List (List ℕ)) (found : Option Task) : Type 0 where

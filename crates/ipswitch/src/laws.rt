@@ -1,57 +1,13 @@
-//! The laws of every run, put together. No code of this module does anything.
+//! What is true of every run is true of what each command replays. No code of this module does anything.
 
 ghost use Rattle.std.specs.Prelude.{ℕ, List};
 ghost use Rattle.ipswitch.specs.declared.task.Task.{Task};
-ghost use Rattle.ipswitch.specs.Law.{IsTrueTask, RunsAreTrue};
+ghost use Rattle.ipswitch.specs.Law.{IsTrueTask};
 
-use control_places::{chains_are_their_frames, control_frames_have_places, nothing_is_refused};
-use idle_policies::nothing_is_bound;
-use joined_worlds::{answers_settle_joins, joins_are_kept, runs_make_no_pairs};
-use label_worlds::labels_are_followed;
-use lifetimes::grants_expire;
-use ownership::labels_are_owned;
-use packet_worlds::packets_are_kept;
-use passed_cells::cells_have_passed;
-use run_facts::nodes_are_steady;
-use running_worlds::{frames_are_made, inputs_are_kept};
 use script_runs::scripts_are_runs;
-use steady_routes::fates_are_journeys;
-use told_worlds::{
-    joins_lead_on, labels_are_bound_unused, labels_are_never_disowned, users_are_kept,
-};
+use true_runs::runs_are_true;
 
-/// What is true of every run of a network: cut-through changes nothing of what routing makes of packets,
-/// before the first frame that was forged or passed its test by chance; so long labels are owned, what is
-/// said on a link and asked of a switch is in the order of its numbers, a chain that passes its test is its
-/// last cell's frame, broken frames have their causes, nothing is refused, and no message disowns a label;
-/// grants end by their lifetimes. Where no route changes fates are journeys, and where nothing is offered
-/// nothing is bound. It calls the laws that it stands on, and its contract is the statement.
-fn runs_are_true()
-    ensures { RunsAreTrue }
-{
-    nodes_are_steady();
-    frames_are_made();
-    inputs_are_kept();
-    runs_make_no_pairs();
-    answers_settle_joins();
-    labels_are_followed();
-    joins_are_kept();
-    joins_lead_on();
-    labels_are_bound_unused();
-    users_are_kept();
-    cells_have_passed();
-    packets_are_kept();
-    control_frames_have_places();
-    labels_are_owned();
-    chains_are_their_frames();
-    labels_are_never_disowned();
-    nothing_is_refused();
-    fates_are_journeys();
-    nothing_is_bound();
-    grants_expire();
-}
-
-/// So it is of what each command replays: of a script, of a document and of a drill.
+/// What is true of every run is true of that of a script, of a document and of a drill.
 pub(crate) fn tasks_are_true()
     ensures { (task : Task) (input : List ℕ) → IsTrueTask task input }
 {

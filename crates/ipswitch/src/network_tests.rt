@@ -257,6 +257,57 @@ fn worked_networks(rt: HostRuntime) -> Result<(), Fail> {
     Ok(())
 }
 
+/// Rules that deny the flow of the packets, and offer labels to all others.
+const DENYING: &str =
+    "rules = [\"deny udp 10.0.1.0/24 10.0.0.0/8 any any\", \"offer any 0.0.0.0/0 0.0.0.0/0 any any after 4 keep 40\"]\n";
+
+/// A line as a string of a document's array.
+fn push_string(text: &mut String, line: &str) -> Result<(), OutOfMemory> {
+    text.push_str("  \"")?;
+    text.push_str(line)?;
+    text.push_str("\",\n")?;
+    Ok(())
+}
+
+/// An array of lines.
+fn push_array(text: &mut String, key: &str, lines: &str) -> Result<(), OutOfMemory> {
+    text.push_str(key)?;
+    text.push_str(" = [\n")?;
+    for line in lines.lines() {
+        push_string(text, line)?;
+    }
+    text.push_str("]\n")?;
+    Ok(())
+}
+
+/// A document with these rules, of two routers between which a flow is bound without them.
+fn bound_document(alloc: Global, rules: &str) -> Result<String, OutOfMemory> {
+    let events = text_of(alloc, BOUND)?;
+    let mut document = text_of(alloc, &[(rules, 1)])?;
+    push_array(&mut document, "topology", TWO_ROUTERS)?;
+    push_array(&mut document, "events", events.as_str())?;
+    Ok(document)
+}
+
+/// A flow that rules deny goes hop by hop, and its packets arrive as they would under a label.
+#[test]
+fn rules_are_the_policy(rt: HostRuntime) -> Result<(), Fail> {
+    let document = bound_document(rt.alloc(), DENYING)?;
+    let (given, sink) = outcome(rt.alloc(), &["replay", "toml"], document.as_str(), 4096)?;
+    let report = str::from_utf8(sink.written())?;
+    assert_eq!(rt; given, 0, "{report}");
+    assert_eq!(rt; count_of(report, "deliver b "), 5, "{report}");
+    assert_eq!(rt; count_of(report, "bind "), 0, "{report}");
+    assert!(rt;
+        has_end(
+            report,
+            "end events 13 sent 5 delivered 5 dropped 0 refused 0 losses 0 redirects 0 switched 0 chance 0"
+        ),
+        "{report}"
+    );
+    Ok(())
+}
+
 /// What nobody made comes to an actor, which says why it refuses it, and does nothing else.
 fn assert_refused(
     rt: &impl Abort,

@@ -36,7 +36,7 @@ const WRITE_FAULT: u8 = 4;
 const NO_MEMORY: u8 = 5;
 
 const USAGE_LINE: &str =
-    "usage: ipswitch replay|replay toml|ideal|decode ifmp|decode gsmp|drill N\n";
+    "usage: ipswitch replay|replay toml|ideal|decode ifmp|decode gsmp|drill N|rules\n";
 
 fn write_usage<K: Sink>(sink: &mut K) -> Result<(), Failed>
     ensures faults { K.faults sink.new ≡ count_after (is_err result) (K.faults sink.old) }

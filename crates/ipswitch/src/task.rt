@@ -15,6 +15,8 @@ pub enum Whole {
     Ideal,
     /// The messages of hexadecimal lines, as text.
     Decode(Protocol),
+    /// Which rules of a document can decide.
+    Rules,
 }
 
 /// What a command does.
@@ -38,6 +40,7 @@ fn task_of(command: Command) -> Task
         Command::Replay => Task::Replay,
         Command::ReplayToml => Task::Document,
         Command::Ideal => Task::Whole(Whole::Ideal),
+        Command::Rules => Task::Whole(Whole::Rules),
         Command::DecodeIfmp => Task::Whole(Whole::Decode(Protocol::Ifmp)),
         Command::DecodeGsmp => Task::Whole(Whole::Decode(Protocol::Gsmp)),
         Command::Drill(number) => Task::Drill(number),

@@ -323,7 +323,8 @@ fn long_lines(rt: HostRuntime) -> Result<(), Fail> {
     Ok(())
 }
 
-const USAGE: &str = "usage: ipswitch replay|replay toml|ideal|decode ifmp|decode gsmp|drill N\n";
+const USAGE: &str =
+    "usage: ipswitch replay|replay toml|ideal|decode ifmp|decode gsmp|drill N|rules\n";
 
 /// Words that ask for nothing.
 const OTHER_WORDS: [&[&str]; 10] = [
@@ -344,6 +345,30 @@ const OTHER_WORDS: [&[&str]; 10] = [
 fn other_words_are_usage(rt: HostRuntime) -> Result<(), Fail> {
     for words in OTHER_WORDS {
         assert_outcome(&rt, rt.alloc(), words, "", 4096, USAGE, 1)?;
+    }
+    Ok(())
+}
+
+/// Documents whose rules are judged, what is reported, and the statuses. The second rule of the first matches
+/// what the first one matches; a rule of flows of type 2 has no ports.
+const RULES: [(&str, &str, u8); 3] = [
+    (
+        "rules = [\"offer any 0.0.0.0/0 0.0.0.0/0 any any after 4 keep 40\", \"deny udp 10.0.1.0/24 10.0.0.0/8 any any\"]\n",
+        "rule 1\nrule 2 covered 1\nend rules 2 covered 1\n",
+        0,
+    ),
+    (
+        "rules = [\"deny two 10.0.0.0/8 10.0.0.0/8 any any\", \"deny two 10.0.0.0/8 10.0.0.0/8 1-2 any\"]\n",
+        "rule 1\nrefused 2 BadPorts\n",
+        2,
+    ),
+    ("rule = []\n", "refused 0 Toml\n", 2),
+];
+
+#[test]
+fn rules_are_judged(rt: HostRuntime) -> Result<(), Fail> {
+    for (document, report, status) in RULES {
+        assert_outcome(&rt, rt.alloc(), &["rules"], document, 64, report, status)?;
     }
     Ok(())
 }

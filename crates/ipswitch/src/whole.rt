@@ -15,6 +15,7 @@ use lab_io::{Failed, Sink, Source, read_to_end, write_all};
 use lab_text::INPUT_LIMIT;
 use message_text::{Protocol, list_messages};
 use net_types::{Octets, OutOfMemory};
+use rule_report::judge_rules;
 use std::alloc::Global;
 
 /// A report, and whether a line of its input was refused.
@@ -52,6 +53,17 @@ fn report_of_messages(
     })
 }
 
+fn report_of_rules(alloc: Global, input: &[u8]) -> Result<Report, OutOfMemory>
+    ensures report { IfOk result (λ report. IsReport whole.Rules input.now report.octets) }
+    ensures refused { IfOk result (λ report. report.is_refused ≡ is_refused (Task.Whole whole.Rules) input.now) }
+{
+    let judged = judge_rules(alloc, input)?;
+    Ok(Report {
+        octets: judged.report,
+        is_refused: judged.is_refused,
+    })
+}
+
 /// What is made of an input.
 fn report_on(alloc: Global, whole: Whole, input: &[u8]) -> Result<Report, OutOfMemory>
     requires { length input.now ≤ input_limit }
@@ -61,6 +73,7 @@ fn report_on(alloc: Global, whole: Whole, input: &[u8]) -> Result<Report, OutOfM
     match whole {
         Whole::Ideal => report_of_ideal(alloc, input),
         Whole::Decode(protocol) => report_of_messages(alloc, protocol, input),
+        Whole::Rules => report_of_rules(alloc, input),
     }
 }
 

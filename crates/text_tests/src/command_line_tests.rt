@@ -6,11 +6,11 @@ use std::alloc::{AllocError, Global};
 
 /// The words of each command.
 const COMMANDS: &str =
-    "replay\nreplay toml\nideal\ndecode ifmp\ndecode gsmp\ndrill 1\ndrill 9999\n";
+    "replay\nreplay toml\nideal\nrules\ndecode ifmp\ndecode gsmp\ndrill 1\ndrill 9999\n";
 
 /// Words of no command.
 const OTHERS: &str =
-    "\nhelp\n--help\nreplay -\nreplay --\nideal help\nreplay x\nreplay toml x\nideal x\ndecode\ndecode ifmp gsmp\ndrill\ndrill 0\ndrill 01\ndrill 10000\ndrill +1\ndrill 1 2\nReplay\n";
+    "\nhelp\n--help\nreplay -\nreplay --\nideal help\nreplay x\nreplay toml x\nideal x\nrules x\ndecode\ndecode ifmp gsmp\ndrill\ndrill 0\ndrill 01\ndrill 10000\ndrill +1\ndrill 1 2\nReplay\n";
 
 fn words(alloc: Global, line: &str) -> Result<Vec<Word>, AllocError> {
     let mut words = Vec::new(alloc);

@@ -26,7 +26,7 @@ fn texts(alloc: Global, octets: &[u8]) -> Result<Option<Vec<u8>>, DocumentFault>
 }
 
 /// Documents, and their lines.
-const DOCUMENTS: [(&[u8], Option<&str>); 12] = [
+const DOCUMENTS: [(&[u8], Option<&str>); 14] = [
     (
         b"topology = [\"node a 10.0.1.1\", \"route a 10.0.0.0/8 local\"]\nevents = [\"send a 00\"]",
         Some("node a 10.0.1.1\nroute a 10.0.0.0/8 local\nsend a 00\n"),
@@ -39,7 +39,12 @@ const DOCUMENTS: [(&[u8], Option<&str>); 12] = [
     (b"topology = []", Some("")),
     (b"", Some("")),
     (b"topology = []\nevent = []", None),
-    (b"topology = []\nevents = []\nrules = []", None),
+    (b"topology = []\nevents = []\nrules = []", Some("")),
+    (
+        b"events = [\"tick a\"]\ntopology = ['# b']\nrules = [\"\", 'deny']",
+        Some("\ndeny\n# b\ntick a\n"),
+    ),
+    (b"topology = []\nevents = []\nrule = []", None),
     (b"topology = [\"node a 10.0.1.1\", 1]", None),
     (b"events = \"tick a\"", None),
     (b"[topology]", None),

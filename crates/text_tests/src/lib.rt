@@ -16,4 +16,6 @@ mod line_text_tests;
 #[cfg(test)]
 mod record_text_tests;
 #[cfg(test)]
+mod rule_tests;
+#[cfg(test)]
 mod script_text_tests;

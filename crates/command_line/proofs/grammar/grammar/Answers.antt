@@ -16,6 +16,9 @@ returns c =
     let third : app_of c.in_ok-subcommand-3.field-0
     ≡ with_subcommand (with_subcommand (with_subcommand top_app (worded (codes "replay") false)) (bare (codes "ideal"))) (worded (codes "decode") true) =
     c.in_ok-subcommand-3.ensures.shape c.in_ok-worded-2.ensures.local ∙ ap₂ with_subcommand second (ap top_of c.in_ok-worded-2.ensures.app) in
-    IfOk-weaker c.subcommand-4.result _ _
-    (λ r h. h.shape c.in_ok-worded-3.ensures.local ∙ ap₂ with_subcommand third (ap top_of c.in_ok-worded-3.ensures.app))
-    c.subcommand-4.ensures
+    let fourth : app_of c.in_ok-subcommand-4.field-0
+    ≡ with_subcommand (with_subcommand (with_subcommand (with_subcommand top_app (worded (codes "replay") false)) (bare (codes "ideal"))) (worded (codes "decode") true)) (worded (codes "drill") true) =
+    c.in_ok-subcommand-4.ensures.shape c.in_ok-worded-3.ensures.local ∙ ap₂ with_subcommand third (ap top_of c.in_ok-worded-3.ensures.app) in
+    IfOk-weaker c.subcommand-5.result _ _
+    (λ r h. h.shape c.bare-2.ensures.local ∙ ap₂ with_subcommand fourth (ap top_of c.bare-2.ensures.app))
+    c.subcommand-5.ensures
