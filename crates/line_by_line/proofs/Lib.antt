@@ -1,0 +1,7 @@
+pub mod InputLines
+pub mod InputAccounts
+pub mod Puts
+pub mod Outcomes
+pub mod Advancing
+pub mod Finishing
+pub mod Beginning

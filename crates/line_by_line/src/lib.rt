@@ -1,0 +1,13 @@
+//! Tasks that take the lines of an input one by one and write their report as it grows.
+#![tactic(auto)]
+
+mod fault;
+mod from_source;
+mod line_run;
+mod stop;
+mod task;
+
+pub use fault::LineFault;
+pub use from_source::run_lines;
+pub use stop::Stop;
+pub use task::{Ending, LineTask, Step};
