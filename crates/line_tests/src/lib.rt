@@ -1,0 +1,9 @@
+//! Tests of tasks that take lines: one that writes each line again, and the audit of a trace.
+#![tactic(auto)]
+
+#[cfg(test)]
+mod audit_run_tests;
+#[cfg(test)]
+mod echo;
+#[cfg(test)]
+mod line_by_line_tests;

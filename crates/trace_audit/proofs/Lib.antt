@@ -1,0 +1,4 @@
+mod Identified
+mod Counting
+pub mod Moves
+pub mod Taken

@@ -1,0 +1,298 @@
+//! The forms of the words of a trace.
+
+ghost use Rattle.std.specs.Prelude.{◌≡◌, ◌≤◌, ◌<◌, ◌^◌, ◌-◌, ◌+◌, ◌*◌, ◌==◌, length, position, true, Some, IfSome, IfOk};
+ghost use Rattle.std.specs.Char.{digit_value, is_ascii_digit};
+ghost use Rattle.std.specs.List.{list_all};
+ghost use Rattle.std.specs.Option.{option_map};
+ghost use Rattle.std.specs.Str.Parse.{digits_value};
+ghost use Rattle.ipv4_packet.specs.Flow.{IsFlow};
+ghost use Rattle.lab_text.specs.Forms.{is_name as names, is_letter, is_name_octet, number_in as number_within, parts};
+ghost use Rattle.net_types.specs.Label.{is_label_channel};
+ghost use Rattle.lab_text.specs.Numeral.{below, is_number as spells_number, number};
+ghost use Rattle.trace_model.specs.Forms as forms;
+ghost use Rattle.trace_audit.specs.Faults.{Tells};
+
+use crate::fault::AuditFault;
+use ipv4_packet::{FlowId, FlowKind, read_identifier};
+use lab_text::{read_hex, read_number};
+use net_types::{Channel, Mark, Octets, PortNo};
+use octet_fields::put_octets;
+use std::alloc::Global;
+use trace_model::{NodeName, TraceEnd, TraceRefusal};
+
+/// The most octets of a frame's payload.
+const PAYLOAD: usize = 1528;
+
+fn is_letter(octet: u8) -> bool
+    ensures { result ≡ is_letter octet }
+{
+    octet.is_ascii_lowercase()
+}
+
+fn is_name_octet(octet: u8) -> bool
+    ensures { result ≡ is_name_octet octet }
+{
+    is_letter(octet) || octet.is_ascii_digit()
+}
+
+fn are_name_octets(word: &[u8]) -> bool
+    ensures { result ≡ list_all is_name_octet word.now }
+{
+    word.iter().all(|octet| is_name_octet(*octet))
+}
+
+/// Whether `word` is a name: 1 to 16 lower-case letters and digits, a letter first.
+fn is_name(word: &[u8]) -> bool
+    ensures name { result ≡ names word.now }
+    ensures short { result ≡ true → length word.now ≤ 16 }
+{
+    1 <= word.len() && word.len() <= 16 && is_letter(word[0]) && are_name_octets(word)
+}
+
+/// The name with zeros behind it.
+fn name_of(word: &[u8]) -> NodeName
+    requires { length word.now ≤ 16 }
+    ensures { result ≡ forms.name_of word.now }
+{
+    let mut octets = [0; 16];
+    put_octets(&mut octets, 0, word);
+    NodeName(octets)
+}
+
+/// A name. Refuses `BadName`.
+pub fn read_name(word: &[u8]) -> Result<NodeName, TraceRefusal>
+    ensures { result ≡ forms.read_name word.now }
+{
+    if is_name(word) {
+        Ok(name_of(word))
+    } else {
+        Err(TraceRefusal::BadName)
+    }
+}
+
+/// The number that `word` spells in decimal, where it is within these bounds.
+fn number_in(word: &[u8], least: u32, greatest: u32) -> Option<u32>
+    ensures number { result ≡ number_within least greatest word.now }
+    ensures within { IfSome result (λ n. n ≤ greatest) }
+{
+    match read_number(word) {
+        Some(number) if least <= number && number <= greatest => Some(number),
+        _ => None,
+    }
+}
+
+fn place_of(word: &[u8], sign: u8) -> Option<usize>
+    ensures place { result ≡ position (λ octet. octet == sign) word.now }
+    ensures within { IfSome result (λ place. place < length word.now) }
+{
+    word.iter().position(|octet| *octet == sign)
+}
+
+/// What stands before and behind the first such sign of `word`; `None` where it has none.
+fn split_at_sign(word: &[u8], sign: u8) -> Option<(&[u8], &[u8])>
+    ensures { option_map (λ halves. (halves.0.now, halves.1.now)) result ≡ parts sign word.now }
+{
+    match place_of(word, sign) {
+        Some(place) => Some((&word[..place], &word[place + 1..])),
+        None => None,
+    }
+}
+
+fn port_of(word: &[u8]) -> Option<PortNo>
+    ensures { result ≡ forms.port_of word.now }
+{
+    let port = number_in(word, 1, 8)?;
+    Some(PortNo(port as u8))
+}
+
+/// A port, 1 to 8. Refuses `BadNumber`.
+pub fn read_port(word: &[u8]) -> Result<PortNo, TraceRefusal>
+    ensures { result ≡ forms.read_port word.now }
+{
+    match port_of(word) {
+        Some(port) => Ok(port),
+        None => Err(TraceRefusal::BadNumber),
+    }
+}
+
+fn end_of(word: &[u8]) -> Option<TraceEnd>
+    ensures { result ≡ forms.end_of word.now }
+{
+    let (name, port) = split_at_sign(word, b':')?;
+    if !is_name(name) {
+        return None;
+    }
+    let port = port_of(port)?;
+    Some(TraceEnd {
+        node: name_of(name),
+        port,
+    })
+}
+
+/// A name, a colon and a port 1 to 8. Refuses `BadPlace`.
+pub fn read_end(word: &[u8]) -> Result<TraceEnd, TraceRefusal>
+    ensures { result ≡ forms.read_end word.now }
+{
+    match end_of(word) {
+        Some(end) => Ok(end),
+        None => Err(TraceRefusal::BadPlace),
+    }
+}
+
+fn channel_of(word: &[u8]) -> Option<Channel>
+    ensures { result ≡ forms.channel_of word.now }
+{
+    let (vpi, vci) = split_at_sign(word, b'/')?;
+    let vpi = number_in(vpi, 0, 15)?;
+    let vci = number_in(vci, 0, 1023)?;
+    Some(Channel {
+        vpi: vpi as u16,
+        vci: vci as u16,
+    })
+}
+
+/// Whether the channel leads to a router: 0/15.
+fn is_default(channel: Channel) -> bool
+    ensures { result ≡ forms.is_default channel }
+{
+    channel.vpi == 0 && channel.vci == 15
+}
+
+/// Whether the channel can be a label's: VPI 0 to 15, VCI 32 to 1023.
+pub fn is_label(channel: Channel) -> bool
+    ensures { result ≡ is_label_channel channel }
+{
+    net_types::label_number(channel).is_some()
+}
+
+/// The channel of a cell: 0/15, or that of a label. Refuses `BadChannel`.
+pub fn read_channel(word: &[u8]) -> Result<Channel, TraceRefusal>
+    ensures { result ≡ forms.read_channel word.now }
+{
+    match channel_of(word) {
+        Some(channel) if is_default(channel) || is_label(channel) => Ok(channel),
+        _ => Err(TraceRefusal::BadChannel),
+    }
+}
+
+/// The channel of a label: VPI 0 to 15, VCI 32 to 1023. Refuses `BadChannel`.
+pub fn read_label(word: &[u8]) -> Result<Channel, TraceRefusal>
+    ensures { result ≡ forms.read_label word.now }
+{
+    match channel_of(word) {
+        Some(channel) if is_label(channel) => Ok(channel),
+        _ => Err(TraceRefusal::BadChannel),
+    }
+}
+
+fn are_digits(word: &[u8]) -> bool
+    ensures { result ≡ list_all is_ascii_digit word.now }
+{
+    word.iter().all(|digit| digit.is_ascii_digit())
+}
+
+/// Whether `word` is a decimal number without a sign or a leading zero.
+fn is_number(word: &[u8]) -> bool
+    ensures { result ≡ spells_number word.now }
+{
+    if word.is_empty() || !are_digits(word) {
+        return false;
+    }
+    word.len() == 1 || word[0] != b'0'
+}
+
+/// Ten times `number` and the digit; `None` where it isn't below 2 to the power of 64.
+fn with_digit(number: u64, digit: u8) -> Option<u64>
+    requires { is_ascii_digit digit ≡ true }
+    ensures { result ≡ below (2 ^ 64) (Some (number * 10 + digit_value digit)) }
+{
+    u64::try_from(number as u128 * 10 + (digit - b'0') as u128).ok()
+}
+
+/// The number that decimal digits spell; `None` where it isn't below 2 to the power of 64.
+fn decimal(digits: &[u8]) -> Option<u64>
+    requires { list_all is_ascii_digit digits.now ≡ true }
+    ensures { result ≡ below (2 ^ 64) (Some (digits_value 10 digits.now)) }
+{
+    let mut number = 0;
+    let mut left = digits;
+    while let [digit, rest @ ..] = left {
+        number = with_digit(number, *digit)?;
+        left = rest;
+    }
+    Some(number)
+}
+
+/// The number of 64 bits that `word` spells in decimal.
+fn long_number(word: &[u8]) -> Option<u64>
+    ensures { result ≡ number_within 0 (2 ^ 64 - 1) word.now }
+{
+    if is_number(word) { decimal(word) } else { None }
+}
+
+fn mark_of(word: &[u8]) -> Option<Mark>
+    ensures { result ≡ forms.marked word.now }
+{
+    let (packet, frame) = split_at_sign(word, b'.')?;
+    let packet = number_in(packet, 0, u32::MAX)?;
+    let frame = long_number(frame)?;
+    Some(Mark { packet, frame })
+}
+
+/// A mark: two decimal numbers with a dot between them. Refuses `BadMark`.
+pub fn read_mark(word: &[u8]) -> Result<Mark, TraceRefusal>
+    ensures { result ≡ forms.read_mark word.now }
+{
+    match mark_of(word) {
+        Some(mark) => Ok(mark),
+        None => Err(TraceRefusal::BadMark),
+    }
+}
+
+/// A frame's payload in hexadecimal. Refuses `BadHex` and then `BadLength`.
+pub fn read_payload(alloc: Global, word: &[u8]) -> Result<Octets, AuditFault>
+    ensures { Tells (forms.read_payload word.now) result }
+{
+    match read_hex(alloc, word)? {
+        Some(octets) => {
+            if octets.len() > PAYLOAD {
+                return Err(AuditFault::Refused(TraceRefusal::BadLength));
+            }
+            Ok(Octets::new(octets))
+        }
+        None => Err(AuditFault::Refused(TraceRefusal::BadHex)),
+    }
+}
+
+/// The kind of flow whose identifier has so many octets.
+fn kind_of_size(octets: &[u8]) -> FlowKind
+    ensures { result ≡ forms.kind_of_size octets.now }
+{
+    if octets.len() == 16 {
+        FlowKind::One
+    } else {
+        FlowKind::Two
+    }
+}
+
+/// The flow of an identifier.
+fn flow_of(octets: &[u8]) -> Result<FlowId, TraceRefusal>
+    ensures flow { result ≡ forms.flow_by (forms.kind_of_size octets.now) octets.now }
+    ensures alive { IfOk result IsFlow }
+{
+    match read_identifier(kind_of_size(octets), octets) {
+        Ok(flow) => Ok(flow),
+        Err(_) => Err(TraceRefusal::BadFlow),
+    }
+}
+
+/// A flow's identifier in hexadecimal. Refuses `BadHex` and then `BadFlow`.
+pub fn read_flow(alloc: Global, word: &[u8]) -> Result<FlowId, AuditFault>
+    ensures flow { Tells (forms.read_flow word.now) result }
+    ensures alive { IfOk result IsFlow }
+{
+    match read_hex(alloc, word)? {
+        Some(octets) => Ok(flow_of(octets.as_slice())?),
+        None => Err(AuditFault::Refused(TraceRefusal::BadHex)),
+    }
+}
