@@ -1,0 +1,28 @@
+//! The first words of lines.
+
+/// The first word of a line that isn't blank.
+#[derive(Clone, Copy, Debug, PartialEq, Eq)]
+pub enum Keyword {
+    /// `ports`
+    Ports,
+    /// `add`
+    Add,
+    /// `move`
+    Move,
+    /// `delete`
+    Delete,
+    /// `clear`
+    Clear,
+    /// `verify`
+    Verify,
+    /// `carry`
+    Carry,
+    /// `lose`
+    Lose,
+    /// `tick`
+    Tick,
+    /// `restart`
+    Restart,
+    /// `run`
+    Run,
+}

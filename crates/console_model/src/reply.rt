@@ -1,0 +1,17 @@
+//! What a command was answered.
+
+use net_types::End;
+
+/// The answer of a command.
+#[derive(Clone, Copy, Debug, PartialEq, Eq)]
+pub enum Reply {
+    /// It is done.
+    Done,
+    /// It failed.
+    Failed {
+        /// The switch's code for the cause, 1 to 7.
+        code: u8,
+    },
+    /// The branch that it asked for leads here.
+    At(End),
+}
