@@ -1,0 +1,6 @@
+pub mod Sums
+pub mod Works
+pub mod Below
+pub mod Rules
+pub mod Answered
+pub mod Paid

@@ -1,0 +1,21 @@
+-- the laws of carries
+
+use Rattle.std.proofs.Common.{List, ◌++◌, sym, ◌∙◌, ap, map}
+use Rattle.std.specs.List.{repeat}
+use Rattle.net_types.specs.declared.node.Place.{Place}
+use Rattle.world_model.specs.declared.event.Event.TheVariants.{Carry}
+use Rattle.quiet_links.specs.Law.{CarriesWeighLess, RoundsEmptyQueues, PacketsEnd}
+use Rattle.quiet_links.proofs.Carried.{weighs_less}
+use Rattle.quiet_links.proofs.Places.{places_stay}
+use Rattle.quiet_links.proofs.Rounds.{rounds_are_quiet}
+
+pub carries_weigh_less : CarriesWeighLess
+carries_weigh_less policy topology before place comes is places channels unused = weighs_less policy topology before place comes is places channels unused
+
+pub rounds_empty_queues : RoundsEmptyQueues
+rounds_empty_queues policy topology events run addresses less before count e le = rounds_are_quiet policy topology events less before count
+    (e ∙ ap (λ (ps : List Place). before ++ repeat count (map Carry ps)) (sym (places_stay policy topology events run addresses))) le
+
+pub packets_end : PacketsEnd
+packets_end policy topology events run addresses less fates before count e le number was free =
+    fates (rounds_empty_queues policy topology events run addresses less before count e le) number was free

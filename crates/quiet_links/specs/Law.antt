@@ -1,0 +1,43 @@
+-- Carrying cells empties every queue, in a run before its first frame that was forged or passed its test by chance
+
+use Rattle.std.specs.Prelude.{◌≡◌, ℕ, ◌≤◌, true, false, List, ◌∷◌, ◌++◌}
+use Rattle.std.specs.List.{repeat}
+use Rattle.net_types.specs.declared.node.Place.{Place}
+use Rattle.port_model.specs.Setup.{Policy}
+use Rattle.world_model.specs.declared.event.Event.{Event}
+use Rattle.world_model.specs.declared.event.Event.TheVariants.{Carry}
+use Rattle.world_model.specs.Topology.{Topology}
+use Rattle.world_model.specs.World.{opened}
+use Rattle.world_model.specs.Fates.{has_loss_of}
+use Rattle.world_model.specs.Run.{round}
+use Rattle.world_model.specs.Past.{past_of}
+use Rattle.world_model.specs.Headline.{IsRun, WasAccepted, fates_of, is_empty, HasFatesWhole}
+use Rattle.world_views.specs.Between.{IsWorld}
+use Rattle.world_views.specs.Kept.{HasAddresses, Comes, BindsUnusedAt}
+use Rattle.ownership.specs.Places.{HasPlaces}
+use Rattle.packet_worlds.specs.Channels.{HasChannels}
+use Rattle.quiet_model.specs.Weights.{weight}
+use Rattle.quiet_model.specs.Law.{WeighsLess}
+
+-- *Each carry* that comes to a network with all that is so of every one makes it lighter where it finds a cell
+abbrev pub CarriesWeighLess : Type 0
+CarriesWeighLess = (policy : Policy) (topology : Topology) (before : List Event) (place : Place) → Comes policy topology before (Carry place)
+    → IsWorld (past_of policy topology before) → HasPlaces (past_of policy topology before) → HasChannels (past_of policy topology before)
+    → BindsUnusedAt policy topology before (Carry place) → WeighsLess policy topology before place
+
+-- *So all queues are empty* behind as many rounds as the world weighs at which they begin
+abbrev pub CarriesOf : Policy → Topology → List Event → Type 0
+CarriesOf policy topology events = (front rest : List Event) (place : Place) → events ≡ front ++ Carry place ∷ rest → WeighsLess policy topology front place
+
+abbrev pub RoundsEmptyQueues : Type 0
+RoundsEmptyQueues = (policy : Policy) (topology : Topology) (events : List Event) → IsRun policy topology events → HasAddresses topology → CarriesOf policy topology events
+    → (before : List Event) (count : ℕ) → events ≡ before ++ repeat count (round (opened policy topology))
+    → weight (past_of policy topology before) ≤ count → is_empty (past_of policy topology events).now ≡ true
+
+-- *and each accepted packet* has its one fate then, or an entry in the ledger
+abbrev pub PacketsEnd : Type 0
+PacketsEnd = (policy : Policy) (topology : Topology) (events : List Event) → IsRun policy topology events → HasAddresses topology → CarriesOf policy topology events → HasFatesWhole (past_of policy topology events)
+    → (before : List Event) (count : ℕ) → events ≡ before ++ repeat count (round (opened policy topology))
+    → weight (past_of policy topology before) ≤ count
+    → (number : ℕ) → WasAccepted (past_of policy topology events) number → has_loss_of number (past_of policy topology events).now.notes.entries ≡ false
+    → fates_of (past_of policy topology events) number ≡ 1

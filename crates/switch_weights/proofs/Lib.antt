@@ -1,0 +1,3 @@
+pub mod Queues
+pub mod Switches
+pub mod Paid
