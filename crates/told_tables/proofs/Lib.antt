@@ -1,0 +1,10 @@
+pub mod Lists
+pub mod Notes
+pub mod Walk
+pub mod Taking
+pub mod Switches
+pub mod Coming
+pub mod Nodes
+pub mod Worlds
+pub mod Opening
+pub mod Runs

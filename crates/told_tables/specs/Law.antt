@@ -1,0 +1,103 @@
+-- The table of each node: the routes of the topology, changed by a front of the changes that events told it
+
+use Rattle.std.specs.Prelude.{◌≡◌, ℕ, ◌+◌, ◌-◌, ◌==◌, ◌≤◌, Bool, true, false, List, [], ◌∷◌, ◌++◌, length, take, drop, fold, filter_map, Option, None, Some, if◌then◌else◌}
+use Rattle.std.specs.List.{list_any, range_with_len}
+use Rattle.std.specs.Option.{option_map_or}
+use Rattle.net_types.specs.declared.node.NodeId.{NodeId}
+use Rattle.ipv4_forward.specs.Change.{changed}
+use Rattle.ipv4_forward.specs.declared.change.RouteChange.{RouteChange}
+use Rattle.link_model.specs.declared.record.Record.{Record}
+use Rattle.link_model.specs.declared.record.Record.TheVariants.{Routes}
+use Rattle.port_model.specs.Setup.{Policy}
+use Rattle.world_model.specs.Changes.{is_changed}
+use Rattle.world_model.specs.Conditions.{table_to_be}
+use Rattle.world_model.specs.Controller.{Controller}
+use Rattle.world_model.specs.Events.{changes_of, table_after}
+use Rattle.world_model.specs.Joins.{joins_of}
+use Rattle.world_model.specs.Lines.{routes_of}
+use Rattle.world_model.specs.declared.event.Event.{Event}
+use Rattle.world_model.specs.declared.event.Event.TheVariants.{Route}
+use Rattle.world_model.specs.Topology.{Topology, Node, node_at}
+use Rattle.world_model.specs.World.{World, controller_at, opened}
+use Rattle.world_model.specs.Run.{next, world_after}
+use Rattle.world_model.specs.Past.{past_of}
+
+-- *A node after some events*: of the changes that they told it, in their order, it has taken so many, and the others wait.
+-- Its table is that of the topology, changed by those that it took; with the others it will be that of all events
+pub record HoldsTold (topology : Topology) (before : List Event) (node : NodeId) (c : Controller) : Type 0 where
+  pub taken : c.changes ≤ length (changes_of node before)
+  pub table : c.table ≡ fold changed (routes_of topology node) (take c.changes (changes_of node before))
+  pub waiting : c.waiting ≡ drop c.changes (changes_of node before)
+  pub to_be : table_to_be c ≡ table_after topology before node
+
+-- each node of the topology has its controller, and there is no other
+abbrev pub IsToldNode : Topology → (before : List Event) → NodeId → Option Node → Option Controller → Type 0
+IsToldNode topology before node None None = Unit {0}
+IsToldNode topology before node (Some own) (Some c) = HoldsTold topology before node c
+IsToldNode topology before node own found = ⊥
+
+-- how many changes a node has taken
+abbrev pub changes_taken : World → NodeId → ℕ
+changes_taken w node = option_map_or (λ c. c.changes) (controller_at w node) 0
+
+-- *Records*: the numbers of those that say that a node took a change
+abbrev pub number_told : NodeId → Record → Option ℕ
+number_told node (Routes at number) = if at.0 == node.0 then Some number else None
+number_told node item = None
+
+abbrev pub numbers_told : NodeId → List Record → List ℕ
+numbers_told node records = filter_map (number_told node) records
+
+-- those of an event are the numbers of the changes that were taken in it, each once and in order
+pub record TellsTaken (node : NodeId) (before after : World) : Type 0 where
+  pub rises : changes_taken before node ≤ changes_taken after node
+  pub numbers : numbers_told node after.notes.records
+      ≡ range_with_len (changes_taken before node + 1) (changes_taken after node - changes_taken before node)
+
+-- *When a change is taken*: a join stands against it whose flow it gives another best route
+abbrev pub stands_against : Controller → RouteChange → Bool
+stands_against c change = list_any (is_changed c.table change) (joins_of c)
+
+-- one that is taken in the event that brings it changes nothing else of the controller
+abbrev pub taken_at_once : Controller → RouteChange → Controller
+taken_at_once c change = record c {
+  table = changed c.table change;
+  waiting = [];
+  is_begun = false;
+  changes = c.changes + 1;
+}
+
+-- where one waits and the switch is met, a join stands against the first of those that wait
+abbrev pub IsHeldUp : Controller → (waiting : List RouteChange) → Type 0
+IsHeldUp c [] = Unit {0}
+IsHeldUp c (change ∷ later) = c.has_met ≡ true → stands_against c change ≡ true
+
+-- a controller before and after the event that brings a change
+pub record IsBrought (change : RouteChange) (before after : Controller) : Type 0 where
+  pub at_once : before.has_met ≡ true → before.waiting ≡ [] → stands_against before change ≡ false
+      → after ≡ taken_at_once before change
+  pub held_up : IsHeldUp after after.waiting
+
+-- *Of a run*: in each world of it the tables of all nodes, and so those by which fates are judged; what each event records;
+-- and what becomes of a change that an event brings
+abbrev pub world_at : Policy → Topology → (before : List Event) → World
+world_at policy topology before = world_after topology (opened policy topology) before
+
+pub record AreToldTables (policy : Policy) (topology : Topology) (events : List Event) : Type 0 where
+  pub tables : (before after : List Event) → events ≡ before ++ after → (node : NodeId)
+      → IsToldNode topology before node (node_at topology node) (controller_at (world_at policy topology before) node)
+  pub held : (before after : List Event) → events ≡ before ++ after → (node : NodeId)
+      → (past_of policy topology events).history.held node (length before)
+      ≡ fold changed (routes_of topology node)
+      (take (changes_taken (world_at policy topology before) node) (changes_of node before))
+  pub records : (before after : List Event) (event : Event) → events ≡ before ++ event ∷ after → (node : NodeId)
+      → TellsTaken node (world_at policy topology before)
+      (next topology (world_at policy topology before) event)
+  pub brought : (before after : List Event) (node : NodeId) (change : RouteChange) → events ≡ before ++ Route node change ∷ after
+      → (c d : Controller) → controller_at (world_at policy topology before) node ≡ Some c
+      → controller_at (next topology (world_at policy topology before) (Route node change)) node ≡ Some d
+      → IsBrought change c d
+
+-- *The law*: so it is of all events, forged frames among them
+abbrev pub TablesAreTold : Type 0
+TablesAreTold = (policy : Policy) (topology : Topology) (events : List Event) → AreToldTables policy topology events
