@@ -1,0 +1,100 @@
+-- what is entered of chains and of frames is no loss of a cell on its way
+
+use Rattle.std.proofs.Common.{◌≡◌, ℕ, List, [], ◌∷◌, ◌++◌, map, filter, length, append-nil, append_assoc, Option, None, Some, refl, sym, ◌∙◌, ap, subst, if◌then◌else◌}
+use Rattle.std.specs.Prelude.{not, nat_le}
+use Rattle.std.proofs.lemmas.List.Elements.{filter-append}
+use Rattle.net_types.specs.declared.number.Mark.{Mark}
+use Rattle.atm_cells.specs.declared.cell.Cell.{Cell}
+use Rattle.link_model.specs.declared.entries.Entry.{Entry}
+use Rattle.link_model.specs.declared.record.Record.{Record}
+use Rattle.link_model.specs.declared.record.Record.TheVariants as kinds
+use Rattle.link_model.specs.declared.record.Record.TheVariants.{Loss, Chance}
+use Rattle.link_model.specs.declared.record.Cause.TheVariants.{PoolFull, Broken, Cut}
+use Rattle.link_model.specs.Ledger.{has_entry, is_frame}
+use Rattle.link_model.specs.Notes.{Journal, losses_of, noted}
+use Rattle.frame_model.specs.Frame.{made, tested, tested_by, last_mark, payload_in, octets_of}
+use Rattle.frame_model.specs.Reassembly.{Reassembly, Taken, taken, passed_over, without_slot, too_long, joined, most_cells, broken, marks_of, distinct, noted_all, cut}
+use Rattle.port_facts.proofs.Keyed.{on_both}
+use Rattle.true_losses.specs.Law.{is_on_way}
+
+-- *The losses of more records* are those of the one and of the others
+pub losses_more : (items others : List Record) → losses_of (items ++ others) ≡ losses_of items ++ losses_of others
+losses_more [] others = refl
+losses_more (kinds.Loss mark cause ∷ items) others = ap (λ (entries : List Entry). record { mark = mark; cause = cause } ∷ entries) (losses_more items others)
+losses_more (kinds.Delivered node packet octets ∷ items) others = losses_more items others
+losses_more (kinds.Dropped node packet cause ∷ items) others = losses_more items others
+losses_more (kinds.Refused node packet name ∷ items) others = losses_more items others
+losses_more (kinds.Chance mark ∷ items) others = losses_more items others
+losses_more (kinds.Bad node layer name ∷ items) others = losses_more items others
+losses_more (kinds.Opened node port ∷ items) others = losses_more items others
+losses_more (kinds.Closed node port ∷ items) others = losses_more items others
+losses_more (kinds.Bind node port label flow ∷ items) others = losses_more items others
+losses_more (kinds.Free node port label ∷ items) others = losses_more items others
+losses_more (kinds.Join node port label to_port to_label ∷ items) others = losses_more items others
+losses_more (kinds.Part node port label ∷ items) others = losses_more items others
+losses_more (kinds.Forged place ∷ items) others = losses_more items others
+losses_more (kinds.Routes node number ∷ items) others = losses_more items others
+
+-- *A record of something else* than such a loss
+abbrev pub IsOther : Record → Type 0
+IsOther item = filter is_on_way (losses_of (item ∷ [])) ≡ []
+
+-- *Notes that began with a ledger*: it has grown by the losses of the records, and of those on their way these are told
+pub record Counts (ledger told : List Entry) (notes : Journal) : Type 0 where
+  pub entered : notes.entries ≡ ledger ++ losses_of notes.records
+  pub on_way : filter is_on_way (losses_of notes.records) ≡ told
+
+module _ (e x : List Entry) where
+  pub noted_more : (notes : Journal) (item : Record) (more : List Entry) → filter is_on_way (losses_of (item ∷ [])) ≡ more → Counts e x notes → Counts e (x ++ more) (noted notes item)
+  noted_more notes item more is h = record {
+    entered = ap (λ (entries : List Entry). entries ++ losses_of (item ∷ [])) h.entered
+        ∙ append_assoc e (losses_of notes.records) (losses_of (item ∷ []))
+        ∙ ap (λ (entries : List Entry). e ++ entries) (sym (losses_more notes.records (item ∷ [])));
+    on_way = ap (filter is_on_way) (losses_more notes.records (item ∷ []))
+        ∙ filter-append is_on_way (losses_of notes.records) (losses_of (item ∷ []))
+        ∙ ap (λ (entries : List Entry). entries ++ filter is_on_way (losses_of (item ∷ []))) h.on_way
+        ∙ ap (λ (entries : List Entry). x ++ entries) is;
+  }
+
+  pub noted_other : (notes : Journal) (item : Record) → IsOther item → Counts e x notes → Counts e x (noted notes item)
+  noted_other notes item other h = subst (λ (told : List Entry). Counts e told (noted notes item)) (append-nil x) (noted_more notes item [] other h)
+
+  pub made_kept : (notes : Journal) (mark : Mark) (payload : List ℕ) → Counts e x notes → Counts e x (made notes mark payload)
+  made_kept notes mark payload h = record { entered = h.entered; on_way = h.on_way }
+
+  -- *Chains of cells* that are cut, broken, or go on
+  pub cut_all : (notes : Journal) (marks : List Mark) → Counts e x notes → Counts e x (noted_all notes (map (λ (mark : Mark). Loss mark Cut) marks))
+  cut_all notes [] h = h
+  cut_all notes (mark ∷ marks) h = cut_all (noted notes (Loss mark Cut)) marks (noted_other notes (Loss mark Cut) refl h)
+
+  pub cut_kept : (notes : Journal) (r : Reassembly) → Counts e x notes → Counts e x (cut notes r)
+  cut_kept notes r h = cut_all notes (distinct (marks_of r.chain)) h
+
+  pub broken_kept : (notes : Journal) (marks : List Mark) → Counts e x notes → Counts e x (broken notes marks)
+  broken_kept notes [] h = h
+  broken_kept notes (mark ∷ marks) h =
+      broken_kept (if has_entry notes.entries mark then notes else noted notes (Loss mark Broken)) marks
+      (on_both (Counts e x) (has_entry notes.entries mark) notes (noted notes (Loss mark Broken)) h (noted_other notes (Loss mark Broken) refl h))
+
+  pub taken_kept : (notes : Journal) (has_slot : _) (r : Reassembly) (cell : Cell) → Counts e x notes → Counts e x (taken notes has_slot r cell).notes
+  taken_kept notes has_slot r cell h = on_both Kept r.is_skipping (passed_over notes r cell) _ (broken_kept notes (cell.mark ∷ []) h)
+      (on_both Kept (not has_slot) (without_slot notes r cell) _
+      (broken_kept (noted notes (Loss cell.mark PoolFull)) (marks_of r.chain) (noted_other notes (Loss cell.mark PoolFull) refl h))
+      (on_both Kept (nat_le most_cells (length r.chain)) (too_long notes r cell) (joined notes r cell) (broken_kept notes (marks_of (r.chain ++ cell ∷ [])) h)
+      (on_both Kept cell.header.last (record { reassembly = record r { chain = [] }; notes = notes; ended = r.chain ++ cell ∷ [] }) (record { reassembly = record r { chain = r.chain ++ cell ∷ [] }; notes = notes; ended = [] })
+      h h)))
+    where
+      Kept : Taken → Type 0
+      Kept t = Counts e x t.notes
+
+  pub tested_kept : (notes : Journal) (cells : List Cell) → Counts e x notes → Counts e x (tested notes cells).notes
+  tested_kept notes cells h = by_payload (payload_in (octets_of cells))
+    where
+      by_payload : (o : Option (List ℕ)) → Counts e x (tested_by notes cells o).notes
+      by_payload None = broken_kept notes (marks_of cells) h
+      by_payload (Some payload) = on_both (Counts e x) (is_frame notes.frames (last_mark cells) payload) notes (noted notes (Chance (last_mark cells)))
+          h (noted_other notes (Chance (last_mark cells)) refl h)
+
+  -- *A frame* that finds no room
+  pub full_kept : (notes : Journal) (mark : Mark) (payload : List ℕ) → Counts e x notes → Counts e x (noted (made notes mark payload) (Loss mark PoolFull))
+  full_kept notes mark payload h = noted_other (made notes mark payload) (Loss mark PoolFull) refl (made_kept notes mark payload h)
