@@ -52,12 +52,13 @@ use Rattle.world_model.specs.Meeting.{meets, up_ports, empties, default_branches
 use Rattle.world_model.specs.Topology.{Topology}
 use Rattle.quiet_model.specs.Costs.{total, request_weight, reset_weight, deleting_weight, listing_weight, meeting_weight}
 use Rattle.quiet_model.specs.Weights.{Bound, standing_cost, desk_weight, state_cost, changes_left}
-use Rattle.port_weights.proofs.Sums.{on_both, on_each, total_found, total_mono}
+use Rattle.port_facts.proofs.Keyed.{on_both, on_each}
+use Rattle.port_weights.proofs.Sums.{total_found, total_mono}
 use Rattle.port_weights.proofs.Works.{cost_of_grant}
 use Rattle.port_weights.proofs.Answered.{done_free, parted_free, given_back_free}
-use Rattle.controller_weights.proofs.Judging.{linked_weight, IsFine, Weighs, W, weighs_then, more, none_then, then_none, still, itself, weighs_fold, costs_fold, placed}
-use Rattle.controller_weights.proofs.Resets.{found_own, node_cost, node_waits}
-use Rattle.controller_weights.proofs.Acting.{given_fine, asks_cost, takes_back_cost, at_port_cost, resets_spent_cost}
+use Rattle.action_weights.proofs.Judging.{linked_weight, IsFine, Weighs, W, weighs_then, more, none_then, then_none, still, itself, weighs_fold, costs_fold, placed}
+use Rattle.action_weights.proofs.Resets.{found_own, node_cost, node_waits}
+use Rattle.action_weights.proofs.Acting.{given_fine, asks_cost, takes_back_cost, at_port_cost, resets_spent_cost}
 
 length_filter : {A : Type 0} (test : A → Bool) (xs : List A) → length (filter test xs) ≤ length xs
 length_filter test [] = omega arith

@@ -75,9 +75,9 @@ use Rattle.port_weights.proofs.Rules.{hears_cost, used_free}
 use Rattle.port_weights.specs.Law.{ServesOnce}
 use Rattle.port_weights.proofs.Answered.{counts_cost}
 use Rattle.controller_weights.specs.Coming.{IsToldGrant, HasToldGrants, Brings, coming_cost}
-use Rattle.controller_weights.proofs.Judging.{Weighs, weighs_then, more, none_then, then_none, still, itself, placed, gsmp_cost}
-use Rattle.controller_weights.proofs.Resets.{node_cost}
-use Rattle.controller_weights.proofs.Acting.{at_port_cost}
+use Rattle.action_weights.proofs.Judging.{Weighs, weighs_then, more, none_then, then_none, still, itself, placed, gsmp_cost}
+use Rattle.action_weights.proofs.Resets.{node_cost}
+use Rattle.action_weights.proofs.Acting.{at_port_cost}
 use Rattle.controller_weights.proofs.Answering.{meets_cost, answer_cost}
 use Rattle.controller_weights.proofs.Packets.{MaySend, routes_cost}
 

@@ -1,8 +1,3 @@
-pub mod Frames
-pub mod Readings
-pub mod Judging
-pub mod Resets
-pub mod Acting
 pub mod Answering
 pub mod Packets
 pub mod Cells

@@ -32,7 +32,7 @@ use Rattle.frame_model.specs.Frame.{next_mark}
 use Rattle.ordered_lists.specs.Ordered.{Every}
 use Rattle.port_model.specs.Setup.{control_end}
 use Rattle.port_model.specs.Grants.{Grant, is_by_controller, grant_for, grant_of_kind, grant_matching}
-use Rattle.port_facts.proofs.Keyed.{at_key, at_every}
+use Rattle.port_facts.proofs.Keyed.{at_key, at_every, on_each}
 use Rattle.port_facts.proofs.Found.{find_every}
 use Rattle.world_model.specs.Controller.{Acted, Linked, port_key, linked_at, default_home}
 use Rattle.world_model.specs.Cells.{on_link, port_on}
@@ -42,10 +42,9 @@ use Rattle.world_model.specs.Topology.{Topology, peer_of}
 use Rattle.shown_cells.proofs.Made.{made_elsewhere}
 use Rattle.quiet_model.specs.Costs.{forwarding}
 use Rattle.quiet_model.specs.Weights.{Bearing, ToSwitch, Plain, Labelled, Bound, bearing_of, bearing_on, hops_at}
-use Rattle.port_weights.proofs.Sums.{on_each}
 use Rattle.controller_weights.specs.Coming.{IsToldGrant, HasToldGrants}
-use Rattle.controller_weights.proofs.Judging.{Weighs, more, still, frame_cost, sent_cost, control_cost, bearing_home}
-use Rattle.controller_weights.proofs.Readings.{packet_reads}
+use Rattle.action_weights.proofs.Judging.{Weighs, more, still, frame_cost, sent_cost, control_cost, bearing_home}
+use Rattle.frame_weights.proofs.Readings.{packet_reads}
 use Rattle.controller_weights.proofs.Answering.{find_passes}
 
 -- *A packet that goes on* has one less to live

@@ -16,17 +16,18 @@ use Rattle.link_model.specs.declared.frames.Frame.{Frame}
 use Rattle.link_model.specs.Ledger.{payload_of}
 use Rattle.frame_model.specs.Frame.{octets_of, payload_in, next_mark}
 use Rattle.frame_model.specs.Reassembly.{taken}
-use Rattle.ordered_lists.specs.Ordered.{Every, InOrder}
-use Rattle.shown_cells.specs.Seen.{Extends, IsUnmade}
+use Rattle.ordered_lists.specs.Ordered.{Every}
+use Rattle.shown_cells.specs.Seen.{Extends}
 use Rattle.controller_facts.specs.Sound.{IsSound}
 use Rattle.port_model.specs.Setup.{Setup}
 use Rattle.port_model.specs.Labels.{Label}
 use Rattle.port_model.specs.Grants.{Grant}
-use Rattle.world_model.specs.Controller.{Acted, Linked, port_key, free_slots}
+use Rattle.world_model.specs.Controller.{Acted, Linked, free_slots}
 use Rattle.world_model.specs.Cells.{Taker, ForLabel, taker_of, reassembly_of, cell_comes}
 use Rattle.world_model.specs.Topology.{Topology, peer_of}
 use Rattle.quiet_model.specs.Weights.{Bound, hops_at, bearing_of, cost_of, cell_weight, controller_weight}
 use Rattle.quiet_model.specs.Costs.{total}
+use Rattle.action_weights.specs.Fine.{IsFine}
 
 -- the grants of a port are of labels, whose cells have the hops that their flows' packets have
 abbrev pub IsToldGrant : Topology → NodeId → Bound → PortNo → Grant → Type 0
@@ -56,20 +57,6 @@ pub record Brings (topology : Topology) (node : NodeId) (bound : Bound) (a : Act
 abbrev pub coming_cost : Topology → NodeId → Bound → List Frame → Cell → ℕ
 coming_cost topology node bound frames cell =
     if cell.header.last then cost_of bound (payload_of frames cell.mark) (bearing_of topology (Up node) cell.header.channel) else 0
-
--- *A controller that is fine*: no control mark beyond those given out was used, and its ports are of links, at most 8, no two
--- with one number
-abbrev pub HaveOwnNumbers : Linked → Linked → Type 0
-HaveOwnNumbers x y = port_key x ≢ port_key y
-
-abbrev pub IsOfLink : Linked → Type 0
-IsOfLink linked = 1 ≤ linked.setup.port.0
-
-pub record IsFine (a : Acted) : Type 0 where
-  pub unmade : IsUnmade a.numbers.controls a.notes.frames
-  pub apart : InOrder HaveOwnNumbers a.controller.ports
-  pub links : Every IsOfLink a.controller.ports
-  pub few : length a.controller.ports ≤ 8
 
 -- *The law*: a controller with the cells that wait for its switch is heavier behind the cell by what the frame that it ends
 -- may cause at most. Cells are weighed by frames in which those that it leaves stand, none of which is too long

@@ -1,10 +1,9 @@
 //! What a cell that comes to a controller adds to the measure of `quiet_model`: nothing, but for what the frame that it ends
 //! may cause. Definitions and laws alone: `specs/Coming` has what is asked of the cell, and the statement.
 //!
-//! The proof goes over all that a cell can lead to. Each step is judged by what it costs (`proofs/Judging`), with the cells
-//! that it sends; what is read in a frame costs no more than what was said in it (`proofs/Readings`). What a port asks is
-//! paid by its actions (`Acting`, over `port_weights`), what an answer causes by the request that stood (`Answering`), and a
-//! packet that goes on by its Time To Live (`Packets`); `Cells` puts them together. There is no code that runs.
+//! The proof goes over all that a cell can lead to. What a port asks is paid by its actions (`action_weights`), what an answer
+//! causes by the request that stood (`proofs/Answering`), and a packet that goes on by its Time To Live (`Packets`); `Cells`
+//! puts them together. There is no code that runs.
 #![tactic(auto)]
 
 ghost use Rattle.controller_weights.specs.Coming.{CellsArePaid};

@@ -23,7 +23,7 @@ use Rattle.port_model.specs.Joins.{joins_label, parted, ended, given_back_in, gi
 use Rattle.quiet_model.specs.Costs.{frame_weight, reset_weight, words_weight, naming_weight, offer_weight, label_cost}
 use Rattle.quiet_model.specs.Weights.{state_cost}
 use Rattle.port_weights.specs.Law.{ServesOnce}
-use Rattle.port_weights.proofs.Sums.{on_both}
+use Rattle.port_facts.proofs.Keyed.{on_both}
 use Rattle.port_weights.proofs.Works.{cost_of_label, cost_of_grant, Costs, costs_none, at_most, after_none, trade_then, trade, acts_cost, session_put, label_trade, freed_trade, ended_trade, free_grant, gone_cost, tells_cost}
 use Rattle.port_weights.proofs.Rules.{IsHeld, IsGranted, held_own, naming_cost, used_label_free, offers_cost}
 

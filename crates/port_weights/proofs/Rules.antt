@@ -38,7 +38,8 @@ use Rattle.port_model.specs.Reclaiming.{reclaims_in, unjoins, recalls, recalls_i
 use Rattle.port_model.specs.Hearing.{label_by, hears}
 use Rattle.quiet_model.specs.Costs.{frame_weight, request_weight, reset_weight, spending_weight, words_weight, redirection_weight, naming_weight, offer_weight, hello_weight, message_cost, label_cost}
 use Rattle.quiet_model.specs.Weights.{state_cost}
-use Rattle.port_weights.proofs.Sums.{on_both, at_key, total_more}
+use Rattle.port_facts.proofs.Keyed.{on_both, at_key}
+use Rattle.port_weights.proofs.Sums.{total_more}
 use Rattle.port_weights.proofs.Below.{IsBelow, received_below}
 use Rattle.port_weights.proofs.Works.{live_or_halted, labels_in, cost_of_label, cost_of_grant, Costs, costs_none, at_most, one_after, after_none, none_after, trade_then, trade, costs_fold, acts_cost, halts_cost, turned_cost, kept_cost, label_trade, new_label_cost, grants_cost, grant_trade, gone_cost, says_cost}
 

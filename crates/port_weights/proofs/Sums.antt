@@ -2,19 +2,9 @@
 
 use Rattle.std.proofs.Common.{◌≡◌, ℕ, ◌≤◌, ◌+◌, Bool, true, false, List, [], ◌∷◌, ◌++◌, Some, refl, ◌∙◌, ap, arith, if◌then◌else◌}
 use Rattle.std.specs.Prelude.{nat_eq, find, filter}
-use Rattle.std.proofs.lemmas.Bool.Decides.{nat_tests}
 use Rattle.keyed_lists.specs.Keyed.{at, put, without, entered, in_order}
+use Rattle.port_facts.proofs.Keyed.{on_both}
 use Rattle.quiet_model.specs.Costs.{total}
-
--- either way of a test
-pub on_both : {A : Type 0} (P : A → Type 0) (b : Bool) (x y : A) → P x → P y → P (if b then x else y)
-on_both P true x y p q = p
-on_both P false x y p q = q
-
--- and with the test's outcome
-pub on_each : {A : Type 0} (P : A → Type 0) (b : Bool) (x y : A) → (b ≡ true → P x) → (b ≡ false → P y) → P (if b then x else y)
-on_each P true x y p q = p refl
-on_each P false x y p q = q refl
 
 module _ {A : Type 0} (f : A → ℕ) where
   pub total_join : (xs ys : List A) → total f (xs ++ ys) ≡ total f xs + total f ys
@@ -68,14 +58,6 @@ module _ {A : Type 0} (f : A → ℕ) where
       | true ↦ λ e. (let same : z ≡ x = cc in omega (arith, ap f same, total_left k xs))
       | false ↦ λ e. omega (arith, total_without k xs x e)
     ] e
-
--- what is found has the key
-pub at_key : {A : Type 0} (key : A → ℕ) (k : ℕ) (xs : List A) (x : A) → at key k xs ≡ Some x → key x ≡ k
-at_key key k [] x e = absurd (cc e)
-at_key key k (z ∷ xs) x e = elim (nat_eq (key z) k) as (λ t. nat_eq (key z) k ≡ t → (if t then Some z else at key k xs) ≡ Some x → key x ≡ k) [
-  | true ↦ λ t h. grind (arith, nat_tests)
-  | false ↦ λ t h. at_key key k xs x h
-] refl e
 
 -- a greater weight of each
 pub total_mono : {A : Type 0} (f g : A → ℕ) → ((x : A) → f x ≤ g x) → (xs : List A) → total f xs ≤ total g xs

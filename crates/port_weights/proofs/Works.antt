@@ -17,7 +17,8 @@ use Rattle.port_model.specs.Saying.{Unnumbered, last_number, spent_number, own_o
 use Rattle.quiet_model.specs.Costs.{total, frame_weight, reset_weight, spending_weight, message_cost, label_cost}
 use Rattle.quiet_model.specs.Weights.{state_cost}
 use Rattle.port_weights.specs.Works.{action_cost, work_weight}
-use Rattle.port_weights.proofs.Sums.{on_both, on_each, total_more, total_entered, total_put, total_put_free, total_left, total_without}
+use Rattle.port_facts.proofs.Keyed.{on_both, on_each}
+use Rattle.port_weights.proofs.Sums.{total_more, total_entered, total_put, total_put_free, total_left, total_without}
 
 -- what is due of a live port
 abbrev pub due : (halted : Bool) → ℕ → ℕ

@@ -65,7 +65,7 @@ use Rattle.controller_weights.proofs.Paid as controllers_paid
 use Rattle.switch_weights.specs.Coming.{asking_weight, Pays}
 use Rattle.switch_weights.proofs.Paid as switches_paid
 use Rattle.quiet_links.proofs.Reweighed.{cell_less, nobody_less}
-use Rattle.quiet_links.proofs.Sites.{one_found, AreLighter, world_less, switch_weight, controller_acts_weight, Popped, popped}
+use Rattle.quiet_rounds.proofs.Sites.{one_found, AreLighter, world_less, switch_weight, controller_acts_weight, Popped, popped}
 use Rattle.quiet_links.proofs.Facts as facts
 use Rattle.quiet_links.proofs.Crossing.{bears}
 use Rattle.quiet_links.proofs.Pays.{down_leads, link_leads}

@@ -63,7 +63,8 @@ use Rattle.packet_worlds.proofs.Behind.{IsUser}
 use Rattle.packet_worlds.proofs.Hops as laws
 use Rattle.packet_worlds.proofs.Worlds.{port_above}
 use Rattle.quiet_model.specs.Weights.{Bound, hops_at}
-use Rattle.controller_weights.specs.Coming.{IsToldGrant, HasToldGrants, Brings, HaveOwnNumbers, IsOfLink, IsFine}
+use Rattle.action_weights.specs.Fine.{HaveOwnNumbers, IsOfLink, IsFine}
+use Rattle.controller_weights.specs.Coming.{IsToldGrant, HasToldGrants, Brings}
 
 -- a list of which each element is known
 every_contained : {A : Type 0} (P : A → Type 0) (xs : List A) → ((x : A) → Contains xs x → P x) → Every P xs

@@ -1,10 +1,7 @@
 pub mod Reweighed
-pub mod Sites
 pub mod Facts
 pub mod Crossing
 pub mod Pays
 pub mod Coming
 pub mod Carried
-pub mod Places
-pub mod Rounds
 pub mod Laws

@@ -1,6 +1,6 @@
 -- Carrying cells empties every queue, in a run before its first frame that was forged or passed its test by chance
 
-use Rattle.std.specs.Prelude.{◌≡◌, ℕ, ◌≤◌, true, false, List, ◌∷◌, ◌++◌}
+use Rattle.std.specs.Prelude.{◌≡◌, ℕ, ◌+◌, ◌≤◌, true, false, List, ◌∷◌, ◌++◌}
 use Rattle.std.specs.List.{repeat}
 use Rattle.net_types.specs.declared.node.Place.{Place}
 use Rattle.port_model.specs.Setup.{Policy}
@@ -17,7 +17,7 @@ use Rattle.world_views.specs.Kept.{HasAddresses, Comes, BindsUnusedAt}
 use Rattle.ownership.specs.Places.{HasPlaces}
 use Rattle.packet_worlds.specs.Channels.{HasChannels}
 use Rattle.quiet_model.specs.Weights.{weight}
-use Rattle.quiet_model.specs.Law.{WeighsLess}
+use Rattle.quiet_model.specs.Law.{WeighsLess, carried, finds}
 
 -- *Each carry* that comes to a network with all that is so of every one makes it lighter where it finds a cell
 abbrev pub CarriesWeighLess : Type 0
@@ -25,10 +25,21 @@ CarriesWeighLess = (policy : Policy) (topology : Topology) (before : List Event)
     → IsWorld (past_of policy topology before) → HasPlaces (past_of policy topology before) → HasChannels (past_of policy topology before)
     → BindsUnusedAt policy topology before (Carry place) → WeighsLess policy topology before place
 
--- *So all queues are empty* behind as many rounds as the world weighs at which they begin
+-- *Where each carry does*, carries one after another make it lighter by as many as find a cell
 abbrev pub CarriesOf : Policy → Topology → List Event → Type 0
 CarriesOf policy topology events = (front rest : List Event) (place : Place) → events ≡ front ++ Carry place ∷ rest → WeighsLess policy topology front place
 
+abbrev pub CarriesFind : Type 0
+CarriesFind = (policy : Policy) (topology : Topology) (before : List Event) (places : List Place) → CarriesOf policy topology (carried before places)
+    → weight (past_of policy topology (carried before places)) + finds policy topology before places ≤ weight (past_of policy topology before)
+
+-- *and rounds* by as many as there are, or all queues are empty after them
+abbrev pub RoundsMakeLighter : Type 0
+RoundsMakeLighter = (policy : Policy) (topology : Topology) (events : List Event) → IsRun policy topology events → HasAddresses topology → CarriesOf policy topology events
+    → (before : List Event) (count : ℕ) → events ≡ before ++ repeat count (round (opened policy topology))
+    → is_empty (past_of policy topology events).now ≡ false → weight (past_of policy topology events) + count ≤ weight (past_of policy topology before)
+
+-- *So all queues are empty* after as many rounds as the world weighs at which they begin
 abbrev pub RoundsEmptyQueues : Type 0
 RoundsEmptyQueues = (policy : Policy) (topology : Topology) (events : List Event) → IsRun policy topology events → HasAddresses topology → CarriesOf policy topology events
     → (before : List Event) (count : ℕ) → events ≡ before ++ repeat count (round (opened policy topology))

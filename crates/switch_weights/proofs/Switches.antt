@@ -51,10 +51,10 @@ use Rattle.shown_cells.proofs.Made.{extends_self, extends_on, extends_made, made
 use Rattle.shown_cells.proofs.Tested.{tested_frames}
 use Rattle.quiet_model.specs.Costs.{total, answer_weight, greeting_weight, asking_cost, answering_cost, if_said, switch_cost, controller_cost}
 use Rattle.quiet_model.specs.Weights.{Bound, ToController, ToSwitch, cost_of, hops_of, bearing_of, cell_weight, place_at, queues_weight}
-use Rattle.port_weights.proofs.Sums.{on_both}
+use Rattle.port_facts.proofs.Keyed.{on_both}
 use Rattle.port_weights.proofs.Below.{IsBelow, received_below}
-use Rattle.controller_weights.proofs.Frames.{frame_total}
-use Rattle.controller_weights.proofs.Readings.{controller_reads}
+use Rattle.frame_weights.proofs.Frames.{frame_total}
+use Rattle.frame_weights.proofs.Readings.{controller_reads}
 use Rattle.switch_weights.specs.Coming.{Passes, asking_weight, LeadsTo}
 use Rattle.switch_weights.proofs.Queues.{joins_queue}
 

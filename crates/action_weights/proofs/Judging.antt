@@ -25,7 +25,7 @@ use Rattle.link_model.specs.Notes.{noted}
 use Rattle.frame_model.specs.Frame.{frame_cells, made}
 use Rattle.frame_model.specs.Sending.{Sent}
 use Rattle.ordered_lists.specs.Ordered.{Every, InOrder}
-use Rattle.port_facts.proofs.Keyed.{put_every, put_order, put_length, at_every}
+use Rattle.port_facts.proofs.Keyed.{put_every, put_order, put_length, at_every, on_both}
 use Rattle.world_model.specs.Controller.{Controller, Acted, Linked, port_key, free_slots, linked_at, with_linked, default_channel, default_home}
 use Rattle.world_model.specs.Cells.{on_link, port_on}
 use Rattle.world_model.specs.Sending.{with_cells, sends, sends_control, says_gsmp, says_ifmp}
@@ -34,10 +34,10 @@ use Rattle.shown_cells.specs.Seen.{Extends, IsUnmade}
 use Rattle.shown_cells.proofs.Made.{extends_self, extends_on, extends_made, made_is, unmade_next}
 use Rattle.quiet_model.specs.Costs.{total, frame_weight, asking_cost, message_cost}
 use Rattle.quiet_model.specs.Weights.{Bearing, ToSwitch, Plain, Bound, bearing_of, bearing_on, hops_of, cost_of, cell_weight, port_weight, changes_left, controller_weight}
-use Rattle.port_weights.proofs.Sums.{on_both, total_join, total_put}
-pub use Rattle.controller_weights.specs.Coming.{HaveOwnNumbers, IsOfLink, IsFine}
-use Rattle.controller_weights.proofs.Frames.{frame_total}
-use Rattle.controller_weights.proofs.Readings.{switch_reads, ifmp_reads}
+use Rattle.port_weights.proofs.Sums.{total_join, total_put}
+pub use Rattle.action_weights.specs.Fine.{HaveOwnNumbers, IsOfLink, IsFine}
+use Rattle.frame_weights.proofs.Frames.{frame_total}
+use Rattle.frame_weights.proofs.Readings.{switch_reads, ifmp_reads}
 
 -- a port in a node where so many changes wait
 abbrev pub linked_weight : ℕ → Linked → ℕ

@@ -26,7 +26,7 @@ use Rattle.port_model.specs.Grants.{Grant, GrantState, Idle, ByController, ByInp
 use Rattle.port_model.specs.Port.{Session, Work, halts}
 use Rattle.port_model.specs.Saying.{is_spent, closes}
 use Rattle.port_model.specs.Resets.{closing, left_in, left_of, taking_back_in, taking_back, withdrawing_in, withdrawing_of, withdrawing, resets}
-use Rattle.port_facts.proofs.Keyed.{at_every, at_put_same}
+use Rattle.port_facts.proofs.Keyed.{at_every, at_put_same, on_both}
 use Rattle.world_model.specs.Controller.{Acted, Linked, port_key, linked_at, with_linked, with_desk, note, chain_of, chains_with}
 use Rattle.world_model.specs.Asking.{asks_next, asks, takes_back, withdraws_input}
 use Rattle.world_model.specs.Resets.{cuts_of, begins, with_work, node_resets}
@@ -37,10 +37,10 @@ use Rattle.shown_cells.proofs.Tested.{cut_frames}
 use Rattle.quiet_model.specs.Costs.{total, frame_weight, answer_weight, request_weight, reset_weight, asking_cost}
 use Rattle.quiet_model.specs.Weights.{Bound, standing_cost, desk_weight, state_cost, port_weight, changes_left}
 use Rattle.port_weights.specs.Works.{action_cost, work_weight}
-use Rattle.port_weights.proofs.Sums.{on_both, total_join, total_more, total_filter, total_put}
+use Rattle.port_weights.proofs.Sums.{total_join, total_more, total_filter, total_put}
 use Rattle.port_weights.proofs.Works.{Costs, cost_of_grant, spent_cost}
-use Rattle.controller_weights.proofs.Judging.{linked_weight, IsOfLink, IsFine, Weighs, weighs_then, more, none_then, still, itself, placed, gsmp_cost, ifmp_cost}
-use Rattle.controller_weights.proofs.Resets.{found_own, node_cost}
+use Rattle.action_weights.proofs.Judging.{linked_weight, IsOfLink, IsFine, Weighs, weighs_then, more, none_then, still, itself, placed, gsmp_cost, ifmp_cost}
+use Rattle.action_weights.proofs.Resets.{found_own, node_cost}
 
 -- *A reset of a port*: what it asks is paid by what it gives up, but for Delete All, which numbers that are spent pay
 taking_some : (setup : Setup) (changes : ℕ) (grant : Grant) (state : GrantState) → grant.state ≡ state

@@ -29,7 +29,7 @@ use Rattle.shown_cells.proofs.Tested.{cut_frames}
 use Rattle.quiet_model.specs.Costs.{total}
 use Rattle.quiet_model.specs.Weights.{Bound, desk_weight, changes_left}
 use Rattle.port_weights.proofs.Works.{cost_of_label, cost_of_grant, labels_in, spent_cost}
-use Rattle.controller_weights.proofs.Judging.{linked_weight, HaveOwnNumbers, IsOfLink, IsFine, Weighs, down}
+use Rattle.action_weights.proofs.Judging.{linked_weight, HaveOwnNumbers, IsOfLink, IsFine, Weighs, down}
 
 -- *Ports* that are in order stay so where one is put back
 pub record FinePorts (ports : List Linked) : Type 0 where

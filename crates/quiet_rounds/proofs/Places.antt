@@ -25,7 +25,7 @@ use Rattle.packet_worlds.proofs.Nets.{world_net}
 use Rattle.run_facts.specs.Nodes.{IsNodeOfRun, HasSite}
 use Rattle.run_facts.proofs.Nodes.{runs_have_nodes}
 use Rattle.run_facts.proofs.Rooms.{runs_keep_nodes}
-use Rattle.quiet_links.proofs.Sites.{all_found}
+use Rattle.quiet_rounds.proofs.Sites.{all_found}
 
 module _ (topology : Topology) where
   node_places : (node : NodeId) → List Place

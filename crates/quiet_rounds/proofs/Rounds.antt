@@ -1,4 +1,4 @@
--- behind as many rounds as a world weighs all queues are empty
+-- after as many rounds as a world weighs all queues are empty
 
 use Rattle.std.proofs.Common.{◌≡◌, ◌⊎◌, inl, inr, ℕ, zero, suc, ◌≤◌, ◌+◌, Bool, true, false, List, [], ◌∷◌, ◌++◌, length, Some, refl, sym, ◌∙◌, ap, subst, arith, if◌then◌else◌, map, append_assoc, append-nil}
 use Rattle.std.specs.Prelude.{◌==◌, ◌&&◌, nat_eq, slice_index_or}
@@ -23,8 +23,8 @@ use Rattle.world_model.specs.Headline.{is_empty}
 use Rattle.run_facts.proofs.Steps.{events_are_steps}
 use Rattle.quiet_model.specs.Costs.{total}
 use Rattle.quiet_model.specs.Weights.{stage, cell_weight, place_at, queues_weight, site_weight, weight}
-use Rattle.quiet_model.specs.Law.{found, WeighsLess}
-use Rattle.quiet_links.proofs.Sites.{one_found}
+use Rattle.quiet_model.specs.Law.{found, finds, WeighsLess}
+use Rattle.quiet_rounds.proofs.Sites.{one_found}
 
 -- *A cell weighs 1 at least*
 stage_some : (place : Place) → 1 ≤ stage place
@@ -131,19 +131,57 @@ module _ (policy : Policy) (topology : Topology) where
     rounds_empty ps (suc count) before e = subst (λ (es : List Event). AreEmpty (now es).sites ps) (append_assoc before (map Carry ps) (repeat count (map Carry ps)))
         (rounds_empty ps count (before ++ map Carry ps) (subst (λ (ss : List Site). AreEmpty ss ps) (sym (still_empty ps before e)) e))
 
-    -- *So many rounds*
-    rounds : (ps : List Place) (count : ℕ) (before : List Event) → events ≡ before ++ repeat count (map Carry ps) → weight (past_of policy topology before) ≤ count
-        → AreEmpty (now (before ++ repeat count (map Carry ps))).sites ps
-    rounds ps zero before e le = subst (λ (es : List Event). AreEmpty (now es).sites ps) (sym (append-nil before)) (light_empty (past_of policy topology before) ps le)
-    rounds ps (suc count) before e le =
-        let again : events ≡ (before ++ map Carry ps) ++ repeat count (map Carry ps) = e ∙ sym (append_assoc before (map Carry ps) (repeat count (map Carry ps))) in
-        let r : Rounded before (before ++ map Carry ps) ps = rounded ps before (repeat count (map Carry ps)) e in
-        subst (λ (es : List Event). AreEmpty (now es).sites ps) (append_assoc before (map Carry ps) (repeat count (map Carry ps)))
-        (elim r.fell [
-          | inl h ↦ rounds ps count (before ++ map Carry ps) again (omega (arith, h, le))
-          | inr h ↦ rounds_empty ps count (before ++ map Carry ps) (subst (λ (ss : List Site). AreEmpty ss ps) (sym h.0) h.1)
-        ])
+    -- *So many rounds* make the world lighter by as many, or all queues are empty after them
+    fallen : (ps : List Place) (count : ℕ) (before : List Event) → events ≡ before ++ repeat count (map Carry ps)
+        → (weight (past_of policy topology (before ++ repeat count (map Carry ps))) + count ≤ weight (past_of policy topology before)) ⊎ AreEmpty (now (before ++ repeat count (map Carry ps))).sites ps
+    fallen ps zero before e = inl (let same = ap (λ (es : List Event). weight (past_of policy topology es)) (append-nil before) in omega (arith, same))
+    fallen ps (suc count) before e = by r.fell (fallen ps count (before ++ map Carry ps) again)
+      where
+        rest : List Event
+        rest = repeat count (map Carry ps)
+
+        r : Rounded before (before ++ map Carry ps) ps
+        r = rounded ps before rest e
+
+        whole : (before ++ map Carry ps) ++ rest ≡ before ++ repeat (suc count) (map Carry ps)
+        whole = append_assoc before (map Carry ps) rest
+
+        again : events ≡ (before ++ map Carry ps) ++ rest
+        again = e ∙ sym whole
+
+        by : (weight (past_of policy topology (before ++ map Carry ps)) + 1 ≤ weight (past_of policy topology before)) ⊎ (((now (before ++ map Carry ps)).sites ≡ (now before).sites) × AreEmpty (now before).sites ps)
+            → (weight (past_of policy topology ((before ++ map Carry ps) ++ rest)) + count ≤ weight (past_of policy topology (before ++ map Carry ps))) ⊎ AreEmpty (now ((before ++ map Carry ps) ++ rest)).sites ps
+            → (weight (past_of policy topology (before ++ repeat (suc count) (map Carry ps))) + suc count ≤ weight (past_of policy topology before)) ⊎ AreEmpty (now (before ++ repeat (suc count) (map Carry ps))).sites ps
+        by (inl h) (inl later) = inl (let same = ap (λ (es : List Event). weight (past_of policy topology es)) whole in omega (arith, h, later, same))
+        by (inl h) (inr empty) = inr (subst (λ (es : List Event). AreEmpty (now es).sites ps) whole empty)
+        by (inr h) later = inr (subst (λ (es : List Event). AreEmpty (now es).sites ps) whole
+            (rounds_empty ps count (before ++ map Carry ps) (subst (λ (ss : List Site). AreEmpty ss ps) (sym h.0) h.1)))
+
+    abbrev Empties : List Event → Type 0
+    Empties es = AreEmpty (now es).sites (places (now events))
+
+    empties : (es : List Event) → es ≡ events → Empties es → is_empty (now events) ≡ true
+    empties es same empty = all_empty (now events) (places (now events)) (subst Empties same empty)
+
+    pub rounds_are_lighter : (before : List Event) (count : ℕ) → events ≡ before ++ repeat count (round (now events)) → is_empty (now events) ≡ false
+        → weight (past_of policy topology events) + count ≤ weight (past_of policy topology before)
+    rounds_are_lighter before count e some = elim (fallen (places (now events)) count before e) [
+      | inl h ↦ (let same = ap (λ (es : List Event). weight (past_of policy topology es)) e in omega (arith, h, same))
+      | inr h ↦ absurd (let all : is_empty (now events) ≡ true = empties (before ++ repeat count (round (now events))) (sym e) h in cc)
+    ]
 
     pub rounds_are_quiet : (before : List Event) (count : ℕ) → events ≡ before ++ repeat count (round (now events)) → weight (past_of policy topology before) ≤ count → is_empty (now events) ≡ true
-    rounds_are_quiet before count e le = all_empty (now events) (places (now events))
-        (subst (λ (es : List Event). AreEmpty (now es).sites (places (now events))) (sym e) (rounds (places (now events)) count before e le))
+    rounds_are_quiet before count e le = empties (before ++ repeat count (round (now events))) (sym e) (elim (fallen (places (now events)) count before e) [
+      | inl h ↦ light_empty (past_of policy topology (before ++ repeat count (round (now events)))) (places (now events)) (omega (arith, h, le))
+      | inr h ↦ h
+    ])
+
+    -- *Carries one after another*
+    pub found_all : (ps : List Place) (before : List Event) → events ≡ before ++ map Carry ps
+        → weight (past_of policy topology (before ++ map Carry ps)) + finds policy topology before ps ≤ weight (past_of policy topology before)
+    found_all [] before e = (let same = ap (λ (es : List Event). weight (past_of policy topology es)) (append-nil before) in omega (arith, same))
+    found_all (p ∷ ps) before e =
+        let one : WeighsLess policy topology before p = less before (map Carry ps) p e in
+        let later = found_all ps (before ++ Carry p ∷ []) (e ∙ joined before p (map Carry ps)) in
+        let same = ap (λ (es : List Event). weight (past_of policy topology es)) (joined before p (map Carry ps)) in
+        omega (arith, one, later, same)
