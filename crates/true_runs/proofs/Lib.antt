@@ -3,4 +3,5 @@ pub mod Walk
 pub mod Fates
 pub mod Kept
 pub mod Harmony
+pub mod Quiet
 pub mod Reading

@@ -1,6 +1,6 @@
 -- what is kept in every run gives what is true of it
 
-use Rattle.std.proofs.Common.{◌≡◌, List, [], ◌∷◌, ◌++◌, append_assoc, sym, subst, ◌∙◌}
+use Rattle.std.proofs.Common.{◌≡◌, List, ◌∷◌, ◌++◌, subst}
 use Rattle.port_model.specs.Setup.{Policy}
 use Rattle.world_model.specs.declared.event.Event.{Event}
 use Rattle.world_model.specs.Topology.{Topology}
@@ -10,7 +10,9 @@ use Rattle.world_model.specs.Headline.{IsRun, IsTame, Headline, AreOwned, IsInHa
 use Rattle.lifetimes.specs.Run.{IsSetInRuns, EndsInRuns, SendsNoMoreInRuns, IsLedBackInRuns, IsEndedByResetInRuns}
 use Rattle.run_facts.specs.Nodes.{RunsHaveNodes}
 use Rattle.world_views.specs.Between.{IsWorld, HasPacketsOnce}
-use Rattle.world_views.specs.Kept.{HasAddresses, Comes, BindsUnusedAt}
+use Rattle.world_views.specs.Kept.{HasAddresses}
+use Rattle.told_tables.specs.Law.{TablesAreTold}
+use Rattle.true_losses.specs.Law.{LossesAreTrue}
 use Rattle.steady_routes.specs.Law.{ChangesNoRoute, AreJourneys, FatesAreJourneys}
 use Rattle.idle_policies.specs.Law.{NothingIsBound}
 use Rattle.control_places.specs.Chains.{ChainsAreTheirFrames}
@@ -20,9 +22,10 @@ use Rattle.ownership.specs.Places.{WaysAreOwn}
 use Rattle.ownership.specs.Binds.{EachBindIsUnused}
 use Rattle.true_runs.specs.Law.{InFronts, LifetimesEnd, IsTrueRun}
 use Rattle.true_runs.specs.Runs.{IsWhole, HoldsInRuns}
-use Rattle.true_runs.proofs.Fronts.{front_run, front_tame}
-use Rattle.true_runs.proofs.Walk.{holds_in_runs}
+use Rattle.true_runs.proofs.Fronts.{front_run}
+use Rattle.true_runs.proofs.Walk.{holds_in_runs, holds_at, comes_at}
 use Rattle.true_runs.proofs.Fates.{fates_whole}
+use Rattle.true_runs.proofs.Quiet.{BindsUnusedInRuns, CarriesEnd, is_quiet, packets_end}
 use Rattle.true_runs.proofs.Kept.{AreKept, DoBegin, whole_kept, whole_begins}
 
 -- a network of a run has controllers that are sound, and what goes between them is on its own channel
@@ -48,8 +51,7 @@ pub record Reads : Type 0 where
   pub ordered : WaysAreInOrder
   pub copies : CopiesAreInOrder
   pub frames : ChainsAreTheirFrames
-  pub unused : (policy : Policy) (topology : Topology) (before : List Event) (event : Event) → Comes policy topology before event
-      → IsWhole (past_of policy topology before) → BindsUnusedAt policy topology before event
+  pub unused : BindsUnusedInRuns
   pub binds : EachBindIsUnused
   pub once : (policy : Policy) (topology : Topology) (events : List Event) → HasPacketsOnce (past_of policy topology events)
       → HasFatesOnce (past_of policy topology events)
@@ -61,26 +63,17 @@ pub record Reads : Type 0 where
   pub silent : SendsNoMoreInRuns
   pub led_back : IsLedBackInRuns
   pub by_reset : IsEndedByResetInRuns
+  pub tables : TablesAreTold
+  pub losses : LossesAreTrue
   pub journeys : FatesAreJourneys
   pub unbound : NothingIsBound
+  pub carries : CarriesEnd
 
 module _ (r : Reads) (whole : HoldsInRuns IsWhole) (policy : Policy) (topology : Topology) (addresses : HasAddresses topology) where
   -- of a front
   whole_at : (events before after : List Event) → IsRun policy topology events → IsTame (past_of policy topology events).records → events ≡ before ++ after
       → IsWhole (past_of policy topology before)
-  whole_at events before after run tame split =
-      whole policy topology before (front_run policy topology before after (subst (IsRun policy topology) split run)) addresses
-      (front_tame policy topology before after (subst (λ (es : List Event). IsTame (past_of policy topology es).records) split tame))
-
-  comes_at : (events before after : List Event) (event : Event) → IsRun policy topology events → IsTame (past_of policy topology events).records
-      → events ≡ before ++ event ∷ after → Comes policy topology before event
-  comes_at events before after event run tame split =
-      let joined : events ≡ (before ++ event ∷ []) ++ after = split ∙ sym (append_assoc before (event ∷ []) after) in
-      record {
-        run = front_run policy topology (before ++ event ∷ []) after (subst (IsRun policy topology) joined run);
-        addresses = addresses;
-        tame = front_tame policy topology (before ++ event ∷ []) after (subst (λ (es : List Event). IsTame (past_of policy topology es).records) joined tame);
-      }
+  whole_at = holds_at policy topology addresses IsWhole whole
 
   routed : (events : List Event) → IsRun policy topology events → Headline policy topology events
   routed events run = record {
@@ -91,7 +84,7 @@ module _ (r : Reads) (whole : HoldsInRuns IsWhole) (policy : Policy) (topology :
           deliveries = w.world.packets.true_fates;
           once = r.once policy topology before w.world.packets;
           labels = r.binds policy topology before
-              (λ front rest event is. r.unused policy topology front event (comes_at before front rest event run tame is) (whole_at before front (event ∷ rest) run tame is));
+              (λ front rest event is. r.unused policy topology front event (comes_at policy topology addresses before front rest event run tame is) (whole_at before front (event ∷ rest) run tame is));
           fates = fates_whole (past_of policy topology before) w.world.packets;
         };
   }
@@ -151,7 +144,11 @@ module _ (r : Reads) (whole : HoldsInRuns IsWhole) (policy : Policy) (topology :
     harmony = in_harmony events run;
     causes = caused events run;
     lifetimes = lifetimes_end events;
+    tables = r.tables policy topology events;
+    losses = r.losses policy topology events;
     journeys = on_journeys events run;
+    quiet = λ before after split. is_quiet r.carries r.unused whole policy topology addresses before;
+    packets_end = λ before after split. packets_end r.carries r.unused whole policy topology addresses before;
     unbound = r.unbound policy topology events run;
   }
 

@@ -1,6 +1,6 @@
 -- what holds at the opening of a run and is kept by each event holds in every run
 
-use Rattle.std.proofs.Common.{◌≡◌, List, [], ◌∷◌, ◌++◌, append_assoc, append-nil, sym, subst}
+use Rattle.std.proofs.Common.{◌≡◌, List, [], ◌∷◌, ◌++◌, append_assoc, append-nil, sym, subst, ◌∙◌}
 use Rattle.port_model.specs.Setup.{Policy}
 use Rattle.world_model.specs.declared.event.Event.{Event}
 use Rattle.world_model.specs.Topology.{Topology}
@@ -34,3 +34,21 @@ module _ (P : Past → Type 0) (keeps : KeepsItself P) (policy : Policy) (topolo
 pub holds_in_runs : (P : Past → Type 0) → KeepsItself P → Begins P → HoldsInRuns P
 holds_in_runs P keeps begins policy topology events run addresses tame =
     walk P keeps policy topology addresses [] events run tame (begins policy topology run.topology_is addresses)
+
+-- it holds of each front of such a run, and each of its events comes
+module _ (policy : Policy) (topology : Topology) (addresses : HasAddresses topology) where
+  pub holds_at : (P : Past → Type 0) → HoldsInRuns P → (events before after : List Event) → IsRun policy topology events → IsTame (past_of policy topology events).records
+      → events ≡ before ++ after → P (past_of policy topology before)
+  holds_at P holds events before after run tame split =
+      holds policy topology before (front_run policy topology before after (subst (IsRun policy topology) split run)) addresses
+      (front_tame policy topology before after (subst (λ (es : List Event). IsTame (past_of policy topology es).records) split tame))
+
+  pub comes_at : (events before after : List Event) (event : Event) → IsRun policy topology events → IsTame (past_of policy topology events).records
+      → events ≡ before ++ event ∷ after → Comes policy topology before event
+  comes_at events before after event run tame split =
+      let joined : events ≡ (before ++ event ∷ []) ++ after = split ∙ sym (append_assoc before (event ∷ []) after) in
+      record {
+        run = front_run policy topology (before ++ event ∷ []) after (subst (IsRun policy topology) joined run);
+        addresses = addresses;
+        tame = front_tame policy topology (before ++ event ∷ []) after (subst (λ (es : List Event). IsTame (past_of policy topology es).records) joined tame);
+      }

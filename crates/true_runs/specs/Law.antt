@@ -21,7 +21,10 @@ use Rattle.world_model.specs.Controller.{Controller}
 use Rattle.world_views.specs.Kept.{HasAddresses}
 use Rattle.ownership.specs.Owning.{AreInOrder}
 use Rattle.ownership.specs.Copies.{AreAllCopiesInOrder}
+use Rattle.told_tables.specs.Law.{AreToldTables}
+use Rattle.true_losses.specs.Law.{AreTrueLosses}
 use Rattle.steady_routes.specs.Law.{ChangesNoRoute, AreJourneys}
+use Rattle.quiet_model.specs.Law.{IsQuiet, PacketsEndFrom}
 use Rattle.lifetimes.specs.Aging.{HasEnded}
 use Rattle.lifetimes.specs.Law.{SendsNone, EndsByReset}
 use Rattle.lifetimes.specs.Run.{IsCountedIn, SetsIn, IsSetIn, acted_in, grant_in, comes_to, NotSetIn, IsConductIn, stays_in, IsLedIn, reaches_in}
@@ -78,9 +81,19 @@ pub record IsTrueRun (policy : Policy) (topology : Topology) (events : List Even
   pub causes : (before after : List Event) → events ≡ before ++ after → IsTame (past_of policy topology before).records
       → HasCauses policy topology before
   pub lifetimes : LifetimesEnd policy topology events
+  -- the table of each node, by which fates are judged, is that of the topology, changed by a front of the changes that events
+  -- told the node, also behind forged frames; each change that is taken is recorded in its event
+  pub tables : AreToldTables policy topology events
+  -- the ledger has the losses that the records tell; those with the cause Lost, Unconnected or Unbound are the cells that the
+  -- event loses, or brings where nothing takes them, each once, also behind forged frames
+  pub losses : AreTrueLosses policy topology events
   -- before the first event that changes a route, each fate is the packet's journey over the routes of the topology
   pub journeys : (before after : List Event) → events ≡ before ++ after → ChangesNoRoute before
       → IsTame (past_of policy topology before).records → AreJourneys (past_of policy topology before)
+  -- from each world of it on, carrying makes all queues empty, and then each accepted packet has its fate or an entry in the
+  -- ledger
+  pub quiet : (before after : List Event) → events ≡ before ++ after → IsQuiet policy topology before
+  pub packets_end : (before after : List Event) → events ≡ before ++ after → PacketsEndFrom policy topology before
   -- where the policy offers nothing, no label is ever bound
   pub unbound : OffersNothing policy → BindsNothing (past_of policy topology events)
 

@@ -10,19 +10,25 @@ use lifetimes::grants_expire;
 use ownership::labels_are_owned;
 use packet_worlds::packets_are_kept;
 use passed_cells::cells_have_passed;
+use quiet_links::carries_empty_queues;
 use run_facts::nodes_are_steady;
 use running_worlds::{frames_are_made, inputs_are_kept};
 use steady_routes::fates_are_journeys;
+use told_tables::tables_are_told;
 use told_worlds::{
     joins_lead_on, labels_are_bound_unused, labels_are_never_disowned, users_are_kept,
 };
+use true_losses::losses_are_true;
 
 /// What is true of every run of a network: cut-through changes nothing of what routing makes of packets,
 /// before the first frame that was forged or passed its test by chance; so long labels are owned, what is
-/// said on a link and asked of a switch is in the order of its numbers, a chain that passes its test is its
-/// last cell's frame, broken frames have their causes, nothing is refused, and no message disowns a label;
-/// grants end by their lifetimes. Before the first change of a route fates are journeys, and where nothing is
-/// offered nothing is bound. It calls the laws that it stands on, and its contract is the statement.
+/// said on a link and asked of a switch is in the order of its numbers, a chain that passes its test is
+/// its last cell's frame, broken frames have their causes, nothing is refused, and no message disowns a
+/// label; grants end by their lifetimes, each node holds the topology's routes, changed as events told
+/// it, and the ledger has each cell that was lost on its way. While nothing comes but carries of cells,
+/// all queues become empty, and then each accepted packet has its fate or an entry in the ledger. Before
+/// the first change of a route fates are journeys, and where nothing is offered nothing is bound. It
+/// calls the laws that it stands on, and its contract is the statement.
 pub fn runs_are_true()
     ensures { RunsAreTrue }
 {
@@ -43,7 +49,10 @@ pub fn runs_are_true()
     chains_are_their_frames();
     labels_are_never_disowned();
     nothing_is_refused();
+    tables_are_told();
+    losses_are_true();
     fates_are_journeys();
     nothing_is_bound();
     grants_expire();
+    carries_empty_queues();
 }

@@ -89,6 +89,15 @@ returns c =
       silent = c.grants_expire.ensures.runs_silent;
       led_back = c.grants_expire.ensures.runs_led_back;
       by_reset = c.grants_expire.ensures.runs_reset;
+      tables = c.tables_are_told.ensures.tables;
+      losses = c.losses_are_true.ensures.losses;
       journeys = c.fates_are_journeys.ensures.journeys;
       unbound = c.nothing_is_bound.ensures.bound;
+      carries = record {
+        less = c.carries_empty_queues.ensures.carries;
+        finds = c.carries_empty_queues.ensures.finds;
+        lighter = c.carries_empty_queues.ensures.lighter;
+        empty = c.carries_empty_queues.ensures.rounds;
+        packets = c.carries_empty_queues.ensures.packets;
+      };
     }
