@@ -1,0 +1,3 @@
+mod Branches
+mod Switches
+mod Worlds
