@@ -1,0 +1,54 @@
+-- What the line of a record claims of the run that it is of
+
+use Rattle.std.specs.Prelude.{◌≡◌, ℕ, ◌≤◌, List, [], ◌∷◌, ◌++◌, length, slice_get, Some}
+use Rattle.net_types.specs.declared.number.Mark.{Mark}
+use Rattle.link_model.specs.declared.entries.Entry.{Entry}
+use Rattle.link_model.specs.declared.record.Cause.TheVariants.{Broken}
+use Rattle.link_model.specs.declared.record.Record.{Record}
+use Rattle.link_model.specs.declared.record.Record.TheVariants.{Delivered, Dropped, Loss, Bad, Bind}
+use Rattle.port_model.specs.Setup.{Policy}
+use Rattle.world_model.specs.Causes.{HasCause}
+use Rattle.world_model.specs.Fates.{Fate, IsDelivered, IsDropped}
+use Rattle.world_model.specs.declared.event.Event.{Event}
+use Rattle.world_model.specs.declared.link.LinkEnd.{LinkEnd}
+use Rattle.world_model.specs.Topology.{Topology}
+use Rattle.world_model.specs.World.{World, opened}
+use Rattle.world_model.specs.Run.{next, world_after}
+use Rattle.world_model.specs.Past.{Past, past_of}
+use Rattle.world_model.specs.Headline.{IsTrueFate, fates_of}
+use Rattle.world_model.specs.Users.{IsWay, IsUnused}
+
+-- *The end of a packet*: it is of an accepted packet, one that routing hop by hop, by the tables that the nodes held, can
+-- have made by this event, and the packet's only end so far
+pub record IsTrueEnd (past : Past) (time number : ℕ) (fate : Fate) : Type 0 where
+  pub can_be : IsTrueFate past time number fate
+  pub once : fates_of past number ≤ 1
+
+-- *A label that is bound* at the port that hands it out: nobody may use it before, whichever link the port has
+abbrev pub MayUseNone : World → Topology → (down : LinkEnd) → (label : ℕ) → Type 0
+MayUseNone w topology down label =
+    (up : LinkEnd) → IsWay topology (record { down = down; up = up })
+    → IsUnused w (record { down = down; up = up }) label
+
+-- *A frame that is reported as broken*: each entry that the event makes of it, as broken, in the ledger of losses stands
+-- beside its cause
+abbrev pub AreBrokenWithCause : Policy → Topology → (before : List Event) → Event → Mark → Type 0
+AreBrokenWithCause policy topology before event mark = (place : ℕ) (entry : Entry)
+    → length (world_after topology (opened policy topology) before).notes.entries ≤ place
+    → slice_get (next topology (world_after topology (opened policy topology) before) event).notes.entries place ≡ Some entry
+    → entry.mark ≡ mark → entry.cause ≡ Broken → HasCause policy topology before event place entry
+
+-- *What the line of a record claims*, where an event makes the record after the events before it. A line `bad` would claim
+-- what isn't so. Other lines claim no more than that the event made their record: that a packet is refused, that a frame is
+-- lost in another way, forged or passes by chance, that a port opens or closes, that a label is free, that a join is made or
+-- ends, that routes change
+abbrev pub Claims : Policy → Topology → (before : List Event) → Event → Record → Type 0
+Claims policy topology before event (Delivered node number packet) =
+    IsTrueEnd (past_of policy topology (before ++ event ∷ [])) (length before) number (IsDelivered node packet)
+Claims policy topology before event (Dropped node number cause) =
+    IsTrueEnd (past_of policy topology (before ++ event ∷ [])) (length before) number (IsDropped node cause)
+Claims policy topology before event (Bind node port label flow) =
+    MayUseNone (world_after topology (opened policy topology) before) topology (record { node = node; port = port }) label
+Claims policy topology before event (Loss mark Broken) = AreBrokenWithCause policy topology before event mark
+Claims policy topology before event (Bad node layer name) = ⊥
+Claims policy topology before event item = Unit {0}
