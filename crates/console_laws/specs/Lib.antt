@@ -1,0 +1,4 @@
+pub mod Again
+pub mod Words
+pub mod Handled
+pub mod Kept
