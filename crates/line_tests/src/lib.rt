@@ -1,8 +1,11 @@
-//! Tests of tasks that take lines: one that writes each line again, and the audit of a trace.
+//! Tests of tasks that take lines: one that writes each line again, the audit of a trace, and a console's
+//! session.
 #![tactic(auto)]
 
 #[cfg(test)]
 mod audit_run_tests;
+#[cfg(test)]
+mod console_run_tests;
 #[cfg(test)]
 mod echo;
 #[cfg(test)]

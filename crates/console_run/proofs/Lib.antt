@@ -1,0 +1,9 @@
+pub mod Putting
+pub mod Rounds
+pub mod Events
+pub mod Words
+pub mod Says
+pub mod Courses
+pub mod Accounts
+pub mod Growing
+pub mod Told

@@ -1,0 +1,4 @@
+pub mod Session
+pub mod Report
+pub mod Course
+pub mod Task
