@@ -33,6 +33,14 @@ is_rules : IsName (codes "rules") (bare_leaf (codes "rules"))
 unfolding clap_on_literals
 is_rules = record { met = refl; passes = refl; found = refl }
 
+is_audit : IsName (codes "audit") (bare_leaf (codes "audit"))
+unfolding clap_on_literals
+is_audit = record { met = refl; passes = refl; found = refl }
+
+is_console : IsName (codes "console") (bare_leaf (codes "console"))
+unfolding clap_on_literals
+is_console = record { met = refl; passes = refl; found = refl }
+
 is_decode : IsName (codes "decode") (worded_leaf (codes "decode") true)
 unfolding clap_on_literals
 is_decode = record { met = refl; passes = refl; found = refl }
@@ -115,15 +123,18 @@ module _ (word : Text) (rest : List Text) (plain : are_plain (word ∷ rest) ≡
       let same : name ≡ word = (bytes_eq-Decides name word).0 test in
       subst (λ v. IsTaken (v ∷ rest)) same (take behind (ap (λ v. fault_of grammar_app (v ∷ rest)) same ∙ free))
 
-  taken_by : (a b c d e : Bool) → bytes_eq (codes "replay") word ≡ a → bytes_eq (codes "ideal") word ≡ b
-      → bytes_eq (codes "decode") word ≡ c → bytes_eq (codes "drill") word ≡ d → bytes_eq (codes "rules") word ≡ e → IsTaken (word ∷ rest)
-  taken_by true b c d e replay ideal decode drill rules = named (codes "replay") replay (take_worded (codes "replay") false is_replay rest)
-  taken_by false true c d e replay ideal decode drill rules = named (codes "ideal") ideal (take_bare (codes "ideal") is_ideal rest)
-  taken_by false false true d e replay ideal decode drill rules = named (codes "decode") decode (take_worded (codes "decode") true is_decode rest)
-  taken_by false false false true e replay ideal decode drill rules = named (codes "drill") drill (take_worded (codes "drill") true is_drill rest)
-  taken_by false false false false true replay ideal decode drill rules = named (codes "rules") rules (take_bare (codes "rules") is_rules rest)
-  taken_by false false false false false replay ideal decode drill rules =
-      let none : subcommand_met names idle word ≡ None = rw (replay, ideal, decode, drill, rules) refl in
+  taken_by : (a b c d e f g : Bool) → bytes_eq (codes "replay") word ≡ a → bytes_eq (codes "ideal") word ≡ b
+      → bytes_eq (codes "decode") word ≡ c → bytes_eq (codes "drill") word ≡ d → bytes_eq (codes "rules") word ≡ e
+      → bytes_eq (codes "audit") word ≡ f → bytes_eq (codes "console") word ≡ g → IsTaken (word ∷ rest)
+  taken_by true b c d e f g replay ideal decode drill rules audit console = named (codes "replay") replay (take_worded (codes "replay") false is_replay rest)
+  taken_by false true c d e f g replay ideal decode drill rules audit console = named (codes "ideal") ideal (take_bare (codes "ideal") is_ideal rest)
+  taken_by false false true d e f g replay ideal decode drill rules audit console = named (codes "decode") decode (take_worded (codes "decode") true is_decode rest)
+  taken_by false false false true e f g replay ideal decode drill rules audit console = named (codes "drill") drill (take_worded (codes "drill") true is_drill rest)
+  taken_by false false false false true f g replay ideal decode drill rules audit console = named (codes "rules") rules (take_bare (codes "rules") is_rules rest)
+  taken_by false false false false false true g replay ideal decode drill rules audit console = named (codes "audit") audit (take_bare (codes "audit") is_audit rest)
+  taken_by false false false false false false true replay ideal decode drill rules audit console = named (codes "console") console (take_bare (codes "console") is_console rest)
+  taken_by false false false false false false false replay ideal decode drill rules audit console =
+      let none : subcommand_met names idle word ≡ None = rw (replay, ideal, decode, drill, rules, audit, console) refl in
       absurd (stray_fault_of word rest (or_false (is_dash word) (are_plain rest) plain).0 none free)
 
 nothing_fails : fault_of grammar_app [] ≡ [] → ⊥
@@ -132,7 +143,7 @@ nothing_fails e = cc
 
 taken : (words : List Text) → are_plain words ≡ false → fault_of grammar_app words ≡ [] → IsTaken words
 taken [] plain free = absurd (nothing_fails free)
-taken (word ∷ rest) plain free = taken_by word rest plain free _ _ _ _ _ refl refl refl refl refl
+taken (word ∷ rest) plain free = taken_by word rest plain free _ _ _ _ _ _ _ refl refl refl refl refl refl refl
 
 are_plain_of : (words : List Text) → list_any is_barred words ≡ false → are_plain words ≡ false
 are_plain_of [] none = refl
@@ -170,6 +181,12 @@ ideal_given = bare_given (codes "ideal") is_ideal refl
 
 pub rules_given : IsGiven (spelled (codes "rules") None) (asked (codes "rules") None)
 rules_given = bare_given (codes "rules") is_rules refl
+
+pub audit_given : IsGiven (spelled (codes "audit") None) (asked (codes "audit") None)
+audit_given = bare_given (codes "audit") is_audit refl
+
+pub console_given : IsGiven (spelled (codes "console") None) (asked (codes "console") None)
+console_given = bare_given (codes "console") is_console refl
 
 worded_given : (name : Text) (required : Bool) → IsName name (worded_leaf name required) → is_barred name ≡ false → (word : Text)
     → is_barred word ≡ false → IsGiven (spelled name (Some word)) (asked name (Some word))

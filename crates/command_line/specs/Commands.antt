@@ -2,7 +2,7 @@
 
 use Rattle.std.specs.Prelude.{◌≡◌, ℕ, ◌≤◌, List, [], ◌∷◌, codes, decimal, Option, Some}
 use Rattle.command_line.specs.declared.command.Command.{Command}
-use Rattle.command_line.specs.declared.command.Command.TheVariants.{Replay, ReplayToml, Ideal, Rules, DecodeIfmp, DecodeGsmp, Drill}
+use Rattle.command_line.specs.declared.command.Command.TheVariants.{Replay, ReplayToml, Ideal, Rules, DecodeIfmp, DecodeGsmp, Drill, Audit, Console}
 
 abbrev pub words_of : Command → List (List ℕ)
 words_of Replay = codes "replay" ∷ []
@@ -12,6 +12,8 @@ words_of Rules = codes "rules" ∷ []
 words_of DecodeIfmp = codes "decode" ∷ codes "ifmp" ∷ []
 words_of DecodeGsmp = codes "decode" ∷ codes "gsmp" ∷ []
 words_of (Drill number) = codes "drill" ∷ decimal number ∷ []
+words_of Audit = codes "audit" ∷ []
+words_of Console = codes "console" ∷ []
 
 -- the numbers of drills
 abbrev pub HasItsNumber : Command → Type 0

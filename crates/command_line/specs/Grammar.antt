@@ -26,8 +26,12 @@ grammar_app =
     (with_subcommand
     (with_subcommand
     (with_subcommand
+    (with_subcommand
+    (with_subcommand
     (with_subcommand top_app (worded (codes "replay") false))
     (bare (codes "ideal")))
     (worded (codes "decode") true))
     (worded (codes "drill") true))
-    (bare (codes "rules"))
+    (bare (codes "rules")))
+    (bare (codes "audit")))
+    (bare (codes "console"))

@@ -9,7 +9,7 @@ use Rattle.clap.specs.declared.error.kind.ErrorKind.{ErrorKind}
 use Rattle.clap.specs.declared.error.kind.ErrorKind.TheVariants.{OutOfMemory}
 use Rattle.lab_text.specs.Forms.{number_in}
 use Rattle.command_line.specs.declared.command.Command.{Command}
-use Rattle.command_line.specs.declared.command.Command.TheVariants.{Replay, ReplayToml, Ideal, Rules, DecodeIfmp, DecodeGsmp, Drill}
+use Rattle.command_line.specs.declared.command.Command.TheVariants.{Replay, ReplayToml, Ideal, Rules, DecodeIfmp, DecodeGsmp, Drill, Audit, Console}
 
 -- *Barred words*: they begin with a hyphen, or are `help`
 abbrev pub is_barred : List ℕ → Bool
@@ -37,7 +37,9 @@ abbrev pub alone : (name : List ℕ) → Option Command
 alone name =
     if bytes_eq name (codes "replay") then Some Replay
     else (if bytes_eq name (codes "ideal") then Some Ideal
-    else (if bytes_eq name (codes "rules") then Some Rules else None))
+    else (if bytes_eq name (codes "rules") then Some Rules
+    else (if bytes_eq name (codes "audit") then Some Audit
+    else (if bytes_eq name (codes "console") then Some Console else None))))
 
 abbrev pub asked : (name : List ℕ) → (word : Option (List ℕ)) → Option Command
 asked name (Some word) = worded name word

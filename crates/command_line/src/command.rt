@@ -24,6 +24,10 @@ pub enum Command {
     DecodeGsmp,
     /// `drill N`: replays the script of the drill with this number, 1 to 9999.
     Drill(u32),
+    /// `audit`: judges a trace of the cells on links.
+    Audit,
+    /// `console`: drives one switch by hand, over queues that lose cells.
+    Console,
 }
 
 /// The least and the greatest number of a drill.
@@ -87,6 +91,8 @@ fn alone(name: &str) -> Option<Command>
         "replay" => Some(Command::Replay),
         "ideal" => Some(Command::Ideal),
         "rules" => Some(Command::Rules),
+        "audit" => Some(Command::Audit),
+        "console" => Some(Command::Console),
         _ => None,
     }
 }

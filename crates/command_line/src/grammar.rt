@@ -46,5 +46,7 @@ pub fn grammar<'a>(alloc: Global) -> Result<Command<'a>, AllocError>
         .subcommand(bare(alloc, "ideal"))?
         .subcommand(worded(alloc, "decode", true)?)?
         .subcommand(worded(alloc, "drill", true)?)?
-        .subcommand(bare(alloc, "rules"))
+        .subcommand(bare(alloc, "rules"))?
+        .subcommand(bare(alloc, "audit"))?
+        .subcommand(bare(alloc, "console"))
 }

@@ -1,2 +1,2 @@
-pub mod Asked
-pub mod Inputs
+mod Sessions
+pub mod Told

@@ -1,22 +1,43 @@
 -- What is true of the run of a script: of the network that its lines describe, under the policy that they name, or under the
--- rules of its document
+-- rules of its document. And what a good trace is, and what holds of a console's session
 
-use Rattle.std.specs.Prelude.{ℕ, List}
+use Rattle.std.specs.Prelude.{◌≡◌, ℕ, List, ◌++◌, Some}
+use Rattle.line_by_line.specs.declared.task.Ending.TheVariants.{Done}
 use Rattle.world_model.specs.Topology.{policy_of}
 use Rattle.true_runs.specs.Law.{IsTrueRun}
 use Rattle.script_model.specs.Script.{Script, script_of}
 use Rattle.script_model.specs.Documents.{document_script, document_policy}
 use Rattle.script_model.specs.Drill.{drill_script}
-use Rattle.ipswitch.specs.declared.task.Task as tasks
-use Rattle.ipswitch.specs.declared.task.Task.TheVariants.{Replay, Document, Drill, Whole}
+use Rattle.trace_laws.specs.Meaning.{trace_of, AtEach, IsClean}
+use Rattle.console_model.specs.declared.event.ConsoleEvent.{ConsoleEvent}
+use Rattle.console_model.specs.Lab.{opened}
+use Rattle.console_model.specs.Steps.{lab_after}
+use Rattle.console_model.specs.Law.{HasNoChance, IsRight}
+use Rattle.console_run.specs.Session.{Session, session_of}
+use Rattle.commands.specs.declared.task.Task as tasks
+use Rattle.commands.specs.declared.task.Task.TheVariants.{Replay, Document, Drill, Whole, Lined}
+use Rattle.commands.specs.declared.task.Lined.TheVariants.{Audit, Console}
+use Rattle.commands.specs.Lined.{lined_ending}
 
 -- of a script, under the policy that it names
 abbrev pub IsTrueScript : Script → Type 0
 IsTrueScript script = IsTrueRun (policy_of script.topology) script.topology script.events
 
--- of what a command replays
+-- of a console's session, at each moment before its first chance: the answers so far are those of the plain machine, and the
+-- switch has the plain machine's map
+abbrev pub IsTrueSession : Session → Type 0
+IsTrueSession session = (ports : ℕ) (before after : List ConsoleEvent) → session.ports ≡ Some ports → session.events ≡ before ++ after
+    → HasNoChance (opened ports) before → IsRight ports (lab_after (opened ports) before)
+
+-- of what a command replays; of a trace each line is clean, where its audit says yes; and of a session as above
 abbrev pub IsTrueTask : tasks.Task → (input : List ℕ) → Type 0
 IsTrueTask Replay input = IsTrueScript (script_of input)
 IsTrueTask Document input = IsTrueRun (document_policy input) (document_script input).topology (document_script input).events
 IsTrueTask (Drill number) input = IsTrueScript (drill_script number)
 IsTrueTask (Whole whole) input = Unit {0}
+IsTrueTask (Lined Audit) input = lined_ending Audit input ≡ Done → AtEach IsClean (trace_of input)
+IsTrueTask (Lined Console) input = IsTrueSession (session_of input)
+
+-- of whatever any command is given
+abbrev pub TasksAreTrue : Type 0
+TasksAreTrue = (task : tasks.Task) (input : List ℕ) → IsTrueTask task input

@@ -1,4 +1,2 @@
-pub mod Task
-pub mod Fault
-pub mod Run
 pub mod Law
+pub mod Told

@@ -4,17 +4,16 @@
 ghost use Rattle.std.specs.Prelude.{◌≡◌, map, drop, string_bytes, IfOk};
 ghost use Rattle.std.specs.Vec.Iter.{into_iter_items};
 
-mod fault;
+#[cfg(test)]
+mod command_tests;
+#[cfg(test)]
+mod fault_tests;
 mod laws;
 #[cfg(test)]
 mod network_tests;
-mod networks;
 mod run;
-mod sure;
-mod task;
 #[cfg(test)]
 mod tests;
-mod whole;
 
 use crate::run::run;
 use command_line::Word;

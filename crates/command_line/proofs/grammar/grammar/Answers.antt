@@ -1,24 +1,45 @@
 use Rattle.std.proofs.Common.{◌≡◌, ◌∙◌, codes, false, true, ap, ap₂}
 use Rattle.std.proofs.lemmas.Result.{IfOk-weaker}
-use Rattle.clap.specs.Simple.{App, app_of, shape_of, with_subcommand}
+use Rattle.clap.specs.Simple.{App, Shape, app_of, with_subcommand}
 use Rattle.command_line.specs.Grammar.{top_app, bare, worded}
 use Rattle.command_line.proofs.grammar.grammar.Goals as goal
 
-abbrev top_of : App → Rattle.clap.specs.Simple.Shape
+abbrev top_of : App → Shape
 top_of a = a.top
+
+-- the grammar so far
+abbrev first_app : App
+first_app = with_subcommand top_app (worded (codes "replay") false)
+
+abbrev second_app : App
+second_app = with_subcommand first_app (bare (codes "ideal"))
+
+abbrev third_app : App
+third_app = with_subcommand second_app (worded (codes "decode") true)
+
+abbrev fourth_app : App
+fourth_app = with_subcommand third_app (worded (codes "drill") true)
+
+abbrev fifth_app : App
+fifth_app = with_subcommand fourth_app (bare (codes "rules"))
+
+abbrev sixth_app : App
+sixth_app = with_subcommand fifth_app (bare (codes "audit"))
 
 pub returns : goal.returns
 returns c =
-    let first : app_of c.in_ok-subcommand.field-0 ≡ with_subcommand top_app (worded (codes "replay") false) =
+    let first : app_of c.in_ok-subcommand.field-0 ≡ first_app =
     c.in_ok-subcommand.ensures.shape c.in_ok-worded.ensures.local ∙ ap₂ with_subcommand c.top.ensures.app (ap top_of c.in_ok-worded.ensures.app) in
-    let second : app_of c.in_ok-subcommand-2.field-0 ≡ with_subcommand (with_subcommand top_app (worded (codes "replay") false)) (bare (codes "ideal")) =
+    let second : app_of c.in_ok-subcommand-2.field-0 ≡ second_app =
     c.in_ok-subcommand-2.ensures.shape c.bare.ensures.local ∙ ap₂ with_subcommand first (ap top_of c.bare.ensures.app) in
-    let third : app_of c.in_ok-subcommand-3.field-0
-    ≡ with_subcommand (with_subcommand (with_subcommand top_app (worded (codes "replay") false)) (bare (codes "ideal"))) (worded (codes "decode") true) =
+    let third : app_of c.in_ok-subcommand-3.field-0 ≡ third_app =
     c.in_ok-subcommand-3.ensures.shape c.in_ok-worded-2.ensures.local ∙ ap₂ with_subcommand second (ap top_of c.in_ok-worded-2.ensures.app) in
-    let fourth : app_of c.in_ok-subcommand-4.field-0
-    ≡ with_subcommand (with_subcommand (with_subcommand (with_subcommand top_app (worded (codes "replay") false)) (bare (codes "ideal"))) (worded (codes "decode") true)) (worded (codes "drill") true) =
+    let fourth : app_of c.in_ok-subcommand-4.field-0 ≡ fourth_app =
     c.in_ok-subcommand-4.ensures.shape c.in_ok-worded-3.ensures.local ∙ ap₂ with_subcommand third (ap top_of c.in_ok-worded-3.ensures.app) in
-    IfOk-weaker c.subcommand-5.result _ _
-    (λ r h. h.shape c.bare-2.ensures.local ∙ ap₂ with_subcommand fourth (ap top_of c.bare-2.ensures.app))
-    c.subcommand-5.ensures
+    let fifth : app_of c.in_ok-subcommand-5.field-0 ≡ fifth_app =
+    c.in_ok-subcommand-5.ensures.shape c.bare-2.ensures.local ∙ ap₂ with_subcommand fourth (ap top_of c.bare-2.ensures.app) in
+    let sixth : app_of c.in_ok-subcommand-6.field-0 ≡ sixth_app =
+    c.in_ok-subcommand-6.ensures.shape c.bare-3.ensures.local ∙ ap₂ with_subcommand fifth (ap top_of c.bare-3.ensures.app) in
+    IfOk-weaker c.subcommand-7.result _ _
+    (λ r h. h.shape c.bare-4.ensures.local ∙ ap₂ with_subcommand sixth (ap top_of c.bare-4.ensures.app))
+    c.subcommand-7.ensures

@@ -1,15 +1,27 @@
--- each command replays a script, which is a run
+-- each command replays a script, which is a run, or audits a trace, or plays a console's session, which is one too
 
-use Rattle.std.proofs.Common.{ℕ, List}
+use Rattle.std.proofs.Common.{◌≡◌, ℕ, List, ◌++◌, Some, refl}
+use Rattle.line_by_line.specs.declared.task.Ending.TheVariants.{Done}
+use Rattle.trace_model.specs.Audit.{Outcome, Yes, Breaks, Refuses, Unended, audit_of}
+use Rattle.trace_laws.specs.Meaning.{trace_of, AtEach, IsClean}
+use Rattle.audit_run.specs.Audit.{ending_of}
 use Rattle.world_model.specs.Topology.{policy_of}
 use Rattle.script_model.specs.Script.{Script, script_of}
 use Rattle.script_model.specs.Documents.{document_script, document_policy}
 use Rattle.script_model.specs.Drill.{drill_script}
 use Rattle.script_runs.specs.Runs.{IsScriptRun}
-use Rattle.ipswitch.specs.declared.task.Task.{Task}
-use Rattle.ipswitch.specs.declared.task.Task.TheVariants.{Replay, Document, Drill, Whole}
+use Rattle.commands.specs.declared.task.Task.{Task}
+use Rattle.commands.specs.declared.task.Task.TheVariants.{Replay, Document, Drill, Whole, Lined}
+use Rattle.commands.specs.declared.task.Lined.TheVariants.{Audit, Console}
 use Rattle.true_runs.specs.Law.{RunsAreTrue}
-use Rattle.ipswitch.specs.Law.{IsTrueTask, IsTrueScript}
+use Rattle.console_model.specs.declared.event.ConsoleEvent.{ConsoleEvent}
+use Rattle.console_model.specs.Lab.{opened}
+use Rattle.console_model.specs.Law.{HasNoChance, EveryRunIsRight}
+use Rattle.console_model.specs.Steps.{lab_after}
+use Rattle.console_run.specs.Session.{Session, session_of}
+use Rattle.console_run.specs.Course.{IsCourse}
+use Rattle.ipswitch.specs.Law.{IsTrueTask, IsTrueScript, IsTrueSession}
+use Rattle.ipswitch.proofs.Sessions.{true_session}
 use Rattle.ipswitch.proofs.laws.tasks_are_true.Goals as goal
 
 true_script : RunsAreTrue → (script : Script) → IsScriptRun script → IsTrueScript script
@@ -26,3 +38,11 @@ returns c = by
         c.runs_are_true.ensures (document_policy input) script.topology script.events (is.run (document_policy input)) is.addresses
     by (Drill number) input = true_script c.runs_are_true.ensures (drill_script number) (c.scripts_are_runs.ensures.drills number)
     by (Whole whole) input = tt
+    by (Lined Console) input = true_session c.every_run_is_right.ensures (session_of input) (c.sessions_are_runs.ensures.opened input)
+    by (Lined Audit) input = clean (audit_of input) refl
+      where
+        clean : (outcome : Outcome) → audit_of input ≡ outcome → ending_of outcome ≡ Done → AtEach IsClean (trace_of input)
+        clean (Yes links puts binds) is e = c.yes_is_of_clean_traces.ensures input links puts binds is
+        clean (Breaks number breach) is e = absurd (cc)
+        clean (Refuses number refusal) is e = absurd (cc)
+        clean (Unended number) is e = absurd (cc)

@@ -1,44 +1,9 @@
-use Rattle.std.proofs.Common.{◌≡◌, ◌⊎◌, None, Some, subst}
-use Rattle.ipswitch.specs.declared.task.Task.{Task}
-use Rattle.ipswitch.specs.declared.task.Task.TheVariants.{Drill}
-use Rattle.ipswitch.specs.Run.{InUsage, InReport, InTask, status_of}
-use Rattle.ipswitch.specs.Task.{IsTaskOf}
-use Rattle.ipswitch.proofs.Asked.{asks_for, asks_for_none, asks_for_one}
+-- whatever the status, what was written is a front of the output
+
+use Rattle.ipswitch.proofs.Told.{run_told}
 use Rattle.ipswitch.proofs.run.run.Goals as goal
 
-pub returns-in-Ok-clause-usage : goal.returns-in-Ok-clause-usage
-returns-in-Ok-clause-usage g c =
-    let is : IsTaskOf c.args.words.now None = subst (IsTaskOf c.args.words.now) (cc) c.in-Ok-None.ensures in
-    λ e. (asks_for_none c.args.words.now is, c.in-Ok.ensures.ok)
-
-pub returns-in-Ok-clause-complete : goal.returns-in-Ok-clause-complete
-returns-in-Ok-clause-complete g c =
-    let is : IsTaskOf c.args.words.now None = subst (IsTaskOf c.args.words.now) (cc) c.in-Ok-None.ensures in
-    λ task input asks told read write. absurd (asks_for_none c.args.words.now is task asks)
-
-pub returns-in-Err-write_usage-clause-cut : goal.returns-in-Err-write_usage-clause-cut
-returns-in-Err-write_usage-clause-cut g c =
-    let is : IsTaskOf c.args.words.now None = subst (IsTaskOf c.args.words.now) (cc) c.in-Ok-None.ensures in
-    λ e. InUsage (asks_for_none c.args.words.now is) c.in-Err-write_usage.ensures.front
-
-pub returns-in-Ok-Some-clause-cut : goal.returns-in-Ok-Some-clause-cut
-returns-in-Ok-Some-clause-cut g c =
-    let is : IsTaskOf c.args.words.now (Some c.in-Ok-Some.task) = subst (IsTaskOf c.args.words.now) (cc) c.in-Ok-Some.ensures in
-    λ e. InReport c.in-Ok-Some.task (asks_for c.args.words.now c.in-Ok-Some.task is) (c.task_status.ensures.cut e)
-
-pub returns-in-Ok-Some-clause-given_up : goal.returns-in-Ok-Some-clause-given_up
-returns-in-Ok-Some-clause-given_up g c =
-    let is : IsTaskOf c.args.words.now (Some c.in-Ok-Some.task) = subst (IsTaskOf c.args.words.now) (cc) c.in-Ok-Some.ensures in
-    λ e. InTask c.in-Ok-Some.task (asks_for c.args.words.now c.in-Ok-Some.task is) (c.task_status.ensures.want e)
-
-pub returns-in-Ok-Some-clause-complete : goal.returns-in-Ok-Some-clause-complete
-returns-in-Ok-Some-clause-complete g c =
-    let is : IsTaskOf c.args.words.now (Some c.in-Ok-Some.task) = subst (IsTaskOf c.args.words.now) (cc) c.in-Ok-Some.ensures in
-    λ task input asks told read write.
-    subst (λ (t : Task). (c.task_status.result ≡ status_of t input) ⊎ (c.task_status.result ≡ 5)) (asks_for_one c.args.words.now c.in-Ok-Some.task task is asks)
-    (c.task_status.ensures.complete input told read write)
-
-pub returns-in-Ok-Some-clause-undrilled : goal.returns-in-Ok-Some-clause-undrilled
-returns-in-Ok-Some-clause-undrilled g c =
-    let is : IsTaskOf c.args.words.now (Some c.in-Ok-Some.task) = subst (IsTaskOf c.args.words.now) (cc) c.in-Ok-Some.ensures in
-    λ number asks. c.task_status.ensures.undrilled number (asks_for_one c.args.words.now c.in-Ok-Some.task (Drill number) is asks)
+pub returns-clause-lines : goal.returns-clause-lines
+returns-clause-lines g c = λ task asks.
+    run_told c.outputs_are_true.ensures (g.S.Source.left c.args.source.now) (g.S.Source.left c.run.new.source) (g.K.Sink.written c.args.sink.now) (g.K.Sink.written c.run.new.sink)
+    c.args.words.now task asks c.args.meter.now c.run.new.meter c.run.result c.run.ensures.range c.run.ensures.usage c.run.ensures.answered c.run.ensures.cut_off c.run.ensures.cut c.run.ensures.given_up

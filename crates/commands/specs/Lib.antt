@@ -1,0 +1,5 @@
+pub mod Task
+pub mod Fault
+pub mod Lined
+pub mod Ending
+pub mod Run
