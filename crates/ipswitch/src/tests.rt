@@ -324,10 +324,10 @@ fn long_lines(rt: HostRuntime) -> Result<(), Fail> {
 }
 
 pub const USAGE: &str =
-    "usage: ipswitch replay|replay toml|ideal|decode ifmp|decode gsmp|drill N|rules|audit\n";
+    "usage: ipswitch replay|replay toml|ideal|decode ifmp|decode gsmp|drill N|rules|audit|console\n";
 
 /// Words that ask for nothing.
-const OTHER_WORDS: [&[&str]; 11] = [
+const OTHER_WORDS: [&[&str]; 12] = [
     &[],
     &["replay", "x"],
     &["replay", "toml", "x"],
@@ -339,6 +339,7 @@ const OTHER_WORDS: [&[&str]; 11] = [
     &["ideal", "x"],
     &["decode", "ifmp", "gsmp"],
     &["audit", "x"],
+    &["console", "x"],
 ];
 
 /// Words that ask for nothing get the usage line.
