@@ -4,3 +4,4 @@ pub mod Regions
 pub mod Drains
 pub mod Lines
 pub mod Pairs
+pub mod Readings

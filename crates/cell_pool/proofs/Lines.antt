@@ -34,8 +34,8 @@ line_sent old mid new q r s c line taken pushed =
       others = λ l other apart.
           let from : IsKeptFrom old mid s l = taken.others l other in
           let mid_apart : Apart (places mid q) (places mid l) = apart_kept old mid q l kept_q.same_places from.kept.same_places apart in
-          let after : IsKept mid new l = pushed.others l from.kept.threaded mid_apart in
           let fresh : NotIn s (places mid l) = subst (λ (xs : List ℕ). NotIn s xs) (sym from.kept.same_places) from.without in
+          let after : IsKept mid new l = pushed.others l from.kept.threaded mid_apart fresh in
           record {
             kept = IsKept-trans old mid new l from.kept after;
             apart = subst (λ (xs : List ℕ). Apart xs (places new l)) (sym pushed.now_places)

@@ -1,10 +1,10 @@
 -- Lemmas on lists of places.
 
-use Rattle.std.proofs.Common.{◌≡◌, ◌≢◌, ℕ, zero, suc, ◌+◌, ◌<◌, ◌≤◌, false, cond, eqb, ltb, List, [], ◌∷◌, ◌++◌, length, map, get_or, set, refl, sym, ap, subst, ◌∙◌, arith, get_or-set_other}
+use Rattle.std.proofs.Common.{◌≡◌, ◌≢◌, ℕ, zero, suc, ◌+◌, ◌<◌, ◌≤◌, false, cond, eqb, ltb, List, [], ◌∷◌, ◌++◌, length, map, get_or, set, refl, sym, ap, subst, ◌∙◌, arith, get_or-set_other, get_or-set_same}
 use Rattle.std.specs.List.{list_any}
 use Rattle.std.proofs.lemmas.Bool.Decides.{nat_tests}
 use Rattle.cell_pool.specs.Places.{NotIn, Apart, Distinct, Below}
-use Rattle.cell_pool.specs.Region.{EndsAt, others_below}
+use Rattle.cell_pool.specs.Region.{EndsAt, LeadsBack, others_below}
 
 pub NotIn-push : (p : ℕ) (xs : List ℕ) (s : ℕ) → NotIn p xs → p ≢ s → NotIn p (xs ++ s ∷ [])
 NotIn-push p [] s n e = (e, tt)
@@ -45,6 +45,25 @@ Apart-end x (y ∷ xs) t ys a ends = Apart-end y xs t ys a.1 ends
 pub EndsAt-rest : (x : ℕ) (xs : List ℕ) (t : ℕ) → EndsAt (x ∷ xs) t → EndsAt xs t
 EndsAt-rest x [] t ends = tt
 EndsAt-rest x (y ∷ ys) t ends = ends
+
+-- a new lead back from a place that isn't in the list leaves how the list leads back
+pub LeadsBack-set : (back xs : List ℕ) (s t : ℕ) → LeadsBack back xs → NotIn s xs → LeadsBack (set back s t) xs
+LeadsBack-set back [] s t leads n = tt
+LeadsBack-set back (x ∷ []) s t leads n = tt
+LeadsBack-set back (x ∷ y ∷ ys) s t leads n =
+    (get_or-set_other back s y t 0 (λ e. n.1.0 (sym e)) ∙ leads.0, LeadsBack-set back (y ∷ ys) s t leads.1 n.1)
+
+-- a place put at the end of a list leads back to the place where the list ended
+pub LeadsBack-push : (back xs : List ℕ) (s t : ℕ) → s < length back → LeadsBack back xs → NotIn s xs → EndsAt xs t → LeadsBack (set back s t) (xs ++ s ∷ [])
+LeadsBack-push back [] s t within leads n ends = tt
+LeadsBack-push back (x ∷ []) s t within leads n ends = (get_or-set_same back s t 0 within ∙ sym ends, tt)
+LeadsBack-push back (x ∷ y ∷ ys) s t within leads n ends =
+    (get_or-set_other back s y t 0 (λ e. n.1.0 (sym e)) ∙ leads.0, LeadsBack-push back (y ∷ ys) s t within leads.1 n.1 ends)
+
+-- the list without its first place leads back as the list does
+pub LeadsBack-rest : (back : List ℕ) (x : ℕ) (xs : List ℕ) → LeadsBack back (x ∷ xs) → LeadsBack back xs
+LeadsBack-rest back x [] leads = tt
+LeadsBack-rest back x (y ∷ ys) leads = leads.1
 
 pub Apart-cons_right : (xs : List ℕ) (y : ℕ) (ys : List ℕ) → Apart xs ys → NotIn y xs → Apart xs (y ∷ ys)
 Apart-cons_right [] y ys a n = tt

@@ -6,11 +6,12 @@ use Rattle.atm_cells.specs.declared.cell.Cell.{Cell}
 use Rattle.cell_pool.specs.Places.{NotIn, Apart, Distinct, Below}
 
 -- the places that are free, the next one to be given out first; the cell in each place; the place
--- to which each place leads
+-- to which each place leads, and the one to which it leads back
 pub record Region : Type 0 where
   pub free : List ℕ
   pub cells : List Cell
   pub next : List ℕ
+  pub back : List ℕ
 
 -- what a queue or a chain is seen as, a list of places that is threaded through its region: its
 -- first place, its last one, its length
@@ -72,10 +73,17 @@ EndsAt [] t = Unit {0}
 EndsAt (x ∷ []) t = x ≡ t
 EndsAt (x ∷ y ∷ ys) t = EndsAt (y ∷ ys) t
 
+-- each place of the list but the first leads back to the one before it
+abbrev pub LeadsBack : (back : List ℕ) → List ℕ → Type 0
+LeadsBack back [] = Unit {0}
+LeadsBack back (x ∷ []) = Unit {0}
+LeadsBack back (x ∷ y ∷ ys) = (slice_index back y ≡ x) × LeadsBack back (y ∷ ys)
+
 -- with this region the line is a list of distinct places, each taken and not put back, that ends at
--- its tail
+-- its tail and leads back from there
 pub record IsLine (r : Region) (l : Line) : Type 0 where
   pub inside : Below (size r) (places r l)
   pub taken : Apart (places r l) r.free
   pub distinct : Distinct (places r l)
   pub ends : EndsAt (places r l) l.tail
+  pub leads_back : LeadsBack r.back (places r l)

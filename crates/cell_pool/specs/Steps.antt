@@ -49,7 +49,7 @@ pub record IsPushed (old new : Region) (q r : Line) (s : ℕ) : Type 0 where
   pub now_cells : cells_of new r ≡ cells_of old q ++ cell_at old s ∷ []
   pub same_free : new.free ≡ old.free
   pub same_store : new.cells ≡ old.cells
-  pub others : (l : Line) → IsLine old l → Apart (places old q) (places old l) → IsKept old new l
+  pub others : (l : Line) → IsLine old l → Apart (places old q) (places old l) → NotIn s (places old l) → IsKept old new l
 
 -- the line q became r, which lacks the first place s; the region stayed
 pub record IsPopped (region : Region) (q r : Line) (s : ℕ) : Type 0 where

@@ -49,6 +49,8 @@ pub struct Pool {
     cells: Vec<Cell>,
     /// The place to which each place leads, in the free list or in a queue.
     next: Vec<usize>,
+    /// The place to which each place of a queue but the first leads back: the one before it there.
+    back: Vec<usize>,
     /// The first free place, where there is one.
     head: usize,
     /// How many places are free.
@@ -62,10 +64,11 @@ impl Model for Pool {
 
     ghost Value = { Region };
 
-    ghost view = { λ p. record { free = walk p.next.items p.head p.free; cells = p.cells.items; next = p.next.items } };
+    ghost view = { λ p. record { free = walk p.next.items p.head p.free; cells = p.cells.items; next = p.next.items; back = p.back.items } };
 
     ghost invariant = { λ p. record {
       as_long : length p.next.items ≡ length p.cells.items;
+      back_as_long : length p.back.items ≡ length p.cells.items;
       distinct : Distinct (walk p.next.items p.head p.free);
       below : Below (length p.cells.items) (walk p.next.items p.head p.free);
     } };
@@ -78,6 +81,7 @@ impl Pool {
         ensures free { IfOk result (λ p. length p.free ≡ n) }
     {
         let cells = vec![in alloc; BLANK_CELL; n]?;
+        let back = vec![in alloc; 0; n]?;
         let mut next = Vec::with_capacity(alloc, n)?;
         for place in 0..n {
             next.push(place + 1)?;
@@ -85,6 +89,7 @@ impl Pool {
         Ok(Pool {
             cells,
             next,
+            back,
             head: 0,
             free: n,
         })
@@ -135,18 +140,22 @@ impl Pool {
         self.free += 1;
     }
 
-    /// Lets the place `from` lead to the place `to`.
+    /// Lets the place `from` lead to the place `to`, and `to` lead back to `from`.
     pub(crate) fn link(&mut self, from: usize, to: usize)
-        requires { IsOut self.old from }
+        requires from { IsOut self.old from }
+        requires to { IsOut self.old to }
         ensures free { self.new.free ≡ self.old.free }
         ensures cells { self.new.cells ≡ self.old.cells }
         ensures next { self.new.next ≡ slice_set self.old.next from to }
+        ensures back { self.new.back ≡ slice_set self.old.back to from }
 
         // What a caller that doesn't open the region needs besides.
         ensures even { length self.old.next ≡ slots self.old }
+        ensures back_even { length self.old.back ≡ slots self.old }
         ensures bound { slots self.old < 2 ^ 64 }
     {
         self.next[from] = to;
+        self.back[to] = from;
     }
 
     /// The place to which the place `from` leads.
@@ -155,5 +164,21 @@ impl Pool {
         ensures { result ≡ slice_index self.now.next from }
     {
         self.next[from]
+    }
+
+    /// The place to which the place `from` leads back.
+    pub(crate) fn before(&self, from: usize) -> usize
+        requires { IsOut self.now from }
+        ensures { result ≡ slice_index self.now.back from }
+    {
+        self.back[from]
+    }
+
+    /// The cell in a place.
+    pub(crate) fn cell(&self, place: usize) -> Cell
+        requires { IsOut self.now place }
+        ensures { result ≡ cell_at self.now place }
+    {
+        self.cells[place]
     }
 }

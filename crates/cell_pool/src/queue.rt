@@ -1,11 +1,12 @@
 //! A queue of slots, threaded through its region.
 
-ghost use Rattle.std.specs.Prelude.{◌≡◌, ◌+◌, ◌↔◌, IsTrue, IsNone, IfNone, IfSome};
+ghost use Rattle.std.specs.Prelude.{◌≡◌, ◌+◌, ◌<◌, ◌↔◌, slice_get, slice_index, IsTrue, IsNone, IfNone, IfSome};
 ghost use Rattle.cell_pool.specs.Places.{NotIn};
-ghost use Rattle.cell_pool.specs.Region.{Region, places, len_of, IsOut, IsLine};
+ghost use Rattle.cell_pool.specs.Region.{Region, places, cells_of, len_of, IsOut, IsLine};
 ghost use Rattle.cell_pool.specs.Steps.{IsPushed, IsPopped, IsDrained};
 
 use crate::pool::{Pool, Slot};
+use atm_cells::Cell;
 use std::marker::Model;
 
 /// A queue of slots of one region: first in, first out. It takes no memory, and it must be drained.
@@ -53,6 +54,49 @@ impl Queue {
         ensures { IsTrue result ↔ (len_of self.now ≡ 0) }
     {
         self.len == 0
+    }
+
+    /// The cell at an index, counted from the front from 0 on. None exactly where the queue has no more
+    /// cells than that. It walks there from the nearer end.
+    pub fn at(&self, pool: &Pool, index: usize) -> Option<Cell>
+        requires { IsLine pool.now self.now }
+        ensures { result ≡ slice_get (cells_of pool.now self.now) index }
+    {
+        if index >= self.len {
+            return None;
+        }
+        let place = if index < self.len - index {
+            self.place_from_front(pool, index)
+        } else {
+            self.place_from_end(pool, index)
+        };
+        Some(pool.cell(place))
+    }
+
+    /// The place at an index, by the places before it.
+    fn place_from_front(&self, pool: &Pool, index: usize) -> usize
+        requires line { IsLine pool.now self.now }
+        requires within { index < len_of self.now }
+        ensures { result ≡ slice_index (places pool.now self.now) index }
+    {
+        let mut place = self.head;
+        for _step in 0..index {
+            place = pool.after(place);
+        }
+        place
+    }
+
+    /// The place at an index, by the places behind it.
+    fn place_from_end(&self, pool: &Pool, index: usize) -> usize
+        requires line { IsLine pool.now self.now }
+        requires within { index < len_of self.now }
+        ensures { result ≡ slice_index (places pool.now self.now) index }
+    {
+        let mut place = self.tail;
+        for _step in index + 1..self.len {
+            place = pool.before(place);
+        }
+        place
     }
 
     /// Puts the slot at the end.

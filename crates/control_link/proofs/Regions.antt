@@ -195,6 +195,14 @@ module _ (region : Region) (queue : Line) (chains : List Gathering) (threaded : 
 pub last_line : (queue : Line) (chains : List Gathering) (g : Gathering) → lines queue (chains ++ g ∷ []) ≡ lines queue chains ++ g.chain ∷ []
 last_line queue chains g = ap (λ (ls : List Line). queue ∷ ls) (map-append (λ (x : Gathering). x.chain) chains (g ∷ []))
 
+-- what holds of each chain holds after one more
+pub each_push : (P : Gathering → Type 0) (chains : List Gathering) (g : Gathering) → ((k : ℕ) (d : Gathering) → k < length chains → P (get_or chains k d)) → P g
+    → (k : ℕ) (d : Gathering) → k < length (chains ++ g ∷ []) → P (get_or (chains ++ g ∷ []) k d)
+each_push P [] g each here zero d low = here
+each_push P [] g each here (suc k) d low = absurd (omega (arith, low))
+each_push P (x ∷ chains) g each here zero d low = each 0 d (omega arith)
+each_push P (x ∷ chains) g each here (suc k) d low = each_push P chains g (λ j e h. each (suc j) e (omega (arith, h))) here k d (omega (arith, low))
+
 pub on_ok : {T E : Type 0} (r : Result T E) (P Q : Type 0) → (P → Q) → OnOk r P → OnOk r Q
 on_ok (Ok value) P Q then is = then is
 on_ok (Err error) P Q then is = tt

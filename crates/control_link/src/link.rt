@@ -97,6 +97,21 @@ impl ControlLink {
         self.store.pop()
     }
 
+    /// The cell that waits for the switch at this place, counted from 0. None exactly where none waits
+    /// there.
+    pub fn cell(&self, index: usize) -> Option<Cell>
+        ensures { result ≡ slice_get self.now.queue index }
+    {
+        self.store.cell(index)
+    }
+
+    /// How many cells wait for the switch.
+    pub fn queued(&self) -> usize
+        ensures { result ≡ length self.now.queue }
+    {
+        self.store.queued()
+    }
+
     /// The linked ports, ascending.
     pub fn ports(&self) -> &[PortRange]
         ensures { result.now ≡ ranges_of self.now }

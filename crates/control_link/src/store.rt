@@ -124,6 +124,20 @@ impl Store {
         Some(cell)
     }
 
+    /// The cell at this place of the queue, counted from 0. None exactly where it has none there.
+    pub(crate) fn cell(&self, index: usize) -> Option<Cell>
+        ensures { result ≡ slice_get self.now.queue index }
+    {
+        self.queue.at(&self.pool, index)
+    }
+
+    /// How many cells the queue has.
+    pub(crate) fn queued(&self) -> usize
+        ensures { result ≡ length self.now.queue }
+    {
+        self.queue.len()
+    }
+
     /// The region.
     pub(crate) fn region(&self) -> &Pool
         ensures free { length result.now.free ≡ free_in self.now }

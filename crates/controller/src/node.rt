@@ -129,6 +129,14 @@ impl<E: OpenEngine> NodeController for Controller<E> {
         self.router.pop()
     }
 
+    fn cell(&self, index: usize) -> Option<Cell> {
+        self.router.cell(index)
+    }
+
+    fn queued(&self) -> usize {
+        self.router.queued()
+    }
+
     fn redirects(&self) -> u64 {
         self.router.router().redirects()
     }

@@ -4,3 +4,5 @@ pub mod Tables
 pub mod Rows
 pub mod Queues
 pub mod Chains
+pub mod Followings
+pub mod Behind

@@ -19,6 +19,10 @@ pub record IsQueuesStep (old new : Region) (ls : List Line) (k : ℕ) (r : Line)
   pub lines : LinesChange old new ls (set ls k r)
   pub cells : map (cells_of new) (set ls k r) ≡ set (map (cells_of old) ls) k cs
 
+-- the cells of the line at place k, among those of all
+pub cells_at : (r : Region) (ls : List Line) (k : ℕ) (q : Line) → k < length ls → q ≡ get_or ls k q → cells_of r q ≡ get_or (map (cells_of r) ls) k []
+cells_at r ls k q within read = ap (cells_of r) read ∙ sym (get_or-map (cells_of r) ls k q [] within)
+
 -- a cell is pushed to the line at place k
 pub push_step : (old mid new : Region) (ls : List Line) (k s : ℕ) (q r : Line) (c : Cell) → k < length ls → q ≡ get_or ls k q → ShareRegion old ls → IsTaken old mid s c → IsPushed mid new q r s
     → IsQueuesStep old new ls k r (get_or (map (cells_of old) ls) k [] ++ c ∷ [])

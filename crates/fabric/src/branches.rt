@@ -5,9 +5,10 @@ ghost use Rattle.std.specs.FinMap as map;
 ghost use Rattle.std.specs.List.{list_all, list_any};
 ghost use Rattle.crossbar_model.specs.Channels.{IsLinkPort, is_connectable};
 ghost use Rattle.crossbar_model.specs.Crossbar.{first_on};
+ghost use Rattle.fabric.specs.Following.{branch_behind};
 ghost use Rattle.fabric.specs.Table.{end_of};
 
-use crate::place::{CHANNELS, PORTS, ROWS, end_of, place_of};
+use crate::place::{CHANNELS, COLUMNS, PORTS, ROWS, end_of, place_of, places_up_to};
 use crate::row::Row;
 use crossbar_model::Branch;
 use net_types::{End, OutOfMemory, PortNo};
@@ -144,6 +145,21 @@ impl Branches {
             if let Some(column) = self.rows[row].first() {
                 return Some(end_of(row, column));
             }
+        }
+        None
+    }
+
+    /// The first input behind another that has a branch, or the first of all, and where its cells go.
+    pub(crate) fn first_behind(&self, other: Option<End>) -> Option<(End, End)>
+        ensures { result ≡ branch_behind self.now.branches other }
+    {
+        let place = places_up_to(other);
+        let mut from = place % COLUMNS;
+        for row in place / COLUMNS..ROWS {
+            if let Some((column, branch)) = self.rows[row].first_from(from) {
+                return Some((end_of(row, column), branch.output));
+            }
+            from = 0;
         }
         None
     }

@@ -8,6 +8,7 @@ ghost use Rattle.cell_pool.specs.Region.{size as slots, cells_of, len_of, IsLine
 ghost use Rattle.cell_pool.specs.Steps.{IsDrained};
 ghost use Rattle.cell_pool.specs.Shares.{IsApartFromEach, ShareRegion};
 ghost use Rattle.crossbar_model.specs.Channels.{ArePorts, is_connectable};
+ghost use Rattle.fabric.specs.Following.{branch_behind};
 ghost use Rattle.crossbar_model.specs.Crossbar.{new_branch, moved, cut_by_move, output_of, unfinished_on, first_on, sent, popped, queue_of, routed, switched};
 
 use crate::branches::Branches;
@@ -153,6 +154,14 @@ impl Fabric {
         self.branches.first_on(port)
     }
 
+    /// The first branch whose input stands behind another, in the order of port, VPI and VCI, or the
+    /// first of all: the input, and where its cells go. None exactly where there is none.
+    pub fn branch_at(&self, after: Option<End>) -> Option<(End, End)>
+        ensures { result ≡ branch_behind self.now.branches after }
+    {
+        self.branches.first_behind(after)
+    }
+
     /// Takes a cell that came on a port: to the end of the queue of its branch's output, with the
     /// output's channel.
     pub fn switch_cell(&mut self, port: PortNo, cell: &Cell) -> Routed
@@ -208,6 +217,24 @@ impl Fabric {
         let cell = self.pool.read(&slot);
         self.pool.put(slot);
         Some(cell)
+    }
+
+    /// The cell at an index of a port's queue, counted from the front from 0 on. None exactly where no
+    /// more cells than that wait there. It is found from the nearer end of the queue.
+    pub fn cell(&self, port: PortNo, index: usize) -> Option<Cell>
+        requires { port.0 ≤ 8 }
+        ensures { result ≡ slice_get (queue_of (crossbar self.now) port) index }
+    {
+        let queue = &self.queues[port.0 as usize];
+        queue.at(&self.pool, index)
+    }
+
+    /// How many cells wait at a port.
+    pub fn queued(&self, port: PortNo) -> usize
+        requires { port.0 ≤ 8 }
+        ensures { result ≡ length (queue_of (crossbar self.now) port) }
+    {
+        self.queues[port.0 as usize].len()
     }
 
     /// How many slots are free.

@@ -1,6 +1,7 @@
 //! Where the branch of a channel stands.
 
-ghost use Rattle.std.specs.Prelude.{◌≡◌, ◌≢◌, ◌<◌, ◌*◌, ℕ, IfSome, IfNone};
+ghost use Rattle.std.specs.Prelude.{◌≡◌, ◌≢◌, ◌<◌, ◌≤◌, ◌*◌, ℕ, true, false, IfSome, IfNone};
+ghost use Rattle.fabric.specs.Following.{is_behind};
 ghost use Rattle.fabric.specs.Table.{end_at, end_of, end_on, vci_at};
 
 use net_types::{Channel, End, PortNo};
@@ -17,6 +18,9 @@ pub(crate) const CHANNELS: usize = 993;
 
 /// The paths of a port at most. On the control port its path x shows as 16 times the port plus x.
 const PATHS: usize = 16;
+
+/// The columns of a row at most: the channels of these paths.
+pub(crate) const COLUMNS: usize = CHANNELS * PATHS;
 
 /// The default channel of a path.
 const DEFAULT_VCI: u16 = 15;
@@ -106,4 +110,40 @@ pub(crate) fn end_of(row: usize, column: usize) -> End
         port: PortNo((row - PORTS + 1) as u8),
         channel: Channel { vpi: path, vci },
     }
+}
+
+/// Whether a channel stands behind another, in the order of port, VPI and VCI.
+fn is_behind(other: End, end: End) -> bool
+    ensures { result ≡ is_behind (Some other) end }
+{
+    if other.port != end.port {
+        return other.port.0 < end.port.0;
+    }
+    if other.channel.vpi != end.channel.vpi {
+        return other.channel.vpi < end.channel.vpi;
+    }
+    other.channel.vci < end.channel.vci
+}
+
+/// How many places, all rows in order, have channels that don't stand behind this one; none where
+/// there is no channel. Those of the other places do.
+pub(crate) fn places_up_to(other: Option<End>) -> usize
+    ensures most { result ≤ 15888 * 16 }
+    ensures up_to { (n : ℕ) → n < result → is_behind other (end_at n) ≡ false }
+    ensures others { (n : ℕ) → result ≤ n → n < 15888 * 16 → is_behind other (end_at n) ≡ true }
+{
+    let Some(other) = other else {
+        return 0;
+    };
+    let mut low = 0;
+    let mut high = ROWS * COLUMNS;
+    while low < high {
+        let middle = (low + high) / 2;
+        if is_behind(other, end_of(middle / COLUMNS, middle % COLUMNS)) {
+            high = middle;
+        } else {
+            low = middle + 1;
+        }
+    }
+    low
 }

@@ -1,6 +1,6 @@
 //! The branches of one row of channels, in an array.
 
-ghost use Rattle.std.specs.Prelude.{◌≡◌, ◌<◌, ℕ, None, length, replicate, slice_index_or, slice_set, is_some, true, IfSome, IfNone, IfOk, false};
+ghost use Rattle.std.specs.Prelude.{◌≡◌, ◌<◌, ◌≤◌, ℕ, None, length, replicate, slice_index_or, slice_set, is_some, true, IfSome, IfNone, IfOk, false};
 
 use crossbar_model::Branch;
 use net_types::{End, Mark, OutOfMemory};
@@ -99,6 +99,21 @@ impl Row {
         ensures { self.new ≡ slice_set self.old column branch }
     {
         self.entries[column] = Entry::new(branch);
+    }
+
+    /// The first column from `from` on that has a branch, and the branch.
+    pub(crate) fn first_from(&self, from: usize) -> Option<(usize, Branch)>
+        ensures some { IfSome result (λ r. slice_index_or self.now r.0 None ≡ Some r.1) }
+        ensures within { IfSome result (λ r. (from ≤ r.0) × (r.0 < length self.now)) }
+        ensures before { IfSome result (λ r. (j : ℕ) → from ≤ j → j < r.0 → slice_index_or self.now j None ≡ None) }
+        ensures none { IfNone result ((j : ℕ) → from ≤ j → slice_index_or self.now j None ≡ None) }
+    {
+        for column in from..self.entries.len() {
+            if let Some(branch) = self.entries[column].branch() {
+                return Some((column, branch));
+            }
+        }
+        None
     }
 
     /// The first column that has a branch.

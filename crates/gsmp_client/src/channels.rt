@@ -78,4 +78,19 @@ impl Client {
     {
         self.control.pop()
     }
+
+    /// The cell that waits for the switch at this place, counted from 0; `None` exactly where none waits
+    /// there.
+    pub fn cell(&self, index: usize) -> Option<Cell>
+        ensures { result ≡ slice_get self.now.control.queue index }
+    {
+        self.control.cell(index)
+    }
+
+    /// How many cells wait for the switch.
+    pub fn queued(&self) -> usize
+        ensures { result ≡ length self.now.control.queue }
+    {
+        self.control.queued()
+    }
 }

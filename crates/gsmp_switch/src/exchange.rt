@@ -10,6 +10,7 @@ ghost use Rattle.reassembly.specs.Receipt.{received};
 ghost use Rattle.crossbar_model.specs.Channels.{ArePorts, is_connectable};
 ghost use Rattle.crossbar_model.specs.Crossbar.{new_branch, moved, cut_by_move, output_of, unfinished_on, first_on, sent, popped, queue_of, routed, switched};
 ghost use Rattle.fabric.specs.Fabric.{crossbar, free_slots};
+ghost use Rattle.fabric.specs.Following.{branch_behind};
 ghost use Rattle.gsmp_switch.specs.Exchange.{AreOneRegion, free_in, store_of};
 
 use atm_cells::Cell;
@@ -117,6 +118,13 @@ impl Exchange {
         self.fabric.first_of(port)
     }
 
+    /// The first branch whose input stands behind another, or the first of all.
+    pub(crate) fn branch_at(&self, after: Option<End>) -> Option<(End, End)>
+        ensures { result ≡ branch_behind self.now.crossbar.branches after }
+    {
+        self.fabric.branch_at(after)
+    }
+
     /// Takes a cell that came on a port to the queue of its branch's output.
     #[tactic(auto, using(crate::proofs::Exchanges::free_is, crate::proofs::Exchanges::chain_length))]
     pub(crate) fn switch_cell(&mut self, port: PortNo, cell: &Cell) -> Routed
@@ -133,6 +141,30 @@ impl Exchange {
         ensures popped { self.new ≡ record self.old { crossbar = popped self.old.crossbar port } }
     {
         self.fabric.pop(port)
+    }
+
+    /// The cell at an index of a port's queue.
+    pub(crate) fn cell(&self, port: PortNo, index: usize) -> Option<Cell>
+        requires { port.0 ≤ 8 }
+        ensures { result ≡ slice_get (queue_of self.now.crossbar port) index }
+    {
+        self.fabric.cell(port, index)
+    }
+
+    /// How many cells wait at a port.
+    pub(crate) fn queued(&self, port: PortNo) -> usize
+        requires { port.0 ≤ 8 }
+        ensures { result ≡ length (queue_of self.now.crossbar port) }
+    {
+        self.fabric.queued(port)
+    }
+
+    /// How many slots are free.
+    #[tactic(auto, using(crate::proofs::Exchanges::free_is, crate::proofs::Exchanges::chain_length))]
+    pub(crate) fn free(&self) -> usize
+        ensures { result ≡ free_in self.now }
+    {
+        self.fabric.free()
     }
 
     /// Takes a cell of the GSMP channel. Where it ends a frame that passes its test, the answer is the

@@ -5,6 +5,7 @@ ghost use Rattle.net_types.specs.Number.{AreDrawn, GivenOut, HasNumbersLeft, nex
 ghost use Rattle.crossbar_model.specs.Channels.{ArePorts};
 ghost use Rattle.crossbar_model.specs.Crossbar.{output_of, popped, queue_of};
 ghost use Rattle.fabric.specs.Fabric.{crossbar, free_slots as fabric_slots};
+ghost use Rattle.fabric.specs.Following.{branch_behind};
 ghost use Rattle.gsmp_wire.specs.Range.{Bits, IsInRange};
 ghost use Rattle.world_model.specs.Switch.{control_port, free_slots, has_port, numbers_of, opened, switch_party};
 ghost use Rattle.world_model.specs.Requests.{is_request};
@@ -427,6 +428,45 @@ impl Switch {
         ensures popped { self.new ≡ record self.old { crossbar = popped self.old.crossbar port } }
     {
         self.exchange.pop(port)
+    }
+
+    /// The cell at an index of the queue of a port, 0 to 8, counted from the front from 0 on. None
+    /// exactly where no more cells than that wait there. It is found from the nearer end of the queue.
+    pub fn cell(&self, port: PortNo, index: usize) -> Option<Cell>
+        requires { port.0 ≤ 8 }
+        ensures { result ≡ slice_get (queue_of self.now.crossbar port) index }
+    {
+        self.exchange.cell(port, index)
+    }
+
+    /// How many cells wait at a port, 0 to 8.
+    pub fn queued(&self, port: PortNo) -> usize
+        requires { port.0 ≤ 8 }
+        ensures { result ≡ length (queue_of self.now.crossbar port) }
+    {
+        self.exchange.queued(port)
+    }
+
+    /// How many slots are free.
+    pub fn free(&self) -> usize
+        ensures { result ≡ free_slots self.now }
+    {
+        self.exchange.free()
+    }
+
+    /// The state of the adjacency with the controller.
+    pub fn state(&self) -> State
+        ensures { result ≡ self.now.adjacency.state }
+    {
+        self.adjacency.state()
+    }
+
+    /// The first branch whose input stands behind another, in the order of port, VPI and VCI, or the
+    /// first of all: the input, and where its cells go. None exactly where there is none.
+    pub fn branch_at(&self, after: Option<End>) -> Option<(End, End)>
+        ensures { result ≡ branch_behind self.now.crossbar.branches after }
+    {
+        self.exchange.branch_at(after)
     }
 
     /// Where the cells of an input go. None exactly where it has no branch.

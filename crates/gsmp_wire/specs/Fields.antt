@@ -1,5 +1,5 @@
--- The fields of octets that are a message, by their places. The steps of `decode` speak of them; what
--- it does is said by Layout alone.
+-- The fields of octets that are a message, by their places, and the message of octets (`decoded`),
+-- which definitions above cite. What `decode` does is said by Layout alone.
 
 use Rattle.std.specs.Prelude.{ℕ, ◌+◌, ◌==◌, List, [], ◌∷◌, take, drop, zero, suc, slice_index, Option, Some, None, Result, Ok, Err, if◌then◌else◌}
 use Rattle.net_types.specs.declared.adjacency.Party.{Party}

@@ -1,6 +1,6 @@
 //! The payloads of the frames that a run made, and the place of the latest one of each mark.
 
-ghost use Rattle.std.specs.Prelude.{◌≡◌, [], ◌∷◌, ◌++◌, option_copied, OnOk, OnErr};
+ghost use Rattle.std.specs.Prelude.{◌≡◌, [], ◌∷◌, ◌++◌, length, option_copied, slice_get, OnOk, OnErr};
 
 use indexmap::IndexMap;
 use net_types::{Mark, Octets, OutOfMemory};
@@ -66,5 +66,19 @@ impl Frames {
     {
         let place = self.latest.get(&mark)?;
         Some(self.list[*place].payload.as_slice())
+    }
+
+    /// The number of frames.
+    pub fn len(&self) -> usize
+        ensures { result ≡ length self.now }
+    {
+        self.list.len()
+    }
+
+    /// The frame at `place`, from 0.
+    pub fn at(&self, place: usize) -> Option<&Frame>
+        ensures { option_copied result ≡ slice_get self.now place }
+    {
+        self.list.get(place)
     }
 }

@@ -1,9 +1,9 @@
 //! The loss ledger of a run, beside the payloads of the frames that it made.
 
-ghost use Rattle.std.specs.Prelude.{◌≡◌, [], ◌∷◌, ◌++◌, Any, Some, IsTrue, ◌↔◌, IfOk, OnOk, OnErr};
+ghost use Rattle.std.specs.Prelude.{◌≡◌, [], ◌∷◌, ◌++◌, ◌≤◌, length, option_copied, slice_get, Any, Some, IsNone, IsTrue, ◌↔◌, IfOk, OnOk, OnErr};
 
 use crate::entries::Entries;
-use crate::frames::Frames;
+use crate::frames::{Frame, Frames};
 use crate::record::Cause;
 use net_types::{Mark, OutOfMemory};
 use std::alloc::Global;
@@ -74,5 +74,27 @@ impl Ledger {
             Some(kept) => kept == payload,
             None => false,
         }
+    }
+
+    /// The payload that `made` kept last under `mark`. None exactly where it kept none.
+    pub fn payload(&self, mark: Mark) -> Option<&[u8]>
+        ensures { option_copied result ≡ payload_of self.now.frames mark }
+    {
+        self.frames.payload_of(mark)
+    }
+
+    /// The number of frames that were made.
+    pub fn made_count(&self) -> usize
+        ensures { result ≡ length self.now.frames }
+    {
+        self.frames.len()
+    }
+
+    /// The frame at `place`, from 0, in the order of their making.
+    pub fn frame(&self, place: usize) -> Option<&Frame>
+        ensures frame { option_copied result ≡ slice_get self.now.frames place }
+        ensures none { IsNone result ↔ (length self.now.frames ≤ place) }
+    {
+        self.frames.at(place)
     }
 }

@@ -7,6 +7,7 @@ mod ledger;
 mod notes;
 mod record;
 
+pub use frames::Frame;
 pub use ledger::Ledger;
 pub use notes::Notes;
 pub use record::{Cause, DropCause, Layer, Record, Refusal};

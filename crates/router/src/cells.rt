@@ -99,4 +99,19 @@ impl<E: PortEngine> Router<E> {
     {
         self.client.pop()
     }
+
+    /// The cell that waits for the switch at this place, counted from 0. None exactly where none waits
+    /// there.
+    pub fn cell(&self, index: usize) -> Option<Cell>
+        ensures { result ≡ slice_get (controller_of E.seen self.now).queue index }
+    {
+        self.client.cell(index)
+    }
+
+    /// How many cells wait for the switch.
+    pub fn queued(&self) -> usize
+        ensures { result ≡ length (controller_of E.seen self.now).queue }
+    {
+        self.client.queued()
+    }
 }

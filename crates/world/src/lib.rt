@@ -4,6 +4,7 @@
 #![tactic(auto)]
 
 mod counts;
+mod links;
 mod node;
 mod opening;
 mod site;

@@ -136,6 +136,15 @@ pub trait NodeController {
         ensures first { result ≡ slice_get (seen self.old).queue 0 }
         ensures popped { seen self.new ≡ popped (seen self.old) };
 
+    /// The cell that waits for the switch at this place, counted from 0. None exactly where none waits
+    /// there.
+    fn cell(&self, index: usize) -> Option<Cell>
+        ensures { result ≡ slice_get (seen self.now).queue index };
+
+    /// How many cells wait for the switch.
+    fn queued(&self) -> usize
+        ensures { result ≡ length (seen self.now).queue };
+
     /// How many REDIRECTs its ports accepted since the opening; once at its type's end it stays there.
     fn redirects(&self) -> u64
         ensures { result ≡ redirects_of (seen self.now) };

@@ -2,7 +2,11 @@
 
 use crate::node::NodeController;
 use gsmp_switch::Switch;
+use net_types::PortNo;
 use world_model::LinkEnd;
+
+/// The port of a switch to its controller.
+pub(crate) const CONTROL_PORT: PortNo = PortNo(0);
 
 /// The most ports of a node, port 0 among them.
 pub(crate) const PORTS: usize = 9;

@@ -22,6 +22,7 @@ ghost use Rattle.world.specs.Running.{Runs};
 
 use crate::counts::Meter;
 use crate::node::{InjectFault, NodeController};
+use crate::site::CONTROL_PORT;
 use crate::world::World;
 use atm_cells::Cell;
 use ipv4_forward::RouteChange;
@@ -29,9 +30,6 @@ use link_model::{Cause, Notes, Record, Refusal};
 use net_types::{Channel, Mark, NodeId, OutOfMemory, Place, PortNo};
 use refusal_names::packet_refusal;
 use world_model::{Event, LinkEnd};
-
-/// The port of a switch to its controller.
-const CONTROL_PORT: PortNo = PortNo(0);
 
 impl<C: NodeController> World<C> {
     /// A cell comes to a node's controller.

@@ -1,6 +1,7 @@
 //! The network.
 
 ghost use Rattle.std.specs.Prelude.{◌≡◌, ◌≤◌, ◌<◌, ◌-◌, length, option_map, slice_get, Some};
+ghost use Rattle.world_model.specs.Places.{place_node, queue_at, queue_number};
 ghost use Rattle.world_model.specs.Topology.{Topology as Described};
 ghost use Rattle.world_model.specs.World.{controller_at, counts_of, site_at};
 ghost use Rattle.world.specs.Network.{IsNodeIn, no_notes, world_of};
@@ -8,8 +9,9 @@ ghost use Rattle.world.specs.Running.{Runs};
 
 use crate::counts::Counts;
 use crate::node::NodeController;
-use crate::site::Site;
+use crate::site::{CONTROL_PORT, Site};
 use crate::tally::{Tally, Total};
+use atm_cells::Cell;
 use gsmp_switch::Switch;
 use net_types::{NodeId, Numbers, Place};
 
@@ -66,6 +68,13 @@ impl<C: NodeController> World<C> {
         }
     }
 
+    /// How many events it stepped since its opening.
+    pub fn events(&self) -> u64
+        ensures { result ≡ self.now.events }
+    {
+        self.events
+    }
+
     /// The controller of a node.
     pub fn controller(&self, node: NodeId) -> &C
         requires { IsNodeIn self.now node }
@@ -80,6 +89,33 @@ impl<C: NodeController> World<C> {
         ensures { (topology : Described) → Runs C.seen topology self.now → option_map (λ site. site.switch) (site_at (world_of C.seen self.now no_notes) node) ≡ Some result.now }
     {
         &self.sites[node.0 as usize - 1].switch
+    }
+
+    /// The cell that waits in a queue at this index, counted from 0 at its head. None exactly where none
+    /// waits there.
+    pub fn cell(&self, place: Place, index: usize) -> Option<Cell>
+        requires node { IsNodeIn self.now (place_node place) }
+        requires port { queue_number place ≤ 9 }
+        ensures { (topology : Described) → Runs C.seen topology self.now → result ≡ slice_get (queue_at (world_of C.seen self.now no_notes) place) index }
+    {
+        match place {
+            Place::Down(node) => self.controller(node).cell(index),
+            Place::Up(node) => self.switch(node).cell(CONTROL_PORT, index),
+            Place::Out(node, port) => self.switch(node).cell(port, index),
+        }
+    }
+
+    /// How many cells wait in a queue.
+    pub fn queued(&self, place: Place) -> usize
+        requires node { IsNodeIn self.now (place_node place) }
+        requires port { queue_number place ≤ 9 }
+        ensures { (topology : Described) → Runs C.seen topology self.now → result ≡ length (queue_at (world_of C.seen self.now no_notes) place) }
+    {
+        match place {
+            Place::Down(node) => self.controller(node).queued(),
+            Place::Up(node) => self.switch(node).queued(CONTROL_PORT),
+            Place::Out(node, port) => self.switch(node).queued(port),
+        }
     }
 
     /// Gives up all nodes.

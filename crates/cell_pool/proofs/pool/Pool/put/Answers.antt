@@ -18,6 +18,7 @@ invariant_of-self c =
     let now = walk-put c.self.inside.next.items c.slot.inside.place c.self.inside.head c.self.inside.free (rw c.self.invariant.as_long out.inside) out.taken in
     record {
       as_long = rw (length-set c.self.inside.next.items c.slot.inside.place c.self.inside.head) c.self.invariant.as_long;
+      back_as_long = c.self.invariant.back_as_long;
       distinct = rw now (out.taken, c.self.invariant.distinct);
       below = rw now (out.inside, c.self.invariant.below);
     }

@@ -1,6 +1,20 @@
-use Rattle.std.proofs.Common.{◌≡◌, length, arith}
-use Rattle.control_link.proofs.Regions.{opened_region, opened_stored}
+use Rattle.std.proofs.Common.{◌≡◌, ◌++◌, ◌∷◌, [], length, length-append, ap, arith, rules}
+use Rattle.cell_pool.specs.Region.{IsLine, len_of}
+use Rattle.frame_model.specs.Reassembly.{nothing_taken}
+use Rattle.reassembly.specs.Receipt.{Gathering, reassembly_in}
+use Rattle.control_link.proofs.Regions.{each_push, opened_region, opened_stored}
 use Rattle.control_link.proofs.store.Store.open.Goals as goal
+
+pub loop-chains-preserved : goal.loop-chains-preserved
+loop-chains-preserved c =
+    let is : c.push-pushed.new.self.items ≡ c.loop-chains.chains.items ++ c.new.result ∷ [] = search rules in
+    record {
+      few = omega (arith, ap length is, length-append {A = Gathering});
+      room = omega (arith, c.push-pushed.ensures.capacity);
+      lines = λ r. rw is (each_push (λ g. IsLine r g.chain) c.loop-chains.chains.items c.new.result (c.loop-chains.invariant.lines r) (c.new.ensures.threaded r));
+      empty = rw is (each_push (λ g. len_of g.chain ≡ 0) c.loop-chains.chains.items c.new.result c.loop-chains.invariant.empty c.new.ensures.empty);
+      nothing = λ r. rw is (each_push (λ g. reassembly_in r g ≡ nothing_taken) c.loop-chains.chains.items c.new.result (c.loop-chains.invariant.nothing r) (c.new.ensures.nothing r));
+    }
 
 pub invariant_of-result : goal.invariant_of-result
 invariant_of-result c =
