@@ -1,6 +1,6 @@
 -- the lines of a document are taken one after another
 
-use Rattle.std.proofs.Common.{◌≡◌, ◌∙◌, ℕ, zero, suc, ◌≤◌, List, [], ◌∷◌, ◌++◌, length, take, drop, slice_get, Option, None, Some, Result, Ok, Err, sym, ap, subst, append-nil, arith, option_map}
+use Rattle.std.proofs.Common.{◌≡◌, ◌∙◌, ℕ, zero, suc, ◌≤◌, ◌==◌, Bool, true, false, List, [], ◌∷◌, ◌++◌, refl, if◌then◌else◌, length, take, drop, slice_get, Option, None, Some, Result, Ok, Err, sym, ap, subst, append-nil, arith, option_map}
 use Rattle.std.proofs.lemmas.List.{take_all}
 use Rattle.std.specs.Result.{IsErrAnd}
 use Rattle.lab_io.specs.Report.{IsPut, Writer}
@@ -9,21 +9,27 @@ use Rattle.world_model.specs.Controller.{Controller}
 use Rattle.world_model.specs.Topology.{Topology}
 use Rattle.script_model.specs.declared.refusal.Refused.{Refused}
 use Rattle.script_model.specs.Reading.{string_says}
-use Rattle.script_model.specs.Documents.{behind_rules, numbered_behind}
-use Rattle.script_model.specs.Reports.{body_under, last_line}
-use Rattle.script_model.specs.Script.{Script, script_from}
+use Rattle.script_model.specs.Documents.{Lines, behind_rules, numbered_behind, script_texts}
+use Rattle.script_model.specs.Script.{Script}
 use Rattle.script_model.specs.State.{nothing_read}
+use Rattle.telling_model.specs.Placed.{Placed, events_in}
+use Rattle.telling_model.specs.Tale.{body, end_of, told_of}
+use Rattle.telling_model.proofs.Scripts.{script_events}
 use Rattle.net_types.specs.declared.memory.OutOfMemory.{OutOfMemory}
 use Rattle.world.specs.declared.counts.Meter.{Meter}
 use Rattle.network_run.specs.declared.stop.Stop.{Stop}
 use Rattle.network_run.specs.declared.stop.Stop.TheVariants.{OutOfMemory as NoMemory}
-use Rattle.network_run.specs.Telling.{IsLeft, told}
-use Rattle.network_run.proofs.Telling.{none_of, nothing_put, put_then, stops_by}
+use Rattle.network_run.specs.declared.told.Told.{Told}
+use Rattle.network_run.specs.Telling.{IsLeft}
+use Rattle.network_run.proofs.Telling.{nothing_put, put_then, stops_by}
 use Rattle.network_replay.specs.declared.replay.Replay.{Replay}
-use Rattle.network_replay.specs.Along.{GoesOn, IsAlong, IsAtLast, IsBegun, IsGoing, IsWhole, world_behind}
-use Rattle.network_replay.proofs.Course.{along_ends, along_first, line_begins, stops_along}
+use Rattle.network_replay.specs.Along.{GoesOn, IsAlong, IsAtLast, IsBegun, IsGoing, IsWhole, last_told}
+use Rattle.network_replay.proofs.Onward.{along_ends, along_first, along_wanting}
 use Rattle.network_replay.proofs.Taking.{strings_are_read}
-use Rattle.document_replay.specs.Lines.{Comes, report_by, script_of_lines}
+use Rattle.report_lines.specs.declared.report.ReportLines.{ReportLines}
+use Rattle.report_lines.specs.Report.{report_tale}
+use Rattle.told_scripts.proofs.Reports.{account_is_report}
+use Rattle.document_replay.specs.Lines.{Comes, placed_of_lines, report_by, script_behind_rules, script_of_lines}
 
 -- *A line in its place*
 record IsSplit (lines : List (List ℕ)) (place : ℕ) (text : List ℕ) : Type 0 where
@@ -39,69 +45,110 @@ split_at (line ∷ lines) (suc place) text e =
     let rest = split_at lines place text e in
     record { whole = ap (λ xs. line ∷ xs) rest.whole; next = ap (λ xs. line ∷ xs) rest.next }
 
+-- what one who tells a report knows
+abbrev pub known : ReportLines → Unit {0}
+known teller = tt
+
 module _ {C : Type 0} (seen : C → Controller) (choice : Topology → Policy) (first : Writer) (start : Option (List ℕ)) (before : Meter) (lines : List (List ℕ)) where
-  abbrev pub AlongTo : ℕ → Replay C → Writer → Option (List ℕ) → Meter → Type 0
-  AlongTo place r writer written meter = IsAlong seen choice string_says first start before (take place lines) r writer written meter
+  abbrev pub AlongTo : ℕ → Replay C → Told ReportLines → Option (List ℕ) → Meter → Type 0
+  AlongTo place r told written meter = IsAlong seen known report_tale choice string_says first start before (take place lines) r told written meter
 
-  pub begins : (r : Replay C) → IsBegun r → AlongTo 0 r first start before
-  begins r begun = along_first seen choice string_says first start before r begun.state begun.notes begun.world
+  abbrev ComesTo : Result (Option Refused) Stop → Replay C → Writer → Option (List ℕ) → Meter → Type 0
+  ComesTo result r writer written meter = Comes seen choice first start before (script_of_lines lines) (placed_of_lines lines) result r writer written meter
 
-  pub is_going : (place : ℕ) (r : Replay C) (writer : Writer) (written : Option (List ℕ)) (meter : Meter) → AlongTo place r writer written meter → IsGoing seen choice r
-  is_going place r writer written meter along = record { events = along.events; network = along.network }
+  pub is_going : (place : ℕ) (r : Replay C) (told : Told ReportLines) (written : Option (List ℕ)) (meter : Meter) → AlongTo place r told written meter → IsGoing seen choice r
+  is_going place r told written meter along = record { events = events_in along.placed; network = along.network }
 
-  pub goes_on : (place : ℕ) (text : List ℕ) → slice_get lines place ≡ Some text → (r : Replay C) (writer : Writer) (written : Option (List ℕ)) (meter : Meter)
-      → GoesOn seen choice string_says first start before (take place lines) text (Ok None) r writer written meter → AlongTo (suc place) r writer written meter
-  goes_on place text e r writer written meter along =
-      subst (λ (xs : List (List ℕ)). IsAlong seen choice string_says first start before xs r writer written meter) (sym (split_at lines place text e).next) along
+  pub goes_on : (place : ℕ) (text : List ℕ) → slice_get lines place ≡ Some text → (r : Replay C) (told : Told ReportLines) (written : Option (List ℕ)) (meter : Meter)
+      → GoesOn seen known report_tale choice string_says first start before (take place lines) text (Ok None) r told written meter → AlongTo (suc place) r told written meter
+  goes_on place text e r told written meter along =
+      subst (λ (xs : List (List ℕ)). IsAlong seen known report_tale choice string_says first start before xs r told written meter) (sym (split_at lines place text e).next) along
 
   -- whatever lines follow a line, they are those that do
-  these : (place : ℕ) (text : List ℕ) → slice_get lines place ≡ Some text → script_from string_says nothing_read (take place lines ++ text ∷ drop (suc place) lines) ≡ script_of_lines lines
-  these place text e = ap (script_from string_says nothing_read) (sym (split_at lines place text e).whole)
+  these : (place : ℕ) (text : List ℕ) → slice_get lines place ≡ Some text → take place lines ++ text ∷ drop (suc place) lines ≡ lines
+  these place text e = sym (split_at lines place text e).whole
 
-  pub ends_refused : (place : ℕ) (text : List ℕ) → slice_get lines place ≡ Some text → (refused : Refused) (r : Replay C) (writer : Writer) (written : Option (List ℕ)) (meter : Meter)
-      → GoesOn seen choice string_says first start before (take place lines) text (Ok (Some refused)) r writer written meter
-      → Comes seen choice first start before (script_of_lines lines) (Ok (Some refused)) r writer written meter
-  ends_refused place text e refused r writer written meter last =
-      subst (λ (script : Script). IsAtLast seen choice first start before script (Some refused) r writer written meter) (sym (last.same (drop (suc place) lines)) ∙ these place text e) last.last
+  pub ends_refused : (place : ℕ) (text : List ℕ) → slice_get lines place ≡ Some text → (refused : Refused) (r : Replay C) (told : Told ReportLines) (written : Option (List ℕ)) (meter : Meter)
+      → GoesOn seen known report_tale choice string_says first start before (take place lines) text (Ok (Some refused)) r told written meter
+      → ComesTo (Ok (Some refused)) r told.writer written meter
+  ends_refused place text e refused r told written meter last =
+      let script : last.script ≡ script_of_lines lines = sym (last.same (drop (suc place) lines)) ∙ ap script_of_lines (these place text e) in
+      let placed : last.placed ≡ placed_of_lines lines = sym (last.same_placed (drop (suc place) lines)) ∙ ap placed_of_lines (these place text e) in
+      subst (λ (s : Script). IsAtLast seen report_tale choice first start before s (placed_of_lines lines) (Some refused) r told.writer written meter) script
+      (subst (λ (events : List Placed). IsAtLast seen report_tale choice first start before last.script events (Some refused) r told.writer written meter) placed last.last)
 
-  pub ends_early : (place : ℕ) (text : List ℕ) → slice_get lines place ≡ Some text → (stop : Stop) (r : Replay C) (writer : Writer) (written : Option (List ℕ)) (meter : Meter)
-      → GoesOn seen choice string_says first start before (take place lines) text (Err stop) r writer written meter
-      → Comes seen choice first start before (script_of_lines lines) (Err stop) r writer written meter
-  ends_early place text e stop r writer written meter front =
-      subst (λ (script : Script). IsLeft stop first writer start written (body_under (choice script.topology) script)) (these place text e) (front (drop (suc place) lines))
+  pub ends_early : (place : ℕ) (text : List ℕ) → slice_get lines place ≡ Some text → (stop : Stop) (r : Replay C) (told : Told ReportLines) (written : Option (List ℕ)) (meter : Meter)
+      → GoesOn seen known report_tale choice string_says first start before (take place lines) text (Err stop) r told written meter
+      → ComesTo (Err stop) r told.writer written meter
+  ends_early place text e stop r told written meter front =
+      subst (λ (xs : List (List ℕ)). IsLeft stop first told.writer start written (body report_tale (choice (script_of_lines xs).topology) (script_of_lines xs) (placed_of_lines xs))) (these place text e)
+      (front (drop (suc place) lines))
 
   -- no room for a line
-  pub ends_without_room : (place : ℕ) (text : List ℕ) → slice_get lines place ≡ Some text → (error : OutOfMemory) (r : Replay C) (writer : Writer) (written : Option (List ℕ)) (meter : Meter)
-      → AlongTo place r writer written meter → Comes seen choice first start before (script_of_lines lines) (Err (NoMemory error)) r writer written meter
-  ends_without_room place text e error r writer written meter along =
-      ends_early place text e (NoMemory error) r writer written meter
-      (λ others.
-      let begun = line_begins seen choice string_says strings_are_read r.state r.notes r.world (take place lines) others text along.events along.taken along.network in
-      stops_along seen choice string_says strings_are_read (NoMemory error) (script_from string_says nothing_read (take place lines ++ text ∷ others)) r.state.topology along.events [] first writer writer start written written
-      begun along.put (none_of writer written (told r.state.topology (world_behind choice r.state.topology along.events) [])))
+  pub ends_without_room : (place : ℕ) (text : List ℕ) → slice_get lines place ≡ Some text → (error : OutOfMemory) (r : Replay C) (told : Told ReportLines) (written : Option (List ℕ)) (meter : Meter)
+      → AlongTo place r told written meter → ComesTo (Err (NoMemory error)) r told.writer written meter
+  ends_without_room place text e error r told written meter along =
+      ends_early place text e (NoMemory error) r told written meter
+      (λ others. along_wanting report_tale choice seen known string_says strings_are_read first start written before meter (take place lines) others text r told error along)
 
-  pub ends : (place : ℕ) → length lines ≤ place → (r : Replay C) (writer : Writer) (written : Option (List ℕ)) (meter : Meter) → AlongTo place r writer written meter
-      → Comes seen choice first start before (script_of_lines lines) (Ok None) r writer written meter
-  ends place all r writer written meter along =
-      subst (λ (xs : List (List ℕ)). IsAtLast seen choice first start before (script_from string_says nothing_read xs) None r writer written meter) (take_all place lines all)
-      (along_ends seen choice string_says strings_are_read first writer start written before meter (take place lines) r along)
+  pub ends : (place : ℕ) → length lines ≤ place → (r : Replay C) (told : Told ReportLines) (written : Option (List ℕ)) (meter : Meter) → AlongTo place r told written meter
+      → ComesTo (Ok None) r told.writer written meter
+  ends place all r told written meter along =
+      subst (λ (xs : List (List ℕ)). IsAtLast seen report_tale choice first start before (script_of_lines xs) (placed_of_lines xs) None r told.writer written meter) (take_all place lines all)
+      (along_ends report_tale choice seen known string_says strings_are_read first told start written before meter (take place lines) r along)
 
--- *The report* is the lines of records and the last line
-pub report_put : (choice : Topology → Policy) (script : Script) (a b c : Writer) (x y z : Option (List ℕ)) → IsPut a b x y (body_under (choice script.topology) script)
-    → IsPut b c y z (last_line (choice script.topology) script) → IsPut a c x z (report_by choice script)
-report_put choice script a b c x y z body last = put_then a b c x y z (body_under (choice script.topology) script) (last_line (choice script.topology) script) body last
+pub begins : {C : Type 0} (seen : C → Controller) (choice : Topology → Policy) (told : Told ReportLines) (start : Option (List ℕ)) (before : Meter) (lines : List (List ℕ)) (r : Replay C) → IsBegun r
+    → AlongTo seen choice told.writer start before lines 0 r told start before
+begins seen choice told start before lines r begun = along_first report_tale choice seen known string_says told start before r begun.state begun.notes begun.world
 
--- or a front of them
-pub report_cut : (choice : Topology → Policy) (script : Script) (stop : Stop) (a c : Writer) (x z : Option (List ℕ)) → IsLeft stop a c x z (body_under (choice script.topology) script)
-    → IsLeft stop a c x z (report_by choice script)
-report_cut choice script stop a c x z front =
-    stops_by stop a a c x x z [] (body_under (choice script.topology) script) (last_line (choice script.topology) script) (nothing_put a x) front
+-- *Numbered behind rules*, the script is as whole
+pub whole_behind : {C : Type 0} (seen : C → Controller) (choice : Topology → Policy) (count : ℕ) (script : Script) (placed : List Placed) (refused told : Option Refused) (r : Replay C) → told ≡ option_map (numbered_behind count) refused
+    → IsWhole seen choice script placed refused r → IsWhole seen choice (behind_rules count script) placed told r
+whole_behind seen choice count script placed refused told r is whole = record {
+  topology = whole.topology;
+  event_lines = whole.event_lines;
+  refusal = ap (option_map (numbered_behind count)) whole.refusal ∙ sym is;
+  events = whole.events;
+  network = whole.network;
+}
 
-pub last_cut : (choice : Topology → Policy) (script : Script) (stop : Stop) (a b c : Writer) (x y z : Option (List ℕ)) → IsPut a b x y (body_under (choice script.topology) script)
-    → IsLeft stop b c y z (last_line (choice script.topology) script) → IsLeft stop a c x z (report_by choice script)
-last_cut choice script stop a b c x y z body front =
-    subst (IsLeft stop a c x z) (ap (λ xs. body_under (choice script.topology) script ++ xs) (append-nil (last_line (choice script.topology) script)))
-    (stops_by stop a b c x y z (body_under (choice script.topology) script) (last_line (choice script.topology) script) [] body front)
+-- *The script behind rules*: of its events the same is told
+module _ (choice : Topology → Policy) (lines : Lines) where
+  abbrev script : Script
+  script = script_behind_rules lines
+
+  abbrev placed : List Placed
+  placed = placed_of_lines (script_texts lines)
+
+  abbrev policy : Policy
+  policy = choice script.topology
+
+  -- what is told at last stands behind what was told before, and together they are the report
+  whole_report : body report_tale policy script placed ++ last_told report_tale policy script placed ≡ report_by choice script
+  whole_report =
+      by (script.event_lines == 0) (told_of report_tale policy script.topology placed).octets (end_of report_tale policy script)
+      ∙ account_is_report policy script placed (script_events string_says nothing_read (script_texts lines))
+    where
+      by : (b : Bool) (octets last : List ℕ) → (if b then [] else octets) ++ ((if b then octets else []) ++ last) ≡ octets ++ last
+      by true octets last = refl
+      by false octets last = refl
+
+  -- *The report*
+  pub report_put : (a b c : Writer) (x y z : Option (List ℕ)) → IsPut a b x y (body report_tale policy script placed) → IsPut b c y z (last_told report_tale policy script placed) → IsPut a c x z (report_by choice script)
+  report_put a b c x y z before last =
+      subst (IsPut a c x z) whole_report (put_then a b c x y z (body report_tale policy script placed) (last_told report_tale policy script placed) before last)
+
+  -- or a front of it
+  pub report_cut : (stop : Stop) (a c : Writer) (x z : Option (List ℕ)) → IsLeft stop a c x z (body report_tale policy script placed) → IsLeft stop a c x z (report_by choice script)
+  report_cut stop a c x z front =
+      subst (IsLeft stop a c x z) whole_report
+      (stops_by stop a a c x x z [] (body report_tale policy script placed) (last_told report_tale policy script placed) (nothing_put a x) front)
+
+  pub last_cut : (stop : Stop) (a b c : Writer) (x y z : Option (List ℕ)) → IsPut a b x y (body report_tale policy script placed) → IsLeft stop b c y z (last_told report_tale policy script placed)
+      → IsLeft stop a c x z (report_by choice script)
+  last_cut stop a b c x y z before front =
+      subst (IsLeft stop a c x z) (ap (λ xs. body report_tale policy script placed ++ xs) (append-nil (last_told report_tale policy script placed)) ∙ whole_report)
+      (stops_by stop a b c x y z (body report_tale policy script placed) (last_told report_tale policy script placed) [] before front)
 
 -- *Past the last line* there is none
 pub past_last : (lines : List (List ℕ)) (place : ℕ) → slice_get lines place ≡ None → length lines ≤ place
@@ -113,13 +160,3 @@ past_last (line ∷ lines) (suc place) none = omega (arith, past_last lines plac
 pub err_is : {A : Type 0} (result : Result A Stop) (stop : Stop) → IsErrAnd result (λ (s : Stop). s ≡ stop) → result ≡ Err stop
 err_is (Ok value) stop h = absurd h
 err_is (Err s) stop h = ap Err h
-
--- *Numbered behind rules*, the script is as whole
-pub whole_behind : {C : Type 0} (seen : C → Controller) (choice : Topology → Policy) (count : ℕ) (script : Script) (refused told : Option Refused) (r : Replay C) → told ≡ option_map (numbered_behind count) refused
-    → IsWhole seen choice script refused r → IsWhole seen choice (behind_rules count script) told r
-whole_behind seen choice count script refused told r is whole = record {
-  topology = whole.topology;
-  event_lines = whole.event_lines;
-  refusal = ap (option_map (numbered_behind count)) whole.refusal ∙ sym is;
-  network = whole.network;
-}

@@ -12,9 +12,10 @@ use document_text::Lines;
 use lab_io::{ReportWriter, Sink, write_all};
 use lab_text::Text;
 use network_replay::{PolicyChoice, Replay};
-use network_run::Stop;
+use network_run::{Stop, Told};
 use refusal_text::write_refused;
 use report_end::settle;
+use report_lines::ReportLines;
 use script_model::Refused;
 use std::alloc::Global;
 use world::{Meter, NodeController};
@@ -50,9 +51,11 @@ pub fn replay_lines<C: NodeController, N: PolicyChoice<C>, K: Sink>(
     ensures meter { OnOk result (meter.new ≡ meter_by (N.chosen choice.now) meter.old (script_behind_rules lines.now)) }
     ensures faults { K.faults sink.new ≡ count_after (is_failed result) (K.faults sink.old) }
 {
-    let mut writer = ReportWriter::open(alloc, ROOM)?;
+    let writer = ReportWriter::open(alloc, ROOM)?;
+    let teller = ReportLines::new(alloc);
+    let mut told = Told { teller, writer };
     let mut replay: Replay<C> = Replay::open(alloc)?;
-    let outcome = put_report(&mut replay, lines, choice, &mut writer, sink, meter);
+    let outcome = put_report(&mut replay, lines, choice, &mut told, sink, meter);
     replay.abandon();
-    settle(outcome, &mut writer, sink)
+    settle(outcome, &mut told.writer, sink)
 }

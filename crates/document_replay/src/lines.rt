@@ -5,13 +5,14 @@ ghost use Rattle.lab_io.specs.Fault.{count_after};
 ghost use Rattle.network_run.specs.Telling.{Puts, StaysWithin, is_failed};
 ghost use Rattle.network_replay.specs.Along.{IsBegun};
 ghost use Rattle.script_model.specs.Documents.{numbered_behind, script_texts};
-ghost use Rattle.document_replay.specs.Lines.{Comes, meter_by, report_by, script_behind_rules, script_of_lines};
+ghost use Rattle.document_replay.specs.Lines.{Comes, meter_by, placed_of_lines, report_by, script_behind_rules, script_of_lines};
 
 use document_text::Lines;
-use lab_io::{ReportWriter, Sink};
+use lab_io::Sink;
 use net_types::OutOfMemory;
 use network_replay::{PolicyChoice, Replay};
-use network_run::Stop;
+use network_run::{Stop, Told};
+use report_lines::ReportLines;
 use script_model::Refused;
 use std::alloc::AllocError;
 use world::{Meter, NodeController};
@@ -22,13 +23,13 @@ fn take_lines<C: NodeController, N: PolicyChoice<C>, K: Sink>(
     replay: &mut Replay<C>,
     lines: &Lines,
     choice: &N,
-    writer: &mut ReportWriter,
+    told: &mut Told<ReportLines>,
     sink: &mut K,
     meter: &mut Meter,
 ) -> Result<Option<Refused>, Stop>
     requires begun { IsBegun replay.old }
-    ensures comes { Comes C.seen (N.chosen choice.now) writer.old (K.written sink.old) meter.old (script_of_lines (script_texts lines.now)) result replay.new writer.new (K.written sink.new) meter.new }
-    ensures room { StaysWithin writer.old writer.new }
+    ensures comes { Comes C.seen (N.chosen choice.now) told.old.writer (K.written sink.old) meter.old (script_of_lines (script_texts lines.now)) (placed_of_lines (script_texts lines.now)) result replay.new told.new.writer (K.written sink.new) meter.new }
+    ensures room { StaysWithin told.old.writer told.new.writer }
     ensures faults { K.faults sink.new ≡ count_after (is_failed result) (K.faults sink.old) }
 {
     for place in 0..lines.script_len() {
@@ -38,7 +39,7 @@ fn take_lines<C: NodeController, N: PolicyChoice<C>, K: Sink>(
         if !replay.has_room(text) {
             return Err(Stop::OutOfMemory(OutOfMemory::from(AllocError)));
         }
-        if let Some(refused) = replay.string(text, choice, writer, sink, meter)? {
+        if let Some(refused) = replay.string(text, choice, told, sink, meter)? {
             return Ok(Some(refused));
         }
     }
@@ -65,18 +66,18 @@ pub fn put_report<C: NodeController, N: PolicyChoice<C>, K: Sink>(
     replay: &mut Replay<C>,
     lines: &Lines,
     choice: &N,
-    writer: &mut ReportWriter,
+    told: &mut Told<ReportLines>,
     sink: &mut K,
     meter: &mut Meter,
 ) -> Result<Option<Refused>, Stop>
     requires begun { IsBegun replay.old }
-    ensures put { Puts result writer.old writer.new (K.written sink.old) (K.written sink.new) (report_by (N.chosen choice.now) (script_behind_rules lines.now)) }
+    ensures put { Puts result told.old.writer told.new.writer (K.written sink.old) (K.written sink.new) (report_by (N.chosen choice.now) (script_behind_rules lines.now)) }
     ensures refused { IfOk result (λ refused. (script_behind_rules lines.now).refused ≡ refused) }
     ensures meter { OnOk result (meter.new ≡ meter_by (N.chosen choice.now) meter.old (script_behind_rules lines.now)) }
     ensures faults { K.faults sink.new ≡ count_after (is_failed result) (K.faults sink.old) }
 {
-    let found = take_lines(replay, lines, choice, writer, sink, meter)?;
+    let found = take_lines(replay, lines, choice, told, sink, meter)?;
     let refused = numbered_behind(lines.rule_len(), found)?;
-    replay.end(refused, choice, writer, sink)?;
+    replay.end(refused, choice, told, sink)?;
     Ok(refused)
 }

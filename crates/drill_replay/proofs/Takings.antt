@@ -1,71 +1,99 @@
 -- the lines of a drill are taken one after another
 
-use Rattle.std.proofs.Common.{◌≡◌, ◌∙◌, ℕ, List, [], ◌∷◌, ◌++◌, append_assoc, append-nil, Bool, true, false, None, Some, Ok, refl, sym, ap, subst}
+use Rattle.std.proofs.Common.{◌≡◌, ◌∙◌, ℕ, ◌==◌, Option, arith, if◌then◌else◌, List, [], ◌∷◌, ◌++◌, append_assoc, append-nil, Bool, true, false, None, Some, Result, Ok, Err, refl, sym, ap, subst}
+use Rattle.std.proofs.lemmas.Bool.Decides.{nat_tests}
 use Rattle.net_types.specs.declared.memory.OutOfMemory.{OutOfMemory}
-use Rattle.lab_io.specs.Report.{Writer}
+use Rattle.lab_io.specs.Report.{IsPut, Writer}
 use Rattle.port_model.specs.Setup.{Policy}
 use Rattle.world_model.specs.Controller.{Controller}
 use Rattle.world_model.specs.Topology.{Topology}
 use Rattle.script_model.specs.declared.refusal.Refused.{Refused}
 use Rattle.script_model.specs.Drill.{drill_script}
 use Rattle.script_model.specs.Reading.{line_says}
+use Rattle.script_model.specs.Reports.{last_line}
 use Rattle.script_model.specs.Script.{Script, script_from}
 use Rattle.script_model.specs.State.{nothing_read}
+use Rattle.telling_model.specs.Placed.{Placed, events_in, placed_from}
+use Rattle.telling_model.specs.Tale.{end_of, told_of}
 use Rattle.world.specs.declared.counts.Meter.{Meter}
+use Rattle.world.specs.declared.world.World.{World as Network}
 use Rattle.network_replay.specs.declared.replay.Replay.{Replay}
-use Rattle.network_replay.specs.Along.{GoesOn, IsAlong, IsAtLast, IsBegun, IsGoing}
-use Rattle.network_replay.proofs.Course.{along_ends, along_first}
+use Rattle.network_run.specs.declared.stop.Stop.{Stop}
+use Rattle.network_run.specs.declared.told.Told.{Told}
+use Rattle.network_run.specs.Telling.{IsLeft, Puts}
+use Rattle.network_replay.specs.Along.{GoesOn, HasNetwork, IsAlong, IsAtLast, IsBegun, IsGoing, IsWhole, last_told}
+use Rattle.network_replay.proofs.Onward.{along_ends, along_first}
 use Rattle.network_replay.proofs.Taking.{lines_are_read}
 use Rattle.drill_script.specs.Places.{drill_lines}
 use Rattle.drill_script.specs.Giving.{Gives}
+use Rattle.report_lines.specs.declared.report.ReportLines.{ReportLines}
+use Rattle.report_lines.specs.Report.{report_tale}
+use Rattle.told_scripts.proofs.Reports.{end_is_last, nothing_told}
+use Rattle.drill_replay.specs.Drill.{meter_by}
 
 drill_is : (drill : ℕ) → script_from line_says nothing_read (drill_lines drill) ≡ drill_script drill
 unfolding drill_lines drill_script
 drill_is drill = refl
 
+-- what one who tells a report knows
+abbrev pub known : ReportLines → Unit {0}
+known teller = tt
+
 module _ {C : Type 0} (seen : C → Controller) (choice : Topology → Policy) (drill : ℕ) (before : Meter) where
   -- *Some lines were taken*, and these are left
-  pub record IsTaking (left : List (List ℕ)) (r : Replay C) (writer : Writer) (meter : Meter) : Type 0 where
+  pub record IsTaking (left : List (List ℕ)) (r : Replay C) (told : Told ReportLines) (meter : Meter) : Type 0 where
     pub first : Writer
     pub taken : List (List ℕ)
     pub split : taken ++ left ≡ drill_lines drill
-    pub along : IsAlong seen choice line_says first None before taken r writer None meter
+    pub along : IsAlong seen known report_tale choice line_says first None before taken r told None meter
 
-  pub begins : (left : List (List ℕ)) → left ≡ drill_lines drill → (r : Replay C) → IsBegun r → (writer : Writer) → IsTaking left r writer before
-  begins left all r begun writer = record {
-    first = writer;
+  pub begins : (left : List (List ℕ)) → left ≡ drill_lines drill → (r : Replay C) → IsBegun r → (told : Told ReportLines) → IsTaking left r told before
+  begins left all r begun told = record {
+    first = told.writer;
     taken = [];
     split = all;
-    along = along_first seen choice line_says writer None before r begun.state begun.notes begun.world;
+    along = along_first report_tale choice seen known line_says told None before r begun.state begun.notes begun.world;
   }
 
-  pub is_going : (left : List (List ℕ)) (r : Replay C) (writer : Writer) (meter : Meter) → IsTaking left r writer meter → IsGoing seen choice r
-  is_going left r writer meter t = record { events = t.along.events; network = t.along.network }
+  pub is_going : (left : List (List ℕ)) (r : Replay C) (told : Told ReportLines) (meter : Meter) → IsTaking left r told meter → IsGoing seen choice r
+  is_going left r told meter t = record { events = events_in t.along.placed; network = t.along.network }
 
   -- a line was taken
-  pub goes_on : (line : List ℕ) (left : List (List ℕ)) (old new : Replay C) (writer later : Writer) (meter after : Meter) (t : IsTaking (line ∷ left) old writer meter)
-      → GoesOn seen choice line_says t.first None before t.taken line (Ok None) new later None after → IsTaking left new later after
-  goes_on line left old new writer later meter after t along = record {
+  pub goes_on : (line : List ℕ) (left : List (List ℕ)) (old new : Replay C) (told later : Told ReportLines) (meter after : Meter) (t : IsTaking (line ∷ left) old told meter)
+      → GoesOn seen known report_tale choice line_says t.first None before t.taken line (Ok None) new later None after → IsTaking left new later after
+  goes_on line left old new told later meter after t along = record {
     first = t.first;
     taken = t.taken ++ line ∷ [];
     split = append_assoc t.taken (line ∷ []) left ∙ t.split;
     along = along;
   }
 
+  -- *The lines have ended*: the script has run, and the meter is at the last of its events
+  pub record HasEnded (refused : Option Refused) (r : Replay C) (meter : Meter) : Type 0 where
+    pub placed : List Placed
+    pub whole : IsWhole seen choice (drill_script drill) placed refused r
+    pub meter_is : meter ≡ meter_by choice before (drill_script drill)
+
+  ended : (first : Writer) (script : Script) (placed : List Placed) (refused : Option Refused) (r : Replay C) (writer : Writer) (meter : Meter) → script ≡ drill_script drill
+      → IsAtLast seen report_tale choice first None before script placed refused r writer None meter → HasEnded refused r meter
+  ended first script placed refused r writer meter is last = record {
+    placed = placed;
+    whole = subst (λ (s : Script). IsWhole seen choice s placed refused r) is last.whole;
+    meter_is = subst (λ (s : Script). meter ≡ meter_by choice before s) is last.meter_is;
+  }
+
   -- one is refused
-  pub ends_refused : (line : List ℕ) (left : List (List ℕ)) (old new : Replay C) (writer later : Writer) (meter after : Meter) (refused : Refused) (t : IsTaking (line ∷ left) old writer meter)
-      → GoesOn seen choice line_says t.first None before t.taken line (Ok (Some refused)) new later None after
-      → IsAtLast seen choice t.first None before (drill_script drill) (Some refused) new later None after
-  ends_refused line left old new writer later meter after refused t last =
-      subst (λ (script : Script). IsAtLast seen choice t.first None before script (Some refused) new later None after)
-      (sym (last.same left) ∙ (ap (script_from line_says nothing_read) t.split ∙ drill_is drill)) last.last
+  pub ends_refused : (line : List ℕ) (left : List (List ℕ)) (old new : Replay C) (told later : Told ReportLines) (meter after : Meter) (refused : Refused) (t : IsTaking (line ∷ left) old told meter)
+      → GoesOn seen known report_tale choice line_says t.first None before t.taken line (Ok (Some refused)) new later None after → HasEnded (Some refused) new after
+  ends_refused line left old new told later meter after refused t last =
+      ended t.first last.script last.placed (Some refused) new later.writer after (sym (last.same left) ∙ (ap (script_from line_says nothing_read) t.split ∙ drill_is drill)) last.last
 
   -- none is left
-  pub ends : (r : Replay C) (writer : Writer) (meter : Meter) (t : IsTaking [] r writer meter) → IsAtLast seen choice t.first None before (drill_script drill) None r writer None meter
-  ends r writer meter t =
-      subst (λ (script : Script). IsAtLast seen choice t.first None before script None r writer None meter)
-      (ap (script_from line_says nothing_read) (sym (append-nil t.taken) ∙ t.split) ∙ drill_is drill)
-      (along_ends seen choice line_says lines_are_read t.first writer None None before meter t.taken r t.along)
+  pub ends : (left : List (List ℕ)) → left ≡ [] → (r : Replay C) (told : Told ReportLines) (meter : Meter) → IsTaking left r told meter → HasEnded None r meter
+  ends left none r told meter t =
+      let all : t.taken ≡ drill_lines drill = sym (append-nil t.taken) ∙ ap (λ (xs : List (List ℕ)). t.taken ++ xs) (sym none) ∙ t.split in
+      ended t.first (script_from line_says nothing_read t.taken) (placed_from line_says nothing_read t.taken) None r told.writer meter (ap (script_from line_says nothing_read) all ∙ drill_is drill)
+      (along_ends report_tale choice seen known line_says lines_are_read t.first told None None before meter t.taken r t.along)
 
 -- *What a reader of lines gave*: none where none is left, else the first of them
 pub none_left : (lines left : List (List ℕ)) (text longer : List ℕ) (given : Bool) → Gives {E = OutOfMemory} lines left text longer (Ok given) → given ≡ false → lines ≡ []
@@ -78,9 +106,35 @@ first_given [] left text longer shown given h e empty same = absurd (cc (h.0, e)
 first_given (line ∷ lines) left text longer shown given h e empty same =
     ap (λ (x : List (List ℕ)). line ∷ x) (sym h.1) ∙ ap (λ (x : List ℕ). x ∷ left) (sym (same ∙ (h.2 ∙ ap (λ (x : List ℕ). x ++ line) empty)))
 
-module _ {C : Type 0} (seen : C → Controller) (choice : Topology → Policy) (drill : ℕ) (before : Meter) where
-  pub ends_empty : (left : List (List ℕ)) → left ≡ [] → (r : Replay C) (writer : Writer) (meter : Meter) → IsTaking seen choice drill before left r writer meter
-      → (first : Writer) × IsAtLast seen choice first None before (drill_script drill) None r writer None meter
-  ends_empty left none r writer meter t =
-      let t' : IsTaking seen choice drill before [] r writer meter = subst (λ (x : List (List ℕ)). IsTaking seen choice drill before x r writer meter) none t in
-      (t'.first, ends seen choice drill before r writer meter t')
+-- *A script that is whole*: what is told at its end is its last line
+pub last_is : {C : Type 0} (seen : C → Controller) (choice : Topology → Policy) (script : Script) (placed : List Placed) (refused : Option Refused) (r : Replay C) → IsWhole seen choice script placed refused r
+    → last_told report_tale (choice script.topology) script placed ≡ last_line (choice script.topology) script
+last_is {C = C} seen choice script placed refused r whole = by (script.event_lines == 0) refl
+  where
+    none : script.event_lines ≡ 0 → script.events ≡ []
+    none e = at r.world whole.network
+      where
+        at : (world : Option (Network C)) → HasNetwork seen choice r.state r.notes world script.events → script.events ≡ []
+        at None h = h.events_are
+        at (Some n) h = absurd (omega (arith, h.0.event_lines, e, whole.event_lines))
+
+    by : (b : Bool) → script.event_lines == 0 ≡ b
+        → (if b then (told_of report_tale (choice script.topology) script.topology placed).octets else []) ++ end_of report_tale (choice script.topology) script ≡ last_line (choice script.topology) script
+    by true e =
+        ap (λ xs. xs ++ end_of report_tale (choice script.topology) script) (nothing_told (choice script.topology) script placed (sym whole.events) (none (grind (arith, nat_tests, e))))
+        ∙ end_is_last (choice script.topology) script
+    by false e = end_is_last (choice script.topology) script
+
+-- there is a network for what is told then
+pub whole_going : {C : Type 0} (seen : C → Controller) (choice : Topology → Policy) (script : Script) (placed : List Placed) (refused : Option Refused) (r : Replay C) → IsWhole seen choice script placed refused r → IsGoing seen choice r
+whole_going seen choice script placed refused r whole = record { events = script.events; network = whole.network }
+
+-- what was put at the end, whatever is handed on of how it ended
+module _ (ended : Result (Unit {0}) Stop) (outcome : Result (Option Refused) Stop) (a b : Writer) (x y : Option (List ℕ)) (octets last : List ℕ) (same : octets ≡ last) (put : Puts ended a b x y octets) where
+  pub put_ok : (value : Unit {0}) (refused : Option Refused) → ended ≡ Ok value → outcome ≡ Ok refused → Puts outcome a b x y last
+  put_ok value refused was is =
+      subst (λ (r : Result (Option Refused) Stop). Puts r a b x y last) (sym is) (subst (IsPut a b x y) same (subst (λ (r : Result (Unit {0}) Stop). Puts r a b x y octets) was put))
+
+  pub put_err : (stop : Stop) → ended ≡ Err stop → outcome ≡ Err stop → Puts outcome a b x y last
+  put_err stop was is =
+      subst (λ (r : Result (Option Refused) Stop). Puts r a b x y last) (sym is) (subst (IsLeft stop a b x y) same (subst (λ (r : Result (Unit {0}) Stop). Puts r a b x y octets) was put))

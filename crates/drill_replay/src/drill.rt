@@ -1,20 +1,22 @@
 //! From a drill to the last line of its report.
 
-ghost use Rattle.std.specs.Prelude.{◌≡◌, is_some, IfOk, OnOk};
+ghost use Rattle.std.specs.Prelude.{◌≡◌, List, is_some, IfOk, OnOk};
 ghost use Rattle.lab_io.specs.Fault.{count_after};
 ghost use Rattle.network_run.specs.Telling.{is_failed};
-ghost use Rattle.network_replay.specs.Along.{IsWhole};
+ghost use Rattle.network_replay.specs.Along.{IsGoing, IsWhole};
 ghost use Rattle.report_end.specs.Ending.{EndsAs};
 ghost use Rattle.script_model.specs.Drill.{drill_script};
 ghost use Rattle.script_model.specs.Reports.{last_line};
 ghost use Rattle.script_model.specs.Script.{Script};
+ghost use Rattle.telling_model.specs.Placed.{Placed};
 ghost use Rattle.drill_replay.specs.Drill.{meter_by, report_by};
 
 use crate::lines::take_lines;
 use lab_io::{ReportWriter, Sink};
 use network_replay::{PolicyChoice, Replay};
-use network_run::Stop;
+use network_run::{Stop, Told};
 use report_end::settle;
+use report_lines::ReportLines;
 use script_model::Refused;
 use std::alloc::Global;
 use world::{Meter, NodeController};
@@ -30,16 +32,19 @@ fn write_last<C: NodeController, N: PolicyChoice<C>, K: Sink>(
     choice: &N,
     sink: &mut K,
 ) -> Result<bool, Stop>
-    ensures written { (script : Script) → IsWhole C.seen (N.chosen choice.now) script refused replay.old → EndsAs result (K.written sink.old) (K.written sink.new) (last_line (N.chosen choice.now script.topology) script) }
+    requires going { IsGoing C.seen (N.chosen choice.now) replay.old }
+    ensures written { (script : Script) (placed : List Placed) → IsWhole C.seen (N.chosen choice.now) script placed refused replay.old → EndsAs result (K.written sink.old) (K.written sink.new) (last_line (N.chosen choice.now script.topology) script) }
     ensures refused { IfOk result (λ found. found ≡ is_some refused) }
     ensures faults { K.faults sink.new ≡ count_after (is_failed result) (K.faults sink.old) }
 {
-    let mut writer = ReportWriter::open(alloc, ROOM)?;
-    let outcome = match replay.end(refused, choice, &mut writer, sink) {
+    let writer = ReportWriter::open(alloc, ROOM)?;
+    let teller = ReportLines::new(alloc);
+    let mut told = Told { teller, writer };
+    let outcome = match replay.end(refused, choice, &mut told, sink) {
         Ok(()) => Ok(refused),
         Err(stop) => Err(stop),
     };
-    settle(outcome, &mut writer, sink)
+    settle(outcome, &mut told.writer, sink)
 }
 
 /// Replays the script of the drill with this number, and writes the last line of its report to `sink`.

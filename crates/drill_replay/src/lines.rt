@@ -1,9 +1,10 @@
 //! The lines of a drill, one by one.
 
-ghost use Rattle.std.specs.Prelude.{◌≡◌, false, IfOk, OnOk};
+ghost use Rattle.std.specs.Prelude.{◌≡◌, false, List, IfOk, OnOk};
 ghost use Rattle.network_run.specs.Telling.{is_failed};
 ghost use Rattle.network_replay.specs.Along.{IsBegun, IsWhole};
 ghost use Rattle.script_model.specs.Drill.{drill_script};
+ghost use Rattle.telling_model.specs.Placed.{Placed};
 ghost use Rattle.drill_replay.specs.Drill.{meter_by};
 
 use drill_script::DrillLines;
@@ -11,7 +12,8 @@ use lab_io::{ReportWriter, SureSink};
 use lab_text::Text;
 use net_types::OutOfMemory;
 use network_replay::{PolicyChoice, Replay};
-use network_run::Stop;
+use network_run::{Stop, Told};
+use report_lines::ReportLines;
 use script_model::Refused;
 use std::alloc::{AllocError, Global};
 use world::{Meter, NodeController};
@@ -29,12 +31,14 @@ pub fn take_lines<C: NodeController, N: PolicyChoice<C>>(
     meter: &mut Meter,
 ) -> Result<Option<Refused>, Stop>
     requires begun { IsBegun replay.old }
-    ensures whole { IfOk result (λ refused. IsWhole C.seen (N.chosen choice.now) (drill_script drill) refused replay.new) }
+    ensures whole { IfOk result (λ refused. (placed : List Placed) × IsWhole C.seen (N.chosen choice.now) (drill_script drill) placed refused replay.new) }
     ensures meter { OnOk result (meter.new ≡ meter_by (N.chosen choice.now) meter.old (drill_script drill)) }
     ensures memory { is_failed result ≡ false }
 {
     let mut nowhere = SureSink::new();
-    let mut writer = ReportWriter::open(alloc, ROOM)?;
+    let writer = ReportWriter::open(alloc, ROOM)?;
+    let teller = ReportLines::new(alloc);
+    let mut told = Told { teller, writer };
     let mut lines = DrillLines::new(drill);
     loop {
         let mut line = Text::new(alloc);
@@ -45,7 +49,7 @@ pub fn take_lines<C: NodeController, N: PolicyChoice<C>>(
         if !replay.has_room(text) {
             return Err(Stop::OutOfMemory(OutOfMemory::from(AllocError)));
         }
-        if let Some(refused) = replay.line(text, choice, &mut writer, &mut nowhere, meter)? {
+        if let Some(refused) = replay.line(text, choice, &mut told, &mut nowhere, meter)? {
             return Ok(Some(refused));
         }
     }

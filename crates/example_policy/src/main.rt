@@ -2,7 +2,7 @@
 #![tactic(auto)]
 
 ghost use Rattle.std.specs.Prelude.{◌≡◌, IfOk, IfErr};
-ghost use Rattle.script_replay.specs.Report.{IsDone, IsLeft};
+ghost use Rattle.script_replay.specs.Report.{IsDone, IsLeft, body_by, report_by};
 ghost use Rattle.example_policy.specs.Throughput.{asks, throughput};
 
 use controller::Controller;
@@ -57,8 +57,8 @@ fn run<S: Source, K: Sink>(
     sink: &mut K,
     meter: &mut Meter,
 ) -> Result<bool, ReplayFault>
-    ensures done { IfOk result (IsDone (λ topology. throughput) (S.left source.old) (S.left source.new) (K.written sink.old) (K.written sink.new) meter.old meter.new) }
-    ensures left { IfErr result (λ fault. IsLeft fault (λ topology. throughput) (S.left source.old) (S.left source.new) (K.written sink.old) (K.written sink.new)) }
+    ensures done { IfOk result (IsDone (λ topology. throughput) (report_by (λ topology. throughput)) (S.left source.old) (S.left source.new) (K.written sink.old) (K.written sink.new) meter.old meter.new) }
+    ensures left { IfErr result (λ fault. IsLeft fault (report_by (λ topology. throughput)) (body_by (λ topology. throughput)) (S.left source.old) (S.left source.new) (K.written sink.old) (K.written sink.new)) }
 {
     replay::<Node, Throughput, S, K>(alloc, &Throughput, source, sink, meter)
 }

@@ -10,7 +10,7 @@ use router_port::RouterPort;
 use topology::Topology;
 
 /// The controller of a node whose ports all go by a policy that a script can name.
-pub(crate) type NamedController = Controller<RouterPort<NamedPolicy>>;
+pub type NamedController = Controller<RouterPort<NamedPolicy>>;
 
 /// The choice of the policy that the script names.
 #[derive(Clone, Copy, Debug, Drop)]

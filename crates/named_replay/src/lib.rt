@@ -1,10 +1,12 @@
 //! The replay of a script, of a document and of a drill in a network of IP switches, whose nodes all go
-//! by the policy that the script names, or by the rules of the document.
+//! by the policy that the script names, or by the rules of the document; and the run of a script, whatever
+//! is told of it.
 #![tactic(auto)]
 
 mod choice;
 mod replay;
 mod whole;
 
-pub use replay::replay_script;
+pub use choice::NamedController;
+pub use replay::{replay_script, tell_script};
 pub use whole::{replay_document, replay_drill};

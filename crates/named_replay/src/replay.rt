@@ -5,11 +5,12 @@ ghost use Rattle.lab_io.specs.Fault.{count_after};
 ghost use Rattle.script_model.specs.Script.{script_of};
 ghost use Rattle.world_model.specs.Topology.{policy_of};
 ghost use Rattle.script_replay.specs.Faults.{is_read_fault, is_write_fault};
-ghost use Rattle.script_replay.specs.Report.{IsDone, IsLeft};
+ghost use Rattle.script_replay.specs.Report.{IsDone, IsLeft, account_by, body_by, report_by, telling_by};
 
 use crate::choice::{ByName, NamedController};
 use lab_io::{Sink, Source};
-use script_replay::{ReplayFault, replay};
+use network_run::Teller;
+use script_replay::{ReplayFault, replay, tell};
 use std::alloc::Global;
 use world::Meter;
 
@@ -23,13 +24,33 @@ pub fn replay_script<S: Source, K: Sink>(
     sink: &mut K,
     meter: &mut Meter,
 ) -> Result<bool, ReplayFault>
-    ensures done { IfOk result (IsDone policy_of (S.left source.old) (S.left source.new) (K.written sink.old) (K.written sink.new) meter.old meter.new) }
+    ensures done { IfOk result (IsDone policy_of (report_by policy_of) (S.left source.old) (S.left source.new) (K.written sink.old) (K.written sink.new) meter.old meter.new) }
     ensures complete { IfOk result (λ refused. (input : List ℕ) → S.left source.old ≡ Some input → refused ≡ is_some (script_of input).refused) }
 
     // A fault is told, and what it leaves is a front of the report.
-    ensures left { IfErr result (λ fault. IsLeft fault policy_of (S.left source.old) (S.left source.new) (K.written sink.old) (K.written sink.new)) }
+    ensures left { IfErr result (λ fault. IsLeft fault (report_by policy_of) (body_by policy_of) (S.left source.old) (S.left source.new) (K.written sink.old) (K.written sink.new)) }
     ensures read { S.faults source.new ≡ count_after (is_read_fault result) (S.faults source.old) }
     ensures write { K.faults sink.new ≡ count_after (is_write_fault result) (K.faults sink.old) }
 {
     replay::<NamedController, ByName, S, K>(alloc, &ByName, source, sink, meter)
+}
+
+/// Runs the script that `source` gives, as [`replay_script`] does, and writes what `teller` tells of it to
+/// `sink` as it grows: a front of it where a fault ends the run.
+pub fn tell_script<T: Teller<NamedController> + Drop, S: Source, K: Sink>(
+    alloc: Global,
+    teller: T,
+    source: &mut S,
+    sink: &mut K,
+    meter: &mut Meter,
+) -> Result<bool, ReplayFault>
+    ensures done { IfOk result (IsDone policy_of (account_by T.tale policy_of) (S.left source.old) (S.left source.new) (K.written sink.old) (K.written sink.new) meter.old meter.new) }
+    ensures complete { IfOk result (λ refused. (input : List ℕ) → S.left source.old ≡ Some input → refused ≡ is_some (script_of input).refused) }
+
+    // A fault is told, and what it leaves is a front of the account.
+    ensures left { IfErr result (λ fault. IsLeft fault (account_by T.tale policy_of) (telling_by T.tale policy_of) (S.left source.old) (S.left source.new) (K.written sink.old) (K.written sink.new)) }
+    ensures read { S.faults source.new ≡ count_after (is_read_fault result) (S.faults source.old) }
+    ensures write { K.faults sink.new ≡ count_after (is_write_fault result) (K.faults sink.old) }
+{
+    tell::<NamedController, ByName, T, S, K>(alloc, &ByName, teller, source, sink, meter)
 }

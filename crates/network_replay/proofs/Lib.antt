@@ -3,4 +3,4 @@ pub mod Opening
 pub mod Taking
 pub mod Events
 pub mod Course
-pub mod LastLine
+pub mod Onward

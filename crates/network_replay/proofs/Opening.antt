@@ -17,7 +17,6 @@ use Rattle.world_model.specs.Run.{round, switch_tick_of, tick_of, tick_of_all}
 use Rattle.world_model.specs.Topology as topologies
 use Rattle.world_model.specs.Topology.{Topology, Node, new_node, policy_of, ranges_of}
 use Rattle.world_model.specs.World.{World, Site, empty_world, opened, opened_site, opens_each, with_opened}
-use Rattle.world.specs.Network.{no_notes}
 use Rattle.world.specs.Running.{AreRunning, IsRunning, IsRunningSite, numbered}
 use Rattle.script_model.specs.declared.line.Line.TheVariants.{TickAll, Run}
 use Rattle.script_model.specs.Script.{events_of, opened_of}
@@ -40,13 +39,6 @@ opened_runs policy t = (opens_run policy t empty_world 1 t.nodes refl tt).0
 
 pub opened_size : (policy : Policy) (t : Topology) → length (opened policy t).sites ≡ length t.nodes
 opened_size policy t = (let all = (opens_run policy t empty_world 1 t.nodes refl tt).1 in omega (arith, all))
-
-opens_notes : (policy : Policy) (t : Topology) (w : World) (place : ℕ) (nodes : List Node) → (opens_each policy t w place nodes).notes ≡ w.notes
-opens_notes policy t w place [] = refl
-opens_notes policy t w place (node ∷ nodes) = opens_notes policy t (with_opened policy t w place node) (suc place) nodes
-
-pub opened_notes : (policy : Policy) (t : Topology) → (opened policy t).notes ≡ no_notes
-opened_notes policy t = opens_notes policy t empty_world 1 t.nodes
 
 opens_events : (policy : Policy) (t : Topology) (w : World) (place : ℕ) (nodes : List Node) → (opens_each policy t w place nodes).events ≡ w.events
 opens_events policy t w place [] = refl

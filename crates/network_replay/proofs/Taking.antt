@@ -1,39 +1,30 @@
 -- lines are taken one after another
 
 use Rattle.std.proofs.Common.{◌≡◌, ℕ, ◌+◌, true, false, List, [], ◌∷◌, ◌++◌, append_assoc, append-nil, length, length-append, None, Some, Result, Ok, Err, refl, sym, ◌∙◌, ap, subst, arith}
-use Rattle.std.specs.Prelude.{is_ok}
+use Rattle.std.specs.Prelude.{◌<◌, is_ok}
 use Rattle.std.proofs.lemmas.Bool.Decides.{nat_tests}
-use Rattle.std.proofs.lemmas.Grind.{flat_map-append}
-use Rattle.std.proofs.lemmas.List.Concat.{flat_map-cons}
 use Rattle.std.proofs.lemmas.List.Sums.{sum_by-append, sum_by-cons}
-use Rattle.link_model.specs.declared.record.Record.{Record}
-use Rattle.port_model.specs.Setup.{Policy}
 use Rattle.world_model.specs.declared.event.Event.{Event}
 use Rattle.world_model.specs.declared.line.TopologyLine.{TopologyLine}
 use Rattle.world_model.specs.declared.line.TopologyLine.TheVariants as lines
-use Rattle.world_model.specs.Run.{next, records_of, worlds_from}
-use Rattle.world_model.specs.Topology.{Topology}
-use Rattle.world_model.specs.World.{World, opened}
 use Rattle.script_model.specs.declared.line.Line.{Line}
 use Rattle.script_model.specs.declared.line.Line.TheVariants.{Blank, Topology as TopologyIs, Event as EventComes, TickAll, Run}
 use Rattle.script_model.specs.declared.refusal.LineRefusal.{LineRefusal}
 use Rattle.script_model.specs.declared.refusal.Refused.TheVariants.{Line as LineIs}
 use Rattle.script_model.specs.Meaning.{is_late}
 use Rattle.script_model.specs.Reading.{line_says, state_after, string_says}
-use Rattle.script_model.specs.Records.{record_line}
-use Rattle.script_model.specs.Reports.{body_under, record_lines}
 use Rattle.script_model.specs.Sayable.{IsSayable}
 use Rattle.script_model.specs.Script.{Script, ended, events_of, led_by, number_of, script_by, script_from}
 use Rattle.script_model.specs.State.{ScriptState, nothing_read}
 use Rattle.script_text.proofs.Sayings.{line_is_sayable, string_is_sayable}
-use Rattle.network_run.specs.Telling.{told}
 use Rattle.script_text.specs.Counts.{counted_up_to}
+use Rattle.telling_model.specs.Placed.{Placed, events_in, placed_by, placed_events, placed_from}
+use Rattle.telling_model.proofs.Told.{events_append, events_placed}
 use Rattle.script_text.specs.Taking.{IsAfter, Takes}
 use Rattle.script_words.specs.declared.fault.ReadFault.{ReadFault}
 use Rattle.script_words.specs.declared.fault.ReadFault.TheVariants as read
 use Rattle.network_replay.specs.Along.{AreTaken, HasBegun, IsRead, IsReading}
 use Rattle.network_replay.specs.Lines.{HasCounted, has_events}
-use Rattle.network_replay.proofs.Opening.{opened_notes}
 
 -- *What is read can be said*
 pub lines_are_read : IsReading line_says
@@ -76,7 +67,7 @@ octets_more state line (EventComes event) = refl
 octets_more state line TickAll = refl
 octets_more state line (Run rounds) = refl
 
-lines_more : (state : ScriptState) (line : List ℕ) (said : Line) → (state_after state line (Ok said)).lines ≡ state.lines + 1
+pub lines_more : (state : ScriptState) (line : List ℕ) (said : Line) → (state_after state line (Ok said)).lines ≡ state.lines + 1
 lines_more state line Blank = refl
 lines_more state line (TopologyIs topology) = refl
 lines_more state line (EventComes event) = refl
@@ -87,67 +78,79 @@ pub has_counted : (old new later : ScriptState) (line : List ℕ) (read : Result
 has_counted old new later line (Ok said) after same is = subst (λ (s : ScriptState). HasCounted old line s) (sym (same ∙ after)) (octets_more old line said, lines_more old line said)
 has_counted old new later line (Err fault) after same is = absurd (cc is)
 
+pub events_more : (placed : List Placed) (number : ℕ) (events : List Event) → events_in (placed ++ placed_events number events) ≡ events_in placed ++ events
+events_more placed number events = events_append placed (placed_events number events) ∙ ap (λ es. events_in placed ++ es) (events_placed number events)
+
 led_twice : (some others : List Event) (script : Script) → led_by some (led_by others script) ≡ led_by (some ++ others) script
 led_twice some others script = ap (λ (events : List Event). record script { events = events }) (sym (append_assoc some others script.events))
 
 module _ (says : ScriptState → List ℕ → Result Line LineRefusal) where
   pub taken_first : AreTaken says [] nothing_read []
-  taken_first = record { onward = λ others. refl; octets = refl; count = refl }
+  taken_first = record { onward = λ others. refl; placed_onward = λ others. refl; octets = refl; count = refl }
 
   -- a line that is said
-  pub onward_said : (lines : List (List ℕ)) (state : ScriptState) (events : List Event) (line : List ℕ) (said : Line) (others : List (List ℕ)) → AreTaken says lines state events → says state line ≡ Ok said
-      → script_from says nothing_read (lines ++ line ∷ others) ≡ led_by (events ++ events_of state.topology said) (script_from says (state_after state line (Ok said)) others)
-  onward_said lines state events line said others a e =
+  pub onward_said : (lines : List (List ℕ)) (state : ScriptState) (placed : List Placed) (line : List ℕ) (said : Line) (others : List (List ℕ)) → AreTaken says lines state placed → says state line ≡ Ok said
+      → script_from says nothing_read (lines ++ line ∷ others)
+      ≡ led_by (events_in (placed ++ placed_events (number_of state) (events_of state.topology said))) (script_from says (state_after state line (Ok said)) others)
+  onward_said lines state placed line said others a e =
+      let next : Script = script_from says (state_after state line (Ok said)) others in
       a.onward (line ∷ others)
-      ∙ ap (λ (r : Result Line LineRefusal). led_by events (script_by state line (λ next. script_from says next others) r)) e
-      ∙ led_twice events (events_of state.topology said) (script_from says (state_after state line (Ok said)) others)
+      ∙ ap (λ (r : Result Line LineRefusal). led_by (events_in placed) (script_by state line (λ next. script_from says next others) r)) e
+      ∙ led_twice (events_in placed) (events_of state.topology said) next
+      ∙ ap (λ (es : List Event). led_by es next) (sym (events_more placed (number_of state) (events_of state.topology said)))
 
-  pub taken_next : (lines : List (List ℕ)) (state now : ScriptState) (events : List Event) (line : List ℕ) (said : Line) → AreTaken says lines state events → says state line ≡ Ok said
-      → now ≡ state_after state line (Ok said) → AreTaken says (lines ++ line ∷ []) now (events ++ events_of state.topology said)
-  taken_next lines state now events line said a e is = subst (λ (s : ScriptState). AreTaken says (lines ++ line ∷ []) s (events ++ events_of state.topology said)) (sym is) (record {
-    onward = λ others. ap (script_from says nothing_read) (append_assoc lines (line ∷ []) others) ∙ onward_said lines state events line said others a e;
-    octets = octets_more state line said ∙ omega (arith, a.octets, sum_by-append length lines (line ∷ []), sum_by-cons length line []);
-    count = lines_more state line said ∙ omega (arith, a.count, length-append lines (line ∷ []));
-  })
+  pub placed_said : (lines : List (List ℕ)) (state : ScriptState) (placed : List Placed) (line : List ℕ) (said : Line) (others : List (List ℕ)) → AreTaken says lines state placed → says state line ≡ Ok said
+      → placed_from says nothing_read (lines ++ line ∷ others)
+      ≡ (placed ++ placed_events (number_of state) (events_of state.topology said)) ++ placed_from says (state_after state line (Ok said)) others
+  placed_said lines state placed line said others a e =
+      a.placed_onward (line ∷ others)
+      ∙ ap (λ (r : Result Line LineRefusal). placed ++ placed_by state line (λ next. placed_from says next others) r) e
+      ∙ sym (append_assoc placed (placed_events (number_of state) (events_of state.topology said)) (placed_from says (state_after state line (Ok said)) others))
+
+  pub taken_next : (lines : List (List ℕ)) (state now : ScriptState) (placed : List Placed) (line : List ℕ) (said : Line) → AreTaken says lines state placed → says state line ≡ Ok said
+      → now ≡ state_after state line (Ok said) → AreTaken says (lines ++ line ∷ []) now (placed ++ placed_events (number_of state) (events_of state.topology said))
+  taken_next lines state now placed line said a e is =
+      let more : List Placed = placed_events (number_of state) (events_of state.topology said) in
+      subst (λ (s : ScriptState). AreTaken says (lines ++ line ∷ []) s (placed ++ more)) (sym is) (record {
+        onward = λ others. ap (script_from says nothing_read) (append_assoc lines (line ∷ []) others) ∙ onward_said lines state placed line said others a e;
+        placed_onward = λ others. ap (placed_from says nothing_read) (append_assoc lines (line ∷ []) others) ∙ placed_said lines state placed line said others a e;
+        octets = octets_more state line said ∙ omega (arith, a.octets, sum_by-append length lines (line ∷ []), sum_by-cons length line []);
+        count = lines_more state line said ∙ omega (arith, a.count, length-append lines (line ∷ []));
+      })
 
   -- a line that is refused, and the end
-  pub onward_refused : (lines : List (List ℕ)) (state : ScriptState) (events : List Event) (line : List ℕ) (name : LineRefusal) (others : List (List ℕ)) → AreTaken says lines state events → says state line ≡ Err name
-      → script_from says nothing_read (lines ++ line ∷ others) ≡ led_by events (ended state (Some (LineIs (number_of state) name)))
-  onward_refused lines state events line name others a e =
-      a.onward (line ∷ others) ∙ ap (λ (r : Result Line LineRefusal). led_by events (script_by state line (λ next. script_from says next others) r)) e
+  pub onward_refused : (lines : List (List ℕ)) (state : ScriptState) (placed : List Placed) (line : List ℕ) (name : LineRefusal) (others : List (List ℕ)) → AreTaken says lines state placed → says state line ≡ Err name
+      → script_from says nothing_read (lines ++ line ∷ others) ≡ led_by (events_in placed) (ended state (Some (LineIs (number_of state) name)))
+  onward_refused lines state placed line name others a e =
+      a.onward (line ∷ others) ∙ ap (λ (r : Result Line LineRefusal). led_by (events_in placed) (script_by state line (λ next. script_from says next others) r)) e
 
-  pub onward_end : (lines : List (List ℕ)) (state : ScriptState) (events : List Event) → AreTaken says lines state events → script_from says nothing_read lines ≡ led_by events (ended state None)
-  onward_end lines state events a = ap (script_from says nothing_read) (sym (append-nil lines)) ∙ a.onward []
+  pub placed_refused : (lines : List (List ℕ)) (state : ScriptState) (placed : List Placed) (line : List ℕ) (name : LineRefusal) (others : List (List ℕ)) → AreTaken says lines state placed → says state line ≡ Err name
+      → placed_from says nothing_read (lines ++ line ∷ others) ≡ placed
+  placed_refused lines state placed line name others a e =
+      a.placed_onward (line ∷ others) ∙ ap (λ (r : Result Line LineRefusal). placed ++ placed_by state line (λ next. placed_from says next others) r) e ∙ append-nil placed
 
-  pub stays : IsReading says → (state : ScriptState) (others : List (List ℕ)) → HasBegun state → (script_from says state others).topology ≡ state.topology
-  stays reading state [] begun = refl
+  pub onward_end : (lines : List (List ℕ)) (state : ScriptState) (placed : List Placed) → AreTaken says lines state placed → script_from says nothing_read lines ≡ led_by (events_in placed) (ended state None)
+  onward_end lines state placed a = ap (script_from says nothing_read) (sym (append-nil lines)) ∙ a.onward []
+
+  pub placed_end : (lines : List (List ℕ)) (state : ScriptState) (placed : List Placed) → AreTaken says lines state placed → placed_from says nothing_read lines ≡ placed
+  placed_end lines state placed a = ap (placed_from says nothing_read) (sym (append-nil lines)) ∙ a.placed_onward [] ∙ append-nil placed
+
+  -- behind the first line of events the topology stays, and there are lines of events
+  abbrev Stays : ScriptState → Script → Type 0
+  Stays state script = (script.topology ≡ state.topology) × (0 < script.event_lines)
+
+  pub stays : IsReading says → (state : ScriptState) (others : List (List ℕ)) → HasBegun state → Stays state (script_from says state others)
+  stays reading state [] begun = (refl, begun.event_lines)
   stays reading state (line ∷ others) begun = by (says state line) refl (λ next begun. stays reading next others begun)
     where
       by : (said : Result Line LineRefusal) → says state line ≡ said
-          → ((next : ScriptState) → HasBegun next → (script_from says next others).topology ≡ next.topology)
-          → (script_by state line (λ next. script_from says next others) said).topology ≡ state.topology
-      by (Err name) e onward = refl
+          → ((next : ScriptState) → HasBegun next → Stays next (script_from says next others))
+          → Stays state (script_by state line (λ next. script_from says next others) said)
+      by (Err name) e onward = (refl, begun.event_lines)
       by (Ok said) e onward =
           let kept = begun_stays state line said begun (reading.sayable state line said e) in
-          onward (state_after state line (Ok said)) kept.0 ∙ kept.1
-
--- *The lines of a script's records* are those of its events, one after another
-lines_both : (t : Topology) (xs ys : List Record) → record_lines t (xs ++ ys) ≡ record_lines t xs ++ record_lines t ys
-lines_both t xs ys = flat_map-append (record_line t) xs ys
-
-records_told : (t : Topology) (w : World) (events : List Event) → record_lines t (records_of (worlds_from t w events)) ≡ record_lines t w.notes.records ++ told t w events
-records_told t w [] =
-    ap (record_lines t) (flat_map-cons (λ (v : World). v.notes.records) w []) ∙ lines_both t w.notes.records []
-records_told t w (event ∷ events) =
-    ap (record_lines t) (flat_map-cons (λ (v : World). v.notes.records) w (worlds_from t (next t w event) events))
-    ∙ lines_both t w.notes.records (records_of (worlds_from t (next t w event) events))
-    ∙ ap (λ xs. record_lines t w.notes.records ++ xs) (records_told t (next t w event) events)
-
-pub body_told : (policy : Policy) (script : Script) → body_under policy script ≡ told script.topology (opened policy script.topology) script.events
-body_told policy script =
-    let w : World = opened policy script.topology in
-    records_told script.topology w script.events
-    ∙ ap (λ (records : List Record). record_lines script.topology records ++ told script.topology w script.events) (ap (λ notes. notes.records) (opened_notes policy script.topology))
+          let behind = onward (state_after state line (Ok said)) kept.0 in
+          (behind.0 ∙ kept.1, behind.1)
 
 -- *A line that is read* is what the definition says
 pub is_read : (says : ScriptState → List ℕ → Result Line LineRefusal) (old now : ScriptState) (line : List ℕ) (result : Result Line ReadFault) → Takes (counted_up_to old line) (says old line) now result → IsAfter old line now result

@@ -1,6 +1,6 @@
 -- What a replay has come to behind some lines of its script
 
-use Rattle.std.specs.Prelude.{◌≡◌, ℕ, ◌+◌, ◌*◌, ◌<◌, ◌≤◌, true, List, [], ◌∷◌, ◌++◌, length, map, Option, None, Some, Result, Ok, Err, OnOk}
+use Rattle.std.specs.Prelude.{◌≡◌, ℕ, ◌+◌, ◌*◌, ◌<◌, ◌≤◌, ◌==◌, true, List, [], ◌∷◌, ◌++◌, length, map, Option, None, Some, Result, Ok, Err, OnOk, if◌then◌else◌}
 use Rattle.std.specs.List.{sum_by}
 use Rattle.link_model.specs.Notes.{Journal}
 use Rattle.lab_io.specs.Report.{IsPut, Writer}
@@ -14,25 +14,28 @@ use Rattle.world_model.specs.World.{Site, World, opened}
 use Rattle.script_model.specs.declared.line.Line.{Line}
 use Rattle.script_model.specs.declared.refusal.LineRefusal.{LineRefusal}
 use Rattle.script_model.specs.declared.refusal.Refused.{Refused}
-use Rattle.script_model.specs.Reports.{body_under}
 use Rattle.script_model.specs.Sayable.{IsSayable}
 use Rattle.script_model.specs.Script.{Script, events_of, led_by, number_of, script_from}
 use Rattle.script_model.specs.Reading.{state_after}
 use Rattle.script_model.specs.State.{ScriptState, nothing_read, opening_tables}
 use Rattle.script_words.specs.declared.fault.ReadFault.{ReadFault}
 use Rattle.script_words.specs.declared.fault.ReadFault.TheVariants as read
+use Rattle.telling_model.specs.Placed.{Placed, events_in, placed_events, placed_from}
+use Rattle.telling_model.specs.Tale.{Tale, body, end_of, told_of}
 use Rattle.world.specs.declared.counts.Meter.{Meter}
 use Rattle.world.specs.declared.world.World.{World as Network}
 use Rattle.world.specs.Network.{no_notes, sites_of, world_of}
 use Rattle.world.specs.Running.{Runs}
 use Rattle.network_run.specs.declared.stop.Stop.{Stop}
-use Rattle.network_run.specs.Telling.{IsLeft, Puts, meter_behind, told}
+use Rattle.network_run.specs.declared.told.Told.{Told}
+use Rattle.network_run.specs.Telling.{IsLeft, Puts, meter_behind}
 use Rattle.network_replay.specs.declared.replay.Replay.{Replay}
 
 -- *Lines were taken*, none of them refused: whatever lines follow, the script begins with these events, and goes on
 -- from this state
-pub record AreTaken (says : ScriptState → List ℕ → Result Line LineRefusal) (lines : List (List ℕ)) (state : ScriptState) (events : List Event) : Type 0 where
-  pub onward : (others : List (List ℕ)) → script_from says nothing_read (lines ++ others) ≡ led_by events (script_from says state others)
+pub record AreTaken (says : ScriptState → List ℕ → Result Line LineRefusal) (lines : List (List ℕ)) (state : ScriptState) (placed : List Placed) : Type 0 where
+  pub onward : (others : List (List ℕ)) → script_from says nothing_read (lines ++ others) ≡ led_by (events_in placed) (script_from says state others)
+  pub placed_onward : (others : List (List ℕ)) → placed_from says nothing_read (lines ++ others) ≡ placed ++ placed_from says state others
   pub octets : state.octets ≡ sum_by length lines
   pub count : state.lines ≡ length lines
 
@@ -66,15 +69,26 @@ pub record IsGoing {C : Type 0} (seen : C → Controller) (choice : Topology →
   pub events : List Event
   pub network : HasNetwork seen choice r.state r.notes r.world events
 
--- *Behind these lines*: what was put is the lines of the records of their events, and the meter is at the last of them.
--- The writer and the meter were these at the start, and the sink had taken these octets
-pub record IsAlong {C : Type 0} (seen : C → Controller) (choice : Topology → Policy) (says : ScriptState → List ℕ → Result Line LineRefusal) (first : Writer) (start : Option (List ℕ)) (before : Meter)
-    (lines : List (List ℕ)) (r : Replay C) (writer : Writer) (written : Option (List ℕ)) (meter : Meter) : Type 0 where
-  pub events : List Event
-  pub taken : AreTaken says lines r.state events
-  pub network : HasNetwork seen choice r.state r.notes r.world events
-  pub put : IsPut first writer start written (told r.state.topology (opened (choice r.state.topology) r.state.topology) events)
-  pub meter_is : meter ≡ meter_behind before r.state.topology (opened (choice r.state.topology) r.state.topology) events
+-- *What was told behind some lines*: nothing where none of them was of events
+abbrev pub told_by : {S : Type 0} → Tale S → (Topology → Policy) → ScriptState → List Placed → List ℕ
+told_by tale choice state placed =
+    if state.event_lines == 0 then [] else (told_of tale (choice state.topology) state.topology placed).octets
+
+-- and what its teller knows
+abbrev pub Knows : {S : Type 0} → Tale S → (Topology → Policy) → ScriptState → List Placed → S → Type 0
+Knows tale choice state placed known =
+    0 < state.event_lines → known ≡ (told_of tale (choice state.topology) state.topology placed).state
+
+-- *Behind these lines*: what was put is what is told of their events, and the meter is at the last of them. The writer
+-- and the meter were these at the start, and the sink had taken these octets
+pub record IsAlong {C T S : Type 0} (seen : C → Controller) (known : T → S) (tale : Tale S) (choice : Topology → Policy) (says : ScriptState → List ℕ → Result Line LineRefusal) (first : Writer) (start : Option (List ℕ)) (before : Meter)
+    (lines : List (List ℕ)) (r : Replay C) (told : Told T) (written : Option (List ℕ)) (meter : Meter) : Type 0 where
+  pub placed : List Placed
+  pub taken : AreTaken says lines r.state placed
+  pub network : HasNetwork seen choice r.state r.notes r.world (events_in placed)
+  pub put : IsPut first told.writer start written (told_by tale choice r.state placed)
+  pub knows : Knows tale choice r.state placed (known told.teller)
+  pub meter_is : meter ≡ meter_behind before r.state.topology (opened (choice r.state.topology) r.state.topology) (events_in placed)
 
 pub record IsBegun {C : Type 0} (r : Replay C) : Type 0 where
   pub state : r.state ≡ nothing_read
@@ -99,41 +113,67 @@ pub record IsReady {C : Type 0} (seen : C → Controller) (choice : Topology →
   pub after : r.state ≡ state_after state line (Ok said)
   pub sayable : IsSayable state said
 
--- and were
-pub record HasStepped {C : Type 0} (seen : C → Controller) (choice : Topology → Policy) (state : ScriptState) (said : Line) (events : List Event) (result : Result (Unit {0}) Stop)
-    (old new : Replay C) (writer later : Writer) (written then : Option (List ℕ)) (meter after : Meter) : Type 0 where
-  pub network : OnOk result (HasNetwork seen choice old.state new.notes new.world (events ++ events_of state.topology said))
-  pub put : Puts result writer later written then (told old.state.topology (world_behind choice old.state.topology events) (events_of state.topology said))
-  pub meter_is : OnOk result (after ≡ meter_behind meter old.state.topology (world_behind choice old.state.topology events) (events_of state.topology said))
+-- or nothing is said, and there is a network for what ends the script
+abbrev pub CanTake : {C : Type 0} → (C → Controller) → (Topology → Policy) → Replay C → Result Line ReadFault → Type 0
+CanTake seen choice r (Ok said) = IsReady seen choice r said
+CanTake seen choice r (Err (read.Refused name)) = IsGoing seen choice r
+CanTake seen choice r (Err (read.OutOfMemory error)) = Unit {0}
 
--- *A script has run*, up to its end or to what is refused in it; its last line is still to come
-pub record IsWhole {C : Type 0} (seen : C → Controller) (choice : Topology → Policy) (script : Script) (refused : Option Refused) (r : Replay C) : Type 0 where
+-- *What is told as the network is taken out*: of its opening, where it wasn't open yet
+abbrev pub opening_told : {C S : Type 0} → Tale S → (Topology → Policy) → Topology → Option (Network C) → List ℕ
+opening_told tale choice topology None = (tale.opens topology (opened (choice topology) topology)).octets
+opening_told tale choice topology (Some n) = []
+
+abbrev pub opening_known : {C S : Type 0} → Tale S → (Topology → Policy) → Topology → Option (Network C) → S → S
+opening_known tale choice topology None known = (tale.opens topology (opened (choice topology) topology)).state
+opening_known tale choice topology (Some n) known = known
+
+-- *The events of a line were stepped*: what was put wrote goes on from what was told before
+pub record HasStepped {C T S : Type 0} (seen : C → Controller) (known : T → S) (tale : Tale S) (choice : Topology → Policy) (state : ScriptState) (said : Line) (placed : List Placed) (result : Result (Unit {0}) Stop)
+    (old new : Replay C) (told later : Told T) (written wrote : Option (List ℕ)) (meter after : Meter) : Type 0 where
+  pub network : OnOk result (HasNetwork seen choice old.state new.notes new.world (events_in placed ++ events_of state.topology said))
+  pub octets : List ℕ
+  pub onward : told_by tale choice state placed ++ octets ≡ told_by tale choice old.state (placed ++ placed_events (number_of state) (events_of state.topology said))
+  pub put : Puts result told.writer later.writer written wrote octets
+  pub knows : OnOk result (Knows tale choice old.state (placed ++ placed_events (number_of state) (events_of state.topology said)) (known later.teller))
+  pub meter_is : OnOk result (after ≡ meter_behind meter old.state.topology (world_behind choice old.state.topology (events_in placed)) (events_of state.topology said))
+
+-- *A script has run*, up to its end or to what is refused in it; its end is still to be told. These are its events
+pub record IsWhole {C : Type 0} (seen : C → Controller) (choice : Topology → Policy) (script : Script) (placed : List Placed) (refused : Option Refused) (r : Replay C) : Type 0 where
   pub topology : script.topology ≡ r.state.topology
   pub event_lines : script.event_lines ≡ r.state.event_lines
   pub refusal : script.refused ≡ refused
+  pub events : script.events ≡ events_in placed
   pub network : HasNetwork seen choice r.state r.notes r.world script.events
 
-pub record IsAtLast {C : Type 0} (seen : C → Controller) (choice : Topology → Policy) (first : Writer) (start : Option (List ℕ)) (before : Meter)
-    (script : Script) (refused : Option Refused) (r : Replay C) (writer : Writer) (written : Option (List ℕ)) (meter : Meter) : Type 0 where
-  pub whole : IsWhole seen choice script refused r
-  pub put : IsPut first writer start written (body_under (choice script.topology) script)
+pub record IsAtLast {C S : Type 0} (seen : C → Controller) (tale : Tale S) (choice : Topology → Policy) (first : Writer) (start : Option (List ℕ)) (before : Meter)
+    (script : Script) (placed : List Placed) (refused : Option Refused) (r : Replay C) (writer : Writer) (written : Option (List ℕ)) (meter : Meter) : Type 0 where
+  pub whole : IsWhole seen choice script placed refused r
+  pub put : IsPut first writer start written (body tale (choice script.topology) script placed)
   pub meter_is : meter ≡ meter_behind before script.topology (opened (choice script.topology) script.topology) script.events
 
+-- *What is told at the end*: of the opening, where there was no line of events, and of the last world
+abbrev pub last_told : {S : Type 0} → Tale S → Policy → Script → List Placed → List ℕ
+last_told tale policy script placed =
+    (if script.event_lines == 0 then (told_of tale policy script.topology placed).octets else []) ++ end_of tale policy script
+
 -- the line ends the script, whatever lines follow
-pub record EndsScript {C : Type 0} (seen : C → Controller) (choice : Topology → Policy) (says : ScriptState → List ℕ → Result Line LineRefusal) (first : Writer) (start : Option (List ℕ)) (before : Meter)
+pub record EndsScript {C S : Type 0} (seen : C → Controller) (tale : Tale S) (choice : Topology → Policy) (says : ScriptState → List ℕ → Result Line LineRefusal) (first : Writer) (start : Option (List ℕ)) (before : Meter)
     (lines : List (List ℕ)) (line : List ℕ) (refused : Refused) (r : Replay C) (writer : Writer) (written : Option (List ℕ)) (meter : Meter) : Type 0 where
   pub script : Script
+  pub placed : List Placed
   pub same : (others : List (List ℕ)) → script_from says nothing_read (lines ++ line ∷ others) ≡ script
-  pub last : IsAtLast seen choice first start before script (Some refused) r writer written meter
+  pub same_placed : (others : List (List ℕ)) → placed_from says nothing_read (lines ++ line ∷ others) ≡ placed
+  pub last : IsAtLast seen tale choice first start before script placed (Some refused) r writer written meter
 
 -- *What became of a line*, whatever lines follow: it was taken; or it is the one that ends the script; or an early end
--- left a front of the lines of records
-abbrev pub GoesOn : {C : Type 0} → (C → Controller) → (Topology → Policy) → (ScriptState → List ℕ → Result Line LineRefusal) → Writer → Option (List ℕ) → Meter → (lines : List (List ℕ)) → (line : List ℕ)
-    → Result (Option Refused) Stop → Replay C → Writer → Option (List ℕ) → Meter → Type 0
-GoesOn seen choice says first start before lines line (Ok None) r writer written meter =
-    IsAlong seen choice says first start before (lines ++ line ∷ []) r writer written meter
-GoesOn seen choice says first start before lines line (Ok (Some refused)) r writer written meter =
-    EndsScript seen choice says first start before lines line refused r writer written meter
-GoesOn seen choice says first start before lines line (Err stop) r writer written meter =
+-- left a front of what is told of the events
+abbrev pub GoesOn : {C T S : Type 0} → (C → Controller) → (T → S) → Tale S → (Topology → Policy) → (ScriptState → List ℕ → Result Line LineRefusal) → Writer → Option (List ℕ) → Meter → (lines : List (List ℕ)) → (line : List ℕ)
+    → Result (Option Refused) Stop → Replay C → Told T → Option (List ℕ) → Meter → Type 0
+GoesOn seen known tale choice says first start before lines line (Ok None) r told written meter =
+    IsAlong seen known tale choice says first start before (lines ++ line ∷ []) r told written meter
+GoesOn seen known tale choice says first start before lines line (Ok (Some refused)) r told written meter =
+    EndsScript seen tale choice says first start before lines line refused r told.writer written meter
+GoesOn seen known tale choice says first start before lines line (Err stop) r told written meter =
     (others : List (List ℕ)) → let script = script_from says nothing_read (lines ++ line ∷ others) in
-    IsLeft stop first writer start written (body_under (choice script.topology) script)
+    IsLeft stop first told.writer start written (body tale (choice script.topology) script (placed_from says nothing_read (lines ++ line ∷ others)))

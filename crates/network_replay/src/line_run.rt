@@ -2,8 +2,10 @@
 
 ghost use Rattle.std.specs.Prelude.{◌≡◌, ◌≤◌, ◌+◌, [], length, true, OnOk};
 ghost use Rattle.lab_io.specs.Fault.{count_after};
-ghost use Rattle.network_run.specs.Telling.{Puts, StaysWithin, is_failed, meter_behind, told};
+ghost use Rattle.network_run.specs.Telling.{Puts, StaysWithin, is_failed, meter_behind};
 ghost use Rattle.script_model.specs.Script.{events_of};
+ghost use Rattle.telling_model.specs.Placed.{placed_events};
+ghost use Rattle.telling_model.specs.Tale.{told as telling};
 ghost use Rattle.world_model.specs.Limits.{event_limit};
 ghost use Rattle.world_model.specs.Run.{put_away, world_after};
 ghost use Rattle.world_model.specs.Topology.{Topology as Described};
@@ -11,12 +13,10 @@ ghost use Rattle.world.specs.Network.{world_of};
 ghost use Rattle.world.specs.Running.{Runs};
 ghost use Rattle.network_replay.specs.Lines.{IsMeant, has_events};
 
-use lab_io::{ReportWriter, Sink};
+use lab_io::Sink;
 use link_model::Notes;
-use network_run::{Stop, rounds, step, tick_all};
+use network_run::{Context, Stop, Teller, Told, rounds, step, tick_all};
 use script_model::Line;
-use std::alloc::Global;
-use topology::Topology;
 use world::{Meter, NodeController, World};
 
 /// Whether a line is one of events.
@@ -29,19 +29,18 @@ pub fn has_events(said: &Line) -> bool
     }
 }
 
-/// Steps the events of a line, and puts the lines of their records.
-pub fn run_line<C: NodeController, K: Sink>(
-    alloc: Global,
+/// Steps the events of a line, which are told.
+pub fn run_line<C: NodeController, T: Teller<C>, K: Sink>(
+    context: &Context<'_>,
     said: &Line,
     world: &mut World<C>,
     notes: &mut Notes,
-    names: &Topology,
-    writer: &mut ReportWriter,
+    told: &mut Told<T>,
     sink: &mut K,
     meter: &mut Meter,
 ) -> Result<(), Stop>
     ghost topology: { Described }
-    requires names { names.now ≡ topology }
+    requires names { context.now.names.now ≡ topology }
     requires empty { notes.old.records ≡ [] }
     requires runs { Runs C.seen topology world.old }
     requires few { (world_of C.seen world.old notes.old).events + length (events_of topology said.now) ≤ event_limit }
@@ -49,15 +48,16 @@ pub fn run_line<C: NodeController, K: Sink>(
     ensures world { OnOk result (world_of C.seen world.new notes.new ≡ put_away (world_after topology (world_of C.seen world.old notes.old) (events_of topology said.now))) }
     ensures empty { OnOk result (notes.new.records ≡ []) }
     ensures runs { OnOk result (Runs C.seen topology world.new) }
-    ensures put { Puts result writer.old writer.new (K.written sink.old) (K.written sink.new) (told topology (world_of C.seen world.old notes.old) (events_of topology said.now)) }
-    ensures room { StaysWithin writer.old writer.new }
+    ensures put { Puts result told.old.writer told.new.writer (K.written sink.old) (K.written sink.new) (telling T.tale (T.state told.old.teller) topology (world_of C.seen world.old notes.old) (placed_events context.now.line (events_of topology said.now))).octets }
+    ensures state { OnOk result (T.state told.new.teller ≡ (telling T.tale (T.state told.old.teller) topology (world_of C.seen world.old notes.old) (placed_events context.now.line (events_of topology said.now))).state) }
+    ensures room { StaysWithin told.old.writer told.new.writer }
     ensures faults { K.faults sink.new ≡ count_after (is_failed result) (K.faults sink.old) }
     ensures meter { OnOk result (meter.new ≡ meter_behind meter.old topology (world_of C.seen world.old notes.old) (events_of topology said.now)) }
 {
     match said {
         Line::Blank | Line::Topology(_) => Ok(()),
-        Line::Event(event) => step(alloc, world, notes, event, names, writer, sink, meter),
-        Line::TickAll => tick_all(alloc, world, notes, names, writer, sink, meter),
-        Line::Run(count) => rounds(alloc, *count, world, notes, names, writer, sink, meter),
+        Line::Event(event) => step(context, event, world, notes, told, sink, meter),
+        Line::TickAll => tick_all(context, world, notes, told, sink, meter),
+        Line::Run(count) => rounds(context, *count, world, notes, told, sink, meter),
     }
 }

@@ -1,6 +1,6 @@
 //! The replay of a script, line by line.
 
-ghost use Rattle.std.specs.Prelude.{◌≡◌, ◌+◌, ◌<◌, ◌≤◌, ◌^◌, ℕ, List, Option, None, Some, Result, Ok, IfOk, is_ok, true};
+ghost use Rattle.std.specs.Prelude.{◌≡◌, ◌+◌, ◌<◌, ◌≤◌, ◌^◌, ℕ, List, Option, None, Some, Result, Ok, IfOk, OnOk, is_ok, true};
 ghost use Rattle.lab_io.specs.Fault.{count_after};
 ghost use Rattle.lab_io.specs.Report.{Writer};
 ghost use Rattle.network_run.specs.Telling.{Puts, StaysWithin, is_failed};
@@ -8,31 +8,29 @@ ghost use Rattle.script_model.specs.declared.line.Line.{Line as Says};
 ghost use Rattle.script_model.specs.declared.refusal.LineRefusal.{LineRefusal as Name};
 ghost use Rattle.script_model.specs.declared.refusal.Refused.TheVariants.{Line as LineIs};
 ghost use Rattle.script_model.specs.Reading.{line_says, state_after, string_says};
-ghost use Rattle.script_model.specs.Reports.{last_line};
 ghost use Rattle.script_model.specs.Sayable.{IsSayable};
 ghost use Rattle.script_model.specs.Script.{Script, number_of};
 ghost use Rattle.script_model.specs.State.{ScriptState as SoFar};
 ghost use Rattle.script_text.specs.Counts.{HasRoom};
+ghost use Rattle.telling_model.specs.Placed.{Placed, events_in};
 ghost use Rattle.world.specs.declared.counts.Meter.{Meter as Reading};
 ghost use Rattle.world_model.specs.declared.event.Event.{Event};
-ghost use Rattle.world_model.specs.World.{counts_of};
+ghost use Rattle.world_model.specs.World.{opened};
+ghost use Rattle.world.specs.Network.{no_notes, world_of};
+ghost use Rattle.world.specs.Running.{Runs};
 ghost use Rattle.network_replay.specs.Lines.{HasCounted, unsaid};
-ghost use Rattle.network_replay.specs.Along.{GoesOn, HasNetwork, HasStepped, IsAlong, IsBegun, IsGoing, IsOpen, IsRead, IsReading, IsReady, IsWhole, world_behind};
+ghost use Rattle.network_replay.specs.Along.{CanTake, GoesOn, HasNetwork, HasStepped, IsAlong, IsBegun, IsGoing, IsOpen, IsRead, IsReading, IsReady, IsWhole, Knows, last_told, opening_known, opening_told};
 
-use crate::last_line::write_end;
 use crate::line_run::{has_events, run_line};
 use crate::policy::PolicyChoice;
-use lab_io::{ReportWriter, Sink};
-use lab_text::Text;
+use lab_io::Sink;
 use link_model::Notes;
 use net_types::OutOfMemory;
-use network_run::Stop;
-use refusal_text::write_refused;
+use network_run::{Context, Ended, Stop, Teller, Told};
 use script_model::{Line, LineRefusal, Refused};
 use script_text::{ReadFault, ScriptState, read_line, read_string};
 use std::alloc::Global;
-use topology::Topology;
-use world::{Counts, Meter, NodeController, World};
+use world::{Meter, NodeController, World};
 
 /// A replay: what the lines of its script so far say, and the network that they describe, which is
 /// opened for the first line of events or at the script's end. It must be given up by
@@ -58,17 +56,48 @@ impl<C: NodeController> Replay<C> {
         })
     }
 
-    /// Takes the network out, which is opened where it isn't yet.
-    fn take_network<N: PolicyChoice<C>>(&mut self, choice: &N) -> Result<World<C>, OutOfMemory>
+    /// Opens the network, and has it told.
+    fn open_network<N: PolicyChoice<C>, T: Teller<C>, K: Sink>(
+        &self,
+        choice: &N,
+        told: &mut Told<T>,
+        sink: &mut K,
+    ) -> Result<World<C>, Stop>
+        ensures world { IfOk result (λ n. world_of C.seen n no_notes ≡ opened (N.chosen choice.now self.now.state.topology) self.now.state.topology) }
+        ensures runs { IfOk result (λ n. Runs C.seen self.now.state.topology n) }
+        ensures put { Puts result told.old.writer told.new.writer (K.written sink.old) (K.written sink.new) (T.tale.opens self.now.state.topology (opened (N.chosen choice.now self.now.state.topology) self.now.state.topology)).octets }
+        ensures known { OnOk result (T.state told.new.teller ≡ (T.tale.opens self.now.state.topology (opened (N.chosen choice.now self.now.state.topology) self.now.state.topology)).state) }
+        ensures room { StaysWithin told.old.writer told.new.writer }
+        ensures faults { K.faults sink.new ≡ count_after (is_failed result) (K.faults sink.old) }
+    {
+        let topology = self.state.topology();
+        let world = World::open(self.alloc, topology, choice.choose(topology))?;
+        match told.teller.open(&world, topology, &mut told.writer, sink) {
+            Ok(()) => Ok(world),
+            Err(stop) => {
+                world.abandon();
+                Err(stop)
+            }
+        }
+    }
+
+    /// Takes the network out, which is opened where it isn't yet, and then told.
+    fn take_network<N: PolicyChoice<C>, T: Teller<C>, K: Sink>(
+        &mut self,
+        choice: &N,
+        told: &mut Told<T>,
+        sink: &mut K,
+    ) -> Result<World<C>, Stop>
         ensures opened { (state : SoFar) (events : List Event) → HasNetwork C.seen (N.chosen choice.now) state self.old.notes self.old.world events → self.old.state.topology ≡ state.topology → IfOk result (λ n. IsOpen C.seen (N.chosen choice.now state.topology) state self.old.notes n events) }
+        ensures put { Puts result told.old.writer told.new.writer (K.written sink.old) (K.written sink.new) (opening_told T.tale (N.chosen choice.now) self.old.state.topology self.old.world) }
+        ensures known { OnOk result (T.state told.new.teller ≡ opening_known T.tale (N.chosen choice.now) self.old.state.topology self.old.world (T.state told.old.teller)) }
         ensures rest { self.new ≡ record self.old { world = None } }
+        ensures room { StaysWithin told.old.writer told.new.writer }
+        ensures faults { K.faults sink.new ≡ count_after (is_failed result) (K.faults sink.old) }
     {
         match self.world.take() {
             Some(world) => Ok(world),
-            None => {
-                let topology = self.state.topology();
-                World::open(self.alloc, topology, choice.choose(topology))
-            }
+            None => self.open_network(choice, told, sink),
         }
     }
 
@@ -82,33 +111,36 @@ impl<C: NodeController> Replay<C> {
     }
 
     /// Steps the events of a line that was read.
-    fn run<N: PolicyChoice<C>, K: Sink>(
+    fn run<N: PolicyChoice<C>, T: Teller<C>, K: Sink>(
         &mut self,
         said: &Line,
         choice: &N,
-        writer: &mut ReportWriter,
+        told: &mut Told<T>,
         sink: &mut K,
         meter: &mut Meter,
     ) -> Result<(), Stop>
         requires { IsReady C.seen (N.chosen choice.now) self.old said.now }
         ensures state { self.new.state ≡ self.old.state }
-        ensures stepped { (state : SoFar) (line : List ℕ) (events : List Event) → HasNetwork C.seen (N.chosen choice.now) state self.old.notes self.old.world events → self.old.state ≡ state_after state line (Ok said.now) → IsSayable state said.now → HasStepped C.seen (N.chosen choice.now) state said.now events result self.old self.new writer.old writer.new (K.written sink.old) (K.written sink.new) meter.old meter.new }
-        ensures room { StaysWithin writer.old writer.new }
+        ensures going { OnOk result (IsGoing C.seen (N.chosen choice.now) self.new) }
+        ensures stepped { (state : SoFar) (line : List ℕ) (placed : List Placed) → HasNetwork C.seen (N.chosen choice.now) state self.old.notes self.old.world (events_in placed) → Knows T.tale (N.chosen choice.now) state placed (T.state told.old.teller) → self.old.state ≡ state_after state line (Ok said.now) → IsSayable state said.now → HasStepped C.seen T.state T.tale (N.chosen choice.now) state said.now placed result self.old self.new told.old told.new (K.written sink.old) (K.written sink.new) meter.old meter.new }
+        ensures room { StaysWithin told.old.writer told.new.writer }
         ensures faults { K.faults sink.new ≡ count_after (is_failed result) (K.faults sink.old) }
     {
         if !has_events(said) {
             return Ok(());
         }
         within_limits(&self.state);
-        let mut world = self.take_network(choice)?;
-        let names = self.state.topology();
+        let mut world = self.take_network(choice, told, sink)?;
+        let context = Context {
+            names: self.state.topology(),
+            line: self.state.lines(),
+        };
         let outcome = run_line(
-            self.alloc,
+            &context,
             said,
             &mut world,
             &mut self.notes,
-            names,
-            writer,
+            told,
             sink,
             meter,
         );
@@ -130,74 +162,74 @@ impl<C: NodeController> Replay<C> {
     }
 
     /// Takes a line that was read.
-    fn take<N: PolicyChoice<C>, K: Sink>(
+    fn take<N: PolicyChoice<C>, T: Teller<C>, K: Sink>(
         &mut self,
         read: Result<Line, ReadFault>,
         choice: &N,
-        writer: &mut ReportWriter,
+        told: &mut Told<T>,
         sink: &mut K,
         meter: &mut Meter,
     ) -> Result<Option<Refused>, Stop>
-        requires ready { IfOk read (IsReady C.seen (N.chosen choice.now) self.old) }
-        ensures along { (says : SoFar → List ℕ → Result Says Name) (state : SoFar) (first : Writer) (start : Option (List ℕ)) (before : Reading) (lines : List (List ℕ)) (line : List ℕ) → IsReading says → IsAlong C.seen (N.chosen choice.now) says first start before lines (record self.old { state = state }) writer.old (K.written sink.old) meter.old → IsRead says state line read self.old.state → GoesOn C.seen (N.chosen choice.now) says first start before lines line result self.new writer.new (K.written sink.new) meter.new }
-        ensures going { result ≡ Ok None → IsGoing C.seen (N.chosen choice.now) self.new }
+        requires ready { CanTake C.seen (N.chosen choice.now) self.old read }
+        ensures along { (says : SoFar → List ℕ → Result Says Name) (state : SoFar) (first : Writer) (start : Option (List ℕ)) (before : Reading) (lines : List (List ℕ)) (line : List ℕ) → IsReading says → IsAlong C.seen T.state T.tale (N.chosen choice.now) says first start before lines (record self.old { state = state }) told.old (K.written sink.old) meter.old → IsRead says state line read self.old.state → GoesOn C.seen T.state T.tale (N.chosen choice.now) says first start before lines line result self.new told.new (K.written sink.new) meter.new }
+        ensures going { OnOk result (IsGoing C.seen (N.chosen choice.now) self.new) }
         ensures state { self.new.state ≡ self.old.state }
         ensures said { result ≡ Ok None → is_ok read ≡ true }
-        ensures room { StaysWithin writer.old writer.new }
+        ensures room { StaysWithin told.old.writer told.new.writer }
         ensures faults { K.faults sink.new ≡ count_after (is_failed result) (K.faults sink.old) }
     {
         match read {
             Ok(said) => {
-                self.run(&said, choice, writer, sink, meter)?;
+                self.run(&said, choice, told, sink, meter)?;
                 Ok(None)
             }
             Err(fault) => self.unsaid(fault),
         }
     }
 
-    /// Takes the next line of a script, with its end where it has one: steps its events and puts the
-    /// lines of their records, or tells why it is refused. Behind a refused line no other is taken.
-    /// Where it ends early, a front of these lines was put, and the replay can only be given up.
-    pub fn line<N: PolicyChoice<C>, K: Sink>(
+    /// Takes the next line of a script, with its end where it has one: steps its events, which are told,
+    /// or answers why it is refused. Behind a refused line no other is taken. Where it ends early, a front
+    /// of what is told was put, and the replay can only be given up.
+    pub fn line<N: PolicyChoice<C>, T: Teller<C>, K: Sink>(
         &mut self,
         line: &[u8],
         choice: &N,
-        writer: &mut ReportWriter,
+        told: &mut Told<T>,
         sink: &mut K,
         meter: &mut Meter,
     ) -> Result<Option<Refused>, Stop>
         requires going { IsGoing C.seen (N.chosen choice.now) self.old }
         requires room { HasRoom self.old.state line.now }
-        ensures along { (first : Writer) (start : Option (List ℕ)) (before : Reading) (lines : List (List ℕ)) → IsAlong C.seen (N.chosen choice.now) line_says first start before lines self.old writer.old (K.written sink.old) meter.old → GoesOn C.seen (N.chosen choice.now) line_says first start before lines line.now result self.new writer.new (K.written sink.new) meter.new }
-        ensures going { result ≡ Ok None → IsGoing C.seen (N.chosen choice.now) self.new }
+        ensures along { (first : Writer) (start : Option (List ℕ)) (before : Reading) (lines : List (List ℕ)) → IsAlong C.seen T.state T.tale (N.chosen choice.now) line_says first start before lines self.old told.old (K.written sink.old) meter.old → GoesOn C.seen T.state T.tale (N.chosen choice.now) line_says first start before lines line.now result self.new told.new (K.written sink.new) meter.new }
+        ensures going { OnOk result (IsGoing C.seen (N.chosen choice.now) self.new) }
         ensures counted { result ≡ Ok None → HasCounted self.old.state line.now self.new.state }
-        ensures room { StaysWithin writer.old writer.new }
+        ensures room { StaysWithin told.old.writer told.new.writer }
         ensures faults { K.faults sink.new ≡ count_after (is_failed result) (K.faults sink.old) }
     {
         let read = read_line(&mut self.state, line);
-        self.take(read, choice, writer, sink, meter)
+        self.take(read, choice, told, sink, meter)
     }
 
     /// Takes the next line of a document as [`Replay::line`] takes that of a script: a string, which has
     /// no end.
-    pub fn string<N: PolicyChoice<C>, K: Sink>(
+    pub fn string<N: PolicyChoice<C>, T: Teller<C>, K: Sink>(
         &mut self,
         text: &[u8],
         choice: &N,
-        writer: &mut ReportWriter,
+        told: &mut Told<T>,
         sink: &mut K,
         meter: &mut Meter,
     ) -> Result<Option<Refused>, Stop>
         requires going { IsGoing C.seen (N.chosen choice.now) self.old }
         requires room { HasRoom self.old.state text.now }
-        ensures along { (first : Writer) (start : Option (List ℕ)) (before : Reading) (lines : List (List ℕ)) → IsAlong C.seen (N.chosen choice.now) string_says first start before lines self.old writer.old (K.written sink.old) meter.old → GoesOn C.seen (N.chosen choice.now) string_says first start before lines text.now result self.new writer.new (K.written sink.new) meter.new }
-        ensures going { result ≡ Ok None → IsGoing C.seen (N.chosen choice.now) self.new }
+        ensures along { (first : Writer) (start : Option (List ℕ)) (before : Reading) (lines : List (List ℕ)) → IsAlong C.seen T.state T.tale (N.chosen choice.now) string_says first start before lines self.old told.old (K.written sink.old) meter.old → GoesOn C.seen T.state T.tale (N.chosen choice.now) string_says first start before lines text.now result self.new told.new (K.written sink.new) meter.new }
+        ensures going { OnOk result (IsGoing C.seen (N.chosen choice.now) self.new) }
         ensures counted { result ≡ Ok None → HasCounted self.old.state text.now self.new.state }
-        ensures room { StaysWithin writer.old writer.new }
+        ensures room { StaysWithin told.old.writer told.new.writer }
         ensures faults { K.faults sink.new ≡ count_after (is_failed result) (K.faults sink.old) }
     {
         let read = read_string(&mut self.state, text);
-        self.take(read, choice, writer, sink, meter)
+        self.take(read, choice, told, sink, meter)
     }
 
     /// Whether 32 bits count the octets and the lines with this one.
@@ -218,52 +250,31 @@ impl<C: NodeController> Replay<C> {
         }
     }
 
-    /// The counts of the run so far.
-    fn counts<N: PolicyChoice<C>>(&mut self, choice: &N) -> Result<Counts, OutOfMemory>
-        ensures counts { (events : List Event) → HasNetwork C.seen (N.chosen choice.now) self.old.state self.old.notes self.old.world events → IfOk result (λ counts. counts ≡ counts_of (world_behind (N.chosen choice.now) self.old.state.topology events)) }
-        ensures state { self.new.state ≡ self.old.state }
-    {
-        let world = self.take_network(choice)?;
-        let counts = world.counts();
-        self.keep(world);
-        Ok(counts)
-    }
-
-    /// The last line of the report: how many lines were events and the counts of their run, or what is
-    /// refused.
-    fn last_line<N: PolicyChoice<C>>(
+    /// Has the end told of a script that was read to its end, or to what is refused in it; before that the
+    /// network, which is opened here where there was no line of events.
+    pub fn end<N: PolicyChoice<C>, T: Teller<C>, K: Sink>(
         &mut self,
         refused: Option<Refused>,
         choice: &N,
-    ) -> Result<Text, OutOfMemory>
-        ensures { (script : Script) → IsWhole C.seen (N.chosen choice.now) script refused self.old → IfOk result (λ line. line ≡ last_line (N.chosen choice.now script.topology) script) }
-    {
-        let mut line = Text::new(self.alloc);
-        match refused {
-            None => {
-                let counts = self.counts(choice)?;
-                write_end(&mut line, self.state.event_lines(), &counts)?;
-            }
-            Some(refused) => write_refused(&mut line, refused)?,
-        }
-        Ok(line)
-    }
-
-    /// Puts the last line of a script that was read to its end, or to what is refused in it.
-    pub fn end<N: PolicyChoice<C>, K: Sink>(
-        &mut self,
-        refused: Option<Refused>,
-        choice: &N,
-        writer: &mut ReportWriter,
+        told: &mut Told<T>,
         sink: &mut K,
     ) -> Result<(), Stop>
-        ensures put { (script : Script) → IsWhole C.seen (N.chosen choice.now) script refused self.old → Puts result writer.old writer.new (K.written sink.old) (K.written sink.new) (last_line (N.chosen choice.now script.topology) script) }
-        ensures room { StaysWithin writer.old writer.new }
+        requires going { IsGoing C.seen (N.chosen choice.now) self.old }
+        ensures put { (script : Script) (placed : List Placed) → IsWhole C.seen (N.chosen choice.now) script placed refused self.old → Puts result told.old.writer told.new.writer (K.written sink.old) (K.written sink.new) (last_told T.tale (N.chosen choice.now script.topology) script placed) }
+        ensures room { StaysWithin told.old.writer told.new.writer }
         ensures faults { K.faults sink.new ≡ count_after (is_failed result) (K.faults sink.old) }
     {
-        let line = self.last_line(refused, choice)?;
-        writer.put(line.as_slice(), sink)?;
-        Ok(())
+        let world = self.take_network(choice, told, sink)?;
+        let ended = Ended {
+            event_lines: self.state.event_lines(),
+            refused,
+        };
+        let names = self.state.topology();
+        let outcome = told
+            .teller
+            .end(&world, names, ended, &mut told.writer, sink);
+        self.keep(world);
+        outcome
     }
 
     /// Gives the network up.

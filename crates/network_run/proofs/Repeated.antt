@@ -16,18 +16,17 @@ use Rattle.world.specs.declared.counts.Meter.{Meter}
 use Rattle.world.specs.Counted.{reading_of}
 use Rattle.world.specs.Running.{IsRunning}
 use Rattle.network_run.specs.declared.stop.Stop.{Stop}
-use Rattle.network_run.specs.Telling.{IsLeft, Puts, meter_behind, told}
+use Rattle.telling_model.specs.Placed.{placed_events}
+use Rattle.telling_model.specs.Tale.{Tale, Telling, told}
+use Rattle.telling_model.proofs.Told.{after_append, line_octets, line_state, told_away}
+use Rattle.network_run.specs.Telling.{IsLeft, Puts, meter_behind}
 use Rattle.network_run.proofs.Telling.{put_then, stops_at}
-use Rattle.network_run.proofs.Turns.{after_append, behind_some, same_places, told_append}
+use Rattle.network_run.proofs.Turns.{behind_some, same_places}
 
 -- *Records that were put away* have no part in what follows
 away_after : (t : Topology) (w : World) (events : List Event) → put_away (world_after t (put_away w) events) ≡ put_away (world_after t w events)
 away_after t w [] = refl
 away_after t w (event ∷ events) = refl
-
-away_told : (t : Topology) (w : World) (events : List Event) → told t (put_away w) events ≡ told t w events
-away_told t w [] = refl
-away_told t w (event ∷ events) = refl
 
 away_meter : (m : Meter) (t : Topology) (w : World) (events : List Event) → meter_behind m t (put_away w) events ≡ meter_behind m t w events
 away_meter m t w [] = refl
@@ -52,9 +51,6 @@ events_after t w (event ∷ events) = (let later : (world_after t (next t w even
 pub world_then : (t : Topology) (first w after : World) (some others : List Event) → w ≡ put_away (world_after t first some) → after ≡ put_away (world_after t w others) → after ≡ put_away (world_after t first (some ++ others))
 world_then t first w after some others same is =
     is ∙ ap (λ (v : World). put_away (world_after t v others)) same ∙ away_after t (world_after t first some) others ∙ ap put_away (sym (after_append t first some others))
-
-pub told_then : (t : Topology) (first w : World) (some others : List Event) → w ≡ put_away (world_after t first some) → told t w others ≡ told t (world_after t first some) others
-told_then t first w some others same = ap (λ (v : World). told t v others) same ∙ away_told t (world_after t first some) others
 
 pub meter_then : (m : Meter) (t : Topology) (first w : World) (some others : List Event) → w ≡ put_away (world_after t first some) → meter_behind m t w others ≡ meter_behind m t (world_after t first some) others
 meter_then m t first w some others same = ap (λ (v : World). meter_behind m t v others) same ∙ away_meter m t (world_after t first some) others
@@ -97,22 +93,39 @@ module _ (t : Topology) (first w : World) (k : ℕ) (same : w ≡ put_away (worl
       world_then t first w after (repeat k (round first)) (round first) same (is ∙ ap (λ events. put_away (world_after t w events)) turns)
       ∙ ap (λ events. put_away (world_after t first events)) (repeat_next k (round first))
 
-  lines_of_it : told t w (round w) ≡ told t reached (round first)
-  lines_of_it = ap (told t w) turns ∙ told_then t first w (repeat k (round first)) (round first) same
+  -- and what is told of it
+  module _ {S : Type 0} (tale : Tale S) (state : S) (line : ℕ) (known : S) where
+    abbrev told_turns : ℕ → Telling S
+    told_turns n = told tale state t first (placed_events line (repeat n (round first)))
 
-  pub rounds_put : (a b c : Writer) (x y z : Option (List ℕ)) → IsPut a b x y (told t first (repeat k (round first))) → IsPut b c y z (told t w (round w)) → IsPut a c x z (told t first (repeat (k + 1) (round first)))
-  rounds_put a b c x y z p q =
-      subst (IsPut a c x z) (sym (told_append t first (repeat k (round first)) (round first)) ∙ ap (told t first) (repeat_next k (round first)))
-      (put_then a b c x y z (told t first (repeat k (round first))) (told t reached (round first)) p (subst (IsPut b c y z) lines_of_it q))
+    abbrev told_turn : Telling S
+    told_turn = told tale known t w (placed_events line (round w))
 
-  pub rounds_stop : {B : Type 0} (r : Result B Stop) (stop : Stop) (n : ℕ) (a b c : Writer) (x y z : Option (List ℕ)) → k < n → IsErrAnd r (λ s. s ≡ stop) → IsPut a b x y (told t first (repeat k (round first)))
-      → IsLeft stop b c y z (told t w (round w)) → Puts r a c x z (told t first (repeat n (round first)))
-  rounds_stop r stop n a b c x y z low is p h =
-      let r2 : HasRest k n (round first) = rest_of k n (round first) low in
-      let behind : List ℕ = told t (world_after t reached (round first)) r2.rest in
-      subst (Puts r a c x z)
-      (ap (λ xs. told t first (repeat k (round first)) ++ xs) (sym (told_append t reached (round first) r2.rest)) ∙ sym (told_append t first (repeat k (round first)) (round first ++ r2.rest)) ∙ ap (told t first) r2.is)
-      (stops_at r stop a b c x y z (told t first (repeat k (round first))) (told t reached (round first)) behind is p (subst (IsLeft stop b c y z) lines_of_it h))
+    abbrev told_there : Telling S
+    told_there = told tale (told_turns k).state t reached (placed_events line (round first))
+
+    turn_is_there : known ≡ (told_turns k).state → told_turn ≡ told_there
+    turn_is_there knows = (λ i. told tale (knows i) t (same i) (placed_events line (turns i))) ∙ told_away tale t (told_turns k).state reached (placed_events line (round first))
+
+    pub rounds_put : (a b c : Writer) (x y z : Option (List ℕ)) → known ≡ (told_turns k).state → IsPut a b x y (told_turns k).octets → IsPut b c y z told_turn.octets → IsPut a c x z (told_turns (k + 1)).octets
+    rounds_put a b c x y z knows p q =
+        subst (IsPut a c x z) (sym (line_octets tale t line state first (repeat k (round first)) (round first)) ∙ ap (λ es. (told tale state t first (placed_events line es)).octets) (repeat_next k (round first)))
+        (put_then a b c x y z (told_turns k).octets told_there.octets p (subst (λ (one : Telling S). IsPut b c y z one.octets) (turn_is_there knows) q))
+
+    pub rounds_know : (now : S) → known ≡ (told_turns k).state → now ≡ told_turn.state → now ≡ (told_turns (k + 1)).state
+    rounds_know now knows is =
+        is ∙ ap (λ (one : Telling S). one.state) (turn_is_there knows) ∙ sym (line_state tale t line state first (repeat k (round first)) (round first))
+        ∙ ap (λ es. (told tale state t first (placed_events line es)).state) (repeat_next k (round first))
+
+    pub rounds_stop : {B : Type 0} (r : Result B Stop) (stop : Stop) (n : ℕ) (a b c : Writer) (x y z : Option (List ℕ)) → k < n → IsErrAnd r (λ s. s ≡ stop) → known ≡ (told_turns k).state → IsPut a b x y (told_turns k).octets
+        → IsLeft stop b c y z told_turn.octets → Puts r a c x z (told_turns n).octets
+    rounds_stop r stop n a b c x y z low is knows p h =
+        let r2 : HasRest k n (round first) = rest_of k n (round first) low in
+        let behind : List ℕ = (told tale told_there.state t (world_after t reached (round first)) (placed_events line r2.rest)).octets in
+        subst (Puts r a c x z)
+        (ap (λ xs. (told_turns k).octets ++ xs) (sym (line_octets tale t line (told_turns k).state reached (round first) r2.rest))
+        ∙ sym (line_octets tale t line state first (repeat k (round first)) (round first ++ r2.rest)) ∙ ap (λ es. (told tale state t first (placed_events line es)).octets) r2.is)
+        (stops_at r stop a b c x y z (told_turns k).octets told_there.octets behind is p (subst (λ (one : Telling S). IsLeft stop b c y z one.octets) (turn_is_there knows) h))
 
   pub rounds_few : (n : ℕ) → k < n → first.events + length (repeat n (round first)) ≤ event_limit → w.events + length (round w) ≤ event_limit
   rounds_few n low few =

@@ -1,6 +1,6 @@
--- the lines of some events and those behind them, and the queues of a round
+-- what is told of some events and those behind them, and the queues of a round
 
-use Rattle.std.proofs.Common.{◌≡◌, ℕ, zero, suc, ◌+◌, ◌≤◌, Bool, true, List, [], ◌∷◌, ◌++◌, append_assoc, drop, length, map, flat_map, filter, slice_get, take, Some, refl, sym, ◌∙◌, ap, subst, arith, cond, false}
+use Rattle.std.proofs.Common.{◌≡◌, ℕ, zero, suc, ◌+◌, ◌≤◌, Bool, true, List, [], ◌∷◌, ◌++◌, drop, length, map, flat_map, filter, slice_get, take, Some, refl, sym, ◌∙◌, ap, subst, arith, cond, false}
 use Rattle.std.specs.List.{range_with_len}
 use Rattle.std.specs.Option.{is_some}
 use Rattle.std.proofs.lemmas.List.Concat.{flat_map-cons}
@@ -15,13 +15,15 @@ use Rattle.world_model.specs.Run.{next, world_after}
 use Rattle.world_model.specs.Topology as topologies
 use Rattle.world_model.specs.Topology.{Topology, peer_of}
 use Rattle.world_model.specs.World.{World, Site}
-use Rattle.script_model.specs.Reports.{record_lines}
+use Rattle.telling_model.specs.Placed.{placed, placed_events}
+use Rattle.telling_model.specs.Tale.{Tale, Telling, told}
+use Rattle.telling_model.proofs.Told.{after_append, line_octets, line_state}
 use Rattle.world.specs.Running.{AreRunning, IsRunningSite, numbered}
 use Rattle.std.specs.Prelude.{Option, Result}
 use Rattle.std.specs.Result.{IsErrAnd}
 use Rattle.lab_io.specs.Report.{IsPut, Writer}
 use Rattle.network_run.specs.declared.stop.Stop.{Stop}
-use Rattle.network_run.specs.Telling.{IsLeft, IsMeterIn, Puts, meter_behind, told}
+use Rattle.network_run.specs.Telling.{IsLeft, IsMeterIn, Puts, meter_behind}
 use Rattle.network_run.proofs.Telling.{put_then, stops_at}
 use Rattle.std.specs.Prelude.{◌⊎◌, ◌<◌}
 use Rattle.std.proofs.Common.{inl, inr}
@@ -35,16 +37,6 @@ use Rattle.world.specs.declared.counts.Meter.{Meter}
 use Rattle.world.specs.Counted.{reading_of}
 
 -- *Events*, some and those behind them
-pub after_append : (t : Topology) (w : World) (some others : List Event) → world_after t w (some ++ others) ≡ world_after t (world_after t w some) others
-after_append t w [] others = refl
-after_append t w (event ∷ some) others = after_append t (next t w event) some others
-
-pub told_append : (t : Topology) (w : World) (some others : List Event) → told t w (some ++ others) ≡ told t w some ++ told t (world_after t w some) others
-told_append t w [] others = refl
-told_append t w (event ∷ some) others =
-    ap (λ xs. record_lines t (next t w event).notes.records ++ xs) (told_append t (next t w event) some others)
-    ∙ sym (append_assoc (record_lines t (next t w event).notes.records) (told t (next t w event) some) (told t (world_after t (next t w event) some) others))
-
 append_nil : (xs : List ℕ) → xs ++ [] ≡ xs
 append_nil [] = refl
 append_nil (x ∷ xs) = ap (λ ys. x ∷ ys) (append_nil xs)
@@ -69,16 +61,33 @@ after_next t w events i event e =
     let up : suc i ≡ i + 1 = omega arith in
     sym (after_append t w (take i events) (event ∷ [])) ∙ ap (world_after t w) (sym (take_push events i event e)) ∙ ap (λ k. world_after t w (take k events)) up
 
-pub told_next : (t : Topology) (w : World) (events : List Event) (i : ℕ) (event : Event) → slice_get events i ≡ Some event
-    → told t w (take i events) ++ record_lines t (next t (world_after t w (take i events)) event).notes.records ≡ told t w (take (i + 1) events)
-told_next t w events i event e =
-    let up : suc i ≡ i + 1 = omega arith in
-    ap (λ xs. told t w (take i events) ++ xs) (sym (append_nil (record_lines t (next t (world_after t w (take i events)) event).notes.records)))
-    ∙ sym (told_append t w (take i events) (event ∷ [])) ∙ ap (told t w) (sym (take_push events i event e)) ∙ ap (λ k. told t w (take k events)) up
+-- *What is told* of events up to one, of it, and of those behind it
+module _ {S : Type 0} (tale : Tale S) (state : S) (line : ℕ) (t : Topology) (w : World) (events : List Event) (i : ℕ) (event : Event) (e : slice_get events i ≡ Some event) where
+  abbrev so_far : Telling S
+  so_far = told tale state t w (placed_events line (take i events))
 
-pub told_behind : (t : Topology) (w : World) (events : List Event) (i : ℕ) (event : Event) → slice_get events i ≡ Some event
-    → told t w (take i events) ++ (record_lines t (next t (world_after t w (take i events)) event).notes.records ++ told t (next t (world_after t w (take i events)) event) (drop (suc i) events)) ≡ told t w events
-told_behind t w events i event e = sym (told_append t w (take i events) (event ∷ drop (suc i) events)) ∙ ap (told t w) (drop_pull events i event e)
+  abbrev here : Telling S
+  here = tale.tells so_far.state t (put_away (world_after t w (take i events))) (placed line event)
+
+  up : suc i ≡ i + 1
+  up = omega arith
+
+  pub told_next : so_far.octets ++ here.octets ≡ (told tale state t w (placed_events line (take (i + 1) events))).octets
+  told_next =
+      ap (λ xs. so_far.octets ++ xs) (sym (append_nil here.octets)) ∙ sym (line_octets tale t line state w (take i events) (event ∷ []))
+      ∙ ap (λ es. (told tale state t w (placed_events line es)).octets) (sym (take_push events i event e))
+      ∙ ap (λ k. (told tale state t w (placed_events line (take k events))).octets) up
+
+  pub state_next : here.state ≡ (told tale state t w (placed_events line (take (i + 1) events))).state
+  state_next =
+      sym (line_state tale t line state w (take i events) (event ∷ []))
+      ∙ ap (λ es. (told tale state t w (placed_events line es)).state) (sym (take_push events i event e))
+      ∙ ap (λ k. (told tale state t w (placed_events line (take k events))).state) up
+
+  pub told_behind : so_far.octets ++ (here.octets ++ (told tale here.state t (next t (world_after t w (take i events)) event) (placed_events line (drop (suc i) events))).octets)
+      ≡ (told tale state t w (placed_events line events)).octets
+  told_behind =
+      sym (line_octets tale t line state w (take i events) (event ∷ drop (suc i) events)) ∙ ap (λ es. (told tale state t w (placed_events line es)).octets) (drop_pull events i event e)
 
 -- *The queues* are the topology's, and stay
 abbrev places_with : NodeId → List PortNo → List Place
@@ -163,23 +172,34 @@ pub can_come : (t : Topology) (first w : World) (i : ℕ) (place : Place) → w.
     → CanCome t w (Carry place)
 can_come t first w i place events low few is = record { few = omega (arith, events, low, few); meant = is }
 
--- *A turn*: an event among others, its lines behind those before it
-pub turn_puts : (t : Topology) (first w : World) (events : List Event) (i : ℕ) (event : Event) (a b c : Writer) (x y z : Option (List ℕ)) → slice_get events i ≡ Some event
-    → w ≡ put_away (world_after t first (take i events)) → IsPut a b x y (told t first (take i events)) → IsPut b c y z (record_lines t (next t w event).notes.records)
-    → IsPut a c x z (told t first (take (i + 1) events))
-turn_puts t first w events i event a b c x y z e same p q =
-    subst (IsPut a c x z) (told_next t first events i event e)
-    (put_then a b c x y z (told t first (take i events)) (record_lines t (next t (world_after t first (take i events)) event).notes.records) p
-    (subst (λ (v : World). IsPut b c y z (record_lines t (next t v event).notes.records)) same q))
+-- *A turn*: an event among others, and what is told of it behind what is told of those before it
+module _ {S : Type 0} (tale : Tale S) (state : S) (line : ℕ) (t : Topology) (first w : World) (events : List Event) (i : ℕ) (event : Event) (known : S) where
+  abbrev told_up_to : ℕ → Telling S
+  told_up_to k = told tale state t first (placed_events line (take k events))
 
-pub turn_stops : {B : Type 0} (r : Result B Stop) (stop : Stop) (t : Topology) (first w : World) (events : List Event) (i : ℕ) (event : Event) (a b c : Writer) (x y z : Option (List ℕ))
-    → IsErrAnd r (λ s. s ≡ stop) → slice_get events i ≡ Some event → w ≡ put_away (world_after t first (take i events)) → IsPut a b x y (told t first (take i events))
-    → IsLeft stop b c y z (record_lines t (next t w event).notes.records) → Puts r a c x z (told t first events)
-turn_stops r stop t first w events i event a b c x y z is e same p h =
-    let reached : World = world_after t first (take i events) in
-    subst (Puts r a c x z) (told_behind t first events i event e)
-    (stops_at r stop a b c x y z (told t first (take i events)) (record_lines t (next t reached event).notes.records) (told t (next t reached event) (drop (suc i) events)) is p
-    (subst (λ (v : World). IsLeft stop b c y z (record_lines t (next t v event).notes.records)) same h))
+  abbrev told_here : Telling S
+  told_here = tale.tells (told_up_to i).state t (put_away (world_after t first (take i events))) (placed line event)
+
+  told_is : w ≡ put_away (world_after t first (take i events)) → known ≡ (told_up_to i).state → tale.tells known t w (placed line event) ≡ told_here
+  told_is same knows = (λ j. tale.tells (knows j) t (same j) (placed line event))
+
+  pub turn_puts : (a b c : Writer) (x y z : Option (List ℕ)) → slice_get events i ≡ Some event → w ≡ put_away (world_after t first (take i events)) → known ≡ (told_up_to i).state
+      → IsPut a b x y (told_up_to i).octets → IsPut b c y z (tale.tells known t w (placed line event)).octets → IsPut a c x z (told_up_to (i + 1)).octets
+  turn_puts a b c x y z e same knows p q =
+      subst (IsPut a c x z) (told_next tale state line t first events i event e)
+      (put_then a b c x y z (told_up_to i).octets told_here.octets p (subst (λ (told : Telling S). IsPut b c y z told.octets) (told_is same knows) q))
+
+  pub turn_knows : (now : S) → slice_get events i ≡ Some event → w ≡ put_away (world_after t first (take i events)) → known ≡ (told_up_to i).state
+      → now ≡ (tale.tells known t w (placed line event)).state → now ≡ (told_up_to (i + 1)).state
+  turn_knows now e same knows is = is ∙ ap (λ (told : Telling S). told.state) (told_is same knows) ∙ state_next tale state line t first events i event e
+
+  pub turn_stops : {B : Type 0} (r : Result B Stop) (stop : Stop) (a b c : Writer) (x y z : Option (List ℕ))
+      → IsErrAnd r (λ s. s ≡ stop) → slice_get events i ≡ Some event → w ≡ put_away (world_after t first (take i events)) → known ≡ (told_up_to i).state
+      → IsPut a b x y (told_up_to i).octets → IsLeft stop b c y z (tale.tells known t w (placed line event)).octets → Puts r a c x z (told tale state t first (placed_events line events)).octets
+  turn_stops r stop a b c x y z is e same knows p h =
+      subst (Puts r a c x z) (told_behind tale state line t first events i event e)
+      (stops_at r stop a b c x y z (told_up_to i).octets told_here.octets (told tale told_here.state t (next t (world_after t first (take i events)) event) (placed_events line (drop (suc i) events))).octets is p
+      (subst (λ (told : Telling S). IsLeft stop b c y z told.octets) (told_is same knows) h))
 
 -- *A meter* behind some of the events
 pub behind_some : (before : Meter) (t : Topology) (w : World) (events : List Event) → 0 < length events → meter_behind before t w events ≡ reading_of (world_after t w events)

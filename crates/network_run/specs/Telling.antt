@@ -2,10 +2,9 @@
 
 use Rattle.std.specs.Prelude.{◌≡◌, ℕ, ◌++◌, Bool, true, false, List, [], ◌∷◌, length, take, ◌≤◌, Option, Result, Ok, Err}
 use Rattle.world_model.specs.declared.event.Event.{Event}
-use Rattle.world_model.specs.Run.{next, world_after}
+use Rattle.world_model.specs.Run.{world_after}
 use Rattle.world_model.specs.Topology.{Topology}
 use Rattle.world_model.specs.World.{World}
-use Rattle.script_model.specs.Reports.{record_lines}
 use Rattle.world.specs.declared.counts.Meter.{Meter}
 use Rattle.world.specs.Counted.{reading_of}
 use Rattle.lab_io.specs.Report.{IsPut, IsStuck, Writer}
@@ -39,11 +38,6 @@ abbrev pub is_failed : {A : Type 0} → Result A Stop → Bool
 is_failed (Ok x) = false
 is_failed (Err Failed) = true
 is_failed (Err (OutOfMemory error)) = false
-
--- *The lines of the records of events*, event by event
-abbrev pub told : Topology → World → List Event → List ℕ
-told topology w [] = []
-told topology w (event ∷ events) = record_lines topology (next topology w event).notes.records ++ told topology (next topology w event) events
 
 -- *A meter* behind some events: it holds the last world's numbers, and where there was no event it is as it was
 abbrev pub meter_behind : (before : Meter) → Topology → World → List Event → Meter

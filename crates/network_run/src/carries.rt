@@ -3,81 +3,84 @@
 ghost use Rattle.std.specs.Prelude.{◌≡◌, ◌≤◌, ◌+◌, [], length, OnOk, OnErr};
 ghost use Rattle.std.specs.List.{repeat};
 ghost use Rattle.lab_io.specs.Fault.{count_after};
+ghost use Rattle.telling_model.specs.Placed.{placed_events};
+ghost use Rattle.telling_model.specs.Tale.{told as telling};
 ghost use Rattle.world_model.specs.Limits.{event_limit};
 ghost use Rattle.world_model.specs.Run.{round as round_of, world_after, put_away};
 ghost use Rattle.world_model.specs.Topology.{Topology as Described};
 ghost use Rattle.world.specs.Network.{world_of};
 ghost use Rattle.world.specs.Running.{Runs};
-ghost use Rattle.network_run.specs.Telling.{IsMeterIn, Puts, StaysWithin, is_failed, meter_behind, told};
+ghost use Rattle.network_run.specs.Telling.{IsMeterIn, Puts, StaysWithin, is_failed, meter_behind};
 
+use crate::context::Context;
 use crate::engine::step;
 use crate::stop::Stop;
-use lab_io::{ReportWriter, Sink};
+use crate::teller::Teller;
+use crate::told::Told;
+use lab_io::Sink;
 use link_model::Notes;
-use std::alloc::Global;
-use topology::Topology;
 use world::{Meter, NodeController, World};
 use world_model::Event;
 
-/// Carries a cell of each queue once, in the order of a round. Where it ends early, a front of the lines
-/// was put, and the network can only be given up.
-pub fn round<C: NodeController, K: Sink>(
-    alloc: Global,
+/// Carries a cell of each queue once, in the order of a round. Where it ends early, a front of what is
+/// told was put, and the network can only be given up.
+pub fn round<C: NodeController, T: Teller<C>, K: Sink>(
+    context: &Context<'_>,
     world: &mut World<C>,
     notes: &mut Notes,
-    names: &Topology,
-    writer: &mut ReportWriter,
+    told: &mut Told<T>,
     sink: &mut K,
     meter: &mut Meter,
 ) -> Result<(), Stop>
     ghost topology: { Described }
-    requires names { names.now ≡ topology }
+    requires names { context.now.names.now ≡ topology }
     requires empty { notes.old.records ≡ [] }
     requires runs { Runs C.seen topology world.old }
     requires few { (world_of C.seen world.old notes.old).events + length (round_of (world_of C.seen world.old notes.old)) ≤ event_limit }
     ensures world { OnOk result (world_of C.seen world.new notes.new ≡ put_away (world_after topology (world_of C.seen world.old notes.old) (round_of (world_of C.seen world.old notes.old)))) }
     ensures empty { OnOk result (notes.new.records ≡ []) }
     ensures runs { OnOk result (Runs C.seen topology world.new) }
-    ensures put { Puts result writer.old writer.new (K.written sink.old) (K.written sink.new) (told topology (world_of C.seen world.old notes.old) (round_of (world_of C.seen world.old notes.old))) }
-    ensures room { StaysWithin writer.old writer.new }
+    ensures put { Puts result told.old.writer told.new.writer (K.written sink.old) (K.written sink.new) (telling T.tale (T.state told.old.teller) topology (world_of C.seen world.old notes.old) (placed_events context.now.line (round_of (world_of C.seen world.old notes.old)))).octets }
+    ensures state { OnOk result (T.state told.new.teller ≡ (telling T.tale (T.state told.old.teller) topology (world_of C.seen world.old notes.old) (placed_events context.now.line (round_of (world_of C.seen world.old notes.old)))).state) }
+    ensures room { StaysWithin told.old.writer told.new.writer }
     ensures faults { K.faults sink.new ≡ count_after (is_failed result) (K.faults sink.old) }
     ensures meter { OnOk result (meter.new ≡ meter_behind meter.old topology (world_of C.seen world.old notes.old) (round_of (world_of C.seen world.old notes.old))) }
     ensures kept { OnErr result (IsMeterIn meter.old topology (world_of C.seen world.old notes.old) (round_of (world_of C.seen world.old notes.old)) meter.new) }
 {
     for index in 0..world.places() {
         let event = Event::Carry(world.place(index));
-        step(alloc, world, notes, &event, names, writer, sink, meter)?;
+        step(context, &event, world, notes, told, sink, meter)?;
     }
     Ok(())
 }
 
-/// So many rounds, one after the other. Where they end early, a front of the lines was put, and the
+/// So many rounds, one after the other. Where they end early, a front of what is told was put, and the
 /// network can only be given up.
-pub fn rounds<C: NodeController, K: Sink>(
-    alloc: Global,
+pub fn rounds<C: NodeController, T: Teller<C>, K: Sink>(
+    context: &Context<'_>,
     count: u32,
     world: &mut World<C>,
     notes: &mut Notes,
-    names: &Topology,
-    writer: &mut ReportWriter,
+    told: &mut Told<T>,
     sink: &mut K,
     meter: &mut Meter,
 ) -> Result<(), Stop>
     ghost topology: { Described }
-    requires names { names.now ≡ topology }
+    requires names { context.now.names.now ≡ topology }
     requires empty { notes.old.records ≡ [] }
     requires runs { Runs C.seen topology world.old }
     requires few { (world_of C.seen world.old notes.old).events + length (repeat count (round_of (world_of C.seen world.old notes.old))) ≤ event_limit }
     ensures world { OnOk result (world_of C.seen world.new notes.new ≡ put_away (world_after topology (world_of C.seen world.old notes.old) (repeat count (round_of (world_of C.seen world.old notes.old))))) }
     ensures empty { OnOk result (notes.new.records ≡ []) }
     ensures runs { OnOk result (Runs C.seen topology world.new) }
-    ensures put { Puts result writer.old writer.new (K.written sink.old) (K.written sink.new) (told topology (world_of C.seen world.old notes.old) (repeat count (round_of (world_of C.seen world.old notes.old)))) }
-    ensures room { StaysWithin writer.old writer.new }
+    ensures put { Puts result told.old.writer told.new.writer (K.written sink.old) (K.written sink.new) (telling T.tale (T.state told.old.teller) topology (world_of C.seen world.old notes.old) (placed_events context.now.line (repeat count (round_of (world_of C.seen world.old notes.old))))).octets }
+    ensures state { OnOk result (T.state told.new.teller ≡ (telling T.tale (T.state told.old.teller) topology (world_of C.seen world.old notes.old) (placed_events context.now.line (repeat count (round_of (world_of C.seen world.old notes.old))))).state) }
+    ensures room { StaysWithin told.old.writer told.new.writer }
     ensures faults { K.faults sink.new ≡ count_after (is_failed result) (K.faults sink.old) }
     ensures meter { OnOk result (meter.new ≡ meter_behind meter.old topology (world_of C.seen world.old notes.old) (repeat count (round_of (world_of C.seen world.old notes.old)))) }
 {
     for _turn in 0..count {
-        round(alloc, world, notes, names, writer, sink, meter)?;
+        round(context, world, notes, told, sink, meter)?;
     }
     Ok(())
 }

@@ -2,7 +2,7 @@
 
 ghost use Rattle.std.specs.Prelude.{◌≡◌, ◌⊎◌, [], OnOk, OnErr};
 ghost use Rattle.lab_io.specs.Fault.{count_after};
-ghost use Rattle.script_model.specs.Reports.{record_lines};
+ghost use Rattle.telling_model.specs.Placed.{placed};
 ghost use Rattle.world_model.specs.Conditions.{CanCome};
 ghost use Rattle.world_model.specs.Run.{next, put_away};
 ghost use Rattle.world_model.specs.Topology.{Topology as Described};
@@ -11,43 +11,45 @@ ghost use Rattle.world.specs.Network.{world_of};
 ghost use Rattle.world.specs.Running.{Runs};
 ghost use Rattle.network_run.specs.Telling.{Puts, StaysWithin, is_failed};
 
-use crate::lines::put_records;
+use crate::context::Context;
 use crate::stop::Stop;
-use lab_io::{ReportWriter, Sink};
+use crate::teller::Teller;
+use crate::told::Told;
+use lab_io::Sink;
 use link_model::Notes;
-use std::alloc::Global;
-use topology::Topology;
 use world::{Meter, NodeController, World};
 use world_model::Event;
 
-/// Steps an event, puts the lines of its records to the report, and puts the records away. Where it
-/// ends early, a front of these lines was put, and the network can only be given up.
-pub fn step<C: NodeController, K: Sink>(
-    alloc: Global,
+/// Steps an event, puts to the report what is told of it, and puts its records away. Where it ends
+/// early, a front of that was put, and the network can only be given up.
+pub fn step<C: NodeController, T: Teller<C>, K: Sink>(
+    context: &Context<'_>,
+    event: &Event,
     world: &mut World<C>,
     notes: &mut Notes,
-    event: &Event,
-    names: &Topology,
-    writer: &mut ReportWriter,
+    told: &mut Told<T>,
     sink: &mut K,
     meter: &mut Meter,
 ) -> Result<(), Stop>
     ghost topology: { Described }
-    requires names { names.now ≡ topology }
+    requires names { context.now.names.now ≡ topology }
     requires empty { notes.old.records ≡ [] }
     requires runs { Runs C.seen topology world.old }
     requires come { CanCome topology (world_of C.seen world.old notes.old) event.now }
     ensures world { OnOk result (world_of C.seen world.new notes.new ≡ put_away (next topology (world_of C.seen world.old notes.old) event.now)) }
     ensures empty { OnOk result (notes.new.records ≡ []) }
     ensures runs { OnOk result (Runs C.seen topology world.new) }
-    ensures put { Puts result writer.old writer.new (K.written sink.old) (K.written sink.new) (record_lines topology (next topology (world_of C.seen world.old notes.old) event.now).notes.records) }
-    ensures room { StaysWithin writer.old writer.new }
+    ensures put { Puts result told.old.writer told.new.writer (K.written sink.old) (K.written sink.new) (T.tale.tells (T.state told.old.teller) topology (world_of C.seen world.old notes.old) (placed context.now.line event.now)).octets }
+    ensures state { OnOk result (T.state told.new.teller ≡ (T.tale.tells (T.state told.old.teller) topology (world_of C.seen world.old notes.old) (placed context.now.line event.now)).state) }
+    ensures room { StaysWithin told.old.writer told.new.writer }
     ensures faults { K.faults sink.new ≡ count_after (is_failed result) (K.faults sink.old) }
     ensures meter { OnOk result (meter.new ≡ reading_of (next topology (world_of C.seen world.old notes.old) event.now)) }
     ensures kept { OnErr result ((meter.new ≡ meter.old) ⊎ (meter.new ≡ reading_of (next topology (world_of C.seen world.old notes.old) event.now))) }
 {
+    told.teller.before(world, notes, event);
     world.step(event, notes, meter)?;
-    put_records(alloc, notes.records(), names, writer, sink)?;
+    told.teller
+        .after(context, event, world, notes, &mut told.writer, sink)?;
     notes.clear();
     Ok(())
 }

@@ -1,14 +1,20 @@
-//! The run of a network event by event: each event is stepped, the lines of its records are put to the
-//! report, and its records are put away.
+//! The run of a network event by event: each event is stepped, it is told of, and its records are put
+//! away. What is told of it, and put to a report, is its teller's.
 #![tactic(auto)]
 
 mod carries;
+mod context;
 mod engine;
-mod lines;
 mod stop;
+mod teller;
 mod ticks;
+mod told;
 
 pub use carries::{round, rounds};
+pub use context::Context;
 pub use engine::step;
 pub use stop::Stop;
+pub use teller::Teller;
+pub use telling_model::Ended;
 pub use ticks::tick_all;
+pub use told::Told;

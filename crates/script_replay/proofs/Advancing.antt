@@ -1,6 +1,6 @@
 -- a replay goes on in its input
 
-use Rattle.std.proofs.Common.{◌≡◌, ◌⊎◌, inl, inr, ℕ, ◌+◌, ◌-◌, ◌<◌, ◌≤◌, Bool, true, false, List, [], ◌∷◌, ◌++◌, append_assoc, append-nil, length, length-append, take, Option, None, Some, Result, Ok, Err, IsErrAnd, refl, sym, ◌∙◌, ap, subst, arith}
+use Rattle.std.proofs.Common.{◌≡◌, ◌⊎◌, inl, inr, ℕ, ◌+◌, ◌-◌, ◌<◌, ◌≤◌, ◌==◌, Bool, true, false, List, [], ◌∷◌, ◌++◌, append_assoc, append-nil, length, length-append, take, Option, None, Some, Result, Ok, Err, IsErrAnd, refl, sym, ◌∙◌, ap, subst, arith, if◌then◌else◌}
 use Rattle.std.specs.Io.KnownBytes.{Consumes, IsAtEnd}
 use Rattle.std.proofs.KnownBytes.{Consumes-trans}
 use Rattle.std.proofs.lemmas.Bool.Decides.{nat_tests}
@@ -18,26 +18,28 @@ use Rattle.script_model.specs.declared.refusal.LineRefusal.TheVariants.{LineTooL
 use Rattle.script_model.specs.declared.refusal.Refused.{Refused}
 use Rattle.script_model.specs.declared.refusal.Refused.TheVariants.{Line as LineIs}
 use Rattle.script_model.specs.Reading.{line_says}
-use Rattle.script_model.specs.Reports.{body_under, last_line}
 use Rattle.script_model.specs.Script.{Script, number_of, script_of}
+use Rattle.telling_model.specs.Placed.{Placed, placed_of}
+use Rattle.telling_model.specs.Tale.{Tale, end_of, told_of}
 use Rattle.world.specs.declared.counts.Meter.{Meter}
 use Rattle.network_run.specs.declared.stop.Stop.{Stop}
 use Rattle.network_run.specs.declared.stop.Stop.TheVariants as stop
+use Rattle.network_run.specs.declared.told.Told.{Told}
 use Rattle.network_run.specs.Telling.{IsLeft}
 use Rattle.network_run.proofs.Telling.{put_then, stops_by}
 use Rattle.network_replay.specs.declared.replay.Replay.{Replay}
-use Rattle.network_replay.specs.Along.{EndsScript, IsAlong, IsAtLast}
-use Rattle.network_replay.proofs.Course.{along_ends, along_refused}
+use Rattle.network_replay.specs.Along.{EndsScript, IsAlong, IsAtLast, last_told}
+use Rattle.network_replay.proofs.Onward.{along_ends, along_refused}
 use Rattle.network_replay.proofs.Taking.{lines_are_read}
 use Rattle.script_replay.specs.declared.fault.ReplayFault.{ReplayFault}
 use Rattle.script_replay.specs.declared.script_run.ScriptRun.{ScriptRun}
 use Rattle.script_replay.specs.declared.script_run.Step.{Step}
 use Rattle.script_replay.specs.Faults.{fault_of}
-use Rattle.script_replay.specs.Report.{body_by}
+use Rattle.script_replay.specs.Report.{account_by, telling_by}
 use Rattle.network_replay.specs.Lines.{HasCounted}
 use Rattle.script_replay.specs.Reading.{Advances, Halts, HasLineRoom, HasNext, HasShape, IsAtLine, IsCounted, IsInMidst, IsSettled, IsStopped, IsTold, Stops, ends_line, at_last}
 use Rattle.script_replay.proofs.InputLines.{Answers, IsFirst, all_of_it, answer_at_end, answer_is, answer_says, front_line, has_end, has_no_end, no_answer, with_end}
-use Rattle.script_replay.proofs.InputScripts.{Fits, Refuses, long_refused, past_refused, script_at, script_end, script_in, script_last, script_next}
+use Rattle.script_replay.proofs.InputScripts.{Fits, Read, Refuses, long_refused, past_refused, read_at, read_end, read_in, read_last, read_next, read_of}
 
 -- nothing stands behind all of it
 nil_behind : (line held : List ℕ) → line ≡ line ++ held → held ≡ []
@@ -60,7 +62,7 @@ none_left None others end is = absurd (cc is)
 none_left (Some xs) others end is = (let same : xs ≡ others = cc in sym same ∙ end)
 
 -- a line that is given counts
-pub line_room : {C : Type 0} (run : ScriptRun C) (now : Reader) (left later : Option (List ℕ)) (line : List ℕ) → IsCounted run → reading.IsNext run.reader now left later (Given line) → HasLineRoom run.replay.state (length line)
+pub line_room : {C T : Type 0} (run : ScriptRun C T) (now : Reader) (left later : Option (List ℕ)) (line : List ℕ) → IsCounted run → reading.IsNext run.reader now left later (Given line) → HasLineRoom run.replay.state (length line)
 line_room run now left later line k n =
     let an : Answers run.reader.given (is_all run.reader.given now.is_ended n.seen) n.seen (Given line) = answer_is run.reader.given now.is_ended n.seen (Given line) n.answered in
     let says = answer_says run.reader.given an.line (Given line) an.answered in
@@ -68,7 +70,7 @@ line_room run now left later line k n =
     (omega (arith, k.octets, says.1.low, size), omega (arith, k.lines, k.low))
 
 -- and was counted
-pub line_counted : {C : Type 0} (run now : ScriptRun C) (left later : Option (List ℕ)) (line : List ℕ) → IsCounted run → reading.IsNext run.reader now.reader left later (Given line) → HasCounted run.replay.state line now.replay.state → IsCounted now
+pub line_counted : {C T : Type 0} (run now : ScriptRun C T) (left later : Option (List ℕ)) (line : List ℕ) → IsCounted run → reading.IsNext run.reader now.reader left later (Given line) → HasCounted run.replay.state line now.replay.state → IsCounted now
 line_counted run now left later line k n c =
     let an : Answers run.reader.given (is_all run.reader.given now.reader.is_ended n.seen) n.seen (Given line) = answer_is run.reader.given now.reader.is_ended n.seen (Given line) n.answered in
     let says = answer_says run.reader.given an.line (Given line) an.answered in
@@ -94,17 +96,17 @@ still_at_end left_of old new r was unread (inl is) =
     (let answer = answer_at_end r.given r.is_ended r.held is in subst (λ s. IsAtEnd (left_of s)) (sym (unread answer.0 answer.1)) (was is))
 still_at_end left_of old new r was unread (inr is) = is
 
-module _ {C : Type 0} (seen : C → Controller) (choice : Topology → Policy) (first : Writer) (start : Option (List ℕ)) (before : Meter) (from : Option (List ℕ)) where
+module _ {C T S : Type 0} (seen : C → Controller) (known : T → S) (tale : Tale S) (choice : Topology → Policy) (first : Writer) (start : Option (List ℕ)) (before : Meter) (from : Option (List ℕ)) where
   -- *The reader* has read on
   read_on : (given held seen_octets read : List ℕ) (left later : Option (List ℕ)) → Consumes from left (given ++ held) → Consumes left later read → seen_octets ≡ held ++ read → Consumes from later (given ++ seen_octets)
   read_on given held octets read left later h n behind =
       subst (Consumes from later) (append_assoc given held read ∙ ap (λ xs. given ++ xs) (sym behind)) (Consumes-trans from left later (given ++ held) read h n)
 
   -- *A line is given*
-  pub next_line : (run now : ScriptRun C) (left later written : Option (List ℕ)) (meter : Meter) (line : List ℕ) → IsAtLine seen choice first start before from run left written meter
-      → now.replay ≡ run.replay → now.writer ≡ run.writer → reading.IsNext run.reader now.reader left later (Given line) → (now.reader.is_ended ≡ true → IsAtEnd later)
-      → HasNext seen choice first start before from line now later written meter
-  next_line run now left later written meter line h same_replay same_writer n ended =
+  pub next_line : (run now : ScriptRun C T) (left later written : Option (List ℕ)) (meter : Meter) (line : List ℕ) → IsAtLine seen known tale choice first start before from run left written meter
+      → now.replay ≡ run.replay → now.told ≡ run.told → reading.IsNext run.reader now.reader left later (Given line) → (now.reader.is_ended ≡ true → IsAtEnd later)
+      → HasNext seen known tale choice first start before from line now later written meter
+  next_line run now left later written meter line h same_replay same_told n ended =
       let an : Answers run.reader.given (is_all run.reader.given now.reader.is_ended n.seen) n.seen (Given line) = answer_is run.reader.given now.reader.is_ended n.seen (Given line) n.answered in
       let says = answer_says run.reader.given an.line (Given line) an.answered in
       let is_first : IsFirst (is_all run.reader.given now.reader.is_ended n.seen) n.seen line = subst (IsFirst (is_all run.reader.given now.reader.is_ended n.seen) n.seen) says.0 an.first in
@@ -119,8 +121,8 @@ module _ {C : Type 0} (seen : C → Controller) (choice : Topology → Policy) (
         low = omega (arith, n.kept.1, says.1.low, size);
         shape = shape_of is_first (omega (arith, says.1.some, size)) (omega (arith, says.1.low, size)) n.kept.0;
         ended = ended;
-        along = subst (λ (r : Replay C). IsAlong seen choice line_says first start before h.lines r now.writer written meter) (sym same_replay)
-            (subst (λ (w : Writer). IsAlong seen choice line_says first start before h.lines run.replay w written meter) (sym same_writer) h.along);
+        along = subst (λ (r : Replay C). IsAlong seen known tale choice line_says first start before h.lines r now.told written meter) (sym same_replay)
+            (subst (λ (w : Told T). IsAlong seen known tale choice line_says first start before h.lines run.replay w written meter) (sym same_told) h.along);
       }
     where
       shape_of : IsFirst (is_all run.reader.given now.reader.is_ended n.seen) n.seen line → 0 < length line → run.reader.given + length line < input_limit → n.seen ≡ line ++ now.reader.held
@@ -134,7 +136,7 @@ module _ {C : Type 0} (seen : C → Controller) (choice : Topology → Policy) (
           (only_line line some (omega (arith, high)), nil_behind line now.reader.held (same ∙ kept), at_end)
 
   -- *What became of a line*
-  module _ (line : List ℕ) (run : ScriptRun C) (left written : Option (List ℕ)) (meter : Meter) (h : HasNext seen choice first start before from line run left written meter) where
+  module _ (line : List ℕ) (run : ScriptRun C T) (left written : Option (List ℕ)) (meter : Meter) (h : HasNext seen known tale choice first start before from line run left written meter) where
     low : length h.given < input_limit
     low = omega (arith, h.size, h.low)
 
@@ -145,12 +147,12 @@ module _ {C : Type 0} (seen : C → Controller) (choice : Topology → Policy) (
     one_line true shape = ap lines_of (sym (append-nil line)) ∙ shape []
     one_line false shape = shape.0
 
-    whole_script : script_of (h.given ++ line) ≡ script_in (h.lines ++ line ∷ [])
-    whole_script = script_last h.given h.lines low h.split line few (one_line (ends_line line) h.shape)
+    whole_script : read_of (h.given ++ line) ≡ read_in (h.lines ++ line ∷ [])
+    whole_script = read_last h.given h.lines low h.split line few (one_line (ends_line line) h.shape)
 
-    pub taken_with_end : (now : ScriptRun C) (then : Option (List ℕ)) (after : Meter) → ends_line line ≡ true → now.reader ≡ run.reader
-        → IsAlong seen choice line_says first start before (h.lines ++ line ∷ []) now.replay now.writer then after → IsAtLine seen choice first start before from now left then after
-    taken_with_end now then after e same along =
+    pub taken_with_end : (now : ScriptRun C T) (wrote : Option (List ℕ)) (after : Meter) → ends_line line ≡ true → now.reader ≡ run.reader
+        → IsAlong seen known tale choice line_says first start before (h.lines ++ line ∷ []) now.replay now.told wrote after → IsAtLine seen known tale choice first start before from now left wrote after
+    taken_with_end now wrote after e same along =
         let shape : (others : List ℕ) → lines_of (line ++ others) ≡ line ∷ lines_of others = subst (λ (b : Bool). HasShape b line run.reader.held left) e h.shape in
         record {
           lines = h.lines ++ line ∷ [];
@@ -163,47 +165,53 @@ module _ {C : Type 0} (seen : C → Controller) (choice : Topology → Policy) (
           along = along;
         }
 
-    pub taken_last : (now : ScriptRun C) (then : Option (List ℕ)) (after : Meter) → ends_line line ≡ false
-        → IsAlong seen choice line_says first start before (h.lines ++ line ∷ []) now.replay now.writer then after → IsSettled seen choice first start before from None now left then after
-    taken_last now then after e along =
+    pub taken_last : (now : ScriptRun C T) (wrote : Option (List ℕ)) (after : Meter) → ends_line line ≡ false
+        → IsAlong seen known tale choice line_says first start before (h.lines ++ line ∷ []) now.replay now.told wrote after → IsSettled seen tale choice first start before from None now left wrote after
+    taken_last now wrote after e along =
         let shape = subst (λ (b : Bool). HasShape b line run.reader.held left) e h.shape in
         record {
           input = h.given ++ line;
           is_read = record {
             read = subst (Consumes from left) (ap (λ xs. (h.given ++ line) ++ xs) shape.1 ∙ append-nil (h.given ++ line)) h.read;
-            settled = λ others is. ap (λ xs. script_of ((h.given ++ line) ++ xs)) (none_left left others shape.2 is) ∙ ap script_of (append-nil (h.given ++ line));
+            settled = λ others is. ap script_of (ap (λ xs. (h.given ++ line) ++ xs) (none_left left others shape.2 is) ∙ append-nil (h.given ++ line));
+            placed = λ others is. ap placed_of (ap (λ xs. (h.given ++ line) ++ xs) (none_left left others shape.2 is) ∙ append-nil (h.given ++ line));
           };
           at_end = λ none. shape.2;
-          last = subst (λ (s : Script). IsAtLast seen choice first start before s None now.replay now.writer then after) (sym whole_script)
-              (along_ends seen choice line_says lines_are_read first now.writer start then before after (h.lines ++ line ∷ []) now.replay along);
+          last = subst (λ (s : Read). IsAtLast seen tale choice first start before s.0 s.1 None now.replay now.told.writer wrote after) (sym whole_script)
+              (along_ends tale choice seen known line_says lines_are_read first now.told start wrote before after (h.lines ++ line ∷ []) now.replay along);
         }
 
     -- the script is the same, whatever is left
-    script_stays : (script : Script) → ((others : List (List ℕ)) → script_in (h.lines ++ line ∷ others) ≡ script) → (b : Bool) → HasShape b line run.reader.held left → (others : List ℕ) → (b ≡ false → others ≡ [])
-        → script_of (((h.given ++ line) ++ run.reader.held) ++ others) ≡ script
-    script_stays script same true shape others none =
-        ap script_of (append_assoc (h.given ++ line) run.reader.held others ∙ append_assoc h.given line (run.reader.held ++ others))
-        ∙ script_next h.given h.lines low h.split line (run.reader.held ++ others) few shape ∙ same _
-    script_stays script same false shape others none =
-        (λ i. script_of (((h.given ++ line) ++ shape.1 i) ++ none refl i)) ∙ ap script_of (append-nil ((h.given ++ line) ++ []) ∙ append-nil (h.given ++ line)) ∙ whole_script ∙ same []
+    script_stays : (same_as : Read) → ((others : List (List ℕ)) → read_in (h.lines ++ line ∷ others) ≡ same_as) → (b : Bool) → HasShape b line run.reader.held left → (others : List ℕ) → (b ≡ false → others ≡ [])
+        → read_of (((h.given ++ line) ++ run.reader.held) ++ others) ≡ same_as
+    script_stays same_as same true shape others none =
+        ap read_of (append_assoc (h.given ++ line) run.reader.held others ∙ append_assoc h.given line (run.reader.held ++ others))
+        ∙ read_next h.given h.lines low h.split line (run.reader.held ++ others) few shape ∙ same _
+    script_stays same_as same false shape others none =
+        (λ i. read_of (((h.given ++ line) ++ shape.1 i) ++ none refl i)) ∙ ap read_of (append-nil ((h.given ++ line) ++ []) ∙ append-nil (h.given ++ line)) ∙ whole_script ∙ same []
 
     end_of_shape : (b : Bool) → HasShape b line run.reader.held left → b ≡ false → IsAtEnd left
     end_of_shape true shape e = absurd (cc e)
     end_of_shape false shape e = shape.2
 
-    pub taken_refused : (now : ScriptRun C) (then : Option (List ℕ)) (after : Meter) (refused : Refused) → EndsScript seen choice line_says first start before h.lines line refused now.replay now.writer then after
-        → IsSettled seen choice first start before from (Some refused) now left then after
-    taken_refused now then after refused ends =
+    pub taken_refused : (now : ScriptRun C T) (wrote : Option (List ℕ)) (after : Meter) (refused : Refused) → EndsScript seen tale choice line_says first start before h.lines line refused now.replay now.told.writer wrote after
+        → IsSettled seen tale choice first start before from (Some refused) now left wrote after
+    taken_refused now wrote after refused ends =
         let input : List ℕ = (h.given ++ line) ++ run.reader.held in
-        let bare : script_of input ≡ ends.script = ap script_of (sym (append-nil input)) ∙ script_stays ends.script ends.same (ends_line line) h.shape [] (λ e. refl) in
+        let same_as : Read = (ends.script, ends.placed) in
+        let same : ((others : List (List ℕ)) → read_in (h.lines ++ line ∷ others) ≡ same_as) = λ others i. (ends.same others i, ends.same_placed others i) in
+        let bare : read_of input ≡ same_as = ap read_of (sym (append-nil input)) ∙ script_stays same_as same (ends_line line) h.shape [] (λ e. refl) in
+        let settled : ((others : List ℕ) → left ≡ Some others → read_of (input ++ others) ≡ read_of input) =
+        λ others is. script_stays same_as same (ends_line line) h.shape others (λ e. none_left left others (end_of_shape (ends_line line) h.shape e) is) ∙ sym bare in
         record {
           input = input;
           is_read = record {
             read = h.read;
-            settled = λ others is. script_stays ends.script ends.same (ends_line line) h.shape others (λ e. none_left left others (end_of_shape (ends_line line) h.shape e) is) ∙ sym bare;
+            settled = λ others is. ap (λ (s : Read). s.0) (settled others is);
+            placed = λ others is. ap (λ (s : Read). s.1) (settled others is);
           };
           at_end = λ none. absurd (cc none);
-          last = subst (λ (s : Script). IsAtLast seen choice first start before s (Some refused) now.replay now.writer then after) (sym bare) ends.last;
+          last = subst (λ (s : Read). IsAtLast seen tale choice first start before s.0 s.1 (Some refused) now.replay now.told.writer wrote after) (sym bare) ends.last;
         }
 
     lines_stay : (b : Bool) → HasShape b line run.reader.held left → (others : List ℕ) → (b ≡ false → others ≡ [])
@@ -217,39 +225,39 @@ module _ {C : Type 0} (seen : C → Controller) (choice : Topology → Policy) (
         (λ i. lines_of ((h.given ++ line) ++ (shape.1 i ++ none refl i))) ∙ ap lines_of (append-nil (h.given ++ line)) ∙ sym (append-nil (lines_of (h.given ++ line)))
         ∙ sym (λ i. lines_of (h.given ++ line) ++ lines_of (shape.1 i ++ none refl i))
 
-    pub taken_stopped : (later : Writer) (then : Option (List ℕ)) (stop : Stop)
-        → ((others : List (List ℕ)) → IsLeft stop first later start then (body_under (choice (script_in (h.lines ++ line ∷ others)).topology) (script_in (h.lines ++ line ∷ others))))
-        → IsStopped choice first start from stop later left then
-    taken_stopped later then stop p = record {
+    pub taken_stopped : (later : Writer) (wrote : Option (List ℕ)) (stop : Stop)
+        → ((others : List (List ℕ)) → IsLeft stop first later start wrote (telling_by tale choice (read_in (h.lines ++ line ∷ others)).0 (read_in (h.lines ++ line ∷ others)).1))
+        → IsStopped (telling_by tale choice) first start from stop later left wrote
+    taken_stopped later wrote stop p = record {
       whole = h.given ++ line;
       rest = run.reader.held;
       lines = record {
         read = h.read;
         lines = λ others is. lines_stay (ends_line line) h.shape others (λ e. none_left left others (end_of_shape (ends_line line) h.shape e) is);
       };
-      put = subst (λ (s : Script). IsLeft stop first later start then (body_by choice s)) (sym whole_script) (p []);
+      put = subst (λ (s : Read). IsLeft stop first later start wrote (telling_by tale choice s.0 s.1)) (sym whole_script) (p []);
     }
 
     -- as a fault tells it
-    pub taken_halted : (later : Writer) (then : Option (List ℕ)) (stop : Stop)
-        → ((others : List (List ℕ)) → IsLeft stop first later start then (body_under (choice (script_in (h.lines ++ line ∷ others)).topology) (script_in (h.lines ++ line ∷ others))))
-        → Halts choice first start from (fault_of stop) later left then
-    taken_halted later then stop.Failed p = taken_stopped later then stop.Failed p
-    taken_halted later then (stop.OutOfMemory error) p = taken_stopped later then (stop.OutOfMemory error) p
+    pub taken_halted : (later : Writer) (wrote : Option (List ℕ)) (stop : Stop)
+        → ((others : List (List ℕ)) → IsLeft stop first later start wrote (telling_by tale choice (read_in (h.lines ++ line ∷ others)).0 (read_in (h.lines ++ line ∷ others)).1))
+        → Halts (telling_by tale choice) first start from (fault_of stop) later left wrote
+    taken_halted later wrote stop.Failed p = taken_stopped later wrote stop.Failed p
+    taken_halted later wrote (stop.OutOfMemory error) p = taken_stopped later wrote (stop.OutOfMemory error) p
 
-  pub as_told : (result : Result Step ReplayFault) (fault : ReplayFault) (now : ScriptRun C) (left then : Option (List ℕ)) (after : Meter) → IsErrAnd result (λ f. f ≡ fault) → Halts choice first start from fault now.writer left then
-      → Advances seen choice first start before from result now left then after
-  as_told (Ok step) fault now left then after is h = absurd is
-  as_told (Err other) fault now left then after is h = subst (λ (f : ReplayFault). Halts choice first start from f now.writer left then) (sym is) h
+  pub as_told : (result : Result Step ReplayFault) (fault : ReplayFault) (now : ScriptRun C T) (left wrote : Option (List ℕ)) (after : Meter) → IsErrAnd result (λ f. f ≡ fault) → Halts (telling_by tale choice) first start from fault now.told.writer left wrote
+      → Advances seen known tale choice first start before from result now left wrote after
+  as_told (Ok step) fault now left wrote after is h = absurd is
+  as_told (Err other) fault now left wrote after is h = subst (λ (f : ReplayFault). Halts (telling_by tale choice) first start from f now.told.writer left wrote) (sym is) h
 
   -- *A line that is refused for its length*
-  refused_for : (run now : ScriptRun C) (left later written : Option (List ℕ)) (meter : Meter) (name : LineRefusal) (answer : Answer) (h : IsAtLine seen choice first start before from run left written meter)
-      (n : reading.IsNext run.reader now.reader left later answer) → now.replay ≡ run.replay → now.writer ≡ run.writer → run.replay.state.octets ≡ run.reader.given → run.reader.given < input_limit
+  refused_for : (run now : ScriptRun C T) (left later written : Option (List ℕ)) (meter : Meter) (name : LineRefusal) (answer : Answer) (h : IsAtLine seen known tale choice first start before from run left written meter)
+      (n : reading.IsNext run.reader now.reader left later answer) → now.replay ≡ run.replay → now.told ≡ run.told → run.replay.state.octets ≡ run.reader.given → run.reader.given < input_limit
       → (now.reader.is_ended ≡ true → IsAtEnd later) → Refuses run.replay.state (input_limit - run.replay.state.octets) (is_all run.reader.given now.reader.is_ended n.seen) n.seen name
-      → IsSettled seen choice first start before from (Some (LineIs (number_of now.replay.state) name)) now later written meter
-  refused_for run now left later written meter name answer h n same_replay same_writer octets low ended r =
-      subst (λ (p : Replay C). IsSettled seen choice first start before from (Some (LineIs (number_of p.state) name)) (record now { replay = p }) later written meter) (sym same_replay)
-      (subst (λ (w : Writer). IsSettled seen choice first start before from (Some (LineIs (number_of run.replay.state) name)) (record now { replay = run.replay; writer = w }) later written meter) (sym same_writer) settled)
+      → IsSettled seen tale choice first start before from (Some (LineIs (number_of now.replay.state) name)) now later written meter
+  refused_for run now left later written meter name answer h n same_replay same_told octets low ended r =
+      subst (λ (p : Replay C). IsSettled seen tale choice first start before from (Some (LineIs (number_of p.state) name)) (record now { replay = p }) later written meter) (sym same_replay)
+      (subst (λ (w : Told T). IsSettled seen tale choice first start before from (Some (LineIs (number_of run.replay.state) name)) (record now { replay = run.replay; told = w }) later written meter) (sym same_told) settled)
     where
       size : length h.given ≡ run.replay.state.octets
       size = h.size ∙ sym octets
@@ -257,70 +265,72 @@ module _ {C : Type 0} (seen : C → Controller) (choice : Topology → Policy) (
       short : length h.given < input_limit
       short = omega (arith, h.size, low)
 
-      ends : EndsScript seen choice line_says first start before h.lines r.line (LineIs (number_of run.replay.state) name) run.replay run.writer written meter
-      ends = along_refused seen choice line_says lines_are_read first run.writer start written before meter h.lines r.line name run.replay h.along r.says
+      ends : EndsScript seen tale choice line_says first start before h.lines r.line (LineIs (number_of run.replay.state) name) run.replay run.told.writer written meter
+      ends = along_refused tale choice seen known line_says lines_are_read first run.told start written before meter h.lines r.line name run.replay h.along r.says
 
-      at : (others : List ℕ) → Fits run.replay.state.octets (is_all run.reader.given now.reader.is_ended n.seen) n.seen others → script_of ((h.given ++ n.seen) ++ others) ≡ ends.script
+      at : (others : List ℕ) → Fits run.replay.state.octets (is_all run.reader.given now.reader.is_ended n.seen) n.seen others → read_of ((h.given ++ n.seen) ++ others) ≡ (ends.script, ends.placed)
       at others fits =
           (let found = r.at others fits in
-          ap script_of (append_assoc h.given n.seen others) ∙ script_at h.given h.lines short h.split (n.seen ++ others)
-          ∙ ap (λ k. script_in (h.lines ++ lines_of (take (input_limit - k) (n.seen ++ others)))) size
-          ∙ ap (λ ls. script_in (h.lines ++ ls)) found.1 ∙ ends.same found.0)
+          let same : read_in (h.lines ++ r.line ∷ found.0) ≡ (ends.script, ends.placed) = λ i. (ends.same found.0 i, ends.same_placed found.0 i) in
+          ap read_of (append_assoc h.given n.seen others) ∙ read_at h.given h.lines short h.split (n.seen ++ others)
+          ∙ ap (λ k. read_in (h.lines ++ lines_of (take (input_limit - k) (n.seen ++ others)))) size
+          ∙ ap (λ ls. read_in (h.lines ++ ls)) found.1 ∙ same)
 
-      bare : script_of (h.given ++ n.seen) ≡ ends.script
-      bare = ap script_of (sym (append-nil (h.given ++ n.seen))) ∙ at [] (λ w. inr refl)
+      bare : read_of (h.given ++ n.seen) ≡ (ends.script, ends.placed)
+      bare = ap read_of (sym (append-nil (h.given ++ n.seen))) ∙ at [] (λ w. inr refl)
 
       fits_left : (others : List ℕ) → later ≡ Some others → Fits run.replay.state.octets (is_all run.reader.given now.reader.is_ended n.seen) n.seen others
       fits_left others is w = elim (whole_is run.reader.given now.reader.is_ended n.seen w) [ inl e ↦ inr (none_left later others (ended e) is) | inr past ↦ inl (omega (arith, past, octets)) ]
 
-      settled : IsSettled seen choice first start before from (Some (LineIs (number_of run.replay.state) name)) (record now { replay = run.replay; writer = run.writer }) later written meter
+      settled : IsSettled seen tale choice first start before from (Some (LineIs (number_of run.replay.state) name)) (record now { replay = run.replay; told = run.told }) later written meter
       settled = record {
         input = h.given ++ n.seen;
         is_read = record {
           read = read_on h.given run.reader.held n.seen n.saw.read left later h.read n.saw.consumed n.saw.behind;
-          settled = λ others is. at others (fits_left others is) ∙ sym bare;
+          settled = λ others is. ap (λ (s : Read). s.0) (at others (fits_left others is) ∙ sym bare);
+          placed = λ others is. ap (λ (s : Read). s.1) (at others (fits_left others is) ∙ sym bare);
         };
         at_end = λ none. absurd (cc none);
-        last = subst (λ (s : Script). IsAtLast seen choice first start before s (Some (LineIs (number_of run.replay.state) name)) run.replay run.writer written meter) (sym bare) ends.last;
+        last = subst (λ (s : Read). IsAtLast seen tale choice first start before s.0 s.1 (Some (LineIs (number_of run.replay.state) name)) run.replay run.told.writer written meter) (sym bare) ends.last;
       }
 
-  pub long_line : (run now : ScriptRun C) (left later written : Option (List ℕ)) (meter : Meter) → IsAtLine seen choice first start before from run left written meter
-      → reading.IsNext run.reader now.reader left later Long → now.replay ≡ run.replay → now.writer ≡ run.writer → run.replay.state.octets ≡ run.reader.given → run.reader.given < input_limit
-      → (now.reader.is_ended ≡ true → IsAtEnd later) → IsSettled seen choice first start before from (Some (LineIs (number_of now.replay.state) LineTooLong)) now later written meter
-  long_line run now left later written meter h n same_replay same_writer octets low ended =
+  pub long_line : (run now : ScriptRun C T) (left later written : Option (List ℕ)) (meter : Meter) → IsAtLine seen known tale choice first start before from run left written meter
+      → reading.IsNext run.reader now.reader left later Long → now.replay ≡ run.replay → now.told ≡ run.told → run.replay.state.octets ≡ run.reader.given → run.reader.given < input_limit
+      → (now.reader.is_ended ≡ true → IsAtEnd later) → IsSettled seen tale choice first start before from (Some (LineIs (number_of now.replay.state) LineTooLong)) now later written meter
+  long_line run now left later written meter h n same_replay same_told octets low ended =
       let an : Answers run.reader.given (is_all run.reader.given now.reader.is_ended n.seen) n.seen Long = answer_is run.reader.given now.reader.is_ended n.seen Long n.answered in
       let says = answer_says run.reader.given an.line Long an.answered in
-      refused_for run now left later written meter LineTooLong Long h n same_replay same_writer octets low ended
+      refused_for run now left later written meter LineTooLong Long h n same_replay same_told octets low ended
       (long_refused run.replay.state (is_all run.reader.given now.reader.is_ended n.seen) n.seen an.line an.first (omega (arith, says.0, octets)) says.1)
 
-  pub past_end : (run now : ScriptRun C) (left later written : Option (List ℕ)) (meter : Meter) → IsAtLine seen choice first start before from run left written meter
-      → reading.IsNext run.reader now.reader left later Past → now.replay ≡ run.replay → now.writer ≡ run.writer → run.replay.state.octets ≡ run.reader.given → run.reader.given < input_limit
-      → (now.reader.is_ended ≡ true → IsAtEnd later) → IsSettled seen choice first start before from (Some (LineIs (number_of now.replay.state) ScriptTooLong)) now later written meter
-  past_end run now left later written meter h n same_replay same_writer octets low ended =
+  pub past_end : (run now : ScriptRun C T) (left later written : Option (List ℕ)) (meter : Meter) → IsAtLine seen known tale choice first start before from run left written meter
+      → reading.IsNext run.reader now.reader left later Past → now.replay ≡ run.replay → now.told ≡ run.told → run.replay.state.octets ≡ run.reader.given → run.reader.given < input_limit
+      → (now.reader.is_ended ≡ true → IsAtEnd later) → IsSettled seen tale choice first start before from (Some (LineIs (number_of now.replay.state) ScriptTooLong)) now later written meter
+  past_end run now left later written meter h n same_replay same_told octets low ended =
       let an : Answers run.reader.given (is_all run.reader.given now.reader.is_ended n.seen) n.seen Past = answer_is run.reader.given now.reader.is_ended n.seen Past n.answered in
       let says = answer_says run.reader.given an.line Past an.answered in
-      refused_for run now left later written meter ScriptTooLong Past h n same_replay same_writer octets low ended
+      refused_for run now left later written meter ScriptTooLong Past h n same_replay same_told octets low ended
       (past_refused run.replay.state (is_all run.reader.given now.reader.is_ended n.seen) n.seen an.line an.first (omega (arith, low, octets)) (omega (arith, says, octets)))
 
   -- *The lines that were taken*
-  lines_given : (run : ScriptRun C) (left written : Option (List ℕ)) (meter : Meter) (h : IsAtLine seen choice first start before from run left written meter) → lines_of h.given ≡ h.lines
+  lines_given : (run : ScriptRun C T) (left written : Option (List ℕ)) (meter : Meter) (h : IsAtLine seen known tale choice first start before from run left written meter) → lines_of h.given ≡ h.lines
   lines_given run left written meter h = ap lines_of (sym (append-nil h.given)) ∙ h.split [] ∙ append-nil h.lines
 
-  given_last : (run : ScriptRun C) (left written : Option (List ℕ)) (meter : Meter) (h : IsAtLine seen choice first start before from run left written meter) → run.reader.given < input_limit
-      → IsAtLast seen choice first start before (script_of h.given) None run.replay run.writer written meter
+  given_last : (run : ScriptRun C T) (left written : Option (List ℕ)) (meter : Meter) (h : IsAtLine seen known tale choice first start before from run left written meter) → run.reader.given < input_limit
+      → IsAtLast seen tale choice first start before (script_of h.given) (placed_of h.given) None run.replay run.told.writer written meter
   given_last run left written meter h low =
-      subst (λ (s : Script). IsAtLast seen choice first start before s None run.replay run.writer written meter) (sym (script_end h.given h.lines (omega (arith, h.size, low)) h.split))
-      (along_ends seen choice line_says lines_are_read first run.writer start written before meter h.lines run.replay h.along)
+      subst (λ (s : Read). IsAtLast seen tale choice first start before s.0 s.1 None run.replay run.told.writer written meter) (sym (read_end h.given h.lines (omega (arith, h.size, low)) h.split))
+      (along_ends tale choice seen known line_says lines_are_read first run.told start written before meter h.lines run.replay h.along)
 
   -- *The end*
-  pub input_ends : (run now : ScriptRun C) (left later written : Option (List ℕ)) (meter : Meter) → IsAtLine seen choice first start before from run left written meter
-      → reading.IsNext run.reader now.reader left later Over → now.replay ≡ run.replay → now.writer ≡ run.writer → run.reader.given < input_limit
-      → (now.reader.is_ended ≡ true → IsAtEnd later) → IsSettled seen choice first start before from None now later written meter
-  input_ends run now left later written meter h n same_replay same_writer low ended =
+  pub input_ends : (run now : ScriptRun C T) (left later written : Option (List ℕ)) (meter : Meter) → IsAtLine seen known tale choice first start before from run left written meter
+      → reading.IsNext run.reader now.reader left later Over → now.replay ≡ run.replay → now.told ≡ run.told → run.reader.given < input_limit
+      → (now.reader.is_ended ≡ true → IsAtEnd later) → IsSettled seen tale choice first start before from None now later written meter
+  input_ends run now left later written meter h n same_replay same_told low ended =
       let an : Answers run.reader.given (is_all run.reader.given now.reader.is_ended n.seen) n.seen Over = answer_is run.reader.given now.reader.is_ended n.seen Over n.answered in
       let says = answer_says run.reader.given an.line Over an.answered in
-      subst (λ (p : Replay C). IsSettled seen choice first start before from None (record now { replay = p }) later written meter) (sym same_replay)
-      (subst (λ (w : Writer). IsSettled seen choice first start before from None (record now { replay = run.replay; writer = w }) later written meter) (sym same_writer) (settled (over an.line an.first says)))
+      subst (λ (p : Replay C). IsSettled seen tale choice first start before from None (record now { replay = p }) later written meter) (sym same_replay)
+      (subst (λ (w : Told T). IsSettled seen tale choice first start before from None (record now { replay = run.replay; told = w }) later written meter) (sym same_told) (settled (over an.line an.first says)))
     where
       empty : (xs : List ℕ) → length xs ≡ 0 → xs ≡ []
       empty [] e = refl
@@ -335,21 +345,22 @@ module _ {C : Type 0} (seen : C → Controller) (choice : Topology → Policy) (
             end = elim (whole_is run.reader.given now.reader.is_ended n.seen w) [ inl e ↦ ended e | inr past ↦ absurd (omega (arith, past, low, size)) ];
           }
 
-      settled : IsOver n.seen later → IsSettled seen choice first start before from None (record now { replay = run.replay; writer = run.writer }) later written meter
+      settled : IsOver n.seen later → IsSettled seen tale choice first start before from None (record now { replay = run.replay; told = run.told }) later written meter
       settled over = record {
         input = h.given;
         is_read = record {
           read = subst (Consumes from later) (ap (λ xs. h.given ++ xs) over.none ∙ append-nil h.given)
               (read_on h.given run.reader.held n.seen n.saw.read left later h.read n.saw.consumed n.saw.behind);
-          settled = λ others is. ap (λ xs. script_of (h.given ++ xs)) (none_left later others over.end is) ∙ ap script_of (append-nil h.given);
+          settled = λ others is. ap script_of (ap (λ xs. h.given ++ xs) (none_left later others over.end is) ∙ append-nil h.given);
+          placed = λ others is. ap placed_of (ap (λ xs. h.given ++ xs) (none_left later others over.end is) ∙ append-nil h.given);
         };
         at_end = λ none. over.end;
         last = given_last run left written meter h low;
       }
 
   -- *A read failed*
-  pub read_failed : (run now : ScriptRun C) (left later written : Option (List ℕ)) (meter : Meter) → IsAtLine seen choice first start before from run left written meter
-      → reading.IsCutOff run.reader left later → run.reader.given < input_limit → IsInMidst choice first start from run.writer later written
+  pub read_failed : (run now : ScriptRun C T) (left later written : Option (List ℕ)) (meter : Meter) → IsAtLine seen known tale choice first start before from run left written meter
+      → reading.IsCutOff run.reader left later → run.reader.given < input_limit → IsInMidst (telling_by tale choice) first start from run.told.writer later written
   read_failed run now left later written meter h cut low =
       let last = given_last run left written meter h low in
       record {
@@ -364,22 +375,35 @@ module _ {C : Type 0} (seen : C → Controller) (choice : Topology → Policy) (
         put = last.put;
       }
 
-  -- *The last line*
-  pub told_whole : (refused : Option Refused) (run : ScriptRun C) (later : Writer) (left written then : Option (List ℕ)) (meter : Meter) (s : IsSettled seen choice first start before from refused run left written meter)
-      → IsPut run.writer later written then (last_line (choice (script_of s.input).topology) (script_of s.input)) → IsTold choice first start before from refused later left then meter
-  told_whole refused run later left written then meter s p = record {
-    input = s.input;
-    is_read = s.is_read;
-    at_end = s.at_end;
-    put = put_then first run.writer later start written then (body_by choice (script_of s.input)) (last_line (choice (script_of s.input).topology) (script_of s.input)) s.last.put p;
-    outcome = s.last.whole.refusal;
-    meter_is = s.last.meter_is;
-  }
+  -- *The end*: what is told wrote is the last of the account
+  account_whole : (script : Script) (placed : List Placed) → telling_by tale choice script placed ++ last_told tale (choice script.topology) script placed ≡ account_by tale choice script placed
+  account_whole script placed = by (script.event_lines == 0) (told_of tale (choice script.topology) script.topology placed).octets (end_of tale (choice script.topology) script)
+    where
+      by : (b : Bool) (octets last : List ℕ) → (if b then [] else octets) ++ ((if b then octets else []) ++ last) ≡ octets ++ last
+      by true octets last = refl
+      by false octets last = refl
 
-  pub told_in_part : (refused : Option Refused) (run : ScriptRun C) (later : Writer) (left written then : Option (List ℕ)) (meter : Meter) (stop : Stop) (s : IsSettled seen choice first start before from refused run left written meter)
-      → IsLeft stop run.writer later written then (last_line (choice (script_of s.input).topology) (script_of s.input)) → Stops choice first start from stop later left then
-  told_in_part refused run later left written then meter stop s p =
-      let last : List ℕ = last_line (choice (script_of s.input).topology) (script_of s.input) in
+  pub told_whole : (refused : Option Refused) (run : ScriptRun C T) (later : Writer) (left written wrote : Option (List ℕ)) (meter : Meter) (s : IsSettled seen tale choice first start before from refused run left written meter)
+      → IsPut run.told.writer later written wrote (last_told tale (choice (script_of s.input).topology) (script_of s.input) (placed_of s.input)) → IsTold choice (account_by tale choice) first start before from refused later left wrote meter
+  told_whole refused run later left written wrote meter s p =
+      let script : Script = script_of s.input in
+      let placed : List Placed = placed_of s.input in
+      record {
+        input = s.input;
+        is_read = s.is_read;
+        at_end = s.at_end;
+        put = subst (IsPut first later start wrote) (account_whole script placed)
+            (put_then first run.told.writer later start written wrote (telling_by tale choice script placed) (last_told tale (choice script.topology) script placed) s.last.put p);
+        outcome = s.last.whole.refusal;
+        meter_is = s.last.meter_is;
+      }
+
+  pub told_in_part : (refused : Option Refused) (run : ScriptRun C T) (later : Writer) (left written wrote : Option (List ℕ)) (meter : Meter) (stop : Stop) (s : IsSettled seen tale choice first start before from refused run left written meter)
+      → IsLeft stop run.told.writer later written wrote (last_told tale (choice (script_of s.input).topology) (script_of s.input) (placed_of s.input)) → Stops (account_by tale choice) (telling_by tale choice) first start from stop later left wrote
+  told_in_part refused run later left written wrote meter stop s p =
+      let script : Script = script_of s.input in
+      let placed : List Placed = placed_of s.input in
+      let last : List ℕ = last_told tale (choice script.topology) script placed in
       at_last s.input s.is_read
-      (subst (λ xs. IsLeft stop first later start then (body_by choice (script_of s.input) ++ xs)) (append-nil last)
-      (stops_by stop first run.writer later start written then (body_by choice (script_of s.input)) last [] s.last.put p))
+      (subst (IsLeft stop first later start wrote) (ap (λ xs. telling_by tale choice script placed ++ xs) (append-nil last) ∙ account_whole script placed)
+      (stops_by stop first run.told.writer later start written wrote (telling_by tale choice script placed) last [] s.last.put p))

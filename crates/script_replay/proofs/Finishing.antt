@@ -11,11 +11,12 @@ use Rattle.net_types.specs.declared.memory.OutOfMemory.{OutOfMemory as Wanting}
 use Rattle.port_model.specs.Setup.{Policy}
 use Rattle.world_model.specs.Topology.{Topology}
 use Rattle.script_model.specs.declared.refusal.Refused.{Refused}
-use Rattle.script_model.specs.Script.{script_of}
+use Rattle.script_model.specs.Script.{Script, script_of}
+use Rattle.telling_model.specs.Placed.{Placed, placed_of}
 use Rattle.world.specs.declared.counts.Meter.{Meter}
 use Rattle.network_run.specs.declared.stop.Stop.TheVariants as stop
 use Rattle.script_replay.specs.Report as report
-use Rattle.script_replay.specs.Report.{IsCutOff, IsDone, IsFront, body_by, report_by}
+use Rattle.script_replay.specs.Report.{IsCutOff, IsDone, IsFront}
 use Rattle.script_replay.specs.Reading.{IsInMidst, IsTold, Stops, in_lines, at_last}
 
 -- some octets, and some of those behind them
@@ -65,14 +66,14 @@ module _ (first : Writer) (bare : first.held ≡ []) (start : Option (List ℕ))
         appended = subst (Appends start written) (sym (front_of octets s.written (writer.held ++ s.rest) s.count all ∙ ap (λ xs. s.written ++ xs) (take-append-le s.count writer.held s.rest s.within))) s.appended;
       }
 
-  module _ (choice : Topology → Policy) (before : Meter) (from left : Option (List ℕ)) (meter : Meter) where
-    pub done : (refused : Option Refused) (writer : Writer) (written later : Option (List ℕ)) → IsTold choice first start before from refused writer left written meter → Appends written later writer.held
-        → IsDone choice from left start later before meter (is_some refused)
+  module _ (choice : Topology → Policy) (account body : Script → List Placed → List ℕ) (before : Meter) (from left : Option (List ℕ)) (meter : Meter) where
+    pub done : (refused : Option Refused) (writer : Writer) (written later : Option (List ℕ)) → IsTold choice account first start before from refused writer left written meter → Appends written later writer.held
+        → IsDone choice account from left start later before meter (is_some refused)
     done refused writer written later t a = record {
       input = t.input;
       is_read = t.is_read;
       at_end = λ none. t.at_end (absent refused none);
-      written = all_written writer written later (report_by choice (script_of t.input)) t.put a;
+      written = all_written writer written later (account (script_of t.input) (placed_of t.input)) t.put a;
       outcome = ap is_some (sym t.outcome);
       meter_is = t.meter_is;
     }
@@ -81,11 +82,11 @@ module _ (first : Writer) (bare : first.held ≡ []) (start : Option (List ℕ))
         absent None e = refl
         absent (Some x) e = absurd (cc e)
 
-    pub told_unwritten : (refused : Option Refused) (writer : Writer) (written later : Option (List ℕ)) → IsTold choice first start before from refused writer left written meter → AppendsFront written later writer.held
-        → IsFront choice from left start later
-    told_unwritten refused writer written later t a = report.at_last t.input t.is_read (front_written writer written later (report_by choice (script_of t.input)) t.put a)
+    pub told_unwritten : (refused : Option Refused) (writer : Writer) (written later : Option (List ℕ)) → IsTold choice account first start before from refused writer left written meter → AppendsFront written later writer.held
+        → IsFront account body from left start later
+    told_unwritten refused writer written later t a = report.at_last t.input t.is_read (front_written writer written later (account (script_of t.input) (placed_of t.input)) t.put a)
 
-    pub cut_off : (writer : Writer) (written : Option (List ℕ)) → length writer.held ≤ 65536 → IsInMidst choice first start from writer left written → IsCutOff choice from left start written
+    pub cut_off : (writer : Writer) (written : Option (List ℕ)) → length writer.held ≤ 65536 → IsInMidst body first start from writer left written → IsCutOff body from left start written
     cut_off writer written few m = record {
       whole = m.whole;
       rest = m.rest;
@@ -95,22 +96,22 @@ module _ (first : Writer) (bare : first.held ≡ []) (start : Option (List ℕ))
       told = m.put.written;
       lacking = writer.held;
       written = m.put.appended;
-      all = m.put.all ∙ ap (λ xs. xs ++ body_by choice (script_of m.whole)) bare;
+      all = m.put.all ∙ ap (λ xs. xs ++ body (script_of m.whole) (placed_of m.whole)) bare;
       few = few;
     }
 
-    pub stopped_write : (writer : Writer) (written : Option (List ℕ)) → Stops choice first start from stop.Failed writer left written → IsFront choice from left start written
-    stopped_write writer written (in_lines s) = report.in_lines s.whole s.rest s.lines (stuck_front writer written (body_by choice (script_of s.whole)) s.put)
-    stopped_write writer written (at_last input is_read s) = report.at_last input is_read (stuck_front writer written (report_by choice (script_of input)) s)
+    pub stopped_write : (writer : Writer) (written : Option (List ℕ)) → Stops account body first start from stop.Failed writer left written → IsFront account body from left start written
+    stopped_write writer written (in_lines s) = report.in_lines s.whole s.rest s.lines (stuck_front writer written (body (script_of s.whole) (placed_of s.whole)) s.put)
+    stopped_write writer written (at_last input is_read s) = report.at_last input is_read (stuck_front writer written (account (script_of input) (placed_of input)) s)
 
-    pub stopped_memory : (error : Wanting) (writer : Writer) (written later : Option (List ℕ)) → Stops choice first start from (stop.OutOfMemory error) writer left written → Appends written later writer.held → IsFront choice from left start later
+    pub stopped_memory : (error : Wanting) (writer : Writer) (written later : Option (List ℕ)) → Stops account body first start from (stop.OutOfMemory error) writer left written → Appends written later writer.held → IsFront account body from left start later
     stopped_memory error writer written later (in_lines s) a =
-        report.in_lines s.whole s.rest s.lines (front_all later (body_by choice (script_of s.whole)) s.put.front s.put.rest s.put.all (all_written writer written later s.put.front s.put.put a))
+        report.in_lines s.whole s.rest s.lines (front_all later (body (script_of s.whole) (placed_of s.whole)) s.put.front s.put.rest s.put.all (all_written writer written later s.put.front s.put.put a))
     stopped_memory error writer written later (at_last input is_read s) a =
-        report.at_last input is_read (front_all later (report_by choice (script_of input)) s.front s.rest s.all (all_written writer written later s.front s.put a))
+        report.at_last input is_read (front_all later (account (script_of input) (placed_of input)) s.front s.rest s.all (all_written writer written later s.front s.put a))
 
-    pub stopped_unwritten : (error : Wanting) (writer : Writer) (written later : Option (List ℕ)) → Stops choice first start from (stop.OutOfMemory error) writer left written → AppendsFront written later writer.held → IsFront choice from left start later
+    pub stopped_unwritten : (error : Wanting) (writer : Writer) (written later : Option (List ℕ)) → Stops account body first start from (stop.OutOfMemory error) writer left written → AppendsFront written later writer.held → IsFront account body from left start later
     stopped_unwritten error writer written later (in_lines s) a =
-        report.in_lines s.whole s.rest s.lines (front_more later (body_by choice (script_of s.whole)) s.put.front s.put.rest s.put.all (front_written writer written later s.put.front s.put.put a))
+        report.in_lines s.whole s.rest s.lines (front_more later (body (script_of s.whole) (placed_of s.whole)) s.put.front s.put.rest s.put.all (front_written writer written later s.put.front s.put.put a))
     stopped_unwritten error writer written later (at_last input is_read s) a =
-        report.at_last input is_read (front_more later (report_by choice (script_of input)) s.front s.rest s.all (front_written writer written later s.front s.put a))
+        report.at_last input is_read (front_more later (account (script_of input) (placed_of input)) s.front s.rest s.all (front_written writer written later s.front s.put a))

@@ -18,10 +18,22 @@ use Rattle.script_model.specs.declared.refusal.LineRefusal.TheVariants.{LineTooL
 use Rattle.script_model.specs.Reading.{fault_name, line_says, says_by, text_says}
 use Rattle.script_model.specs.Script.{Script, script_from, script_of}
 use Rattle.script_model.specs.State.{ScriptState, nothing_read}
+use Rattle.telling_model.specs.Placed.{Placed, placed_from, placed_of}
 use Rattle.script_replay.proofs.InputLines.{IsFirst, all_of_it, by_test, feed_at, feed_later, front_line, lines_at, lines_later, with_end}
 
-abbrev pub script_in : List (List ℕ) → Script
-script_in lines = script_from line_says nothing_read lines
+-- *A script, and the events of its lines*: of some lines, and of the octets of an input
+abbrev pub Read : Type 0
+Read = Script × List Placed
+
+abbrev pub read_in : List (List ℕ) → Read
+read_in lines = (script_from line_says nothing_read lines, placed_from line_says nothing_read lines)
+
+abbrev pub read_of : List ℕ → Read
+read_of octets = (script_of octets, placed_of octets)
+
+read_is : (octets : List ℕ) → read_of octets ≡ read_in (lines_of (take input_limit octets))
+unfolding script_of placed_of
+read_is octets = refl
 
 take_front : (given rest : List ℕ) (n : ℕ) → length given ≤ n → take n (given ++ rest) ≡ given ++ take (n - length given) rest
 take_front given rest n low =
@@ -45,31 +57,31 @@ module _ (given : List ℕ) (lines : List (List ℕ)) (low : length given < inpu
   pub room : ℕ
   room = input_limit - length given
 
-  pub script_at : (rest : List ℕ) → script_of (given ++ rest) ≡ script_in (lines ++ lines_of (take (input_limit - length given) rest))
-  unfolding script_of
-  script_at rest =
-      ap (λ xs. script_in (lines_of xs)) (take_front given rest input_limit (omega (arith, low))) ∙ ap script_in (split (take (input_limit - length given) rest))
+  pub read_at : (rest : List ℕ) → read_of (given ++ rest) ≡ read_in (lines ++ lines_of (take (input_limit - length given) rest))
+  read_at rest =
+      read_is (given ++ rest)
+      ∙ ap (λ xs. read_in (lines_of xs)) (take_front given rest input_limit (omega (arith, low))) ∙ ap read_in (split (take (input_limit - length given) rest))
 
   -- no line follows
-  pub script_end : script_of given ≡ script_in lines
-  script_end = ap script_of (sym (append-nil given)) ∙ script_at [] ∙ ap script_in (ap (λ xs. lines ++ lines_of xs) (none (input_limit - length given)) ∙ append-nil lines)
+  pub read_end : read_of given ≡ read_in lines
+  read_end = ap read_of (sym (append-nil given)) ∙ read_at [] ∙ ap read_in (ap (λ xs. lines ++ lines_of xs) (none (input_limit - length given)) ∙ append-nil lines)
     where
       none : (n : ℕ) → take {A = ℕ} n [] ≡ []
       none zero = refl
       none (suc n) = refl
 
   -- one follows, with its end, and octets behind it
-  pub script_next : (line others : List ℕ) → length given + length line < input_limit → ((more : List ℕ) → lines_of (line ++ more) ≡ line ∷ lines_of more)
-      → script_of (given ++ (line ++ others)) ≡ script_in (lines ++ line ∷ lines_of (take (input_limit - length given - length line) others))
-  script_next line others few shape =
-      script_at (line ++ others)
-      ∙ ap (λ xs. script_in (lines ++ lines_of xs)) (take_front line others (input_limit - length given) (omega (arith, few)))
-      ∙ ap (λ ls. script_in (lines ++ ls)) (shape (take (input_limit - length given - length line) others))
+  pub read_next : (line others : List ℕ) → length given + length line < input_limit → ((more : List ℕ) → lines_of (line ++ more) ≡ line ∷ lines_of more)
+      → read_of (given ++ (line ++ others)) ≡ read_in (lines ++ line ∷ lines_of (take (input_limit - length given - length line) others))
+  read_next line others few shape =
+      read_at (line ++ others)
+      ∙ ap (λ xs. read_in (lines ++ lines_of xs)) (take_front line others (input_limit - length given) (omega (arith, few)))
+      ∙ ap (λ ls. read_in (lines ++ ls)) (shape (take (input_limit - length given - length line) others))
 
   -- one without its end, and nothing behind it
-  pub script_last : (line : List ℕ) → length given + length line < input_limit → lines_of line ≡ line ∷ [] → script_of (given ++ line) ≡ script_in (lines ++ line ∷ [])
-  script_last line few shape =
-      script_at line ∙ ap (λ xs. script_in (lines ++ lines_of xs)) (take_all (input_limit - length given) line (omega (arith, few))) ∙ ap (λ ls. script_in (lines ++ ls)) shape
+  pub read_last : (line : List ℕ) → length given + length line < input_limit → lines_of line ≡ line ∷ [] → read_of (given ++ line) ≡ read_in (lines ++ line ∷ [])
+  read_last line few shape =
+      read_at line ∙ ap (λ xs. read_in (lines ++ lines_of xs)) (take_all (input_limit - length given) line (omega (arith, few))) ∙ ap (λ ls. read_in (lines ++ ls)) shape
 
 -- *Lines that are refused for their length*
 module _ (state : ScriptState) (line : List ℕ) where

@@ -4,3 +4,4 @@ pub mod Outcomes
 pub mod Beginning
 pub mod Advancing
 pub mod Finishing
+pub mod Reports

@@ -7,6 +7,7 @@ use Rattle.lab_io.specs.Report.{Writer}
 use Rattle.port_model.specs.Setup.{Policy}
 use Rattle.world_model.specs.Topology.{Topology}
 use Rattle.script_model.specs.Script.{Script, script_of}
+use Rattle.telling_model.specs.Placed.{Placed}
 use Rattle.world.specs.declared.counts.Meter.{Meter}
 use Rattle.network_run.specs.declared.stop.Stop.{Stop}
 use Rattle.network_run.specs.declared.stop.Stop.TheVariants as stop
@@ -51,33 +52,33 @@ pub faults_of : (was is : Bool) (old mid new : ℕ) → mid ≡ count_after was 
 faults_of false is old mid new e f g = f refl ∙ ap (count_after is) e
 faults_of true is old mid new e f g = (g refl).1 ∙ e ∙ ap (λ (b : Bool). count_after b old) (sym (g refl).0)
 
-module _ (choice : Topology → Policy) (first : Writer) (start : Option (List ℕ)) (before : Meter) (from : Option (List ℕ)) (writer : Writer) (left written : Option (List ℕ)) (meter : Meter) where
-  pub halts_tells : (fault : ReplayFault) → Halts choice first start from fault writer left written → Tells choice first start before from (Err fault) writer left written meter
+module _ (choice : Topology → Policy) (account body : Script → List Placed → List ℕ) (first : Writer) (start : Option (List ℕ)) (before : Meter) (from : Option (List ℕ)) (writer : Writer) (left written : Option (List ℕ)) (meter : Meter) where
+  pub halts_tells : (fault : ReplayFault) → Halts body first start from fault writer left written → Tells choice account body first start before from (Err fault) writer left written meter
   halts_tells Read h = h
   halts_tells Write h = in_lines h
   halts_tells (OutOfMemory error) h = in_lines h
 
-  pub stops_tells : (stop : Stop) → Stops choice first start from stop writer left written → Tells choice first start before from (Err (fault_of stop)) writer left written meter
+  pub stops_tells : (stop : Stop) → Stops account body first start from stop writer left written → Tells choice account body first start before from (Err (fault_of stop)) writer left written meter
   stops_tells stop.Failed s = s
   stops_tells (stop.OutOfMemory error) s = s
 
 -- *A replay that was finished*
-module _ (choice : Topology → Policy) (start : Option (List ℕ)) (before : Meter) (from left written : Option (List ℕ)) (meter : Meter) where
-  pub done_of : (result : Result Bool ReplayFault) → Finished choice start before from result left written meter → IfOk result (IsDone choice from left start written before meter)
+module _ (choice : Topology → Policy) (account body : Script → List Placed → List ℕ) (start : Option (List ℕ)) (before : Meter) (from left written : Option (List ℕ)) (meter : Meter) where
+  pub done_of : (result : Result Bool ReplayFault) → Finished choice account body start before from result left written meter → IfOk result (IsDone choice account from left start written before meter)
   done_of (Ok refused) f = f
   done_of (Err fault) f = tt
 
-  pub left_of : (result : Result Bool ReplayFault) → Finished choice start before from result left written meter → IfErr result (λ fault. IsLeft fault choice from left start written)
+  pub left_of : (result : Result Bool ReplayFault) → Finished choice account body start before from result left written meter → IfErr result (λ fault. IsLeft fault account body from left start written)
   left_of (Ok refused) f = tt
   left_of (Err fault) f = f
 
-  outcome_of : (refused : Bool) → IsDone choice from left start written before meter refused → (input : List ℕ) → from ≡ Some input → refused ≡ is_some (script_of input).refused
+  outcome_of : (refused : Bool) → IsDone choice account from left start written before meter refused → (input : List ℕ) → from ≡ Some input → refused ≡ is_some (script_of input).refused
   outcome_of refused d input is = by left refl (subst (λ (o : Option (List ℕ)). Consumes o left d.input) is d.is_read.read)
     where
       by : (o : Option (List ℕ)) → left ≡ o → Consumes (Some input) o d.input → refused ≡ is_some (script_of input).refused
       by None e h = absurd h
       by (Some others) e h = d.outcome ∙ ap (λ (s : Script). is_some s.refused) (sym (d.is_read.settled others e) ∙ ap script_of (sym h))
 
-  pub complete_of : (result : Result Bool ReplayFault) → Finished choice start before from result left written meter → IfOk result (λ refused. (input : List ℕ) → from ≡ Some input → refused ≡ is_some (script_of input).refused)
+  pub complete_of : (result : Result Bool ReplayFault) → Finished choice account body start before from result left written meter → IfOk result (λ refused. (input : List ℕ) → from ≡ Some input → refused ≡ is_some (script_of input).refused)
   complete_of (Ok refused) f = outcome_of refused f
   complete_of (Err fault) f = tt

@@ -1,4 +1,5 @@
-//! The replay of a script that a source gives line by line, with its report written as it grows.
+//! The run of a script that a source gives line by line, with what is told of it written as it grows: its
+//! report, in a replay.
 #![tactic(auto)]
 
 mod fault;
@@ -6,4 +7,4 @@ mod from_source;
 mod script_run;
 
 pub use fault::ReplayFault;
-pub use from_source::replay;
+pub use from_source::{replay, tell};

@@ -12,11 +12,13 @@ ghost use Rattle.world.specs.declared.counts.Meter.{Meter as Reading};
 ghost use Rattle.script_replay.specs.declared.script_run.Step.TheVariants.{Goes as More};
 ghost use Rattle.script_replay.specs.Faults.{is_read_fault, is_write_fault};
 ghost use Rattle.script_replay.specs.Reading.{Advances, Finishes, HasLineRoom, HasNext, IsAtLine, IsBegun, IsCounted, IsSettled, Tells, ends_line};
+ghost use Rattle.script_replay.specs.Report.{account_by, telling_by};
 
 use crate::fault::ReplayFault;
 use lab_io::{Failed, LineReader, NextLine, ReportWriter, Sink, Source};
 use net_types::OutOfMemory;
 use network_replay::{PolicyChoice, Replay};
+use network_run::{Teller, Told};
 use script_model::{LineRefusal, Refused};
 use std::alloc::Global;
 use world::{Meter, NodeController};
@@ -33,12 +35,12 @@ pub enum Step {
     Ends(Option<Refused>),
 }
 
-/// A replay, the reader of its script and the writer of its report. It must be given up by
+/// A replay, the reader of its script, and who tells it. It must be given up by
 /// [`ScriptRun::abandon`].
 #[must_use]
-pub struct ScriptRun<C> {
+pub struct ScriptRun<C, T> {
     reader: LineReader,
-    writer: ReportWriter,
+    told: Told<T>,
     replay: Replay<C>,
 }
 
@@ -49,9 +51,9 @@ fn ends_line(line: &[u8]) -> bool
     matches!(line.last(), Some(b'\n'))
 }
 
-impl<C: NodeController> ScriptRun<C> {
+impl<C: NodeController, T: Teller<C> + Drop> ScriptRun<C, T> {
     /// Nothing is read yet.
-    pub fn open(alloc: Global) -> Result<ScriptRun<C>, OutOfMemory>
+    pub fn open(alloc: Global, teller: T) -> Result<ScriptRun<C, T>, OutOfMemory>
         ensures { IfOk result IsBegun }
     {
         let reader = LineReader::open(alloc, ROOM)?;
@@ -59,7 +61,7 @@ impl<C: NodeController> ScriptRun<C> {
         let replay = Replay::open(alloc)?;
         Ok(ScriptRun {
             reader,
-            writer,
+            told: Told { teller, writer },
             replay,
         })
     }
@@ -76,20 +78,17 @@ impl<C: NodeController> ScriptRun<C> {
         requires within { place + len ≤ length self.old.reader.buffer }
         requires going { IsGoing C.seen (N.chosen choice.now) self.old.replay }
         requires room { HasLineRoom self.old.replay.state len }
-        ensures taken { (first : Writer) (start : Option (List ℕ)) (before : Reading) (from left : Option (List ℕ)) → HasNext C.seen (N.chosen choice.now) first start before from (take len (drop place self.old.reader.buffer)) self.old left (K.written sink.old) meter.old → Advances C.seen (N.chosen choice.now) first start before from result self.new left (K.written sink.new) meter.new }
-        ensures going { result ≡ Ok More → IsGoing C.seen (N.chosen choice.now) self.new.replay }
+        ensures taken { (first : Writer) (start : Option (List ℕ)) (before : Reading) (from left : Option (List ℕ)) → HasNext C.seen T.state T.tale (N.chosen choice.now) first start before from (take len (drop place self.old.reader.buffer)) self.old left (K.written sink.old) meter.old → Advances C.seen T.state T.tale (N.chosen choice.now) first start before from result self.new left (K.written sink.new) meter.new }
+        ensures going { IfOk result (λ step. IsGoing C.seen (N.chosen choice.now) self.new.replay) }
         ensures counted { result ≡ Ok More → HasCounted self.old.replay.state (take len (drop place self.old.reader.buffer)) self.new.replay.state }
         ensures reader { self.new.reader ≡ self.old.reader }
-        ensures room { StaysWithin self.old.writer self.new.writer }
+        ensures room { StaysWithin self.old.told.writer self.new.told.writer }
         ensures read { is_read_fault result ≡ false }
         ensures write { K.faults sink.new ≡ count_after (is_write_fault result) (K.faults sink.old) }
     {
         let line = &self.reader.octets()[place..place + len];
         let has_end = ends_line(line);
-        match self
-            .replay
-            .line(line, choice, &mut self.writer, sink, meter)?
-        {
+        match self.replay.line(line, choice, &mut self.told, sink, meter)? {
             Some(refused) => Ok(Step::Ends(Some(refused))),
             None if has_end => Ok(Step::Goes),
             None => Ok(Step::Ends(None)),
@@ -106,11 +105,11 @@ impl<C: NodeController> ScriptRun<C> {
     ) -> Result<Step, ReplayFault>
         requires going { IsGoing C.seen (N.chosen choice.now) self.old.replay }
         requires counted { IsCounted self.old }
-        ensures taken { (first : Writer) (start : Option (List ℕ)) (before : Reading) (from : Option (List ℕ)) → IsAtLine C.seen (N.chosen choice.now) first start before from self.old (S.left source.old) (K.written sink.old) meter.old → Advances C.seen (N.chosen choice.now) first start before from result self.new (S.left source.new) (K.written sink.new) meter.new }
-        ensures going { result ≡ Ok More → IsGoing C.seen (N.chosen choice.now) self.new.replay }
+        ensures taken { (first : Writer) (start : Option (List ℕ)) (before : Reading) (from : Option (List ℕ)) → IsAtLine C.seen T.state T.tale (N.chosen choice.now) first start before from self.old (S.left source.old) (K.written sink.old) meter.old → Advances C.seen T.state T.tale (N.chosen choice.now) first start before from result self.new (S.left source.new) (K.written sink.new) meter.new }
+        ensures going { IfOk result (λ step. IsGoing C.seen (N.chosen choice.now) self.new.replay) }
         ensures counted { result ≡ Ok More → IsCounted self.new }
         ensures less { result ≡ Ok More → self.old.reader.given + 1 ≤ self.new.reader.given }
-        ensures room { StaysWithin self.old.writer self.new.writer }
+        ensures room { StaysWithin self.old.told.writer self.new.told.writer }
         ensures read { S.faults source.new ≡ count_after (is_read_fault result) (S.faults source.old) }
         ensures write { K.faults sink.new ≡ count_after (is_write_fault result) (K.faults sink.old) }
     {
@@ -139,8 +138,9 @@ impl<C: NodeController> ScriptRun<C> {
     ) -> Result<Option<Refused>, ReplayFault>
         requires going { IsGoing C.seen (N.chosen choice.now) self.old.replay }
         requires counted { IsCounted self.old }
-        ensures taken { (first : Writer) (start : Option (List ℕ)) (before : Reading) (from : Option (List ℕ)) → IsAtLine C.seen (N.chosen choice.now) first start before from self.old (S.left source.old) (K.written sink.old) meter.old → Finishes C.seen (N.chosen choice.now) first start before from result self.new (S.left source.new) (K.written sink.new) meter.new }
-        ensures room { StaysWithin self.old.writer self.new.writer }
+        ensures taken { (first : Writer) (start : Option (List ℕ)) (before : Reading) (from : Option (List ℕ)) → IsAtLine C.seen T.state T.tale (N.chosen choice.now) first start before from self.old (S.left source.old) (K.written sink.old) meter.old → Finishes C.seen T.state T.tale (N.chosen choice.now) first start before from result self.new (S.left source.new) (K.written sink.new) meter.new }
+        ensures going { IfOk result (λ refused. IsGoing C.seen (N.chosen choice.now) self.new.replay) }
+        ensures room { StaysWithin self.old.told.writer self.new.told.writer }
         ensures read { S.faults source.new ≡ count_after (is_read_fault result) (S.faults source.old) }
         ensures write { K.faults sink.new ≡ count_after (is_write_fault result) (K.faults sink.old) }
     {
@@ -162,36 +162,36 @@ impl<C: NodeController> ScriptRun<C> {
     ) -> Result<Option<Refused>, ReplayFault>
         requires going { IsGoing C.seen (N.chosen choice.now) self.old.replay }
         requires counted { IsCounted self.old }
-        ensures told { (first : Writer) (start : Option (List ℕ)) (before : Reading) (from : Option (List ℕ)) → IsAtLine C.seen (N.chosen choice.now) first start before from self.old (S.left source.old) (K.written sink.old) meter.old → Tells (N.chosen choice.now) first start before from result self.new.writer (S.left source.new) (K.written sink.new) meter.new }
-        ensures room { StaysWithin self.old.writer self.new.writer }
+        ensures told { (first : Writer) (start : Option (List ℕ)) (before : Reading) (from : Option (List ℕ)) → IsAtLine C.seen T.state T.tale (N.chosen choice.now) first start before from self.old (S.left source.old) (K.written sink.old) meter.old → Tells (N.chosen choice.now) (account_by T.tale (N.chosen choice.now)) (telling_by T.tale (N.chosen choice.now)) first start before from result self.new.told.writer (S.left source.new) (K.written sink.new) meter.new }
+        ensures room { StaysWithin self.old.told.writer self.new.told.writer }
         ensures read { S.faults source.new ≡ count_after (is_read_fault result) (S.faults source.old) }
         ensures write { K.faults sink.new ≡ count_after (is_write_fault result) (K.faults sink.old) }
     {
         let refused = self.take_lines(choice, source, sink, meter)?;
-        self.replay.end(refused, choice, &mut self.writer, sink)?;
+        self.replay.end(refused, choice, &mut self.told, sink)?;
         Ok(refused)
     }
 
     /// Writes what is held of the report, and gives the network up.
     pub fn finish<K: Sink>(self, sink: &mut K) -> Result<(), Failed>
-        ensures written { OnOk result (Appends (K.written sink.old) (K.written sink.new) self.writer.held) }
-        ensures failed { OnErr result (AppendsFront (K.written sink.old) (K.written sink.new) self.writer.held) }
+        ensures written { OnOk result (Appends (K.written sink.old) (K.written sink.new) self.told.writer.held) }
+        ensures failed { OnErr result (AppendsFront (K.written sink.old) (K.written sink.new) self.told.writer.held) }
         ensures faults { K.faults sink.new ≡ count_after (is_err result) (K.faults sink.old) }
     {
         let ScriptRun {
             reader: _,
-            mut writer,
+            mut told,
             replay,
         } = self;
         replay.abandon();
-        writer.flush(sink)
+        told.writer.flush(sink)
     }
 
     /// Gives all up.
     pub fn abandon(self) {
         let ScriptRun {
             reader: _,
-            writer: _,
+            told: _,
             replay,
         } = self;
         replay.abandon();

@@ -1,12 +1,13 @@
 use Rattle.std.proofs.Common.{◌≡◌, ◌∙◌, ℕ, Option, Result, option_map, sym, ap, subst}
 use Rattle.script_model.specs.declared.refusal.Refused.{Refused}
 use Rattle.script_model.specs.Documents.{Lines, numbered_behind, rule_count, script_texts}
-use Rattle.script_model.specs.Reports.{last_line}
 use Rattle.network_run.specs.declared.stop.Stop.{Stop}
 use Rattle.network_run.specs.declared.stop.Stop.TheVariants.{OutOfMemory as NoMemory}
 use Rattle.network_run.specs.Telling.{Puts}
 use Rattle.network_run.proofs.Telling.{none_of}
-use Rattle.document_replay.specs.Lines.{report_by, script_behind_rules, script_of_lines}
+use Rattle.network_replay.specs.Along.{last_told}
+use Rattle.report_lines.specs.Report.{report_tale}
+use Rattle.document_replay.specs.Lines.{placed_of_lines, report_by, script_behind_rules, script_of_lines}
 use Rattle.document_replay.proofs.Takings.{report_put, report_cut, last_cut, whole_behind, err_is}
 use Rattle.document_replay.proofs.lines.put_report.Goals as goal
 
@@ -17,36 +18,39 @@ behind_is lines count found refused same is = is ∙ ap (λ (n : ℕ). option_ma
 
 pub returns-in_err-found-clause-put : goal.returns-in_err-found-clause-put
 returns-in_err-found-clause-put g c =
-    subst (λ (r : Result (Option Refused) Stop). Puts r c.args.writer.now c.take_lines.new.writer (g.K.Sink.written c.args.sink.now) (g.K.Sink.written c.take_lines.new.sink) (report_by (g.N.PolicyChoice.chosen c.args.choice.now) (script_behind_rules c.args.lines.now)))
+    subst (λ (r : Result (Option Refused) Stop). Puts r c.args.told.now.writer c.take_lines.new.told.writer (g.K.Sink.written c.args.sink.now) (g.K.Sink.written c.take_lines.new.sink) (report_by (g.N.PolicyChoice.chosen c.args.choice.now) (script_behind_rules c.args.lines.now)))
     (sym (err_is c.from_residual.result _ c.from_residual.ensures.1))
-    (report_cut (g.N.PolicyChoice.chosen c.args.choice.now) (script_behind_rules c.args.lines.now) c.in_err-found.field-0.0 c.args.writer.now c.take_lines.new.writer (g.K.Sink.written c.args.sink.now) (g.K.Sink.written c.take_lines.new.sink)
+    (report_cut (g.N.PolicyChoice.chosen c.args.choice.now) c.args.lines.now c.in_err-found.field-0.0 c.args.told.now.writer c.take_lines.new.told.writer (g.K.Sink.written c.args.sink.now) (g.K.Sink.written c.take_lines.new.sink)
     c.in_err-found.ensures.comes)
 
 pub returns-in_err-refused-clause-put : goal.returns-in_err-refused-clause-put
 returns-in_err-refused-clause-put g c =
     let script = script_behind_rules c.args.lines.now in
+    let placed = placed_of_lines (script_texts c.args.lines.now) in
     let choice = g.N.PolicyChoice.chosen c.args.choice.now in
-    subst (λ (r : Result (Option Refused) Stop). Puts r c.args.writer.now c.take_lines.new.writer (g.K.Sink.written c.args.sink.now) (g.K.Sink.written c.take_lines.new.sink) (report_by choice script))
+    subst (λ (r : Result (Option Refused) Stop). Puts r c.args.told.now.writer c.take_lines.new.told.writer (g.K.Sink.written c.args.sink.now) (g.K.Sink.written c.take_lines.new.sink) (report_by choice script))
     (sym (err_is c.from_residual-in_err-refused.result _ c.from_residual-in_err-refused.ensures.1))
-    (last_cut choice script (NoMemory c.in_err-refused.field-0.0) c.args.writer.now c.take_lines.new.writer c.take_lines.new.writer (g.K.Sink.written c.args.sink.now) (g.K.Sink.written c.take_lines.new.sink) (g.K.Sink.written c.take_lines.new.sink)
-    c.in_ok-found.ensures.comes.put (none_of c.take_lines.new.writer (g.K.Sink.written c.take_lines.new.sink) (last_line (choice script.topology) script)))
+    (last_cut choice c.args.lines.now (NoMemory c.in_err-refused.field-0.0) c.args.told.now.writer c.take_lines.new.told.writer c.take_lines.new.told.writer (g.K.Sink.written c.args.sink.now) (g.K.Sink.written c.take_lines.new.sink) (g.K.Sink.written c.take_lines.new.sink)
+    c.in_ok-found.ensures.comes.put (none_of c.take_lines.new.told.writer (g.K.Sink.written c.take_lines.new.sink) (last_told report_tale (choice script.topology) script placed)))
 
 pub returns-in_err-end-clause-put : goal.returns-in_err-end-clause-put
 returns-in_err-end-clause-put g c =
     let script = script_behind_rules c.args.lines.now in
+    let placed = placed_of_lines (script_texts c.args.lines.now) in
     let choice = g.N.PolicyChoice.chosen c.args.choice.now in
-    subst (λ (r : Result (Option Refused) Stop). Puts r c.args.writer.now c.end.new.writer (g.K.Sink.written c.args.sink.now) (g.K.Sink.written c.end.new.sink) (report_by choice script))
+    subst (λ (r : Result (Option Refused) Stop). Puts r c.args.told.now.writer c.end.new.told.writer (g.K.Sink.written c.args.sink.now) (g.K.Sink.written c.end.new.sink) (report_by choice script))
     (sym (err_is c.from_residual-in_err-end.result _ c.from_residual-in_err-end.ensures.1))
-    (last_cut choice script c.in_err-end.field-0.0 c.args.writer.now c.take_lines.new.writer c.end.new.writer (g.K.Sink.written c.args.sink.now) (g.K.Sink.written c.take_lines.new.sink) (g.K.Sink.written c.end.new.sink)
+    (last_cut choice c.args.lines.now c.in_err-end.field-0.0 c.args.told.now.writer c.take_lines.new.told.writer c.end.new.told.writer (g.K.Sink.written c.args.sink.now) (g.K.Sink.written c.take_lines.new.sink) (g.K.Sink.written c.end.new.sink)
     c.in_ok-found.ensures.comes.put
-    (c.in_err-end.ensures.put script
-    (whole_behind g.C.NodeController.seen choice (rule_count c.args.lines.now) (script_of_lines (script_texts c.args.lines.now)) c.in_ok-found.found c.in_ok-refused.refused c.take_lines.new.replay (behind_is c.args.lines.now c.rule_len.result c.in_ok-found.found c.in_ok-refused.refused c.rule_len.ensures c.in_ok-refused.ensures) c.in_ok-found.ensures.comes.whole)))
+    (c.in_err-end.ensures.put script placed
+    (whole_behind g.C.NodeController.seen choice (rule_count c.args.lines.now) (script_of_lines (script_texts c.args.lines.now)) placed c.in_ok-found.found c.in_ok-refused.refused c.take_lines.new.replay (behind_is c.args.lines.now c.rule_len.result c.in_ok-found.found c.in_ok-refused.refused c.rule_len.ensures c.in_ok-refused.ensures) c.in_ok-found.ensures.comes.whole)))
 
 pub returns-clause-put : goal.returns-clause-put
 returns-clause-put g c =
     let script = script_behind_rules c.args.lines.now in
+    let placed = placed_of_lines (script_texts c.args.lines.now) in
     let choice = g.N.PolicyChoice.chosen c.args.choice.now in
-    report_put choice script c.args.writer.now c.take_lines.new.writer c.end.new.writer (g.K.Sink.written c.args.sink.now) (g.K.Sink.written c.take_lines.new.sink) (g.K.Sink.written c.end.new.sink)
+    report_put choice c.args.lines.now c.args.told.now.writer c.take_lines.new.told.writer c.end.new.told.writer (g.K.Sink.written c.args.sink.now) (g.K.Sink.written c.take_lines.new.sink) (g.K.Sink.written c.end.new.sink)
     c.in_ok-found.ensures.comes.put
-    (c.in_ok-end.ensures.put script
-    (whole_behind g.C.NodeController.seen choice (rule_count c.args.lines.now) (script_of_lines (script_texts c.args.lines.now)) c.in_ok-found.found c.in_ok-refused.refused c.take_lines.new.replay (behind_is c.args.lines.now c.rule_len.result c.in_ok-found.found c.in_ok-refused.refused c.rule_len.ensures c.in_ok-refused.ensures) c.in_ok-found.ensures.comes.whole))
+    (c.in_ok-end.ensures.put script placed
+    (whole_behind g.C.NodeController.seen choice (rule_count c.args.lines.now) (script_of_lines (script_texts c.args.lines.now)) placed c.in_ok-found.found c.in_ok-refused.refused c.take_lines.new.replay (behind_is c.args.lines.now c.rule_len.result c.in_ok-found.found c.in_ok-refused.refused c.rule_len.ensures c.in_ok-refused.ensures) c.in_ok-found.ensures.comes.whole))

@@ -2,45 +2,48 @@ use Rattle.std.proofs.Common.{◌≡◌, true, false, List, ℕ, Option, None, O
 use Rattle.script_model.specs.declared.refusal.Refused.{Refused}
 use Rattle.script_model.specs.Reading.{line_says}
 use Rattle.network_replay.specs.Along.{GoesOn}
-use Rattle.drill_replay.proofs.Takings.{IsTaking, begins, goes_on, ends_refused, ends_empty, none_left, first_given}
+use Rattle.report_lines.specs.Report.{report_tale}
+use Rattle.drill_replay.proofs.Takings.{IsTaking, begins, ends, ends_refused, first_given, goes_on, known, none_left}
 use Rattle.drill_replay.proofs.lines.take_lines.Goals as goal
 
 pub loop-line-init : goal.loop-line-init
 loop-line-init g c =
-    begins g.C.NodeController.seen (g.N.PolicyChoice.chosen c.args.choice.now) c.args.drill c.args.meter.now c.new-lines.result c.new-lines.ensures c.args.replay.now c.requires.begun c.in_ok-writer.writer
+    begins g.C.NodeController.seen (g.N.PolicyChoice.chosen c.args.choice.now) c.args.drill c.args.meter.now c.new-lines.result c.new-lines.ensures c.args.replay.now c.requires.begun (record { teller = c.new-teller.result; writer = c.in_ok-writer.writer })
 
 pub returns-then-not-branch-clause-whole : goal.returns-then-not-branch-clause-whole
 returns-then-not-branch-clause-whole g c =
     let none : c.in_ok-next.field-0 ≡ false = cc in
-    (ends_empty g.C.NodeController.seen (g.N.PolicyChoice.chosen c.args.choice.now) c.args.drill c.args.meter.now c.loop-line.lines
+    let ended = ends g.C.NodeController.seen (g.N.PolicyChoice.chosen c.args.choice.now) c.args.drill c.args.meter.now c.loop-line.lines
     (none_left c.loop-line.lines c.next.new.self c.new-line.result c.next.new.line c.in_ok-next.field-0 c.in_ok-next.ensures none)
-    c.loop-line.replay c.loop-line.writer c.loop-line.meter c.loop-line.invariant).1.whole
+    c.loop-line.replay c.loop-line.told c.loop-line.meter c.loop-line.invariant in
+    (ended.placed, ended.whole)
 
 pub returns-then-not-branch-clause-meter : goal.returns-then-not-branch-clause-meter
 returns-then-not-branch-clause-meter g c =
     let none : c.in_ok-next.field-0 ≡ false = cc in
-    (ends_empty g.C.NodeController.seen (g.N.PolicyChoice.chosen c.args.choice.now) c.args.drill c.args.meter.now c.loop-line.lines
+    (ends g.C.NodeController.seen (g.N.PolicyChoice.chosen c.args.choice.now) c.args.drill c.args.meter.now c.loop-line.lines
     (none_left c.loop-line.lines c.next.new.self c.new-line.result c.next.new.line c.in_ok-next.field-0 c.in_ok-next.ensures none)
-    c.loop-line.replay c.loop-line.writer c.loop-line.meter c.loop-line.invariant).1.meter_is
+    c.loop-line.replay c.loop-line.told c.loop-line.meter c.loop-line.invariant).meter_is
 
 pub returns-in-Some-clause-whole : goal.returns-in-Some-clause-whole
 returns-in-Some-clause-whole g c =
     let some : c.in_ok-next.field-0 ≡ true = cc in
     let split = first_given c.loop-line.lines c.next.new.self c.new-line.result c.next.new.line c.as_slice-text.result.now c.in_ok-next.field-0 c.in_ok-next.ensures some c.new-line.ensures c.as_slice-text.ensures in
-    let t = subst (λ (x : List (List ℕ)). IsTaking g.C.NodeController.seen (g.N.PolicyChoice.chosen c.args.choice.now) c.args.drill c.args.meter.now x c.loop-line.replay c.loop-line.writer c.loop-line.meter) split c.loop-line.invariant in
-    (ends_refused g.C.NodeController.seen (g.N.PolicyChoice.chosen c.args.choice.now) c.args.drill c.args.meter.now c.as_slice-text.result.now c.next.new.self c.loop-line.replay c.line-in-loop-line.new.self
-    c.loop-line.writer c.line-in-loop-line.new.writer c.loop-line.meter c.line-in-loop-line.new.meter c.in-Some.refused t
-    (subst (λ (o : Option Refused). GoesOn g.C.NodeController.seen (g.N.PolicyChoice.chosen c.args.choice.now) line_says t.first None c.args.meter.now t.taken c.as_slice-text.result.now (Ok o) c.line-in-loop-line.new.self c.line-in-loop-line.new.writer None c.line-in-loop-line.new.meter) c.in-Some.is
-    (c.in_ok-refused.ensures.along t.first None c.args.meter.now t.taken t.along))).whole
+    let t = subst (λ (x : List (List ℕ)). IsTaking g.C.NodeController.seen (g.N.PolicyChoice.chosen c.args.choice.now) c.args.drill c.args.meter.now x c.loop-line.replay c.loop-line.told c.loop-line.meter) split c.loop-line.invariant in
+    let ended = ends_refused g.C.NodeController.seen (g.N.PolicyChoice.chosen c.args.choice.now) c.args.drill c.args.meter.now c.as_slice-text.result.now c.next.new.self c.loop-line.replay c.line-in-loop-line.new.self
+    c.loop-line.told c.line-in-loop-line.new.told c.loop-line.meter c.line-in-loop-line.new.meter c.in-Some.refused t
+    (subst (λ (o : Option Refused). GoesOn g.C.NodeController.seen known report_tale (g.N.PolicyChoice.chosen c.args.choice.now) line_says t.first None c.args.meter.now t.taken c.as_slice-text.result.now (Ok o) c.line-in-loop-line.new.self c.line-in-loop-line.new.told None c.line-in-loop-line.new.meter) c.in-Some.is
+    (c.in_ok-refused.ensures.along t.first None c.args.meter.now t.taken t.along)) in
+    (ended.placed, ended.whole)
 
 pub returns-in-Some-clause-meter : goal.returns-in-Some-clause-meter
 returns-in-Some-clause-meter g c =
     let some : c.in_ok-next.field-0 ≡ true = cc in
     let split = first_given c.loop-line.lines c.next.new.self c.new-line.result c.next.new.line c.as_slice-text.result.now c.in_ok-next.field-0 c.in_ok-next.ensures some c.new-line.ensures c.as_slice-text.ensures in
-    let t = subst (λ (x : List (List ℕ)). IsTaking g.C.NodeController.seen (g.N.PolicyChoice.chosen c.args.choice.now) c.args.drill c.args.meter.now x c.loop-line.replay c.loop-line.writer c.loop-line.meter) split c.loop-line.invariant in
+    let t = subst (λ (x : List (List ℕ)). IsTaking g.C.NodeController.seen (g.N.PolicyChoice.chosen c.args.choice.now) c.args.drill c.args.meter.now x c.loop-line.replay c.loop-line.told c.loop-line.meter) split c.loop-line.invariant in
     (ends_refused g.C.NodeController.seen (g.N.PolicyChoice.chosen c.args.choice.now) c.args.drill c.args.meter.now c.as_slice-text.result.now c.next.new.self c.loop-line.replay c.line-in-loop-line.new.self
-    c.loop-line.writer c.line-in-loop-line.new.writer c.loop-line.meter c.line-in-loop-line.new.meter c.in-Some.refused t
-    (subst (λ (o : Option Refused). GoesOn g.C.NodeController.seen (g.N.PolicyChoice.chosen c.args.choice.now) line_says t.first None c.args.meter.now t.taken c.as_slice-text.result.now (Ok o) c.line-in-loop-line.new.self c.line-in-loop-line.new.writer None c.line-in-loop-line.new.meter) c.in-Some.is
+    c.loop-line.told c.line-in-loop-line.new.told c.loop-line.meter c.line-in-loop-line.new.meter c.in-Some.refused t
+    (subst (λ (o : Option Refused). GoesOn g.C.NodeController.seen known report_tale (g.N.PolicyChoice.chosen c.args.choice.now) line_says t.first None c.args.meter.now t.taken c.as_slice-text.result.now (Ok o) c.line-in-loop-line.new.self c.line-in-loop-line.new.told None c.line-in-loop-line.new.meter) c.in-Some.is
     (c.in_ok-refused.ensures.along t.first None c.args.meter.now t.taken t.along))).meter_is
 
 pub loop-line-preserved : goal.loop-line-preserved
@@ -48,8 +51,8 @@ loop-line-preserved g c =
     let some : c.in_ok-next.field-0 ≡ true = cc in
     let none : c.in_ok-refused.field-0 ≡ None = cc in
     let split = first_given c.loop-line.lines c.next.new.self c.new-line.result c.next.new.line c.as_slice-text.result.now c.in_ok-next.field-0 c.in_ok-next.ensures some c.new-line.ensures c.as_slice-text.ensures in
-    let t = subst (λ (x : List (List ℕ)). IsTaking g.C.NodeController.seen (g.N.PolicyChoice.chosen c.args.choice.now) c.args.drill c.args.meter.now x c.loop-line.replay c.loop-line.writer c.loop-line.meter) split c.loop-line.invariant in
+    let t = subst (λ (x : List (List ℕ)). IsTaking g.C.NodeController.seen (g.N.PolicyChoice.chosen c.args.choice.now) c.args.drill c.args.meter.now x c.loop-line.replay c.loop-line.told c.loop-line.meter) split c.loop-line.invariant in
     goes_on g.C.NodeController.seen (g.N.PolicyChoice.chosen c.args.choice.now) c.args.drill c.args.meter.now c.as_slice-text.result.now c.next.new.self c.loop-line.replay c.line-in-loop-line.new.self
-    c.loop-line.writer c.line-in-loop-line.new.writer c.loop-line.meter c.line-in-loop-line.new.meter t
-    (subst (λ (o : Option Refused). GoesOn g.C.NodeController.seen (g.N.PolicyChoice.chosen c.args.choice.now) line_says t.first None c.args.meter.now t.taken c.as_slice-text.result.now (Ok o) c.line-in-loop-line.new.self c.line-in-loop-line.new.writer None c.line-in-loop-line.new.meter) none
+    c.loop-line.told c.line-in-loop-line.new.told c.loop-line.meter c.line-in-loop-line.new.meter t
+    (subst (λ (o : Option Refused). GoesOn g.C.NodeController.seen known report_tale (g.N.PolicyChoice.chosen c.args.choice.now) line_says t.first None c.args.meter.now t.taken c.as_slice-text.result.now (Ok o) c.line-in-loop-line.new.self c.line-in-loop-line.new.told None c.line-in-loop-line.new.meter) none
     (c.in_ok-refused.ensures.along t.first None c.args.meter.now t.taken t.along))

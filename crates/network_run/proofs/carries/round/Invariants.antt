@@ -4,7 +4,9 @@ use Rattle.world_model.specs.Places.{places}
 use Rattle.world_model.specs.Run.{round, put_away, world_after}
 use Rattle.world.specs.Network.{world_of}
 use Rattle.world.specs.Running.{Runs}
-use Rattle.network_run.specs.Telling.{StaysWithin, meter_behind, told}
+use Rattle.telling_model.specs.Placed.{placed_events}
+use Rattle.telling_model.specs.Tale.{told}
+use Rattle.network_run.specs.Telling.{StaysWithin, meter_behind}
 use Rattle.network_run.proofs.carries.round.Given as goal
 
 abbrev pub ghost-step : goal.ghost-step
@@ -17,8 +19,9 @@ invariant-loop-index g l = record {
   runs : Runs g.C.NodeController.seen g.topology l.world;
   events : (world_of g.C.NodeController.seen l.world l.notes).events ≡ (world_of g.C.NodeController.seen l.fn.world l.fn.notes).events + l.index;
   queues : l.world.round.items ≡ places (world_of g.C.NodeController.seen l.fn.world l.fn.notes);
-  put : IsPut l.fn.writer l.writer (g.K.Sink.written l.fn.sink) (g.K.Sink.written l.sink) (told g.topology (world_of g.C.NodeController.seen l.fn.world l.fn.notes) (take l.index (round (world_of g.C.NodeController.seen l.fn.world l.fn.notes))));
+  put : IsPut l.fn.told.writer l.told.writer (g.K.Sink.written l.fn.sink) (g.K.Sink.written l.sink) (told g.T.Teller.tale (g.T.Teller.state l.fn.told.teller) g.topology (world_of g.C.NodeController.seen l.fn.world l.fn.notes) (placed_events l.context.line (take l.index (round (world_of g.C.NodeController.seen l.fn.world l.fn.notes))))).octets;
   faults : g.K.Sink.faults l.sink ≡ g.K.Sink.faults l.fn.sink;
-  room : StaysWithin l.fn.writer l.writer;
+  knows : g.T.Teller.state l.told.teller ≡ (told g.T.Teller.tale (g.T.Teller.state l.fn.told.teller) g.topology (world_of g.C.NodeController.seen l.fn.world l.fn.notes) (placed_events l.context.line (take l.index (round (world_of g.C.NodeController.seen l.fn.world l.fn.notes))))).state;
+  room : StaysWithin l.fn.told.writer l.told.writer;
   meter : l.meter ≡ meter_behind l.fn.meter g.topology (world_of g.C.NodeController.seen l.fn.world l.fn.notes) (take l.index (round (world_of g.C.NodeController.seen l.fn.world l.fn.notes)));
 }

@@ -4,7 +4,9 @@ use Rattle.lab_io.specs.Report.{IsPut}
 use Rattle.world_model.specs.Run.{round, put_away, world_after}
 use Rattle.world.specs.Network.{world_of}
 use Rattle.world.specs.Running.{Runs}
-use Rattle.network_run.specs.Telling.{StaysWithin, meter_behind, told}
+use Rattle.telling_model.specs.Placed.{placed_events}
+use Rattle.telling_model.specs.Tale.{told}
+use Rattle.network_run.specs.Telling.{StaysWithin, meter_behind}
 use Rattle.network_run.proofs.carries.rounds.Given as goal
 
 abbrev pub ghost-round : goal.ghost-round
@@ -15,8 +17,9 @@ invariant-loop-turn g l = record {
   world : world_of g.C.NodeController.seen l.world l.notes ≡ put_away (world_after g.topology (world_of g.C.NodeController.seen l.fn.world l.fn.notes) (repeat l._turn (round (world_of g.C.NodeController.seen l.fn.world l.fn.notes))));
   empty : l.notes.records ≡ [];
   runs : Runs g.C.NodeController.seen g.topology l.world;
-  put : IsPut l.fn.writer l.writer (g.K.Sink.written l.fn.sink) (g.K.Sink.written l.sink) (told g.topology (world_of g.C.NodeController.seen l.fn.world l.fn.notes) (repeat l._turn (round (world_of g.C.NodeController.seen l.fn.world l.fn.notes))));
-  room : StaysWithin l.fn.writer l.writer;
+  put : IsPut l.fn.told.writer l.told.writer (g.K.Sink.written l.fn.sink) (g.K.Sink.written l.sink) (told g.T.Teller.tale (g.T.Teller.state l.fn.told.teller) g.topology (world_of g.C.NodeController.seen l.fn.world l.fn.notes) (placed_events l.context.line (repeat l._turn (round (world_of g.C.NodeController.seen l.fn.world l.fn.notes))))).octets;
+  knows : g.T.Teller.state l.told.teller ≡ (told g.T.Teller.tale (g.T.Teller.state l.fn.told.teller) g.topology (world_of g.C.NodeController.seen l.fn.world l.fn.notes) (placed_events l.context.line (repeat l._turn (round (world_of g.C.NodeController.seen l.fn.world l.fn.notes))))).state;
+  room : StaysWithin l.fn.told.writer l.told.writer;
   faults : g.K.Sink.faults l.sink ≡ g.K.Sink.faults l.fn.sink;
   meter : l.meter ≡ meter_behind l.fn.meter g.topology (world_of g.C.NodeController.seen l.fn.world l.fn.notes) (repeat l._turn (round (world_of g.C.NodeController.seen l.fn.world l.fn.notes)));
 }

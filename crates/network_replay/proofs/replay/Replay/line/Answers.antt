@@ -1,6 +1,14 @@
 use Rattle.script_model.specs.Reading.{line_says}
+use Rattle.network_replay.proofs.Course.{can_take}
 use Rattle.network_replay.proofs.Taking.{has_counted, is_read, lines_are_read}
 use Rattle.network_replay.proofs.replay.Replay.line.Goals as goal
+
+pub take-requires : goal.take-requires
+take-requires g c = record {
+  ready =
+      can_take g.C.NodeController.seen (g.N.PolicyChoice.chosen c.args.choice.now) c.args.self.now c.read_line-read.new.state c.args.line.now (line_says c.args.self.now.state c.args.line.now) c.read_line-read.result
+      c.requires.going c.read_line-read.ensures.said (c.read_line-read.ensures.after c.requires.room) c.read_line-read.ensures.sayable;
+}
 
 pub returns-clause-along : goal.returns-clause-along
 returns-clause-along g c = λ first start before lines along.

@@ -1,6 +1,14 @@
 use Rattle.script_model.specs.Reading.{string_says}
+use Rattle.network_replay.proofs.Course.{can_take}
 use Rattle.network_replay.proofs.Taking.{has_counted, is_read, strings_are_read}
 use Rattle.network_replay.proofs.replay.Replay.string.Goals as goal
+
+pub take-requires : goal.take-requires
+take-requires g c = record {
+  ready =
+      can_take g.C.NodeController.seen (g.N.PolicyChoice.chosen c.args.choice.now) c.args.self.now c.read_string-read.new.state c.args.text.now (string_says c.args.self.now.state c.args.text.now) c.read_string-read.result
+      c.requires.going c.read_string-read.ensures.said (c.read_string-read.ensures.after c.requires.room) c.read_string-read.ensures.sayable;
+}
 
 pub returns-clause-along : goal.returns-clause-along
 returns-clause-along g c = λ first start before lines along.

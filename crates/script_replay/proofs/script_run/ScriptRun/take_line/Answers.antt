@@ -24,7 +24,7 @@ returns-in-Ok-Line-clause-taken g c = λ first start before from h.
     let line : List ℕ = take c.in-Ok-Line.len (drop c.in-Ok-Line.place c.next.new.self.buffer) in
     let n : IsNext c.args.self.now.reader c.next.new.self (g.S.Source.left c.args.source.now) (g.S.Source.left c.next.new.source) (Given line) = rw c.in-Ok-Line.field-0-is at c.in-Ok-Line.ensures.next in
     c.take.ensures.taken first start before from (g.S.Source.left c.next.new.source)
-    (next_line g.C.NodeController.seen (g.N.PolicyChoice.chosen c.args.choice.now) first start before from c.args.self.now (record c.args.self.now { reader = c.next.new.self }) (g.S.Source.left c.args.source.now) (g.S.Source.left c.next.new.source) (g.K.Sink.written c.args.sink.now) c.args.meter.now line h refl refl n (λ is. still_at_end g.S.Source.left c.args.source.now c.next.new.source c.args.self.now.reader h.ended c.in-Ok-Line.ensures.unread (c.in-Ok-Line.ensures.ended is)))
+    (next_line g.C.NodeController.seen g.T.Teller.state g.T.Teller.tale (g.N.PolicyChoice.chosen c.args.choice.now) first start before from c.args.self.now (record c.args.self.now { reader = c.next.new.self }) (g.S.Source.left c.args.source.now) (g.S.Source.left c.next.new.source) (g.K.Sink.written c.args.sink.now) c.args.meter.now line h refl refl n (λ is. still_at_end g.S.Source.left c.args.source.now c.next.new.source c.args.self.now.reader h.ended c.in-Ok-Line.ensures.unread (c.in-Ok-Line.ensures.ended is)))
 
 pub returns-in-Ok-Line-clause-counted : goal.returns-in-Ok-Line-clause-counted
 returns-in-Ok-Line-clause-counted g c = λ more.
@@ -49,8 +49,8 @@ refused-refused-requires g c = omega (arith, c.requires.counted.lines, c.require
 pub returns-in-Ok-LongLine-clause-taken : goal.returns-in-Ok-LongLine-clause-taken
 returns-in-Ok-LongLine-clause-taken g c = λ first start before from h.
     let n : IsNext c.args.self.now.reader c.next.new.self (g.S.Source.left c.args.source.now) (g.S.Source.left c.next.new.source) Long = rw c.in-Ok-LongLine.field-0-is at c.in-Ok-LongLine.ensures.next in
-    subst (λ (r : Refused). IsSettled g.C.NodeController.seen (g.N.PolicyChoice.chosen c.args.choice.now) first start before from (Some r) (record c.args.self.now { reader = c.next.new.self }) (g.S.Source.left c.next.new.source) (g.K.Sink.written c.args.sink.now) c.args.meter.now) (sym c.refused-refused.ensures)
-    (long_line g.C.NodeController.seen (g.N.PolicyChoice.chosen c.args.choice.now) first start before from c.args.self.now (record c.args.self.now { reader = c.next.new.self }) (g.S.Source.left c.args.source.now) (g.S.Source.left c.next.new.source) (g.K.Sink.written c.args.sink.now) c.args.meter.now h n refl refl c.requires.counted.octets c.requires.counted.low (λ is. still_at_end g.S.Source.left c.args.source.now c.next.new.source c.args.self.now.reader h.ended c.in-Ok-LongLine.ensures.unread (c.in-Ok-LongLine.ensures.ended is)))
+    subst (λ (r : Refused). IsSettled g.C.NodeController.seen g.T.Teller.tale (g.N.PolicyChoice.chosen c.args.choice.now) first start before from (Some r) (record c.args.self.now { reader = c.next.new.self }) (g.S.Source.left c.next.new.source) (g.K.Sink.written c.args.sink.now) c.args.meter.now) (sym c.refused-refused.ensures)
+    (long_line g.C.NodeController.seen g.T.Teller.state g.T.Teller.tale (g.N.PolicyChoice.chosen c.args.choice.now) first start before from c.args.self.now (record c.args.self.now { reader = c.next.new.self }) (g.S.Source.left c.args.source.now) (g.S.Source.left c.next.new.source) (g.K.Sink.written c.args.sink.now) c.args.meter.now h n refl refl c.requires.counted.octets c.requires.counted.low (λ is. still_at_end g.S.Source.left c.args.source.now c.next.new.source c.args.self.now.reader h.ended c.in-Ok-LongLine.ensures.unread (c.in-Ok-LongLine.ensures.ended is)))
 
 pub refused-refused-requires-in-Ok-PastEnd : goal.refused-refused-requires-in-Ok-PastEnd
 refused-refused-requires-in-Ok-PastEnd g c = omega (arith, c.requires.counted.lines, c.requires.counted.low)
@@ -58,14 +58,14 @@ refused-refused-requires-in-Ok-PastEnd g c = omega (arith, c.requires.counted.li
 pub returns-in-Ok-PastEnd-clause-taken : goal.returns-in-Ok-PastEnd-clause-taken
 returns-in-Ok-PastEnd-clause-taken g c = λ first start before from h.
     let n : IsNext c.args.self.now.reader c.next.new.self (g.S.Source.left c.args.source.now) (g.S.Source.left c.next.new.source) Past = rw c.in-Ok-PastEnd.field-0-is at c.in-Ok-PastEnd.ensures.next in
-    subst (λ (r : Refused). IsSettled g.C.NodeController.seen (g.N.PolicyChoice.chosen c.args.choice.now) first start before from (Some r) (record c.args.self.now { reader = c.next.new.self }) (g.S.Source.left c.next.new.source) (g.K.Sink.written c.args.sink.now) c.args.meter.now) (sym c.refused-refused-in-Ok-PastEnd.ensures)
-    (past_end g.C.NodeController.seen (g.N.PolicyChoice.chosen c.args.choice.now) first start before from c.args.self.now (record c.args.self.now { reader = c.next.new.self }) (g.S.Source.left c.args.source.now) (g.S.Source.left c.next.new.source) (g.K.Sink.written c.args.sink.now) c.args.meter.now h n refl refl c.requires.counted.octets c.requires.counted.low (λ is. still_at_end g.S.Source.left c.args.source.now c.next.new.source c.args.self.now.reader h.ended c.in-Ok-PastEnd.ensures.unread (c.in-Ok-PastEnd.ensures.ended is)))
+    subst (λ (r : Refused). IsSettled g.C.NodeController.seen g.T.Teller.tale (g.N.PolicyChoice.chosen c.args.choice.now) first start before from (Some r) (record c.args.self.now { reader = c.next.new.self }) (g.S.Source.left c.next.new.source) (g.K.Sink.written c.args.sink.now) c.args.meter.now) (sym c.refused-refused-in-Ok-PastEnd.ensures)
+    (past_end g.C.NodeController.seen g.T.Teller.state g.T.Teller.tale (g.N.PolicyChoice.chosen c.args.choice.now) first start before from c.args.self.now (record c.args.self.now { reader = c.next.new.self }) (g.S.Source.left c.args.source.now) (g.S.Source.left c.next.new.source) (g.K.Sink.written c.args.sink.now) c.args.meter.now h n refl refl c.requires.counted.octets c.requires.counted.low (λ is. still_at_end g.S.Source.left c.args.source.now c.next.new.source c.args.self.now.reader h.ended c.in-Ok-PastEnd.ensures.unread (c.in-Ok-PastEnd.ensures.ended is)))
 
 pub returns-in-Ok-End-clause-taken : goal.returns-in-Ok-End-clause-taken
 returns-in-Ok-End-clause-taken g c = λ first start before from h.
     let n : IsNext c.args.self.now.reader c.next.new.self (g.S.Source.left c.args.source.now) (g.S.Source.left c.next.new.source) Over = rw c.in-Ok-End.field-0-is at c.in-Ok-End.ensures.next in
-    input_ends g.C.NodeController.seen (g.N.PolicyChoice.chosen c.args.choice.now) first start before from c.args.self.now (record c.args.self.now { reader = c.next.new.self }) (g.S.Source.left c.args.source.now) (g.S.Source.left c.next.new.source) (g.K.Sink.written c.args.sink.now) c.args.meter.now h n refl refl c.requires.counted.low (λ is. still_at_end g.S.Source.left c.args.source.now c.next.new.source c.args.self.now.reader h.ended c.in-Ok-End.ensures.unread (c.in-Ok-End.ensures.ended is))
+    input_ends g.C.NodeController.seen g.T.Teller.state g.T.Teller.tale (g.N.PolicyChoice.chosen c.args.choice.now) first start before from c.args.self.now (record c.args.self.now { reader = c.next.new.self }) (g.S.Source.left c.args.source.now) (g.S.Source.left c.next.new.source) (g.K.Sink.written c.args.sink.now) c.args.meter.now h n refl refl c.requires.counted.low (λ is. still_at_end g.S.Source.left c.args.source.now c.next.new.source c.args.self.now.reader h.ended c.in-Ok-End.ensures.unread (c.in-Ok-End.ensures.ended is))
 
 pub returns-in-Err-clause-taken : goal.returns-in-Err-clause-taken
 returns-in-Err-clause-taken g c = λ first start before from h.
-    read_failed g.C.NodeController.seen (g.N.PolicyChoice.chosen c.args.choice.now) first start before from c.args.self.now (record c.args.self.now { reader = c.next.new.self }) (g.S.Source.left c.args.source.now) (g.S.Source.left c.next.new.source) (g.K.Sink.written c.args.sink.now) c.args.meter.now h c.in-Err.ensures.cut c.requires.counted.low
+    read_failed g.C.NodeController.seen g.T.Teller.state g.T.Teller.tale (g.N.PolicyChoice.chosen c.args.choice.now) first start before from c.args.self.now (record c.args.self.now { reader = c.next.new.self }) (g.S.Source.left c.args.source.now) (g.S.Source.left c.next.new.source) (g.K.Sink.written c.args.sink.now) c.args.meter.now h c.in-Err.ensures.cut c.requires.counted.low

@@ -19,10 +19,10 @@ loop-refused-init g c = record {
 
 pub loop-refused-preserved : goal.loop-refused-preserved
 loop-refused-preserved g c = record {
-  going = c.in_ok-take_line.ensures.going (ap Ok c.in-Goes.is);
+  going = c.in_ok-take_line.ensures.going;
   counted = c.in_ok-take_line.ensures.counted (ap Ok c.in-Goes.is);
   at = λ first start before from h.
-      subst (λ (s : Step). Advances g.C.NodeController.seen (g.N.PolicyChoice.chosen c.args.choice.now) first start before from (Ok s) c.take_line.new.self (g.S.Source.left c.take_line.new.source) (g.K.Sink.written c.take_line.new.sink) c.take_line.new.meter) c.in-Goes.is
+      subst (λ (s : Step). Advances g.C.NodeController.seen g.T.Teller.state g.T.Teller.tale (g.N.PolicyChoice.chosen c.args.choice.now) first start before from (Ok s) c.take_line.new.self (g.S.Source.left c.take_line.new.source) (g.K.Sink.written c.take_line.new.sink) c.take_line.new.meter) c.in-Goes.is
       (c.in_ok-take_line.ensures.taken first start before from (c.loop-refused.invariant.at first start before from h));
   room = stays_then _ _ _ c.loop-refused.invariant.room c.in_ok-take_line.ensures.room;
   read = c.in_ok-take_line.ensures.read ∙ c.loop-refused.invariant.read;
@@ -34,7 +34,7 @@ loop-refused-smaller g c = omega (arith, c.in_ok-take_line.ensures.less (ap Ok c
 
 pub returns-in-Ends-clause-taken : goal.returns-in-Ends-clause-taken
 returns-in-Ends-clause-taken g c = λ first start before from h.
-    subst (λ (s : Step). Advances g.C.NodeController.seen (g.N.PolicyChoice.chosen c.args.choice.now) first start before from (Ok s) c.take_line.new.self (g.S.Source.left c.take_line.new.source) (g.K.Sink.written c.take_line.new.sink) c.take_line.new.meter) c.in-Ends.is
+    subst (λ (s : Step). Advances g.C.NodeController.seen g.T.Teller.state g.T.Teller.tale (g.N.PolicyChoice.chosen c.args.choice.now) first start before from (Ok s) c.take_line.new.self (g.S.Source.left c.take_line.new.source) (g.K.Sink.written c.take_line.new.sink) c.take_line.new.meter) c.in-Ends.is
     (c.in_ok-take_line.ensures.taken first start before from (c.loop-refused.invariant.at first start before from h))
 
 pub returns-in-Ends-clause-room : goal.returns-in-Ends-clause-room
@@ -48,7 +48,7 @@ returns-in-Ends-clause-write g c = c.in_ok-take_line.ensures.write ∙ c.loop-re
 
 pub returns-in_err-take_line-clause-taken : goal.returns-in_err-take_line-clause-taken
 returns-in_err-take_line-clause-taken g c = λ first start before from h.
-    subst (λ (r : Result (Option Refused) ReplayFault). Finishes g.C.NodeController.seen (g.N.PolicyChoice.chosen c.args.choice.now) first start before from r c.take_line.new.self (g.S.Source.left c.take_line.new.source) (g.K.Sink.written c.take_line.new.sink) c.take_line.new.meter)
+    subst (λ (r : Result (Option Refused) ReplayFault). Finishes g.C.NodeController.seen g.T.Teller.state g.T.Teller.tale (g.N.PolicyChoice.chosen c.args.choice.now) first start before from r c.take_line.new.self (g.S.Source.left c.take_line.new.source) (g.K.Sink.written c.take_line.new.sink) c.take_line.new.meter)
     (sym (err_is c.from_residual.result _ c.from_residual.ensures.1))
     (c.in_err-take_line.ensures.taken first start before from (c.loop-refused.invariant.at first start before from h))
 

@@ -11,9 +11,9 @@ invariant-loop-refused g l = record {
   going : IsGoing g.C.NodeController.seen (g.N.PolicyChoice.chosen l.choice) l.self.replay;
   counted : IsCounted l.self;
   at : (first : Writer) (start : Option (List ℕ)) (before : Meter) (from : Option (List ℕ))
-      → IsAtLine g.C.NodeController.seen (g.N.PolicyChoice.chosen l.choice) first start before from l.fn.self (g.S.Source.left l.fn.source) (g.K.Sink.written l.fn.sink) l.fn.meter
-      → IsAtLine g.C.NodeController.seen (g.N.PolicyChoice.chosen l.choice) first start before from l.self (g.S.Source.left l.source) (g.K.Sink.written l.sink) l.meter;
-  room : StaysWithin l.fn.self.writer l.self.writer;
+      → IsAtLine g.C.NodeController.seen g.T.Teller.state g.T.Teller.tale (g.N.PolicyChoice.chosen l.choice) first start before from l.fn.self (g.S.Source.left l.fn.source) (g.K.Sink.written l.fn.sink) l.fn.meter
+      → IsAtLine g.C.NodeController.seen g.T.Teller.state g.T.Teller.tale (g.N.PolicyChoice.chosen l.choice) first start before from l.self (g.S.Source.left l.source) (g.K.Sink.written l.sink) l.meter;
+  room : StaysWithin l.fn.self.told.writer l.self.told.writer;
   read : g.S.Source.faults l.source ≡ g.S.Source.faults l.fn.source;
   write : g.K.Sink.faults l.sink ≡ g.K.Sink.faults l.fn.sink;
 }

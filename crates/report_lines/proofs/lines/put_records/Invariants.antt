@@ -2,7 +2,7 @@ use Rattle.std.proofs.Common.{◌≡◌, take}
 use Rattle.lab_io.specs.Report.{IsPut}
 use Rattle.script_model.specs.Reports.{record_lines}
 use Rattle.network_run.specs.Telling.{StaysWithin}
-use Rattle.network_run.proofs.lines.put_records.Given as goal
+use Rattle.report_lines.proofs.lines.put_records.Given as goal
 
 abbrev pub invariant-loop-item : goal.invariant-loop-item
 invariant-loop-item g l = record {

@@ -3,8 +3,8 @@ use Rattle.std.specs.Prelude.{codes, decimal}
 use Rattle.std.proofs.lemmas.Result.{IfOk-weaker}
 use Rattle.world_model.specs.World.{Counts}
 use Rattle.script_model.specs.Reports.{end_line}
-use Rattle.network_replay.proofs.LastLine.{end_written}
-use Rattle.network_replay.proofs.last_line.write_end.Goals as goal
+use Rattle.report_lines.proofs.LastLine.{end_written}
+use Rattle.report_lines.proofs.end_line.write_end.Goals as goal
 
 pub returns : goal.returns
 returns c =

@@ -6,10 +6,10 @@ ghost use Rattle.script_model.specs.Records.{record_line};
 ghost use Rattle.script_model.specs.Reports.{record_lines};
 ghost use Rattle.network_run.specs.Telling.{Puts, StaysWithin, is_failed};
 
-use crate::stop::Stop;
 use lab_io::{ReportWriter, Sink};
 use lab_text::Text;
 use link_model::Record;
+use network_run::Stop;
 use record_text::write_record;
 use std::alloc::Global;
 use topology::Topology;

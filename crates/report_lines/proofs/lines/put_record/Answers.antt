@@ -1,5 +1,5 @@
 use Rattle.network_run.proofs.Telling.{none_of, passes_on}
-use Rattle.network_run.proofs.lines.put_record.Goals as goal
+use Rattle.report_lines.proofs.lines.put_record.Goals as goal
 
 pub returns-in_err-write_record-clause-put : goal.returns-in_err-write_record-clause-put
 returns-in_err-write_record-clause-put g c =

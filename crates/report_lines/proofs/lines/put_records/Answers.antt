@@ -3,8 +3,9 @@ use Rattle.lab_io.specs.Report.{IsPut}
 use Rattle.script_model.specs.Records.{record_line}
 use Rattle.script_model.specs.Reports.{record_lines}
 use Rattle.network_run.specs.Telling.{Puts}
-use Rattle.network_run.proofs.Telling.{lines_behind, lines_next, nothing_put, put_then, stays, stays_then, stops_at}
-use Rattle.network_run.proofs.lines.put_records.Goals as goal
+use Rattle.network_run.proofs.Telling.{nothing_put, put_then, stays, stays_then, stops_at}
+use Rattle.report_lines.proofs.RecordLines.{lines_behind, lines_next}
+use Rattle.report_lines.proofs.lines.put_records.Goals as goal
 
 pub returns-in_err-put_record-clause-put : goal.returns-in_err-put_record-clause-put
 returns-in_err-put_record-clause-put g c =

@@ -1,0 +1,15 @@
+-- The report of a replay, as a tale
+
+use Rattle.std.specs.Prelude.{[]}
+use Rattle.world_model.specs.Run.{next}
+use Rattle.world_model.specs.World.{counts_of}
+use Rattle.script_model.specs.Reports.{end_line, last_line_by, record_lines}
+use Rattle.telling_model.specs.Tale.{Tale}
+
+-- the lines of the records of each event, and the last line
+abbrev pub report_tale : Tale (Unit {0})
+report_tale = record {
+  opens = λ topology w. record { octets = []; state = tt };
+  tells = λ state topology w placed. record { octets = record_lines topology (next topology w placed.event).notes.records; state = tt };
+  ends = λ topology w ended. last_line_by (end_line ended.event_lines (counts_of w)) ended.refused;
+}

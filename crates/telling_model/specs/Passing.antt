@@ -1,0 +1,51 @@
+-- What an event takes from the queues of a network, what it puts there, and which frames it makes
+
+use Rattle.std.specs.Prelude.{List, drop, flat_map, length, map, slice_get, Option, None, Some, if◌then◌else◌}
+use Rattle.std.specs.Option.{option_map}
+use Rattle.atm_cells.specs.declared.cell.Cell.{Cell}
+use Rattle.link_model.specs.declared.frames.Frame.{Frame}
+use Rattle.net_types.specs.declared.node.Place.{Place}
+use Rattle.world_model.specs.declared.event.Event.{Event}
+use Rattle.world_model.specs.declared.event.Event.TheVariants.{Carry, Lose}
+use Rattle.world_model.specs.Places.{places, queue_at, same_queue}
+use Rattle.world_model.specs.Run.{next}
+use Rattle.world_model.specs.Topology.{Topology}
+use Rattle.world_model.specs.World.{World}
+use Rattle.telling_model.specs.declared.standing.Standing.{Standing}
+
+-- a cell that stands, or stood, in a queue
+abbrev pub standing : Place → Cell → Standing
+standing place cell = record { place = place; cell = cell }
+
+-- *The queue that an event takes from*: a carry and a loss, each from its own
+abbrev pub source_of : Event → Option Place
+source_of (Carry place) = Some place
+source_of (Lose place) = Some place
+source_of event = None
+
+-- *What it takes*: the first cell that waits there
+abbrev pub taken_from : World → Option Place → Option Standing
+taken_from w None = None
+taken_from w (Some place) = option_map (standing place) (slice_get (queue_at w place) 0)
+
+abbrev pub taken : World → Event → Option Standing
+taken w event = taken_from w (source_of event)
+
+-- *What is left* in a queue behind that
+abbrev pub left_of : World → Option Place → Place → List Cell
+left_of w None place = queue_at w place
+left_of w (Some source) place = if same_queue source place then drop 1 (queue_at w place) else queue_at w place
+
+abbrev pub left : World → Event → Place → List Cell
+left w event place = left_of w (source_of event) place
+
+-- *What it puts*: the cells that stand in a queue then behind what was left there; queue by queue in the order of a round
+abbrev pub put_at : Topology → World → Event → Place → List Cell
+put_at topology w event place = drop (length (left w event place)) (queue_at (next topology w event) place)
+
+abbrev pub put : Topology → World → Event → List Standing
+put topology w event = flat_map (λ place. map (standing place) (put_at topology w event place)) (places w)
+
+-- *The frames that it makes*, in order
+abbrev pub made : Topology → World → Event → List Frame
+made topology w event = drop (length w.notes.frames) (next topology w event).notes.frames

@@ -1,0 +1,12 @@
+//! How the reading of a script ended.
+
+use script_model::Refused;
+
+/// How the reading of a script ended.
+#[derive(Clone, Copy, Debug, PartialEq, Eq)]
+pub struct Ended {
+    /// How many lines were events.
+    pub event_lines: u32,
+    /// What was refused, behind which nothing is read.
+    pub refused: Option<Refused>,
+}

@@ -1,0 +1,2 @@
+pub mod Eventless
+pub mod Reports
