@@ -1,0 +1,6 @@
+mod Flat
+mod Reaching
+mod Behind
+mod Telling
+mod Coming
+mod Looking

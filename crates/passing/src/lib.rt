@@ -1,0 +1,9 @@
+//! What an event takes from the queues of a network, puts there and makes, told by a look at the network
+//! before the event and one behind it. The words are those of `telling_model`.
+#![tactic(auto)]
+
+mod before;
+mod lengths;
+mod reach;
+
+pub use before::Before;

@@ -1,0 +1,14 @@
+//! The actor that an event reaches.
+
+use net_types::NodeId;
+
+/// The actor that an event reaches. Cells come to the ends of its queues alone.
+#[derive(Clone, Copy, Debug, PartialEq, Eq)]
+pub enum Reached {
+    /// None: a cell is lost, or the queue to be carried from is empty.
+    Nobody,
+    /// The controller of a node.
+    Controller(NodeId),
+    /// The switch of a node.
+    Switch(NodeId),
+}
