@@ -1,0 +1,35 @@
+use Rattle.std.proofs.Common.{◌≡◌, ◌∙◌, OnOk, ap, subst}
+use Rattle.passing.specs.Look.{IsBefore}
+use Rattle.telling_model.specs.Passing.{put, taken}
+use Rattle.world_model.specs.Run.{next}
+use Rattle.world_model.specs.World.{World}
+use Rattle.network_run.specs.Telling.{Puts}
+use Rattle.network_trace.specs.Passages.{passage_lines}
+use Rattle.network_trace.specs.Trace.{Told, event_told, passed}
+use Rattle.network_trace.specs.Waiting.{HasSeen}
+use Rattle.network_trace.proofs.teller.TraceTellerTeller.after.Goals as goal
+
+pub returns-clause-put : goal.returns-clause-put
+returns-clause-put g c known then waits came =
+    let t = c.args.context.now.names.now in
+    let event = c.args.event.now in
+    let seen : IsBefore t then event c.in-Some.before = subst (λ o. HasSeen o t then event) c.in-Some.is waits.seen in
+    let took : c.taken.result ≡ taken then event = c.taken.ensures ∙ seen.taken in
+    let cells : c.as_slice.result.now ≡ put t then event = c.as_slice.ensures.value ∙ c.in_ok-put_cells.ensures t then event c.args.notes.now c.requires.runs seen came in
+    let notes : c.args.notes.now ≡ (next t then event).notes = ap (λ (w : World). w.notes) came in
+    let all : passed c.args.self.now.told event c.taken.result c.as_slice.result.now c.args.notes.now ≡ event_told known t then event =
+    λ i. passed (waits.knows i) event (took i) (cells i) (notes i) in
+    subst (λ (told : Told). Puts c.tell_event.result c.args.writer.now c.tell_event.new.writer (g.K.Sink.written c.args.sink.now) (g.K.Sink.written c.tell_event.new.sink) (passage_lines t told.passages)) all
+    c.tell_event.ensures.put
+
+pub returns-clause-state : goal.returns-clause-state
+returns-clause-state g c known then waits came =
+    let t = c.args.context.now.names.now in
+    let event = c.args.event.now in
+    let seen : IsBefore t then event c.in-Some.before = subst (λ o. HasSeen o t then event) c.in-Some.is waits.seen in
+    let took : c.taken.result ≡ taken then event = c.taken.ensures ∙ seen.taken in
+    let cells : c.as_slice.result.now ≡ put t then event = c.as_slice.ensures.value ∙ c.in_ok-put_cells.ensures t then event c.args.notes.now c.requires.runs seen came in
+    let notes : c.args.notes.now ≡ (next t then event).notes = ap (λ (w : World). w.notes) came in
+    let all : passed c.args.self.now.told event c.taken.result c.as_slice.result.now c.args.notes.now ≡ event_told known t then event =
+    λ i. passed (waits.knows i) event (took i) (cells i) (notes i) in
+    subst (λ (told : Told). OnOk c.tell_event.result (c.tell_event.new.told ≡ told.marks)) all c.tell_event.ensures.marks

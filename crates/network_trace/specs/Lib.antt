@@ -1,0 +1,4 @@
+pub mod Passages
+pub mod Trace
+pub mod Reading
+pub mod Waiting
