@@ -100,12 +100,8 @@ fn write_change(
     }
 }
 
-/// Appends the line of an event.
-pub(crate) fn write_event(
-    out: &mut Text,
-    names: &Topology,
-    event: &Event,
-) -> Result<(), OutOfMemory>
+/// Appends the line of an event, with its LF, as [`write_line`](crate::write_line) does.
+pub fn write_event(out: &mut Text, names: &Topology, event: &Event) -> Result<(), OutOfMemory>
     ensures ok { OnOk result (out.new ≡ out.old ++ line_of (event_words names.now event.now)) }
     ensures err { OnErr result (GoesOn out.old out.new) }
 {

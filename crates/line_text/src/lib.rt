@@ -7,4 +7,5 @@ mod parts;
 mod routes;
 mod topology_lines;
 
+pub use events::write_event;
 pub use line::write_line;
