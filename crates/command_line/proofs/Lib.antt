@@ -4,3 +4,4 @@ pub mod Leaves
 pub mod Parting
 pub mod Numbers
 pub mod Asked
+pub mod Simple

@@ -2,7 +2,7 @@
 
 use Rattle.std.specs.Prelude.{◌≡◌, ℕ, ◌≤◌, List, [], ◌∷◌, codes, decimal, Option, Some}
 use Rattle.command_line.specs.declared.command.Command.{Command}
-use Rattle.command_line.specs.declared.command.Command.TheVariants.{Replay, ReplayToml, Ideal, Rules, DecodeIfmp, DecodeGsmp, Drill, Audit, Console}
+use Rattle.command_line.specs.declared.command.Command.TheVariants.{Replay, ReplayToml, Ideal, Rules, DecodeIfmp, DecodeGsmp, Drill, Audit, Console, Trace, Journal, Capture}
 
 abbrev pub words_of : Command → List (List ℕ)
 words_of Replay = codes "replay" ∷ []
@@ -14,6 +14,9 @@ words_of DecodeGsmp = codes "decode" ∷ codes "gsmp" ∷ []
 words_of (Drill number) = codes "drill" ∷ decimal number ∷ []
 words_of Audit = codes "audit" ∷ []
 words_of Console = codes "console" ∷ []
+words_of Trace = codes "trace" ∷ []
+words_of Journal = codes "journal" ∷ []
+words_of Capture = codes "capture" ∷ []
 
 -- the numbers of drills
 abbrev pub HasItsNumber : Command → Type 0

@@ -28,10 +28,16 @@ grammar_app =
     (with_subcommand
     (with_subcommand
     (with_subcommand
+    (with_subcommand
+    (with_subcommand
+    (with_subcommand
     (with_subcommand top_app (worded (codes "replay") false))
     (bare (codes "ideal")))
     (worded (codes "decode") true))
     (worded (codes "drill") true))
     (bare (codes "rules")))
     (bare (codes "audit")))
-    (bare (codes "console"))
+    (bare (codes "console")))
+    (bare (codes "trace")))
+    (bare (codes "journal")))
+    (bare (codes "capture"))

@@ -28,6 +28,12 @@ pub enum Command {
     Audit,
     /// `console`: drives one switch by hand, over queues that lose cells.
     Console,
+    /// `trace`: tells the cells that pass on the links of a script's run.
+    Trace,
+    /// `journal`: tells each event of a script's run as a line of JSON.
+    Journal,
+    /// `capture`: tells the frames on the links of a script's run as a file of pcapng.
+    Capture,
 }
 
 /// The least and the greatest number of a drill.
@@ -93,6 +99,9 @@ fn alone(name: &str) -> Option<Command>
         "rules" => Some(Command::Rules),
         "audit" => Some(Command::Audit),
         "console" => Some(Command::Console),
+        "trace" => Some(Command::Trace),
+        "journal" => Some(Command::Journal),
+        "capture" => Some(Command::Capture),
         _ => None,
     }
 }

@@ -48,5 +48,8 @@ pub fn grammar<'a>(alloc: Global) -> Result<Command<'a>, AllocError>
         .subcommand(worded(alloc, "drill", true)?)?
         .subcommand(bare(alloc, "rules"))?
         .subcommand(bare(alloc, "audit"))?
-        .subcommand(bare(alloc, "console"))
+        .subcommand(bare(alloc, "console"))?
+        .subcommand(bare(alloc, "trace"))?
+        .subcommand(bare(alloc, "journal"))?
+        .subcommand(bare(alloc, "capture"))
 }

@@ -9,7 +9,7 @@ use Rattle.script_model.specs.Documents.{document_script}
 use Rattle.script_model.specs.Judgement.{rules_refused}
 use Rattle.script_model.specs.Drill.{drill_script}
 use Rattle.commands.specs.declared.task.Task as tasks
-use Rattle.commands.specs.declared.task.Task.TheVariants.{Replay, Document, Drill, Whole, Lined}
+use Rattle.commands.specs.declared.task.Task.TheVariants.{Replay, View, Document, Drill, Whole, Lined}
 use Rattle.commands.specs.declared.task.Whole.TheVariants.{Ideal, Decode, Rules}
 use Rattle.commands.specs.Lined.{lined_ending}
 use Rattle.commands.specs.Task.{AskForTask}
@@ -21,6 +21,7 @@ is_refusal ending = false
 -- a line of the input is refused
 abbrev pub is_refused : tasks.Task → (input : List ℕ) → Bool
 is_refused Replay input = is_some (script_of input).refused
+is_refused (View view) input = is_some (script_of input).refused
 is_refused Document input = is_some (document_script input).refused
 is_refused (Drill number) input = is_some (drill_script number).refused
 is_refused (Whole Ideal) input = is_some (script_of input).refused
@@ -34,6 +35,7 @@ ending_by refused = if refused then Refused else Done
 
 abbrev pub task_ending : tasks.Task → (input : List ℕ) → endings.Ending
 task_ending Replay input = ending_by (is_refused Replay input)
+task_ending (View view) input = ending_by (is_refused (View view) input)
 task_ending Document input = ending_by (is_refused Document input)
 task_ending (Drill number) input = ending_by (is_refused (Drill number) input)
 task_ending (Whole whole) input = ending_by (is_refused (Whole whole) input)

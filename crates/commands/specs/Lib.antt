@@ -1,5 +1,6 @@
 pub mod Task
 pub mod Fault
 pub mod Lined
+pub mod View
 pub mod Ending
 pub mod Run

@@ -18,13 +18,14 @@ use Rattle.script_replay.specs.Report as replays
 use Rattle.document_replay.specs.Lines as documents
 use Rattle.drill_replay.specs.Drill as drills
 use Rattle.commands.specs.declared.task.Task as tasks
-use Rattle.commands.specs.declared.task.Task.TheVariants.{Replay, Document, Drill, Whole, Lined}
+use Rattle.commands.specs.declared.task.Task.TheVariants.{Replay, View, Document, Drill, Whole, Lined}
 use Rattle.commands.specs.declared.task.Whole as wholes
 use Rattle.commands.specs.declared.task.Whole.TheVariants.{Ideal, Decode, Rules}
 use Rattle.commands.specs.declared.fault.RunFault.{RunFault}
 use Rattle.commands.specs.declared.fault.RunFault.TheVariants.{Read, Write, OutOfMemory}
 use Rattle.commands.specs.Ending.{is_refused}
 use Rattle.commands.specs.Lined.{lined_account}
+use Rattle.commands.specs.View.{view_account, view_telling}
 use Rattle.commands.specs.Task.{AskForNone, AskForTask, usage_line}
 
 -- *Read as a whole*: a report is that of an input: what routing alone makes of the packets of a script, what its
@@ -88,8 +89,8 @@ pub record IsDrillFront (number : ℕ) (left_old left_new written_old written_ne
   pub unread : left_new ≡ left_old
   pub written : AppendsFront written_old written_new (drills.report_by policy_of (drill_script number))
 
--- *A task is done*, and ends so. A script is replayed under the policy that it names, and the meter is at the last of its
--- events; a whole input has none, nor have lines that are taken one by one
+-- *A task is done*, and ends so. A script is replayed, or something else is told of it, under the policy that it names, and the
+-- meter is at the last of its events; a whole input has none, nor have lines that are taken one by one
 abbrev pub EndsBy : (Bool → Type 0) → endings.Ending → Type 0
 EndsBy IsDoneBy Done = IsDoneBy false
 EndsBy IsDoneBy Refused = IsDoneBy true
@@ -97,7 +98,9 @@ EndsBy IsDoneBy Denied = ⊥
 
 abbrev pub HasDone : tasks.Task → (left_old left_new written_old written_new : Option (List ℕ)) → (before meter : Meter) → (ending : endings.Ending) → Type 0
 HasDone Replay left_old left_new written_old written_new before meter ending =
-    EndsBy (λ refused. replays.IsDone policy_of left_old left_new written_old written_new before meter refused) ending
+    EndsBy (λ refused. replays.IsDone policy_of (replays.report_by policy_of) left_old left_new written_old written_new before meter refused) ending
+HasDone (View view) left_old left_new written_old written_new before meter ending =
+    EndsBy (λ refused. replays.IsDone policy_of (view_account view) left_old left_new written_old written_new before meter refused) ending
 HasDone Document left_old left_new written_old written_new before meter ending =
     EndsBy (λ refused. IsDocumentDone left_old left_new written_old written_new before meter refused) ending
 HasDone (Drill number) left_old left_new written_old written_new before meter ending =
@@ -109,21 +112,24 @@ HasDone (Lined lined) left_old left_new written_old written_new before meter end
 
 -- *What a fault leaves* of a task
 abbrev pub LeavesUnread : tasks.Task → (left_old left_new written_old written_new : Option (List ℕ)) → Type 0
-LeavesUnread Replay left_old left_new written_old written_new = replays.IsCutOff policy_of left_old left_new written_old written_new
+LeavesUnread Replay left_old left_new written_old written_new = replays.IsCutOff (replays.body_by policy_of) left_old left_new written_old written_new
+LeavesUnread (View view) left_old left_new written_old written_new = replays.IsCutOff (view_telling view) left_old left_new written_old written_new
 LeavesUnread Document left_old left_new written_old written_new = IsSilent left_old left_new written_old written_new
 LeavesUnread (Drill number) left_old left_new written_old written_new = ⊥
 LeavesUnread (Whole whole) left_old left_new written_old written_new = IsSilent left_old left_new written_old written_new
 LeavesUnread (Lined lined) left_old left_new written_old written_new = lines.IsCutOff (lined_account lined) left_old left_new written_old written_new
 
 abbrev pub LeavesFront : tasks.Task → (left_old left_new written_old written_new : Option (List ℕ)) → Type 0
-LeavesFront Replay left_old left_new written_old written_new = replays.IsFront policy_of left_old left_new written_old written_new
+LeavesFront Replay left_old left_new written_old written_new = replays.IsFront (replays.report_by policy_of) (replays.body_by policy_of) left_old left_new written_old written_new
+LeavesFront (View view) left_old left_new written_old written_new = replays.IsFront (view_account view) (view_telling view) left_old left_new written_old written_new
 LeavesFront Document left_old left_new written_old written_new = IsDocumentFront left_old left_new written_old written_new
 LeavesFront (Drill number) left_old left_new written_old written_new = IsDrillFront number left_old left_new written_old written_new
 LeavesFront (Whole whole) left_old left_new written_old written_new = IsFront whole left_old left_new written_old written_new
 LeavesFront (Lined lined) left_old left_new written_old written_new = lines.IsFront (lined_account lined) left_old left_new written_old written_new
 
 abbrev pub LeavesAtWant : tasks.Task → (left_old left_new written_old written_new : Option (List ℕ)) → Type 0
-LeavesAtWant Replay left_old left_new written_old written_new = replays.IsFront policy_of left_old left_new written_old written_new
+LeavesAtWant Replay left_old left_new written_old written_new = replays.IsFront (replays.report_by policy_of) (replays.body_by policy_of) left_old left_new written_old written_new
+LeavesAtWant (View view) left_old left_new written_old written_new = replays.IsFront (view_account view) (view_telling view) left_old left_new written_old written_new
 LeavesAtWant Document left_old left_new written_old written_new =
     IsSilent left_old left_new written_old written_new ⊎ IsDocumentFront left_old left_new written_old written_new
 LeavesAtWant (Drill number) left_old left_new written_old written_new = IsDrillFront number left_old left_new written_old written_new

@@ -17,6 +17,7 @@ use crate::fault::RunFault;
 use crate::lined::run_lined;
 use crate::networks::{run_document, run_drill, run_script};
 use crate::task::{Task, read_task};
+use crate::views::run_view;
 use crate::whole::run_whole;
 use command_line::Word;
 use lab_io::{Failed, Sink, Source, write_all};
@@ -25,7 +26,7 @@ use std::alloc::Global;
 use world::Meter;
 
 const USAGE_LINE: &str =
-    "usage: ipswitch replay|replay toml|ideal|decode ifmp|decode gsmp|drill N|rules|audit|console\n";
+    "usage: ipswitch replay|replay toml|ideal|decode ifmp|decode gsmp|drill N|rules|trace|audit|console|journal|capture\n";
 
 fn write_usage<K: Sink>(sink: &mut K) -> Result<(), Failed>
     ensures faults { K.faults sink.new ≡ count_after (is_err result) (K.faults sink.old) }
@@ -52,6 +53,7 @@ fn run_task<S: Source, K: Sink>(
 {
     match task {
         Task::Replay => run_script(alloc, source, sink, meter),
+        Task::View(view) => run_view(alloc, view, source, sink, meter),
         Task::Document => run_document(alloc, source, sink, meter),
         Task::Drill(number) => run_drill(alloc, number, sink, meter),
         Task::Whole(whole) => run_whole(alloc, whole, source, sink),

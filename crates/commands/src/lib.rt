@@ -8,6 +8,7 @@ mod lined;
 mod networks;
 mod sure;
 mod task;
+mod views;
 mod whole;
 
 pub use command::run;

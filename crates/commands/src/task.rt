@@ -28,11 +28,24 @@ pub enum Lined {
     Console,
 }
 
+/// What is told of the run of a script in place of its report.
+#[derive(Clone, Copy, Debug, PartialEq, Eq)]
+pub enum View {
+    /// What passes on the links, line by line.
+    Trace,
+    /// Each event, as a line of JSON.
+    Journal,
+    /// The frames on the links, as a file of pcapng.
+    Capture,
+}
+
 /// What a command does.
 #[derive(Clone, Copy, Debug, PartialEq, Eq)]
 pub enum Task {
     /// A script is replayed as it is read, line by line.
     Replay,
+    /// A script is run as it is read, line by line, and something else is told of it than its report.
+    View(View),
     /// A document is read as a whole, and the script that it is is replayed.
     Document,
     /// The drill with this number is replayed; nothing is read.
@@ -57,6 +70,9 @@ fn task_of(command: Command) -> Task
         Command::Drill(number) => Task::Drill(number),
         Command::Audit => Task::Lined(Lined::Audit),
         Command::Console => Task::Lined(Lined::Console),
+        Command::Trace => Task::View(View::Trace),
+        Command::Journal => Task::View(View::Journal),
+        Command::Capture => Task::View(View::Capture),
     }
 }
 

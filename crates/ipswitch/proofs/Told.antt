@@ -22,7 +22,7 @@ use Rattle.command_line.specs.Commands.{words_of, HasItsNumber, AskFor}
 use Rattle.command_line.specs.Reading.{asked}
 use Rattle.command_line.proofs.Numbers.{drill_read}
 use Rattle.commands.specs.declared.task.Task.{Task}
-use Rattle.commands.specs.declared.task.Task.TheVariants.{Replay, Document, Drill, Whole, Lined}
+use Rattle.commands.specs.declared.task.Task.TheVariants.{Replay, View, Document, Drill, Whole, Lined}
 use Rattle.commands.specs.Ending.{ending_status}
 use Rattle.commands.specs.Run as runs
 use Rattle.commands.specs.Run.{HasDone, LeavesUnread, LeavesFront, LeavesAtWant, IsAnswered, IsCutOff, IsCutShort, InUsage, InReport, IsGivenUp, Unread, InTask}
@@ -47,6 +47,9 @@ said_is command.DecodeGsmp has = refl
 said_is (command.Drill number) has = ap (option_map (λ (n : ℕ). command.Drill n)) (drill_read number has.0 has.1)
 said_is command.Audit has = refl
 said_is command.Console has = refl
+said_is command.Trace has = refl
+said_is command.Journal has = refl
+said_is command.Capture has = refl
 
 one_task : (words : List (List ℕ)) (a b : Task) → AskForTask words a → AskForTask words b → a ≡ b
 one_task words a b first second =
@@ -87,7 +90,7 @@ module _ (fronts : OutputsAreTrue) (left_old left_new written_old written_new : 
 
   -- *Scripts*: a front of the lines of records, for whole lines that were read
   body_of : (whole rest front lacking : List ℕ) → Consumes left_old left_new (whole ++ rest) → Appends written_old written_new front
-      → front ++ lacking ≡ replays.body_by policy_of (script_of whole) → Tells Replay
+      → front ++ lacking ≡ body_under (policy_of (script_of whole).topology) (script_of whole) → Tells Replay
   body_of whole rest front lacking read written is =
       let script : Script = script_of whole in
       let last : List ℕ = last_line (policy_of script.topology) script in
@@ -100,9 +103,9 @@ module _ (fronts : OutputsAreTrue) (left_old left_new written_old written_new : 
         lines = fronts Replay whole front (lacking ++ last) (sym (append_assoc front lacking last) ∙ ap (λ (xs : List ℕ). xs ++ last) is);
       }
 
-  replay_front : replays.IsFront policy_of left_old left_new written_old written_new → Tells Replay
+  replay_front : replays.IsFront (replays.report_by policy_of) (replays.body_by policy_of) left_old left_new written_old written_new → Tells Replay
   replay_front (replays.in_lines whole rest are written) =
-      let body : List ℕ = replays.body_by policy_of (script_of whole) in
+      let body : List ℕ = body_under (policy_of (script_of whole).topology) (script_of whole) in
       body_of whole rest (take written.count body) (drop written.count body) are.read written.appended (take-append-drop written.count body)
   replay_front (replays.at_last input is written) = some_of Replay input is.read written
 
@@ -119,6 +122,7 @@ module _ (fronts : OutputsAreTrue) (left_old left_new written_old written_new : 
   done_told Replay before meter Done d = whole_of Replay d.input d.is_read.read d.written
   done_told Replay before meter Refused d = whole_of Replay d.input d.is_read.read d.written
   done_told Replay before meter Denied d = absurd d
+  done_told (View view) before meter ending d = tt
   done_told Document before meter Done d = whole_of Document d.input d.is_read.read d.written
   done_told Document before meter Refused d = whole_of Document d.input d.is_read.read d.written
   done_told Document before meter Denied d = absurd d
@@ -130,6 +134,7 @@ module _ (fronts : OutputsAreTrue) (left_old left_new written_old written_new : 
 
   unread_told : (task : Task) → LeavesUnread task left_old left_new written_old written_new → HasTrueLines task left_old left_new written_old written_new
   unread_told Replay cut = body_of cut.whole cut.rest cut.told cut.lacking cut.lines.read cut.written cut.all
+  unread_told (View view) cut = tt
   unread_told Document silent = none_of Document silent
   unread_told (Drill number) never = absurd never
   unread_told (Whole whole) silent = tt
@@ -137,6 +142,7 @@ module _ (fronts : OutputsAreTrue) (left_old left_new written_old written_new : 
 
   front_told : (task : Task) → LeavesFront task left_old left_new written_old written_new → HasTrueLines task left_old left_new written_old written_new
   front_told Replay front = replay_front front
+  front_told (View view) front = tt
   front_told Document front = some_of Document front.input front.is_read.read front.written
   front_told (Drill number) front = drill_front number front
   front_told (Whole whole) front = tt
@@ -144,6 +150,7 @@ module _ (fronts : OutputsAreTrue) (left_old left_new written_old written_new : 
 
   want_told : (task : Task) → LeavesAtWant task left_old left_new written_old written_new → HasTrueLines task left_old left_new written_old written_new
   want_told Replay front = replay_front front
+  want_told (View view) front = tt
   want_told Document (inl silent) = none_of Document silent
   want_told Document (inr front) = some_of Document front.input front.is_read.read front.written
   want_told (Drill number) front = drill_front number front
@@ -152,6 +159,7 @@ module _ (fronts : OutputsAreTrue) (left_old left_new written_old written_new : 
 
   silent_told : (task : Task) → runs.IsSilent left_old left_new written_old written_new → HasTrueLines task left_old left_new written_old written_new
   silent_told Replay silent = none_of Replay silent
+  silent_told (View view) silent = tt
   silent_told Document silent = none_of Document silent
   silent_told (Drill number) silent = none_of (Drill number) silent
   silent_told (Whole whole) silent = tt

@@ -15,7 +15,7 @@ use Rattle.console_model.specs.Steps.{lab_after}
 use Rattle.console_model.specs.Law.{HasNoChance, IsRight}
 use Rattle.console_run.specs.Session.{Session, session_of}
 use Rattle.commands.specs.declared.task.Task as tasks
-use Rattle.commands.specs.declared.task.Task.TheVariants.{Replay, Document, Drill, Whole, Lined}
+use Rattle.commands.specs.declared.task.Task.TheVariants.{Replay, View, Document, Drill, Whole, Lined}
 use Rattle.commands.specs.declared.task.Lined.TheVariants.{Audit, Console}
 use Rattle.commands.specs.Lined.{lined_ending}
 
@@ -29,9 +29,10 @@ abbrev pub IsTrueSession : Session → Type 0
 IsTrueSession session = (ports : ℕ) (before after : List ConsoleEvent) → session.ports ≡ Some ports → session.events ≡ before ++ after
     → HasNoChance (opened ports) before → IsRight ports (lab_after (opened ports) before)
 
--- of what a command replays; of a trace each line is clean, where its audit says yes; and of a session as above
+-- of what a command replays, whatever is told of it; of a trace each line is clean, where its audit says yes; and of a session as above
 abbrev pub IsTrueTask : tasks.Task → (input : List ℕ) → Type 0
 IsTrueTask Replay input = IsTrueScript (script_of input)
+IsTrueTask (View view) input = IsTrueScript (script_of input)
 IsTrueTask Document input = IsTrueRun (document_policy input) (document_script input).topology (document_script input).events
 IsTrueTask (Drill number) input = IsTrueScript (drill_script number)
 IsTrueTask (Whole whole) input = Unit {0}

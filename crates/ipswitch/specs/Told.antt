@@ -9,12 +9,13 @@ use Rattle.script_model.specs.Drill.{drill_script}
 use Rattle.script_model.specs.Reports.{report, report_under, last_line}
 use Rattle.true_lines.specs.Lines.{AreTrueLines}
 use Rattle.commands.specs.declared.task.Task as tasks
-use Rattle.commands.specs.declared.task.Task.TheVariants.{Replay, Document, Drill, Whole, Lined}
+use Rattle.commands.specs.declared.task.Task.TheVariants.{Replay, View, Document, Drill, Whole, Lined}
 
 -- *Each whole line of these octets is true*: a line of the script that an input is, or of the document, or of the drill, and
 -- what it claims is so of the run. Of other tasks nothing is said
 abbrev pub AreTaskLines : tasks.Task → (input octets : List ℕ) → Type 0
 AreTaskLines Replay input octets = AreTrueLines (policy_of (script_of input).topology) (script_of input) octets
+AreTaskLines (View view) input octets = Unit {0}
 AreTaskLines Document input octets = AreTrueLines (document_policy input) (document_script input) octets
 AreTaskLines (Drill number) input octets = AreTrueLines (policy_of (drill_script number).topology) (drill_script number) octets
 AreTaskLines (Whole whole) input octets = Unit {0}
@@ -33,6 +34,7 @@ pub record TellsTrue (task : tasks.Task) (left_old left_new written_old written_
 -- so of each task that replays
 abbrev pub HasTrueLines : tasks.Task → (left_old left_new written_old written_new : Option (List ℕ)) → Type 0
 HasTrueLines Replay left_old left_new written_old written_new = TellsTrue Replay left_old left_new written_old written_new
+HasTrueLines (View view) left_old left_new written_old written_new = Unit {0}
 HasTrueLines Document left_old left_new written_old written_new = TellsTrue Document left_old left_new written_old written_new
 HasTrueLines (Drill number) left_old left_new written_old written_new = TellsTrue (Drill number) left_old left_new written_old written_new
 HasTrueLines (Whole whole) left_old left_new written_old written_new = Unit {0}
@@ -41,6 +43,7 @@ HasTrueLines (Lined lined) left_old left_new written_old written_new = Unit {0}
 -- *The output* of a task that replays: the report, and of a drill its last line
 abbrev pub output_of : tasks.Task → (input : List ℕ) → List ℕ
 output_of Replay input = report (script_of input)
+output_of (View view) input = []
 output_of Document input = report_under (document_policy input) (document_script input)
 output_of (Drill number) input = last_line (policy_of (drill_script number).topology) (drill_script number)
 output_of (Whole whole) input = []

@@ -4,16 +4,8 @@
 ghost use Rattle.std.specs.Prelude.{◌≡◌, map, drop, string_bytes, IfOk};
 ghost use Rattle.std.specs.Vec.Iter.{into_iter_items};
 
-#[cfg(test)]
-mod command_tests;
-#[cfg(test)]
-mod fault_tests;
 mod laws;
-#[cfg(test)]
-mod network_tests;
 mod run;
-#[cfg(test)]
-mod tests;
 
 use crate::run::run;
 use command_line::Word;

@@ -26,6 +26,15 @@ fifth_app = with_subcommand fourth_app (bare (codes "rules"))
 abbrev sixth_app : App
 sixth_app = with_subcommand fifth_app (bare (codes "audit"))
 
+abbrev seventh_app : App
+seventh_app = with_subcommand sixth_app (bare (codes "console"))
+
+abbrev eighth_app : App
+eighth_app = with_subcommand seventh_app (bare (codes "trace"))
+
+abbrev ninth_app : App
+ninth_app = with_subcommand eighth_app (bare (codes "journal"))
+
 pub returns : goal.returns
 returns c =
     let first : app_of c.in_ok-subcommand.field-0 ≡ first_app =
@@ -40,6 +49,12 @@ returns c =
     c.in_ok-subcommand-5.ensures.shape c.bare-2.ensures.local ∙ ap₂ with_subcommand fourth (ap top_of c.bare-2.ensures.app) in
     let sixth : app_of c.in_ok-subcommand-6.field-0 ≡ sixth_app =
     c.in_ok-subcommand-6.ensures.shape c.bare-3.ensures.local ∙ ap₂ with_subcommand fifth (ap top_of c.bare-3.ensures.app) in
-    IfOk-weaker c.subcommand-7.result _ _
-    (λ r h. h.shape c.bare-4.ensures.local ∙ ap₂ with_subcommand sixth (ap top_of c.bare-4.ensures.app))
-    c.subcommand-7.ensures
+    let seventh : app_of c.in_ok-subcommand-7.field-0 ≡ seventh_app =
+    c.in_ok-subcommand-7.ensures.shape c.bare-4.ensures.local ∙ ap₂ with_subcommand sixth (ap top_of c.bare-4.ensures.app) in
+    let eighth : app_of c.in_ok-subcommand-8.field-0 ≡ eighth_app =
+    c.in_ok-subcommand-8.ensures.shape c.bare-5.ensures.local ∙ ap₂ with_subcommand seventh (ap top_of c.bare-5.ensures.app) in
+    let ninth : app_of c.in_ok-subcommand-9.field-0 ≡ ninth_app =
+    c.in_ok-subcommand-9.ensures.shape c.bare-6.ensures.local ∙ ap₂ with_subcommand eighth (ap top_of c.bare-6.ensures.app) in
+    IfOk-weaker c.subcommand-10.result _ _
+    (λ r h. h.shape c.bare-7.ensures.local ∙ ap₂ with_subcommand ninth (ap top_of c.bare-7.ensures.app))
+    c.subcommand-10.ensures

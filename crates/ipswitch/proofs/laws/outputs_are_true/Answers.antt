@@ -9,7 +9,7 @@ use Rattle.script_model.specs.Drill.{drill_script}
 use Rattle.true_runs.specs.Law.{IsTrueRun}
 use Rattle.true_lines.specs.Law.{HasNames, IsTrueOf}
 use Rattle.commands.specs.declared.task.Task.{Task}
-use Rattle.commands.specs.declared.task.Task.TheVariants.{Replay, Document, Drill, Whole, Lined}
+use Rattle.commands.specs.declared.task.Task.TheVariants.{Replay, View, Document, Drill, Whole, Lined}
 use Rattle.ipswitch.specs.Told.{AreTaskLines, output_of}
 use Rattle.ipswitch.proofs.laws.outputs_are_true.Goals as goal
 
@@ -24,6 +24,7 @@ returns c = by
         let script : Script = script_of input in
         c.lines_are_true.ensures.fronts (policy_of script.topology) script
         (true_of (policy_of script.topology) script (c.lines_are_true.ensures.scripts input) (c.tasks_are_true.ensures Replay input)) front rest is
+    by (View view) input front rest is = tt
     by Document input front rest is =
         let script : Script = document_script input in
         c.lines_are_true.ensures.fronts (document_policy input) script

@@ -11,7 +11,7 @@ use Rattle.script_model.specs.Documents.{document_script, document_policy}
 use Rattle.script_model.specs.Drill.{drill_script}
 use Rattle.script_runs.specs.Runs.{IsScriptRun}
 use Rattle.commands.specs.declared.task.Task.{Task}
-use Rattle.commands.specs.declared.task.Task.TheVariants.{Replay, Document, Drill, Whole, Lined}
+use Rattle.commands.specs.declared.task.Task.TheVariants.{Replay, View, Document, Drill, Whole, Lined}
 use Rattle.commands.specs.declared.task.Lined.TheVariants.{Audit, Console}
 use Rattle.true_runs.specs.Law.{RunsAreTrue}
 use Rattle.console_model.specs.declared.event.ConsoleEvent.{ConsoleEvent}
@@ -32,6 +32,7 @@ returns c = by
   where
     by : (task : Task) (input : List ℕ) → IsTrueTask task input
     by Replay input = true_script c.runs_are_true.ensures (script_of input) (c.scripts_are_runs.ensures.scripts input)
+    by (View view) input = true_script c.runs_are_true.ensures (script_of input) (c.scripts_are_runs.ensures.scripts input)
     by Document input =
         let script = document_script input in
         let is = c.scripts_are_runs.ensures.documents input in

@@ -1,7 +1,7 @@
 //! Reads and writes that fail, and runs of which none does.
 
 use crate::command_tests::{GOOD_TRACE, NO, REUSED_TRACE, YES};
-use crate::tests::{
+use crate::script_tests::{
     LOSING, LOSING_REPORT, ONE_NODE, ONE_PACKET, OVER_TWO_LINKS, THREE_ROUTERS, TWO_MET, USAGE,
     outcome_over, source_of, sure_status, text_of,
 };

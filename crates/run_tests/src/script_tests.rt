@@ -1,8 +1,7 @@
 //! Worked scripts through `run`, over sources and sinks in memory.
 
-use crate::run::run;
 use command_line::Word;
-use commands::run_surely;
+use commands::{run, run_surely};
 use lab_io::{MemSink, MemSource, SureSink, SureSource};
 use net_types::OutOfMemory;
 use std::alloc::Global;
@@ -324,7 +323,7 @@ fn long_lines(rt: HostRuntime) -> Result<(), Fail> {
 }
 
 pub const USAGE: &str =
-    "usage: ipswitch replay|replay toml|ideal|decode ifmp|decode gsmp|drill N|rules|audit|console\n";
+    "usage: ipswitch replay|replay toml|ideal|decode ifmp|decode gsmp|drill N|rules|trace|audit|console|journal|capture\n";
 
 /// Words that ask for nothing.
 const OTHER_WORDS: [&[&str]; 12] = [

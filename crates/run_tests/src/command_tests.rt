@@ -1,6 +1,6 @@
 //! Documents, drills, messages and traces through `run`: what the commands other than `replay` write.
 
-use crate::tests::{assert_outcome, outcome_over, source_of};
+use crate::script_tests::{assert_outcome, outcome_over, source_of};
 use std::test::Fail;
 
 /// Documents whose rules are judged, what is reported, and the statuses. The second rule of the first matches

@@ -1,7 +1,7 @@
 //! Networks of whose reports the lines that matter are known; frames that no actor made; and a source that
 //! fails behind its last line.
 
-use crate::tests::{
+use crate::script_tests::{
     ONE_NODE, ONE_PACKET, THREE_ROUTERS, TWO_MET, TWO_ROUTERS, outcome, outcome_over, push_parts,
     source_of, text_of,
 };

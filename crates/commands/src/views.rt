@@ -1,0 +1,43 @@
+//! Runs of scripts of which something else is told than their report.
+
+ghost use Rattle.std.specs.Prelude.{◌≡◌, ℕ, List, Some, IfOk, IfErr};
+ghost use Rattle.lab_io.specs.Fault.{count_after};
+ghost use Rattle.commands.specs.declared.task.Task.TheVariants as Task;
+ghost use Rattle.commands.specs.Ending.{task_ending};
+ghost use Rattle.commands.specs.Fault.{read_failed, write_failed};
+ghost use Rattle.commands.specs.Run.{HasDone, Leaves};
+
+use crate::ending::ending_by;
+use crate::fault::RunFault;
+use crate::task::View;
+use lab_io::{Sink, Source};
+use line_by_line::Ending;
+use named_replay::tell_script;
+use network_capture::CaptureTeller;
+use network_journal::JournalTeller;
+use network_trace::TraceTeller;
+use std::alloc::Global;
+use world::Meter;
+
+/// Runs a script as it is read, line by line, writes what is told of it, and tells how that ends: by
+/// whether a line of it is refused. The first fault ends it.
+pub fn run_view<S: Source, K: Sink>(
+    alloc: Global,
+    view: View,
+    source: &mut S,
+    sink: &mut K,
+    meter: &mut Meter,
+) -> Result<Ending, RunFault>
+    ensures done { IfOk result (HasDone (Task.View view) (S.left source.old) (S.left source.new) (K.written sink.old) (K.written sink.new) meter.old meter.new) }
+    ensures complete { IfOk result (λ ending. (input : List ℕ) → S.left source.old ≡ Some input → ending ≡ task_ending (Task.View view) input) }
+    ensures left { IfErr result (λ fault. Leaves fault (Task.View view) (S.left source.old) (S.left source.new) (K.written sink.old) (K.written sink.new)) }
+    ensures read { S.faults source.new ≡ count_after (read_failed result) (S.faults source.old) }
+    ensures write { K.faults sink.new ≡ count_after (write_failed result) (K.faults sink.old) }
+{
+    let refused = match view {
+        View::Trace => tell_script(alloc, TraceTeller::new(alloc), source, sink, meter)?,
+        View::Journal => tell_script(alloc, JournalTeller::new(alloc), source, sink, meter)?,
+        View::Capture => tell_script(alloc, CaptureTeller::new(alloc), source, sink, meter)?,
+    };
+    Ok(ending_by(refused))
+}
