@@ -42,16 +42,13 @@ impl Before {
 
     /// Looks at a network to which the event is to come. Where the event is to take a cell and none
     /// waits, it looks at the head of that queue alone, and else at the queues of one actor besides.
-    pub fn look<C: NodeController>(world: &World<C>, notes: &Notes, event: &Event) -> Before
+    pub fn look<C: NodeController>(&mut self, world: &World<C>, notes: &Notes, event: &Event)
         requires coming { IsComing C.seen world.now notes.now event.now }
-        ensures { (topology : Described) → Runs C.seen topology world.now → CanCome topology (world_of C.seen world.now notes.now) event.now → IsBefore topology (world_of C.seen world.now notes.now) event.now result }
+        ensures { (topology : Described) → Runs C.seen topology world.now → CanCome topology (world_of C.seen world.now notes.now) event.now → IsBefore topology (world_of C.seen world.now notes.now) event.now self.new }
     {
-        let taken = taken(world, event);
-        Before {
-            taken,
-            made: notes.ledger().made_count(),
-            lengths: Lengths::look(world, reached(world, event, taken.is_some())),
-        }
+        self.taken = taken(world, event);
+        self.made = notes.ledger().made_count();
+        self.lengths = Lengths::look(world, reached(world, event, self.taken.is_some()));
     }
 
     /// The cell that the event takes, and its queue. None exactly where it takes none.

@@ -19,6 +19,9 @@ fn first<C: NodeController>(world: &World<C>, place: Place) -> Option<Standing>
     requires queue { IsQueueIn C.seen world.now place }
     ensures { result ≡ taken_from (world_of C.seen world.now no_notes) (Some place) }
 {
+    if world.queued(place) == 0 {
+        return None;
+    }
     let cell = world.cell(place, 0)?;
     Some(Standing { place, cell })
 }

@@ -6,3 +6,9 @@ cell-requires-clause-node g c = queue_node g.C.NodeController.seen c.args.world.
 
 pub cell-requires-clause-port : goal.cell-requires-clause-port
 cell-requires-clause-port g c = queue_within g.C.NodeController.seen c.args.world.now c.args.place c.requires.queue
+
+pub queued-requires-clause-node : goal.queued-requires-clause-node
+queued-requires-clause-node g c = queue_node g.C.NodeController.seen c.args.world.now c.args.place c.requires.queue
+
+pub queued-requires-clause-port : goal.queued-requires-clause-port
+queued-requires-clause-port g c = queue_within g.C.NodeController.seen c.args.world.now c.args.place c.requires.queue
