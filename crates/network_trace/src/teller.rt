@@ -18,7 +18,7 @@ use world_model::Event;
 pub struct TraceTeller {
     alloc: Global,
     told: ToldMarks,
-    before: Option<Before>,
+    before: Before,
     cells: Vec<Standing>,
 }
 
@@ -28,7 +28,7 @@ impl TraceTeller {
         TraceTeller {
             alloc,
             told: ToldMarks::new(alloc),
-            before: None,
+            before: Before::nothing(),
             cells: Vec::new(alloc),
         }
     }
@@ -60,7 +60,7 @@ impl<C: NodeController> Teller<C> for TraceTeller {
     }
 
     fn before(&mut self, world: &World<C>, notes: &Notes, event: &Event) {
-        self.before = Some(Before::look(world, notes, event));
+        self.before.look(world, notes, event);
     }
 
     fn after<K: Sink>(
@@ -72,13 +72,10 @@ impl<C: NodeController> Teller<C> for TraceTeller {
         writer: &mut ReportWriter,
         sink: &mut K,
     ) -> Result<(), Stop> {
-        let Some(before) = self.before else {
-            return Ok(());
-        };
-        before.put_cells(world, &mut self.cells)?;
+        self.before.put_cells(world, &mut self.cells)?;
         let passed = Passed {
             event,
-            taken: before.taken(),
+            taken: self.before.taken(),
             cells: self.cells.as_slice(),
             notes,
         };

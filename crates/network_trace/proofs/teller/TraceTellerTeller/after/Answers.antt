@@ -4,16 +4,20 @@ use Rattle.telling_model.specs.Passing.{put, taken}
 use Rattle.world_model.specs.Run.{next}
 use Rattle.world_model.specs.World.{World}
 use Rattle.network_run.specs.Telling.{Puts}
+use Rattle.network_run.proofs.Telling.{none_of, passes_on}
 use Rattle.network_trace.specs.Passages.{passage_lines}
 use Rattle.network_trace.specs.Trace.{Told, event_told, passed}
-use Rattle.network_trace.specs.Waiting.{HasSeen}
 use Rattle.network_trace.proofs.teller.TraceTellerTeller.after.Goals as goal
+
+pub returns-in_err-put_cells-clause-put : goal.returns-in_err-put_cells-clause-put
+returns-in_err-put_cells-clause-put g c known then waits came =
+    passes_on c.from_residual.result _ _ _ _ _ _ c.from_residual.ensures.1 (none_of _ _ _)
 
 pub returns-clause-put : goal.returns-clause-put
 returns-clause-put g c known then waits came =
     let t = c.args.context.now.names.now in
     let event = c.args.event.now in
-    let seen : IsBefore t then event c.in-Some.before = subst (λ o. HasSeen o t then event) c.in-Some.is waits.seen in
+    let seen : IsBefore t then event c.args.self.now.before = waits.seen in
     let took : c.taken.result ≡ taken then event = c.taken.ensures ∙ seen.taken in
     let cells : c.as_slice.result.now ≡ put t then event = c.as_slice.ensures.value ∙ c.in_ok-put_cells.ensures t then event c.args.notes.now c.requires.runs seen came in
     let notes : c.args.notes.now ≡ (next t then event).notes = ap (λ (w : World). w.notes) came in
@@ -26,7 +30,7 @@ pub returns-clause-state : goal.returns-clause-state
 returns-clause-state g c known then waits came =
     let t = c.args.context.now.names.now in
     let event = c.args.event.now in
-    let seen : IsBefore t then event c.in-Some.before = subst (λ o. HasSeen o t then event) c.in-Some.is waits.seen in
+    let seen : IsBefore t then event c.args.self.now.before = waits.seen in
     let took : c.taken.result ≡ taken then event = c.taken.ensures ∙ seen.taken in
     let cells : c.as_slice.result.now ≡ put t then event = c.as_slice.ensures.value ∙ c.in_ok-put_cells.ensures t then event c.args.notes.now c.requires.runs seen came in
     let notes : c.args.notes.now ≡ (next t then event).notes = ap (λ (w : World). w.notes) came in
