@@ -101,7 +101,7 @@ impl<C: NodeController> Teller<C> for JournalTeller {
     }
 
     fn before(&mut self, world: &World<C>, notes: &Notes, event: &Event) {
-        self.before = Before::look(world, notes, event);
+        self.before.look(world, notes, event);
     }
 
     fn after<K: Sink>(
