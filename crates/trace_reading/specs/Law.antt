@@ -1,10 +1,15 @@
--- The trace of every script is good
+-- The trace of every script is good, and an audit of it says yes
 
-use Rattle.std.specs.Prelude.{ℕ, List, []}
+use Rattle.std.specs.Prelude.{◌≡◌, ℕ, ◌<◌, List, [], length, None}
+use Rattle.lab_text.specs.Line.{input_limit}
 use Rattle.port_model.specs.Setup.{Policy}
 use Rattle.script_model.specs.Script.{Script, script_of}
+use Rattle.telling_model.specs.Placed.{placed_of}
+use Rattle.telling_model.specs.Tale.{account}
+use Rattle.trace_model.specs.Audit.{Outcome, Yes, audit_of}
 use Rattle.world_model.specs.Headline.{IsTame}
 use Rattle.world_model.specs.Past.{past_of}
+use Rattle.network_trace.specs.Trace.{trace_tale}
 use Rattle.trace_truth.specs.Told.{trace_told}
 use Rattle.trace_truth.specs.Law.{AreGood}
 
@@ -16,3 +21,16 @@ IsTameScript policy script = IsTame (past_of policy script.topology script.event
 abbrev pub ScriptTracesAreGood : Type 0
 ScriptTracesAreGood = (policy : Policy) (octets : List ℕ) → IsTameScript policy (script_of octets)
     → AreGood [] (trace_told policy (script_of octets).topology (script_of octets).events)
+
+-- *Its octets*
+abbrev pub trace_of_script : Policy → (octets : List ℕ) → List ℕ
+trace_of_script policy octets = account trace_tale policy (script_of octets) (placed_of octets)
+
+abbrev pub SaysYes : Outcome → Type 0
+SaysYes (Yes links puts binds) = Unit {0}
+SaysYes outcome = ⊥
+
+-- *As an audit reads it*, where no line of the script was refused and the trace is no longer than an audit may read
+abbrev pub TracesAreAudited : Type 0
+TracesAreAudited = (policy : Policy) (octets : List ℕ) → (script_of octets).refused ≡ None → IsTameScript policy (script_of octets)
+    → length (trace_of_script policy octets) < input_limit → SaysYes (audit_of (trace_of_script policy octets))

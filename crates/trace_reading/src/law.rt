@@ -1,8 +1,21 @@
 //! The laws of the traces of scripts.
 
-ghost use Rattle.trace_reading.specs.Law.{ScriptTracesAreGood};
+ghost use Rattle.trace_reading.specs.Law.{ScriptTracesAreGood, TracesAreAudited};
 
+use control_places::{control_frames_have_places, nothing_is_refused};
+use joined_worlds::{answers_settle_joins, joins_are_kept, runs_make_no_pairs};
+use label_worlds::labels_are_followed;
+use network_trace::passages_are_read;
+use ownership::labels_are_owned;
+use packet_worlds::packets_are_kept;
+use passed_cells::cells_have_passed;
+use passing_laws::queues_change_by_passing;
+use run_facts::nodes_are_steady;
+use running_worlds::{frames_are_made, inputs_are_kept};
 use script_runs::scripts_are_runs;
+use told_worlds::{
+    joins_lead_on, labels_are_bound_unused, labels_are_never_disowned, users_are_kept,
+};
 use trace_truth::traces_are_good;
 use true_lines::lines_are_true;
 
@@ -15,4 +28,32 @@ pub fn scripts_have_good_traces()
     traces_are_good();
     scripts_are_runs();
     lines_are_true();
+}
+
+/// So an audit of that trace says yes, where no line of the script was refused and the trace has at most
+/// 16,777,216 octets. It calls the laws that it stands on, and its contract is the statement.
+pub fn traces_are_audited()
+    ensures { TracesAreAudited }
+{
+    nodes_are_steady();
+    frames_are_made();
+    inputs_are_kept();
+    runs_make_no_pairs();
+    answers_settle_joins();
+    labels_are_followed();
+    joins_are_kept();
+    joins_lead_on();
+    labels_are_bound_unused();
+    users_are_kept();
+    cells_have_passed();
+    packets_are_kept();
+    control_frames_have_places();
+    labels_are_owned();
+    labels_are_never_disowned();
+    nothing_is_refused();
+    queues_change_by_passing();
+    scripts_are_runs();
+    lines_are_true();
+    passages_are_read();
+    scripts_have_good_traces();
 }
