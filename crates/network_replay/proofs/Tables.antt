@@ -40,7 +40,7 @@ use Rattle.world_model.specs.World.{World, Site, at_controller, at_switch, contr
 use Rattle.world_model.proofs.Lists.{at_key, by_eq}
 use Rattle.actor_pace.proofs.Paces.{Follows, Paces, sends_paces}
 use Rattle.actor_pace.proofs.Controllers.{cell_follows, change_changes, injected_paces, restarts_paces, ticks_paces}
-use Rattle.world.specs.Coming.{AreNumbered}
+use Rattle.world_pace.specs.Running.{AreNumbered}
 
 abbrev pub site_table : Site → List Route
 site_table site = table_to_be site.controller

@@ -10,7 +10,7 @@ use Rattle.world_model.specs.Conditions.{IsEvent, IsNode}
 use Rattle.world_model.specs.Run.{switch_tick_of, tick_of, tick_of_all}
 use Rattle.world_model.specs.Topology.{Topology}
 use Rattle.world_model.specs.World.{World, Site}
-use Rattle.world.specs.Running.{AreRunning, IsRunning, numbered}
+use Rattle.world_pace.specs.Running.{AreRunning, IsRunning, numbered}
 use Rattle.network_run.proofs.Turns.{get_append, get_map, map_length}
 
 -- whatever the notes are

@@ -18,7 +18,7 @@ use Rattle.world_model.specs.World.{World, Site}
 use Rattle.telling_model.specs.Placed.{placed, placed_events}
 use Rattle.telling_model.specs.Tale.{Tale, Telling, told}
 use Rattle.telling_model.proofs.Told.{after_append, line_octets, line_state}
-use Rattle.world.specs.Running.{AreRunning, IsRunningSite, numbered}
+use Rattle.world_pace.specs.Running.{AreRunning, IsRunningSite, numbered}
 use Rattle.std.specs.Prelude.{Option, Result}
 use Rattle.std.specs.Result.{IsErrAnd}
 use Rattle.lab_io.specs.Report.{IsPut, Writer}

@@ -18,7 +18,8 @@ use Rattle.world_model.specs.World.{World}
 use Rattle.world.specs.declared.world.World.{World as Network}
 use Rattle.world.specs.Network.{IsNodeIn, world_of}
 use Rattle.world.specs.Running.{Runs}
-use Rattle.world.proofs.Conditions.{linked_port, node_in, place_in, queue_low}
+use Rattle.world_pace.proofs.Ports.{linked_port}
+use Rattle.world.proofs.Conditions.{node_in, place_in, queue_low}
 use Rattle.telling_model.specs.Passing.{standing, taken_from}
 use Rattle.passing_laws.specs.declared.reached.Reached.{Reached}
 use Rattle.passing_laws.specs.declared.reached.Reached.TheVariants.{Nobody, Controller, Switch}

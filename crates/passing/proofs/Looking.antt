@@ -14,7 +14,8 @@ use Rattle.world_model.specs.Topology.{Topology}
 use Rattle.world_model.specs.World.{World}
 use Rattle.world.specs.declared.world.World.{World as Network}
 use Rattle.world.specs.Network.{no_notes, world_of}
-use Rattle.world.specs.Running.{IsRunning, Runs}
+use Rattle.world_pace.specs.Running.{IsRunning}
+use Rattle.world.specs.Running.{Runs}
 use Rattle.telling_model.specs.Passing.{left, put, source_of, taken, taken_from}
 use Rattle.telling_model.specs.declared.standing.Standing.{Standing}
 use Rattle.passing_laws.specs.declared.reached.Reached.{Reached}

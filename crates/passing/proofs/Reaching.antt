@@ -11,7 +11,7 @@ use Rattle.world_model.specs.declared.link.LinkEnd.{LinkEnd}
 use Rattle.world_model.specs.Places.{queue_at}
 use Rattle.world_model.specs.Topology.{Topology, peer_of}
 use Rattle.world_model.specs.World.{World}
-use Rattle.world.proofs.Conditions.{far_node}
+use Rattle.world_pace.proofs.Ports.{far_node}
 use Rattle.passing_laws.specs.declared.reached.Reached.{Reached}
 use Rattle.passing_laws.specs.declared.reached.Reached.TheVariants.{Nobody, Controller, Switch}
 use Rattle.passing_laws.specs.Reached.{carried_to, led_to, owner_of, reached, switch_at}

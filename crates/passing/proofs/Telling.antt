@@ -19,8 +19,8 @@ use Rattle.world_model.specs.World.{World}
 use Rattle.world_model.proofs.Lists.{by_eq}
 use Rattle.world.specs.declared.world.World.{World as Network}
 use Rattle.world.specs.Network.{no_notes, world_of}
-use Rattle.world.specs.Running.{IsRunning, numbered}
-use Rattle.world.proofs.Running.{places_are, places_at, places_from}
+use Rattle.world_pace.specs.Running.{IsRunning, numbered}
+use Rattle.world_pace.proofs.Running.{places_are, places_at, places_from}
 use Rattle.telling_model.specs.Passing.{left, left_of, put, put_at, source_of, standing}
 use Rattle.telling_model.specs.declared.standing.Standing.{Standing}
 use Rattle.passing_laws.specs.declared.reached.Reached.{Reached}

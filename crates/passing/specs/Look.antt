@@ -11,7 +11,8 @@ use Rattle.world_model.specs.Topology.{Topology}
 use Rattle.world_model.specs.World.{World}
 use Rattle.world.specs.declared.world.World.{World as Network}
 use Rattle.world.specs.Network.{IsNodeIn, world_of}
-use Rattle.world.specs.Running.{IsRunning, Runs}
+use Rattle.world_pace.specs.Running.{IsRunning}
+use Rattle.world.specs.Running.{Runs}
 use Rattle.telling_model.specs.Passing.{left, taken}
 use Rattle.network_run.specs.Coming.{IsComing}
 use Rattle.passing_laws.specs.declared.reached.Reached.{Reached}

@@ -50,9 +50,9 @@ use Rattle.world_model.specs.Run.{world_after}
 use Rattle.world_model.specs.Past.{Past, past_of, last_bound}
 use Rattle.world_model.specs.Headline.{IsRun}
 use Rattle.world_model.proofs.Opening.{ports_are}
-use Rattle.world.specs.Running.{IsRunningSite}
-use Rattle.world.proofs.Running.{site_runs}
-use Rattle.world.proofs.Conditions.{is_port_of}
+use Rattle.world_pace.specs.Running.{IsRunningSite}
+use Rattle.world_pace.proofs.Running.{site_runs}
+use Rattle.world_pace.proofs.Ports.{is_port_of}
 use Rattle.world_views.specs.Shown.{acting}
 use Rattle.world_views.specs.Between.{setups_of}
 use Rattle.world_views.specs.Kept.{HasAddresses}

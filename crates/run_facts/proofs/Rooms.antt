@@ -25,9 +25,9 @@ use Rattle.world_model.specs.Conditions.{IsTopology}
 use Rattle.world_model.specs.Run.{put_away, next, world_after}
 use Rattle.world_model.specs.Headline.{IsRun}
 use Rattle.world_model.proofs.Opening.{site_ports}
-use Rattle.world.specs.Running.{AreRunning, IsRunningSite, most_frame}
-use Rattle.world.proofs.Running.{queue_up}
-use Rattle.world.proofs.Events.{Goes, acts_go}
+use Rattle.world_pace.specs.Running.{AreRunning, IsRunningSite, most_frame}
+use Rattle.world_pace.proofs.Running.{queue_up}
+use Rattle.world_pace.proofs.Events.{Goes, acts_go}
 use Rattle.run_facts.proofs.Runs.{any_left}
 use Rattle.run_facts.specs.Nodes.{HasSite, RunsKeepNodes, RunsHaveRoom}
 use Rattle.run_facts.proofs.Steps.{after_one, pasts_are_whole}

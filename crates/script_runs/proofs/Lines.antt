@@ -23,7 +23,7 @@ use Rattle.world_model.specs.Conditions.{IsNode, IsPlace, IsEvent}
 use Rattle.world_model.specs.World.{World, Site}
 use Rattle.world_model.specs.Places.{places_of}
 use Rattle.world_model.specs.Run.{tick_of, switch_tick_of, tick_of_all, round}
-use Rattle.world.specs.Running.{AreRunning, IsRunningSite, numbered}
+use Rattle.world_pace.specs.Running.{AreRunning, IsRunningSite, numbered}
 use Rattle.script_model.specs.Sayable.{HasTexts}
 
 -- *Addresses*

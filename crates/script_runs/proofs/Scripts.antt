@@ -19,8 +19,8 @@ use Rattle.world_model.specs.World.{World, Site, opened}
 use Rattle.world_model.specs.Run.{tick_of_all, round, world_after}
 use Rattle.world_model.specs.Headline.{IsRun}
 use Rattle.world_model.proofs.Kept.{line_keeps, empty_is}
-use Rattle.world.specs.Coming.{AreNumbered}
-use Rattle.world.specs.Running.{AreRunning}
+use Rattle.world_pace.specs.Running.{AreNumbered}
+use Rattle.world_pace.specs.Running.{AreRunning}
 use Rattle.script_model.specs.declared.line.Line.{Line}
 use Rattle.script_model.specs.declared.line.Line.TheVariants.{Blank, Topology as TopologyIs, Event as EventComes, TickAll, Run}
 use Rattle.script_model.specs.declared.refusal.LineRefusal.{LineRefusal}

@@ -33,7 +33,8 @@ use Rattle.world.specs.declared.site.Site.{Site as Node}
 use Rattle.world.specs.declared.world.World.{World as Network}
 use Rattle.world.specs.Network.{site_of, sites_of, world_of, no_notes, peers_in, IsNodeIn}
 use Rattle.world.specs.Nodes.{acted}
-use Rattle.world.specs.Coming.{AreNumbered, IsSteady, HasCome, HasTaken}
+use Rattle.world_pace.specs.Running.{AreNumbered}
+use Rattle.world.specs.Coming.{IsSteady, HasCome, HasTaken}
 
 -- *Lists*
 pub map_set : {A B : Type 0} (f : A → B) (xs : List A) (k : ℕ) (y : A) → map f (slice_set xs k y) ≡ slice_set (map f xs) k (f y)

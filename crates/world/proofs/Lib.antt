@@ -1,6 +1,4 @@
 pub mod Acting
-pub mod Running
-pub mod Events
 pub mod Conditions
 pub mod Stepped
 pub mod Opened

@@ -19,8 +19,9 @@ use Rattle.world.specs.declared.site.Site.{Site as Held}
 use Rattle.world.specs.declared.world.World.{World as Network}
 use Rattle.world.specs.Network.{no_notes, peers_in, site_of, sites_of, world_of}
 use Rattle.world.specs.Opening.{HasOpened, IsNew, IsNext, IsOpening, places_of}
-use Rattle.world.specs.Running.{ArePeersOf, AreRunning, HavePeers, Runs, numbered}
-use Rattle.world.proofs.Running.{places_are, places_at, places_from}
+use Rattle.world_pace.specs.Running.{ArePeersOf, AreRunning, HavePeers, numbered}
+use Rattle.world.specs.Running.{Runs}
+use Rattle.world_pace.proofs.Running.{places_are, places_at, places_from}
 use Rattle.world.proofs.Opened.{HasNode, few_ranges, has_node, no_redirects_at, ports_of_ranges, read_of, runs_more, site_runs}
 
 map_push : {A B : Type 0} (f : A → B) (xs : List A) (y : A) → map f (xs ++ y ∷ []) ≡ map f xs ++ f y ∷ []

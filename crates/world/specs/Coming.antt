@@ -15,7 +15,7 @@ use Rattle.world_model.specs.Switch.{control_port, has_port}
 use Rattle.world_model.specs.Controller.{Controller}
 use Rattle.world_model.specs.Conditions.{IsPlace, IsTopology, table_to_be}
 use Rattle.world_model.specs.Topology.{Topology}
-use Rattle.world.specs.Running.{HavePeers}
+use Rattle.world_pace.specs.Running.{AreNumbered, HavePeers}
 use Rattle.world_model.specs.Places.{queue_at, with_queue}
 use Rattle.link_model.specs.declared.record.Refusal.{Refusal}
 use Rattle.world_model.specs.Packets.{injected}
@@ -27,12 +27,7 @@ use Rattle.world.specs.declared.world.World.{World as Network}
 use Rattle.world.specs.Network.{no_notes, peers_in, sites_of, world_of}
 use Rattle.world.specs.Nodes.{NamesLinked}
 
--- the nodes are numbered in order
-abbrev pub AreNumbered : ℕ → List Site → Type 0
-AreNumbered number [] = Unit {0}
-AreNumbered number (site ∷ sites) = (site_key site ≡ number) × AreNumbered (suc number) sites
-
--- and the sums over them are kept
+-- the nodes are numbered in order, and the sums over them are kept
 pub record IsSteady {C : Type 0} (seen : C → Controller) (n : Network C) : Type 0 where
   pub nodes : AreNumbered 1 (sites_of seen n.sites.items)
   pub redirects : n.redirects ≡ sum_by redirects_at (sites_of seen n.sites.items)

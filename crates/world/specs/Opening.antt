@@ -12,7 +12,7 @@ use Rattle.world_model.specs.Topology.{Topology, Node, node_at, ranges_of}
 use Rattle.world_model.specs.World.{no_tally, numbers_after, opened_site}
 use Rattle.world.specs.declared.world.World.{World as Network}
 use Rattle.world.specs.Network.{peers_in, sites_of}
-use Rattle.world.specs.Running.{HavePeers, numbered}
+use Rattle.world_pace.specs.Running.{HavePeers, numbered}
 
 -- no node, and nothing counted
 pub record IsNew {C : Type 0} (n : Network C) : Type 0 where

@@ -1,7 +1,7 @@
 use Rattle.std.proofs.Common.{rules, ◌≡◌, ◌∙◌, ◌+◌, ◌++◌, [], ◌∷◌, ap, refl, length}
 use Rattle.std.proofs.lemmas.Result.{on_ok_weaker}
 use Rattle.world.specs.Opening.{places_of}
-use Rattle.world.specs.Running.{numbered}
+use Rattle.world_pace.specs.Running.{numbered}
 use Rattle.world.proofs.Opens.{opened_next}
 use Rattle.world.proofs.world.World.open_node.Goals as goal
 

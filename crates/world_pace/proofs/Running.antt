@@ -20,8 +20,7 @@ use Rattle.world_model.proofs.Lists.{by_eq, at_key}
 use Rattle.actor_pace.specs.Pace.{AreUpTo, AreAllUpTo, changes_of}
 use Rattle.actor_pace.proofs.Cells.{every_less, all_less, every_set, every_at}
 use Rattle.actor_pace.proofs.Switches as switch_pace
-use Rattle.world.specs.Running.{most_frame, numbered, IsRunningSite, AreRunning}
-use Rattle.world.specs.Coming.{AreNumbered}
+use Rattle.world_pace.specs.Running.{most_frame, numbered, AreNumbered, IsRunningSite, AreRunning}
 
 -- *Nodes that run are numbered in order*
 pub are_numbered : (t : Topology) (events number : ℕ) (sites : List Site) → AreRunning t events number sites → AreNumbered number sites

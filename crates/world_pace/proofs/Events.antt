@@ -29,8 +29,8 @@ use Rattle.world_model.specs.World.{World, at_controller, at_switch}
 use Rattle.actor_pace.proofs.Paces as controller_pace
 use Rattle.actor_pace.proofs.Controllers.{cell_follows, injected_paces, ticks_paces, restarts_paces, change_changes}
 use Rattle.actor_pace.proofs.Switches as switch_pace
-use Rattle.world.specs.Running.{most_frame, AreRunning}
-use Rattle.world.proofs.Running.{Keeps, Leads, acting, all_later, controller_keeps, queue_keeps, queue_up, switch_keeps}
+use Rattle.world_pace.specs.Running.{most_frame, AreRunning}
+use Rattle.world_pace.proofs.Running.{Keeps, Leads, acting, all_later, controller_keeps, queue_keeps, queue_up, switch_keeps}
 
 -- what the whole of an event leaves, but for its count
 pub record Goes (t : Topology) (w after : World) : Type 0 where
