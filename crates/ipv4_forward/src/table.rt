@@ -88,6 +88,13 @@ impl Table {
         Ok(())
     }
 
+    /// Its routes, in the order in which they were added.
+    pub fn routes(&self) -> &[Route]
+        ensures { result.now ≡ self.now }
+    {
+        self.routes.as_slice()
+    }
+
     /// Where packets for `addr` go: by the route of the longest prefix that covers it.
     pub fn lookup(&self, addr: Addr) -> Option<Next>
         ensures { result ≡ best self.now addr }
