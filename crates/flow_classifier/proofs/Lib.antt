@@ -3,7 +3,8 @@ pub mod Flows
 pub mod Recency
 pub mod Packets
 pub mod Remembered
-pub mod RetainedRows
-pub mod Ringed
 pub mod Derived
-pub mod Taking
+pub mod Tallies
+pub mod Orders
+pub mod Turning
+pub mod LastTurned

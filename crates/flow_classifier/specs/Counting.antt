@@ -1,10 +1,15 @@
 -- What a classifier is seen as.
 
-use Rattle.std.specs.Prelude.{ℕ, List}
-use Rattle.port_model.specs.Counts.{Counted}
+use Rattle.std.specs.Prelude.{ℕ, List, map}
+use Rattle.ipv4_packet.specs.declared.flow.FlowId.{FlowId}
+use Rattle.port_model.specs.Counts.{Counted, total}
 
 -- over how many ticks packets are counted, and the flows that are counted, in the order of their last
 -- packets
 pub record Counting : Type 0 where
   pub window : ℕ
   pub counts : List Counted
+
+-- each flow with how many of its packets are counted
+abbrev pub totals : List Counted → List (FlowId × ℕ)
+totals = map (λ c. (c.flow, total c.packets))

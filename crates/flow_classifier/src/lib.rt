@@ -4,10 +4,13 @@
 #![tactic(auto)]
 
 mod classifier;
+mod counted_flows;
 mod laws;
 mod policy;
-mod window;
+mod rows;
+mod tally;
 
 pub use classifier::Classifier;
+pub use counted_flows::CountedFlows;
 pub use laws::counts_are_of_the_window;
 pub use policy::{NamedPolicy, Never, Policy, XyPolicy};

@@ -1,15 +1,27 @@
-use Rattle.std.proofs.Common.{rules, refl}
-use Rattle.flow_classifier.specs.Rows.{ticked}
-use Rattle.flow_classifier.proofs.RetainedRows.{map-RetainsPairs}
-use Rattle.flow_classifier.proofs.Ringed.{moved_rows, ticked_stay}
+use Rattle.std.proofs.Common.{◌≡◌, ◌∙◌, ap}
+use Rattle.port_model.specs.Counts.{moved}
+use Rattle.flow_classifier.specs.Rows.{begun_anew}
+use Rattle.flow_classifier.proofs.LastTurned.{counts_anew, counts_next, rows_anew, rows_next}
 use Rattle.flow_classifier.proofs.classifier.Classifier.tick.Goals as goal
+use Rattle.flow_classifier.proofs.classifier.Classifier.tick.Goals.{then-self, else-self}
 
 pub invariant_of-self : goal.invariant_of-self
 invariant_of-self c =
-    let kept = map-RetainsPairs _ ticked _ (λ k v b w g call. search rules) _ _ c.retain.ensures.filtered in
-    record { some = c.self.invariant.some; rows = rw kept (ticked_stay c.self.inside.window c.self.inside.rows.entries c.self.invariant.rows) }
+    let inside = c.self.inside in
+    elim c.if-self.branch [
+      | then-self w ↦ rw (w.self-inside-is, w.begin_anew.ensures) (record { some = c.self.invariant.some; rows = rows_next inside.window 0 _ (rows_anew inside.window inside.ticks inside.rows c.self.invariant.rows) })
+      | else-self w ↦ rw w.self-inside-is (record { some = c.self.invariant.some; rows = rows_next inside.window inside.ticks inside.rows c.self.invariant.rows })
+    ]
 
 pub returns : goal.returns
 returns c =
-    let kept = map-RetainsPairs _ ticked _ (λ k v b w g call. search rules) _ _ c.retain.ensures.filtered in
-    rw (← c.self.view_is, kept, moved_rows c.self.inside.window c.self.inside.rows.entries c.self.invariant.rows.rings) refl
+    let inside = c.self.inside in
+    elim c.if-self.branch [
+      | then-self w ↦
+          let anew = rows_anew inside.window inside.ticks inside.rows c.self.invariant.rows in
+          let counts = counts_next inside.window 0 _ anew.rings ∙ ap (moved inside.window) (counts_anew inside.ticks inside.rows.entries) in
+          rw (w.self-inside-is, w.begin_anew.ensures, ← c.self.view_is) (λ i. record { window = inside.window; counts = counts i })
+      | else-self w ↦
+          let counts = counts_next inside.window inside.ticks inside.rows.entries c.self.invariant.rows.rings in
+          rw (w.self-inside-is, ← c.self.view_is) (λ i. record { window = inside.window; counts = counts i })
+    ]
