@@ -1,6 +1,6 @@
 //! The lines of an input, one by one, read as they are asked for.
 
-ghost use Rattle.std.specs.Prelude.{◌≡◌, ◌⊎◌, ◌+◌, ◌-◌, ◌==◌, ◌<◌, ◌≤◌, [], length, take, drop, position, true, false, Some, replicate, is_err, IfOk, IfSome, OnOk, OnErr};
+ghost use Rattle.std.specs.Prelude.{◌≡◌, ◌⊎◌, ◌+◌, ◌-◌, ◌<◌, ◌≤◌, [], length, take, drop, true, false, Some, replicate, is_err, IfOk, IfSome, OnOk, OnErr};
 ghost use Rattle.std.specs.Option.{option_map};
 ghost use Rattle.std.specs.Io.KnownBytes.{Consumes, IsAtEnd, Keeps};
 ghost use Rattle.lab_text.specs.Line.{input_limit};
@@ -9,7 +9,7 @@ ghost use Rattle.lab_io.specs.Lines.{Answer, IsWithin, after_answer, answer_in, 
 ghost use Rattle.lab_io.specs.Reading.{IsCutOff, IsNext, Saw};
 
 use crate::edge::{Failed, Source};
-use lab_text::{INPUT_LIMIT, LINE_LIMIT, line_text};
+use lab_text::{INPUT_LIMIT, LINE_LIMIT, line_feed, line_text};
 use net_types::OutOfMemory;
 use std::alloc::Global;
 use std::marker::Model;
@@ -64,13 +64,6 @@ impl Model for LineReader {
         × (4099 ≤ length r.buffer.items)
         × (r.given < input_limit)
         × (r.given + (r.end - r.start) ≤ input_limit) };
-}
-
-fn line_feed(octets: &[u8]) -> Option<usize>
-    ensures place { result ≡ position (λ octet. octet == 10) octets.now }
-    ensures within { IfSome result (λ place. place < length octets.now) }
-{
-    octets.iter().position(|octet| *octet == b'\n')
 }
 
 /// Moves the octets from `start` to `end` to the front of `buffer` where they stand at its end, and

@@ -1,3 +1,4 @@
 pub mod NumeralLemmas
 pub mod WordLemmas
 pub mod LineLemmas
+pub mod Searches

@@ -1,10 +1,10 @@
 -- numbers that grow digit by digit
-use Rattle.std.proofs.Common.{◌≡◌, ℕ, ◌+◌, ◌*◌, ◌<◌, ◌≤◌, Bool, true, false, List, [], ◌∷◌, Some, None, length, nat_lt, slice_index, arith, refl, sym, if◌then◌else◌}
+use Rattle.std.proofs.Common.{◌≡◌, ℕ, suc, ◌+◌, ◌*◌, ◌/◌, ◌<◌, ◌≤◌, Bool, true, false, List, [], ◌∷◌, Some, None, length, nat_lt, slice_index, get_or, arith, refl, sym, ap₂, ◌∙◌, if◌then◌else◌}
 use Rattle.std.proofs.Math.Nat.{le_trans}
 use Rattle.std.proofs.lemmas.Bool.Decides.{nat_tests}
 use Rattle.std.specs.Char.{digit_value}
 use Rattle.std.specs.Str.Parse.{digits_value_after}
-use Rattle.lab_text.specs.Numeral.{below}
+use Rattle.lab_text.specs.Numeral.{below, paired}
 
 step-le : (n d v : ℕ) → n * 10 + d ≤ v → n ≤ v
 step-le n d v h = omega arith
@@ -46,3 +46,20 @@ pub whole_number : (limit n : ℕ) (digits : List ℕ) (whole : ℕ) → length 
     → n < limit → Some n ≡ below limit (Some whole)
 whole_number limit n [] whole short value under = rw (← value) (sym (below-lt limit n under))
 whole_number limit n (c ∷ cs) whole short value under = absurd (omega arith)
+
+-- octets of which each is that of its two digits
+pub paired_is : (digits octets : List ℕ) → length octets ≡ length digits / 2
+    → ((i : ℕ) → i < length octets → get_or octets i 0 ≡ 16 * digit_value (get_or digits (2 * i) 0) + digit_value (get_or digits (2 * i + 1) 0))
+    → octets ≡ paired digits
+paired_is [] [] size each = refl
+paired_is [] (o ∷ octets) size each = absurd (omega arith)
+paired_is (d ∷ []) [] size each = refl
+paired_is (d ∷ []) (o ∷ octets) size each = absurd (omega arith)
+paired_is (high ∷ low ∷ digits) [] size each = absurd (omega arith)
+paired_is (high ∷ low ∷ digits) (o ∷ octets) size each =
+    let later : (i : ℕ) → i < length octets → get_or octets i 0 ≡ 16 * digit_value (get_or digits (2 * i) 0) + digit_value (get_or digits (2 * i + 1) 0) = λ i within.
+    (let first : 2 * suc i ≡ suc (suc (2 * i)) = omega arith in
+    let second : 2 * suc i + 1 ≡ suc (suc (2 * i + 1)) = omega arith in
+    each (suc i) (omega arith)
+    ∙ ap₂ (λ m n. 16 * digit_value (get_or (high ∷ low ∷ digits) m 0) + digit_value (get_or (high ∷ low ∷ digits) n 0)) first second) in
+    ap₂ ◌∷◌ (each 0 (omega arith)) (paired_is digits octets (omega arith) later)

@@ -14,7 +14,7 @@ pub use hex_line::read_hex_line;
 pub use line::{
     INPUT_LIMIT, LINE_LIMIT, LineFault, check_line, is_blank_line, line_text, split_word,
 };
-pub use lines::split_line;
+pub use lines::{line_feed, split_line};
 pub use names::{cause_name, drop_name, layer_name, refusal_name};
 pub use numeral::{read_hex, read_number};
 pub use text::Text;

@@ -6,6 +6,7 @@ ghost use Rattle.std.specs.Result.{result_err};
 ghost use Rattle.lab_text.specs.Words.{is_blank, line_text, words, is_blank_line, is_script_octet};
 ghost use Rattle.lab_text.specs.Line.{holds_octet, input_limit, line_fault};
 
+use memchr::memchr2;
 use net_types::OutOfMemory;
 
 /// Why a line is refused.
@@ -59,7 +60,10 @@ fn octets_before_blank(octets: &[u8]) -> usize
     ensures count { result ≡ position_or_len is_blank octets.now }
     ensures bound { result ≤ length octets.now }
 {
-    octets.iter().take_while(|octet| !is_blank(**octet)).count()
+    match memchr2(b' ', b'\t', octets) {
+        Some(place) => place,
+        None => octets.len(),
+    }
 }
 
 /// The line without the LF or the CR LF at its end.
@@ -107,11 +111,16 @@ fn passes_limit(before: u32, octets: &[u8]) -> bool
     before < INPUT_LIMIT && INPUT_LIMIT - before <= octets.len()
 }
 
-/// Whether all of `octets` may stand in a line.
+/// Whether all of `octets` may stand in a line. Each is looked at, also behind one that may not: so the
+/// machine looks at many at once.
 fn are_script_octets(octets: &[u8]) -> bool
     ensures { result ≡ list_all is_script_octet octets.now }
 {
-    octets.iter().all(|octet| is_script_octet(*octet))
+    let mut all = true;
+    for octet in octets {
+        all &= is_script_octet(*octet);
+    }
+    all
 }
 
 /// The text of `line`, which may have an LF at its end and which `before` octets of the input stand

@@ -3,11 +3,14 @@
 ghost use Rattle.std.specs.Prelude.{◌≡◌, ◌+◌, ◌<◌, ◌++◌, ◌∷◌, ◌==◌, length, position, IfSome};
 ghost use Rattle.lab_text.specs.Lines.{lines_of};
 
-fn line_feed(octets: &[u8]) -> Option<usize>
+use memchr::memchr;
+
+/// Where the first LF of `octets` stands, if there is one.
+pub fn line_feed(octets: &[u8]) -> Option<usize>
     ensures place { result ≡ position (λ octet. octet == 10) octets.now }
     ensures within { IfSome result (λ place. place < length octets.now) }
 {
-    octets.iter().position(|octet| *octet == b'\n')
+    memchr(b'\n', octets)
 }
 
 /// The first line of `octets`, with its LF where it has one, and what stands behind it.

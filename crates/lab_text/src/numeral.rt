@@ -1,6 +1,6 @@
 //! The numbers and the octets that a word spells.
 
-ghost use Rattle.std.specs.Prelude.{◌≡◌, ◌<◌, ◌+◌, ◌*◌, ◌^◌, true, Some, IfOk, OnErr, IsSome};
+ghost use Rattle.std.specs.Prelude.{◌≡◌, ◌<◌, ◌+◌, ◌*◌, ◌/◌, ◌^◌, length, true, Some, IfOk, OnErr, IsSome};
 ghost use Rattle.std.specs.Char.{digit_value, is_ascii_digit, is_ascii_hexdigit};
 ghost use Rattle.std.specs.List.{list_all};
 ghost use Rattle.std.specs.Option.{option_map};
@@ -56,10 +56,15 @@ pub fn read_number(word: &[u8]) -> Option<u32>
     if is_number(word) { decimal(word) } else { None }
 }
 
+/// Each octet is looked at, also behind one that is no digit: so the machine looks at many at once.
 fn are_hex_digits(word: &[u8]) -> bool
     ensures { result ≡ list_all is_ascii_hexdigit word.now }
 {
-    word.iter().all(|digit| digit.is_ascii_hexdigit())
+    let mut all = true;
+    for digit in word {
+        all &= digit.is_ascii_hexdigit();
+    }
+    all
 }
 
 /// Whether `word` is an even number of hexadecimal digits of either case.
@@ -82,17 +87,24 @@ fn digit_value(digit: u8) -> u8
     }
 }
 
+/// Writes the octets that hexadecimal digits spell, two digits for each, over all of `octets`.
+fn write_pairs(digits: &[u8], octets: &mut [u8])
+    requires digits { list_all is_ascii_hexdigit digits.now ≡ true }
+    requires room { length octets.old ≡ length digits.now / 2 }
+    ensures { octets.new ≡ paired digits.now }
+{
+    for k in 0..octets.len() {
+        octets[k] = 16 * digit_value(digits[2 * k]) + digit_value(digits[2 * k + 1]);
+    }
+}
+
 /// The octets that hexadecimal digits spell, two digits for each.
 fn hex_pairs(alloc: Global, digits: &[u8]) -> Result<Vec<u8>, AllocError>
     requires { list_all is_ascii_hexdigit digits.now ≡ true }
     ensures { IfOk result (λ octets. octets.items ≡ paired digits.now) }
 {
-    let mut octets = Vec::with_capacity(alloc, digits.len() / 2)?;
-    let mut left = digits;
-    while let [high, low, rest @ ..] = left {
-        octets.push(16 * digit_value(*high) + digit_value(*low))?;
-        left = rest;
-    }
+    let mut octets = vec![in alloc; 0; digits.len() / 2]?;
+    write_pairs(digits, octets.as_mut_slice());
     Ok(octets)
 }
 

@@ -1,6 +1,6 @@
 //! Text that grows, and the forms of numbers and octets in it.
 
-ghost use Rattle.std.specs.Prelude.{◌≡◌, ◌++◌, [], ◌<◌, OnOk, OnErr, decimal};
+ghost use Rattle.std.specs.Prelude.{◌≡◌, ◌++◌, [], ◌<◌, ◌*◌, length, OnOk, OnErr, decimal};
 ghost use Rattle.lab_text.specs.Text.{hex_digits, hex_digit};
 
 use net_types::{Octets, OutOfMemory};
@@ -33,15 +33,26 @@ fn hex_digit(value: u8) -> u8
     }
 }
 
+/// Writes two lower-case digits for each octet over all of `digits`.
+fn write_hex(octets: &[u8], digits: &mut [u8])
+    requires { length digits.old ≡ 2 * length octets.now }
+    ensures { digits.new ≡ hex_digits octets.now }
+{
+    for k in 0..octets.len() {
+        digits[2 * k] = hex_digit(octets[k] / 16);
+        digits[2 * k + 1] = hex_digit(octets[k] % 16);
+    }
+}
+
 fn push_hex(out: &mut Vec<u8>, octets: &[u8]) -> Result<(), OutOfMemory>
     ensures ok { OnOk result (out.new.items ≡ out.old.items ++ hex_digits octets.now) }
     ensures err { OnErr result (out.new.items ≡ out.old.items) }
 {
-    out.reserve(2 * octets.len())?;
-    for octet in octets {
-        out.push_reserved(hex_digit(*octet / 16));
-        out.push_reserved(hex_digit(*octet % 16));
-    }
+    let room = 2 * octets.len();
+    let start = out.len();
+    out.reserve(room)?;
+    out.resize(start + room, 0)?;
+    write_hex(octets, &mut out[start..]);
     Ok(())
 }
 
