@@ -1,18 +1,16 @@
 -- What is so of a world in a run of a topology: its nodes, ports and links are the topology's; the numbers that it
 -- gave out, and those of its frames and changes of routes, are no more than its events can have needed
 
-use Rattle.std.specs.Prelude.{◌≡◌, ℕ, suc, ◌+◌, ◌*◌, ◌^◌, ◌≤◌, List, [], ◌∷◌, length, map, slice_index_or, Option, None}
-use Rattle.std.specs.List.{sum_by}
+use Rattle.std.specs.Prelude.{◌≡◌, ℕ, suc, ◌+◌, ◌*◌, ◌≤◌, List, [], ◌∷◌, length, slice_index_or, Option, None}
 use Rattle.net_types.specs.declared.node.NodeId.{NodeId}
 use Rattle.net_types.specs.declared.node.PortNo.{PortNo}
 use Rattle.world_model.specs.Switch.{control_port, numbers_of}
-use Rattle.world_model.specs.Controller.{Controller, ports_of}
+use Rattle.world_model.specs.Controller.{ports_of}
 use Rattle.world_model.specs.declared.link.LinkEnd.{LinkEnd}
 use Rattle.world_model.specs.Conditions.{IsTopology}
-use Rattle.world_model.specs.Places.{places}
 use Rattle.world_model.specs.Topology as topologies
 use Rattle.world_model.specs.Topology.{Topology, peer_of}
-use Rattle.world_model.specs.World.{World, Site, redirects_at, switched_at}
+use Rattle.world_model.specs.World.{World, Site, site_key}
 use Rattle.actor_pace.specs.Pace.{AreUpTo, AreAllUpTo, changes_of}
 
 abbrev pub numbered : ℕ → NodeId
