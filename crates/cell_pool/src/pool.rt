@@ -181,4 +181,11 @@ impl Pool {
     {
         self.cells[place]
     }
+
+    /// How many slots it has.
+    pub fn size(&self) -> usize
+        ensures { result ≡ slots self.now }
+    {
+        self.cells.len()
+    }
 }

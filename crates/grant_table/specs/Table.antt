@@ -127,8 +127,10 @@ kind_of (Leaving input owed) = states.Leaving
 
 abbrev pub view_of : Grant → GrantView
 view_of grant = record {
+  label = grant.label;
   state = kind_of grant.state;
   flow = grant.flow;
+  lifetime = grant.lifetime;
   input = input_of grant.state;
   owed = is_owed grant.state;
 }

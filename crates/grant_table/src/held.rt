@@ -101,8 +101,10 @@ impl Held {
             }
         };
         GrantView {
+            label: self.label(),
             state,
             flow: self.flow(),
+            lifetime: self.lifetime(),
             input,
             owed,
         }

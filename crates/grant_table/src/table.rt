@@ -59,10 +59,14 @@ pub enum GrantState {
 /// A grant as it is read.
 #[derive(Clone, Copy, Debug, PartialEq, Eq)]
 pub struct GrantView {
+    /// The number of its label.
+    pub label: u16,
     /// Its state.
     pub state: GrantState,
     /// The flow that may be sent under the label.
     pub flow: FlowId,
+    /// The ticks that it has left to live.
+    pub lifetime: u16,
     /// The input that is joined to it, in ByInput and Leaving alone.
     pub input: Option<End>,
     /// Whether the peer is owed an acknowledgement when it ends, in Leaving alone.
@@ -283,6 +287,18 @@ impl GrantTable {
             return None;
         }
         Some(self.grants.get(place).label())
+    }
+
+    /// The grant at a place in the order of acceptance, counted from 0. None exactly where the place is
+    /// at or above the length.
+    pub fn view_at(&self, place: usize) -> Option<GrantView>
+        ensures grant { result ≡ option_map view_of (slice_get self.now.grants place) }
+        ensures number { IfSome result (λ grant. IsTrue (is_label_number grant.label)) }
+    {
+        if place >= self.grants.len() {
+            return None;
+        }
+        Some(self.grants.get(place).view())
     }
 
     /// Takes one tick of lifetime from the grant at a place in the order of acceptance, counted from

@@ -66,6 +66,13 @@ impl Client {
         }
     }
 
+    /// The state of its adjacency with its switch.
+    pub fn state(&self) -> State
+        ensures { result ≡ self.now.adjacency.state }
+    {
+        self.adjacency.state()
+    }
+
     /// Whether the client and its switch know each other.
     pub fn is_estab(&self) -> bool
         ensures { result ≡ is_estab self.now.adjacency.state }

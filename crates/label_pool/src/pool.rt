@@ -141,6 +141,15 @@ impl LabelPool {
         self.count
     }
 
+    /// The least and the greatest of the channels to which the pool was narrowed. The least may be above
+    /// the greatest.
+    pub fn narrowed(&self) -> (Channel, Channel)
+        ensures from { result.0 ≡ self.now.from }
+        ensures to { result.1 ≡ self.now.to }
+    {
+        (self.between.from, self.between.to)
+    }
+
     /// Gives the pool up.
     pub fn abandon(self) {
         let LabelPool {

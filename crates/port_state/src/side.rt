@@ -1,7 +1,7 @@
 //! The adjacency of a port, and its session from its beginning to its end.
 
 ghost use Rattle.std.specs.Prelude.{◌≡◌, ◌<◌, ◌+◌, ◌&&◌, false, max, nat_lt, nat_le, cond, is_some, IsTrue, IfSome, None, Some, OnOk};
-ghost use Rattle.std.specs.Option.{option_map_or};
+ghost use Rattle.std.specs.Option.{option_map, option_map_or};
 ghost use Rattle.adjacency_table.specs.Side.{fresh, ticked};
 ghost use Rattle.adjacency_table.specs.Hello.{heard_from, ifmp_answer, ifmp_received, same_peer};
 ghost use Rattle.port_model.specs.Adjacency.{first_session, is_good};
@@ -35,6 +35,13 @@ impl<P: Policy> PortState<P> {
         self.adjacency.state() == State::Clearing
     }
 
+    /// The state of its adjacency.
+    pub fn state(&self) -> State
+        ensures { result ≡ self.now.port.adjacency.state }
+    {
+        self.adjacency.state()
+    }
+
     /// Its own instance.
     pub fn own(&self) -> Instance
         ensures { result ≡ own_of self.now.port.adjacency }
@@ -49,6 +56,16 @@ impl<P: Policy> PortState<P> {
         match self.adjacency.peer() {
             Some((instance, _)) => instance,
             None => Instance(0),
+        }
+    }
+
+    /// The address of the stored peer. None exactly where none is stored.
+    pub fn peer_address(&self) -> Option<Addr>
+        ensures { result ≡ option_map (λ peer. peer.address) self.now.port.adjacency.stored }
+    {
+        match self.adjacency.peer() {
+            Some((_, address)) => Some(address),
+            None => None,
         }
     }
 

@@ -1,6 +1,6 @@
 //! The state of a port.
 
-ghost use Rattle.std.specs.Prelude.{◌≡◌, ◌≤◌, ◌&&◌, ◌↔◌, nat_le, [], true, false, IsTrue, IsNone, IfOk, IfSome, None, Some};
+ghost use Rattle.std.specs.Prelude.{◌≡◌, ◌≤◌, ◌&&◌, ◌↔◌, nat_le, option_map, [], true, false, IsTrue, IsNone, IfOk, IfSome, None, Some};
 ghost use Rattle.net_types.specs.Label.{is_label_number, label_channel_of};
 ghost use Rattle.adjacency_table.specs.Side.{fresh};
 ghost use Rattle.port_model.specs.Setup.{control_end, label_end};
@@ -243,6 +243,13 @@ impl<P: Policy> PortState<P> {
             port: PortNo(0),
             channel: on_control(self.port, label_channel(number)),
         }
+    }
+
+    /// What it has exactly in Estab. None exactly where no session is open.
+    pub fn session(&self) -> Option<&Session>
+        ensures { option_map (λ session. session.now.session) result ≡ self.now.port.session }
+    {
+        self.session.as_ref()
     }
 
     /// The labels that are held. None exactly where no session is open.

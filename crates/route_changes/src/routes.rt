@@ -63,6 +63,21 @@ impl Routes {
         self.waiting.front().copied()
     }
 
+    /// How many changes wait.
+    pub fn waiting(&self) -> usize
+        ensures { result ≡ length self.now.waiting }
+    {
+        self.waiting.len()
+    }
+
+    /// The change that waits at this place, the first to come first, counted from 0. None exactly where
+    /// the place is at or above their count.
+    pub fn waiting_at(&self, place: usize) -> Option<RouteChange>
+        ensures { result ≡ slice_get self.now.waiting place }
+    {
+        self.waiting.get(place).copied()
+    }
+
     /// Whether the first change that waits is begun.
     pub fn is_begun(&self) -> bool
         ensures { result ≡ self.now.is_begun }

@@ -10,3 +10,4 @@ pub mod Joined
 pub mod Receipts
 pub mod Totals
 pub mod Takers
+pub mod Placed

@@ -1,6 +1,6 @@
 //! What a router lends of its ports.
 
-ghost use Rattle.std.specs.Prelude.{◌≡◌, IfSome, IfNone, IsSome, IsTrue, None, Some, length, min, option_map, slice_get};
+ghost use Rattle.std.specs.Prelude.{◌≡◌, ◌<◌, IfSome, IfNone, IsSome, IsTrue, None, Some, length, min, option_map, slice_get};
 ghost use Rattle.std.specs.List.{sum_by};
 ghost use Rattle.std.specs.Option.{option_and_then};
 ghost use Rattle.net_types.specs.Label.{is_label_number};
@@ -52,6 +52,14 @@ impl<E: PortEngine> Router<E> {
             Some(place) => &self.links[place],
             None => unreachable!(),
         }
+    }
+
+    /// The engine of the linked port at a place, in ascending order, counted from 0.
+    pub fn link_at(&self, place: usize) -> &E
+        requires { place < length (controller_of E.seen self.now).ports }
+        ensures { option_map end_of (slice_get (controller_of E.seen self.now).ports place) ≡ Some (E.seen result.now) }
+    {
+        &self.links[place]
     }
 
     /// The region of the slots.
