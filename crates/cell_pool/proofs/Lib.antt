@@ -1,6 +1,8 @@
 pub mod Lists
 pub mod Walks
+pub mod Fills
 pub mod Regions
+pub mod Stores
 pub mod Drains
 pub mod Lines
 pub mod Pairs

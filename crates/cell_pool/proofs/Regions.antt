@@ -6,13 +6,8 @@ use Rattle.atm_cells.specs.declared.cell.Cell.{Cell}
 use Rattle.cell_pool.specs.Places.{NotIn, Apart, Distinct, Below}
 use Rattle.cell_pool.specs.Region.{Region, Line, size, blank, cell_at, walk, places, cells_of, len_of, IsOut, EndsAt, LeadsBack, IsLine}
 use Rattle.cell_pool.specs.Steps.{IsKept, IsKeptFrom, IsTaken, IsPut, IsPushed}
-use Rattle.cell_pool.specs.declared.pool.Pool.TheInside.{Inside}
 use Rattle.cell_pool.proofs.Lists.{Distinct-push, Below-push, Apart-push, EndsAt-push, length-le_from_Distinct, Below-end, Apart-end, NotIn_from_apart, Apart-rest_right, Apart-cons_right, LeadsBack-set, LeadsBack-push, map-set_apart}
-use Rattle.cell_pool.proofs.Walks.{length-walk, walk-set, walk-put, walk-link}
-
--- what the fields of a pool are seen as
-abbrev pub region : Inside → Region
-region p = record { free = walk p.next.items p.head p.free; cells = p.cells.items; next = p.next.items; back = p.back.items }
+use Rattle.cell_pool.proofs.Walks.{length-walk, walk-set, walk-link}
 
 -- a line whose places and cells are as they were, and lead back as they did, is kept, if none of its
 -- places became free
@@ -69,20 +64,16 @@ take_first old s c rest e distinct below =
     }
 
 -- a place is put back before the free ones
-pub put_back : (old : Region) (s head n : ℕ) → old.free ≡ walk old.next head n → length old.next ≡ size old → IsOut old s
-    → IsPut old (record { free = walk (set old.next s head) s (n + 1); cells = old.cells; next = set old.next s head; back = old.back }) s
-put_back old s head n e even out =
-    let within : s < length old.next = rw even out.inside in
-    let fresh : NotIn s (walk old.next head n) = rw e at out.taken in
-    let now : walk (set old.next s head) s (n + 1) ≡ s ∷ old.free = rw e (walk-put old.next s head n within fresh) in
-    let new : Region = record { free = walk (set old.next s head) s (n + 1); cells = old.cells; next = set old.next s head; back = old.back } in
+pub put_back : (old : Region) (s head : ℕ) → IsPut old (record { free = s ∷ old.free; cells = old.cells; next = set old.next s head; back = old.back }) s
+put_back old s head =
+    let new : Region = record { free = s ∷ old.free; cells = old.cells; next = set old.next s head; back = old.back } in
     record {
-      first = now;
+      first = refl;
       same_size = refl;
-      others_out = λ p o differs. record { out = record { inside = o.inside; taken = rw now (differs, o.taken) }; same_cell = refl };
+      others_out = λ p o differs. record { out = record { inside = o.inside; taken = (differs, o.taken) }; same_cell = refl };
       others = λ l line without.
-          let p : places new l ≡ places old l = places-set old (walk (set old.next s head) s (n + 1)) old.back s head l without in
-          kept old new l line refl (rw now (Apart-cons_right (places old l) s old.free line.taken without)) line.leads_back p (ap (map (cell_at old)) p);
+          let p : places new l ≡ places old l = places-set old (s ∷ old.free) old.back s head l without in
+          kept old new l line refl (Apart-cons_right (places old l) s old.free line.taken without) line.leads_back p (ap (map (cell_at old)) p);
     }
 
 -- the place s is pushed to an empty line

@@ -1,4 +1,5 @@
 pub mod Places
 pub mod Region
+pub mod Room
 pub mod Steps
 pub mod Shares

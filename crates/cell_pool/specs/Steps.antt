@@ -1,6 +1,7 @@
 -- What one call does to a region and to the lines in it.
 
 use Rattle.std.specs.Prelude.{◌≡◌, ◌≢◌, ℕ, ◌+◌, [], ◌∷◌, ◌++◌, length}
+use Rattle.net_types.specs.declared.channel.Channel.{Channel}
 use Rattle.atm_cells.specs.declared.cell.Cell.{Cell}
 use Rattle.cell_pool.specs.Places.{NotIn, Apart}
 use Rattle.cell_pool.specs.Region.{Region, Line, size, cell_at, places, cells_of, len_of, IsOut, IsLine}
@@ -25,6 +26,10 @@ pub record StaysOutBeside (old new : Region) (s p : ℕ) : Type 0 where
 pub record IsKeptFrom (old new : Region) (s : ℕ) (l : Line) : Type 0 where
   pub kept : IsKept old new l
   pub without : NotIn s (places old l)
+
+-- the cell with another channel
+abbrev pub with_channel : Cell → Channel → Cell
+with_channel c channel = record c { header = record c.header { channel = channel } }
 
 -- the slot of place s was taken, with the cell c in it
 pub record IsTaken (old new : Region) (s : ℕ) (c : Cell) : Type 0 where

@@ -1,11 +1,12 @@
 //! The region, and the slots that are taken from it.
 
-ghost use Rattle.std.specs.Prelude.{◌≡◌, [], ◌+◌, ◌<◌, ◌^◌, ◌↔◌, length, IsNone, IfNone, IfSome, IfOk, slice_set, slice_index};
+ghost use Rattle.std.specs.Prelude.{◌≡◌, [], ◌∷◌, ◌++◌, ◌+◌, ◌<◌, ◌≤◌, ◌^◌, ◌↔◌, length, IsNone, IfNone, IfSome, IfOk, slice_set, slice_index};
+ghost use Rattle.std.specs.Vec.{vec_capacity, vec_len};
 ghost use Rattle.cell_pool.specs.Region.{size as slots, cell_at, slots_out, IsOut};
-ghost use Rattle.cell_pool.specs.Steps.{IsTaken, IsPut};
+ghost use Rattle.cell_pool.specs.Steps.{IsTaken, IsPut, with_channel};
 
-use atm_cells::{BLANK_CELL, Cell};
-use net_types::OutOfMemory;
+use atm_cells::{Cell, Header};
+use net_types::{Channel, OutOfMemory};
 use std::alloc::Global;
 use std::marker::Model;
 
@@ -42,35 +43,91 @@ impl Slot {
     }
 }
 
-/// A region of slots, each with room for one cell, made at opening.
+/// Puts a value at the end of a list that has room for it.
+fn push<T: Drop>(list: &mut Vec<T>, value: T)
+    requires { vec_len list.old < vec_capacity list.old }
+    ensures items { list.new.items ≡ list.old.items ++ value ∷ [] }
+    ensures room { vec_capacity list.old ≤ vec_capacity list.new }
+{
+    let Ok(()) = list.push(value) else {
+        unreachable!()
+    };
+}
+
+/// Begins a place, for which the lists have room. It isn't inlined, since each place begins once.
+#[inline(never)]
+fn begin(cells: &mut Vec<Cell>, next: &mut Vec<usize>, back: &mut Vec<usize>, cell: Cell)
+    requires cells_room { vec_len cells.old < vec_capacity cells.old }
+    requires next_room { vec_len next.old < vec_capacity next.old }
+    requires back_room { vec_len back.old < vec_capacity back.old }
+    ensures cells { cells.new.items ≡ cells.old.items ++ cell ∷ [] }
+    ensures next { next.new.items ≡ next.old.items ++ 0 ∷ [] }
+    ensures back { back.new.items ≡ back.old.items ++ 0 ∷ [] }
+    ensures cells_room { vec_capacity cells.old ≤ vec_capacity cells.new }
+    ensures next_room { vec_capacity next.old ≤ vec_capacity next.new }
+    ensures back_room { vec_capacity back.old ≤ vec_capacity back.new }
+{
+    push(cells, cell);
+    push(next, 0);
+    push(back, 0);
+}
+
+/// The cell with another channel.
+fn with_channel(cell: &Cell, channel: Channel) -> Cell
+    ensures { result ≡ with_channel cell.now channel }
+{
+    let header = Header {
+        channel,
+        last: cell.header.last,
+    };
+    Cell { header, ..*cell }
+}
+
+/// A region of slots, each with room for one cell. Memory for all of them is reserved at opening, and
+/// that of a place is first written when the place is first taken: the places of a region are taken in
+/// turn, and one that was put back before a new one.
 #[derive(Debug, Drop)]
 pub struct Pool {
-    /// The cell in each place.
+    /// How many places the region has.
+    size: usize,
+    /// The cell in each place that was ever taken.
     cells: Vec<Cell>,
-    /// The place to which each place leads, in the free list or in a queue.
+    /// The place to which each of these leads, in the free list or in a queue.
     next: Vec<usize>,
-    /// The place to which each place of a queue but the first leads back: the one before it there.
+    /// The place to which each of these leads back in a queue, where it isn't the first there: the one
+    /// before it.
     back: Vec<usize>,
-    /// The first free place, where there is one.
+    /// The place that was put back last of those in the free list, where there is one.
     head: usize,
-    /// How many places are free.
-    free: usize,
+    /// How many places are in the free list.
+    returned: usize,
 }
 
 impl Model for Pool {
-    ghost use Rattle.cell_pool.specs.Region.{Region, walk};
+    ghost use Rattle.cell_pool.specs.Region.{Region, blank, walk};
     ghost use Rattle.cell_pool.specs.Places.{Distinct, Below};
-    ghost use Rattle.std.specs.Prelude.{◌≡◌, length};
+    ghost use Rattle.cell_pool.specs.Room.{filled, never_taken};
+    ghost use Rattle.std.specs.Prelude.{◌≡◌, ◌≤◌, ◌++◌, length};
+    ghost use Rattle.std.specs.Vec.{vec_capacity};
 
     ghost Value = { Region };
 
-    ghost view = { λ p. record { free = walk p.next.items p.head p.free; cells = p.cells.items; next = p.next.items; back = p.back.items } };
+    ghost view = { λ p. record {
+      free = walk p.next.items p.head p.returned ++ never_taken p.size (length p.cells.items);
+      cells = filled p.size blank p.cells.items;
+      next = filled p.size 0 p.next.items;
+      back = filled p.size 0 p.back.items;
+    } };
 
     ghost invariant = { λ p. record {
+      within : length p.cells.items ≤ p.size;
       as_long : length p.next.items ≡ length p.cells.items;
       back_as_long : length p.back.items ≡ length p.cells.items;
-      distinct : Distinct (walk p.next.items p.head p.free);
-      below : Below (length p.cells.items) (walk p.next.items p.head p.free);
+      cells_room : p.size ≤ vec_capacity p.cells;
+      next_room : p.size ≤ vec_capacity p.next;
+      back_room : p.size ≤ vec_capacity p.back;
+      distinct : Distinct (walk p.next.items p.head p.returned);
+      below : Below (length p.cells.items) (walk p.next.items p.head p.returned);
     } };
 }
 
@@ -80,18 +137,13 @@ impl Pool {
         ensures size { IfOk result (λ p. slots p ≡ n) }
         ensures free { IfOk result (λ p. length p.free ≡ n) }
     {
-        let cells = vec![in alloc; BLANK_CELL; n]?;
-        let back = vec![in alloc; 0; n]?;
-        let mut next = Vec::with_capacity(alloc, n)?;
-        for place in 0..n {
-            next.push(place + 1)?;
-        }
         Ok(Pool {
-            cells,
-            next,
-            back,
+            size: n,
+            cells: Vec::with_capacity(alloc, n)?,
+            next: Vec::with_capacity(alloc, n)?,
+            back: Vec::with_capacity(alloc, n)?,
             head: 0,
-            free: n,
+            returned: 0,
         })
     }
 
@@ -102,7 +154,7 @@ impl Pool {
         // The others were taken and not put back.
         ensures others_out { result + slots_out self.now ≡ slots self.now }
     {
-        self.free
+        self.returned + (self.size - self.cells.len())
     }
 
     /// Takes a free slot and puts the cell into it. None exactly where no slot is free.
@@ -111,14 +163,33 @@ impl Pool {
         ensures none_same { IfNone result (self.new ≡ self.old) }
         ensures some { IfSome result (λ slot. IsTaken self.old self.new slot cell.now) }
     {
-        if self.free == 0 {
+        if self.free() == 0 {
             return None;
         }
-        let place = self.head;
-        self.head = self.next[place];
-        self.free -= 1;
-        self.cells[place] = *cell;
-        Some(Slot { place })
+        Some(self.fill(cell.header.channel, cell))
+    }
+
+    /// Takes a free slot, of which there is one, and puts the cell into it, with this channel in place
+    /// of its own.
+    pub fn fill(&mut self, channel: Channel, cell: &Cell) -> Slot
+        requires { 0 < length self.old.free }
+        ensures { IsTaken self.old self.new result (with_channel cell.now channel) }
+    {
+        if self.returned > 0 {
+            let place = self.head;
+            self.head = self.next[place];
+            self.returned -= 1;
+            self.cells[place] = with_channel(cell, channel);
+            return Slot { place };
+        }
+        let place = self.cells.len();
+        begin(
+            &mut self.cells,
+            &mut self.next,
+            &mut self.back,
+            with_channel(cell, channel),
+        );
+        Slot { place }
     }
 
     /// The cell that was put into the slot.
@@ -137,7 +208,7 @@ impl Pool {
         let Slot { place } = slot;
         self.next[place] = self.head;
         self.head = place;
-        self.free += 1;
+        self.returned += 1;
     }
 
     /// Lets the place `from` lead to the place `to`, and `to` lead back to `from`.
