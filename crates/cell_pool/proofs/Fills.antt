@@ -1,9 +1,9 @@
 -- Lemmas on lists that are written from the front on, and on the places that were never taken.
 
-use Rattle.std.proofs.Common.{◌≡◌, ◌≢◌, ℕ, zero, suc, ◌+◌, ◌-◌, ◌<◌, ◌≤◌, inl, inr, List, [], ◌∷◌, ◌++◌, length, get_or, set, replicate, refl, ap, ◌∙◌, arith, length-append, length-set}
+use Rattle.std.proofs.Common.{◌≡◌, ◌≢◌, ℕ, zero, suc, ◌+◌, ◌-◌, ◌<◌, ◌≤◌, inl, inr, List, [], ◌∷◌, ◌++◌, length, get_or, set, replicate, refl, sym, ap, ◌∙◌, arith, length-append, length-set}
 use Rattle.std.specs.List.{range_with_len}
 use Rattle.std.proofs.lemmas.Bool.{cases_lt}
-use Rattle.std.proofs.lemmas.List.{length-replicate}
+use Rattle.std.proofs.lemmas.List.{length-replicate, set-get_or}
 use Rattle.cell_pool.specs.Places.{NotIn, Distinct, Below}
 use Rattle.cell_pool.specs.Region.{walk}
 use Rattle.cell_pool.specs.Room.{filled, never_taken}
@@ -131,3 +131,17 @@ none_never_taken places =
 pub Below-more : (m n : ℕ) (xs : List ℕ) → m ≤ n → Below m xs → Below n xs
 Below-more m n [] le b = tt
 Below-more m n (x ∷ xs) le b = (omega (arith, b.0, le), Below-more m n xs le b.1)
+
+-- *Values that weren't written, written as they are seen*
+
+beyond : {A : Type 0} (xs : List A) (i : ℕ) (x : A) → length xs ≤ i → get_or xs i x ≡ x
+beyond [] i x high = refl
+beyond (y ∷ ys) zero x high = absurd (omega (arith, high))
+beyond (y ∷ ys) (suc i) x high = beyond ys i x (omega (arith, high))
+
+pub get_or-unwritten : {A : Type 0} (n : ℕ) (x : A) (xs : List A) (i : ℕ) → length xs ≤ i → get_or (filled n x xs) i x ≡ x
+get_or-unwritten n x xs i high = get_or-filled n x xs i ∙ beyond xs i x high
+
+pub set-unwritten : {A : Type 0} (n : ℕ) (x : A) (xs : List A) (i : ℕ) → length xs ≤ i → set (filled n x xs) i x ≡ filled n x xs
+set-unwritten n x xs i high =
+    ap (λ y. set (filled n x xs) i y) (sym (get_or-unwritten n x xs i high)) ∙ set-get_or (filled n x xs) i x

@@ -6,3 +6,4 @@ pub mod Queues
 pub mod Chains
 pub mod Followings
 pub mod Behind
+pub mod Passing

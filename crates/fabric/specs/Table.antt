@@ -7,9 +7,10 @@ use Rattle.std.specs.List.{list_any}
 use Rattle.std.specs.FinMap.{from_sorted}
 use Rattle.net_types.specs.declared.node.PortNo.{PortNo}
 use Rattle.net_types.specs.declared.channel.End.{End}
+use Rattle.atm_cells.specs.declared.cell.Cell.{Cell}
 use Rattle.crossbar_model.specs.declared.branch.Branch.{Branch}
 use Rattle.crossbar_model.specs.Channels.{IsLinkPort, is_connectable}
-use Rattle.crossbar_model.specs.Crossbar.{Branches}
+use Rattle.crossbar_model.specs.Crossbar.{Branches, unfinished_after}
 
 -- the ports of a switch besides port 0, how many paths it connects on each, and the branches
 pub record Table : Type 0 where
@@ -54,6 +55,11 @@ map_of f n = from_sorted (entries_from f 0 n)
 
 unfoldable pub branches_in : List (List (Option Branch)) → Branches
 branches_in rows = map_of (entry_at rows) (15888 * 16)
+
+-- an entry after a cell passed on its branch, if there is one
+abbrev pub after : Option Branch → Cell → Option Branch
+after None c = None
+after (Some b) c = Some (record b { unfinished = unfinished_after c })
 
 -- how many columns a row has: none where the switch lacks its port
 abbrev pub columns_of : (ports : List PortNo) → (vpis row : ℕ) → ℕ

@@ -1,15 +1,16 @@
 //! The branches of a switch, in arrays by channel.
 
-ghost use Rattle.std.specs.Prelude.{◌≡◌, ◌≤◌, ◌<◌, ◌==◌, ◌+◌, ℕ, true, nat_le, All, IfSome, IfOk};
+ghost use Rattle.std.specs.Prelude.{◌≡◌, ◌≤◌, ◌<◌, ◌==◌, ◌+◌, ℕ, true, nat_le, All, IfSome, IfNone, IfOk};
 ghost use Rattle.std.specs.FinMap as map;
 ghost use Rattle.std.specs.List.{list_all, list_any};
 ghost use Rattle.crossbar_model.specs.Channels.{IsLinkPort, is_connectable};
-ghost use Rattle.crossbar_model.specs.Crossbar.{first_on};
+ghost use Rattle.crossbar_model.specs.Crossbar.{first_on, output_of, unfinished_after};
 ghost use Rattle.fabric.specs.Following.{branch_behind};
 ghost use Rattle.fabric.specs.Table.{end_of};
 
 use crate::place::{CHANNELS, COLUMNS, PORTS, ROWS, end_of, place_of, places_up_to};
 use crate::row::Row;
+use atm_cells::Cell;
 use crossbar_model::Branch;
 use net_types::{End, OutOfMemory, PortNo};
 use std::alloc::Global;
@@ -110,6 +111,18 @@ impl Branches {
         rows[place.row].get(place.column)
     }
 
+    /// A cell passes on the branch of an input, if it has one: the answer is where it goes.
+    pub(crate) fn pass(&mut self, input: End, cell: &Cell) -> Option<End>
+        ensures output { result ≡ output_of self.old.branches input }
+        ensures none { IfNone result (self.new ≡ self.old) }
+        ensures after { IfSome (map.get self.old.branches input) (λ b. self.new ≡ record self.old { branches = map.insert self.old.branches input (record b { unfinished = unfinished_after cell.now }) }) }
+        ensures port { IfSome result (λ output. output.port.0 ≤ 8) }
+    {
+        let rows = &mut self.rows;
+        let place = place_of(input)?;
+        rows[place.row].pass(place.column, cell)
+    }
+
     /// Enters the branch of an input, in place of the one that it has.
     pub(crate) fn insert(&mut self, input: End, branch: Branch)
         requires input { is_connectable self.old.ports self.old.vpis input ≡ true }
@@ -120,7 +133,7 @@ impl Branches {
         let Some(place) = place_of(input) else {
             unreachable!()
         };
-        rows[place.row].set(place.column, Some(branch));
+        rows[place.row].set(place.column, branch);
     }
 
     /// Takes the branch of an input away.
@@ -132,7 +145,7 @@ impl Branches {
         let Some(place) = place_of(input) else {
             unreachable!()
         };
-        rows[place.row].set(place.column, None);
+        rows[place.row].clear(place.column);
     }
 
     /// The least input of the port that has a branch.

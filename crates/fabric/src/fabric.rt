@@ -9,10 +9,10 @@ ghost use Rattle.cell_pool.specs.Steps.{IsDrained};
 ghost use Rattle.cell_pool.specs.Shares.{IsApartFromEach, ShareRegion};
 ghost use Rattle.crossbar_model.specs.Channels.{ArePorts, is_connectable};
 ghost use Rattle.fabric.specs.Following.{branch_behind};
-ghost use Rattle.crossbar_model.specs.Crossbar.{new_branch, moved, cut_by_move, output_of, unfinished_on, first_on, sent, popped, queue_of, routed, switched};
+ghost use Rattle.crossbar_model.specs.Crossbar.{new_branch, moved, cut_by_move, output_of, unfinished_on, first_on, sent, on_channel_of, popped, queue_of, routed, switched};
 
 use crate::branches::Branches;
-use atm_cells::{Cell, Header};
+use atm_cells::Cell;
 use cell_pool::{Chain, Pool, Queue};
 use crossbar_model::{Branch, Routed};
 use net_types::{End, Mark, OutOfMemory, PortNo};
@@ -173,18 +173,17 @@ impl Fabric {
             port,
             channel: cell.header.channel,
         };
-        let Some(branch) = self.branches.get(input) else {
+        if self.free() == 0 {
+            return match self.branch(input) {
+                Some(_output) => Routed::PoolFull,
+                None => Routed::Unconnected,
+            };
+        }
+        let Some(output) = self.branches.pass(input, cell) else {
             return Routed::Unconnected;
         };
-        let header = Header {
-            channel: branch.output.channel,
-            last: cell.header.last,
-        };
-        if !self.push(branch.output.port, &Cell { header, ..*cell }) {
-            return Routed::PoolFull;
-        }
-        self.branches.insert(input, branch.after(cell));
-        Routed::Out(branch.output)
+        self.push(output, cell);
+        Routed::Out(output)
     }
 
     /// Puts the cells at the end of a port's queue, or none of them. False exactly where fewer
@@ -200,7 +199,8 @@ impl Fabric {
             return false;
         }
         for cell in cells {
-            self.push(port, cell);
+            let channel = cell.header.channel;
+            self.push(End { port, channel }, cell);
         }
         true
     }
@@ -307,20 +307,16 @@ impl Fabric {
         queues.destroy_empty();
     }
 
-    /// Puts a cell at the end of a port's queue. False exactly where no slot is free.
-    fn push(&mut self, port: PortNo, cell: &Cell) -> bool
-        requires { port.0 ≤ 8 }
-        ensures full { IsTrue result ↔ (0 < free_slots self.old) }
-        ensures free { OnTrue result (free_slots self.new + 1 ≡ free_slots self.old) }
-        ensures sent { OnTrue result (crossbar self.new ≡ sent (crossbar self.old) port (cell.now ∷ [])) }
-        ensures none { OnFalse result (self.new ≡ self.old) }
+    /// Puts a cell, with the channel of an output, at the end of the output's queue.
+    fn push(&mut self, output: End, cell: &Cell)
+        requires port { output.port.0 ≤ 8 }
+        requires room { 0 < free_slots self.old }
+        ensures free { free_slots self.new + 1 ≡ free_slots self.old }
+        ensures sent { crossbar self.new ≡ sent (crossbar self.old) output.port (on_channel_of cell.now output ∷ []) }
         ensures queues { QueuesChange self.old self.new }
     {
-        let Some(slot) = self.pool.take(cell) else {
-            return false;
-        };
-        let queue = &mut self.queues[port.0 as usize];
+        let slot = self.pool.fill(output.channel, cell);
+        let queue = &mut self.queues[output.port.0 as usize];
         queue.push(&mut self.pool, slot);
-        true
     }
 }

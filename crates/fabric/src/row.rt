@@ -1,7 +1,11 @@
 //! The branches of one row of channels, in an array.
 
-ghost use Rattle.std.specs.Prelude.{◌≡◌, ◌<◌, ◌≤◌, ℕ, None, length, replicate, slice_index_or, slice_set, is_some, true, IfSome, IfNone, IfOk, false};
+ghost use Rattle.std.specs.Prelude.{◌≡◌, ◌<◌, ◌≤◌, ℕ, None, Some, length, option_map, replicate, slice_index_or, slice_set, is_some, true, IfSome, IfNone, IfOk, false};
+ghost use Rattle.std.specs.Vec.{vec_capacity};
+ghost use Rattle.cell_pool.specs.Room.{filled};
+ghost use Rattle.fabric.specs.Table.{after};
 
+use atm_cells::Cell;
 use crossbar_model::Branch;
 use net_types::{End, Mark, OutOfMemory};
 use std::alloc::Global;
@@ -52,6 +56,20 @@ impl Entry {
         })
     }
 
+    /// A cell passes on the branch, if there is one: the answer is where it goes.
+    fn pass(&mut self, cell: &Cell) -> Option<End>
+        ensures output { result ≡ option_map (λ b. b.output) self.old }
+        ensures after { self.new ≡ after self.old cell.now }
+    {
+        let output = self.output?;
+        self.unfinished = if cell.header.last {
+            None
+        } else {
+            Some(cell.mark)
+        };
+        Some(output)
+    }
+
     fn is_used(&self) -> bool
         ensures { result ≡ is_some self.now }
     {
@@ -59,19 +77,46 @@ impl Entry {
     }
 }
 
-/// The branches of the channels of a row, by their columns.
+/// Writes entries without a branch, until there is one in the column.
+fn write_up_to(entries: &mut Vec<Entry>, column: usize)
+    requires { column < vec_capacity entries.old }
+    ensures written { column < length entries.new.items }
+    ensures few { (n : ℕ) → column < n → length entries.old.items ≤ n → length entries.new.items ≤ n }
+    ensures same { (n : ℕ) → column < n → filled n None entries.new.items ≡ filled n None entries.old.items }
+    ensures room { vec_capacity entries.old ≤ vec_capacity entries.new }
+{
+    while entries.len() <= column {
+        let Ok(()) = entries.push(Entry::new(None)) else {
+            unreachable!()
+        };
+    }
+}
+
+/// The branches of the channels of a row, by their columns. Memory for all columns is reserved at
+/// opening; those behind the last one that ever had a branch aren't written.
 #[derive(Debug, Drop)]
 pub(crate) struct Row {
+    /// How many columns there are.
+    columns: usize,
+    /// The entries of the first ones.
     entries: Vec<Entry>,
 }
 
 impl Model for Row {
-    ghost use Rattle.std.specs.Prelude.{List, Option};
+    ghost use Rattle.std.specs.Prelude.{◌≤◌, List, Option, None, length};
+    ghost use Rattle.std.specs.Vec.{vec_capacity};
     ghost use Rattle.crossbar_model.specs.declared.branch.Branch.{Branch};
 
     ghost Value = { List (Option Branch) };
 
-    ghost view = { λ r. r.entries.items };
+    ghost use Rattle.cell_pool.specs.Room.{filled};
+
+    ghost view = { λ r. filled r.columns None r.entries.items };
+
+    ghost invariant = { λ r. record {
+      within : length r.entries.items ≤ r.columns;
+      room : r.columns ≤ vec_capacity r.entries;
+    } };
 }
 
 impl Row {
@@ -79,11 +124,10 @@ impl Row {
     pub(crate) fn open(alloc: Global, columns: usize) -> Result<Row, OutOfMemory>
         ensures { IfOk result (λ row. row ≡ replicate columns None) }
     {
-        let mut entries = Vec::with_capacity(alloc, columns)?;
-        for _column in 0..columns {
-            entries.push(Entry::new(None))?;
-        }
-        Ok(Row { entries })
+        Ok(Row {
+            columns,
+            entries: Vec::with_capacity(alloc, columns)?,
+        })
     }
 
     /// The branch in a column. None too where the row hasn't that column.
@@ -93,12 +137,32 @@ impl Row {
         self.entries.get(column)?.branch()
     }
 
-    /// Sets the branch in a column, or its absence.
-    pub(crate) fn set(&mut self, column: usize, branch: Option<Branch>)
-        requires { column < length self.old }
-        ensures { self.new ≡ slice_set self.old column branch }
+    /// A cell passes on the branch in a column, if there is one: the answer is where it goes.
+    pub(crate) fn pass(&mut self, column: usize, cell: &Cell) -> Option<End>
+        ensures output { result ≡ option_map (λ b. b.output) (slice_index_or self.old column None) }
+        ensures after { self.new ≡ slice_set self.old column (after (slice_index_or self.old column None) cell.now) }
     {
-        self.entries[column] = Entry::new(branch);
+        let entry = self.entries.get_mut(column)?;
+        entry.pass(cell)
+    }
+
+    /// Sets the branch in a column.
+    pub(crate) fn set(&mut self, column: usize, branch: Branch)
+        requires { column < length self.old }
+        ensures { self.new ≡ slice_set self.old column (Some branch) }
+    {
+        write_up_to(&mut self.entries, column);
+        self.entries[column] = Entry::new(Some(branch));
+    }
+
+    /// Takes the branch in a column away.
+    pub(crate) fn clear(&mut self, column: usize)
+        requires { column < length self.old }
+        ensures { self.new ≡ slice_set self.old column None }
+    {
+        if column < self.entries.len() {
+            self.entries[column] = Entry::new(None);
+        }
     }
 
     /// The first column from `from` on that has a branch, and the branch.

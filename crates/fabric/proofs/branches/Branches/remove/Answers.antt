@@ -13,8 +13,8 @@ unreachable-requires c =
     has_place c.self.inside.ports.items c.self.inside.vpis c.args.input c.self.invariant.of_links c.self.invariant.some c.self.invariant.few
     (rw (← c.self.view_is) at c.requires) c.in_default.ensures.none
 
-pub set-requires : goal.set-requires
-set-requires c =
+pub clear-requires : goal.clear-requires
+clear-requires c =
     let place = c.in-Some.place in
     let within : place.row < length c.self.inside.rows.items = omega (arith, c.in-Some.ensures.row, c.self.invariant.sixteen) in
     let row = get_or_read c.self.inside.rows.items place.row c.index_mut.result.now within c.index_mut.ensures.value [] in
@@ -30,7 +30,7 @@ invariant_of-self c =
     let input : is_connectable c.self.inside.ports.items c.self.inside.vpis c.args.input ≡ true = rw (← c.self.view_is) at c.requires in
     let inside = inside_row c.self.inside.ports.items c.self.inside.vpis c.args.input place.row place.column c.self.invariant.of_links c.self.invariant.some c.self.invariant.few
     input c.in-Some.ensures.column c.in-Some.ensures.end in
-    subst (λ (r : List (Option Branch)). IsTable c.self.inside.ports.items c.self.inside.vpis (set c.self.inside.rows.items place.row r)) (sym (c.set.ensures ∙ ap (λ r. set r place.column None) row))
+    subst (λ (r : List (Option Branch)). IsTable c.self.inside.ports.items c.self.inside.vpis (set c.self.inside.rows.items place.row r)) (sym (c.clear.ensures ∙ ap (λ r. set r place.column None) row))
     (table_written c.self.inside.ports.items c.self.inside.vpis c.self.inside.rows.items place.row place.column None c.self.invariant c.in-Some.ensures.row c.in-Some.ensures.column inside tt)
 
 pub returns : goal.returns
@@ -42,6 +42,6 @@ returns c =
     let inside = inside_row c.self.inside.ports.items c.self.inside.vpis c.args.input place.row place.column c.self.invariant.of_links c.self.invariant.some c.self.invariant.few
     input c.in-Some.ensures.column c.in-Some.ensures.end in
     rw (← c.self.view_is) (table_with c.self.inside.ports.items c.self.inside.vpis _ _
-    (ap (λ (r : List (Option Branch)). branches_in (set c.self.inside.rows.items place.row r)) (c.set.ensures ∙ ap (λ r. set r place.column None) row)
+    (ap (λ (r : List (Option Branch)). branches_in (set c.self.inside.rows.items place.row r)) (c.clear.ensures ∙ ap (λ r. set r place.column None) row)
     ∙ map_removed c.self.inside.ports.items c.self.inside.vpis c.self.inside.rows.items place.row place.column None c.self.invariant c.in-Some.ensures.row c.in-Some.ensures.column inside
     c.args.input refl c.in-Some.ensures.end))
