@@ -257,6 +257,6 @@ impl Pool {
     pub fn size(&self) -> usize
         ensures { result ≡ slots self.now }
     {
-        self.cells.len()
+        self.size
     }
 }
