@@ -4,3 +4,4 @@ mod Rights
 mod Frames
 mod Opened
 mod Entered
+pub mod Counted

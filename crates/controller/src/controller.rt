@@ -1,16 +1,18 @@
 //! The controller.
 
-ghost use Rattle.std.specs.Prelude.{◌≡◌, length, option_map, IsSome, Some};
+ghost use Rattle.std.specs.Prelude.{◌≡◌, ◌<◌, length, option_map, slice_get, IsSome, Some};
 ghost use Rattle.cell_pool.specs.Region.{size};
 ghost use Rattle.world_model.specs.Controller.{free_slots, linked_at};
 ghost use Rattle.router.specs.Node.{end_of};
 ghost use Rattle.joining_router.specs.Joining.{controller_of};
 
 use aal5_frames::MAX_FRAME;
+use adjacency_table::State;
 use branch_desk::Desk;
 use cell_pool::Pool;
 use joining_router::JoiningRouter;
 use net_types::{OutOfMemory, PortNo};
+use route_changes::Routes;
 use router::PortEngine;
 use std::marker::Model;
 
@@ -43,6 +45,38 @@ impl<E: PortEngine> Controller<E> {
         ensures { option_map end_of (linked_at (controller_of E.seen self.now) port) ≡ Some (E.seen result.now) }
     {
         self.router.router().link(port)
+    }
+
+    /// How many ports are linked.
+    #[tactic(auto, using(crate::proofs::Counted::ports_counted))]
+    pub fn ports(&self) -> usize
+        ensures { result ≡ length (controller_of E.seen self.now).ports }
+    {
+        self.router.router().ports()
+    }
+
+    /// The engine of the linked port at a place, in ascending order, counted from 0.
+    pub fn link_at(&self, place: usize) -> &E
+        requires { place < length (controller_of E.seen self.now).ports }
+        ensures { option_map end_of (slice_get (controller_of E.seen self.now).ports place) ≡ Some (E.seen result.now) }
+    {
+        self.router.router().link_at(place)
+    }
+
+    /// The state of its adjacency with its switch.
+    pub fn state(&self) -> State
+        ensures { result ≡ (controller_of E.seen self.now).adjacency.state }
+    {
+        self.router.router().client().state()
+    }
+
+    /// Its routes: the table that is held, and the changes that wait.
+    pub fn routes(&self) -> &Routes
+        ensures table { result.now.table ≡ (controller_of E.seen self.now).table }
+        ensures waiting { result.now.waiting ≡ (controller_of E.seen self.now).waiting }
+        ensures begun { result.now.is_begun ≡ (controller_of E.seen self.now).is_begun }
+    {
+        self.router.router().routes()
     }
 
     /// The requests that stand.

@@ -167,6 +167,13 @@ impl Exchange {
         self.fabric.free()
     }
 
+    /// How many slots there are.
+    pub(crate) fn slots(&self) -> usize
+        ensures { result ≡ self.now.cells }
+    {
+        self.fabric.region().size()
+    }
+
     /// Takes a cell of the GSMP channel. Where it ends a frame that passes its test, the answer is the
     /// length in octets of the frame's payload, which stands at the front of `octets`.
     pub(crate) fn receive(

@@ -454,6 +454,13 @@ impl Switch {
         self.exchange.free()
     }
 
+    /// How many slots it has.
+    pub fn slots(&self) -> usize
+        ensures { result ≡ self.now.cells }
+    {
+        self.exchange.slots()
+    }
+
     /// The state of the adjacency with the controller.
     pub fn state(&self) -> State
         ensures { result ≡ self.now.adjacency.state }

@@ -143,6 +143,13 @@ impl Session {
         &self.book
     }
 
+    /// The next number of its redirection messages; 4,294,967,296 where they are spent.
+    pub fn number(&self) -> u64
+        ensures { result ≡ self.now.session.number }
+    {
+        self.number
+    }
+
     /// The number that it expects next of its peer.
     pub fn expected(&self) -> u32
         ensures { result ≡ self.now.session.expected }
@@ -155,6 +162,22 @@ impl Session {
         ensures { result ≡ self.now.session.known }
     {
         self.known
+    }
+
+    /// The least and the greatest of the channels to which its labels were narrowed. The least may be
+    /// above the greatest.
+    pub fn narrowed(&self) -> (Channel, Channel)
+        ensures least { result.0 ≡ self.now.session.least }
+        ensures greatest { result.1 ≡ self.now.session.greatest }
+    {
+        self.pool.narrowed()
+    }
+
+    /// The flows that are counted.
+    pub fn counted(&self) -> &Classifier
+        ensures { result.now.counts ≡ self.now.session.counted }
+    {
+        &self.classifier
     }
 
     /// Whether its numbers are spent.
@@ -226,6 +249,15 @@ impl Session {
         ensures number { IfSome result (λ label. label.number ≡ number) }
     {
         self.book.get(number)
+    }
+
+    /// The label at this place among those that are held, the lowest first, counted from 0. None exactly
+    /// where the place is at or above their count.
+    pub fn held_at(&self, place: usize) -> Option<HeldLabel>
+        ensures label { option_map label_of result ≡ slice_get self.now.session.labels place }
+        ensures range { IfSome result (λ label. IsTrue (is_label_number label.number)) }
+    {
+        self.label_at(self.number_at(place)?)
     }
 
     /// The number of the label that serves the flow.
@@ -395,7 +427,7 @@ impl Session {
     fn is_unpassed_at(&self, place: usize) -> bool
         ensures { IfSome (slice_get self.now.session.labels place) (λ label. result ≡ is_unpassed self.now.session.known label.state) }
     {
-        let Some(label) = self.label_at_place(place) else {
+        let Some(label) = self.held_at(place) else {
             return false;
         };
         match label.state {
@@ -408,13 +440,6 @@ impl Session {
             | HeldState::Offered
             | HeldState::Wired => false,
         }
-    }
-
-    /// The label at this place among those that are held.
-    fn label_at_place(&self, place: usize) -> Option<HeldLabel>
-        ensures { option_map label_of result ≡ slice_get self.now.session.labels place }
-    {
-        self.label_at(self.number_at(place)?)
     }
 
     /// Gives it up.

@@ -1,6 +1,6 @@
 //! The port.
 
-ghost use Rattle.std.specs.Prelude.{◌≡◌, ◌≢◌, ◌≤◌, ◌+◌, ◌↔◌, ℕ, [], IsTrue, IsNone, IsSome, IfOk, IfSome, OnOk, None, Some};
+ghost use Rattle.std.specs.Prelude.{◌≡◌, ◌≢◌, ◌≤◌, ◌+◌, ◌↔◌, ℕ, option_map, [], IsTrue, IsNone, IsSome, IfOk, IfSome, OnOk, None, Some};
 ghost use Rattle.net_types.specs.Label.{is_label_number};
 ghost use Rattle.adjacency_table.specs.Side.{fresh};
 ghost use Rattle.ifmp_wire.specs.Message.{InRange};
@@ -39,6 +39,7 @@ use port_actions::Actions;
 use port_hearing::hear;
 use port_model::Timers;
 use port_saying::done;
+use port_session::Session;
 use port_state::PortState;
 use std::alloc::Global;
 use std::marker::Model;
@@ -224,6 +225,27 @@ impl<P: Policy> Link<P> {
         ensures { result ≡ self.now.fixed.port }
     {
         self.state.port()
+    }
+
+    /// The state of its adjacency.
+    pub fn state(&self) -> State
+        ensures { result ≡ self.now.port.adjacency.state }
+    {
+        self.state.state()
+    }
+
+    /// The address of the peer that is stored. None exactly where none is.
+    pub fn peer_address(&self) -> Option<Addr>
+        ensures { result ≡ option_map (λ peer. peer.address) self.now.port.adjacency.stored }
+    {
+        self.state.peer_address()
+    }
+
+    /// What it has exactly in Estab. None exactly where no session is open.
+    pub fn session(&self) -> Option<&Session>
+        ensures { option_map (λ session. session.now.session) result ≡ self.now.port.session }
+    {
+        self.state.session()
     }
 
     /// Whether its adjacency is in Clearing.
