@@ -1,21 +1,18 @@
 -- Rows in the order of their last packets, the last one first: which flows are counted.
 
-use Rattle.std.proofs.Common.{◌≡◌, ℕ, zero, suc, ◌+◌, ◌-◌, ◌≤◌, ◌||◌, Bool, true, false, not, cond, List, [], ◌∷◌, ◌++◌, length, take, drop, map, reverse, filter, find, All, Option, None, Some, refl, sym, ap, ◌∙◌, arith}
+use Rattle.std.proofs.Common.{◌≡◌, ℕ, zero, suc, ◌-◌, Bool, true, false, not, cond, List, [], ◌∷◌, ◌++◌, length, take, map, reverse, filter, find, Option, None, Some, refl, sym, ap, ◌∙◌}
 use Rattle.std.specs.List.{list_any, IsDistinct, AllByRecursion}
-use Rattle.std.specs.Map.{keys_of, lookup, lookup_entry, remove_entry, set_value}
-use Rattle.std.proofs.lemmas.List.{length-map, length-append, reverse-append, take_all}
-use Rattle.std.proofs.lemmas.List.Elements.{All-head, All-tail, All-cons, All-take}
+use Rattle.std.specs.Map.{keys_of, lookup, remove_entry}
+use Rattle.std.proofs.lemmas.List.{reverse-append}
 use Rattle.std.proofs.lemmas.Map.Keys.{IsDistinct-head, IsDistinct-tail}
-use Rattle.lru.specs.LruCache.{promoted}
 use Rattle.ipv4_packet.specs.declared.flow.FlowId.{FlowId}
 use Rattle.ipv4_packet.specs.Parts.{same_flow}
-use Rattle.port_model.specs.Counts.{Counted, counted_of, counted_once, last_of, most_flows, moved, one_more, packets_in, packets_of, total}
+use Rattle.port_model.specs.Counts.{Counted, counted_of, counted_once, last_of, most_flows, one_more, packets_in, packets_of, total}
 use Rattle.flow_classifier.specs.declared.tally.Tally.{Tally}
-use Rattle.flow_classifier.specs.Rows.{begun_anew, counted, counts_of, Row, standing}
+use Rattle.flow_classifier.specs.Rows.{counted, counts_of, Row, standing}
 use Rattle.flow_classifier.proofs.Backwards.{any-back, back, back-filter, last-back, length-back}
 use Rattle.flow_classifier.proofs.Flows.{flow_from_same, same_itself}
 use Rattle.flow_classifier.proofs.Recency.{or_left, or_right}
-use Rattle.flow_classifier.proofs.Tallies.{begins_anew, stands_after_tick}
 
 abbrev pub of_flow : FlowId → Counted → Bool
 of_flow flow c = same_flow c.flow flow

@@ -1,22 +1,19 @@
 -- Rows are put first: one that is there, a new one, and each in turn.
 
-use Rattle.std.proofs.Common.{◌≡◌, ℕ, zero, suc, ◌+◌, ◌-◌, ◌≤◌, Bool, true, false, cond, List, [], ◌∷◌, ◌++◌, length, take, map, All, Option, None, Some, refl, sym, ap, ◌∙◌, arith}
-use Rattle.std.specs.Prelude.{slice_get}
+use Rattle.std.proofs.Common.{◌≡◌, ℕ, suc, ◌≤◌, Bool, true, false, cond, List, [], ◌∷◌, ◌++◌, length, All, None, Some, refl, sym, ap, ◌∙◌, arith}
 use Rattle.std.specs.List.{IsDistinct, AllByRecursion}
 use Rattle.std.specs.Map.{keys_of, lookup, lookup_entry, remove_entry, set_value}
-use Rattle.std.proofs.lemmas.List.{length-append, take_all, take_at}
-use Rattle.std.proofs.lemmas.List.Elements.{All-cons, All-head, All-map, All-tail, All-take, All-weaker}
+use Rattle.std.proofs.lemmas.List.{take_all}
+use Rattle.std.proofs.lemmas.List.Elements.{All-cons, All-head, All-tail, All-take}
 use Rattle.std.proofs.lemmas.Map.Keys.{IsDistinct-head, IsDistinct-tail}
-use Rattle.lru.specs.LruCache.{last_entry, LruCache, lru_cache, promoted, put_entries}
+use Rattle.lru.specs.LruCache.{LruCache, lru_cache, promoted, put_entries}
 use Rattle.ipv4_packet.specs.declared.flow.FlowId.{FlowId}
 use Rattle.ipv4_packet.specs.Parts.{same_flow}
-use Rattle.port_model.specs.Counts.{Counted, counted_once, most_flows, moved}
+use Rattle.port_model.specs.Counts.{most_flows}
 use Rattle.flow_classifier.specs.declared.tally.Tally.{Tally}
-use Rattle.flow_classifier.specs.Rows.{AreRows, begun_anew, counted, counts_of, last_turned, Row, standing}
-use Rattle.flow_classifier.proofs.Backwards.{back}
+use Rattle.flow_classifier.specs.Rows.{AreRows, Row}
 use Rattle.flow_classifier.proofs.Flows.{flow_from_same, same_itself, same_turned}
-use Rattle.flow_classifier.proofs.Orders.{back_is, map-back, put}
-use Rattle.flow_classifier.proofs.Tallies.{begins_anew, stands_after_tick}
+use Rattle.flow_classifier.proofs.Orders.{put}
 
 abbrev pub OfWindow : (window ticks : ℕ) → Row → Type 0
 OfWindow window ticks row = (row.1.packets.capacity ≡ window) × (row.1.until ≤ ticks)

@@ -1,7 +1,7 @@
 -- The rows of a classifier: a flow, and its tally. A tally has a ring of the packets since a tick, between
 -- that and the one before it, and so on; no packet came after that tick.
 
-use Rattle.std.specs.Prelude.{◌≡◌, ℕ, ◌≤◌, ◌-◌, List, [], ◌∷◌, ◌++◌, All, length, take, map, reverse, replicate}
+use Rattle.std.specs.Prelude.{◌≡◌, ℕ, ◌≤◌, ◌-◌, List, ◌∷◌, ◌++◌, All, length, take, map, reverse, replicate}
 use Rattle.std.specs.Option.{option_map_or}
 use Rattle.lru.specs.LruCache.{LruCache, last_entry}
 use Rattle.circular_buffer.specs.Buffer.{buffer}

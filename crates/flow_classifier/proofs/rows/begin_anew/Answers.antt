@@ -1,5 +1,5 @@
 use Rattle.flow_classifier.proofs.LastTurned.{all_turned, none_turned, one_turned}
-use Rattle.std.proofs.Common.{◌≡◌, ◌<◌, length, sym, arith}
+use Rattle.std.proofs.Common.{◌≡◌, ◌<◌, length, arith}
 use Rattle.flow_classifier.proofs.rows.begin_anew.Goals as goal
 
 pub loop-row-init : goal.loop-row-init

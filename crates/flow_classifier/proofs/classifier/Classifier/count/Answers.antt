@@ -1,4 +1,4 @@
-use Rattle.std.proofs.Common.{◌≡◌, ◌≤◌, ℕ, [], length, ◌∙◌, sym, ap, arith}
+use Rattle.std.proofs.Common.{◌≡◌, ◌≤◌, [], length, ◌∙◌, sym, ap, arith}
 use Rattle.port_model.specs.Counts.{most_flows, one_more, total}
 use Rattle.flow_classifier.specs.Rows.{standing}
 use Rattle.flow_classifier.proofs.Derived.{eq_is}

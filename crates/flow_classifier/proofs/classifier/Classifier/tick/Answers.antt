@@ -1,6 +1,5 @@
-use Rattle.std.proofs.Common.{◌≡◌, ◌∙◌, ap}
+use Rattle.std.proofs.Common.{◌∙◌, ap}
 use Rattle.port_model.specs.Counts.{moved}
-use Rattle.flow_classifier.specs.Rows.{begun_anew}
 use Rattle.flow_classifier.proofs.LastTurned.{counts_anew, counts_next, rows_anew, rows_next}
 use Rattle.flow_classifier.proofs.classifier.Classifier.tick.Goals as goal
 use Rattle.flow_classifier.proofs.classifier.Classifier.tick.Goals.{then-self, else-self}

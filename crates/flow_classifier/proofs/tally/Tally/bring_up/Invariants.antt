@@ -1,4 +1,4 @@
-use Rattle.std.proofs.Common.{◌≡◌, ◌≤◌, ◌++◌, length, replicate, take}
+use Rattle.std.proofs.Common.{◌≡◌, ◌++◌, replicate, take}
 use Rattle.circular_buffer.specs.Buffer.{buffer}
 use Rattle.flow_classifier.proofs.tally.Tally.bring_up.Given as goal
 
