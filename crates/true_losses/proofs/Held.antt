@@ -43,6 +43,14 @@ cut_nothing v w fed none same = record {
   each = λ held. sym (none_if (not (option_map_or (same_held held) fed false)) _ (still (site_at v held.node) (site_at w held.node) held.holder (ap (λ (sites : List Site). at site_key held.node.0 sites) same)));
 }
 
+-- *A site is put in the place of another*: what is so of both is so of all nodes as it was
+pub put_alike : {A : Type 0} (f : Option Site → A) (sites : List Site) (site new : Site) → at site_key (site_key new) sites ≡ Some site → f (Some new) ≡ f (Some site) → (node : NodeId)
+    → f (at site_key node.0 (put site_key new sites)) ≡ f (at site_key node.0 sites)
+put_alike f sites site new found same node = by_eq (site_key new) node.0
+    (λ here t. ap f (subst (λ (j : ℕ). at site_key j (put site_key new sites) ≡ Some new) here (at_put_same site_key new sites site found)) ∙ same
+    ∙ sym (ap f (subst (λ (j : ℕ). at site_key j sites ≡ Some site) here found)))
+    (λ away t. ap f (at_put_other site_key new node.0 sites away))
+
 -- *At one site*
 abbrev on : NodeId → Holder → Held
 on node holder = record { node = node; holder = holder }
@@ -135,7 +143,7 @@ own_key (Out node port) site cells = refl
 
 module _ (w : World) (source : Place) (cells : List Cell) where
   -- what is so of a site by what it holds is so of it then
-  queue_alike : {A : Type 0} (f : Option Site → A) → ((site : Site) → f (Some (with_queue_in site source cells)) ≡ f (Some site)) → (node : NodeId) → f (site_at (with_queue w source cells) node) ≡ f (site_at w node)
+  pub queue_alike : {A : Type 0} (f : Option Site → A) → ((site : Site) → f (Some (with_queue_in site source cells)) ≡ f (Some site)) → (node : NodeId) → f (site_at (with_queue w source cells) node) ≡ f (site_at w node)
   queue_alike {A} f same node = by (site_at w (place_node source)) refl
     where
       by : (o : Option Site) → site_at w (place_node source) ≡ o → f (site_at (with_queue_of w source cells o) node) ≡ f (site_at w node)
@@ -144,10 +152,7 @@ module _ (w : World) (source : Place) (cells : List Cell) where
           let new : Site = with_queue_in site source cells in
           let key : site_key new ≡ (place_node source).0 = own_key source site cells ∙ at_key site_key (place_node source).0 w.sites site found in
           let here : at site_key (site_key new) w.sites ≡ Some site = subst (λ (j : ℕ). at site_key j w.sites ≡ Some site) (sym key) found in
-          by_eq (site_key new) node.0
-          (λ at_it t. ap f (subst (λ (j : ℕ). at site_key j (put site_key new w.sites) ≡ Some new) at_it (at_put_same site_key new w.sites site here)) ∙ same site
-          ∙ sym (ap f (subst (λ (j : ℕ). at site_key j w.sites ≡ Some site) at_it here)))
-          (λ away t. ap f (at_put_other site_key new node.0 w.sites away))
+          put_alike f w.sites site new here (same site) node
 
   pub cut_behind : (after : World) (fed : Option Held) → CutAt (with_queue w source cells) after fed → CutAt w after fed
   cut_behind after fed c = record {

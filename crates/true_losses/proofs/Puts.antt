@@ -18,7 +18,7 @@ use Rattle.world_model.specs.World.{World, Site, site_key, site_at, controller_a
 use Rattle.world_model.specs.Places.{place_node, queue_in, queue_at, same_queue}
 use Rattle.world_model.proofs.Lists.{by_eq, at_key}
 use Rattle.passing_laws.proofs.Queues.{now_at, then_at, elsewhere}
-use Rattle.true_losses.specs.Sent.{put_in, has_queue_in, has_queue}
+use Rattle.true_losses.specs.Sent.{put_in, rooms_in, rooms_at, has_queue_in, has_queue}
 use Rattle.true_losses.proofs.Notes.{Counts}
 use Rattle.true_losses.proofs.Sent.{Sends, sends_as}
 use Rattle.true_losses.proofs.Steps as steps
@@ -30,7 +30,7 @@ use Rattle.true_losses.proofs.Cutting.{cuts_in}
 use Rattle.true_losses.proofs.Arriving.{Ends}
 use Rattle.true_losses.proofs.Branches.{and_false}
 use Rattle.true_losses.proofs.Sites.{SiteCuts, controller_cuts}
-use Rattle.true_losses.proofs.Held.{test_same, test_other, CutAt, cut_nothing, site_cuts}
+use Rattle.true_losses.proofs.Held.{test_same, test_other, CutAt, cut_nothing, put_alike, site_cuts}
 
 -- *In each queue* that there is stands what went through, and what was put, behind what waited
 abbrev pub HasPut : World → World → (went : Place → List Cell) → Option Place → (cells : List Cell) → Type 0
@@ -40,6 +40,7 @@ pub record Told (e lost : List Entry) (v w : World) (went : Place → List Cell)
   pub sends : Sends e lost v.notes.frames w.notes (HasPut v w went queue)
   pub nowhere : queue ≡ None → sends.sendings ≡ []
   pub cuts : CutAt v w fed
+  pub rooms : (node : NodeId) → rooms_at w node ≡ rooms_at v node
 
 -- *Notes of which an event begins*: their ledger, and no record yet
 pub record Begins (e : List Entry) (notes : Journal) : Type 0 where
@@ -66,6 +67,7 @@ told_nothing e lost v w queue fed counts uncut frames same = record {
   };
   nowhere = λ is. refl;
   cuts = cut_nothing v w fed uncut same;
+  rooms = λ node. ap (λ (sites : List Site). rooms_in (at site_key node.0 sites)) same;
 }
 
 -- *Tests*
@@ -98,6 +100,7 @@ module _ (e : List Entry) (w : World) (node : NodeId) (h : Begins e w.notes) whe
         sends = sends_as e (lost (Some site)) w.notes.frames (act a).notes (steps.Holds (steps.base_of a) (act a).controller.queue) (HasPut w (controller_acts w (Some site) act) (λ place. []) (Some (Down node))) puts (ends site).sends;
         nowhere = λ is. absurd (cc is);
         cuts = site_cuts w (controller_acts w (Some site) act) node site new found key refl (fed (Some site)) (controller_cuts site (act a).controller (fed (Some site)) (act a).notes (ends site).cuts);
+        rooms = put_alike rooms_in w.sites site new here refl;
       }
         where
           a : controllers.Acted
@@ -176,11 +179,13 @@ module _ (e : List Entry) (w : World) (node : NodeId) (h : Begins e w.notes) (qu
             (told_nothing e (lost None) w w (Some queue) (at_node node fed) (subst (λ (told : List Entry). Counts e told w.notes) (sym none) h.counts) h.uncut refl refl).sends;
         nowhere = λ is. absurd (cc is);
         cuts = cut_nothing w w (at_node node fed) h.uncut refl;
+        rooms = λ other. refl;
       }
       by (Some site) found = record {
         sends = sends_as e (lost (Some site)) w.notes.frames (act a).notes (Grown old (through site) port now) (HasPut w (switch_acts w (Some site) act) (went (Some site)) (Some queue)) puts (sends site);
         nowhere = λ is. absurd (cc is);
         cuts = site_cuts w (switch_acts w (Some site) act) node site new found key refl fed (cuts site);
+        rooms = put_alike rooms_in w.sites site new here ((sends site).cells.rooms);
       }
         where
           a : switches.Acted

@@ -10,17 +10,20 @@ use Rattle.port_model.specs.Setup.{Policy}
 use Rattle.world_model.specs.declared.event.Event.{Event}
 use Rattle.world_model.specs.declared.event.Event.TheVariants.{Inject, Carry, Lose, Tick, TickSwitch, Restart, RestartSwitch, Forge, Route}
 use Rattle.world_model.specs.Topology.{Topology, Node}
-use Rattle.world_model.specs.World.{World, Site, site_at, empty_world, with_opened, opens_each, opened}
+use Rattle.world_model.specs.World.{World, Site, site_key, site_at, opened_site, empty_world, with_opened, opens_each, opened}
 use Rattle.world_model.specs.Places.{place_node, queue_at, with_queue, with_queue_of}
 use Rattle.world_model.specs.Run.{put_away, next, worlds_from, world_after, records_of}
 use Rattle.true_losses.specs.Way.{carried_from, lost_on_way}
-use Rattle.true_losses.specs.Sent.{frame_of, cells_of, entry_of, put_in, has_queue, queue_for, switched_head, switched}
+use Rattle.true_losses.specs.Sent.{rooms_in, rooms_at, frame_of, cells_of, entry_of, put_in, has_queue, queue_for, switched_head, switched}
 use Rattle.true_losses.specs.Law.{EntersLosses, world_at, LossesAreTrue}
 use Rattle.true_losses.proofs.Notes.{losses_more}
 use Rattle.true_losses.specs.Cut.{Held, same_held, fed_at, fed, is_given_up}
 use Rattle.true_losses.proofs.Worlds.{Came, carried_alike, switched_alike, fed_alike, event_told}
 use Rattle.std.specs.Option.{option_map_or}
-use Rattle.std.specs.Prelude.{not, ◌&&◌, false, if◌then◌else◌}
+use Rattle.std.specs.Prelude.{not, nat_eq, ◌&&◌, Bool, false, if◌then◌else◌}
+use Rattle.net_types.specs.declared.node.NodeId.{NodeId}
+use Rattle.keyed_lists.specs.Keyed.{at}
+use Rattle.port_facts.proofs.Keyed.{on_both}
 use Rattle.telling_model.specs.Passing.{left, left_of, source_of}
 use Rattle.net_types.specs.declared.node.Place.{Place}
 use Rattle.world_model.specs.Step.{acts}
@@ -146,8 +149,28 @@ module _ (t : Topology) where
   opening_has : (policy : Policy) → (opened policy t).notes.entries ≡ [] ++ losses_of (opened policy t).notes.records
   opening_has policy = subst (λ (notes : _). notes.entries ≡ losses_of notes.records) (sym (opens_empty policy empty_world 1 t.nodes)) refl
 
+  -- *Each switch has nine queues*
+  rooms_stay : (w : World) (events : List Event) (node : NodeId) → rooms_at (world_after t w events) node ≡ rooms_at w node
+  rooms_stay w [] node = refl
+  rooms_stay w (event ∷ events) node = rooms_stay (next t w event) events node ∙ (came w event).rooms node
+
+  joined : (k : ℕ) (sites : List Site) (site : Site) → rooms_in (at site_key k sites) ≡ 9 → length site.switch.crossbar.queues ≡ 9 → rooms_in (at site_key k (sites ++ site ∷ [])) ≡ 9
+  joined k [] site all nine = on_both (λ (o : Option Site). rooms_in o ≡ 9) (nat_eq (site_key site) k) (Some site) None nine refl
+  joined k (other ∷ sites) site all nine = by (nat_eq (site_key other) k) all (λ rest. joined k sites site rest nine)
+    where
+      by : (b : Bool) → rooms_in (if b then Some other else at site_key k sites) ≡ 9 → (rooms_in (at site_key k sites) ≡ 9 → rooms_in (at site_key k (sites ++ site ∷ [])) ≡ 9)
+          → rooms_in (if b then Some other else at site_key k (sites ++ site ∷ [])) ≡ 9
+      by true all more = all
+      by false all more = more all
+
+  opens_nine : (policy : Policy) (w : World) (place : ℕ) (nodes : List Node) (node : NodeId) → rooms_at w node ≡ 9 → rooms_at (opens_each policy t w place nodes) node ≡ 9
+  opens_nine policy w place [] node all = all
+  opens_nine policy w place (one ∷ nodes) node all = opens_nine policy (with_opened policy t w place one) (suc place) nodes node
+      (joined node.0 w.sites (opened_site policy t (record { 0 = place }) one w.numbers) all refl)
+
 pub losses_are_true : LossesAreTrue
 losses_are_true policy topology events = record {
   ledger = λ before after split. has_all topology [] (opened policy topology) before (opening_has topology policy);
+  rooms = λ before after split node. rooms_stay topology (opened policy topology) before node ∙ opens_nine topology policy empty_world 1 topology.nodes node refl;
   each = λ before after event split. enters topology (world_at policy topology before) event;
 }

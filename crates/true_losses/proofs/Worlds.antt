@@ -1,7 +1,7 @@
 -- each event enters the losses on the way that it is, and those of the frames that it makes and doesn't put; what it puts stands
 -- behind what was left
 
-use Rattle.std.proofs.Common.{◌≡◌, ℕ, ◌+◌, Bool, true, false, List, [], ◌∷◌, ◌++◌, map, flat_map, Option, None, Some, refl, sym, ◌∙◌, ap, subst, if◌then◌else◌}
+use Rattle.std.proofs.Common.{◌≡◌, ℕ, ◌+◌, Bool, true, false, List, [], ◌∷◌, ◌++◌, length, map, flat_map, Option, None, Some, refl, sym, ◌∙◌, ap, subst, if◌then◌else◌}
 use Rattle.std.specs.Prelude.{drop, nat_lt}
 use Rattle.std.specs.Option.{option_map_or}
 use Rattle.net_types.specs.declared.node.NodeId.{NodeId}
@@ -47,7 +47,7 @@ use Rattle.passing_laws.proofs.Queues.{by_queue, one_queue, taken_is}
 use Rattle.passing_laws.proofs.Controllers.{cell_adds, injected_adds, ticks_adds, restarts_adds, change_adds}
 use Rattle.passing_laws.proofs.Rules.{sends_adds}
 use Rattle.true_losses.specs.Way.{at_input, at_controller as at_taker, at_far_end, carried_to, carried_from, lost_from, lost_on_way}
-use Rattle.true_losses.specs.Sent.{frame_of, cells_of, put_in, has_queue_in, has_queue, queue_to, queue_for, by_branch, switched_at, switched_far, switched_from, switched_head, switched}
+use Rattle.true_losses.specs.Sent.{frame_of, cells_of, put_in, rooms_in, rooms_at, has_queue_in, has_queue, queue_to, queue_for, by_branch, switched_at, switched_far, switched_from, switched_head, switched}
 use Rattle.true_losses.proofs.Notes.{noted_more, noted_other}
 use Rattle.true_losses.proofs.Sent.{Sends}
 use Rattle.true_losses.proofs.Steps as steps
@@ -60,7 +60,7 @@ use Rattle.true_losses.specs.Cut.{Held, at_node, fed_switch, fed_controller, fed
 use Rattle.true_losses.proofs.Cutting.{cuts_in, cuts_other}
 use Rattle.true_losses.proofs.Sites.{SiteCuts}
 use Rattle.true_losses.proofs.Switched.{tick_site, sends_site, restarted_site, cell_site}
-use Rattle.true_losses.proofs.Held.{own_key, CutAt, cut_nothing, cut_behind}
+use Rattle.true_losses.proofs.Held.{own_key, CutAt, cut_nothing, queue_alike, cut_behind}
 use Rattle.true_losses.proofs.Puts.{Told, Begins, IsOf, told_nothing, nothing_of, put_out, put_up, controller_told, switch_told}
 
 -- *A queue holds other cells*: what was made is the same, and so is which queues there are
@@ -81,6 +81,11 @@ own_queues (Up node) (Out n q) site cells = ap (λ (rooms : ℕ). nat_lt q.0 roo
 own_queues (Out node port) (Down n) site cells = refl
 own_queues (Out node port) (Up n) site cells = ap (λ (rooms : ℕ). nat_lt 0 rooms) (length_set site.switch.crossbar.queues port.0 cells)
 own_queues (Out node port) (Out n q) site cells = ap (λ (rooms : ℕ). nat_lt q.0 rooms) (length_set site.switch.crossbar.queues port.0 cells)
+
+own_rooms : (p : Place) (site : Site) (cells : List Cell) → length (with_queue_in site p cells).switch.crossbar.queues ≡ length site.switch.crossbar.queues
+own_rooms (Down node) site cells = refl
+own_rooms (Up node) site cells = length_set site.switch.crossbar.queues 0 cells
+own_rooms (Out node port) site cells = length_set site.switch.crossbar.queues port.0 cells
 
 queues_stay : (w : World) (source : Place) (cells : List Cell) (place : Place) → has_queue (with_queue w source cells) place ≡ has_queue w place
 queues_stay w source cells place = by (site_at w (place_node source)) refl
@@ -108,11 +113,12 @@ pub record Came (e lost : List Entry) (w : World) (source : Option Place) (after
       (λ cells. (place : Place) → has_queue w place ≡ true → queue_at after place ≡ left_of w source place ++ (went place ++ put_in queue place cells))
   pub nowhere : queue ≡ None → sends.sendings ≡ []
   pub cuts : CutAt w after fed
+  pub rooms : (node : NodeId) → rooms_at after node ≡ rooms_at w node
 
 came_of : (e lost : List Entry) (w v : World) (source : Option Place) (after : World) (went : Place → List Cell) (queue : Option Place) (fed : Option Held) → v.notes.frames ≡ w.notes.frames
-    → ((place : Place) → has_queue w place ≡ true → has_queue v place ≡ true) → ((place : Place) → queue_at v place ≡ left_of w source place) → CutAt w after fed
+    → ((place : Place) → has_queue w place ≡ true → has_queue v place ≡ true) → ((place : Place) → queue_at v place ≡ left_of w source place) → CutAt w after fed → ((node : NodeId) → rooms_at v node ≡ rooms_at w node)
     → Told e lost v after went queue fed → Came e lost w source after went queue fed
-came_of e lost w v source after went queue fed frames there left cuts h = record {
+came_of e lost w v source after went queue fed frames there left cuts rooms h = record {
   sends = record {
     sendings = h.sends.sendings;
     counts = h.sends.counts;
@@ -121,18 +127,19 @@ came_of e lost w v source after went queue fed frames there left cuts h = record
   };
   nowhere = h.nowhere;
   cuts = cuts;
+  rooms = λ node. h.rooms node ∙ rooms node;
 }
 
 -- nothing was taken
 came_by : (e lost : List Entry) (w after : World) (went : Place → List Cell) (queue : Option Place) (fed : Option Held) → Told e lost w after went queue fed → Came e lost w None after went queue fed
-came_by e lost w after went queue fed h = came_of e lost w w None after went queue fed refl (λ place has. has) (λ place. refl) h.cuts h
+came_by e lost w after went queue fed h = came_of e lost w w None after went queue fed refl (λ place has. has) (λ place. refl) h.cuts (λ node. refl) h
 
 -- a cell was
 came_behind : (e lost : List Entry) (w : World) (source : Place) (cell : Cell) (cells : List Cell) (after : World) (went : Place → List Cell) (queue : Option Place) (fed : Option Held)
     → queue_at w source ≡ cell ∷ cells → Told e lost (with_queue w source cells) after went queue fed → Came e lost w (Some source) after went queue fed
 came_behind e lost w source cell cells after went queue fed is h = came_of e lost w (with_queue w source cells) (Some source) after went queue fed
     (ap (λ (notes : _). notes.frames) (queue_notes w source cells)) (λ place has. queues_stay w source cells place ∙ has) (λ place. taken_is w source cell cells is place)
-    (cut_behind w source cells after fed h.cuts) h
+    (cut_behind w source cells after fed h.cuts) (queue_alike w source cells rooms_in (λ site. own_rooms source site cells)) h
 
 -- nor was there a cell
 none_left : (w : World) (source : Place) → queue_at w source ≡ [] → (place : Place) → queue_at w place ≡ left_of w (Some source) place
@@ -143,7 +150,7 @@ none_left w source is place = by_queue source place
     (λ node number t. subst (λ (b : Bool). queue_at w place ≡ (if b then drop 1 (queue_at w place) else queue_at w place)) (sym t) refl)
 
 came_empty : (e : List Entry) (w : World) (source : Place) (queue : Option Place) → Begins e w.notes → queue_at w source ≡ [] → Came e [] w (Some source) w (λ place. []) queue None
-came_empty e w source queue h is = came_of e [] w w (Some source) w (λ place. []) queue None refl (λ place has. has) (none_left w source is) (cut_nothing w w None h.uncut refl)
+came_empty e w source queue h is = came_of e [] w w (Some source) w (λ place. []) queue None refl (λ place has. has) (none_left w source is) (cut_nothing w w None h.uncut refl) (λ node. refl)
     (told_nothing e [] w w queue None h.counts h.uncut refl refl)
 
 module _ (t : Topology) (e : List Entry) where
@@ -235,7 +242,7 @@ module _ (t : Topology) (e : List Entry) where
         after = injects_by (record w { sent = w.sent + 1 }) node octets None
 
         told_as : Told e [] (record w { sent = w.sent + 1 }) after (λ place. []) (Some (Down node)) None → Told e [] w after (λ place. []) (Some (Down node)) None
-        told_as k = record { sends = k.sends; nowhere = k.nowhere; cuts = record { cuts = k.cuts.cuts; entries = k.cuts.entries; each = k.cuts.each } }
+        told_as k = record { sends = k.sends; nowhere = k.nowhere; cuts = record { cuts = k.cuts.cuts; entries = k.cuts.entries; each = k.cuts.each }; rooms = k.rooms }
 
     forges_told : (v : World) → Begins e v.notes → (place : Place) (channel : Channel) (mark : Mark) (payload : List ℕ)
         → Told e [] v (forges_at v place channel mark payload) (λ to. []) (Some place) None
@@ -252,7 +259,7 @@ module _ (t : Topology) (e : List Entry) where
         let k : Told e [] v (acts t w (Forge place channel payload)) (λ to. []) (Some place) None = forges_told v
         (record { counts = noted_other e [] w.notes (Forged place) refl h.counts; uncut = cuts_other w.notes (Forged place) refl ∙ h.uncut }) place channel (next_control w.numbers) payload in
         came_of e [] w v None (acts t w (Forge place channel payload)) (λ to. []) (Some place) None refl (λ to has. has) (λ to. refl)
-        (record { cuts = k.cuts.cuts; entries = k.cuts.entries; each = k.cuts.each }) k
+        (record { cuts = k.cuts.cuts; entries = k.cuts.entries; each = k.cuts.each }) (λ node. refl) k
 
     pub event_told : (event : Event) → Came e (lost_on_way t w event) w (source_of event) (acts t w event) (switched t w event) (queue_for t w event) (fed t w event)
     event_told (Inject node octets) = came_by e [] w (acts t w (Inject node octets)) (λ place. []) (Some (Down node)) None (injects_told node octets (inject_refusal octets))

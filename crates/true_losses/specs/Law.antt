@@ -1,6 +1,7 @@
 -- Which losses an event is. The ledger has an entry of each, and no other entry of these causes
 
 use Rattle.std.specs.Prelude.{◌≡◌, List, ◌∷◌, ◌++◌, filter, flat_map}
+use Rattle.net_types.specs.declared.node.NodeId.{NodeId}
 use Rattle.link_model.specs.Notes.{losses_of}
 use Rattle.port_model.specs.Setup.{Policy}
 use Rattle.world_model.specs.declared.event.Event.{Event}
@@ -8,7 +9,7 @@ use Rattle.world_model.specs.Topology.{Topology}
 use Rattle.world_model.specs.World.{World, opened}
 use Rattle.world_model.specs.Run.{run, next, world_after, records_of}
 use Rattle.true_losses.specs.Way.{is_on_way, lost_on_way}
-use Rattle.true_losses.specs.Sent.{Sending, entry_of, AreSent}
+use Rattle.true_losses.specs.Sent.{Sending, entry_of, rooms_at, AreSent}
 use Rattle.true_losses.specs.Cut.{Held, AreCut, is_of_cut, cut_entries}
 
 -- *An event* enters into the ledger, behind what is there, the losses that its records tell, in their order. Those with a cause
@@ -23,13 +24,15 @@ pub record EntersLosses (topology : Topology) (before : World) (event : Event) :
   pub are_cut : AreCut topology before event cuts
   pub cut : filter is_of_cut (losses_of (next topology before event).notes.records) ≡ flat_map (cut_entries before) cuts
 
--- *Of a run*: the ledger has the losses of all records, and so is each event
+-- *Of a run*: the ledger has the losses of all records, each switch has a queue for each of its ports 0 to 8, and so is each
+-- event
 abbrev pub world_at : Policy → Topology → (before : List Event) → World
 world_at policy topology before = world_after topology (opened policy topology) before
 
 pub record AreTrueLosses (policy : Policy) (topology : Topology) (events : List Event) : Type 0 where
   pub ledger : (before after : List Event) → events ≡ before ++ after
       → (world_at policy topology before).notes.entries ≡ losses_of (records_of (run policy topology before))
+  pub rooms : (before after : List Event) → events ≡ before ++ after → (node : NodeId) → rooms_at (world_at policy topology before) node ≡ 9
   pub each : (before after : List Event) (event : Event) → events ≡ before ++ event ∷ after
       → EntersLosses topology (world_at policy topology before) event
 

@@ -56,6 +56,14 @@ has_queue_in site (Down node) = true
 has_queue_in site (Up node) = nat_lt control_port.0 (length site.switch.crossbar.queues)
 has_queue_in site (Out node port) = nat_lt port.0 (length site.switch.crossbar.queues)
 
+-- how many ports the switch of a node has a queue for: in a run nine, 0 to 8, as where there is no such node
+abbrev pub rooms_in : Option Site → ℕ
+rooms_in None = 9
+rooms_in (Some site) = length site.switch.crossbar.queues
+
+abbrev pub rooms_at : World → NodeId → ℕ
+rooms_at w node = rooms_in (site_at w node)
+
 abbrev pub has_queue : World → Place → Bool
 has_queue w place = option_map_or (λ site. has_queue_in site place) (site_at w (place_node place)) false
 
