@@ -1,7 +1,7 @@
 pub mod Fronts
 pub mod Links
-mod Rules
-mod Controllers
+pub mod Rules
+pub mod Controllers
 mod Switches
-mod Queues
+pub mod Queues
 pub mod Worlds

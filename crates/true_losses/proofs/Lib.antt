@@ -1,6 +1,15 @@
 pub mod Notes
+pub mod Sent
+pub mod Cutting
+pub mod Chains
+pub mod Steps
 pub mod Walk
 pub mod Arriving
 pub mod Switches
+pub mod Branches
+pub mod Sites
+pub mod Switched
+pub mod Held
+pub mod Puts
 pub mod Worlds
 pub mod Runs

@@ -1,6 +1,6 @@
 -- along a run each event enters its losses, and the ledger has those of all records
 
-use Rattle.std.proofs.Common.{◌≡◌, ℕ, suc, List, [], ◌∷◌, ◌++◌, append-nil, append_assoc, refl, sym, ◌∙◌, ap, subst}
+use Rattle.std.proofs.Common.{◌≡◌, ℕ, suc, true, length, map, flat_map, Option, None, Some, List, [], ◌∷◌, ◌++◌, append-nil, append_assoc, refl, sym, ◌∙◌, ap, subst}
 use Rattle.std.proofs.lemmas.List.Concat.{flat_map-cons}
 use Rattle.atm_cells.specs.declared.cell.Cell.{Cell}
 use Rattle.link_model.specs.declared.entries.Entry.{Entry}
@@ -10,22 +10,42 @@ use Rattle.port_model.specs.Setup.{Policy}
 use Rattle.world_model.specs.declared.event.Event.{Event}
 use Rattle.world_model.specs.declared.event.Event.TheVariants.{Inject, Carry, Lose, Tick, TickSwitch, Restart, RestartSwitch, Forge, Route}
 use Rattle.world_model.specs.Topology.{Topology, Node}
-use Rattle.world_model.specs.World.{World, empty_world, with_opened, opens_each, opened}
-use Rattle.world_model.specs.Places.{queue_at}
+use Rattle.world_model.specs.World.{World, Site, site_key, site_at, opened_site, empty_world, with_opened, opens_each, opened}
+use Rattle.world_model.specs.Places.{place_node, queue_at, with_queue, with_queue_of}
 use Rattle.world_model.specs.Run.{put_away, next, worlds_from, world_after, records_of}
-use Rattle.true_losses.specs.Law.{carried_from, lost_on_way, EntersLosses, world_at, LossesAreTrue}
-use Rattle.true_losses.proofs.Notes.{losses_more, Counts}
-use Rattle.true_losses.proofs.Worlds.{carried_alike, event_told}
+use Rattle.true_losses.specs.Way.{carried_from, lost_on_way}
+use Rattle.true_losses.specs.Sent.{rooms_in, rooms_at, frame_of, cells_of, entry_of, put_in, has_queue, queue_for, switched_head, switched}
+use Rattle.true_losses.specs.Law.{EntersLosses, world_at, LossesAreTrue}
+use Rattle.true_losses.proofs.Notes.{losses_more}
+use Rattle.true_losses.specs.Cut.{Held, same_held, fed_at, fed, is_given_up}
+use Rattle.true_losses.proofs.Worlds.{Came, carried_alike, switched_alike, fed_alike, event_told}
+use Rattle.std.specs.Option.{option_map_or}
+use Rattle.std.specs.Prelude.{not, nat_eq, ◌&&◌, Bool, false, if◌then◌else◌}
+use Rattle.net_types.specs.declared.node.NodeId.{NodeId}
+use Rattle.keyed_lists.specs.Keyed.{at}
+use Rattle.port_facts.proofs.Keyed.{on_both}
+use Rattle.telling_model.specs.Passing.{left, left_of, source_of}
+use Rattle.net_types.specs.declared.node.Place.{Place}
+use Rattle.world_model.specs.Step.{acts}
+use Rattle.std.proofs.Math.Seq.{drop-append_seam}
+use Rattle.std.specs.Prelude.{drop}
 
 module _ (t : Topology) where
-  -- the losses of an event are of what there is, and not of what was recorded
+  -- the losses of an event, and what it switches, are of what there is, and not of what was recorded
+  sites_away : (w : World) (place : Place) (cells : List Cell) → (with_queue (put_away w) place cells).sites ≡ (with_queue w place cells).sites
+  sites_away w place cells = by (site_at w (place_node place))
+    where
+      by : (o : Option Site) → (with_queue_of (put_away w) place cells o).sites ≡ (with_queue_of w place cells o).sites
+      by None = refl
+      by (Some site) = refl
+
   away_same : (w : World) (event : Event) → lost_on_way t (put_away w) event ≡ lost_on_way t w event
   away_same w (Inject node octets) = refl
   away_same w (Carry place) = by (queue_at w place)
     where
       by : (cells : List Cell) → carried_from t (put_away w) place cells ≡ carried_from t w place cells
       by [] = refl
-      by (cell ∷ cells) = carried_alike t (put_away w) w cell (record { input = λ node port. refl; taker = λ node. refl }) place
+      by (cell ∷ cells) = carried_alike t (with_queue (put_away w) place cells) (with_queue w place cells) (sites_away w place cells) cell place
   away_same w (Lose place) = refl
   away_same w (Tick node) = refl
   away_same w (TickSwitch node) = refl
@@ -34,12 +54,78 @@ module _ (t : Topology) where
   away_same w (Forge place channel payload) = refl
   away_same w (Route node change) = refl
 
+  switched_same : (w : World) (event : Event) (to : Place) → switched t (put_away w) event to ≡ switched t w event to
+  switched_same w (Inject node octets) to = refl
+  switched_same w (Carry place) to = by (queue_at w place)
+    where
+      by : (cells : List Cell) → switched_head t (put_away w) place cells to ≡ switched_head t w place cells to
+      by [] = refl
+      by (cell ∷ cells) = switched_alike t (with_queue (put_away w) place cells) (with_queue w place cells) (sites_away w place cells) cell place to
+  switched_same w (Lose place) to = refl
+  switched_same w (Tick node) to = refl
+  switched_same w (TickSwitch node) to = refl
+  switched_same w (Restart node) to = refl
+  switched_same w (RestartSwitch node) to = refl
+  switched_same w (Forge place channel payload) to = refl
+  switched_same w (Route node change) to = refl
+
+  queue_same : (w : World) (event : Event) → queue_for t (put_away w) event ≡ queue_for t w event
+  queue_same w (Inject node octets) = refl
+  queue_same w (Carry place) = refl
+  queue_same w (Lose place) = refl
+  queue_same w (Tick node) = refl
+  queue_same w (TickSwitch node) = refl
+  queue_same w (Restart node) = refl
+  queue_same w (RestartSwitch node) = refl
+  queue_same w (Forge place channel payload) = refl
+  queue_same w (Route node change) = refl
+
+  fed_same : (w : World) (event : Event) → fed t (put_away w) event ≡ fed t w event
+  fed_same w (Inject node octets) = refl
+  fed_same w (Carry place) = by (queue_at w place)
+    where
+      by : (cells : List Cell) → fed_at t (put_away w) place cells ≡ fed_at t w place cells
+      by [] = refl
+      by (cell ∷ cells) = fed_alike t (with_queue (put_away w) place cells) (with_queue w place cells) (sites_away w place cells) cell place
+  fed_same w (Lose place) = refl
+  fed_same w (Tick node) = refl
+  fed_same w (TickSwitch node) = refl
+  fed_same w (Restart node) = refl
+  fed_same w (RestartSwitch node) = refl
+  fed_same w (Forge place channel payload) = refl
+  fed_same w (Route node change) = refl
+
+  left_same : (w : World) (source : Option Place) (place : Place) → left_of (put_away w) source place ≡ left_of w source place
+  left_same w None place = refl
+  left_same w (Some source) place = refl
+
   -- *Each event*
-  enters : (w : World) (event : Event) → EntersLosses t w event (next t w event)
-  enters w event =
-      let h : Counts w.notes.entries (lost_on_way t (put_away w) event) (next t w event).notes =
-      event_told t w.notes.entries (put_away w) (record { entered = sym (append-nil w.notes.entries); on_way = refl }) event in
-      record { entered = h.entered; on_way = h.on_way ∙ away_same w event }
+  module _ (w : World) (event : Event) where
+    came : Came w.notes.entries (lost_on_way t (put_away w) event) (put_away w) (source_of event) (acts t (put_away w) event) (switched t (put_away w) event) (queue_for t (put_away w) event) (fed t (put_away w) event)
+    came = event_told t w.notes.entries (put_away w) (record { counts = record { entered = sym (append-nil w.notes.entries); on_way = refl }; uncut = refl }) event
+
+    put_there : (place : Place) → has_queue w place ≡ true
+        → queue_at (next t w event) place ≡ left w event place ++ (switched t w event place ++ put_in (queue_for t w event) place (flat_map cells_of came.sends.sendings))
+    put_there place there = came.sends.cells place there
+        ∙ ap (λ (waiting : List Cell). waiting ++ (switched t (put_away w) event place ++ put_in (queue_for t (put_away w) event) place (flat_map cells_of came.sends.sendings))) (left_same w (source_of event) place)
+        ∙ ap (λ (cells : List Cell). left w event place ++ (cells ++ put_in (queue_for t (put_away w) event) place (flat_map cells_of came.sends.sendings))) (switched_same w event place)
+        ∙ ap (λ (queue : Option Place). left w event place ++ (switched t w event place ++ put_in queue place (flat_map cells_of came.sends.sendings))) (queue_same w event)
+
+    enters : EntersLosses t w event
+    enters = record {
+      entered = came.sends.counts.entered;
+      sendings = came.sends.sendings;
+      sent = record {
+        frames = ap (drop (length w.notes.frames)) came.sends.frames ∙ drop-append_seam w.notes.frames (map frame_of came.sends.sendings);
+        nowhere = λ none. came.nowhere (queue_same w event ∙ none);
+        cells = λ place there. ap (drop (length (left w event place))) (put_there place there)
+            ∙ drop-append_seam (left w event place) (switched t w event place ++ put_in (queue_for t w event) place (flat_map cells_of came.sends.sendings));
+      };
+      cuts = came.cuts.cuts;
+      are_cut = λ held. came.cuts.each held ∙ ap {B = ℕ} (λ (o : Option Held). if not (option_map_or (same_held held) o false) && is_given_up (site_at w held.node) (site_at (next t w event) held.node) held.holder then 1 else 0) (fed_same w event);
+      cut = came.cuts.entries;
+      on_way = came.sends.counts.on_way ∙ ap (λ (lost : List Entry). lost ++ flat_map entry_of came.sends.sendings) (away_same w event);
+    }
 
   -- *The ledger*: all that the records tell
   records_more : (w : World) (worlds : List World) → records_of (w ∷ worlds) ≡ w.notes.records ++ records_of worlds
@@ -63,8 +149,28 @@ module _ (t : Topology) where
   opening_has : (policy : Policy) → (opened policy t).notes.entries ≡ [] ++ losses_of (opened policy t).notes.records
   opening_has policy = subst (λ (notes : _). notes.entries ≡ losses_of notes.records) (sym (opens_empty policy empty_world 1 t.nodes)) refl
 
+  -- *Each switch has nine queues*
+  rooms_stay : (w : World) (events : List Event) (node : NodeId) → rooms_at (world_after t w events) node ≡ rooms_at w node
+  rooms_stay w [] node = refl
+  rooms_stay w (event ∷ events) node = rooms_stay (next t w event) events node ∙ (came w event).rooms node
+
+  joined : (k : ℕ) (sites : List Site) (site : Site) → rooms_in (at site_key k sites) ≡ 9 → length site.switch.crossbar.queues ≡ 9 → rooms_in (at site_key k (sites ++ site ∷ [])) ≡ 9
+  joined k [] site all nine = on_both (λ (o : Option Site). rooms_in o ≡ 9) (nat_eq (site_key site) k) (Some site) None nine refl
+  joined k (other ∷ sites) site all nine = by (nat_eq (site_key other) k) all (λ rest. joined k sites site rest nine)
+    where
+      by : (b : Bool) → rooms_in (if b then Some other else at site_key k sites) ≡ 9 → (rooms_in (at site_key k sites) ≡ 9 → rooms_in (at site_key k (sites ++ site ∷ [])) ≡ 9)
+          → rooms_in (if b then Some other else at site_key k (sites ++ site ∷ [])) ≡ 9
+      by true all more = all
+      by false all more = more all
+
+  opens_nine : (policy : Policy) (w : World) (place : ℕ) (nodes : List Node) (node : NodeId) → rooms_at w node ≡ 9 → rooms_at (opens_each policy t w place nodes) node ≡ 9
+  opens_nine policy w place [] node all = all
+  opens_nine policy w place (one ∷ nodes) node all = opens_nine policy (with_opened policy t w place one) (suc place) nodes node
+      (joined node.0 w.sites (opened_site policy t (record { 0 = place }) one w.numbers) all refl)
+
 pub losses_are_true : LossesAreTrue
 losses_are_true policy topology events = record {
   ledger = λ before after split. has_all topology [] (opened policy topology) before (opening_has topology policy);
+  rooms = λ before after split node. rooms_stay topology (opened policy topology) before node ∙ opens_nine topology policy empty_world 1 topology.nodes node refl;
   each = λ before after event split. enters topology (world_at policy topology before) event;
 }

@@ -1,6 +1,6 @@
--- no rule of a switch enters a loss of a cell on its way, but that by which a cell comes
+-- the rules of a switch send frames, and enter no loss of a cell on its way, but that by which a cell comes
 
-use Rattle.std.proofs.Common.{ℕ, suc, ◌==◌, ◌&&◌, Bool, true, false, List, [], ◌∷◌, length, Option, None, Some, refl}
+use Rattle.std.proofs.Common.{◌≡◌, ◌<◌, ◌++◌, ◌∙◌, ap, sym, subst, append-nil, append_assoc, filter, slice_set, slice_index_or, ℕ, suc, ◌==◌, ◌&&◌, Bool, true, false, List, [], ◌∷◌, length, Option, None, Some, refl}
 use Rattle.std.specs.Prelude.{nat_lt, nat_le, Result, Ok, Err}
 use Rattle.std.specs.FinMap.{get, keys}
 use Rattle.net_types.specs.declared.node.PortNo.{PortNo}
@@ -26,11 +26,11 @@ use Rattle.crossbar_model.specs.Crossbar.{cut_by_move}
 use Rattle.link_model.specs.declared.record.Record.TheVariants.{Bad, Loss}
 use Rattle.link_model.specs.declared.record.Layer.TheVariants.{Gsmp}
 use Rattle.link_model.specs.declared.record.Cause.TheVariants.{PoolFull, Cut}
-use Rattle.link_model.specs.Notes.{Journal, noted}
+use Rattle.link_model.specs.Notes.{Journal, losses_of, noted}
 use Rattle.refusal_names.specs.Names.{gsmp_refusal}
 use Rattle.frame_model.specs.Frame.{made, frame_cells}
 use Rattle.frame_model.specs.Reassembly.{Taken, taken}
-use Rattle.frame_model.specs.Sending.{Sent}
+use Rattle.frame_model.specs.Sending as frames
 use Rattle.port_facts.proofs.Keyed.{on_both}
 use Rattle.world_model.specs.declared.request.Asked.{Asked}
 use Rattle.world_model.specs.declared.request.Failure.{Failure}
@@ -39,36 +39,107 @@ use Rattle.world_model.specs.Failures.{failure_of}
 use Rattle.world_model.specs.Answers.{Handled, handled_by, handled_asked, handled}
 use Rattle.world_model.specs.Switch.{Switch, Acted, control_port, gsmp_channel, free_slots}
 use Rattle.world_model.specs.Conduct.{with_cells, says, answers, steps, replied, requested, told, read, after_test, ends_frame, gsmp_cell, tick_comes, restarted}
-use Rattle.std.specs.Prelude.{zero, ◌||◌, is_some, if◌then◌else◌}
+use Rattle.std.specs.Prelude.{zero, if◌then◌else◌}
 use Rattle.net_types.specs.declared.channel.Channel.{Channel}
 use Rattle.crossbar_model.specs.Crossbar.{input_of, route_on}
 use Rattle.link_model.specs.declared.entries.Entry.{Entry}
 use Rattle.link_model.specs.declared.record.Cause.TheVariants.{Unconnected}
 use Rattle.frame_model.specs.Frame.{Tested, tested}
 use Rattle.world_model.specs.Conduct.{sends, opened_frame, passed, is_gsmp, cell_comes}
-use Rattle.true_losses.specs.Law.{entry_unless, is_connected}
-use Rattle.true_losses.proofs.Notes.{Counts, noted_more, noted_other, made_kept, full_kept, cut_kept, taken_kept, tested_kept}
+use Rattle.true_losses.specs.Way.{is_on_way, at_chain, at_branch}
+use Rattle.true_losses.proofs.Notes.{IsElsewhere, Counts, noted_more, cut_kept, cut_frames, taken_told, taken_frames, tested_kept, tested_frames}
+use Rattle.true_losses.proofs.Sent.{Sends, sends_none, sends_still, sends_noted, sends_put, sends_full}
+use Rattle.world_model.proofs.Lists.{by_eq, index_set, index_here, length_set}
+use Rattle.link_model.specs.declared.frames.Frame.{Frame}
+use Rattle.link_model.specs.declared.record.Record.{Record}
+use Rattle.link_model.specs.declared.record.Cause.{Cause}
+use Rattle.frame_model.specs.Reassembly.{cut}
+use Rattle.crossbar_model.specs.Crossbar.{on_channel_of, forwarded, switched_on, switched}
+use Rattle.world_model.specs.Conduct.{switched_cell}
 
-module _ (e x : List Entry) where
+-- what the queue of a port gets
+abbrev pub put_on : PortNo → (i : ℕ) → List Cell → List Cell
+put_on port i cells = if port.0 == i then cells else []
+
+put_none : (port : PortNo) (i : ℕ) → put_on port i [] ≡ []
+put_none port i = on_both (λ (cells : List Cell). cells ≡ []) (port.0 == i) [] [] refl refl
+
+put_both : (port : PortNo) (i : ℕ) (cells more : List Cell) → put_on port i cells ++ put_on port i more ≡ put_on port i (cells ++ more)
+put_both port i cells more = by (port.0 == i)
+  where
+    by : (b : Bool) → (if b then cells else []) ++ (if b then more else []) ≡ (if b then cells ++ more else [])
+    by true = refl
+    by false = refl
+
+-- *Frames were sent* to a port, and the queues have grown by those that were put, behind a cell that went through
+pub record Grown (q : List (List Cell)) (through : ℕ → List Cell) (port : PortNo) (queues : List (List Cell)) (cells : List Cell) : Type 0 where
+  pub rooms : length queues ≡ length q
+  pub each : (i : ℕ) → i < length q → slice_index_or queues i [] ≡ slice_index_or q i [] ++ (through i ++ put_on port i cells)
+
+abbrev pub nothing : ℕ → List Cell
+nothing i = []
+
+abbrev pub Holds : (q : List (List Cell)) → PortNo → Acted → (cells : List Cell) → Type 0
+Holds q port a cells = Grown q nothing port a.switch.crossbar.queues cells
+
+abbrev pub Sent : (e x : List Entry) → (f : List Frame) → (q : List (List Cell)) → PortNo → Acted → Type 0
+Sent e x f q port a = Sends e x f a.notes (Holds q port a)
+
+as_they_were : (q : List (List Cell)) (port : PortNo) → Grown q nothing port q []
+as_they_were q port = record {
+  rooms = refl;
+  each = λ i low. sym (append-nil (slice_index_or q i [])) ∙ ap (λ (cells : List Cell). slice_index_or q i [] ++ cells) (sym (put_none port i));
+}
+
+-- cells are set behind those of a queue
+set_each : (queues : List (List Cell)) (port : PortNo) (more : List Cell) (i : ℕ) → i < length queues
+    → slice_index_or (slice_set queues port.0 (slice_index_or queues port.0 [] ++ more)) i [] ≡ slice_index_or queues i [] ++ put_on port i more
+set_each queues port more i low = by_eq port.0 i
+    (λ same t. subst (λ (k : ℕ). slice_index_or (slice_set queues port.0 (slice_index_or queues port.0 [] ++ more)) k [] ≡ slice_index_or queues k [] ++ put_on port k more) same
+    (index_here queues port.0 (slice_index_or queues port.0 [] ++ more) [] (subst (λ (k : ℕ). k < length queues) (sym same) low)
+    ∙ ap (λ (b : Bool). slice_index_or queues port.0 [] ++ (if b then more else [])) (sym (subst (λ (k : ℕ). (port.0 == k) ≡ true) (sym same) t))))
+    (λ away t. index_set queues port.0 i (slice_index_or queues port.0 [] ++ more) [] away
+    ∙ sym (append-nil (slice_index_or queues i [])) ∙ ap (λ (b : Bool). slice_index_or queues i [] ++ (if b then more else [])) (sym t))
+
+grown_more : (q queues : List (List Cell)) (port : PortNo) (cells more : List Cell) → Grown q nothing port queues cells
+    → Grown q nothing port (slice_set queues port.0 (slice_index_or queues port.0 [] ++ more)) (cells ++ more)
+grown_more q queues port cells more h = record {
+  rooms = length_set queues port.0 (slice_index_or queues port.0 [] ++ more) ∙ h.rooms;
+  each = λ i low. set_each queues port more i (subst (λ (n : ℕ). i < n) (sym h.rooms) low)
+      ∙ ap (λ (waiting : List Cell). waiting ++ put_on port i more) (h.each i low)
+      ∙ append_assoc (slice_index_or q i []) (put_on port i cells) (put_on port i more)
+      ∙ ap (λ (put : List Cell). slice_index_or q i [] ++ put) (put_both port i cells more);
+}
+
+-- *Sending*
+pub sends_kept : (e x : List Entry) (f : List Frame) (q : List (List Cell)) (port : PortNo) (a : Acted) (channel : Channel) (mark : Mark) (payload : List ℕ)
+    → Sent e x f q port a → Sent e x f q port (sends a port channel mark payload)
+sends_kept e x f q port a channel mark payload h = on_both (λ (s : frames.Sent Switch). Sends e x f s.notes (Grown q nothing port s.queues.crossbar.queues)) (nat_le (length cells) (free_slots a.switch))
+    (record { queues = with_cells a.switch port cells; notes = made a.notes mark payload })
+    (record { queues = a.switch; notes = noted (made a.notes mark payload) (Loss mark PoolFull) })
+    (sends_put e x f a.notes (Holds q port a) (Grown q nothing port (with_cells a.switch port cells).crossbar.queues) channel mark payload h
+    (λ more. grown_more q a.switch.crossbar.queues port more cells))
+    (sends_full e x f a.notes (Holds q port a) (Holds q port a) channel mark payload h (λ more is. is))
+  where
+    cells : List Cell
+    cells = frame_cells channel mark payload
+
+module _ (e x : List Entry) (f : List Frame) (q : List (List Cell)) where
   abbrev P : Acted → Type 0
-  P a = Counts e x a.notes
+  P a = Sent e x f q control_port a
 
-  -- *Sending*
-  pub sends_kept : (a : Acted) (port : PortNo) (channel : Channel) (mark : Mark) (payload : List ℕ) → P a → P (sends a port channel mark payload)
-  sends_kept a port channel mark payload h = on_both (λ (s : Sent Switch). Counts e x s.notes) (nat_le (length (frame_cells channel mark payload)) (free_slots a.switch))
-      (record { queues = with_cells a.switch port (frame_cells channel mark payload); notes = made a.notes mark payload })
-      (record { queues = a.switch; notes = noted (made a.notes mark payload) (Loss mark PoolFull) })
-      (made_kept e x a.notes mark payload h) (full_kept e x a.notes mark payload h)
+  noted_kept : (a : Acted) (item : Record) → IsElsewhere item → P a → P (record a { notes = noted a.notes item })
+  noted_kept a item other h = sends_noted e x f a.notes item (Holds q control_port a) other h
 
   says_kept : (a : Acted) (message : Message) → P a → P (says a message)
   says_kept a message h =
       let given : Acted = record a { numbers = with_control a.numbers } in
-      sends_kept given control_port gsmp_channel (next_control a.numbers) (octets_of message) h
+      sends_kept e x f q control_port given gsmp_channel (next_control a.numbers) (octets_of message) h
 
   -- *Branches end, or are moved*
   mark_kept : (a : Acted) (notes : Journal) (o : Option Mark) → P (record a { notes = notes }) → P (record a { notes = noted_cut notes o })
   mark_kept a notes None h = h
-  mark_kept a notes (Some mark) h = noted_other e x notes (Loss mark Cut) refl h
+  mark_kept a notes (Some mark) h = noted_kept (record a { notes = notes }) (Loss mark Cut) refl h
 
   ended_kept : (a : Acted) (c : Changed) (input : End) (o : Option Branch) → P (record a { notes = c.notes }) → P (record a { notes = (ended_by c input o).notes })
   ended_kept a c input None h = h
@@ -132,9 +203,9 @@ module _ (e x : List Entry) where
   -- *Frames and cells*
   read_kept : (a : Acted) (r : Result Message Fault) → P a → P (read a r)
   read_kept a (Ok m) h = told_kept a m h
-  read_kept a (Err fault) h = noted_other e x a.notes (Bad a.switch.node Gsmp (gsmp_refusal fault)) refl h
+  read_kept a (Err fault) h = noted_kept a (Bad a.switch.node Gsmp (gsmp_refusal fault)) refl h
 
-  test_kept : (a : Acted) (test : Tested) → Counts e x test.notes → P (after_test a test)
+  test_kept : (a : Acted) (test : Tested) → P (record a { notes = test.notes }) → P (after_test a test)
   test_kept a test h = by_payload test.payload
     where
       by_payload : (o : Option (List ℕ)) → P (opened_frame (record a { notes = test.notes }) o)
@@ -143,13 +214,9 @@ module _ (e x : List Entry) where
 
   ends_kept : (a : Acted) (cells : List Cell) → P a → P (ends_frame a cells)
   ends_kept a [] h = h
-  ends_kept a (cell ∷ cells) h = test_kept a (tested a.notes (cell ∷ cells)) (tested_kept e x a.notes (cell ∷ cells) h)
-
-  gsmp_kept : (a : Acted) (cell : Cell) → P a → P (gsmp_cell a cell)
-  gsmp_kept a cell h =
-      let t : Taken = taken a.notes (nat_lt 0 (free_slots a.switch)) a.switch.reassembly cell in
-      ends_kept (record a { switch = record a.switch { reassembly = t.reassembly }; notes = t.notes }) t.ended
-      (taken_kept e x a.notes (nat_lt 0 (free_slots a.switch)) a.switch.reassembly cell h)
+  ends_kept a (cell ∷ cells) h =
+      let test : Tested = tested a.notes (cell ∷ cells) in
+      test_kept a test (sends_still e x f a.notes test.notes (Holds q control_port a) (λ told. tested_kept e told a.notes (cell ∷ cells)) (tested_frames a.notes (cell ∷ cells)) h)
 
   -- *Ticks and restarts*
   pub tick_kept : (a : Acted) → P a → P (tick_comes a)
@@ -159,21 +226,69 @@ module _ (e x : List Entry) where
   restarted_kept a h =
       let c : Changed = record { branches = a.switch.crossbar.branches; notes = a.notes } in
       let ended : Changed = all_ended c (keys a.switch.crossbar.branches) in
-      cut_kept e x ended.notes a.switch.reassembly (all_kept a c (keys a.switch.crossbar.branches) h)
+      sends_still e x f ended.notes (cut ended.notes a.switch.reassembly) (Holds q control_port a) (λ told. cut_kept e told ended.notes a.switch.reassembly)
+      (cut_frames ended.notes a.switch.reassembly) (all_kept a c (keys a.switch.crossbar.branches) h)
 
-  -- *A cell that comes*: one of GSMP, and one whose input has a branch
-  routed_kept : (a : Acted) (port : PortNo) (cell : Cell) (b : Branch) (free : ℕ) → P a → P (passed a port cell (route_on (Some b) free))
-  routed_kept a port cell b zero h = noted_other e x a.notes (Loss cell.mark PoolFull) refl h
-  routed_kept a port cell b (suc free) h = h
+-- *A rule begins* with nothing sent
+pub begins_with : (e : List Entry) (a : Acted) (port : PortNo) → Counts e [] a.notes → Sent e [] a.notes.frames a.switch.crossbar.queues port a
+begins_with e a port h = sends_none e [] a.notes.frames a.notes (Holds a.switch.crossbar.queues port a) h refl (as_they_were a.switch.crossbar.queues port)
+
+-- *A cell that comes*: one of GSMP, and one whose input has a branch, which goes through where a slot is free
+abbrev pub through : Option Branch → (free : ℕ) → Cell → ℕ → List Cell
+through None free cell i = []
+through (Some branch) zero cell i = []
+through (Some branch) (suc free) cell i = put_on branch.output.port i (on_channel_of cell branch.output ∷ [])
+
+abbrev pub through_at : Acted → PortNo → Cell → ℕ → List Cell
+through_at a port cell i = if is_gsmp port cell.header.channel then [] else through (get a.switch.crossbar.branches (input_of port cell)) (free_slots a.switch) cell i
+
+abbrev pub entry_at : Acted → PortNo → Cell → List Entry
+entry_at a port cell =
+    if is_gsmp port cell.header.channel then at_chain a.switch.reassembly (free_slots a.switch) cell.mark
+    else at_branch (get a.switch.crossbar.branches (input_of port cell)) (free_slots a.switch) cell.mark
 
 module _ (e : List Entry) (a : Acted) (port : PortNo) (cell : Cell) (h : Counts e [] a.notes) where
-  branch_told : (free : ℕ) (o : Option Branch) → Counts e (entry_unless (is_some o) cell.mark Unconnected) (passed a port cell (route_on o free)).notes
-  branch_told free None = noted_more e [] a.notes (Loss cell.mark Unconnected) (record { mark = cell.mark; cause = Unconnected } ∷ []) refl h
-  branch_told free (Some b) = routed_kept e [] a port cell b free h
+  abbrev Came : (x : List Entry) → (went : ℕ → List Cell) → Acted → Type 0
+  Came x went b = Sends e x a.notes.frames b.notes (Grown a.switch.crossbar.queues went control_port b.switch.crossbar.queues)
 
-  channel_told : (o : Option Branch) (b : Bool) → Counts e (entry_unless (b || is_some o) cell.mark Unconnected) (if b then gsmp_cell a cell else passed a port cell (route_on o (free_slots a.switch))).notes
-  channel_told o true = gsmp_kept e [] a cell h
-  channel_told o false = branch_told (free_slots a.switch) o
+  abbrev q : List (List Cell)
+  q = a.switch.crossbar.queues
 
-  pub cell_told : Counts e (entry_unless (is_connected a.switch port cell) cell.mark Unconnected) (cell_comes a port cell).notes
-  cell_told = channel_told (get a.switch.crossbar.branches (input_of port cell)) (is_gsmp port cell.header.channel)
+  gsmp_told : Came (at_chain a.switch.reassembly (free_slots a.switch) cell.mark) nothing (gsmp_cell a cell)
+  gsmp_told =
+      let has_slot : Bool = nat_lt 0 (free_slots a.switch) in
+      let told : List Entry = at_chain a.switch.reassembly (free_slots a.switch) cell.mark in
+      let t : Taken = taken a.notes has_slot a.switch.reassembly cell in
+      let b : Acted = record a { switch = record a.switch { reassembly = t.reassembly }; notes = t.notes } in
+      ends_kept e told a.notes.frames q b t.ended
+      (sends_none e told a.notes.frames t.notes (Holds q control_port a) (taken_told e a.notes has_slot a.switch.reassembly cell h) (taken_frames a.notes has_slot a.switch.reassembly cell) (as_they_were q control_port))
+
+  noted_told : (cause : Cause) → filter is_on_way (losses_of (Loss cell.mark cause ∷ [])) ≡ record { mark = cell.mark; cause = cause } ∷ []
+      → Came (record { mark = cell.mark; cause = cause } ∷ []) nothing (record a { notes = noted a.notes (Loss cell.mark cause) })
+  noted_told cause is = sends_none e (record { mark = cell.mark; cause = cause } ∷ []) a.notes.frames (noted a.notes (Loss cell.mark cause)) (Holds q control_port a)
+      (noted_more e [] a.notes (Loss cell.mark cause) (record { mark = cell.mark; cause = cause } ∷ []) is h) refl (as_they_were q control_port)
+
+  goes_through : (b : Branch) (free : ℕ) → Grown q (through (Some b) (suc free) cell) control_port (forwarded a.switch.crossbar (input_of port cell) b cell).queues []
+  goes_through b free = record {
+    rooms = length_set q b.output.port.0 (slice_index_or q b.output.port.0 [] ++ on_channel_of cell b.output ∷ []);
+    each = λ i low. set_each q b.output.port (on_channel_of cell b.output ∷ []) i low
+        ∙ ap (λ (cells : List Cell). slice_index_or q i [] ++ cells) (sym (append-nil (put_on b.output.port i (on_channel_of cell b.output ∷ [])))
+        ∙ ap (λ (cells : List Cell). put_on b.output.port i (on_channel_of cell b.output ∷ []) ++ cells) (sym (put_none control_port i)));
+  }
+
+  branch_told : (o : Option Branch) (free : ℕ) → get a.switch.crossbar.branches (input_of port cell) ≡ o → free_slots a.switch ≡ free
+      → Came (at_branch o free cell.mark) (through o free cell) (passed a port cell (route_on o free))
+  branch_told None free found is = noted_told Unconnected refl
+  branch_told (Some b) zero found is = noted_told PoolFull refl
+  branch_told (Some b) (suc free) found is = sends_none e [] a.notes.frames a.notes (Grown q (through (Some b) (suc free) cell) control_port (switched a.switch.crossbar (free_slots a.switch) port cell).queues)
+      h refl (subst (λ (o : Option Branch). Grown q (through (Some b) (suc free) cell) control_port (switched_on a.switch.crossbar (input_of port cell) o (free_slots a.switch) cell).queues []) (sym found)
+      (subst (λ (n : ℕ). Grown q (through (Some b) (suc free) cell) control_port (switched_on a.switch.crossbar (input_of port cell) (Some b) n cell).queues []) (sym is) (goes_through b free)))
+
+  channel_told : (b : Bool) → Came (if b then at_chain a.switch.reassembly (free_slots a.switch) cell.mark else at_branch (get a.switch.crossbar.branches (input_of port cell)) (free_slots a.switch) cell.mark)
+      (λ i. if b then [] else through (get a.switch.crossbar.branches (input_of port cell)) (free_slots a.switch) cell i)
+      (if b then gsmp_cell a cell else switched_cell a port cell)
+  channel_told true = gsmp_told
+  channel_told false = branch_told (get a.switch.crossbar.branches (input_of port cell)) (free_slots a.switch) refl refl
+
+  pub cell_told : Came (entry_at a port cell) (through_at a port cell) (cell_comes a port cell)
+  cell_told = channel_told (is_gsmp port cell.header.channel)

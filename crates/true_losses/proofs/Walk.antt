@@ -1,7 +1,7 @@
--- no rule of a controller enters a loss of a cell on its way, but that by which a cell comes
+-- the rules of a controller send frames, and enter no loss of a cell on its way, but that by which a cell comes
 
-use Rattle.std.proofs.Common.{◌≡◌, ℕ, true, List, length, flat_map, Option, None, Some, refl, if◌then◌else◌, fold}
-use Rattle.std.specs.Prelude.{◌==◌, nat_le, Result, Ok, Err}
+use Rattle.std.proofs.Common.{◌≡◌, ℕ, true, List, flat_map, Option, None, Some, refl, if◌then◌else◌, fold}
+use Rattle.std.specs.Prelude.{◌==◌, Result, Ok, Err}
 use Rattle.net_types.specs.declared.node.PortNo.{PortNo}
 use Rattle.net_types.specs.declared.channel.Channel.{Channel}
 use Rattle.net_types.specs.declared.channel.End.{End}
@@ -31,14 +31,11 @@ use Rattle.adjacency_table.specs.Side as sides
 use Rattle.adjacency_table.specs.Side.{is_estab, ticked}
 use Rattle.adjacency_table.specs.Greeting.{greeting_of, gsmp_answer}
 use Rattle.link_model.specs.declared.record.Record.{Record}
-use Rattle.link_model.specs.declared.record.Record.TheVariants.{Delivered, Dropped, Bad, Loss, Part}
-use Rattle.link_model.specs.declared.record.Cause.TheVariants.{PoolFull}
+use Rattle.link_model.specs.declared.record.Record.TheVariants.{Delivered, Dropped, Bad, Part}
 use Rattle.link_model.specs.declared.record.DropCause.TheVariants as drop_causes
 use Rattle.link_model.specs.declared.record.Layer.TheVariants as layers
 use Rattle.refusal_names.specs.Names.{ifmp_refusal}
-use Rattle.link_model.specs.Notes.{noted}
-use Rattle.frame_model.specs.Frame.{frame_cells, made, next_mark}
-use Rattle.frame_model.specs.Sending.{Sent}
+use Rattle.frame_model.specs.Frame.{next_mark}
 use Rattle.port_model.specs.Desk.{Desk, Standing, asked, withdrawn, is_led_home, message_at, last_transaction, empty_desk, sent_again}
 use Rattle.port_model.specs.declared.action.Action.{Action}
 use Rattle.port_model.specs.declared.action.Action.TheVariants as actions
@@ -56,10 +53,10 @@ use Rattle.port_facts.proofs.Keyed.{on_both}
 use Rattle.controller_facts.proofs.Lifetimes.{decoded_lives}
 use Rattle.causes.proofs.Noting.{AllowsNotes, AllowsBinding, IsCalmAction, Calm, hears_calm, ticks_calm, done_calm, used_calm, counts_calm, closes_calm, joined_calm, parted_calm, lent_calm, given_back_calm, resets_calm, restarts_calm}
 use Rattle.causes.proofs.Rules.{fold_kept, fold_each, tries_joins_kept}
-use Rattle.world_model.specs.Controller.{Controller, Acted, Linked, free_slots, linked_at, ports_of, with_linked, with_desk, note, chain_of, default_end, default_home}
-use Rattle.world_model.specs.Sending.{with_cells, sends, sends_control, says_gsmp}
+use Rattle.world_model.specs.Controller.{Acted, Linked, linked_at, ports_of, with_linked, with_desk, note, default_end, default_home}
+use Rattle.world_model.specs.Sending.{sends, sends_control, says_gsmp}
 use Rattle.world_model.specs.Asking.{sends_request, asks_next, asks, takes_back}
-use Rattle.world_model.specs.Resets.{cuts_of, cuts_label, cuts_default_of, cuts_default, cuts_gsmp, begins, with_work, closes_by, port_restarts_of, port_restarts, resets_gsmp, node_resets, node_restarts}
+use Rattle.world_model.specs.Resets.{cuts_default, cuts_gsmp, begins, with_work, closes_by, port_restarts_of, port_restarts, resets_gsmp, node_resets, node_restarts}
 use Rattle.world_model.specs.Performing.{does, does_in_estab, resets_of, performs, performs_in_estab, Rule, works, at_port}
 use Rattle.world_model.specs.Joins.{Join, join_of, parts, gives_back, releases_join, releases_input, released_inputs, resets_spent, releases, enters_grant, output_of, enters_label, tries_joins}
 use Rattle.world_model.specs.Changes.{changed_joins, takes_join_back, begins_change}
@@ -69,7 +66,9 @@ use Rattle.world_model.specs.Packets.{is_control, sends_next, goes_by, grant_by,
 use Rattle.world_model.specs.Cells.{ifmp_holds, counted_at}
 use Rattle.world_model.specs.Ticks.{sends_again, ticks_port, ticks_ports, ticks_by, ticks}
 use Rattle.link_model.specs.declared.entries.Entry.{Entry}
-use Rattle.true_losses.proofs.Notes.{IsOther, Counts, noted_other, made_kept, cut_kept, full_kept}
+use Rattle.keyed_lists.specs.Keyed.{at}
+use Rattle.true_losses.proofs.Notes.{IsOther}
+use Rattle.true_losses.proofs.Steps.{Base, Sent, Own, own_at, noted_kept, placed_kept, sends_kept, cut_label, cut_default, cut_gsmp}
 
 -- what a port notes is no loss
 port_notes : AllowsNotes IsOther
@@ -83,23 +82,14 @@ port_notes = record {
 binds : AllowsBinding IsOther
 binds at port label flow = refl
 
-module _ (e x : List Entry) where
+module _ (e x : List Entry) (base : Base) where
   abbrev P : Acted → Type 0
-  P a = Counts e x a.notes
-
-  pub noted_kept : (a : Acted) (item : Record) → IsOther item → P a → P (note a item)
-  noted_kept a item other h = noted_other e x a.notes item other h
+  P a = Sent e x base a
 
   -- *Sending*
-  pub sends_kept : (a : Acted) (channel : Channel) (mark : Mark) (payload : List ℕ) → P a → P (sends a channel mark payload)
-  sends_kept a channel mark payload h = on_both (λ (s : Sent Controller). P (record a { controller = s.queues; notes = s.notes })) (nat_le (length (frame_cells channel mark payload)) (free_slots a.controller))
-      (record { queues = with_cells a.controller (frame_cells channel mark payload); notes = made a.notes mark payload })
-      (record { queues = a.controller; notes = noted (made a.notes mark payload) (Loss mark PoolFull) })
-      (made_kept e x a.notes mark payload h) (full_kept e x a.notes mark payload h)
-
   control_kept : (a : Acted) (channel : Channel) (payload : List ℕ) → P a → P (sends_control a channel payload)
   control_kept a channel payload h = (let given : Acted = record a { numbers = with_control a.numbers } in
-      sends_kept given channel (next_control a.numbers) payload (h))
+      sends_kept e x base given channel (next_control a.numbers) payload (h))
 
   said_kept : (a : Acted) (message : Message) → P a → P (says_gsmp a message)
   said_kept a message h = control_kept a _ _ h
@@ -107,55 +97,37 @@ module _ (e x : List Entry) where
   request_kept : (a : Acted) (s : Standing) → P a → P (sends_request a s)
   request_kept a s h = said_kept a (message_at a.controller.desk s) h
 
-  -- *A chain is cut*
-  cut_label : (port : PortNo) (a : Acted) (label : ℕ) → P a → P (cuts_label port a label)
-  cut_label port a label h = by_found (linked_at a.controller port)
-    where
-      by_found : (o : Option Linked) → P (cuts_of a label o)
-      by_found None = h
-      by_found (Some linked) = cut_kept e x a.notes (chain_of linked.chains label) h
-
-  cut_default : (a : Acted) (port : PortNo) → P a → P (cuts_default a port)
-  cut_default a port h = by_found (linked_at a.controller port)
-    where
-      by_found : (o : Option Linked) → P (cuts_default_of a o)
-      by_found None = h
-      by_found (Some linked) = cut_kept e x a.notes linked.reassembly h
-
-  cut_gsmp : (a : Acted) → P a → P (cuts_gsmp a)
-  cut_gsmp a h = cut_kept e x a.notes a.controller.reassembly h
-
   pub desk_kept : (a : Acted) (desk : Desk) → P a → P (with_desk a desk)
   desk_kept a desk h = h
 
   -- *A port at work, put back*
-  work_kept : (a : Acted) (linked : Linked) (w : Work) → P a → P (with_work a linked w)
-  work_kept a linked w h = h
+  work_kept : (a : Acted) (linked : Linked) (w : Work) → Own a linked → P a → P (with_work a linked w)
+  work_kept a linked w own h = placed_kept e x base (record a { numbers = record a.numbers { instances = w.instances } }) linked w.port own h
 
   -- *Node reset*
   closes_kept : (port : PortNo) (a : Acted) (action : Action) → IsCalmAction IsOther action → P a → P (closes_by port a action)
   closes_kept port a (actions.Say message) calm h = h
   closes_kept port a (actions.Ask request needed) calm h = h
-  closes_kept port a (actions.Note item) calm h = noted_kept a item calm h
-  closes_kept port a (actions.CutChain label) calm h = cut_label port a label h
+  closes_kept port a (actions.Note item) calm h = noted_kept e x base a item calm h
+  closes_kept port a (actions.CutChain label) calm h = cut_label e x base port a label h
   closes_kept port a (actions.TakeBack input output) calm h = h
   closes_kept port a (actions.Withdraw input) calm h = h
   closes_kept port a actions.Reset calm h = h
 
-  restarts_of_kept : (a : Acted) (o : Option Linked) → P a → P (port_restarts_of a o)
-  restarts_of_kept a None h = h
-  restarts_of_kept a (Some linked) h =
+  restarts_of_kept : (a : Acted) (o : Option Linked) → ((linked : Linked) → o ≡ Some linked → Own a linked) → P a → P (port_restarts_of a o)
+  restarts_of_kept a None own h = h
+  restarts_of_kept a (Some linked) own h =
       let w : Work = restarts linked.setup (begins a linked) in
-      fold_each P (IsCalmAction IsOther) (closes_by linked.setup.port) (closes_kept linked.setup.port) w.actions (restarts_calm IsOther port_notes linked.setup (begins a linked) tt) (with_work a linked w) (work_kept a linked w h)
+      fold_each P (IsCalmAction IsOther) (closes_by linked.setup.port) (closes_kept linked.setup.port) w.actions (restarts_calm IsOther port_notes linked.setup (begins a linked) tt) (with_work a linked w) (work_kept a linked w (own linked refl) h)
 
   restarts_kept : (a : Acted) (port : PortNo) → P a → P (port_restarts a port)
-  restarts_kept a port h = restarts_of_kept a (linked_at a.controller port) h
+  restarts_kept a port h = restarts_of_kept a (linked_at a.controller port) (own_at a port) h
 
   pub node_kept : (a : Acted) → P a → P (node_resets a)
   node_kept a h = fold_kept P port_restarts restarts_kept (ports_of a.controller) (resets_gsmp a) (h)
 
   pub node_restarts_kept : (a : Acted) → P a → P (node_restarts a)
-  node_restarts_kept a h = fold_kept P cuts_default cut_default (ports_of a.controller) (cuts_gsmp (node_resets a)) (cut_gsmp (node_resets a) (node_kept a h))
+  node_restarts_kept a h = fold_kept P cuts_default (cut_default e x base) (ports_of a.controller) (cuts_gsmp (node_resets a)) (cut_gsmp e x base (node_resets a) (node_kept a h))
 
   -- *Asking*
   asks_kept : (a : Acted) (request : Request) → P a → P (asks a request)
@@ -173,8 +145,8 @@ module _ (e x : List Entry) where
   does_kept : (port : PortNo) (a : Acted) (action : Action) → IsCalmAction IsOther action → P a → P (does port a action)
   does_kept port a (actions.Say message) calm h = control_kept a _ _ h
   does_kept port a (actions.Ask request needed) calm h = asks_kept a request h
-  does_kept port a (actions.Note item) calm h = noted_kept a item calm h
-  does_kept port a (actions.CutChain label) calm h = cut_label port a label h
+  does_kept port a (actions.Note item) calm h = noted_kept e x base a item calm h
+  does_kept port a (actions.CutChain label) calm h = cut_label e x base port a label h
   does_kept port a (actions.TakeBack input output) calm h = takes_back_kept a input output h
   does_kept port a (actions.Withdraw input) calm h = desk_kept a (withdrawn a.controller.desk input) h
   does_kept port a actions.Reset calm h = h
@@ -182,11 +154,11 @@ module _ (e x : List Entry) where
   does_in_kept : (port : PortNo) (a : Acted) (action : Action) → IsCalmAction IsOther action → P a → P (does_in_estab port a action)
   does_in_kept port a action calm h = on_both P (is_estab a.controller.adjacency.state) (does port a action) a (does_kept port a action calm h) h
 
-  resets_of_kept : (a : Acted) (o : Option Linked) → P a → P (resets_of a o)
-  resets_of_kept a None h = h
-  resets_of_kept a (Some linked) h =
+  resets_of_kept : (a : Acted) (o : Option Linked) → ((linked : Linked) → o ≡ Some linked → Own a linked) → P a → P (resets_of a o)
+  resets_of_kept a None own h = h
+  resets_of_kept a (Some linked) own h =
       let w : Work = resets linked.setup (begins a linked) in
-      fold_each P (IsCalmAction IsOther) (does_in_estab linked.setup.port) (does_in_kept linked.setup.port) w.actions (resets_calm IsOther port_notes linked.setup (begins a linked) tt) (with_work a linked w) (work_kept a linked w h)
+      fold_each P (IsCalmAction IsOther) (does_in_estab linked.setup.port) (does_in_kept linked.setup.port) w.actions (resets_calm IsOther port_notes linked.setup (begins a linked) tt) (with_work a linked w) (work_kept a linked w (own linked refl) h)
 
   performs_kept : (port : PortNo) (a : Acted) (action : Action) → IsCalmAction IsOther action → P a → P (performs port a action)
   performs_kept port a (actions.Say message) calm h = does_kept port a (actions.Say message) calm h
@@ -195,26 +167,26 @@ module _ (e x : List Entry) where
   performs_kept port a (actions.CutChain label) calm h = does_kept port a (actions.CutChain label) calm h
   performs_kept port a (actions.TakeBack input output) calm h = does_kept port a (actions.TakeBack input output) calm h
   performs_kept port a (actions.Withdraw input) calm h = does_kept port a (actions.Withdraw input) calm h
-  performs_kept port a actions.Reset calm h = resets_of_kept a (linked_at a.controller port) h
+  performs_kept port a actions.Reset calm h = resets_of_kept a (linked_at a.controller port) (own_at a port) h
 
   performs_in_kept : (port : PortNo) (a : Acted) (action : Action) → IsCalmAction IsOther action → P a → P (performs_in_estab port a action)
   performs_in_kept port a action calm h = on_both P (is_estab a.controller.adjacency.state) (performs port a action) a (performs_kept port a action calm h) h
 
   at_port_kept : (a : Acted) (port : PortNo) (rule : Rule) → ((linked : Linked) → Calm IsOther (rule linked.setup a.controller.desk (begins a linked))) → P a → P (at_port a port rule)
-  at_port_kept a port rule calm h = by_found (linked_at a.controller port)
+  at_port_kept a port rule calm h = by_found (linked_at a.controller port) (own_at a port)
     where
-      by_found : (o : Option Linked) → P (works a rule o)
-      by_found None = h
-      by_found (Some linked) =
+      by_found : (o : Option Linked) → ((linked : Linked) → o ≡ Some linked → Own a linked) → P (works a rule o)
+      by_found None own = h
+      by_found (Some linked) own =
           let w : Work = rule linked.setup a.controller.desk (begins a linked) in
-          fold_each P (IsCalmAction IsOther) (performs_in_estab linked.setup.port) (performs_in_kept linked.setup.port) w.actions (calm linked) (with_work a linked w) (work_kept a linked w h)
+          fold_each P (IsCalmAction IsOther) (performs_in_estab linked.setup.port) (performs_in_kept linked.setup.port) w.actions (calm linked) (with_work a linked w) (work_kept a linked w (own linked refl) h)
 
   -- *Joins*
   parts_kept : (a : Acted) (input : End) → P a → P (parts a input)
   parts_kept a input h =
       let item : Record = Part a.controller.node input.port (number_of_channel input.channel) in
       at_port_kept (note a item) input.port (λ setup desk w. port_joins.parted w (number_of_channel input.channel))
-      (λ linked. parted_calm IsOther port_notes (begins (note a item) linked) (number_of_channel input.channel) tt) (noted_kept a item refl h)
+      (λ linked. parted_calm IsOther port_notes (begins (note a item) linked) (number_of_channel input.channel) tt) (noted_kept e x base a item refl h)
 
   gives_back_kept : (a : Acted) (join : Join) → P a → P (gives_back a join)
   gives_back_kept a join h = at_port_kept a join.port (λ setup desk w. port_joins.given_back w join.grant) (λ linked. given_back_calm IsOther port_notes (begins a linked) join.grant tt) h
@@ -278,12 +250,12 @@ module _ (e x : List Entry) where
       by_request AllPorts = tells_kept a AllPorts (port_of AllPorts) h
 
   clears_port_kept : (a : Acted) (port : PortNo) → P a → P (clears_port a port)
-  clears_port_kept a port h = by_found (linked_at a.controller port)
+  clears_port_kept a port h = by_found (linked_at a.controller port) (own_at a port)
     where
-      by_found : (o : Option Linked) → P (clears_of a o)
-      by_found None = h
-      by_found (Some linked) = on_both P (may_clear a.controller linked) (with_linked a (record linked { port = cleared linked.port })) a
-          (h) h
+      by_found : (o : Option Linked) → ((linked : Linked) → o ≡ Some linked → Own a linked) → P (clears_of a o)
+      by_found None own = h
+      by_found (Some linked) own = on_both P (may_clear a.controller linked) (with_linked a (record linked { port = cleared linked.port })) a
+          (placed_kept e x base a linked (cleared linked.port) (own linked refl) h) h
 
   pub clears_kept : (a : Acted) → P a → P (clears a)
   clears_kept a h = fold_kept P clears_port clears_port_kept (ports_of a.controller) a h
@@ -304,16 +276,16 @@ module _ (e x : List Entry) where
   -- *Packets*
   next_kept : (a : Acted) (came : Mark) (channel : Channel) (payload : List ℕ) → P a → P (sends_next a came channel payload)
   next_kept a came channel payload h = on_both P (is_control came) (sends_control a channel payload) (sends a channel (next_mark came) payload)
-      (control_kept a channel payload h) (sends_kept a channel (next_mark came) payload h)
+      (control_kept a channel payload h) (sends_kept e x base a channel (next_mark came) payload h)
 
   goes_by_kept : (a : Acted) (came : Mark) (port : PortNo) (packet : List ℕ) (o : Option Grant) → P a → P (goes_by a came port packet o)
   goes_by_kept a came port packet None h = next_kept a came (default_home port).channel (default_payload packet) h
   goes_by_kept a came port packet (Some grant) h = next_kept a came (control_end port grant.label).channel (labelled_payload (kind_of grant.flow) packet) h
 
   forwarded_kept : (a : Acted) (came : Mark) (packet : List ℕ) (hop : Hop) → P a → P (forwarded a came packet hop)
-  forwarded_kept a came packet Here h = noted_kept a (Delivered a.controller.node came.packet packet) refl h
-  forwarded_kept a came packet NoRoute h = noted_kept a (Dropped a.controller.node came.packet drop_causes.NoRoute) refl h
-  forwarded_kept a came packet Expired h = noted_kept a (Dropped a.controller.node came.packet drop_causes.Expired) refl h
+  forwarded_kept a came packet Here h = noted_kept e x base a (Delivered a.controller.node came.packet packet) refl h
+  forwarded_kept a came packet NoRoute h = noted_kept e x base a (Dropped a.controller.node came.packet drop_causes.NoRoute) refl h
+  forwarded_kept a came packet Expired h = noted_kept e x base a (Dropped a.controller.node came.packet drop_causes.Expired) refl h
   forwarded_kept a came packet (On port) h = goes_by_kept a came port (onward packet) (grant_by a.controller port (onward packet)) h
 
   pub routes_kept : (a : Acted) (came : Mark) (packet : List ℕ) → P a → P (routes a came packet)
@@ -326,7 +298,7 @@ module _ (e x : List Entry) where
   counted_kept a port packet h = at_port_kept a port (λ setup desk w. counts setup desk w packet) (λ linked. counts_calm IsOther port_notes linked.setup a.controller.desk (begins a linked) packet tt) h
 
   pub heard_kept : (a : Acted) (port : PortNo) (packet octets : List ℕ) (r : Result IfmpMessage IfmpFault) → ifmp_decoded octets ≡ r → P a → P (ifmp_holds a port packet r)
-  heard_kept a port packet octets (Err fault) is h = noted_kept a (Bad a.controller.node layers.Ifmp (ifmp_refusal fault)) refl h
+  heard_kept a port packet octets (Err fault) is h = noted_kept e x base a (Bad a.controller.node layers.Ifmp (ifmp_refusal fault)) refl h
   heard_kept a port packet octets (Ok message) is h = at_port_kept a port (λ setup desk w. hears setup desk w (source_of packet) message)
       (λ linked. hears_calm IsOther port_notes binds linked.setup a.controller.desk (begins a linked) (source_of packet) message refl (decoded_lives octets message is) tt) h
 

@@ -1,1 +1,4 @@
+pub mod Way
+pub mod Sent
+pub mod Cut
 pub mod Law

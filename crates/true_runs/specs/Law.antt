@@ -84,8 +84,9 @@ pub record IsTrueRun (policy : Policy) (topology : Topology) (events : List Even
   -- the table of each node, by which fates are judged, is that of the topology, changed by a front of the changes that events
   -- told the node, also behind forged frames; each change that is taken is recorded in its event
   pub tables : AreToldTables policy topology events
-  -- the ledger has the losses that the records tell; those with the cause Lost, Unconnected or Unbound are the cells that the
-  -- event loses, or brings where nothing takes them, each once, also behind forged frames
+  -- the ledger has the losses that the records tell: those of the way are the cells that the event loses, or brings where nothing
+  -- takes them or no slot is free, and the frames that it makes and doesn't put; those that are Cut are the frames that it cuts,
+  -- each once, also behind forged frames
   pub losses : AreTrueLosses policy topology events
   -- before the first event that changes a route, each fate is the packet's journey over the routes of the topology
   pub journeys : (before after : List Event) → events ≡ before ++ after → ChangesNoRoute before
