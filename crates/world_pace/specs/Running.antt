@@ -12,7 +12,7 @@ use Rattle.world_model.specs.Conditions.{IsTopology}
 use Rattle.world_model.specs.Places.{places}
 use Rattle.world_model.specs.Topology as topologies
 use Rattle.world_model.specs.Topology.{Topology, peer_of}
-use Rattle.world_model.specs.World.{World, Site, redirects_at, switched_at}
+use Rattle.world_model.specs.World.{World, Site, redirects_at, site_key, switched_at}
 use Rattle.actor_pace.specs.Pace.{AreUpTo, AreAllUpTo, changes_of}
 
 abbrev pub numbered : ℕ → NodeId
