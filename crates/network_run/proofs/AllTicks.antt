@@ -11,7 +11,8 @@ use Rattle.world_model.specs.Run.{switch_tick_of, tick_of, tick_of_all}
 use Rattle.world_model.specs.Topology.{Topology}
 use Rattle.world_model.specs.World.{World, Site}
 use Rattle.world_pace.specs.Running.{AreRunning, IsRunning, numbered}
-use Rattle.network_run.proofs.Turns.{get_append, get_map, map_length}
+use Rattle.network_run.proofs.Turns.{map_length}
+use Rattle.world.proofs.Places.{get_append, get_map}
 
 -- whatever the notes are
 pub at_notes : (t : Topology) (w : World) (notes : Journal) → IsRunning t w → IsRunning t (record w { notes = notes })

@@ -2,3 +2,5 @@ pub mod Telling
 pub mod Turns
 pub mod AllTicks
 pub mod Repeated
+pub mod Empty
+pub mod Passed

@@ -1,7 +1,8 @@
 -- several rounds, one after the other
 
 use Rattle.std.proofs.Common.{◌≡◌, ℕ, zero, suc, ◌+◌, ◌≤◌, ◌<◌, List, [], ◌∷◌, ◌++◌, append_assoc, append-nil, length, length-append, refl, sym, ◌∙◌, ap, subst, arith}
-use Rattle.std.specs.Prelude.{map, Option, Result}
+use Rattle.std.specs.Prelude.{◌*◌, map, Option, Result}
+use Rattle.std.proofs.Math.Nat.{suc-mul}
 use Rattle.std.specs.List.{repeat}
 use Rattle.std.specs.Result.{IsErrAnd}
 use Rattle.lab_io.specs.Report.{IsPut, Writer}
@@ -21,7 +22,8 @@ use Rattle.telling_model.specs.Tale.{Tale, Telling, told}
 use Rattle.telling_model.proofs.Told.{after_append, line_octets, line_state, told_away}
 use Rattle.network_run.specs.Telling.{IsLeft, Puts, meter_behind}
 use Rattle.network_run.proofs.Telling.{put_then, stops_at}
-use Rattle.network_run.proofs.Turns.{behind_some, same_places}
+use Rattle.network_run.proofs.Turns.{behind_some}
+use Rattle.world.proofs.Places.{same_places}
 
 -- *Records that were put away* have no part in what follows
 away_after : (t : Topology) (w : World) (events : List Event) → put_away (world_after t (put_away w) events) ≡ put_away (world_after t w events)
@@ -141,3 +143,13 @@ module _ (t : Topology) (first w : World) (k : ℕ) (same : w ≡ put_away (worl
   rounds_meter before held meter was is =
       is ∙ (λ i. meter_behind (was i) t w (turns i)) ∙ meter_then _ t first w (repeat k (round first)) (round first) same
       ∙ meter_append before t first (repeat k (round first)) (round first) ∙ ap (meter_behind before t first) (repeat_next k (round first))
+
+-- *The rest* of them, behind some
+pub repeat_both : (k rest n : ℕ) (xs : List Event) → n ≡ k + rest → repeat k xs ++ repeat rest xs ≡ repeat n xs
+repeat_both zero rest n xs e = ap (λ (j : ℕ). repeat j xs) (omega (arith, e))
+repeat_both (suc k) rest zero xs e = absurd (omega (arith, e))
+repeat_both (suc k) rest (suc n) xs e = append_assoc xs (repeat k xs) (repeat rest xs) ∙ ap (λ (ys : List Event). xs ++ ys) (repeat_both k rest n xs (omega (arith, e)))
+
+pub repeat_length : (k : ℕ) (xs : List Event) → length (repeat k xs) ≡ k * length xs
+repeat_length zero xs = omega arith
+repeat_length (suc k) xs = omega (arith, length-append xs (repeat k xs), repeat_length k xs, suc-mul k (length xs))

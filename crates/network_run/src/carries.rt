@@ -19,10 +19,11 @@ use crate::teller::Teller;
 use crate::told::Told;
 use lab_io::Sink;
 use link_model::Notes;
-use world::{Meter, NodeController, World};
+use world::{Meter, NodeController, World, empty_carries_count};
 use world_model::Event;
 
-/// Carries a cell of each queue once, in the order of a round. Where it ends early, a front of what is
+/// Carries a cell of each queue once, in the order of a round. It goes from one queue that holds a cell to the
+/// next, and counts the carries of those between them, of which nothing is told. Where it ends early, a front of what is
 /// told was put, and the network can only be given up.
 pub fn round<C: NodeController, T: Teller<C>, K: Sink>(
     context: &Context<'_>,
@@ -47,14 +48,21 @@ pub fn round<C: NodeController, T: Teller<C>, K: Sink>(
     ensures meter { OnOk result (meter.new ≡ meter_behind meter.old topology (world_of C.seen world.old notes.old) (round_of (world_of C.seen world.old notes.old))) }
     ensures kept { OnErr result (IsMeterIn meter.old topology (world_of C.seen world.old notes.old) (round_of (world_of C.seen world.old notes.old)) meter.new) }
 {
-    for index in 0..world.places() {
-        let event = Event::Carry(world.place(index));
+    T::passes_over_empty_queues();
+    empty_carries_count();
+    let places = world.places();
+    let mut from = 0;
+    while let Some(found) = world.next_waiting(from) {
+        world.pass_over(found - from, meter);
+        let event = Event::Carry(world.place(found));
         step(context, &event, world, notes, told, sink, meter)?;
+        from = found + 1;
     }
+    world.pass_over(places - from, meter);
     Ok(())
 }
 
-/// So many rounds, one after the other. Where they end early, a front of what is told was put, and the
+/// So many rounds, one after the other. Once no queue holds a cell, those that are left are counted at once. Where they end early, a front of what is told was put, and the
 /// network can only be given up.
 pub fn rounds<C: NodeController, T: Teller<C>, K: Sink>(
     context: &Context<'_>,
@@ -79,8 +87,17 @@ pub fn rounds<C: NodeController, T: Teller<C>, K: Sink>(
     ensures faults { K.faults sink.new ≡ count_after (is_failed result) (K.faults sink.old) }
     ensures meter { OnOk result (meter.new ≡ meter_behind meter.old topology (world_of C.seen world.old notes.old) (repeat count (round_of (world_of C.seen world.old notes.old)))) }
 {
-    for _turn in 0..count {
-        round(context, world, notes, told, sink, meter)?;
+    T::passes_over_empty_queues();
+    empty_carries_count();
+    for turn in 0..count {
+        match world.next_waiting(0) {
+            None => {
+                let left = (count - turn) as usize * world.places();
+                world.pass_over(left, meter);
+                return Ok(());
+            }
+            Some(_) => round(context, world, notes, told, sink, meter)?,
+        }
     }
     Ok(())
 }

@@ -25,6 +25,7 @@ pub trait Teller<C: NodeController> {
     ghost use Rattle.world.specs.Network.{no_notes, world_of};
     ghost use Rattle.world.specs.Running.{Runs};
     ghost use Rattle.network_run.specs.Coming.{HasCome, IsComing};
+    ghost use Rattle.network_run.specs.Empty.{PassesOverEmptyQueues};
     ghost use Rattle.network_run.specs.Telling.{Puts, StaysWithin, is_failed};
 
     // What it knows from the events before, and what it tells.
@@ -36,6 +37,11 @@ pub trait Teller<C: NodeController> {
 
     // It knew this much, and has seen the world of the topology to which the event is to come.
     ghost awaits: { Self → State → Described → Universe → Comes → Type 0 };
+
+    /// Of a carry of an empty queue it tells nothing, and by it nothing becomes known. So it isn't asked for
+    /// one. This does nothing, and its contract is the statement.
+    fn passes_over_empty_queues()
+        ensures { PassesOverEmptyQueues tale };
 
     /// The network opens.
     fn open<K: Sink>(

@@ -1,6 +1,6 @@
 -- an actor of a node acts: the node is found by its number and is put back at its place
 
-use Rattle.std.proofs.Common.{◌≡◌, ℕ, zero, suc, ◌+◌, ◌-◌, ◌^◌, ◌≤◌, Bool, List, [], ◌∷◌, length, map, slice_get, slice_set, slice_index_or, Option, None, Some, refl, sym, ◌∙◌, ap, subst, arith, sum_by, if◌then◌else◌}
+use Rattle.std.proofs.Common.{◌≡◌, ℕ, zero, suc, ◌+◌, ◌-◌, ◌^◌, ◌≤◌, Bool, List, [], ◌∷◌, length, map, slice_get, slice_set, slice_index_or, Option, None, Some, refl, sym, ◌∙◌, ap, subst, arith, sum_by, true≢false, if◌then◌else◌}
 use Rattle.std.specs.Prelude.{drop, ◌↔◌}
 use Rattle.std.specs.Option.{option_map_or}
 use Rattle.std.proofs.lemmas.Option.{slice_get-get_or}
@@ -28,13 +28,16 @@ use Rattle.net_types.specs.declared.node.Place.TheVariants.{Down, Up, Out}
 use Rattle.atm_cells.specs.declared.cell.Cell.{Cell}
 use Rattle.world_model.specs.Places.{place_node, queue_in, queue_at, with_queue, with_queue_in, with_queue_of}
 use Rattle.world_model.specs.World.{World, Site, site_key, site_at, with_site, controller_acts, at_controller, switch_acts, at_switch, redirects_at, switched_at}
-use Rattle.world_model.proofs.Lists.{by_eq, at_key}
+use Rattle.world_model.proofs.Lists.{by_eq, at_key, at_put_other, at_put_same}
 use Rattle.world.specs.declared.site.Site.{Site as Node}
 use Rattle.world.specs.declared.world.World.{World as Network}
 use Rattle.world.specs.Network.{site_of, sites_of, world_of, no_notes, peers_in, IsNodeIn}
 use Rattle.world.specs.Nodes.{acted}
 use Rattle.world_pace.specs.Running.{AreNumbered}
 use Rattle.world.specs.Coming.{IsSteady, HasCome, HasTaken}
+use Rattle.world.specs.NodeSet.{IsInserted, is_in}
+use Rattle.world.specs.Waiting.{AreMarked, node_place}
+use Rattle.world.specs.declared.node_set.NodeSet.{NodeSet}
 
 -- *Lists*
 pub map_set : {A B : Type 0} (f : A → B) (xs : List A) (k : ℕ) (y : A) → map f (slice_set xs k y) ≡ slice_set (map f xs) k (f y)
@@ -60,6 +63,13 @@ set_same : {A : Type 0} (xs : List A) (k : ℕ) (x : A) → slice_get xs k ≡ S
 set_same [] k x e = refl
 set_same (z ∷ xs) zero x e = (let same : x ≡ z = cc in ap (λ y. y ∷ xs) same)
 set_same (z ∷ xs) (suc k) x e = ap (λ ys. z ∷ ys) (set_same xs k x e)
+
+index_popped : {A : Type 0} (qs : List (List A)) (a b : ℕ) → slice_index_or qs b [] ≡ [] → slice_index_or (slice_set qs a (drop 1 (slice_index_or qs a []))) b [] ≡ []
+index_popped [] a b e = refl
+index_popped (q ∷ qs) zero zero e = ap (drop 1) e
+index_popped (q ∷ qs) zero (suc b) e = e
+index_popped (q ∷ qs) (suc a) zero e = e
+index_popped (q ∷ qs) (suc a) (suc b) e = index_popped qs a b e
 
 pub sum_set : {A : Type 0} (f : A → ℕ) (xs : List A) (k : ℕ) (x y : A) → slice_get xs k ≡ Some x → sum_by f (slice_set xs k y) + f x ≡ sum_by f xs + f y
 sum_set f [] k x y e = absurd (cc e)
@@ -140,6 +150,61 @@ module _ {C : Type 0} (seen : C → Controller) where
       → here.switch.switched ≤ n.switched
   summand_switched n node here steady is e = omega (arith, steady.switched, one_of_sum switched_at (sites_of seen n.sites.items) (node.0 - 1) (site_of seen here) (map_get (site_of seen) n.sites.items (node.0 - 1) here (got n node here is e)))
 
+  -- *Marks*
+  key_here : (n : Network C) (node : NodeId) (here : Node C) → AreNumbered 1 (sites_of seen n.sites.items) → IsNodeIn n node → slice_get n.sites.items (node.0 - 1) ≡ Some here → site_key (site_of seen here) ≡ node.0
+  key_here n node here h is e =
+      omega (arith, is.0, key_numbered 1 (node.0 - 1) (sites_of seen n.sites.items) (site_of seen here) h (map_get (site_of seen) n.sites.items (node.0 - 1) here e))
+
+  abbrev cells_at : List Site → Place → List Cell
+  cells_at sites place = option_map_or (λ (site : Site). queue_in site place) (at site_key (place_node place).0 sites) []
+
+  marked_acted : (old new : Network C) (node : NodeId) (y : Site) → AreMarked seen old → sites_of seen new.sites.items ≡ put site_key y (sites_of seen old.sites.items) → site_key y ≡ node.0
+      → new.round.items ≡ old.round.items → IsInserted old.waiting new.waiting (node.0 - 1) → AreMarked seen new
+  marked_acted old new node y marked sites key round mark = λ i place e no.
+      by_eq (node_place place) (node.0 - 1)
+      (λ same t. absurd (true≢false (sym mark.here ∙ ap (is_in new.waiting) (sym same) ∙ no)))
+      (λ other t. ap (λ (ss : List Site). cells_at ss place) sites
+      ∙ ap (λ (o : Option Site). option_map_or (λ (site : Site). queue_in site place) o []) (at_put_other site_key y (place_node place).0 (sites_of seen old.sites.items) (λ k. other (ap (λ (m : ℕ). m - 1) (sym k ∙ key))))
+      ∙ marked i place (ap (λ (ps : List Place). slice_get ps i) (sym round) ∙ e) (sym (mark.others (node_place place) other) ∙ no))
+
+  pub marked_same : (old new : Network C) → AreMarked seen old → new.sites.items ≡ old.sites.items → new.round.items ≡ old.round.items → new.waiting ≡ old.waiting → AreMarked seen new
+  marked_same old new marked items round waiting = λ i place e no.
+      ap (λ (xs : List (Node C)). cells_at (sites_of seen xs) place) items
+      ∙ marked i place (ap (λ (ps : List Place). slice_get ps i) (sym round) ∙ e) (ap (λ (set : NodeSet). is_in set (node_place place)) (sym waiting) ∙ no)
+
+  -- a queue from which the first cell is taken
+  popped_empty : (s : Site) (place other : Place) → queue_in s other ≡ [] → queue_in (with_queue_in s place (drop 1 (queue_in s place))) other ≡ []
+  popped_empty s (Down node) (Down far) e = ap (drop 1) e
+  popped_empty s (Down node) (Up far) e = e
+  popped_empty s (Down node) (Out far port) e = e
+  popped_empty s (Up node) (Down far) e = e
+  popped_empty s (Up node) (Up far) e = index_popped s.switch.crossbar.queues 0 0 e
+  popped_empty s (Up node) (Out far port) e = index_popped s.switch.crossbar.queues 0 port.0 e
+  popped_empty s (Out node port) (Down far) e = e
+  popped_empty s (Out node port) (Up far) e = index_popped s.switch.crossbar.queues port.0 0 e
+  popped_empty s (Out node port) (Out far other) e = index_popped s.switch.crossbar.queues port.0 other.0 e
+
+  marked_taken : (old new : Network C) (place : Place) (s : Site) → AreMarked seen old → site_at (world_of seen old no_notes) (place_node place) ≡ Some s
+      → site_key (with_queue_in s place (drop 1 (queue_in s place))) ≡ site_key s
+      → sites_of seen new.sites.items ≡ put site_key (with_queue_in s place (drop 1 (queue_in s place))) (sites_of seen old.sites.items)
+      → new.round.items ≡ old.round.items → new.waiting ≡ old.waiting → AreMarked seen new
+  marked_taken old new place s marked here stays sites round waiting = λ i other e no.
+      let y : Site = with_queue_in s place (drop 1 (queue_in s place)) in
+      let was : List Site = sites_of seen old.sites.items in
+      let key : site_key y ≡ (place_node place).0 = stays ∙ at_key site_key (place_node place).0 was s here in
+      let empty : cells_at was other ≡ [] = marked i other (ap (λ (ps : List Place). slice_get ps i) (sym round) ∙ e) (ap (λ (set : NodeSet). is_in set (node_place other)) (sym waiting) ∙ no) in
+      by_eq (place_node other).0 (place_node place).0
+      (λ same t.
+      let there : at site_key (place_node other).0 was ≡ Some s = ap (λ (k : ℕ). at site_key k was) same ∙ here in
+      let none : queue_in s other ≡ [] = ap (λ (o : Option Site). option_map_or (λ (site : Site). queue_in site other) o []) (sym there) ∙ empty in
+      let found : at site_key (place_node other).0 (sites_of seen new.sites.items) ≡ Some y =
+      ap (λ (k : ℕ). at site_key k (sites_of seen new.sites.items)) (same ∙ sym key) ∙ ap (at site_key (site_key y)) sites
+      ∙ at_put_same site_key y was s (ap (λ (k : ℕ). at site_key k was) key ∙ here) in
+      ap (λ (o : Option Site). option_map_or (λ (site : Site). queue_in site other) o []) found ∙ popped_empty s place other none)
+      (λ away t. ap (λ (ss : List Site). cells_at ss other) sites
+      ∙ ap (λ (o : Option Site). option_map_or (λ (site : Site). queue_in site other) o []) (at_put_other site_key y (place_node other).0 was (λ k. away (sym k ∙ key)))
+      ∙ empty)
+
   -- *A controller acted*
   pub controller_came : (rule : controllers.Acted → controllers.Acted) (old new : Network C) (notes after : Journal) (node : NodeId) (here now : Node C) (before now_redirects : ℕ)
       → ((a : controllers.Acted) → (rule a).controller.node ≡ a.controller.node)
@@ -148,13 +213,16 @@ module _ {C : Type 0} (seen : C → Controller) where
       → acted (seen now.controller) after new.numbers ≡ rule (acted (seen here.controller) notes old.numbers) → AreDrawn old.numbers new.numbers
       → before ≡ redirects_of (seen here.controller) → now_redirects ≡ redirects_of (seen now.controller) → new.redirects + before ≡ old.redirects + now_redirects
       → new.round.items ≡ old.round.items → new.switched ≡ old.switched → new.sent ≡ old.sent → new.events ≡ old.events → new.tally ≡ old.tally
+      → new.starts ≡ old.starts → IsInserted old.waiting new.waiting (node.0 - 1)
       → HasCome seen old new after (at_controller (world_of seen old notes) node rule)
-  controller_came rule old new notes after node here now before now_redirects stays steady is at_here set switch peers acts drawn was will sum round switched sent events tally =
+  controller_came rule old new notes after node here now before now_redirects stays steady is at_here set switch peers acts drawn was will sum round switched sent events tally starts mark =
       let e = got old node here is at_here in
       let a : controllers.Acted = acted (seen here.controller) notes old.numbers in
       let y : Site = record (site_of seen here) { controller = (rule a).controller } in
       let same : site_of seen now ≡ y = λ i. record { controller = (acts i).controller; switch = switch i } in
-      let sites : sites_of seen new.sites.items ≡ put site_key y (sites_of seen old.sites.items) = ap (sites_of seen) set ∙ put_back old node here now y steady.nodes is e same (ap (λ (m : NodeId). m.0) (stays a)) in
+      let kept : site_key y ≡ site_key (site_of seen here) = ap (λ (m : NodeId). m.0) (stays a) in
+      let key : site_key y ≡ node.0 = kept ∙ key_here old node here steady.nodes is e in
+      let sites : sites_of seen new.sites.items ≡ put site_key y (sites_of seen old.sites.items) = ap (sites_of seen) set ∙ put_back old node here now y steady.nodes is e same kept in
       let sets : sites_of seen new.sites.items ≡ slice_set (sites_of seen old.sites.items) (node.0 - 1) (site_of seen now) = ap (sites_of seen) set ∙ map_set (site_of seen) old.sites.items (node.0 - 1) now in
       let at_map : slice_get (sites_of seen old.sites.items) (node.0 - 1) ≡ Some (site_of seen here) = map_get (site_of seen) old.sites.items (node.0 - 1) here e in
       record {
@@ -164,6 +232,8 @@ module _ {C : Type 0} (seen : C → Controller) where
         peers = ap (map peers_in) set ∙ map_set peers_in old.sites.items (node.0 - 1) now ∙ ap (slice_set (map peers_in old.sites.items) (node.0 - 1)) peers
             ∙ set_same (map peers_in old.sites.items) (node.0 - 1) here.peers (map_get peers_in old.sites.items (node.0 - 1) here e);
         round = round;
+        starts = starts;
+        marked = marked_acted old new node y steady.marked sites key round mark;
         redirects = omega (arith, was, will, sum, steady.redirects, ap (sum_by redirects_at) sets, sum_set redirects_at (sites_of seen old.sites.items) (node.0 - 1) (site_of seen here) (site_of seen now) at_map);
         switched = switched ∙ steady.switched ∙ omega (arith, ap (sum_by switched_at) sets, ap (λ (s : Switch). s.switched) switch, sum_set switched_at (sites_of seen old.sites.items) (node.0 - 1) (site_of seen here) (site_of seen now) at_map);
         few_redirects = omega (arith, sum, will);
@@ -177,8 +247,9 @@ module _ {C : Type 0} (seen : C → Controller) where
       → record { switch = now.switch; notes = after; numbers = new.numbers } ≡ rule (record { switch = here.switch; notes = notes; numbers = old.numbers }) → AreDrawn old.numbers new.numbers
       → before ≡ here.switch.switched → now_switched ≡ now.switch.switched → new.switched + before ≡ old.switched + now_switched → now_switched ≤ 2 ^ 64
       → new.round.items ≡ old.round.items → new.redirects ≡ old.redirects → new.sent ≡ old.sent → new.events ≡ old.events → new.tally ≡ old.tally
+      → new.starts ≡ old.starts → IsInserted old.waiting new.waiting (node.0 - 1)
       → HasCome seen old new after (at_switch (world_of seen old notes) node rule)
-  switch_came rule old new notes after node here now before now_switched steady is at_here set controller peers acts drawn was will sum few round redirects sent events tally =
+  switch_came rule old new notes after node here now before now_switched steady is at_here set controller peers acts drawn was will sum few round redirects sent events tally starts mark =
       let e = got old node here is at_here in
       let a : switches.Acted = record { switch = here.switch; notes = notes; numbers = old.numbers } in
       let y : Site = record (site_of seen here) { switch = (rule a).switch } in
@@ -193,6 +264,8 @@ module _ {C : Type 0} (seen : C → Controller) where
         peers = ap (map peers_in) set ∙ map_set peers_in old.sites.items (node.0 - 1) now ∙ ap (slice_set (map peers_in old.sites.items) (node.0 - 1)) peers
             ∙ set_same (map peers_in old.sites.items) (node.0 - 1) here.peers (map_get peers_in old.sites.items (node.0 - 1) here e);
         round = round;
+        starts = starts;
+        marked = marked_acted old new node y steady.marked sites (key_here old node here steady.nodes is e) round mark;
         redirects = redirects ∙ steady.redirects ∙ omega (arith, ap (sum_by redirects_at) sets, ap (λ (x : C). redirects_of (seen x)) controller, sum_set redirects_at (sites_of seen old.sites.items) (node.0 - 1) (site_of seen here) (site_of seen now) at_map);
         switched = omega (arith, was, will, sum, steady.switched, ap (sum_by switched_at) sets, sum_set switched_at (sites_of seen old.sites.items) (node.0 - 1) (site_of seen here) (site_of seen now) at_map);
         few_redirects = omega (arith, redirects);
@@ -207,8 +280,8 @@ module _ {C : Type 0} (seen : C → Controller) where
       → ((y : Site) (cells : List Cell) → (site_key (with_queue_in y place cells) ≡ site_key y) × ((redirects_at (with_queue_in y place cells) ≡ redirects_at y) × (switched_at (with_queue_in y place cells) ≡ switched_at y)))
       → head ≡ slice_get (queue_in (site_of seen here) place) 0
       → new.numbers ≡ old.numbers → new.round.items ≡ old.round.items → new.redirects ≡ old.redirects → new.switched ≡ old.switched → new.sent ≡ old.sent → new.events ≡ old.events → new.tally ≡ old.tally
-      → HasTaken seen old new place head
-  head_taken old new place here now head steady is at_here set peers same keeps first numbers round redirects switched sent events tally =
+      → new.starts ≡ old.starts → new.waiting ≡ old.waiting → HasTaken seen old new place head
+  head_taken old new place here now head steady is at_here set peers same keeps first numbers round redirects switched sent events tally starts waiting =
       let node : NodeId = place_node place in
       let e = got old node here is at_here in
       let s : Site = site_of seen here in
@@ -226,9 +299,12 @@ module _ {C : Type 0} (seen : C → Controller) where
         size = ap length set ∙ length_set old.sites.items (node.0 - 1) now;
         numbers = numbers;
         round = round;
+        starts = starts;
         redirects = redirects;
         switched = switched;
         steady = record {
+          few = omega (arith, steady.few, ap length set, length_set old.sites.items (node.0 - 1) now);
+          marked = marked_taken old new place s steady.marked (found old no_notes node here steady.nodes is e) k.0 sites round waiting;
           nodes = subst (AreNumbered 1) (sym sets) (set_numbered 1 (node.0 - 1) (sites_of seen old.sites.items) s y steady.nodes at_map k.0);
           redirects = redirects ∙ steady.redirects ∙ omega (arith, ap (sum_by redirects_at) sets, k.1.0, sum_set redirects_at (sites_of seen old.sites.items) (node.0 - 1) s y at_map);
           switched = switched ∙ steady.switched ∙ omega (arith, ap (sum_by switched_at) sets, k.1.1, sum_set switched_at (sites_of seen old.sites.items) (node.0 - 1) s y at_map);
@@ -245,20 +321,22 @@ module _ {C : Type 0} (seen : C → Controller) where
       → ((y : Site) (cells : List Cell) → (site_key (with_queue_in y place cells) ≡ site_key y) × ((redirects_at (with_queue_in y place cells) ≡ redirects_at y) × (switched_at (with_queue_in y place cells) ≡ switched_at y)))
       → head ≡ slice_get (queue_in (site_of seen here) place) 0
       → new.numbers ≡ old.numbers → new.round.items ≡ old.round.items → new.redirects ≡ old.redirects → new.switched ≡ old.switched → new.sent ≡ old.sent → new.events ≡ old.events → new.tally ≡ old.tally
-      → HasTaken seen old new given head
-  taken_at old new given place here now head at_place steady is at_here set peers same keeps first numbers round redirects switched sent events tally =
+      → new.starts ≡ old.starts → new.waiting ≡ old.waiting → HasTaken seen old new given head
+  taken_at old new given place here now head at_place steady is at_here set peers same keeps first numbers round redirects switched sent events tally starts waiting =
       subst (λ (p : Place). HasTaken seen old new p head) (sym at_place)
-      (head_taken old new place here now head steady (subst (λ (p : Place). IsNodeIn old (place_node p)) at_place is) at_here set peers same keeps first numbers round redirects switched sent events tally)
+      (head_taken old new place here now head steady (subst (λ (p : Place). IsNodeIn old (place_node p)) at_place is) at_here set peers same keeps first numbers round redirects switched sent events tally starts waiting)
 
   -- *Nothing acted*
   pub nothing_came : (old new : Network C) (notes after : Journal) → IsSteady seen old → new.sites.items ≡ old.sites.items → after ≡ notes
       → new.numbers ≡ old.numbers → new.round.items ≡ old.round.items → new.redirects ≡ old.redirects → new.switched ≡ old.switched → new.sent ≡ old.sent → new.events ≡ old.events → new.tally ≡ old.tally
-      → HasCome seen old new after (world_of seen old notes)
-  nothing_came old new notes after steady items noted numbers round redirects switched sent events tally = record {
+      → new.starts ≡ old.starts → new.waiting ≡ old.waiting → HasCome seen old new after (world_of seen old notes)
+  nothing_came old new notes after steady items noted numbers round redirects switched sent events tally starts waiting = record {
     world = λ i. record { sites = sites_of seen (items i); notes = noted i; numbers = numbers i; sent = sent i; events = events i; tally = tally i };
     drawn = subst (AreDrawn old.numbers) (sym numbers) (none_drawn old.numbers);
     peers = ap (map peers_in) items;
     round = round;
+    starts = starts;
+    marked = marked_same old new steady.marked items round waiting;
     redirects = redirects ∙ steady.redirects ∙ ap (λ xs. sum_by redirects_at (sites_of seen xs)) (sym items);
     switched = switched ∙ steady.switched ∙ ap (λ xs. sum_by switched_at (sites_of seen xs)) (sym items);
     few_redirects = omega (arith, redirects);
@@ -277,6 +355,8 @@ module _ {C : Type 0} (seen : C → Controller) where
     drawn = subst (λ (n : GivenOut). AreDrawn n new.numbers) t.numbers h.drawn;
     peers = h.peers ∙ t.peers;
     round = h.round ∙ t.round;
+    starts = h.starts ∙ t.starts;
+    marked = h.marked;
     redirects = h.redirects;
     switched = h.switched;
     few_redirects = omega (arith, h.few_redirects, t.redirects);
@@ -335,24 +415,13 @@ module _ {C : Type 0} (seen : C → Controller) where
         drawn = subst (AreDrawn old.numbers) (sym t.numbers) (none_drawn old.numbers);
         peers = t.peers;
         round = t.round;
+        starts = t.starts;
+        marked = t.steady.marked;
         redirects = t.steady.redirects;
         switched = t.steady.switched;
         few_redirects = omega (arith, t.redirects);
         few_switched = omega (arith, t.switched);
       }
-
-  -- *A record is made*
-  pub noted_came : (old new : Network C) (after : Journal) (w : World) (item : Record) → HasCome seen old new after w → HasCome seen old new (noted after item) (note w item)
-  noted_came old new after w item h = record {
-    world = ap (λ (x : World). note x item) h.world;
-    drawn = h.drawn;
-    peers = h.peers;
-    round = h.round;
-    redirects = h.redirects;
-    switched = h.switched;
-    few_redirects = h.few_redirects;
-    few_switched = h.few_switched;
-  }
 
   -- the head of a queue is lost
   pub lost_came : (old new : Network C) (place : Place) (notes : Journal) (cell : Cell) → HasTaken seen old new place (Some cell)
@@ -365,6 +434,8 @@ module _ {C : Type 0} (seen : C → Controller) where
         drawn = subst (AreDrawn old.numbers) (sym t.numbers) (none_drawn old.numbers);
         peers = t.peers;
         round = t.round;
+        starts = t.starts;
+        marked = t.steady.marked;
         redirects = t.steady.redirects;
         switched = t.steady.switched;
         few_redirects = omega (arith, t.redirects);
@@ -393,42 +464,3 @@ module _ {C : Type 0} (seen : C → Controller) where
   empty_lost old new place notes k =
       come_as old new notes (world_of seen old notes) (loses_head (world_of seen old notes) place (queue_at (world_of seen old notes) place))
       (ap (loses_head (world_of seen old notes) place) (sym (no_head (queue_at (world_of seen old notes) place) (sym k.first)))) (none_came old new place notes k)
-
-  -- *A frame is forged*: no number is drawn but its mark's
-  forged_numbers : (w : World) (place : Place) (channel : Channel) (mark : Mark) (payload : List ℕ) → (forges_at w place channel mark payload).numbers ≡ w.numbers
-  forged_numbers w (Down node) channel mark payload = at_one (site_at w node)
-    where
-      at_one : (o : Option Site) → (controller_acts w o (λ a. sends a channel mark payload)).numbers ≡ w.numbers
-      at_one None = refl
-      at_one (Some s) = refl
-  forged_numbers w (Up node) channel mark payload = at_one (site_at w node)
-    where
-      at_one : (o : Option Site) → (switch_acts w o (λ a. switch.forged a control_port channel mark payload)).numbers ≡ w.numbers
-      at_one None = refl
-      at_one (Some s) = refl
-  forged_numbers w (Out node port) channel mark payload = at_one (site_at w node)
-    where
-      at_one : (o : Option Site) → (switch_acts w o (λ a. switch.forged a port channel mark payload)).numbers ≡ w.numbers
-      at_one None = refl
-      at_one (Some s) = refl
-
-  pub forged_came : (old mid new : Network C) (place : Place) (channel : Channel) (payload : List ℕ) (notes after : Journal)
-      → mid.numbers ≡ with_control old.numbers → mid.sites.items ≡ old.sites.items → mid.round.items ≡ old.round.items → mid.redirects ≡ old.redirects → mid.switched ≡ old.switched
-      → mid.sent ≡ old.sent → mid.events ≡ old.events → mid.tally ≡ old.tally
-      → HasCome seen mid new after (forges_at (world_of seen mid (noted notes (Forged place))) place channel (next_control old.numbers) payload)
-      → HasCome seen old new after (forges (world_of seen old notes) place channel payload)
-  forged_came old mid new place channel payload notes after numbers items round redirects switched sent events tally h =
-      let w : World = world_of seen mid (noted notes (Forged place)) in
-      let v : World = record (note (world_of seen old notes) (Forged place)) { numbers = with_control old.numbers } in
-      let same : w ≡ v = λ i. record { sites = sites_of seen (items i); notes = noted notes (Forged place); numbers = numbers i; sent = sent i; events = events i; tally = tally i } in
-      let given : new.numbers ≡ with_control old.numbers = ap (λ (x : World). x.numbers) h.world ∙ forged_numbers w place channel (next_control old.numbers) payload ∙ numbers in
-      record {
-        world = h.world ∙ ap (λ (x : World). forges_at x place channel (next_control old.numbers) payload) same;
-        drawn = subst (AreDrawn old.numbers) (sym given) (record { instances = (omega arith, omega arith); controls = (omega arith, omega arith) });
-        peers = h.peers ∙ ap (map peers_in) items;
-        round = h.round ∙ round;
-        redirects = h.redirects;
-        switched = h.switched;
-        few_redirects = omega (arith, h.few_redirects, redirects);
-        few_switched = omega (arith, h.few_switched, switched);
-      }

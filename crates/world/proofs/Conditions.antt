@@ -64,8 +64,13 @@ module _ {C : Type 0} (seen : C → Controller) (t : Topology) (n : Network C) (
   nodes : length n.sites.items ≡ length t.nodes
   nodes = sym (map_length (site_of seen) n.sites.items) ∙ r.world.nodes
 
+  pub few_sites : length n.sites.items ≤ 64
+  few_sites = omega (arith, nodes, r.world.topology_is.few_nodes)
+
   pub steady : n.events ≤ 100000000 → IsSteady seen n
   steady few = record {
+    few = few_sites;
+    marked = r.marked;
     nodes = are_numbered t n.events 1 (sites_of seen n.sites.items) r.world.sites;
     redirects = r.redirects;
     switched = r.switched;

@@ -5,3 +5,7 @@ pub mod Opened
 pub mod Opens
 pub mod Waiting
 pub mod Peers
+pub mod Places
+pub mod Starts
+pub mod Empty
+pub mod Searching

@@ -1,6 +1,7 @@
 -- the nodes of a topology are opened one by one
 
-use Rattle.std.proofs.Common.{◌≡◌, ℕ, zero, suc, ◌+◌, ◌≤◌, List, [], ◌∷◌, ◌++◌, append_assoc, length, length-append, map, drop, Option, Some, refl, sym, ◌∙◌, ap, subst, arith, sum_by}
+use Rattle.std.proofs.Common.{◌≡◌, ℕ, zero, suc, ◌+◌, ◌≤◌, List, [], ◌∷◌, ◌++◌, append_assoc, length, length-append, map, drop, slice_get, slice_index_or, slice_set, true, true≢false, Option, Some, refl, sym, ◌∙◌, ap, subst, arith, sum_by}
+use Rattle.std.specs.Prelude.{◌<◌, ◌-◌}
 use Rattle.std.specs.Option.{option_map}
 use Rattle.std.proofs.lemmas.List.Sums.{sum_by-append}
 use Rattle.net_types.specs.declared.node.NodeId.{NodeId}
@@ -21,6 +22,11 @@ use Rattle.world.specs.Network.{no_notes, peers_in, site_of, sites_of, world_of}
 use Rattle.world.specs.Opening.{HasOpened, IsNew, IsNext, IsOpening, places_of}
 use Rattle.world_pace.specs.Running.{ArePeersOf, AreRunning, HavePeers, numbered}
 use Rattle.world.specs.Running.{Runs}
+use Rattle.world.specs.NodeSet.{IsInserted, is_in}
+use Rattle.world.specs.Waiting.{HaveStarts, node_place}
+use Rattle.world_model.specs.Places.{place_node}
+use Rattle.world_model.proofs.Lists.{by_eq}
+use Rattle.world.proofs.Starts.{have_more, have_same}
 use Rattle.world_pace.proofs.Running.{places_are, places_at, places_from}
 use Rattle.world.proofs.Opened.{HasNode, few_ranges, has_node, no_redirects_at, ports_of_ranges, read_of, runs_more, site_runs}
 
@@ -68,6 +74,29 @@ drop_all [] (suc k) e = refl
 drop_all (x ∷ nodes) zero e = absurd (omega (arith, e))
 drop_all (x ∷ nodes) (suc k) e = drop_all nodes k (omega (arith, e))
 
+-- all are the node's
+outs_own : (node : NodeId) (ranges : List PortRange) (j : ℕ) (p : Place) → slice_get (map (λ (range : PortRange). Out node range.port) ranges) j ≡ Some p → place_node p ≡ node
+outs_own node [] j p e = absurd (cc e)
+outs_own node (range ∷ ranges) zero p e = (let same : p ≡ Out node range.port = cc in ap place_node same)
+outs_own node (range ∷ ranges) (suc j) p e = outs_own node ranges j p e
+
+places_own : (node : NodeId) (ranges : List PortRange) (j : ℕ) (p : Place) → slice_get (places_of node ranges) j ≡ Some p → place_node p ≡ node
+places_own node ranges zero p e = (let same : p ≡ Down node = cc in ap place_node same)
+places_own node ranges (suc zero) p e = (let same : p ≡ Up node = cc in ap place_node same)
+places_own node ranges (suc (suc j)) p e = outs_own node ranges j p e
+
+-- no queue yet
+no_place : (i : ℕ) (p : Place) → slice_get [] i ≡ Some p → ⊥
+no_place i p e = absurd (cc e)
+
+have_none : (round : List Place) (starts : List ℕ) → round ≡ [] → length starts ≡ 65 → slice_index_or starts 0 0 ≡ 0 → HaveStarts round starts 0
+have_none round starts is size first = record {
+  size = size;
+  last = first ∙ sym (ap length is);
+  order = λ one other le few. (let same : slice_index_or starts one 0 ≡ slice_index_or starts other 0 = ap (λ (k : ℕ). slice_index_or starts k 0) (omega (arith, le, few)) in omega (arith, same));
+  stand = λ i p e. absurd (no_place i p (ap (λ (ps : List Place). slice_get ps i) (sym is) ∙ e));
+}
+
 module _ {C : Type 0} (seen : C → Controller) (policy : Policy) (t : Topology) where
   -- *One node*
   pub opened_next : (old new : Network C) (node : NodeId) (site : Held C) (ranges : List PortRange) → IsOpening t old → node ≡ numbered (length old.sites.items + 1) → length old.sites.items + 1 ≤ length t.nodes
@@ -77,8 +106,9 @@ module _ {C : Type 0} (seen : C → Controller) (policy : Policy) (t : Topology)
       → option_map (λ d. numbers_after t node d old.numbers) (node_at t node) ≡ Some new.numbers
       → new.sites.items ≡ old.sites.items ++ site ∷ [] → new.round.items ≡ old.round.items ++ places_of node ranges
       → new.events ≡ old.events → new.sent ≡ old.sent → new.tally ≡ old.tally → new.redirects ≡ old.redirects → new.switched ≡ old.switched
+      → new.starts ≡ slice_set old.starts (length old.sites.items + 1) (length new.round.items) → IsInserted old.waiting new.waiting (length old.sites.items)
       → HasOpened seen policy t old new
-  opened_next old new node site ranges o is few er es peers en items round events sent tally redirects switched =
+  opened_next old new node site ranges o is few er es peers en items round events sent tally redirects switched starts mark =
       let of : IsNode t node = subst (IsNode t) (sym is) (omega arith, few) in
       let h : HasNode t node = has_node t node o.topology_is of in
       let rs : ranges_of t node h.d ≡ ranges = read_of (ranges_of t node) (node_at t node) h.d ranges h.is er in
@@ -88,9 +118,12 @@ module _ {C : Type 0} (seen : C → Controller) (policy : Policy) (t : Topology)
         sites = ap (sites_of seen) items ∙ map_push (site_of seen) old.sites.items site ∙ ap (λ (s : Site). sites_of seen old.sites.items ++ s ∷ []) (sym opened_one);
         numbers = sym given;
         round = round ∙ ap (λ rs. old.round.items ++ places_of node rs) (sym rs);
+        starts = starts;
+        waiting = mark;
       } in
       record {
         node = h.d;
+        few = omega (arith, few, o.topology_is.few_nodes);
         is = subst (λ (n : NodeId). node_at t n ≡ Some h.d) is h.is;
         next = subst (λ (n : NodeId). IsNext seen policy t old new n h.d) is next;
         peers = λ p. subst (HavePeers t 1) (sym (ap (map peers_in) items ∙ map_push peers_in old.sites.items site))
@@ -114,6 +147,8 @@ module _ {C : Type 0} (seen : C → Controller) (policy : Policy) (t : Topology)
     pub rest : opens_each policy t (world_of seen n no_notes) (suc place) (drop place t.nodes) ≡ opened policy t
     pub running : AreRunning t 0 1 (sites_of seen n.sites.items)
     pub round : n.round.items ≡ places_from t 1 place
+    pub starts : HaveStarts n.round.items n.starts place
+    pub marks : (k : ℕ) → k < place → is_in n.waiting k ≡ true
     pub peers : HavePeers t 1 (map peers_in n.sites.items)
     pub events : n.events ≡ 0
     pub sent : n.sent ≡ 0
@@ -131,6 +166,8 @@ module _ {C : Type 0} (seen : C → Controller) (policy : Policy) (t : Topology)
     rest = (λ i. opens_each policy t (record { sites = sites_of seen (new.sites i); notes = no_notes; numbers = record { instances = new.instances i; controls = new.controls i }; sent = new.sent i; events = new.events i; tally = new.tally i }) 1 t.nodes);
     running = subst (λ (xs : List (Held C)). AreRunning t 0 1 (sites_of seen xs)) (sym new.sites) tt;
     round = new.round;
+    starts = have_none n.round.items n.starts new.round new.starts new.first;
+    marks = λ k low. absurd (omega (arith, low));
     peers = subst (λ (xs : List (Held C)). HavePeers t 1 (map peers_in xs)) (sym new.sites) tt;
     events = new.events;
     sent = new.sent;
@@ -148,9 +185,10 @@ module _ {C : Type 0} (seen : C → Controller) (policy : Policy) (t : Topology)
       let is : node_at t node ≡ Some h.node = subst (λ n. node_at t (numbered n) ≡ Some h.node) up h.is in
       let next : IsNext seen policy t old new node h.node = subst (λ n. IsNext seen policy t old new (numbered n) h.node) up h.next in
       let site : Site = opened_site policy t node h.node old.numbers in
+      let ps : List Place = places_of node (ranges_of t node h.node) in
       let sites_size : length (sites_of seen old.sites.items) ≡ place = map_length (site_of seen) old.sites.items ∙ a.size in
       let running : AreRunning t 0 1 (sites_of seen new.sites.items) = subst (AreRunning t 0 1) (sym next.sites)
-      (runs_more t 1 (sites_of seen old.sites.items) site a.running (subst (λ n. Rattle.world.specs.Running.IsRunningSite t 0 n site) (omega (arith, sites_size)) (site_runs policy t node h.node old.numbers))) in
+      (runs_more t 1 (sites_of seen old.sites.items) site a.running (subst (λ n. Rattle.world_pace.specs.Running.IsRunningSite t 0 n site) (omega (arith, sites_size)) (site_runs policy t node h.node old.numbers))) in
       let one : place + 1 ≡ suc place = omega arith in
       record {
         opening = h.opening;
@@ -161,6 +199,12 @@ module _ {C : Type 0} (seen : C → Controller) (policy : Policy) (t : Topology)
         running = running;
         round = next.round ∙ ap (λ ps. ps ++ places_of node (ranges_of t node h.node)) a.round ∙ ap (λ ps. places_from t 1 place ++ ps) (places_of_node t (suc place) h.node)
             ∙ ap (λ n. places_from t 1 place ++ places_at t n) (omega arith) ∙ sym (places_push t 1 place) ∙ ap (places_from t 1) (sym one);
+        starts = have_same (old.round.items ++ ps) new.round.items (slice_set old.starts (place + 1) (length (old.round.items ++ ps))) new.starts (place + 1) (place + 1)
+            (have_more old.round.items ps old.starts place a.starts (omega (arith, h.few, a.size)) (λ j p there. (let own : place_node p ≡ node = places_own node (ranges_of t node h.node) j p there in omega (arith, ap (λ (m : NodeId). m.0) own))))
+            next.round (next.starts ∙ (λ i. slice_set old.starts (a.size i + 1) (length (next.round i)))) refl;
+        marks = λ k low. by_eq k place
+            (λ is t. ap (is_in new.waiting) (is ∙ sym a.size) ∙ next.waiting.here)
+            (λ away t. next.waiting.others k (λ e. away (e ∙ a.size)) ∙ a.marks k (omega (arith, low, away)));
         peers = h.peers a.peers;
         events = h.events ∙ a.events;
         sent = h.sent ∙ a.sent;
@@ -188,6 +232,8 @@ module _ {C : Type 0} (seen : C → Controller) (policy : Policy) (t : Topology)
           sent = omega (arith, a.sent);
         };
         peers = a.peers;
+        starts = subst (λ (k : ℕ). HaveStarts n.round.items n.starts k) (sym a.size) a.starts;
+        marked = λ i p e no. absurd (true≢false (sym (a.marks (node_place p) (a.starts.stand i p e).node) ∙ no));
         round = a.round ∙ ap (places_from t 1) (sym size) ∙ sym (places_are t 0 1 (sites_of seen n.sites.items) a.running);
         redirects = a.redirects ∙ sym a.no_redirects;
         switched = a.switched ∙ sym a.no_switched;

@@ -26,9 +26,12 @@ use Rattle.world.specs.declared.site.Site.{Site as Node}
 use Rattle.world.specs.declared.world.World.{World as Network}
 use Rattle.world.specs.Network.{no_notes, peers_in, sites_of, world_of}
 use Rattle.world.specs.Nodes.{NamesLinked}
+use Rattle.world.specs.Waiting.{AreMarked}
 
--- the nodes are numbered in order, and the sums over them are kept
+-- the nodes are few and numbered in order, those at which cells wait are marked, and the sums over them are kept
 pub record IsSteady {C : Type 0} (seen : C → Controller) (n : Network C) : Type 0 where
+  pub few : length n.sites.items ≤ 64
+  pub marked : AreMarked seen n
   pub nodes : AreNumbered 1 (sites_of seen n.sites.items)
   pub redirects : n.redirects ≡ sum_by redirects_at (sites_of seen n.sites.items)
   pub switched : n.switched ≡ sum_by switched_at (sites_of seen n.sites.items)
@@ -41,6 +44,8 @@ pub record HasCome {C : Type 0} (seen : C → Controller) (old new : Network C) 
   pub drawn : AreDrawn old.numbers new.numbers
   pub peers : map peers_in new.sites.items ≡ map peers_in old.sites.items
   pub round : new.round.items ≡ old.round.items
+  pub starts : new.starts ≡ old.starts
+  pub marked : AreMarked seen new
   pub redirects : new.redirects ≡ sum_by redirects_at (sites_of seen new.sites.items)
   pub switched : new.switched ≡ sum_by switched_at (sites_of seen new.sites.items)
   pub few_redirects : new.redirects ≤ old.redirects + 2 ^ 64
@@ -55,6 +60,7 @@ pub record HasTaken {C : Type 0} (seen : C → Controller) (old new : Network C)
   pub size : length new.sites.items ≡ length old.sites.items
   pub numbers : new.numbers ≡ old.numbers
   pub round : new.round.items ≡ old.round.items
+  pub starts : new.starts ≡ old.starts
   pub redirects : new.redirects ≡ old.redirects
   pub switched : new.switched ≡ old.switched
   pub steady : IsSteady seen new

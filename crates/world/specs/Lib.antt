@@ -1,6 +1,9 @@
 pub mod Nodes
 pub mod Counted
 pub mod Network
+pub mod NodeSet
+pub mod Waiting
 pub mod Running
 pub mod Coming
 pub mod Opening
+pub mod Empty

@@ -1,6 +1,6 @@
 -- A network while its nodes are opened. No claim needs this file.
 
-use Rattle.std.specs.Prelude.{◌≡◌, ◌+◌, ◌*◌, ◌≤◌, List, [], ◌∷◌, ◌++◌, length, map, Some}
+use Rattle.std.specs.Prelude.{◌≡◌, ◌+◌, ◌*◌, ◌≤◌, ◌<◌, List, [], ◌∷◌, ◌++◌, length, map, slice_index_or, slice_set, Some}
 use Rattle.net_types.specs.declared.node.NodeId.{NodeId}
 use Rattle.net_types.specs.declared.node.Place.{Place}
 use Rattle.net_types.specs.declared.node.Place.TheVariants.{Down, Up, Out}
@@ -12,12 +12,15 @@ use Rattle.world_model.specs.Topology.{Topology, Node, node_at, ranges_of}
 use Rattle.world_model.specs.World.{no_tally, numbers_after, opened_site}
 use Rattle.world.specs.declared.world.World.{World as Network}
 use Rattle.world.specs.Network.{peers_in, sites_of}
+use Rattle.world.specs.NodeSet.{IsInserted}
 use Rattle.world_pace.specs.Running.{HavePeers, numbered}
 
 -- no node, and nothing counted
 pub record IsNew {C : Type 0} (n : Network C) : Type 0 where
   pub sites : n.sites.items ≡ []
   pub round : n.round.items ≡ []
+  pub starts : length n.starts ≡ 65
+  pub first : slice_index_or n.starts 0 0 ≡ 0
   pub instances : n.numbers.instances ≡ 0
   pub controls : n.numbers.controls ≡ 0
   pub events : n.events ≡ 0
@@ -41,9 +44,12 @@ pub record IsNext {C : Type 0} (seen : C → Controller) (policy : Policy) (topo
   pub sites : sites_of seen new.sites.items ≡ sites_of seen old.sites.items ++ opened_site policy topology node d old.numbers ∷ []
   pub numbers : new.numbers ≡ numbers_after topology node d old.numbers
   pub round : new.round.items ≡ old.round.items ++ places_of node (ranges_of topology node d)
+  pub starts : new.starts ≡ slice_set old.starts (length old.sites.items + 1) (length new.round.items)
+  pub waiting : IsInserted old.waiting new.waiting (length old.sites.items)
 
 pub record HasOpened {C : Type 0} (seen : C → Controller) (policy : Policy) (topology : Topology) (old new : Network C) : Type 0 where
   pub node : Node
+  pub few : length old.sites.items < 64
   pub is : node_at topology (numbered (length old.sites.items + 1)) ≡ Some node
   pub next : IsNext seen policy topology old new (numbered (length old.sites.items + 1)) node
   pub peers : HavePeers topology 1 (map peers_in old.sites.items) → HavePeers topology 1 (map peers_in new.sites.items)

@@ -4,14 +4,18 @@
 #![tactic(auto)]
 
 mod counts;
+mod law;
 mod links;
 mod node;
+mod node_set;
 mod opening;
+mod rounds;
 mod site;
 mod step;
 mod tally;
 mod world;
 
 pub use counts::{Counts, Meter};
+pub use law::empty_carries_count;
 pub use node::{InjectFault, NodeController};
 pub use world::World;

@@ -11,7 +11,8 @@ ghost use Rattle.world_pace.specs.Running.{ArePeersOf};
 ghost use Rattle.world.specs.Running.{Runs};
 
 use crate::node::NodeController;
-use crate::site::{PORTS, Site};
+use crate::node_set::NodeSet;
+use crate::site::{PORTS, STARTS, Site};
 use crate::tally::{Tally, Total};
 use crate::world::World;
 use gsmp_switch::Switch;
@@ -121,6 +122,8 @@ impl<C: NodeController> World<C> {
         World {
             sites: Vec::new(alloc),
             round: Vec::new(alloc),
+            starts: [0; STARTS],
+            waiting: NodeSet::empty(),
             numbers: Numbers::new(),
             events: 0,
             sent: 0,
@@ -142,7 +145,8 @@ impl<C: NodeController> World<C> {
         requires opening { IsOpening topology.now self.old }
         ensures { OnOk result (HasOpened C.seen (C.meaning policy) topology.now self.old self.new) }
     {
-        let node = NodeId(self.sites.len() as u8 + 1);
+        let place = self.sites.len();
+        let node = NodeId(place as u8 + 1);
         let ranges = topology.ranges(alloc, node)?;
         self.sites.reserve(1)?;
         let site = open_site(
@@ -154,7 +158,10 @@ impl<C: NodeController> World<C> {
             &mut self.numbers,
         )?;
         self.sites.push_reserved(site);
-        push_places(&mut self.round, node, ranges.as_slice())
+        push_places(&mut self.round, node, ranges.as_slice())?;
+        self.starts[place + 1] = self.round.len();
+        self.waiting.insert(place);
+        Ok(())
     }
 
     /// Opens the nodes of a topology.

@@ -11,6 +11,9 @@ pub(crate) const CONTROL_PORT: PortNo = PortNo(0);
 /// The most ports of a node, port 0 among them.
 pub(crate) const PORTS: usize = 9;
 
+/// One more than the most nodes of a network.
+pub(crate) const STARTS: usize = 65;
+
 /// A node in a run: its two actors, and the other ends of its links by the numbers of its ports.
 #[must_use]
 pub(crate) struct Site<C> {

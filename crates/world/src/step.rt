@@ -49,6 +49,7 @@ impl<C: NodeController> World<C> {
         let before = site.controller.redirects();
         site.controller.receive(cell, &mut self.numbers, notes)?;
         self.redirects.replace(before, site.controller.redirects());
+        self.waiting.insert(node.0 as usize - 1);
         Ok(())
     }
 
@@ -63,6 +64,7 @@ impl<C: NodeController> World<C> {
         let before = site.controller.redirects();
         site.controller.tick(&mut self.numbers, notes)?;
         self.redirects.replace(before, site.controller.redirects());
+        self.waiting.insert(node.0 as usize - 1);
         Ok(())
     }
 
@@ -77,6 +79,7 @@ impl<C: NodeController> World<C> {
         let before = site.controller.redirects();
         site.controller.restart(&mut self.numbers, notes)?;
         self.redirects.replace(before, site.controller.redirects());
+        self.waiting.insert(node.0 as usize - 1);
         Ok(())
     }
 
@@ -97,6 +100,7 @@ impl<C: NodeController> World<C> {
         let before = site.controller.redirects();
         site.controller.change(change, &mut self.numbers, notes)?;
         self.redirects.replace(before, site.controller.redirects());
+        self.waiting.insert(node.0 as usize - 1);
         Ok(())
     }
 
@@ -119,6 +123,7 @@ impl<C: NodeController> World<C> {
         let before = site.controller.redirects();
         site.controller.forge(channel, payload, mark, notes)?;
         self.redirects.replace(before, site.controller.redirects());
+        self.waiting.insert(node.0 as usize - 1);
         Ok(())
     }
 
@@ -139,6 +144,7 @@ impl<C: NodeController> World<C> {
         let before = site.switch.switched();
         site.switch.receive(port, cell, &mut self.numbers, notes)?;
         self.switched.replace(before, site.switch.switched());
+        self.waiting.insert(node.0 as usize - 1);
         Ok(())
     }
 
@@ -153,6 +159,7 @@ impl<C: NodeController> World<C> {
         let before = site.switch.switched();
         site.switch.tick(&mut self.numbers, notes)?;
         self.switched.replace(before, site.switch.switched());
+        self.waiting.insert(node.0 as usize - 1);
         Ok(())
     }
 
@@ -167,6 +174,7 @@ impl<C: NodeController> World<C> {
         let before = site.switch.switched();
         site.switch.restart(&mut self.numbers, notes)?;
         self.switched.replace(before, site.switch.switched());
+        self.waiting.insert(node.0 as usize - 1);
         Ok(())
     }
 
@@ -191,6 +199,7 @@ impl<C: NodeController> World<C> {
         let before = site.switch.switched();
         site.switch.forge(port, channel, payload, mark, notes)?;
         self.switched.replace(before, site.switch.switched());
+        self.waiting.insert(node.0 as usize - 1);
         Ok(())
     }
 
@@ -226,6 +235,7 @@ impl<C: NodeController> World<C> {
         match site.controller.inject(packet, octets, notes) {
             Ok(()) => {
                 self.redirects.replace(before, site.controller.redirects());
+                self.waiting.insert(node.0 as usize - 1);
                 Ok(None)
             }
             Err(InjectFault::Packet(fault)) => Ok(Some(packet_refusal(fault))),

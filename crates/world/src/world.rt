@@ -9,7 +9,8 @@ ghost use Rattle.world.specs.Running.{Runs};
 
 use crate::counts::Counts;
 use crate::node::NodeController;
-use crate::site::{CONTROL_PORT, Site};
+use crate::node_set::NodeSet;
+use crate::site::{CONTROL_PORT, STARTS, Site};
 use crate::tally::{Tally, Total};
 use atm_cells::Cell;
 use gsmp_switch::Switch;
@@ -22,6 +23,10 @@ pub struct World<C> {
     pub(crate) sites: Vec<Site<C>>,
     /// The queues, in the order of a round.
     pub(crate) round: Vec<Place>,
+    /// Where the queues of each node start in that order, and where those of the last one end.
+    pub(crate) starts: [usize; STARTS],
+    /// The nodes at which cells may wait.
+    pub(crate) waiting: NodeSet,
     /// What the run has given out.
     pub(crate) numbers: Numbers,
     pub(crate) events: u64,
@@ -123,6 +128,8 @@ impl<C: NodeController> World<C> {
         let World {
             mut sites,
             round: _,
+            starts: _,
+            waiting: _,
             numbers: _,
             events: _,
             sent: _,

@@ -1,27 +1,31 @@
-use Rattle.std.proofs.Common.{◌≡◌, ◌+◌, [], take}
-use Rattle.lab_io.specs.Report.{IsPut}
-use Rattle.world_model.specs.Places.{places}
-use Rattle.world_model.specs.Run.{round, put_away, world_after}
+use Rattle.std.proofs.Common.{◌≡◌, ◌+◌, ◌-◌, ◌≤◌, [], length}
+use Rattle.world_model.specs.Run.{round}
 use Rattle.world.specs.Network.{world_of}
 use Rattle.world.specs.Running.{Runs}
-use Rattle.telling_model.specs.Placed.{placed_events}
-use Rattle.telling_model.specs.Tale.{told}
-use Rattle.network_run.specs.Telling.{StaysWithin, meter_behind}
+use Rattle.network_run.specs.Telling.{StaysWithin}
+use Rattle.network_run.proofs.Passed.{IsAt}
 use Rattle.network_run.proofs.carries.round.Given as goal
+
+abbrev pub ghost-next_waiting : goal.ghost-next_waiting
+ghost-next_waiting g a = g.topology
+
+abbrev pub ghost-pass_over : goal.ghost-pass_over
+ghost-pass_over g a = g.topology
 
 abbrev pub ghost-step : goal.ghost-step
 ghost-step g a = g.topology
 
-abbrev pub invariant-loop-index : goal.invariant-loop-index
-invariant-loop-index g l = record {
-  world : world_of g.C.NodeController.seen l.world l.notes ≡ put_away (world_after g.topology (world_of g.C.NodeController.seen l.fn.world l.fn.notes) (take l.index (round (world_of g.C.NodeController.seen l.fn.world l.fn.notes))));
+abbrev pub invariant-loop-found : goal.invariant-loop-found
+invariant-loop-found g l = record {
+  at : IsAt g.T.Teller.tale (g.T.Teller.state l.fn.told.teller) l.context.line g.topology (world_of g.C.NodeController.seen l.fn.world l.fn.notes) l.fn.meter l.fn.told.writer (g.K.Sink.written l.fn.sink) l.from
+      (world_of g.C.NodeController.seen l.world l.notes) (g.T.Teller.state l.told.teller) l.meter l.told.writer (g.K.Sink.written l.sink);
   empty : l.notes.records ≡ [];
   runs : Runs g.C.NodeController.seen g.topology l.world;
-  events : (world_of g.C.NodeController.seen l.world l.notes).events ≡ (world_of g.C.NodeController.seen l.fn.world l.fn.notes).events + l.index;
-  queues : l.world.round.items ≡ places (world_of g.C.NodeController.seen l.fn.world l.fn.notes);
-  put : IsPut l.fn.told.writer l.told.writer (g.K.Sink.written l.fn.sink) (g.K.Sink.written l.sink) (told g.T.Teller.tale (g.T.Teller.state l.fn.told.teller) g.topology (world_of g.C.NodeController.seen l.fn.world l.fn.notes) (placed_events l.context.line (take l.index (round (world_of g.C.NodeController.seen l.fn.world l.fn.notes))))).octets;
+  events : (world_of g.C.NodeController.seen l.world l.notes).events ≡ (world_of g.C.NodeController.seen l.fn.world l.fn.notes).events + l.from;
+  within : l.from ≤ length (round (world_of g.C.NodeController.seen l.fn.world l.fn.notes));
   faults : g.K.Sink.faults l.sink ≡ g.K.Sink.faults l.fn.sink;
-  knows : g.T.Teller.state l.told.teller ≡ (told g.T.Teller.tale (g.T.Teller.state l.fn.told.teller) g.topology (world_of g.C.NodeController.seen l.fn.world l.fn.notes) (placed_events l.context.line (take l.index (round (world_of g.C.NodeController.seen l.fn.world l.fn.notes))))).state;
   room : StaysWithin l.fn.told.writer l.told.writer;
-  meter : l.meter ≡ meter_behind l.fn.meter g.topology (world_of g.C.NodeController.seen l.fn.world l.fn.notes) (take l.index (round (world_of g.C.NodeController.seen l.fn.world l.fn.notes)));
 }
+
+abbrev pub decreases-loop-found : goal.decreases-loop-found
+decreases-loop-found g l = l.places - l.from

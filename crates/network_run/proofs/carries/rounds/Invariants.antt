@@ -9,17 +9,23 @@ use Rattle.telling_model.specs.Tale.{told}
 use Rattle.network_run.specs.Telling.{StaysWithin, meter_behind}
 use Rattle.network_run.proofs.carries.rounds.Given as goal
 
+abbrev pub ghost-next_waiting : goal.ghost-next_waiting
+ghost-next_waiting g a = g.topology
+
+abbrev pub ghost-pass_over : goal.ghost-pass_over
+ghost-pass_over g a = g.topology
+
 abbrev pub ghost-round : goal.ghost-round
 ghost-round g a = g.topology
 
 abbrev pub invariant-loop-turn : goal.invariant-loop-turn
 invariant-loop-turn g l = record {
-  world : world_of g.C.NodeController.seen l.world l.notes ≡ put_away (world_after g.topology (world_of g.C.NodeController.seen l.fn.world l.fn.notes) (repeat l._turn (round (world_of g.C.NodeController.seen l.fn.world l.fn.notes))));
+  world : world_of g.C.NodeController.seen l.world l.notes ≡ put_away (world_after g.topology (world_of g.C.NodeController.seen l.fn.world l.fn.notes) (repeat l.turn (round (world_of g.C.NodeController.seen l.fn.world l.fn.notes))));
   empty : l.notes.records ≡ [];
   runs : Runs g.C.NodeController.seen g.topology l.world;
-  put : IsPut l.fn.told.writer l.told.writer (g.K.Sink.written l.fn.sink) (g.K.Sink.written l.sink) (told g.T.Teller.tale (g.T.Teller.state l.fn.told.teller) g.topology (world_of g.C.NodeController.seen l.fn.world l.fn.notes) (placed_events l.context.line (repeat l._turn (round (world_of g.C.NodeController.seen l.fn.world l.fn.notes))))).octets;
-  knows : g.T.Teller.state l.told.teller ≡ (told g.T.Teller.tale (g.T.Teller.state l.fn.told.teller) g.topology (world_of g.C.NodeController.seen l.fn.world l.fn.notes) (placed_events l.context.line (repeat l._turn (round (world_of g.C.NodeController.seen l.fn.world l.fn.notes))))).state;
+  put : IsPut l.fn.told.writer l.told.writer (g.K.Sink.written l.fn.sink) (g.K.Sink.written l.sink) (told g.T.Teller.tale (g.T.Teller.state l.fn.told.teller) g.topology (world_of g.C.NodeController.seen l.fn.world l.fn.notes) (placed_events l.context.line (repeat l.turn (round (world_of g.C.NodeController.seen l.fn.world l.fn.notes))))).octets;
+  knows : g.T.Teller.state l.told.teller ≡ (told g.T.Teller.tale (g.T.Teller.state l.fn.told.teller) g.topology (world_of g.C.NodeController.seen l.fn.world l.fn.notes) (placed_events l.context.line (repeat l.turn (round (world_of g.C.NodeController.seen l.fn.world l.fn.notes))))).state;
   room : StaysWithin l.fn.told.writer l.told.writer;
   faults : g.K.Sink.faults l.sink ≡ g.K.Sink.faults l.fn.sink;
-  meter : l.meter ≡ meter_behind l.fn.meter g.topology (world_of g.C.NodeController.seen l.fn.world l.fn.notes) (repeat l._turn (round (world_of g.C.NodeController.seen l.fn.world l.fn.notes)));
+  meter : l.meter ≡ meter_behind l.fn.meter g.topology (world_of g.C.NodeController.seen l.fn.world l.fn.notes) (repeat l.turn (round (world_of g.C.NodeController.seen l.fn.world l.fn.notes)));
 }

@@ -1,4 +1,4 @@
-use Rattle.std.proofs.Common.{◌≡◌, ◌∙◌, ap, sym, subst}
+use Rattle.std.proofs.Common.{◌≡◌, ◌∙◌, ap, inr, sym, subst}
 use Rattle.link_model.specs.Notes.{Journal}
 use Rattle.world_model.specs.Run.{put_away}
 use Rattle.world_model.specs.Topology.{Topology}
@@ -8,7 +8,7 @@ use Rattle.world.specs.Network.{world_of}
 use Rattle.lab_io.specs.Report.{IsPut}
 use Rattle.telling_model.specs.Placed.{placed}
 use Rattle.network_run.specs.Telling.{Puts}
-use Rattle.network_run.proofs.Telling.{came_to, next_is, passes_on}
+use Rattle.network_run.proofs.Telling.{came_to, next_is, none_of, on_err, passes_on}
 use Rattle.network_run.proofs.engine.step.Goals as goal
 
 pub after-requires-clause-came : goal.after-requires-clause-came
@@ -65,3 +65,11 @@ pub returns-clause-meter : goal.returns-clause-meter
 returns-clause-meter g c =
     let w : World = world_of g.C.NodeController.seen c.args.world.now c.args.notes.now in
     c.in_ok-step.ensures.meter ∙ ap reading_of (c.in_ok-step.ensures.world ∙ sym (next_is g.topology w c.args.event.now c.requires.1.1.1.1.1.0))
+
+pub returns-in_err-step-clause-put : goal.returns-in_err-step-clause-put
+returns-in_err-step-clause-put g c = passes_on c.from_residual.result _ _ _ _ _ _ c.from_residual.ensures.1 (none_of _ _ _)
+
+pub returns-in_err-after-clause-kept : goal.returns-in_err-after-clause-kept
+returns-in_err-after-clause-kept g c =
+    let w : World = world_of g.C.NodeController.seen c.args.world.now c.args.notes.now in
+    on_err c.from_residual-in_err-after.result (inr (c.in_ok-step.ensures.meter ∙ ap reading_of (c.in_ok-step.ensures.world ∙ sym (next_is g.topology w c.args.event.now c.requires.1.1.1.1.1.0))))

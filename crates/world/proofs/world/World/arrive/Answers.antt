@@ -36,4 +36,4 @@ returns-in-None g c =
     come_as g.C.NodeController.seen c.args.self.now c.args.self.now c.args.notes.now w _
     (ap (arrives_at w c.args.cell.now) (sym (peer_is g.topology c.args.self.now c.in-Out.node c.in-Out.port None way c.in-None.ensures))
     ∙ ap (λ (p : Place). arrives g.topology w p c.args.cell.now) (sym c.in-Out.is))
-    (nothing_came g.C.NodeController.seen c.args.self.now c.args.self.now c.args.notes.now c.args.notes.now c.requires.1.1.0 refl refl refl refl refl refl refl refl refl)
+    (nothing_came g.C.NodeController.seen c.args.self.now c.args.self.now c.args.notes.now c.args.notes.now c.requires.1.1.0 refl refl refl refl refl refl refl refl refl refl refl)

@@ -16,4 +16,4 @@ replace-requires-clause-summand g c =
 pub returns : goal.returns
 returns g c = controller_came g.C.NodeController.seen (λ a. change_comes a c.args.change.now) c.args.self.now _ c.args.notes.now c.change.new.notes c.args.node c.index_mut-site.result.now
     (record { controller = c.change.new.self; switch = c.index_mut-site.result.now.switch; peers = c.index_mut-site.result.now.peers }) c.redirects-before.result c.redirects.result (λ a. (change_changes 0 a c.args.change.now).node)
-    c.requires.steady c.requires.node c.index_mut-site.ensures.value refl refl refl c.in_ok-change.ensures.acted c.in_ok-change.ensures.drawn c.redirects-before.ensures c.redirects.ensures c.replace.ensures refl refl refl refl refl
+    c.requires.steady c.requires.node c.index_mut-site.ensures.value refl refl refl c.in_ok-change.ensures.acted c.in_ok-change.ensures.drawn c.redirects-before.ensures c.redirects.ensures c.replace.ensures refl refl refl refl refl refl c.insert.ensures

@@ -11,4 +11,4 @@ replace-requires-clause-summand g c =
 pub returns : goal.returns
 returns g c = controller_came g.C.NodeController.seen (λ a. cell_comes a c.args.cell.now) c.args.self.now _ c.args.notes.now c.receive.new.notes c.args.node c.index_mut-site.result.now
     (record { controller = c.receive.new.self; switch = c.index_mut-site.result.now.switch; peers = c.index_mut-site.result.now.peers }) c.redirects-before.result c.redirects.result (λ a. (cell_follows (c.args.cell.now.mark.frame + 1) a c.args.cell.now (omega arith)).node)
-    c.requires.steady c.requires.node c.index_mut-site.ensures.value refl refl refl c.in_ok-receive.ensures.acted c.in_ok-receive.ensures.drawn c.redirects-before.ensures c.redirects.ensures c.replace.ensures refl refl refl refl refl
+    c.requires.steady c.requires.node c.index_mut-site.ensures.value refl refl refl c.in_ok-receive.ensures.acted c.in_ok-receive.ensures.drawn c.redirects-before.ensures c.redirects.ensures c.replace.ensures refl refl refl refl refl refl c.insert.ensures

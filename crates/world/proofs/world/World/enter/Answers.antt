@@ -22,7 +22,7 @@ returns-in-Ok-clause-come g c = come_as g.C.NodeController.seen c.args.self.now 
     (controller_came g.C.NodeController.seen (λ a. injected a c.args.packet c.args.octets.now) c.args.self.now _ c.args.notes.now c.inject.new.notes c.args.node c.index_mut-site.result.now
     (record { controller = c.inject.new.self; switch = c.index_mut-site.result.now.switch; peers = c.index_mut-site.result.now.peers }) c.redirects-before.result c.redirects.result
     (λ a. (injected_paces 1 a c.args.packet c.args.octets.now (omega arith)).node)
-    c.requires.steady c.requires.node c.index_mut-site.ensures.value refl refl refl (c.in-Ok.ensures.acted c.args.self.now.numbers) (none_drawn c.args.self.now.numbers) c.redirects-before.ensures c.redirects.ensures c.replace.ensures refl refl refl refl refl)
+    c.requires.steady c.requires.node c.index_mut-site.ensures.value refl refl refl (c.in-Ok.ensures.acted c.args.self.now.numbers) (none_drawn c.args.self.now.numbers) c.redirects-before.ensures c.redirects.ensures c.replace.ensures refl refl refl refl refl refl c.insert.ensures)
 
 pub returns-in-Err-Packet-clause-refusal : goal.returns-in-Err-Packet-clause-refusal
 returns-in-Err-Packet-clause-refusal g c = same_option _ _ c.in-Err-Packet.ensures.refused ∙ ap refusal_of c.in-Err-Packet.field-0-is ∙ ap (λ f. Some (packet_refusal f)) (sym c.in-Err-Packet.fault-is) ∙ ap Some (sym c.packet_refusal.ensures)
@@ -35,7 +35,7 @@ returns-in-Err-Packet-clause-come g c =
     (ap (entered_by (world_of g.C.NodeController.seen c.args.self.now c.args.notes.now) c.args.node c.args.packet c.args.octets.now) (sym is))
     (nothing_came g.C.NodeController.seen c.args.self.now _ c.args.notes.now c.inject.new.notes c.requires.steady
     (stays_put g.C.NodeController.seen c.args.self.now c.args.node c.index_mut-site.result.now _ c.requires.node c.index_mut-site.ensures.value (λ i. record { controller = same.0 i; switch = c.index_mut-site.result.now.switch; peers = c.index_mut-site.result.now.peers }))
-    same.1 refl refl refl refl refl refl refl)
+    same.1 refl refl refl refl refl refl refl refl refl)
 
 pub returns-in-Err-ControlProtocol-clause-refusal : goal.returns-in-Err-ControlProtocol-clause-refusal
 returns-in-Err-ControlProtocol-clause-refusal g c = same_option _ _ c.in-Err-ControlProtocol.ensures.refused ∙ ap refusal_of c.in-Err-ControlProtocol.field-0-is
@@ -48,4 +48,4 @@ returns-in-Err-ControlProtocol-clause-come g c =
     (ap (entered_by (world_of g.C.NodeController.seen c.args.self.now c.args.notes.now) c.args.node c.args.packet c.args.octets.now) (sym is))
     (nothing_came g.C.NodeController.seen c.args.self.now _ c.args.notes.now c.inject.new.notes c.requires.steady
     (stays_put g.C.NodeController.seen c.args.self.now c.args.node c.index_mut-site.result.now _ c.requires.node c.index_mut-site.ensures.value (λ i. record { controller = same.0 i; switch = c.index_mut-site.result.now.switch; peers = c.index_mut-site.result.now.peers }))
-    same.1 refl refl refl refl refl refl refl)
+    same.1 refl refl refl refl refl refl refl refl refl)

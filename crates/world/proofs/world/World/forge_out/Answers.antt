@@ -10,4 +10,4 @@ replace-requires-clause-summand g c =
 pub returns : goal.returns
 returns g c = switch_came g.C.NodeController.seen (λ a. forged a c.args.port c.args.channel c.args.mark c.args.payload.now) c.args.self.now _ c.args.notes.now c.forge.new.notes c.args.node c.index_mut-site.result.now
     (record { controller = c.index_mut-site.result.now.controller; switch = c.forge.new.self; peers = c.index_mut-site.result.now.peers }) c.switched-before.result c.switched.result
-    c.requires.steady c.requires.node c.index_mut-site.ensures.value refl refl refl (c.in_ok-forge.ensures c.args.self.now.numbers) (none_drawn c.args.self.now.numbers) c.switched-before.ensures c.switched.ensures c.replace.ensures (omega arith) refl refl refl refl refl
+    c.requires.steady c.requires.node c.index_mut-site.ensures.value refl refl refl (c.in_ok-forge.ensures c.args.self.now.numbers) (none_drawn c.args.self.now.numbers) c.switched-before.ensures c.switched.ensures c.replace.ensures (omega arith) refl refl refl refl refl refl c.insert.ensures

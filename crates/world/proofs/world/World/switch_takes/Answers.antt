@@ -10,4 +10,4 @@ replace-requires-clause-summand g c =
 pub returns : goal.returns
 returns g c = switch_came g.C.NodeController.seen (λ a. cell_comes a c.args.port c.args.cell.now) c.args.self.now _ c.args.notes.now c.receive.new.notes c.args.node c.index_mut-site.result.now
     (record { controller = c.index_mut-site.result.now.controller; switch = c.receive.new.self; peers = c.index_mut-site.result.now.peers }) c.switched-before.result c.switched.result
-    c.requires.steady c.requires.node c.index_mut-site.ensures.value refl refl refl c.in_ok-receive.ensures.acted c.in_ok-receive.ensures.drawn c.switched-before.ensures c.switched.ensures c.replace.ensures (omega arith) refl refl refl refl refl
+    c.requires.steady c.requires.node c.index_mut-site.ensures.value refl refl refl c.in_ok-receive.ensures.acted c.in_ok-receive.ensures.drawn c.switched-before.ensures c.switched.ensures c.replace.ensures (omega arith) refl refl refl refl refl refl c.insert.ensures

@@ -11,4 +11,4 @@ replace-requires-clause-summand g c =
 pub returns : goal.returns
 returns g c = controller_came g.C.NodeController.seen ticks c.args.self.now _ c.args.notes.now c.tick.new.notes c.args.node c.index_mut-site.result.now
     (record { controller = c.tick.new.self; switch = c.index_mut-site.result.now.switch; peers = c.index_mut-site.result.now.peers }) c.redirects-before.result c.redirects.result (λ a. (ticks_paces 0 a).node)
-    c.requires.steady c.requires.node c.index_mut-site.ensures.value refl refl refl c.in_ok-tick.ensures.acted c.in_ok-tick.ensures.drawn c.redirects-before.ensures c.redirects.ensures c.replace.ensures refl refl refl refl refl
+    c.requires.steady c.requires.node c.index_mut-site.ensures.value refl refl refl c.in_ok-tick.ensures.acted c.in_ok-tick.ensures.drawn c.redirects-before.ensures c.redirects.ensures c.replace.ensures refl refl refl refl refl refl c.insert.ensures
