@@ -14,8 +14,8 @@
  * - malloc, realloc and free are those of one allocator, and blocks are aligned as C wants it, up to 16 octets. No call is made
  *   in a handler of a signal, nor in the forked child of a process that had threads.
  *
- * Nothing is kept of a call: it gives back all memory that it took. Calls in several threads at once are fine. A call uses
- * some hundred thousand octets of stack at most; a thread with 1 MiB has enough. */
+ * Nothing is kept of a call: it gives back all memory that it took, and calls in several threads at once share nothing. How
+ * much stack a call takes isn't claimed; the examples run with the 8 MiB that a program usually has. */
 #ifndef IPSWITCH_H
 #define IPSWITCH_H
 
@@ -44,8 +44,8 @@ enum ipswitch_status {
  * input         what the command reads, as the program reads it from standard input: a script, a document, a trace.
  * input_length  how many octets it has. A command reads 16,777,217 at most, and refuses an input that has them.
  * room          where the output goes, what the program writes to standard output. Octets behind the output stay.
- * room_length   how many octets the room has. A report is seldom longer than a few times its script; a journal may have
- *               millions of octets. Where they are too few the call can be made again, with as many as the count says.
+ * room_length   how many octets the room has. A report may be longer than its script, and a journal have millions of octets.
+ *               Where they are too few the call can be made again, with as many as the count says.
  * count         is set to how many octets the output has, also where they are more than the room's. */
 uint8_t ipswitch_call(const uint8_t *words, size_t words_length, const uint8_t *input, size_t input_length,
                       uint8_t *room, size_t room_length, size_t *count);
