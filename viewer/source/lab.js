@@ -122,7 +122,7 @@ const Lab = (() => {
     show(byId("example").value);
   }
 
-  return { start };
+  return { start, say };
 })();
 
-Lab.start();
+Lab.start().catch((error) => Lab.say(`This browser can't load the program: ${error.message}. A journal can be opened.`, true));
