@@ -84,6 +84,13 @@ const Page = (() => {
     go(0);
   }
 
+  /** The same of a run that is edited: the event that was shown is, if it is there. */
+  function takeAgain(text, name) {
+    const position = view.player?.position ?? 0;
+    take(text, name);
+    if (view.run) go(Math.min(position, view.player.end));
+  }
+
   function setZoom(zoom) {
     view.zoom = zoom;
     const { width, height } = view.drawing.layout;
@@ -159,6 +166,7 @@ const Page = (() => {
     const { tagName, type } = event.target;
     if (event.ctrlKey || event.metaKey || event.altKey || byId("help").open) return true;
     if (event.key === " ") return ["BUTTON", "SELECT", "INPUT"].includes(tagName) && type !== "range";
+    if (tagName === "TEXTAREA") return true;
     return (tagName === "INPUT" && type !== "range" && type !== "file") || (tagName === "SELECT" && event.key.length > 1);
   }
 
@@ -220,7 +228,7 @@ const Page = (() => {
     if (embedded) take(embedded.textContent.replace(/^\n/, ""), embedded.dataset.name);
   }
 
-  return { start };
+  return { start, takeAgain };
 })();
 
 Page.start();

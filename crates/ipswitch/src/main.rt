@@ -4,10 +4,6 @@
 ghost use Rattle.std.specs.Prelude.{◌≡◌, map, drop, string_bytes, IfOk};
 ghost use Rattle.std.specs.Vec.Iter.{into_iter_items};
 
-mod laws;
-mod run;
-
-use crate::run::run;
 use command_line::Word;
 use lab_io::{StdSink, StdSource};
 use net_types::OutOfMemory;
@@ -15,6 +11,7 @@ use std::alloc::Global;
 use std::env::{self, Args};
 use std::io::ErrorKind;
 use std::process::ExitCode;
+pub use true_commands::run;
 use world::Meter;
 
 /// The words behind the program's name.

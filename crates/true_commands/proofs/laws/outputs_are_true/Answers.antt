@@ -10,8 +10,8 @@ use Rattle.true_runs.specs.Law.{IsTrueRun}
 use Rattle.true_lines.specs.Law.{HasNames, IsTrueOf}
 use Rattle.commands.specs.declared.task.Task.{Task}
 use Rattle.commands.specs.declared.task.Task.TheVariants.{Replay, View, Document, Drill, Whole, Lined}
-use Rattle.ipswitch.specs.Told.{AreTaskLines, output_of}
-use Rattle.ipswitch.proofs.laws.outputs_are_true.Goals as goal
+use Rattle.true_commands.specs.Told.{AreTaskLines, output_of}
+use Rattle.true_commands.proofs.laws.outputs_are_true.Goals as goal
 
 true_of : (policy : Policy) (script : Script) → HasNames script.topology → IsTrueRun policy script.topology script.events → IsTrueOf policy script
 true_of policy script names run = record { names = names; routing = run.routing; harmony = run.harmony; causes = run.causes }

@@ -1,7 +1,7 @@
 -- whatever the status, what was written is a front of the output
 
-use Rattle.ipswitch.proofs.Told.{run_told}
-use Rattle.ipswitch.proofs.run.run.Goals as goal
+use Rattle.true_commands.proofs.Told.{run_told}
+use Rattle.true_commands.proofs.command.run.Goals as goal
 
 pub returns-clause-lines : goal.returns-clause-lines
 returns-clause-lines g c = λ task asks.

@@ -20,9 +20,9 @@ use Rattle.console_model.specs.Law.{HasNoChance, EveryRunIsRight}
 use Rattle.console_model.specs.Steps.{lab_after}
 use Rattle.console_run.specs.Session.{Session, session_of}
 use Rattle.console_run.specs.Course.{IsCourse}
-use Rattle.ipswitch.specs.Law.{IsTrueTask, IsTrueScript, IsTrueSession}
-use Rattle.ipswitch.proofs.Sessions.{true_session}
-use Rattle.ipswitch.proofs.laws.tasks_are_true.Goals as goal
+use Rattle.true_commands.specs.Law.{IsTrueTask, IsTrueScript, IsTrueSession}
+use Rattle.true_commands.proofs.Sessions.{true_session}
+use Rattle.true_commands.proofs.laws.tasks_are_true.Goals as goal
 
 true_script : RunsAreTrue → (script : Script) → IsScriptRun script → IsTrueScript script
 true_script runs script is = runs (policy_of script.topology) script.topology script.events (is.run (policy_of script.topology)) is.addresses

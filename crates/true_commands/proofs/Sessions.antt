@@ -7,7 +7,7 @@ use Rattle.console_model.specs.declared.event.ConsoleEvent.{ConsoleEvent}
 use Rattle.console_model.specs.Law.{CanCome, EveryRunIsRight}
 use Rattle.console_run.specs.Session.{Session}
 use Rattle.console_run.specs.Course.{IsCourse}
-use Rattle.ipswitch.specs.Law.{IsTrueSession}
+use Rattle.true_commands.specs.Law.{IsTrueSession}
 
 can_come_first : (before after : List ConsoleEvent) → All CanCome (before ++ after) → All CanCome before
 can_come_first [] after all = All-nil CanCome

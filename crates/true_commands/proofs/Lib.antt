@@ -1,2 +1,3 @@
 mod Sessions
 pub mod Told
+pub mod Given

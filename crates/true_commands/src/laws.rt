@@ -1,8 +1,8 @@
 //! What is true of every run is true of what each command replays, and what is true of every audit is true
 //! of what one is given; and what replays write has true lines. No code of this module does anything.
 
-ghost use Rattle.ipswitch.specs.Law.{TasksAreTrue};
-ghost use Rattle.ipswitch.specs.Told.{OutputsAreTrue};
+ghost use Rattle.true_commands.specs.Law.{TasksAreTrue};
+ghost use Rattle.true_commands.specs.Told.{OutputsAreTrue};
 
 use console_laws::every_run_is_right;
 use console_run::sessions_are_runs;

@@ -27,7 +27,7 @@ use Rattle.commands.specs.Ending.{ending_status}
 use Rattle.commands.specs.Run as runs
 use Rattle.commands.specs.Run.{HasDone, LeavesUnread, LeavesFront, LeavesAtWant, IsAnswered, IsCutOff, IsCutShort, InUsage, InReport, IsGivenUp, Unread, InTask}
 use Rattle.commands.specs.Task.{task_of, AskForTask, AskForNone, usage_line}
-use Rattle.ipswitch.specs.Told.{AreTaskLines, TellsTrue, HasTrueLines, output_of, OutputsAreTrue}
+use Rattle.true_commands.specs.Told.{AreTaskLines, TellsTrue, HasTrueLines, output_of, OutputsAreTrue}
 
 -- *Words ask for one task*: they are read as one command
 said : List (List ℕ) → Option Command

@@ -9,8 +9,8 @@ ghost use Rattle.commands.specs.declared.task.Task.TheVariants.{Drill};
 ghost use Rattle.commands.specs.Ending as endings;
 ghost use Rattle.commands.specs.Run as runs;
 ghost use Rattle.commands.specs.Task as asked;
-ghost use Rattle.ipswitch.specs.Law.{IsTrueTask};
-ghost use Rattle.ipswitch.specs.Told.{HasTrueLines};
+ghost use Rattle.true_commands.specs.Law.{IsTrueTask};
+ghost use Rattle.true_commands.specs.Told.{HasTrueLines};
 
 use crate::laws::{outputs_are_true, tasks_are_true};
 use command_line::Word;
