@@ -7,3 +7,4 @@ pub mod Chains
 pub mod Followings
 pub mod Behind
 pub mod Passing
+pub mod Few

@@ -1,6 +1,6 @@
 //! The branches of a switch, in arrays by channel.
 
-ghost use Rattle.std.specs.Prelude.{◌≡◌, ◌≤◌, ◌<◌, ◌==◌, ◌+◌, ℕ, true, nat_le, All, IfSome, IfNone, IfOk};
+ghost use Rattle.std.specs.Prelude.{◌≡◌, ◌≤◌, ◌<◌, ◌==◌, ◌+◌, ℕ, length, true, nat_le, All, IfSome, IfNone, IfOk};
 ghost use Rattle.std.specs.FinMap as map;
 ghost use Rattle.std.specs.List.{list_all, list_any};
 ghost use Rattle.crossbar_model.specs.Channels.{IsLinkPort, is_connectable};
@@ -175,5 +175,12 @@ impl Branches {
             from = 0;
         }
         None
+    }
+
+    /// What holds of every table: it has no more branches than places.
+    pub(crate) fn are_few(&self)
+        ensures { length (map.entries self.now.branches) ≤ 254208 }
+    {
+        let _rows = &self.rows;
     }
 }

@@ -162,6 +162,13 @@ impl Fabric {
         self.branches.first_behind(after)
     }
 
+    /// What holds of every fabric: it has no more branches than channels that any fabric connects.
+    pub fn branches_are_few(&self)
+        ensures { length (map.entries self.now.branches) ≤ 254208 }
+    {
+        self.branches.are_few();
+    }
+
     /// Takes a cell that came on a port: to the end of the queue of its branch's output, with the
     /// output's channel.
     pub fn switch_cell(&mut self, port: PortNo, cell: &Cell) -> Routed

@@ -125,6 +125,13 @@ impl Exchange {
         self.fabric.branch_at(after)
     }
 
+    /// What holds of every exchange: its branches are few.
+    pub(crate) fn branches_are_few(&self)
+        ensures { length (map.entries self.now.crossbar.branches) ≤ 254208 }
+    {
+        self.fabric.branches_are_few();
+    }
+
     /// Takes a cell that came on a port to the queue of its branch's output.
     #[tactic(auto, using(crate::proofs::Exchanges::free_is, crate::proofs::Exchanges::chain_length))]
     pub(crate) fn switch_cell(&mut self, port: PortNo, cell: &Cell) -> Routed

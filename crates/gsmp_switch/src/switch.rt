@@ -476,6 +476,13 @@ impl Switch {
         self.exchange.branch_at(after)
     }
 
+    /// What holds of every switch: it has no more branches than channels that any switch connects.
+    pub fn branches_are_few(&self)
+        ensures { length (map.entries self.now.crossbar.branches) ≤ 254208 }
+    {
+        self.exchange.branches_are_few();
+    }
+
     /// Where the cells of an input go. None exactly where it has no branch.
     pub fn branch(&self, input: End) -> Option<End>
         ensures { result ≡ output_of self.now.crossbar.branches input }
