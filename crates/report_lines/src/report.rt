@@ -34,6 +34,8 @@ impl<C: NodeController> Teller<C> for ReportLines {
 
     ghost awaits = { λ _ _ _ _ _. Unit {0} };
 
+    fn passes_over_empty_queues() {}
+
     fn open<K: Sink>(
         &mut self,
         _world: &World<C>,
