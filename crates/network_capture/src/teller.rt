@@ -164,6 +164,8 @@ impl<C: NodeController> Teller<C> for CaptureTeller {
 
     ghost awaits = { λ t known topology w event. HasSeen t known w event };
 
+    fn passes_over_empty_queues() {}
+
     fn open<K: Sink>(
         &mut self,
         world: &World<C>,

@@ -48,6 +48,8 @@ impl<C: NodeController> Teller<C> for TraceTeller {
 
     ghost awaits = { λ teller. Awaits teller.told teller.before };
 
+    fn passes_over_empty_queues() {}
+
     fn open<K: Sink>(
         &mut self,
         _world: &World<C>,
