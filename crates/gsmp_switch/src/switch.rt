@@ -4,6 +4,7 @@ ghost use Rattle.std.specs.Prelude.{◌≡◌, ◌∷◌, ◌⊎◌, ◌≤◌, 
 ghost use Rattle.net_types.specs.Number.{AreDrawn, GivenOut, HasNumbersLeft, next_instance, with_instance};
 ghost use Rattle.crossbar_model.specs.Channels.{ArePorts};
 ghost use Rattle.crossbar_model.specs.Crossbar.{output_of, popped, queue_of};
+ghost use Rattle.std.specs.FinMap as map;
 ghost use Rattle.fabric.specs.Fabric.{crossbar, free_slots as fabric_slots};
 ghost use Rattle.fabric.specs.Following.{branch_behind};
 ghost use Rattle.gsmp_wire.specs.Range.{Bits, IsInRange};
