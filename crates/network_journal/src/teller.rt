@@ -90,6 +90,8 @@ impl<C: NodeController> Teller<C> for JournalTeller {
 
     ghost awaits = { λ teller known topology w event. IsBefore topology w event teller.before };
 
+    fn passes_over_empty_queues() {}
+
     fn open<K: Sink>(
         &mut self,
         _world: &World<C>,

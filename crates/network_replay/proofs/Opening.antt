@@ -21,7 +21,8 @@ use Rattle.world_pace.specs.Running.{AreRunning, IsRunning, IsRunningSite, numbe
 use Rattle.script_model.specs.declared.line.Line.TheVariants.{TickAll, Run}
 use Rattle.script_model.specs.Script.{events_of, opened_of}
 use Rattle.world.proofs.Opened.{few_ranges, ports_of_ranges, runs_more, site_runs}
-use Rattle.network_run.proofs.Turns.{map_length, same_places, site_places}
+use Rattle.network_run.proofs.Turns.{map_length}
+use Rattle.world.proofs.Places.{same_places, site_places}
 
 opens_run : (policy : Policy) (t : Topology) (w : World) (place : ℕ) (nodes : List Node) → place ≡ suc (length w.sites) → AreRunning t 0 1 w.sites
     → AreRunning t 0 1 (opens_each policy t w place nodes).sites × (length (opens_each policy t w place nodes).sites ≡ length w.sites + length nodes)
