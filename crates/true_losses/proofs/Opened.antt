@@ -1,7 +1,7 @@
 -- what is open on branches, behind each event
 
 use Rattle.std.proofs.Common.{◌≡◌, ◌≢◌, ◌∙◌, ap, sym, subst, ℕ, zero, suc, Bool, true, false, List, [], ◌∷◌, Option, None, Some, refl, if◌then◌else◌}
-use Rattle.std.specs.Prelude.{◌==◌, ◌&&◌, ◌+◌, ◌++◌}
+use Rattle.std.specs.Prelude.{◌&&◌, ◌+◌}
 use Rattle.std.specs.Option.{option_and_then}
 use Rattle.std.specs.FinMap.{get}
 use Rattle.net_types.specs.declared.node.NodeId.{NodeId}
@@ -15,8 +15,7 @@ use Rattle.net_types.specs.Number.{next_control, with_control}
 use Rattle.atm_cells.specs.declared.cell.Cell.{Cell}
 use Rattle.crossbar_model.specs.declared.branch.Branch.{Branch}
 use Rattle.crossbar_model.specs.Crossbar.{same_end, input_of}
-use Rattle.link_model.specs.declared.record.Record.TheVariants.{Loss, Forged}
-use Rattle.link_model.specs.declared.record.Cause.TheVariants.{Lost}
+use Rattle.link_model.specs.declared.record.Record.TheVariants.{Forged}
 use Rattle.link_model.specs.declared.record.Refusal.{Refusal}
 use Rattle.keyed_lists.specs.Keyed.{at, put}
 use Rattle.world_model.specs.Switch as switches

@@ -1,6 +1,6 @@
 -- what is open on the branches of a switch, behind each of its rules
 
-use Rattle.std.proofs.Common.{◌≡◌, ◌≢◌, ◌∙◌, ap, sym, subst, true≢false, ℕ, zero, suc, Bool, true, false, List, [], ◌∷◌, length, Option, None, Some, refl, inl, inr, ◌⊎◌, if◌then◌else◌}
+use Rattle.std.proofs.Common.{◌≡◌, ◌≢◌, ◌∙◌, ap, sym, subst, ℕ, zero, suc, Bool, true, false, List, [], ◌∷◌, length, Option, None, Some, refl, inl, inr, ◌⊎◌, if◌then◌else◌}
 use Rattle.std.specs.Prelude.{◌==◌, ◌&&◌, nat_le, nat_lt, Result, Ok, Err}
 use Rattle.std.specs.FinMap.{get, insert, keys, remove}
 use Rattle.net_types.specs.declared.node.NodeId.{NodeId}
@@ -24,7 +24,7 @@ use Rattle.gsmp_wire.specs.declared.request.Request.TheVariants.{AddBranch, Move
 use Rattle.gsmp_wire.specs.Layout.{octets_of}
 use Rattle.gsmp_wire.specs.Fields.{decoded}
 use Rattle.crossbar_model.specs.declared.branch.Branch.{Branch}
-use Rattle.crossbar_model.specs.Crossbar.{Branches, same_end, new_branch, moved, unfinished_after, input_of, route_on, switched_on, switched}
+use Rattle.crossbar_model.specs.Crossbar.{Branches, same_end, new_branch, unfinished_after, input_of, route_on, switched_on}
 use Rattle.link_model.specs.declared.record.Record.TheVariants.{Loss}
 use Rattle.link_model.specs.declared.record.Cause.TheVariants.{PoolFull}
 use Rattle.link_model.specs.Notes.{Journal, noted}
