@@ -1,10 +1,10 @@
 -- what is open on branches, behind each event
 
 use Rattle.std.proofs.Common.{◌≡◌, ◌≢◌, ◌∙◌, ap, sym, subst, ℕ, zero, suc, Bool, true, false, List, [], ◌∷◌, Option, None, Some, refl, if◌then◌else◌}
-use Rattle.std.specs.Prelude.{◌==◌, ◌&&◌, ◌+◌, ◌++◌}
+use Rattle.std.specs.Prelude.{◌&&◌, ◌+◌}
 use Rattle.std.specs.Option.{option_and_then}
 use Rattle.std.specs.FinMap.{get}
-use Rattle.world_model.specs.Words.{NodeId, PortNo, Place, Down, Up, Out, Channel, End, Mark, next_control, with_control, Cell, same_end, Loss, Forged, Lost, Refusal, at, put, control_port, is_gsmp, inject_refusal, injected, node_restarts, change_comes, Topology, World, Site, site_key, site_at, controller_acts, switch_acts, queue_at, with_queue, with_queue_in, injects_by, arrives_at, arrives, carries_head, loses_head, forges_at}
+use Rattle.world_model.specs.Words.{NodeId, PortNo, Place, Down, Up, Out, Channel, End, Mark, next_control, with_control, Cell, same_end, Forged, Refusal, at, put, control_port, is_gsmp, inject_refusal, injected, node_restarts, change_comes, Topology, World, Site, site_key, site_at, controller_acts, switch_acts, queue_at, with_queue, with_queue_in, injects_by, arrives_at, arrives, carries_head, loses_head, forges_at}
 use Rattle.world_model.specs.crossbar_model.declared.branch.Branch.{Branch}
 use Rattle.world_model.specs.crossbar_model.Crossbar.{input_of}
 use Rattle.world_model.specs.Switch as switches
