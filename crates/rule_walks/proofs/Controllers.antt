@@ -1,6 +1,7 @@
--- What a few changes of a controller keep, all that it does keeps, but for what it makes of cells and packets
+-- What a few changes of a controller keep, each of its rules keeps, but for what it makes of cells and packets: until an
+-- answer of the switch or a change of routes has changes taken, which is `Changes`'
 
-use Rattle.std.proofs.Common.{◌≡◌, ℕ, List, [], ◌∷◌, map, flat_map, ◌++◌, Option, None, Some, true, false, refl, sym, subst, if◌then◌else◌, fold}
+use Rattle.std.proofs.Common.{◌≡◌, ℕ, List, [], ◌∷◌, flat_map, Option, None, Some, true, false, refl, sym, subst, if◌then◌else◌, fold}
 use Rattle.std.specs.Prelude.{◌==◌, Ok}
 use Rattle.net_types.specs.declared.node.PortNo.{PortNo}
 use Rattle.net_types.specs.declared.channel.End.{End}
@@ -18,13 +19,12 @@ use Rattle.adjacency_table.specs.declared.message.Answer.TheVariants.{Quiet, Sen
 use Rattle.adjacency_table.specs.declared.message.Said.{Said}
 use Rattle.adjacency_table.specs.Side as sides
 use Rattle.adjacency_table.specs.Side.{is_estab, ticked}
-use Rattle.adjacency_table.specs.Greeting.{greeting_of, gsmp_answer, gsmp_received}
+use Rattle.adjacency_table.specs.Greeting.{greeting_of, gsmp_answer}
 use Rattle.link_model.specs.declared.record.Record.{Record}
 use Rattle.link_model.specs.declared.record.Record.TheVariants.{Part}
 use Rattle.ordered_lists.specs.Ordered.{Every}
 use Rattle.keyed_lists.specs.Keyed.{at}
 use Rattle.port_model.specs.Desk.{Desk, Standing, asked, withdrawn, is_led_home, message_at, last_transaction, empty_desk, sent_again}
-use Rattle.port_model.specs.DeskAnswers.{Answered, Unknown, Done, Ports, Failed, answered, after_answer}
 use Rattle.port_model.specs.declared.action.Action.{Action}
 use Rattle.port_model.specs.declared.action.Action.TheVariants as actions
 use Rattle.port_model.specs.Setup.{Setup, home_of}
@@ -41,7 +41,7 @@ use Rattle.port_facts.specs.Port.{Lives}
 use Rattle.port_facts.proofs.Keyed.{on_both, on_each, at_key}
 use Rattle.port_facts.proofs.Rules.{used_goes, done_goes}
 use Rattle.port_facts.proofs.Hearings.{hears_goes, ticks_goes}
-use Rattle.controller_facts.proofs.Moves.{IsGsmpTurn, hears as hears_greeting, ages}
+use Rattle.controller_facts.proofs.Moves.{IsGsmpTurn, ages}
 use Rattle.world_model.specs.Controller.{Acted, Linked, port_key, linked_at, ports_of, with_linked, with_desk, note, default_end, default_home}
 use Rattle.world_model.specs.Sending.{says_gsmp, says_ifmp}
 use Rattle.world_model.specs.Asking.{sends_request, asks_next, asks, takes_back}
@@ -49,9 +49,9 @@ use Rattle.world_model.specs.Resets.{cuts_of, cuts_label, cuts_default_of, cuts_
 use Rattle.world_model.specs.Performing.{does, does_in_estab, resets_of, resets_port, performs, performs_in_estab, works, at_port}
 use Rattle.world_model.specs.Performing as performing
 use Rattle.world_model.specs.Joins.{Join, join_of, parts, gives_back, releases_join, releases_input, released_inputs, resets_spent, releases, join_for, may_join, enters_grant, output_of, enters_label, joins, tries_label, label_on, tries_join, inputs_at, tries_joins}
-use Rattle.world_model.specs.Changes.{changed_joins, takes_join_back, begins_change, takes_change, may_take, takes_each, takes_changes, change_comes}
-use Rattle.world_model.specs.Meeting.{meets, up_ports, default_branches, ends_meeting, has_emptied, port_of, tells_port, behind_delete_all, causes_in_estab, causes, may_clear, clears_of, clears_port, clears, done, takes_answer, answer_comes}
-use Rattle.world_model.specs.Gsmp.{answers, steps, told}
+use Rattle.world_model.specs.Changes.{changed_joins, takes_join_back, begins_change}
+use Rattle.world_model.specs.Meeting.{meets, up_ports, default_branches, ends_meeting, has_emptied, port_of, tells_port, behind_delete_all, causes_in_estab, may_clear, clears_of, clears_port}
+use Rattle.world_model.specs.Gsmp.{answers, steps}
 use Rattle.world_model.specs.Cells.{ifmp_holds, counted_at}
 use Rattle.world_model.specs.Ticks.{sends_again, ticks_port, ticks_ports, ticks_by, ticks}
 use Rattle.rule_walks.proofs.Ports.{AsksOnly, asks_only, Rule, by_steps, by_counting, by_closing, by_parting, by_joining, by_lending, by_giving_back, Worked, by_rule, by_reset, by_restart, worked_kept}
@@ -82,9 +82,8 @@ pub record Keeps (P : Acted → Type 0) (K : Setup → Desk → Work → Type 0)
   pub cutting_label : (a : Acted) (linked : Linked) (label : ℕ) → Found a linked → P a → P (cuts_of a label (Some linked))
   pub cutting_default : (a : Acted) (linked : Linked) → Found a linked → P a → P (cuts_default_of a (Some linked))
   pub cutting_gsmp : (a : Acted) → P a → P (cuts_gsmp a)
-  -- a change of routes is begun, and taken
+  -- a change of routes is begun
   pub changing : (a : Acted) → P a → P (record a { controller = record a.controller { is_begun = true } })
-  pub taking : (a : Acted) (change : RouteChange) (later : List RouteChange) → P a → P (takes_change a change later)
 
 -- *Ports that ask what any port asks*
 abbrev pub AsksOnlyAt : Setup → Desk → Work → Type 0
@@ -151,7 +150,7 @@ module _ {P : Acted → Type 0} {K : Setup → Desk → Work → Type 0} {A : Se
       (on_both P (a.controller.desk.next == last_transaction) (node_resets a) (asks_next a request) (node_resets_kept a h)
       (request_kept (with_desk a (asked a.controller.desk request)) (record { number = a.controller.desk.next; request = request }) (k.desk a (asked a.controller.desk request) h))) h
 
-  asks_each_kept : (requests : List Request) (a : Acted) → P a → P (fold asks a requests)
+  pub asks_each_kept : (requests : List Request) (a : Acted) → P a → P (fold asks a requests)
   asks_each_kept requests a h = fold_kept P asks asks_kept requests a h
 
   takes_back_kept : (a : Acted) (input output : End) → P a → P (takes_back a input output)
@@ -212,7 +211,7 @@ module _ {P : Acted → Type 0} {K : Setup → Desk → Work → Type 0} {A : Se
   resets_spent_kept : (a : Acted) (port : PortNo) → P a → P (resets_spent a port)
   resets_spent_kept a port h = at_port_kept a port (λ setup desk w. closes w) (λ setup desk w. by_closing) h
 
-  releases_kept : (a : Acted) (request : Request) → P a → P (releases a request)
+  pub releases_kept : (a : Acted) (request : Request) → P a → P (releases a request)
   releases_kept a request h =
       let released : Acted = fold releases_input a (released_inputs a.controller request) in
       fold_kept P resets_spent resets_spent_kept (ports_of released.controller) released (fold_kept P releases_input releases_input_kept (released_inputs a.controller request) a h)
@@ -239,25 +238,11 @@ module _ {P : Acted → Type 0} {K : Setup → Desk → Work → Type 0} {A : Se
   tries_joins_kept a h = fold_kept P tries_join tries_join_kept (flat_map inputs_at a.controller.ports) a h
 
   -- *Changes of routes*
-  begins_change_kept : (a : Acted) (change : RouteChange) → P a → P (begins_change a change)
+  pub begins_change_kept : (a : Acted) (change : RouteChange) → P a → P (begins_change a change)
   begins_change_kept a change h =
       let begun : Acted = record a { controller = record a.controller { is_begun = true } } in
       on_both P a.controller.is_begun a (fold takes_join_back begun (changed_joins a.controller change)) h
       (fold_kept P takes_join_back (λ b join q. takes_back_kept b join.input (output_of join) q) (changed_joins a.controller change) begun (k.changing a h))
-
-  takes_each_kept : (a : Acted) (changes : List RouteChange) → P a → P (takes_each a changes)
-  takes_each_kept a [] h = h
-  takes_each_kept a (change ∷ later) h =
-      let begun : Acted = begins_change a change in
-      let b : P begun = begins_change_kept a change h in
-      on_both P (may_take begun.controller change) (takes_each (takes_change begun change later) later) begun (takes_each_kept (takes_change begun change later) later (k.taking begun change later b)) b
-
-  takes_changes_kept : (a : Acted) → P a → P (takes_changes a)
-  takes_changes_kept a h = on_both P a.controller.has_met (takes_each a a.controller.waiting) a (takes_each_kept a a.controller.waiting h) h
-
-  -- it waits behind the others
-  pub change_comes_kept : (a : Acted) (change : RouteChange) → P (record a { controller = record a.controller { waiting = a.controller.waiting ++ change ∷ [] } }) → P (change_comes a change)
-  change_comes_kept a change h = takes_changes_kept (record a { controller = record a.controller { waiting = a.controller.waiting ++ change ∷ [] } }) h
 
   -- *The adjacency with the switch*, and meeting it
   meets_kept : (a : Acted) → P a → P (meets a)
@@ -273,7 +258,7 @@ module _ {P : Acted → Type 0} {K : Setup → Desk → Work → Type 0} {A : Se
   answers_kept a (Open (Some m) own) h = meets_kept (says_gsmp a (messages.Adjacency (greeting_of m))) (k.telling a (messages.Adjacency (greeting_of m)) h)
   answers_kept a Reset h = node_resets_kept a h
 
-  steps_kept : (a : Acted) (step : sides.Step Party) → IsGsmpTurn a.controller.adjacency step → P a → P (steps a step)
+  pub steps_kept : (a : Acted) (step : sides.Step Party) → IsGsmpTurn a.controller.adjacency step → P a → P (steps a step)
   steps_kept a step turn h = answers_kept (record a { controller = record a.controller { adjacency = step.side } }) step.answer (k.turning a step turn h)
 
   -- *Answers of the switch*
@@ -286,7 +271,7 @@ module _ {P : Acted → Type 0} {K : Setup → Desk → Work → Type 0} {A : Se
       (asks_kept a (AddBranch (default_end port) (default_home port)) h)
       (on_both P (has_emptied a.controller) (ends_meeting a) a (ends_meeting_kept a h) h)
 
-  causes_in_kept : (a : Acted) (request : Request) → P a → P (causes_in_estab a request)
+  pub causes_in_kept : (a : Acted) (request : Request) → P a → P (causes_in_estab a request)
   causes_in_kept a (DeleteAll port) h = behind_kept a port h
   causes_in_kept a (AddBranch input output) h = tells_kept a (AddBranch input output) (port_of (AddBranch input output)) h
   causes_in_kept a (MoveBranch input from to) h = tells_kept a (MoveBranch input from to) (port_of (MoveBranch input from to)) h
@@ -295,39 +280,11 @@ module _ {P : Acted → Type 0} {K : Setup → Desk → Work → Type 0} {A : Se
   causes_in_kept a (PortManagement port function) h = tells_kept a (PortManagement port function) (port_of (PortManagement port function)) h
   causes_in_kept a AllPorts h = h
 
-  clears_kept : (a : Acted) (port : PortNo) → P a → P (clears_port a port)
+  pub clears_kept : (a : Acted) (port : PortNo) → P a → P (clears_port a port)
   clears_kept a port h = at_linked (clears_of a) a port h
       (λ linked found. on_each P (may_clear a.controller linked) (with_linked a (record linked { port = cleared linked.port })) a (λ may. k.clearing a linked found may h) (λ may. h))
 
-  done_kept : (a : Acted) (request : Request) → P a → P (done a request)
-  done_kept a request h =
-      let released : Acted = releases a request in
-      let caused : Acted = causes released request in
-      let r : P released = releases_kept a request h in
-      takes_changes_kept (clears caused) (fold_kept P clears_port clears_kept (ports_of caused.controller) caused
-      (on_both P (is_estab released.controller.adjacency.state) (causes_in_estab released request) released (causes_in_kept released request r) r))
-
-  takes_kept : (a : Acted) (answer : Answered) → P a → P (takes_answer a answer)
-  takes_kept a Unknown h = k.desk a (after_answer a.controller.desk Unknown) h
-  takes_kept a (Done s) h = done_kept (with_desk a (after_answer a.controller.desk (Done s))) s.request (k.desk a (after_answer a.controller.desk (Done s)) h)
-  takes_kept a (Ports s rows) h =
-      let b : Acted = with_desk a (after_answer a.controller.desk (Ports s rows)) in
-      asks_each_kept (map DeleteAll (record { 0 = 0 } ∷ up_ports b.controller)) b (k.desk a (after_answer a.controller.desk (Ports s rows)) h)
-  takes_kept a (Failed s code) h = node_resets_kept (with_desk a (after_answer a.controller.desk (Failed s code))) (k.desk a (after_answer a.controller.desk (Failed s code)) h)
-
-  answer_kept : (a : Acted) (message : Message) → P a → P (answer_comes a message)
-  answer_kept a message h = takes_kept a (answered a.controller.desk message) h
-
-  -- *What is read* of the switch, and of a peer
-  pub told_kept : (a : Acted) (message : Message) → P a → P (told a message)
-  told_kept a (messages.Adjacency greeting) h = steps_kept a (gsmp_received a.controller.adjacency greeting) (hears_greeting greeting) h
-  told_kept a (messages.Branch kind result code number session input_port input output_port output branches priority) h =
-      answer_kept a (messages.Branch kind result code number session input_port input output_port output branches priority) h
-  told_kept a (messages.Move result code number session input_port input output_port output target_port target branches priority) h =
-      answer_kept a (messages.Move result code number session input_port input output_port output target_port target branches priority) h
-  told_kept a (messages.Port result code number port session function) h = answer_kept a (messages.Port result code number port session function) h
-  told_kept a (messages.AllPorts result code number rows) h = answer_kept a (messages.AllPorts result code number rows) h
-
+  -- *What is read* of a peer
   pub ifmp_kept : (a : Acted) (port : PortNo) (packet : List ℕ) (message : IfmpMessage) → Lives message → P a → P (ifmp_holds a port packet (Ok message))
   ifmp_kept a port packet message lives h = live_kept a port (λ setup desk w. hears setup desk w (source_of packet) message)
       (λ setup desk w live. by_steps _ (hears_goes setup desk w (source_of packet) message live lives)) h
