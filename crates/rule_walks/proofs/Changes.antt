@@ -48,7 +48,7 @@ control_waits a channel payload = sends_waits (record a { numbers = with_control
 abbrev Waits : List RouteChange → Acted → Type 0
 Waits changes a = a.controller.waiting ≡ changes
 
-waits : (changes : List RouteChange) → Keeps (Waits changes) AsksOnlyAt IsAsked
+waits : (changes : List RouteChange) → Keeps (Unit {0}) (Waits changes) (AsksOnlyAt (Unit {0})) (IsAsked (Unit {0}))
 waits changes = record {
   beginning = λ a linked found h. tt;
   working = asks_only_works;
@@ -57,11 +57,13 @@ waits changes = record {
   clearing = λ a linked found may h. h;
   saying = λ setup a message is h. control_waits a _ _ ∙ h;
   noting = λ setup a item is h. h;
+  withdrawing = λ setup a input is h. h;
   parting = λ a input h. h;
   telling = λ a message h. control_waits a _ _ ∙ h;
+  requesting = λ a request estab room h. h;
   turning = λ a step turn h. h;
   resetting = λ a h. h;
-  desk = λ a d h. h;
+  emptying = λ a h. h;
   meeting = λ a h. h;
   cutting_label = λ a linked label found h. h;
   cutting_default = λ a linked found h. h;
@@ -69,7 +71,7 @@ waits changes = record {
   changing = λ a h. h;
 }
 
-module _ {P : Acted → Type 0} {K : Setup → Desk → Work → Type 0} {A : Setup → Action → Type 0} (k : Keeps P K A)
+module _ {Binds : Type 0} {P : Acted → Type 0} {K : Setup → Desk → Work → Type 0} {A : Setup → Action → Type 0} (k : Keeps Binds P K A)
     (takes : (a : Acted) (change : RouteChange) (later : List RouteChange) → a.controller.waiting ≡ change ∷ later → P a → P (takes_change a change later)) where
   takes_each_kept : (a : Acted) (changes : List RouteChange) → a.controller.waiting ≡ changes → P a → P (takes_each a changes)
   takes_each_kept a [] e h = h
@@ -86,31 +88,33 @@ module _ {P : Acted → Type 0} {K : Setup → Desk → Work → Type 0} {A : Se
   pub change_comes_kept : (a : Acted) (change : RouteChange) → P (record a { controller = record a.controller { waiting = a.controller.waiting ++ change ∷ [] } }) → P (change_comes a change)
   change_comes_kept a change h = takes_changes_kept (record a { controller = record a.controller { waiting = a.controller.waiting ++ change ∷ [] } }) h
 
-  done_kept : (a : Acted) (request : Request) → P a → P (done a request)
-  done_kept a request h =
-      let released : Acted = releases a request in
-      let caused : Acted = causes released request in
-      let r : P released = releases_kept k a request h in
-      takes_changes_kept (clears caused) (fold_kept P clears_port (clears_kept k) (ports_of caused.controller) caused
-      (on_both P (is_estab released.controller.adjacency.state) (causes_in_estab released request) released (causes_in_kept k released request r) r))
+  -- *Where labels may be bound*, and an answer is taken from the desk
+  module _ (binds : Binds) (answering : (a : Acted) (answer : Answered) → P a → P (with_desk a (after_answer a.controller.desk answer))) where
+    done_kept : (a : Acted) (request : Request) → P a → P (done a request)
+    done_kept a request h =
+        let released : Acted = releases a request in
+        let caused : Acted = causes released request in
+        let r : P released = releases_kept k a request h in
+        takes_changes_kept (clears caused) (fold_kept P clears_port (clears_kept k) (ports_of caused.controller) caused
+        (on_both P (is_estab released.controller.adjacency.state) (causes_in_estab released request) released (causes_in_kept k binds released request r) r))
 
-  takes_kept : (a : Acted) (answer : Answered) → P a → P (takes_answer a answer)
-  takes_kept a Unknown h = k.desk a (after_answer a.controller.desk Unknown) h
-  takes_kept a (Done s) h = done_kept (with_desk a (after_answer a.controller.desk (Done s))) s.request (k.desk a (after_answer a.controller.desk (Done s)) h)
-  takes_kept a (Ports s rows) h =
-      let b : Acted = with_desk a (after_answer a.controller.desk (Ports s rows)) in
-      asks_each_kept k (map DeleteAll (record { 0 = 0 } ∷ up_ports b.controller)) b (k.desk a (after_answer a.controller.desk (Ports s rows)) h)
-  takes_kept a (Failed s code) h = node_resets_kept k (with_desk a (after_answer a.controller.desk (Failed s code))) (k.desk a (after_answer a.controller.desk (Failed s code)) h)
+    takes_kept : (a : Acted) (answer : Answered) → P a → P (takes_answer a answer)
+    takes_kept a Unknown h = answering a Unknown h
+    takes_kept a (Done s) h = done_kept (with_desk a (after_answer a.controller.desk (Done s))) s.request (answering a (Done s) h)
+    takes_kept a (Ports s rows) h =
+        let b : Acted = with_desk a (after_answer a.controller.desk (Ports s rows)) in
+        asks_each_kept k (map DeleteAll (record { 0 = 0 } ∷ up_ports b.controller)) b (answering a (Ports s rows) h)
+    takes_kept a (Failed s code) h = node_resets_kept k (with_desk a (after_answer a.controller.desk (Failed s code))) (answering a (Failed s code) h)
 
-  answer_kept : (a : Acted) (message : Message) → P a → P (answer_comes a message)
-  answer_kept a message h = takes_kept a (answered a.controller.desk message) h
+    answer_kept : (a : Acted) (message : Message) → P a → P (answer_comes a message)
+    answer_kept a message h = takes_kept a (answered a.controller.desk message) h
 
-  -- *What is read* of the switch
-  pub told_kept : (a : Acted) (message : Message) → P a → P (told a message)
-  told_kept a (messages.Adjacency greeting) h = steps_kept k a (gsmp_received a.controller.adjacency greeting) (hears_greeting greeting) h
-  told_kept a (messages.Branch kind result code number session input_port input output_port output branches priority) h =
-      answer_kept a (messages.Branch kind result code number session input_port input output_port output branches priority) h
-  told_kept a (messages.Move result code number session input_port input output_port output target_port target branches priority) h =
-      answer_kept a (messages.Move result code number session input_port input output_port output target_port target branches priority) h
-  told_kept a (messages.Port result code number port session function) h = answer_kept a (messages.Port result code number port session function) h
-  told_kept a (messages.AllPorts result code number rows) h = answer_kept a (messages.AllPorts result code number rows) h
+    -- *What is read* of the switch
+    pub told_kept : (a : Acted) (message : Message) → P a → P (told a message)
+    told_kept a (messages.Adjacency greeting) h = steps_kept k a (gsmp_received a.controller.adjacency greeting) (hears_greeting greeting) h
+    told_kept a (messages.Branch kind result code number session input_port input output_port output branches priority) h =
+        answer_kept a (messages.Branch kind result code number session input_port input output_port output branches priority) h
+    told_kept a (messages.Move result code number session input_port input output_port output target_port target branches priority) h =
+        answer_kept a (messages.Move result code number session input_port input output_port output target_port target branches priority) h
+    told_kept a (messages.Port result code number port session function) h = answer_kept a (messages.Port result code number port session function) h
+    told_kept a (messages.AllPorts result code number rows) h = answer_kept a (messages.AllPorts result code number rows) h

@@ -24,7 +24,7 @@ use Rattle.link_model.specs.declared.record.Record.{Record}
 use Rattle.link_model.specs.declared.record.Record.TheVariants.{Part}
 use Rattle.ordered_lists.specs.Ordered.{Every}
 use Rattle.keyed_lists.specs.Keyed.{at}
-use Rattle.port_model.specs.Desk.{Desk, Standing, asked, withdrawn, is_led_home, message_at, last_transaction, empty_desk, sent_again}
+use Rattle.port_model.specs.Desk.{Desk, Standing, asked, is_led_home, message_at, last_transaction, empty_desk, sent_again}
 use Rattle.port_model.specs.declared.action.Action.{Action}
 use Rattle.port_model.specs.declared.action.Action.TheVariants as actions
 use Rattle.port_model.specs.Setup.{Setup, home_of}
@@ -39,12 +39,12 @@ use Rattle.port_model.specs.Saying.{closes}
 use Rattle.port_model.specs.Ticks as port_ticks
 use Rattle.port_facts.specs.Port.{Lives}
 use Rattle.port_facts.proofs.Keyed.{on_both, on_each, at_key}
-use Rattle.port_facts.proofs.Rules.{used_goes, done_goes}
+use Rattle.port_facts.proofs.Rules.{done_goes}
 use Rattle.port_facts.proofs.Hearings.{hears_goes, ticks_goes}
 use Rattle.controller_facts.proofs.Moves.{IsGsmpTurn, ages}
 use Rattle.world_model.specs.Controller.{Acted, Linked, port_key, linked_at, ports_of, with_linked, with_desk, note, default_end, default_home}
 use Rattle.world_model.specs.Sending.{says_gsmp, says_ifmp}
-use Rattle.world_model.specs.Asking.{sends_request, asks_next, asks, takes_back}
+use Rattle.world_model.specs.Asking.{sends_request, asks_next, asks, takes_back, withdraws_input}
 use Rattle.world_model.specs.Resets.{cuts_of, cuts_label, cuts_default_of, cuts_default, cuts_gsmp, begins, with_work, closes_by, port_restarts_of, port_restarts, resets_gsmp, node_resets, node_restarts}
 use Rattle.world_model.specs.Performing.{does, does_in_estab, resets_of, resets_port, performs, performs_in_estab, works, at_port}
 use Rattle.world_model.specs.Performing as performing
@@ -54,29 +54,32 @@ use Rattle.world_model.specs.Meeting.{meets, up_ports, default_branches, ends_me
 use Rattle.world_model.specs.Gsmp.{answers, steps}
 use Rattle.world_model.specs.Cells.{ifmp_holds, counted_at}
 use Rattle.world_model.specs.Ticks.{sends_again, ticks_port, ticks_ports, ticks_by, ticks}
-use Rattle.rule_walks.proofs.Ports.{AsksOnly, asks_only, Rule, by_steps, by_counting, by_closing, by_parting, by_joining, by_lending, by_giving_back, Worked, by_rule, by_reset, by_restart, worked_kept}
+use Rattle.rule_walks.proofs.Ports.{AsksOnly, asks_only, Rule, by_steps, by_using, by_counting, by_closing, by_parting, by_joining, by_lending, by_giving_back, Worked, by_rule, by_reset, by_restart, worked_kept}
 
 -- *A linked port* of a controller
 abbrev pub Found : Acted → Linked → Type 0
 Found a linked = linked_at a.controller linked.setup.port ≡ Some linked
 
--- *What a few changes keep* of a controller in a run, where K holds of its ports at work and A of what these ask
-pub record Keeps (P : Acted → Type 0) (K : Setup → Desk → Work → Type 0) (A : Setup → Action → Type 0) : Type 0 where
+-- *What a few changes keep* of a controller in a run, where K holds of its ports at work and A of what these ask; a label
+-- is bound only where labels may be bound
+pub record Keeps (Binds : Type 0) (P : Acted → Type 0) (K : Setup → Desk → Work → Type 0) (A : Setup → Action → Type 0) : Type 0 where
   -- a port begins its work, works, has asked, and is put back; a port is cleared
   pub beginning : (a : Acted) (linked : Linked) → Found a linked → P a → K linked.setup a.controller.desk (begins a linked)
-  pub working : (setup : Setup) (desk : Desk) (w v : Work) → Worked setup desk w v → K setup desk w → K setup desk v
+  pub working : (setup : Setup) (desk : Desk) (w v : Work) → Worked Binds setup desk w v → K setup desk w → K setup desk v
   pub asking : (setup : Setup) (desk : Desk) (w : Work) → K setup desk w → Every (A setup) w.actions
   pub placing : (a : Acted) (linked : Linked) (w : Work) → Found a linked → K linked.setup a.controller.desk w → P a → P (with_work a linked w)
   pub clearing : (a : Acted) (linked : Linked) → Found a linked → may_clear a.controller linked ≡ true → P a → P (with_linked a (record linked { port = cleared linked.port }))
-  -- what it asked is said and noted; an input's join is noted to end
+  -- what it asked is said, noted, and withdrawn; an input's join is noted to end
   pub saying : (setup : Setup) (a : Acted) (message : IfmpMessage) → A setup (actions.Say message) → P a → P (says_ifmp setup.port a message)
   pub noting : (setup : Setup) (a : Acted) (item : Record) → A setup (actions.Note item) → P a → P (note a item)
+  pub withdrawing : (setup : Setup) (a : Acted) (input : End) → A setup (actions.Withdraw input) → P a → P (withdraws_input a input)
   pub parting : (a : Acted) (input : End) → P a → P (note a (Part a.controller.node input.port (number_of_channel input.channel)))
-  -- the switch is told, its adjacency turns or begins anew, the desk changes, the switch is met
+  -- the switch is told, and asked under the next number; its adjacency turns or begins anew; it is met, from an empty desk on
   pub telling : (a : Acted) (message : Message) → P a → P (says_gsmp a message)
+  pub requesting : (a : Acted) (request : Request) → is_estab a.controller.adjacency.state ≡ true → (a.controller.desk.next == last_transaction) ≡ false → P a → P (with_desk a (asked a.controller.desk request))
   pub turning : (a : Acted) (step : sides.Step Party) → IsGsmpTurn a.controller.adjacency step → P a → P (record a { controller = record a.controller { adjacency = step.side } })
   pub resetting : (a : Acted) → P a → P (resets_gsmp a)
-  pub desk : (a : Acted) (d : Desk) → P a → P (with_desk a d)
+  pub emptying : (a : Acted) → P a → P (with_desk a empty_desk)
   pub meeting : (a : Acted) → P a → P (record a { controller = record a.controller { has_met = true } })
   -- a chain is cut: of a label, of a default channel, of the channel of GSMP
   pub cutting_label : (a : Acted) (linked : Linked) (label : ℕ) → Found a linked → P a → P (cuts_of a label (Some linked))
@@ -86,11 +89,11 @@ pub record Keeps (P : Acted → Type 0) (K : Setup → Desk → Work → Type 0)
   pub changing : (a : Acted) → P a → P (record a { controller = record a.controller { is_begun = true } })
 
 -- *Ports that ask what any port asks*
-abbrev pub AsksOnlyAt : Setup → Desk → Work → Type 0
-AsksOnlyAt setup desk w = AsksOnly setup w
+abbrev pub AsksOnlyAt : Type 0 → Setup → Desk → Work → Type 0
+AsksOnlyAt Binds setup desk w = AsksOnly Binds setup w
 
-pub asks_only_works : (setup : Setup) (desk : Desk) (w v : Work) → Worked setup desk w v → AsksOnly setup w → AsksOnly setup v
-asks_only_works setup desk w v worked h = worked_kept (asks_only setup) (λ u q. q) worked h
+pub asks_only_works : {Binds : Type 0} (setup : Setup) (desk : Desk) (w v : Work) → Worked Binds setup desk w v → AsksOnly Binds setup w → AsksOnly Binds setup v
+asks_only_works {Binds} setup desk w v worked h = worked_kept (asks_only Binds setup) (λ u q. q) worked h
 
 pub fold_kept : {X : Type 0} (P : Acted → Type 0) (f : Acted → X → Acted) → ((a : Acted) (x : X) → P a → P (f a x)) → (xs : List X) (a : Acted) → P a → P (fold f a xs)
 fold_kept P f each [] a h = h
@@ -100,7 +103,7 @@ fold_each : {X : Type 0} (P : Acted → Type 0) (Q : X → Type 0) (f : Acted �
 fold_each P Q f each [] all a h = h
 fold_each P Q f each (x ∷ xs) all a h = fold_each P Q f each xs all.1 (f a x) (each a x all.0 h)
 
-module _ {P : Acted → Type 0} {K : Setup → Desk → Work → Type 0} {A : Setup → Action → Type 0} (k : Keeps P K A) where
+module _ {Binds : Type 0} {P : Acted → Type 0} {K : Setup → Desk → Work → Type 0} {A : Setup → Action → Type 0} (k : Keeps Binds P K A) where
   -- *What is done at a port*, where it is linked
   at_linked : (f : Option Linked → Acted) (a : Acted) (port : PortNo) → P (f None) → ((linked : Linked) → Found a linked → P (f (Some linked))) → P (f (linked_at a.controller port))
   at_linked f a port none some = by (linked_at a.controller port) refl
@@ -111,7 +114,7 @@ module _ {P : Acted → Type 0} {K : Setup → Desk → Work → Type 0} {A : Se
 
   -- a port is put back as its rule left it, and what it asked is done
   worked : (f : PortNo → Acted → Action → Acted) → ((setup : Setup) (a : Acted) (action : Action) → A setup action → P a → P (f setup.port a action))
-      → (a : Acted) (linked : Linked) (w : Work) → Found a linked → Worked linked.setup a.controller.desk (begins a linked) w → P a → P (fold (f linked.setup.port) (with_work a linked w) w.actions)
+      → (a : Acted) (linked : Linked) (w : Work) → Found a linked → Worked Binds linked.setup a.controller.desk (begins a linked) w → P a → P (fold (f linked.setup.port) (with_work a linked w) w.actions)
   worked f each a linked w found by_port h =
       let kept : K linked.setup a.controller.desk w = k.working linked.setup a.controller.desk (begins a linked) w by_port (k.beginning a linked found h) in
       fold_each P (A linked.setup) (f linked.setup.port) (each linked.setup) w.actions (k.asking linked.setup a.controller.desk w kept) (with_work a linked w) (k.placing a linked w found kept h)
@@ -146,9 +149,9 @@ module _ {P : Acted → Type 0} {K : Setup → Desk → Work → Type 0} {A : Se
   request_kept a s h = k.telling a (message_at a.controller.desk s) h
 
   pub asks_kept : (a : Acted) (request : Request) → P a → P (asks a request)
-  asks_kept a request h = on_both P (is_estab a.controller.adjacency.state) (if a.controller.desk.next == last_transaction then node_resets a else asks_next a request) a
-      (on_both P (a.controller.desk.next == last_transaction) (node_resets a) (asks_next a request) (node_resets_kept a h)
-      (request_kept (with_desk a (asked a.controller.desk request)) (record { number = a.controller.desk.next; request = request }) (k.desk a (asked a.controller.desk request) h))) h
+  asks_kept a request h = on_each P (is_estab a.controller.adjacency.state) (if a.controller.desk.next == last_transaction then node_resets a else asks_next a request) a
+      (λ estab. on_each P (a.controller.desk.next == last_transaction) (node_resets a) (asks_next a request) (λ spent. node_resets_kept a h)
+      (λ room. request_kept (with_desk a (asked a.controller.desk request)) (record { number = a.controller.desk.next; request = request }) (k.requesting a request estab room h))) (λ closed. h)
 
   pub asks_each_kept : (requests : List Request) (a : Acted) → P a → P (fold asks a requests)
   asks_each_kept requests a h = fold_kept P asks asks_kept requests a h
@@ -163,7 +166,7 @@ module _ {P : Acted → Type 0} {K : Setup → Desk → Work → Type 0} {A : Se
   does_kept setup a (actions.Note item) is h = k.noting setup a item is h
   does_kept setup a (actions.CutChain label) is h = cut_label_kept setup.port a label h
   does_kept setup a (actions.TakeBack input output) is h = takes_back_kept a input output h
-  does_kept setup a (actions.Withdraw input) is h = k.desk a (withdrawn a.controller.desk input) h
+  does_kept setup a (actions.Withdraw input) is h = k.withdrawing setup a input is h
   does_kept setup a actions.Reset is h = h
 
   does_in_kept : (setup : Setup) (a : Acted) (action : Action) → A setup action → P a → P (does_in_estab setup.port a action)
@@ -184,12 +187,12 @@ module _ {P : Acted → Type 0} {K : Setup → Desk → Work → Type 0} {A : Se
   performs_in_kept : (setup : Setup) (a : Acted) (action : Action) → A setup action → P a → P (performs_in_estab setup.port a action)
   performs_in_kept setup a action is h = on_both P (is_estab a.controller.adjacency.state) (performs setup.port a action) a (performs_kept setup a action is h) h
 
-  pub at_port_kept : (a : Acted) (port : PortNo) (rule : performing.Rule) → ((setup : Setup) (desk : Desk) (w : Work) → Rule setup desk w (rule setup desk w)) → P a → P (at_port a port rule)
+  pub at_port_kept : (a : Acted) (port : PortNo) (rule : performing.Rule) → ((setup : Setup) (desk : Desk) (w : Work) → Rule Binds setup desk w (rule setup desk w)) → P a → P (at_port a port rule)
   at_port_kept a port rule is h = at_linked (works a rule) a port h
       (λ linked found. (let w : Work = rule linked.setup a.controller.desk (begins a linked) in worked performs_in_estab performs_in_kept a linked w found (by_rule w (is linked.setup a.controller.desk (begins a linked))) h))
 
   -- a rule of a port that hasn't asked to be reset
-  live_kept : (a : Acted) (port : PortNo) (rule : performing.Rule) → ((setup : Setup) (desk : Desk) (w : Work) → w.halted ≡ false → Rule setup desk w (rule setup desk w)) → P a → P (at_port a port rule)
+  live_kept : (a : Acted) (port : PortNo) (rule : performing.Rule) → ((setup : Setup) (desk : Desk) (w : Work) → w.halted ≡ false → Rule Binds setup desk w (rule setup desk w)) → P a → P (at_port a port rule)
   live_kept a port rule is h = at_linked (works a rule) a port h
       (λ linked found. (let w : Work = rule linked.setup a.controller.desk (begins a linked) in worked performs_in_estab performs_in_kept a linked w found (by_rule w (is linked.setup a.controller.desk (begins a linked) refl)) h))
 
@@ -246,7 +249,7 @@ module _ {P : Acted → Type 0} {K : Setup → Desk → Work → Type 0} {A : Se
 
   -- *The adjacency with the switch*, and meeting it
   meets_kept : (a : Acted) → P a → P (meets a)
-  meets_kept a h = asks_kept (with_desk a empty_desk) AllPorts (k.desk a empty_desk h)
+  meets_kept a h = asks_kept (with_desk a empty_desk) AllPorts (k.emptying a h)
 
   ends_meeting_kept : (a : Acted) → P a → P (ends_meeting a)
   ends_meeting_kept a h = asks_each_kept (flat_map default_branches (up_ports a.controller)) (record a { controller = record a.controller { has_met = true } }) (k.meeting a h)
@@ -262,36 +265,18 @@ module _ {P : Acted → Type 0} {K : Setup → Desk → Work → Type 0} {A : Se
   steps_kept a step turn h = answers_kept (record a { controller = record a.controller { adjacency = step.side } }) step.answer (k.turning a step turn h)
 
   -- *Answers of the switch*
-  tells_kept : (a : Acted) (request : Request) (o : Option PortNo) → P a → P (tells_port a request o)
-  tells_kept a request None h = h
-  tells_kept a request (Some port) h = at_port_kept a port (λ setup desk w. port_answers.done setup w request) (λ setup desk w. by_steps _ (done_goes setup desk w request (λ tree. tt))) h
-
   behind_kept : (a : Acted) (port : PortNo) → P a → P (behind_delete_all a port)
   behind_kept a port h = on_both P a.controller.has_met (asks a (AddBranch (default_end port) (default_home port))) (if has_emptied a.controller then ends_meeting a else a)
       (asks_kept a (AddBranch (default_end port) (default_home port)) h)
       (on_both P (has_emptied a.controller) (ends_meeting a) a (ends_meeting_kept a h) h)
 
-  pub causes_in_kept : (a : Acted) (request : Request) → P a → P (causes_in_estab a request)
-  causes_in_kept a (DeleteAll port) h = behind_kept a port h
-  causes_in_kept a (AddBranch input output) h = tells_kept a (AddBranch input output) (port_of (AddBranch input output)) h
-  causes_in_kept a (MoveBranch input from to) h = tells_kept a (MoveBranch input from to) (port_of (MoveBranch input from to)) h
-  causes_in_kept a (DeleteTree input) h = tells_kept a (DeleteTree input) (port_of (DeleteTree input)) h
-  causes_in_kept a (VerifyTree input) h = tells_kept a (VerifyTree input) (port_of (VerifyTree input)) h
-  causes_in_kept a (PortManagement port function) h = tells_kept a (PortManagement port function) (port_of (PortManagement port function)) h
-  causes_in_kept a AllPorts h = h
-
   pub clears_kept : (a : Acted) (port : PortNo) → P a → P (clears_port a port)
   clears_kept a port h = at_linked (clears_of a) a port h
       (λ linked found. on_each P (may_clear a.controller linked) (with_linked a (record linked { port = cleared linked.port })) a (λ may. k.clearing a linked found may h) (λ may. h))
 
-  -- *What is read* of a peer
-  pub ifmp_kept : (a : Acted) (port : PortNo) (packet : List ℕ) (message : IfmpMessage) → Lives message → P a → P (ifmp_holds a port packet (Ok message))
-  ifmp_kept a port packet message lives h = live_kept a port (λ setup desk w. hears setup desk w (source_of packet) message)
-      (λ setup desk w live. by_steps _ (hears_goes setup desk w (source_of packet) message live lives)) h
-
   -- *Packets*: those of a label's channel are counted as its use, and others by their flows
   pub used_kept : (a : Acted) (port : PortNo) (label : ℕ) → P a → P (at_port a port (λ setup desk w. used w label))
-  used_kept a port label h = at_port_kept a port (λ setup desk w. used w label) (λ setup desk w. by_steps _ (used_goes setup desk w label)) h
+  used_kept a port label h = at_port_kept a port (λ setup desk w. used w label) (λ setup desk w. by_using label) h
 
   pub counted_kept : (a : Acted) (port : PortNo) (packet : List ℕ) → P a → P (counted_at a port packet)
   counted_kept a port packet h = at_port_kept a port (λ setup desk w. counts setup desk w packet) (λ setup desk w. by_counting packet) h
@@ -300,19 +285,40 @@ module _ {P : Acted → Type 0} {K : Setup → Desk → Work → Type 0} {A : Se
   again_kept : (a : Acted) → P a → P (sends_again a)
   again_kept a h = on_both P (is_estab a.controller.adjacency.state) (fold sends_request a (sent_again a.controller.desk)) a (fold_kept P sends_request request_kept (sent_again a.controller.desk) a h) h
 
-  ticks_port_kept : (a : Acted) (port : PortNo) → P a → P (ticks_port a port)
-  ticks_port_kept a port h = live_kept a port port_ticks.ticks (λ setup desk w live. by_steps _ (ticks_goes setup desk w live)) h
+  -- *Where labels may be bound*
+  module _ (binds : Binds) where
+    -- what a port makes of an answer
+    tells_kept : (a : Acted) (request : Request) (o : Option PortNo) → P a → P (tells_port a request o)
+    tells_kept a request None h = h
+    tells_kept a request (Some port) h = at_port_kept a port (λ setup desk w. port_answers.done setup w request) (λ setup desk w. by_steps binds _ (done_goes setup desk w request (λ tree. tt))) h
 
-  ticks_on_kept : (a : Acted) (step : sides.Step Party) → IsGsmpTurn a.controller.adjacency step → P a → P (tries_joins (ticks_ports (sends_again (steps a step))))
-  ticks_on_kept a step turn h =
-      let again : Acted = sends_again (steps a step) in
-      tries_joins_kept (ticks_ports again) (fold_kept P ticks_port ticks_port_kept (ports_of again.controller) again (again_kept (steps a step) (steps_kept a step turn h)))
+    pub causes_in_kept : (a : Acted) (request : Request) → P a → P (causes_in_estab a request)
+    causes_in_kept a (DeleteAll port) h = behind_kept a port h
+    causes_in_kept a (AddBranch input output) h = tells_kept a (AddBranch input output) (port_of (AddBranch input output)) h
+    causes_in_kept a (MoveBranch input from to) h = tells_kept a (MoveBranch input from to) (port_of (MoveBranch input from to)) h
+    causes_in_kept a (DeleteTree input) h = tells_kept a (DeleteTree input) (port_of (DeleteTree input)) h
+    causes_in_kept a (VerifyTree input) h = tells_kept a (VerifyTree input) (port_of (VerifyTree input)) h
+    causes_in_kept a (PortManagement port function) h = tells_kept a (PortManagement port function) (port_of (PortManagement port function)) h
+    causes_in_kept a AllPorts h = h
 
-  ticks_by_kept : (a : Acted) (step : sides.Step Party) (answer : Answer (Said Party) Party) → IsGsmpTurn a.controller.adjacency step → P a → P (ticks_by a step answer)
-  ticks_by_kept a step Quiet turn h = ticks_on_kept a step turn h
-  ticks_by_kept a step (Send m) turn h = ticks_on_kept a step turn h
-  ticks_by_kept a step (Open m own) turn h = ticks_on_kept a step turn h
-  ticks_by_kept a step Reset turn h = node_resets_kept a h
+    -- *What is read* of a peer
+    pub ifmp_kept : (a : Acted) (port : PortNo) (packet : List ℕ) (message : IfmpMessage) → Lives message → P a → P (ifmp_holds a port packet (Ok message))
+    ifmp_kept a port packet message lives h = live_kept a port (λ setup desk w. hears setup desk w (source_of packet) message)
+        (λ setup desk w live. by_steps binds _ (hears_goes setup desk w (source_of packet) message live lives)) h
 
-  pub ticks_kept : (a : Acted) → P a → P (ticks a)
-  ticks_kept a h = ticks_by_kept a (ticked a.controller.adjacency) (ticked a.controller.adjacency).answer ages h
+    ticks_port_kept : (a : Acted) (port : PortNo) → P a → P (ticks_port a port)
+    ticks_port_kept a port h = live_kept a port port_ticks.ticks (λ setup desk w live. by_steps binds _ (ticks_goes setup desk w live)) h
+
+    ticks_on_kept : (a : Acted) (step : sides.Step Party) → IsGsmpTurn a.controller.adjacency step → P a → P (tries_joins (ticks_ports (sends_again (steps a step))))
+    ticks_on_kept a step turn h =
+        let again : Acted = sends_again (steps a step) in
+        tries_joins_kept (ticks_ports again) (fold_kept P ticks_port ticks_port_kept (ports_of again.controller) again (again_kept (steps a step) (steps_kept a step turn h)))
+
+    ticks_by_kept : (a : Acted) (step : sides.Step Party) (answer : Answer (Said Party) Party) → IsGsmpTurn a.controller.adjacency step → P a → P (ticks_by a step answer)
+    ticks_by_kept a step Quiet turn h = ticks_on_kept a step turn h
+    ticks_by_kept a step (Send m) turn h = ticks_on_kept a step turn h
+    ticks_by_kept a step (Open m own) turn h = ticks_on_kept a step turn h
+    ticks_by_kept a step Reset turn h = node_resets_kept a h
+
+    pub ticks_kept : (a : Acted) → P a → P (ticks a)
+    ticks_kept a h = ticks_by_kept a (ticked a.controller.adjacency) (ticked a.controller.adjacency).answer ages h

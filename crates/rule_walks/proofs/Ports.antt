@@ -33,46 +33,48 @@ use Rattle.port_model.specs.Counts.{packets_in, counted_once}
 use Rattle.port_model.specs.Port.{Session, Work, acts, halts, with_session, with_label, with_new_label, without_label, with_grants, with_grant, without_grant, label_at, desk_after, has_room}
 use Rattle.port_model.specs.Saying.{Unnumbered, last_number, spent_number, own_of, peer_of, greets, numbered, tells_in, tells, is_spent, closes, reclaim_ack}
 use Rattle.port_model.specs.Adjacency.{first_session, opens, answers, steps, unwires}
-use Rattle.port_model.specs.Counting.{wires, used_label, counts_flow, counts_by, counts, packet_flow}
+use Rattle.port_model.specs.Counting.{wires, used_label, used, counts_flow, counts_by, counts, packet_flow}
 use Rattle.port_model.specs.Redirection.{accepts}
 use Rattle.port_model.specs.Joins.{joins_label, joined, parted, lent, ended, given_back_in, given_back}
 use Rattle.port_model.specs.Resets.{next_side, left_of, closing, withdrawing_in, withdrawing_of, withdrawing, taking_back_in, taking_back, resets, restarts}
 use Rattle.port_facts.proofs.Keyed.{on_both, every_more}
 use Rattle.port_facts.proofs.Steps.{IsTurn, Step, greeting, telling, closing as closes_now, noting, turning, heard as is_heard, minding, relabelling, wiring, binding, quitting, unwiring, freeing, accepting, granting, regranting, starting, ending, taking_back as takes_back, Goes, goes_keeps}
 
--- *What a port asks its controller to note*
-pub data IsNoted (setup : Setup) : Record → Type 0 where
-  is_opened : IsNoted setup (Opened setup.node setup.port)
-  is_closed : IsNoted setup (Closed setup.node setup.port)
-  is_bound : (label : ℕ) (flow : FlowId) → IsNoted setup (Bind setup.node setup.port label flow)
-  is_freed : (label : ℕ) → IsNoted setup (Free setup.node setup.port label)
-  is_joined : (label : ℕ) (to_port : PortNo) (to_label : ℕ) → IsNoted setup (Join setup.node setup.port label to_port to_label)
+-- *What a port asks its controller to note*; that a label is bound only where labels may be bound
+pub data IsNoted (Binds : Type 0) (setup : Setup) : Record → Type 0 where
+  is_opened : IsNoted Binds setup (Opened setup.node setup.port)
+  is_closed : IsNoted Binds setup (Closed setup.node setup.port)
+  is_bound : Binds → (label : ℕ) (flow : FlowId) → IsNoted Binds setup (Bind setup.node setup.port label flow)
+  is_freed : (label : ℕ) → IsNoted Binds setup (Free setup.node setup.port label)
+  is_joined : (label : ℕ) (to_port : PortNo) (to_label : ℕ) → IsNoted Binds setup (Join setup.node setup.port label to_port to_label)
 
 -- and what it asks: all but other notes
-abbrev pub IsAsked : Setup → Action → Type 0
-IsAsked setup (Note item) = IsNoted setup item
-IsAsked setup action = Unit {0}
+abbrev pub IsAsked : Type 0 → Setup → Action → Type 0
+IsAsked Binds setup (Note item) = IsNoted Binds setup item
+IsAsked Binds setup action = Unit {0}
 
--- *The rules of a port*, but its resets
-pub data Rule (setup : Setup) (desk : Desk) (w : Work) : Work → Type 0 where
-  by_steps : (v : Work) → Goes setup desk w v → Rule setup desk w v
-  by_counting : (packet : List ℕ) → Rule setup desk w (counts setup desk w packet)
-  by_closing : Rule setup desk w (closes w)
-  by_parting : (number : ℕ) → Rule setup desk w (parted w number)
-  by_joining : (number : ℕ) (output : End) → Rule setup desk w (joined w number output)
-  by_lending : (grant : Grant) (input : End) → Rule setup desk w (lent w grant input)
-  by_giving_back : (grant : Grant) → Rule setup desk w (given_back w grant)
+-- *The rules of a port*, but its resets: what it hears, what the switch has done and a tick are any number of smallest
+-- steps, of which one binds a label
+pub data Rule (Binds : Type 0) (setup : Setup) (desk : Desk) (w : Work) : Work → Type 0 where
+  by_steps : Binds → (v : Work) → Goes setup desk w v → Rule Binds setup desk w v
+  by_using : (number : ℕ) → Rule Binds setup desk w (used w number)
+  by_counting : (packet : List ℕ) → Rule Binds setup desk w (counts setup desk w packet)
+  by_closing : Rule Binds setup desk w (closes w)
+  by_parting : (number : ℕ) → Rule Binds setup desk w (parted w number)
+  by_joining : (number : ℕ) (output : End) → Rule Binds setup desk w (joined w number output)
+  by_lending : (grant : Grant) (input : End) → Rule Binds setup desk w (lent w grant input)
+  by_giving_back : (grant : Grant) → Rule Binds setup desk w (given_back w grant)
 
 -- and with them
-pub data Worked (setup : Setup) (desk : Desk) (w : Work) : Work → Type 0 where
-  by_rule : (v : Work) → Rule setup desk w v → Worked setup desk w v
-  by_reset : Worked setup desk w (resets setup w)
-  by_restart : Worked setup desk w (restarts setup w)
+pub data Worked (Binds : Type 0) (setup : Setup) (desk : Desk) (w : Work) : Work → Type 0 where
+  by_rule : (v : Work) → Rule Binds setup desk w v → Worked Binds setup desk w v
+  by_reset : Worked Binds setup desk w (resets setup w)
+  by_restart : Worked Binds setup desk w (restarts setup w)
 
 -- *What a few changes keep* of a port at work
-pub record Keeps (setup : Setup) (P : Work → Type 0) : Type 0 where
+pub record Keeps (Binds : Type 0) (setup : Setup) (P : Work → Type 0) : Type 0 where
   -- it asks one thing more, and it has asked to be reset
-  pub asked : (w : Work) (action : Action) → IsAsked setup action → P w → P (record w { actions = w.actions ++ action ∷ [] })
+  pub asked : (w : Work) (action : Action) → IsAsked Binds setup action → P w → P (record w { actions = w.actions ++ action ∷ [] })
   pub halted : (w : Work) → P w → P (record w { halted = true })
   -- its side of the adjacency hears or ages, and a message was taken from its peer
   pub turned : (w : Work) (step : sides.Step Peer) → IsTurn w.port.adjacency step → P w → P (record w { port = record w.port { adjacency = step.side } })
@@ -86,9 +88,9 @@ pub record Keeps (setup : Setup) (P : Work → Type 0) : Type 0 where
 abbrev pub anew : Setup → Work → Work
 anew setup w = record w { port = record w.port { adjacency = next_side setup w.instances }; instances = w.instances + 1 }
 
-module _ {setup : Setup} {P : Work → Type 0} (k : Keeps setup P) where
+module _ {Binds : Type 0} {setup : Setup} {P : Work → Type 0} (k : Keeps Binds setup P) where
   -- *Changes*
-  acts_kept : (w : Work) (action : Action) → IsAsked setup action → P w → P (acts w action)
+  acts_kept : (w : Work) (action : Action) → IsAsked Binds setup action → P w → P (acts w action)
   acts_kept w action is h = on_both P w.halted w (record w { actions = w.actions ++ action ∷ [] }) h (k.asked w action is h)
 
   halts_kept : (w : Work) → P w → P (halts w)
@@ -171,28 +173,28 @@ module _ {setup : Setup} {P : Work → Type 0} (k : Keeps setup P) where
       by_session (Some s) (Some flow) = by_label s flow (label_for s.labels flow)
 
   -- *Each smallest step*, and any number of them
-  step_kept : (desk : Desk) (v w : Work) → Step setup desk v w → P v → P w
-  step_kept desk v _ (greeting _ hello) h = acts_kept v (Say (Adjacency hello)) tt h
-  step_kept desk v _ (telling _ message told) h = tells_kept v message h
-  step_kept desk v _ (closes_now _) h = closes_kept v h
-  step_kept desk v _ (noting _ input output) h = acts_kept v (Note (Join setup.node setup.port (number_of_channel input.channel) output.port (number_of_channel output.channel))) (is_joined (number_of_channel input.channel) output.port (number_of_channel output.channel)) h
-  step_kept desk v _ (turning _ step live turn) h = steps_kept v step turn h
-  step_kept desk v _ (is_heard _) h = k.heard v h
-  step_kept desk v _ (minding _ change keeps) h = session_kept v change h
-  step_kept desk v _ (relabelling _ before after found keeps) h = label_kept v after h
-  step_kept desk v _ (wiring _ s flow number session spare range room alive) h = wires_kept v flow (Some number) h
-  step_kept desk v _ (binding _ label found is) h = acts_kept (with_label v (record label { state = Offered })) (Note (Bind setup.node setup.port label.number label.flow)) (is_bound label.number label.flow) (label_kept v (record label { state = Offered }) h)
-  step_kept desk v _ (quitting _ label last found is) h = acts_kept (with_label v (record label { state = Wired })) (CutChain label.number) tt (label_kept v (record label { state = Wired }) h)
-  step_kept desk v _ (unwiring _ number label found) h = unwires_kept desk v number h
-  step_kept desk v _ (freeing _ label found is frees) h = acts_kept (without_label v label.number) (Note (Free setup.node setup.port label.number)) (is_freed label.number) (session_kept v (λ s. record s { labels = without label_number label.number s.labels }) h)
-  step_kept desk v _ (accepting _) h = k.accepted v h
-  step_kept desk v _ (granting _ s label flow lifetime session range none few lives room alive) h =
+  step_kept : Binds → (desk : Desk) (v w : Work) → Step setup desk v w → P v → P w
+  step_kept binds desk v _ (greeting _ hello) h = acts_kept v (Say (Adjacency hello)) tt h
+  step_kept binds desk v _ (telling _ message told) h = tells_kept v message h
+  step_kept binds desk v _ (closes_now _) h = closes_kept v h
+  step_kept binds desk v _ (noting _ input output) h = acts_kept v (Note (Join setup.node setup.port (number_of_channel input.channel) output.port (number_of_channel output.channel))) (is_joined (number_of_channel input.channel) output.port (number_of_channel output.channel)) h
+  step_kept binds desk v _ (turning _ step live turn) h = steps_kept v step turn h
+  step_kept binds desk v _ (is_heard _) h = k.heard v h
+  step_kept binds desk v _ (minding _ change keeps) h = session_kept v change h
+  step_kept binds desk v _ (relabelling _ before after found keeps) h = label_kept v after h
+  step_kept binds desk v _ (wiring _ s flow number session spare range room alive) h = wires_kept v flow (Some number) h
+  step_kept binds desk v _ (binding _ label found is) h = acts_kept (with_label v (record label { state = Offered })) (Note (Bind setup.node setup.port label.number label.flow)) (is_bound binds label.number label.flow) (label_kept v (record label { state = Offered }) h)
+  step_kept binds desk v _ (quitting _ label last found is) h = acts_kept (with_label v (record label { state = Wired })) (CutChain label.number) tt (label_kept v (record label { state = Wired }) h)
+  step_kept binds desk v _ (unwiring _ number label found) h = unwires_kept desk v number h
+  step_kept binds desk v _ (freeing _ label found is frees) h = acts_kept (without_label v label.number) (Note (Free setup.node setup.port label.number)) (is_freed label.number) (session_kept v (λ s. record s { labels = without label_number label.number s.labels }) h)
+  step_kept binds desk v _ (accepting _) h = k.accepted v h
+  step_kept binds desk v _ (granting _ s label flow lifetime session range none few lives room alive) h =
       let grants : List Grant = v.port.grants ++ record { label = label; flow = flow; lifetime = lifetime; state = Idle } ∷ [] in
       acts_kept (with_grants (accepts v) grants) (Ask (AddBranch (control_end setup.port label) (label_end setup.port label)) false) tt (grants_kept (accepts v) grants (k.accepted v h))
-  step_kept desk v _ (regranting _ before after found keeps may) h = grant_kept v after h
-  step_kept desk v _ (starting _ grant found is) h = grant_kept v (record grant { state = ByController }) h
-  step_kept desk v _ (ending _ grant found is) h = gone_kept v grant.label h
-  step_kept desk v _ (takes_back _ input output joined) h = acts_kept v (TakeBack input output) tt h
+  step_kept binds desk v _ (regranting _ before after found keeps may) h = grant_kept v after h
+  step_kept binds desk v _ (starting _ grant found is) h = grant_kept v (record grant { state = ByController }) h
+  step_kept binds desk v _ (ending _ grant found is) h = gone_kept v grant.label h
+  step_kept binds desk v _ (takes_back _ input output joined) h = acts_kept v (TakeBack input output) tt h
 
   -- *Joins*
   joins_label_kept : (w : Work) (join : Option End) (o : Option Label) → P w → P (joins_label w join o)
@@ -210,8 +212,9 @@ module _ {setup : Setup} {P : Work → Type 0} (k : Keeps setup P) where
   given_back_kept w grant (Leaving input owed) h = ended_kept w grant owed h
 
   -- *Each rule*
-  pub rule_kept : {desk : Desk} {w v : Work} → Rule setup desk w v → P w → P v
-  rule_kept {desk} {w = u} (by_steps v goes) h = goes_keeps setup desk P (step_kept desk) goes h
+  pub rule_kept : {desk : Desk} {w v : Work} → Rule Binds setup desk w v → P w → P v
+  rule_kept {desk} {w = u} (by_steps binds v goes) h = goes_keeps setup desk P (step_kept binds desk) goes h
+  rule_kept {w = u} (by_using number) h = used_kept u (label_at u.port number) h
   rule_kept {desk} {w = u} (by_counting packet) h = counts_kept desk u packet h
   rule_kept {w = u} by_closing h = closes_kept u h
   rule_kept {w = u} (by_parting number) h = joins_label_kept u None (label_at u.port number) h
@@ -220,58 +223,58 @@ module _ {setup : Setup} {P : Work → Type 0} (k : Keeps setup P) where
   rule_kept {w = u} (by_giving_back grant) h = given_back_kept u grant grant.state h
 
   -- *Several things are asked*
-  asks_kept : (xs : List Action) → Every (IsAsked setup) xs → (w : Work) → P w → P (record w { actions = w.actions ++ xs })
+  asks_kept : (xs : List Action) → Every (IsAsked Binds setup) xs → (w : Work) → P w → P (record w { actions = w.actions ++ xs })
   asks_kept [] all w h = subst (λ (ys : List Action). P (record w { actions = ys })) (sym (append-nil w.actions)) h
   asks_kept (x ∷ xs) all w h = subst (λ (ys : List Action). P (record w { actions = ys })) (append_assoc w.actions (x ∷ []) xs)
       (asks_kept xs all.1 (record w { actions = w.actions ++ x ∷ [] }) (k.asked w x all.0 h))
 
   -- *Resets*
-  cuts_asked : (labels : List Label) → Every (IsAsked setup) (map (λ (label : Label). CutChain label.number) labels)
+  cuts_asked : (labels : List Label) → Every (IsAsked Binds setup) (map (λ (label : Label). CutChain label.number) labels)
   cuts_asked [] = tt
   cuts_asked (label ∷ labels) = (tt, cuts_asked labels)
 
-  closing_asked : (o : Option Session) → Every (IsAsked setup) (closing setup o)
+  closing_asked : (o : Option Session) → Every (IsAsked Binds setup) (closing setup o)
   closing_asked None = tt
   closing_asked (Some s) = (is_closed, cuts_asked s.labels)
 
-  each_asked : (f : Grant → List Action) → ((grant : Grant) → Every (IsAsked setup) (f grant)) → (grants : List Grant) → Every (IsAsked setup) (flat_map f grants)
+  each_asked : (f : Grant → List Action) → ((grant : Grant) → Every (IsAsked Binds setup) (f grant)) → (grants : List Grant) → Every (IsAsked Binds setup) (flat_map f grants)
   each_asked f each [] = tt
-  each_asked f each (grant ∷ grants) = subst (Every (IsAsked setup)) (sym (flat_map-cons f grant grants)) (every_join (IsAsked setup) (f grant) (flat_map f grants) (each grant) (each_asked f each grants))
+  each_asked f each (grant ∷ grants) = subst (Every (IsAsked Binds setup)) (sym (flat_map-cons f grant grants)) (every_join (IsAsked Binds setup) (f grant) (flat_map f grants) (each grant) (each_asked f each grants))
 
-  withdrawing_asked : (label : ℕ) (state : GrantState) → Every (IsAsked setup) (withdrawing_in setup label state)
+  withdrawing_asked : (label : ℕ) (state : GrantState) → Every (IsAsked Binds setup) (withdrawing_in setup label state)
   withdrawing_asked label Idle = (tt, tt)
   withdrawing_asked label ByController = (tt, tt)
   withdrawing_asked label (ByInput input) = tt
   withdrawing_asked label (Leaving input owed) = tt
 
-  taking_asked : (grant : Grant) (state : GrantState) → Every (IsAsked setup) (taking_back_in setup grant state)
+  taking_asked : (grant : Grant) (state : GrantState) → Every (IsAsked Binds setup) (taking_back_in setup grant state)
   taking_asked grant Idle = tt
   taking_asked grant ByController = tt
   taking_asked grant (ByInput input) = (tt, tt)
   taking_asked grant (Leaving input owed) = tt
 
-  reset_asked : (o : Option Session) (grants : List Grant) → Every (IsAsked setup) (closing setup o ++ (withdrawing setup grants ++ (flat_map (taking_back setup) grants ++ Ask (DeleteAll setup.port) true ∷ [])))
-  reset_asked o grants = every_join (IsAsked setup) (closing setup o) _ (closing_asked o)
-      (every_join (IsAsked setup) (withdrawing setup grants) _ (each_asked (withdrawing_of setup) (λ grant. withdrawing_asked grant.label grant.state) grants)
-      (every_join (IsAsked setup) (flat_map (taking_back setup) grants) _ (each_asked (taking_back setup) (λ grant. taking_asked grant grant.state) grants) (tt, tt)))
+  reset_asked : (o : Option Session) (grants : List Grant) → Every (IsAsked Binds setup) (closing setup o ++ (withdrawing setup grants ++ (flat_map (taking_back setup) grants ++ Ask (DeleteAll setup.port) true ∷ [])))
+  reset_asked o grants = every_join (IsAsked Binds setup) (closing setup o) _ (closing_asked o)
+      (every_join (IsAsked Binds setup) (withdrawing setup grants) _ (each_asked (withdrawing_of setup) (λ grant. withdrawing_asked grant.label grant.state) grants)
+      (every_join (IsAsked Binds setup) (flat_map (taking_back setup) grants) _ (each_asked (taking_back setup) (λ grant. taking_asked grant grant.state) grants) (tt, tt)))
 
   -- *Each rule and reset*, where a new side keeps it too
   module _ (begins : (w : Work) → P w → P (anew setup w)) where
     left_kept : (w : Work) (grants : List Grant) → P w → P (record (anew setup w) { port = record (anew setup w).port { session = None; grants = grants } })
     left_kept w grants h = k.granted (record (anew setup w) { port = record (anew setup w).port { session = None } }) grants (k.session (anew setup w) None (begins w h))
 
-    pub worked_kept : {desk : Desk} {w v : Work} → Worked setup desk w v → P w → P v
+    pub worked_kept : {desk : Desk} {w v : Work} → Worked Binds setup desk w v → P w → P v
     worked_kept (by_rule v rule) h = rule_kept rule h
     worked_kept {w = u} by_reset h = asks_kept _ (reset_asked u.port.session u.port.grants) (record (anew setup u) { port = record (anew setup u).port { session = None; grants = flat_map left_of u.port.grants } }) (left_kept u (flat_map left_of u.port.grants) h)
     worked_kept {w = u} by_restart h = asks_kept (closing setup u.port.session) (closing_asked u.port.session) (record (anew setup u) { port = record (anew setup u).port { session = None; grants = [] } }) (left_kept u [] h)
 
 -- *What a port asks* is one of these
-abbrev pub AsksOnly : Setup → Work → Type 0
-AsksOnly setup w = Every (IsAsked setup) w.actions
+abbrev pub AsksOnly : Type 0 → Setup → Work → Type 0
+AsksOnly Binds setup w = Every (IsAsked Binds setup) w.actions
 
-pub asks_only : (setup : Setup) → Keeps setup (AsksOnly setup)
-asks_only setup = record {
-  asked = λ w action is h. every_more (IsAsked setup) w.actions action h is;
+pub asks_only : (Binds : Type 0) (setup : Setup) → Keeps Binds setup (AsksOnly Binds setup)
+asks_only Binds setup = record {
+  asked = λ w action is h. every_more (IsAsked Binds setup) w.actions action h is;
   halted = λ w h. h;
   turned = λ w step turn h. h;
   heard = λ w h. h;
