@@ -15,7 +15,6 @@ use Rattle.port_model.specs.declared.action.Action.{Action}
 use Rattle.port_model.specs.Setup.{Setup}
 use Rattle.port_model.specs.Port.{Work}
 use Rattle.port_facts.proofs.Keyed.{on_both}
-use Rattle.controller_facts.proofs.Moves.{hears as hears_greeting}
 use Rattle.world_model.specs.Controller.{Acted, ports_of, with_desk}
 use Rattle.world_model.specs.Joins.{releases}
 use Rattle.world_model.specs.Changes.{begins_change, takes_change, may_take, takes_each, takes_changes, change_comes}
@@ -24,6 +23,7 @@ use Rattle.world_model.specs.Gsmp.{told}
 use Rattle.std.specs.Prelude.{nat_le}
 use Rattle.std.proofs.Common.{length}
 use Rattle.net_types.specs.declared.channel.Channel.{Channel}
+use Rattle.net_types.specs.declared.adjacency.Greeting.{Greeting}
 use Rattle.net_types.specs.declared.number.Mark.{Mark}
 use Rattle.net_types.specs.Number.{next_control, with_control}
 use Rattle.link_model.specs.declared.record.Record.TheVariants.{Loss}
@@ -61,7 +61,6 @@ waits changes = record {
   parting = λ a input h. h;
   telling = λ a message h. control_waits a _ _ ∙ h;
   requesting = λ a request estab room h. h;
-  turning = λ a step turn h. h;
   resetting = λ a h. h;
   emptying = λ a h. h;
   meeting = λ a h. h;
@@ -109,12 +108,14 @@ module _ {Binds : Type 0} {P : Acted → Type 0} {K : Setup → Desk → Work �
     answer_kept : (a : Acted) (message : Message) → P a → P (answer_comes a message)
     answer_kept a message h = takes_kept a (answered a.controller.desk message) h
 
-    -- *What is read* of the switch
-    pub told_kept : (a : Acted) (message : Message) → P a → P (told a message)
-    told_kept a (messages.Adjacency greeting) h = steps_kept k a (gsmp_received a.controller.adjacency greeting) (hears_greeting greeting) h
-    told_kept a (messages.Branch kind result code number session input_port input output_port output branches priority) h =
+    -- *What is read* of the switch, once the adjacency with it has heard a greeting
+    pub told_kept : (a : Acted) (message : Message)
+        → ((greeting : Greeting) → message ≡ messages.Adjacency greeting → P (record a { controller = record a.controller { adjacency = (gsmp_received a.controller.adjacency greeting).side } }))
+        → P a → P (told a message)
+    told_kept a (messages.Adjacency greeting) turned h = steps_kept k a (gsmp_received a.controller.adjacency greeting) (turned greeting refl)
+    told_kept a (messages.Branch kind result code number session input_port input output_port output branches priority) turned h =
         answer_kept a (messages.Branch kind result code number session input_port input output_port output branches priority) h
-    told_kept a (messages.Move result code number session input_port input output_port output target_port target branches priority) h =
+    told_kept a (messages.Move result code number session input_port input output_port output target_port target branches priority) turned h =
         answer_kept a (messages.Move result code number session input_port input output_port output target_port target branches priority) h
-    told_kept a (messages.Port result code number port session function) h = answer_kept a (messages.Port result code number port session function) h
-    told_kept a (messages.AllPorts result code number rows) h = answer_kept a (messages.AllPorts result code number rows) h
+    told_kept a (messages.Port result code number port session function) turned h = answer_kept a (messages.Port result code number port session function) h
+    told_kept a (messages.AllPorts result code number rows) turned h = answer_kept a (messages.AllPorts result code number rows) h

@@ -41,7 +41,6 @@ use Rattle.port_facts.specs.Port.{Lives}
 use Rattle.port_facts.proofs.Keyed.{on_both, on_each, at_key}
 use Rattle.port_facts.proofs.Rules.{done_goes}
 use Rattle.port_facts.proofs.Hearings.{hears_goes, ticks_goes}
-use Rattle.controller_facts.proofs.Moves.{IsGsmpTurn, ages}
 use Rattle.world_model.specs.Controller.{Acted, Linked, port_key, linked_at, ports_of, with_linked, with_desk, note, default_end, default_home}
 use Rattle.world_model.specs.Sending.{says_gsmp, says_ifmp}
 use Rattle.world_model.specs.Asking.{sends_request, asks_next, asks, takes_back, withdraws_input}
@@ -74,10 +73,9 @@ pub record Keeps (Binds : Type 0) (P : Acted → Type 0) (K : Setup → Desk →
   pub noting : (setup : Setup) (a : Acted) (item : Record) → A setup (actions.Note item) → P a → P (note a item)
   pub withdrawing : (setup : Setup) (a : Acted) (input : End) → A setup (actions.Withdraw input) → P a → P (withdraws_input a input)
   pub parting : (a : Acted) (input : End) → P a → P (note a (Part a.controller.node input.port (number_of_channel input.channel)))
-  -- the switch is told, and asked under the next number; its adjacency turns or begins anew; it is met, from an empty desk on
+  -- the switch is told, and asked under the next number; its adjacency begins anew; it is met, from an empty desk on
   pub telling : (a : Acted) (message : Message) → P a → P (says_gsmp a message)
   pub requesting : (a : Acted) (request : Request) → is_estab a.controller.adjacency.state ≡ true → (a.controller.desk.next == last_transaction) ≡ false → P a → P (with_desk a (asked a.controller.desk request))
-  pub turning : (a : Acted) (step : sides.Step Party) → IsGsmpTurn a.controller.adjacency step → P a → P (record a { controller = record a.controller { adjacency = step.side } })
   pub resetting : (a : Acted) → P a → P (resets_gsmp a)
   pub emptying : (a : Acted) → P a → P (with_desk a empty_desk)
   pub meeting : (a : Acted) → P a → P (record a { controller = record a.controller { has_met = true } })
@@ -261,8 +259,8 @@ module _ {Binds : Type 0} {P : Acted → Type 0} {K : Setup → Desk → Work �
   answers_kept a (Open (Some m) own) h = meets_kept (says_gsmp a (messages.Adjacency (greeting_of m))) (k.telling a (messages.Adjacency (greeting_of m)) h)
   answers_kept a Reset h = node_resets_kept a h
 
-  pub steps_kept : (a : Acted) (step : sides.Step Party) → IsGsmpTurn a.controller.adjacency step → P a → P (steps a step)
-  steps_kept a step turn h = answers_kept (record a { controller = record a.controller { adjacency = step.side } }) step.answer (k.turning a step turn h)
+  pub steps_kept : (a : Acted) (step : sides.Step Party) → P (record a { controller = record a.controller { adjacency = step.side } }) → P (steps a step)
+  steps_kept a step turned = answers_kept (record a { controller = record a.controller { adjacency = step.side } }) step.answer turned
 
   -- *Answers of the switch*
   behind_kept : (a : Acted) (port : PortNo) → P a → P (behind_delete_all a port)
@@ -309,16 +307,17 @@ module _ {Binds : Type 0} {P : Acted → Type 0} {K : Setup → Desk → Work �
     ticks_port_kept : (a : Acted) (port : PortNo) → P a → P (ticks_port a port)
     ticks_port_kept a port h = live_kept a port port_ticks.ticks (λ setup desk w live. by_steps binds _ (ticks_goes setup desk w live)) h
 
-    ticks_on_kept : (a : Acted) (step : sides.Step Party) → IsGsmpTurn a.controller.adjacency step → P a → P (tries_joins (ticks_ports (sends_again (steps a step))))
-    ticks_on_kept a step turn h =
+    ticks_on_kept : (a : Acted) (step : sides.Step Party) → P (record a { controller = record a.controller { adjacency = step.side } }) → P (tries_joins (ticks_ports (sends_again (steps a step))))
+    ticks_on_kept a step turned =
         let again : Acted = sends_again (steps a step) in
-        tries_joins_kept (ticks_ports again) (fold_kept P ticks_port ticks_port_kept (ports_of again.controller) again (again_kept (steps a step) (steps_kept a step turn h)))
+        tries_joins_kept (ticks_ports again) (fold_kept P ticks_port ticks_port_kept (ports_of again.controller) again (again_kept (steps a step) (steps_kept a step turned)))
 
-    ticks_by_kept : (a : Acted) (step : sides.Step Party) (answer : Answer (Said Party) Party) → IsGsmpTurn a.controller.adjacency step → P a → P (ticks_by a step answer)
-    ticks_by_kept a step Quiet turn h = ticks_on_kept a step turn h
-    ticks_by_kept a step (Send m) turn h = ticks_on_kept a step turn h
-    ticks_by_kept a step (Open m own) turn h = ticks_on_kept a step turn h
-    ticks_by_kept a step Reset turn h = node_resets_kept a h
+    ticks_by_kept : (a : Acted) (step : sides.Step Party) (answer : Answer (Said Party) Party) → P (record a { controller = record a.controller { adjacency = step.side } }) → P a → P (ticks_by a step answer)
+    ticks_by_kept a step Quiet turned h = ticks_on_kept a step turned
+    ticks_by_kept a step (Send m) turned h = ticks_on_kept a step turned
+    ticks_by_kept a step (Open m own) turned h = ticks_on_kept a step turned
+    ticks_by_kept a step Reset turned h = node_resets_kept a h
 
-    pub ticks_kept : (a : Acted) → P a → P (ticks a)
-    ticks_kept a h = ticks_by_kept a (ticked a.controller.adjacency) (ticked a.controller.adjacency).answer ages h
+    -- a tick, once the adjacency with the switch has aged
+    pub ticks_kept : (a : Acted) → P (record a { controller = record a.controller { adjacency = (ticked a.controller.adjacency).side } }) → P a → P (ticks a)
+    ticks_kept a turned h = ticks_by_kept a (ticked a.controller.adjacency) (ticked a.controller.adjacency).answer turned h
