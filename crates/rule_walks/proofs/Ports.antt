@@ -1,6 +1,6 @@
 -- What a few changes of a port at work keep, each of its rules keeps
 
-use Rattle.std.proofs.Common.{ℕ, ◌+◌, List, [], ◌∷◌, ◌++◌, map, flat_map, Option, None, Some, Bool, true, false, sym, subst, append_assoc, append-nil}
+use Rattle.std.proofs.Common.{◌≡◌, ℕ, ◌+◌, refl, List, [], ◌∷◌, ◌++◌, map, flat_map, Option, None, Some, Bool, true, false, sym, subst, append_assoc, append-nil}
 use Rattle.std.specs.Prelude.{nat_lt, ◌&&◌, ◌||◌}
 use Rattle.std.specs.Option.{option_map, option_map_or}
 use Rattle.std.proofs.lemmas.List.Concat.{flat_map-cons}
@@ -37,7 +37,7 @@ use Rattle.port_model.specs.Counting.{wires, used_label, used, counts_flow, coun
 use Rattle.port_model.specs.Redirection.{accepts}
 use Rattle.port_model.specs.Joins.{joins_label, joined, parted, lent, ended, given_back_in, given_back}
 use Rattle.port_model.specs.Resets.{next_side, left_of, closing, withdrawing_in, withdrawing_of, withdrawing, taking_back_in, taking_back, resets, restarts}
-use Rattle.port_facts.proofs.Keyed.{on_both, every_more}
+use Rattle.port_facts.proofs.Keyed.{on_both, on_each, every_more}
 use Rattle.port_facts.proofs.Steps.{IsTurn, Step, greeting, telling, closing as closes_now, noting, turning, heard as is_heard, minding, relabelling, wiring, binding, quitting, unwiring, freeing, accepting, granting, regranting, starting, ending, taking_back as takes_back, Goes, goes_keeps}
 
 -- *What a port asks its controller to note*; that a label is bound only where labels may be bound
@@ -71,13 +71,18 @@ pub data Worked (Binds : Type 0) (setup : Setup) (desk : Desk) (w : Work) : Work
   by_reset : Worked Binds setup desk w (resets setup w)
   by_restart : Worked Binds setup desk w (restarts setup w)
 
+-- but for its reset, which it asks at once with doing nothing more
+abbrev pub is_reset : Action → Bool
+is_reset actions.Reset = true
+is_reset action = false
+
 -- *What a few changes keep* of a port at work
 pub record Keeps (Binds : Type 0) (setup : Setup) (P : Work → Type 0) : Type 0 where
-  -- it asks one thing more, and it has asked to be reset
-  pub asked : (w : Work) (action : Action) → IsAsked Binds setup action → P w → P (record w { actions = w.actions ++ action ∷ [] })
-  pub halted : (w : Work) → P w → P (record w { halted = true })
+  -- it asks one thing more, or to be reset
+  pub asked : (w : Work) (action : Action) → IsAsked Binds setup action → is_reset action ≡ false → P w → P (record w { actions = w.actions ++ action ∷ [] })
+  pub halting : (w : Work) → w.halted ≡ false → P w → P (record w { actions = w.actions ++ actions.Reset ∷ []; halted = true })
   -- its side of the adjacency hears or ages, and a message was taken from its peer
-  pub turned : (w : Work) (step : sides.Step Peer) → IsTurn w.port.adjacency step → P w → P (record w { port = record w.port { adjacency = step.side } })
+  pub turned : (w : Work) (step : sides.Step Peer) → w.halted ≡ false → IsTurn w.port.adjacency step → P w → P (record w { port = record w.port { adjacency = step.side } })
   pub heard : (w : Work) → P w → P (record w { port = record w.port { adjacency = record w.port.adjacency { silence = 0 } } })
   -- its session, its grants, and one REDIRECT more
   pub session : (w : Work) (o : Option Session) → P w → P (record w { port = record w.port { session = o } })
@@ -90,11 +95,12 @@ anew setup w = record w { port = record w.port { adjacency = next_side setup w.i
 
 module _ {Binds : Type 0} {setup : Setup} {P : Work → Type 0} (k : Keeps Binds setup P) where
   -- *Changes*
-  acts_kept : (w : Work) (action : Action) → IsAsked Binds setup action → P w → P (acts w action)
-  acts_kept w action is h = on_both P w.halted w (record w { actions = w.actions ++ action ∷ [] }) h (k.asked w action is h)
+  acts_kept : (w : Work) (action : Action) → IsAsked Binds setup action → is_reset action ≡ false → P w → P (acts w action)
+  acts_kept w action is other h = on_both P w.halted w (record w { actions = w.actions ++ action ∷ [] }) h (k.asked w action is other h)
 
   halts_kept : (w : Work) → P w → P (halts w)
-  halts_kept w h = k.halted (acts w actions.Reset) (acts_kept w actions.Reset tt h)
+  halts_kept w h = on_each (λ (v : Work). P (record v { halted = true })) w.halted w (record w { actions = w.actions ++ actions.Reset ∷ [] })
+      (λ was. subst (λ (b : Bool). P (record w { halted = b })) was h) (λ live. k.halting w live h)
 
   session_kept : (w : Work) (change : Session → Session) → P w → P (with_session w change)
   session_kept w change h = on_both P w.halted w (record w { port = record w.port { session = option_map change w.port.session } }) h (k.session w (option_map change w.port.session) h)
@@ -120,37 +126,37 @@ module _ {Binds : Type 0} {setup : Setup} {P : Work → Type 0} (k : Keeps Binds
       by_session (Some s) =
           let said : Action = Say (message (own_of w.port.adjacency) (peer_of w.port.adjacency) s.number) in
           on_both P (nat_lt s.number last_number) (acts (numbered (s.number + 1) w) said) (numbered spent_number w)
-          (acts_kept (numbered (s.number + 1) w) said tt (session_kept w (λ session. record session { number = s.number + 1 }) h)) (session_kept w (λ session. record session { number = spent_number }) h)
+          (acts_kept (numbered (s.number + 1) w) said tt refl (session_kept w (λ session. record session { number = s.number + 1 }) h)) (session_kept w (λ session. record session { number = spent_number }) h)
 
   closes_kept : (w : Work) → P w → P (closes w)
   closes_kept w h = on_both P (is_spent w.port.session) (halts w) w (halts_kept w h) h
 
   -- *The adjacency and the session*
   opens_kept : (w : Work) → P w → P (opens setup w)
-  opens_kept w h = acts_kept (record w { port = record w.port { session = Some (first_session setup) } }) (Note (Opened setup.node setup.port)) is_opened (k.session w (Some (first_session setup)) h)
+  opens_kept w h = acts_kept (record w { port = record w.port { session = Some (first_session setup) } }) (Note (Opened setup.node setup.port)) is_opened refl (k.session w (Some (first_session setup)) h)
 
   answers_kept : (w : Work) (answer : Answer Hello Instance) → P w → P (answers setup w answer)
   answers_kept w Quiet h = h
-  answers_kept w (Send hello) h = acts_kept w (Say (Adjacency hello)) tt h
+  answers_kept w (Send hello) h = acts_kept w (Say (Adjacency hello)) tt refl h
   answers_kept w (Open None own) h = opens_kept w h
-  answers_kept w (Open (Some hello) own) h = opens_kept (greets w hello) (acts_kept w (Say (Adjacency hello)) tt h)
+  answers_kept w (Open (Some hello) own) h = opens_kept (greets w hello) (acts_kept w (Say (Adjacency hello)) tt refl h)
   answers_kept w Reset h = halts_kept w h
 
-  steps_kept : (w : Work) (step : sides.Step Peer) → IsTurn w.port.adjacency step → P w → P (steps setup w step)
-  steps_kept w step turn h = answers_kept (record w { port = record w.port { adjacency = step.side } }) (ifmp_answer (option_map_or (λ (s : Session). s.expected) w.port.session 1) step.answer) (k.turned w step turn h)
+  steps_kept : (w : Work) (step : sides.Step Peer) → w.halted ≡ false → IsTurn w.port.adjacency step → P w → P (steps setup w step)
+  steps_kept w step live turn h = answers_kept (record w { port = record w.port { adjacency = step.side } }) (ifmp_answer (option_map_or (λ (s : Session). s.expected) w.port.session 1) step.answer) (k.turned w step live turn h)
 
   -- *Labels*
   wires_kept : (w : Work) (flow : FlowId) (o : Option ℕ) → P w → P (wires setup w flow o)
   wires_kept w flow None h = h
   wires_kept w flow (Some number) h =
       let label : Label = record { number = number; state = Wiring; flow = flow; idle = 0; ticks = 0; join = None } in
-      acts_kept (with_new_label w label) (Ask (AddBranch (label_end setup.port number) (control_end setup.port number)) false) tt
+      acts_kept (with_new_label w label) (Ask (AddBranch (label_end setup.port number) (control_end setup.port number)) false) tt refl
       (session_kept w (λ s. record s { labels = entered (key_le label_number) label s.labels }) h)
 
   unwires_kept : (desk : Desk) (w : Work) (number : ℕ) → P w → P (unwires setup desk w number)
   unwires_kept desk w number h =
       let request : Action = Ask (DeleteTree (label_end setup.port number)) (on_input (desk_after desk w) (label_end setup.port number)) in
-      on_both P (on_input (desk_after desk w) (label_end setup.port number) || has_room desk w) (acts w request) w (acts_kept w request tt h) h
+      on_both P (on_input (desk_after desk w) (label_end setup.port number) || has_room desk w) (acts w request) w (acts_kept w request tt refl h) h
 
   used_kept : (w : Work) (o : Option Label) → P w → P (used_label w o)
   used_kept w None h = h
@@ -174,27 +180,27 @@ module _ {Binds : Type 0} {setup : Setup} {P : Work → Type 0} (k : Keeps Binds
 
   -- *Each smallest step*, and any number of them
   step_kept : Binds → (desk : Desk) (v w : Work) → Step setup desk v w → P v → P w
-  step_kept binds desk v _ (greeting _ hello) h = acts_kept v (Say (Adjacency hello)) tt h
+  step_kept binds desk v _ (greeting _ hello) h = acts_kept v (Say (Adjacency hello)) tt refl h
   step_kept binds desk v _ (telling _ message told) h = tells_kept v message h
   step_kept binds desk v _ (closes_now _) h = closes_kept v h
-  step_kept binds desk v _ (noting _ input output) h = acts_kept v (Note (Join setup.node setup.port (number_of_channel input.channel) output.port (number_of_channel output.channel))) (is_joined (number_of_channel input.channel) output.port (number_of_channel output.channel)) h
-  step_kept binds desk v _ (turning _ step live turn) h = steps_kept v step turn h
+  step_kept binds desk v _ (noting _ input output) h = acts_kept v (Note (Join setup.node setup.port (number_of_channel input.channel) output.port (number_of_channel output.channel))) (is_joined (number_of_channel input.channel) output.port (number_of_channel output.channel)) refl h
+  step_kept binds desk v _ (turning _ step live turn) h = steps_kept v step live turn h
   step_kept binds desk v _ (is_heard _) h = k.heard v h
   step_kept binds desk v _ (minding _ change keeps) h = session_kept v change h
   step_kept binds desk v _ (relabelling _ before after found keeps) h = label_kept v after h
   step_kept binds desk v _ (wiring _ s flow number session spare range room alive) h = wires_kept v flow (Some number) h
-  step_kept binds desk v _ (binding _ label found is) h = acts_kept (with_label v (record label { state = Offered })) (Note (Bind setup.node setup.port label.number label.flow)) (is_bound binds label.number label.flow) (label_kept v (record label { state = Offered }) h)
-  step_kept binds desk v _ (quitting _ label last found is) h = acts_kept (with_label v (record label { state = Wired })) (CutChain label.number) tt (label_kept v (record label { state = Wired }) h)
+  step_kept binds desk v _ (binding _ label found is) h = acts_kept (with_label v (record label { state = Offered })) (Note (Bind setup.node setup.port label.number label.flow)) (is_bound binds label.number label.flow) refl (label_kept v (record label { state = Offered }) h)
+  step_kept binds desk v _ (quitting _ label last found is) h = acts_kept (with_label v (record label { state = Wired })) (CutChain label.number) tt refl (label_kept v (record label { state = Wired }) h)
   step_kept binds desk v _ (unwiring _ number label found) h = unwires_kept desk v number h
-  step_kept binds desk v _ (freeing _ label found is frees) h = acts_kept (without_label v label.number) (Note (Free setup.node setup.port label.number)) (is_freed label.number) (session_kept v (λ s. record s { labels = without label_number label.number s.labels }) h)
+  step_kept binds desk v _ (freeing _ label found is frees) h = acts_kept (without_label v label.number) (Note (Free setup.node setup.port label.number)) (is_freed label.number) refl (session_kept v (λ s. record s { labels = without label_number label.number s.labels }) h)
   step_kept binds desk v _ (accepting _) h = k.accepted v h
   step_kept binds desk v _ (granting _ s label flow lifetime session range none few lives room alive) h =
       let grants : List Grant = v.port.grants ++ record { label = label; flow = flow; lifetime = lifetime; state = Idle } ∷ [] in
-      acts_kept (with_grants (accepts v) grants) (Ask (AddBranch (control_end setup.port label) (label_end setup.port label)) false) tt (grants_kept (accepts v) grants (k.accepted v h))
+      acts_kept (with_grants (accepts v) grants) (Ask (AddBranch (control_end setup.port label) (label_end setup.port label)) false) tt refl (grants_kept (accepts v) grants (k.accepted v h))
   step_kept binds desk v _ (regranting _ before after found keeps may) h = grant_kept v after h
   step_kept binds desk v _ (starting _ grant found is) h = grant_kept v (record grant { state = ByController }) h
   step_kept binds desk v _ (ending _ grant found is) h = gone_kept v grant.label h
-  step_kept binds desk v _ (takes_back _ input output joined) h = acts_kept v (TakeBack input output) tt h
+  step_kept binds desk v _ (takes_back _ input output joined) h = acts_kept v (TakeBack input output) tt refl h
 
   -- *Joins*
   joins_label_kept : (w : Work) (join : Option End) (o : Option Label) → P w → P (joins_label w join o)
@@ -223,40 +229,43 @@ module _ {Binds : Type 0} {setup : Setup} {P : Work → Type 0} (k : Keeps Binds
   rule_kept {w = u} (by_giving_back grant) h = given_back_kept u grant grant.state h
 
   -- *Several things are asked*
-  asks_kept : (xs : List Action) → Every (IsAsked Binds setup) xs → (w : Work) → P w → P (record w { actions = w.actions ++ xs })
+  abbrev Asked : Action → Type 0
+  Asked action = IsAsked Binds setup action × (is_reset action ≡ false)
+
+  asks_kept : (xs : List Action) → Every Asked xs → (w : Work) → P w → P (record w { actions = w.actions ++ xs })
   asks_kept [] all w h = subst (λ (ys : List Action). P (record w { actions = ys })) (sym (append-nil w.actions)) h
   asks_kept (x ∷ xs) all w h = subst (λ (ys : List Action). P (record w { actions = ys })) (append_assoc w.actions (x ∷ []) xs)
-      (asks_kept xs all.1 (record w { actions = w.actions ++ x ∷ [] }) (k.asked w x all.0 h))
+      (asks_kept xs all.1 (record w { actions = w.actions ++ x ∷ [] }) (k.asked w x all.0.0 all.0.1 h))
 
   -- *Resets*
-  cuts_asked : (labels : List Label) → Every (IsAsked Binds setup) (map (λ (label : Label). CutChain label.number) labels)
+  cuts_asked : (labels : List Label) → Every Asked (map (λ (label : Label). CutChain label.number) labels)
   cuts_asked [] = tt
-  cuts_asked (label ∷ labels) = (tt, cuts_asked labels)
+  cuts_asked (label ∷ labels) = ((tt, refl), cuts_asked labels)
 
-  closing_asked : (o : Option Session) → Every (IsAsked Binds setup) (closing setup o)
+  closing_asked : (o : Option Session) → Every Asked (closing setup o)
   closing_asked None = tt
-  closing_asked (Some s) = (is_closed, cuts_asked s.labels)
+  closing_asked (Some s) = ((is_closed, refl), cuts_asked s.labels)
 
-  each_asked : (f : Grant → List Action) → ((grant : Grant) → Every (IsAsked Binds setup) (f grant)) → (grants : List Grant) → Every (IsAsked Binds setup) (flat_map f grants)
+  each_asked : (f : Grant → List Action) → ((grant : Grant) → Every Asked (f grant)) → (grants : List Grant) → Every Asked (flat_map f grants)
   each_asked f each [] = tt
-  each_asked f each (grant ∷ grants) = subst (Every (IsAsked Binds setup)) (sym (flat_map-cons f grant grants)) (every_join (IsAsked Binds setup) (f grant) (flat_map f grants) (each grant) (each_asked f each grants))
+  each_asked f each (grant ∷ grants) = subst (Every Asked) (sym (flat_map-cons f grant grants)) (every_join Asked (f grant) (flat_map f grants) (each grant) (each_asked f each grants))
 
-  withdrawing_asked : (label : ℕ) (state : GrantState) → Every (IsAsked Binds setup) (withdrawing_in setup label state)
-  withdrawing_asked label Idle = (tt, tt)
-  withdrawing_asked label ByController = (tt, tt)
+  withdrawing_asked : (label : ℕ) (state : GrantState) → Every Asked (withdrawing_in setup label state)
+  withdrawing_asked label Idle = ((tt, refl), tt)
+  withdrawing_asked label ByController = ((tt, refl), tt)
   withdrawing_asked label (ByInput input) = tt
   withdrawing_asked label (Leaving input owed) = tt
 
-  taking_asked : (grant : Grant) (state : GrantState) → Every (IsAsked Binds setup) (taking_back_in setup grant state)
+  taking_asked : (grant : Grant) (state : GrantState) → Every Asked (taking_back_in setup grant state)
   taking_asked grant Idle = tt
   taking_asked grant ByController = tt
-  taking_asked grant (ByInput input) = (tt, tt)
+  taking_asked grant (ByInput input) = ((tt, refl), tt)
   taking_asked grant (Leaving input owed) = tt
 
-  reset_asked : (o : Option Session) (grants : List Grant) → Every (IsAsked Binds setup) (closing setup o ++ (withdrawing setup grants ++ (flat_map (taking_back setup) grants ++ Ask (DeleteAll setup.port) true ∷ [])))
-  reset_asked o grants = every_join (IsAsked Binds setup) (closing setup o) _ (closing_asked o)
-      (every_join (IsAsked Binds setup) (withdrawing setup grants) _ (each_asked (withdrawing_of setup) (λ grant. withdrawing_asked grant.label grant.state) grants)
-      (every_join (IsAsked Binds setup) (flat_map (taking_back setup) grants) _ (each_asked (taking_back setup) (λ grant. taking_asked grant grant.state) grants) (tt, tt)))
+  reset_asked : (o : Option Session) (grants : List Grant) → Every Asked (closing setup o ++ (withdrawing setup grants ++ (flat_map (taking_back setup) grants ++ Ask (DeleteAll setup.port) true ∷ [])))
+  reset_asked o grants = every_join Asked (closing setup o) _ (closing_asked o)
+      (every_join Asked (withdrawing setup grants) _ (each_asked (withdrawing_of setup) (λ grant. withdrawing_asked grant.label grant.state) grants)
+      (every_join Asked (flat_map (taking_back setup) grants) _ (each_asked (taking_back setup) (λ grant. taking_asked grant grant.state) grants) ((tt, refl), tt)))
 
   -- *Each rule and reset*, where a new side keeps it too
   module _ (begins : (w : Work) → P w → P (anew setup w)) where
@@ -274,9 +283,9 @@ AsksOnly Binds setup w = Every (IsAsked Binds setup) w.actions
 
 pub asks_only : (Binds : Type 0) (setup : Setup) → Keeps Binds setup (AsksOnly Binds setup)
 asks_only Binds setup = record {
-  asked = λ w action is h. every_more (IsAsked Binds setup) w.actions action h is;
-  halted = λ w h. h;
-  turned = λ w step turn h. h;
+  asked = λ w action is other h. every_more (IsAsked Binds setup) w.actions action h is;
+  halting = λ w live h. every_more (IsAsked Binds setup) w.actions actions.Reset h tt;
+  turned = λ w step live turn h. h;
   heard = λ w h. h;
   session = λ w o h. h;
   granted = λ w grants h. h;
