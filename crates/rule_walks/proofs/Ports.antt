@@ -4,7 +4,8 @@ use Rattle.std.proofs.Common.{◌≡◌, ℕ, ◌+◌, refl, List, [], ◌∷◌
 use Rattle.std.specs.Prelude.{nat_lt, ◌&&◌, ◌||◌}
 use Rattle.std.specs.Option.{option_map, option_map_or}
 use Rattle.std.proofs.lemmas.List.Concat.{flat_map-cons}
-use Rattle.world_model.specs.Words.{PortNo, End, Hello, Peer, Instance, label_channel_of, number_of_channel, Answer, Quiet, Send, Open, ifmp_answer, FlowId, AddBranch, DeleteTree, Record, Opened, Closed, Bind, Free, put, without, entered, key_le, Desk, on_input, Action, Say, Ask, Note, CutChain, TakeBack, Setup, label_end, control_end, Label, Wiring, Offered, Wired, label_number, label_for, lowest_spare, Grant, GrantState, Idle, ByController, ByInput, Leaving, grant_label, packets_in, counted_once, Session, Work, halts, with_session, with_label, with_new_label, without_label, with_grants, with_grant, without_grant, label_at, desk_after, has_room, Unnumbered, last_number, spent_number, own_of, greets, tells_in, tells, is_spent, closes, reclaim_ack, first_session, opens, unwires, wires, used_label, used, counts_flow, counts_by, counts, packet_flow, accepts, joins_label, parted, lent, given_back_in, given_back, next_side, left_of, closing, withdrawing_in, withdrawing_of, withdrawing, taking_back_in, taking_back, resets, restarts}
+use Rattle.world_model.specs.port_model.Resets.{next_side}
+use Rattle.world_model.specs.Words.{PortNo, End, Hello, Peer, Instance, label_channel_of, number_of_channel, Answer, Quiet, Send, Open, ifmp_answer, FlowId, AddBranch, DeleteTree, Record, Opened, Closed, Bind, Free, put, without, entered, key_le, Desk, on_input, Action, Say, Ask, Note, CutChain, TakeBack, Setup, label_end, control_end, Label, Wiring, Offered, Wired, label_number, label_for, lowest_spare, Grant, GrantState, Idle, ByController, ByInput, Leaving, grant_label, packets_in, counted_once, Session, Work, halts, with_session, with_label, with_new_label, without_label, with_grants, with_grant, without_grant, label_at, desk_after, has_room, Unnumbered, last_number, spent_number, own_of, greets, tells_in, tells, is_spent, closes, reclaim_ack, first_session, opens, unwires, wires, used_label, used, counts_flow, counts_by, counts, packet_flow, accepts, joins_label, parted, lent, given_back_in, given_back, left_of, closing, withdrawing_in, withdrawing_of, withdrawing, taking_back_in, taking_back, resets, restarts}
 use Rattle.world_model.specs.adjacency_table.declared.message.Answer.TheVariants.{Reset}
 use Rattle.world_model.specs.adjacency_table.Side as sides
 use Rattle.world_model.specs.ifmp_wire.declared.message.Message.TheVariants.{Adjacency}
