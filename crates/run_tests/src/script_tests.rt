@@ -323,7 +323,7 @@ fn long_lines(rt: HostRuntime) -> Result<(), Fail> {
 }
 
 pub const USAGE: &str =
-    "usage: ipswitch replay|replay toml|ideal|decode ifmp|decode gsmp|drill N|rules|trace|audit|console|journal|capture\n";
+    "usage: ipswitch replay|replay toml|ideal|decode ifmp|decode gsmp|drill N|rules|trace|audit|console|show|journal|capture\n";
 
 /// Words that ask for nothing.
 const OTHER_WORDS: [&[&str]; 12] = [
