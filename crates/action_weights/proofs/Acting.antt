@@ -2,43 +2,19 @@
 
 use Rattle.std.proofs.Common.{◌≡◌, ℕ, ◌≤◌, ◌+◌, Bool, true, false, List, [], ◌∷◌, ◌++◌, length, Option, None, Some, refl, sym, ◌∙◌, ap, arith, if◌then◌else◌, fold, map}
 use Rattle.std.specs.Prelude.{◌==◌, not, filter, flat_map}
-use Rattle.net_types.specs.declared.node.NodeId.{NodeId}
-use Rattle.net_types.specs.declared.node.PortNo.{PortNo}
-use Rattle.net_types.specs.declared.number.Mark.{Mark}
-use Rattle.net_types.specs.declared.channel.End.{End}
-use Rattle.adjacency_table.specs.Side.{is_estab}
-use Rattle.gsmp_wire.specs.declared.request.Request.{Request}
-use Rattle.gsmp_wire.specs.declared.request.Request.TheVariants.{AddBranch, MoveBranch, DeleteTree, VerifyTree, DeleteAll, PortManagement, AllPorts}
-use Rattle.gsmp_wire.specs.declared.rows.PortRow.{PortRow}
-use Rattle.link_model.specs.declared.frames.Frame.{Frame}
-use Rattle.link_model.specs.Ledger.{payload_of}
-use Rattle.frame_model.specs.Reassembly.{nothing_taken}
-use Rattle.frame_model.specs.Reassembly as gathering
-use Rattle.port_model.specs.Desk.{Desk, Standing, asked, is_led_home, message_at, last_transaction}
-use Rattle.port_model.specs.Messages.{message_of}
-use Rattle.port_model.specs.Requests.{is_on, withdraws}
-use Rattle.port_model.specs.declared.action.Action.{Action}
-use Rattle.port_model.specs.declared.action.Action.TheVariants as actions
-use Rattle.port_model.specs.declared.action.Action.TheVariants.{Say, Ask, Note, CutChain, TakeBack, Withdraw}
-use Rattle.port_model.specs.Setup.{Setup, home_of}
-use Rattle.port_model.specs.Labels.{Label}
-use Rattle.port_model.specs.Grants.{Grant, GrantState, Idle, ByController, ByInput, Leaving}
-use Rattle.port_model.specs.Port.{Session, Work, halts}
-use Rattle.port_model.specs.Saying.{is_spent, closes}
-use Rattle.port_model.specs.Resets.{closing, left_in, left_of, taking_back_in, taking_back, withdrawing_in, withdrawing_of, withdrawing, resets}
-use Rattle.port_facts.proofs.Keyed.{at_every, at_put_same, on_both}
-use Rattle.world_model.specs.Controller.{Acted, Linked, port_key, linked_at, with_linked, with_desk, note, chain_of, chains_with}
-use Rattle.world_model.specs.Asking.{asks_next, asks, takes_back, withdraws_input}
-use Rattle.world_model.specs.Resets.{cuts_of, begins, with_work, node_resets}
-use Rattle.world_model.specs.Performing.{does, does_in_estab, resets_as, resets_of, resets_port, performs, performs_in_estab, Rule, works_as, works, at_port}
-use Rattle.world_model.specs.Joins.{resets_spent}
-use Rattle.world_model.specs.Topology.{Topology}
+use Rattle.world_model.specs.Words.{NodeId, PortNo, Mark, End, is_estab, Request, AddBranch, MoveBranch, DeleteTree, VerifyTree, PortManagement, PortRow, Frame, payload_of, nothing_taken, Desk, Standing, is_led_home, last_transaction, message_of, is_on, withdraws, Action, Say, Ask, Note, CutChain, TakeBack, Withdraw, Setup, home_of, Label, Grant, GrantState, Idle, ByController, ByInput, Leaving, Session, Work, halts, is_spent, closes, closing, left_in, left_of, taking_back_in, taking_back, withdrawing_in, withdrawing_of, withdrawing, resets, Linked, port_key, linked_at, with_linked, with_desk, chain_of, chains_with, asks_next, asks, takes_back, withdraws_input, cuts_of, begins, with_work, node_resets, does, does_in_estab, resets_as, resets_of, resets_port, performs, performs_in_estab, Rule, works_as, works, at_port, resets_spent, Topology}
+use Rattle.world_model.specs.gsmp_wire.declared.request.Request.TheVariants.{DeleteAll, AllPorts}
+use Rattle.world_model.specs.frame_model.Reassembly as gathering
+use Rattle.world_model.specs.port_model.Desk.{asked, message_at}
+use Rattle.world_model.specs.port_model.declared.action.Action.TheVariants as actions
+use Rattle.controller_facts.proofs.port_facts.Keyed.{at_every, at_put_same, on_both}
+use Rattle.world_model.specs.Controller.{Acted, note}
 use Rattle.shown_cells.proofs.Tested.{cut_frames}
-use Rattle.quiet_model.specs.Costs.{total, frame_weight, answer_weight, request_weight, reset_weight, asking_cost}
-use Rattle.quiet_model.specs.Weights.{Bound, standing_cost, desk_weight, state_cost, port_weight, changes_left}
-use Rattle.port_weights.specs.Works.{action_cost, work_weight}
-use Rattle.port_weights.proofs.Sums.{total_join, total_more, total_filter, total_put}
-use Rattle.port_weights.proofs.Works.{Costs, cost_of_grant, spent_cost}
+use Rattle.frame_weights.specs.quiet_model.Costs.{total, frame_weight, answer_weight, request_weight, reset_weight, asking_cost}
+use Rattle.frame_weights.specs.quiet_model.Weights.{Bound, standing_cost, desk_weight, state_cost, port_weight, changes_left}
+use Rattle.frame_weights.specs.port_weights.Works.{action_cost, work_weight}
+use Rattle.frame_weights.proofs.port_weights.Sums.{total_join, total_more, total_filter, total_put}
+use Rattle.frame_weights.proofs.port_weights.Works.{Costs, cost_of_grant, spent_cost}
 use Rattle.action_weights.proofs.Judging.{linked_weight, IsOfLink, IsFine, Weighs, weighs_then, more, none_then, still, itself, placed, gsmp_cost, ifmp_cost}
 use Rattle.action_weights.proofs.Resets.{found_own, node_cost}
 

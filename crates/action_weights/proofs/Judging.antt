@@ -4,37 +4,22 @@
 use Rattle.std.proofs.Common.{◌≡◌, ◌≢◌, ℕ, ◌≤◌, ◌+◌, ◌*◌, Bool, true, false, List, [], ◌∷◌, ◌++◌, length, Option, None, Some, refl, sym, ◌∙◌, ap, subst, arith, if◌then◌else◌, fold}
 use Rattle.std.specs.Prelude.{◌==◌, ◌&&◌, ◌%◌, nat_le}
 use Rattle.std.proofs.lemmas.Bool.Decides.{nat_tests}
-use Rattle.net_types.specs.declared.node.NodeId.{NodeId}
-use Rattle.net_types.specs.declared.node.PortNo.{PortNo}
-use Rattle.net_types.specs.declared.node.Place.TheVariants.{Down}
-use Rattle.net_types.specs.declared.channel.Channel.{Channel}
-use Rattle.net_types.specs.declared.number.Mark.{Mark}
-use Rattle.net_types.specs.Number.{GivenOut, next_control, with_control}
-use Rattle.ipv4_packet.specs.Packet.{ifmp_packet_of}
-use Rattle.atm_cells.specs.declared.cell.Cell.{Cell}
-use Rattle.flow_encaps.specs.Default.{default_payload}
-use Rattle.ifmp_wire.specs.declared.message.Message.{Message as IfmpMessage}
-use Rattle.ifmp_wire.specs.Message.{octets_of as ifmp_octets}
-use Rattle.gsmp_wire.specs.declared.message.Message.{Message as GsmpMessage}
-use Rattle.gsmp_wire.specs.Layout.{octets_of as gsmp_octets}
-use Rattle.link_model.specs.declared.frames.Frame.{Frame}
-use Rattle.link_model.specs.declared.record.Record.TheVariants.{Loss}
-use Rattle.link_model.specs.declared.record.Cause.TheVariants.{PoolFull}
-use Rattle.link_model.specs.Ledger.{payload_of}
-use Rattle.link_model.specs.Notes.{noted}
-use Rattle.frame_model.specs.Frame.{frame_cells, made}
-use Rattle.frame_model.specs.Sending.{Sent}
-use Rattle.ordered_lists.specs.Ordered.{Every, InOrder}
-use Rattle.port_facts.proofs.Keyed.{put_every, put_order, put_length, at_every, on_both}
-use Rattle.world_model.specs.Controller.{Controller, Acted, Linked, port_key, free_slots, linked_at, with_linked, default_channel, default_home}
-use Rattle.world_model.specs.Cells.{on_link, port_on}
-use Rattle.world_model.specs.Sending.{with_cells, sends, sends_control, says_gsmp, says_ifmp}
-use Rattle.world_model.specs.Topology.{Topology, peer_of}
+use Rattle.world_model.specs.Words.{NodeId, PortNo, Down, Channel, Mark, GivenOut, next_control, with_control, ifmp_packet_of, Cell, default_payload, Frame, Loss, PoolFull, payload_of, noted, frame_cells, made, Controller, Linked, port_key, linked_at, with_linked, default_channel, default_home, on_link, port_on, sends_control, says_gsmp, says_ifmp, Topology}
+use Rattle.world_model.specs.ifmp_wire.declared.message.Message.{Message as IfmpMessage}
+use Rattle.world_model.specs.ifmp_wire.Message.{octets_of as ifmp_octets}
+use Rattle.world_model.specs.gsmp_wire.declared.message.Message.{Message as GsmpMessage}
+use Rattle.world_model.specs.gsmp_wire.Layout.{octets_of as gsmp_octets}
+use Rattle.world_model.specs.frame_model.Sending.{Sent}
+use Rattle.controller_facts.specs.ordered_lists.Ordered.{Every, InOrder}
+use Rattle.controller_facts.proofs.port_facts.Keyed.{put_every, put_order, put_length, at_every, on_both}
+use Rattle.world_model.specs.Controller.{Acted, free_slots}
+use Rattle.world_model.specs.Sending.{with_cells, sends}
+use Rattle.world_model.specs.Topology.{peer_of}
 use Rattle.shown_cells.specs.Seen.{Extends, IsUnmade}
 use Rattle.shown_cells.proofs.Made.{extends_self, extends_on, extends_made, made_is, unmade_next}
-use Rattle.quiet_model.specs.Costs.{total, frame_weight, asking_cost, message_cost}
-use Rattle.quiet_model.specs.Weights.{Bearing, ToSwitch, Plain, Bound, bearing_of, bearing_on, hops_of, cost_of, cell_weight, port_weight, changes_left, controller_weight}
-use Rattle.port_weights.proofs.Sums.{total_join, total_put}
+use Rattle.frame_weights.specs.quiet_model.Costs.{total, frame_weight, asking_cost, message_cost}
+use Rattle.frame_weights.specs.quiet_model.Weights.{Bearing, ToSwitch, Plain, Bound, bearing_of, bearing_on, hops_of, cost_of, cell_weight, port_weight, changes_left, controller_weight}
+use Rattle.frame_weights.proofs.port_weights.Sums.{total_join, total_put}
 pub use Rattle.action_weights.specs.Fine.{HaveOwnNumbers, IsOfLink, IsFine}
 use Rattle.frame_weights.proofs.Frames.{frame_total}
 use Rattle.frame_weights.proofs.Readings.{switch_reads, ifmp_reads}

@@ -4,31 +4,19 @@ use Rattle.std.proofs.Common.{◌≡◌, ◌≢◌, ◌⊎◌, inl, inr, ℕ, �
 use Rattle.std.specs.Prelude.{nat_eq, ◌||◌}
 use Rattle.std.specs.List.{list_any}
 use Rattle.std.proofs.lemmas.Bool.Decides.{nat_tests}
-use Rattle.net_types.specs.declared.node.NodeId.{NodeId}
-use Rattle.net_types.specs.declared.node.PortNo.{PortNo}
-use Rattle.net_types.specs.declared.number.Mark.{Mark}
-use Rattle.link_model.specs.declared.frames.Frame.{Frame}
-use Rattle.link_model.specs.Ledger.{payload_of}
-use Rattle.frame_model.specs.Reassembly.{nothing_taken}
-use Rattle.ordered_lists.specs.Ordered.{Every, InOrder}
-use Rattle.ordered_lists.proofs.Every.{every_map}
-use Rattle.keyed_lists.specs.Keyed.{at, put}
-use Rattle.port_model.specs.Desk.{Desk}
-use Rattle.port_model.specs.declared.action.Action.{Action}
-use Rattle.port_model.specs.declared.action.Action.TheVariants.{Say, Ask, Note, CutChain, TakeBack, Withdraw, Reset}
-use Rattle.port_model.specs.Port.{Session, Work}
-use Rattle.port_model.specs.Resets.{restarts}
-use Rattle.port_facts.proofs.Keyed.{at_key, at_every, put_every, put_order, put_length}
+use Rattle.world_model.specs.Words.{NodeId, PortNo, Mark, Frame, payload_of, nothing_taken, at, put, Desk, Action, Say, Ask, Note, CutChain, TakeBack, Withdraw, Session, Work, restarts, Linked, port_key, linked_at, chain_of, chains_with, cuts_of, begins, with_work, closes_by, port_restarts_of, port_restarts, resets_gsmp, node_resets, Topology}
+use Rattle.controller_facts.specs.ordered_lists.Ordered.{Every, InOrder}
+use Rattle.controller_facts.proofs.ordered_lists.Every.{every_map}
+use Rattle.world_model.specs.port_model.declared.action.Action.TheVariants.{Reset}
+use Rattle.controller_facts.proofs.port_facts.Keyed.{at_key, at_every, put_every, put_order, put_length}
 use Rattle.controller_facts.proofs.Unmet.{put_each, none_with}
-use Rattle.world_model.specs.Controller.{Acted, Linked, port_key, linked_at, ports_of, chain_of, chains_with}
-use Rattle.world_model.specs.Resets.{cuts_of, begins, with_work, closes_by, port_restarts_of, port_restarts, resets_gsmp, node_resets}
-use Rattle.world_model.specs.Topology.{Topology}
+use Rattle.world_model.specs.Controller.{Acted, ports_of}
 use Rattle.shown_cells.specs.Seen.{Extends, IsUnmade}
 use Rattle.shown_cells.proofs.Made.{extends_self}
 use Rattle.shown_cells.proofs.Tested.{cut_frames}
-use Rattle.quiet_model.specs.Costs.{total}
-use Rattle.quiet_model.specs.Weights.{Bound, desk_weight, changes_left}
-use Rattle.port_weights.proofs.Works.{cost_of_label, cost_of_grant, labels_in, spent_cost}
+use Rattle.frame_weights.specs.quiet_model.Costs.{total}
+use Rattle.frame_weights.specs.quiet_model.Weights.{Bound, desk_weight, changes_left}
+use Rattle.frame_weights.proofs.port_weights.Works.{cost_of_label, cost_of_grant, labels_in, spent_cost}
 use Rattle.action_weights.proofs.Judging.{linked_weight, HaveOwnNumbers, IsOfLink, IsFine, Weighs, down}
 
 -- *Ports* that are in order stay so where one is put back

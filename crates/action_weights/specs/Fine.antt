@@ -1,9 +1,10 @@
 -- A controller as the measure needs it
 
 use Rattle.std.specs.Prelude.{◌≢◌, ◌≤◌, length}
-use Rattle.ordered_lists.specs.Ordered.{Every, InOrder}
+use Rattle.controller_facts.specs.ordered_lists.Ordered.{Every, InOrder}
 use Rattle.shown_cells.specs.Seen.{IsUnmade}
-use Rattle.world_model.specs.Controller.{Acted, Linked, port_key}
+use Rattle.world_model.specs.Words.{Linked, port_key}
+use Rattle.world_model.specs.Controller.{Acted}
 
 -- *A controller that is fine*: no control mark beyond those given out was used, and its ports are of links, at most 8, no two
 -- with one number

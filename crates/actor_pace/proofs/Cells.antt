@@ -3,13 +3,9 @@
 use Rattle.std.proofs.Common.{◌≡◌, ℕ, zero, suc, ◌/◌, ◌≤◌, Bool, true, false, List, [], ◌∷◌, ◌++◌, length, drop, map, slice_set, slice_index_or, refl, subst, arith, if◌then◌else◌}
 use Rattle.std.specs.List.{range_with_len}
 use Rattle.std.specs.Prelude.{not, nat_le}
-use Rattle.net_types.specs.declared.channel.Channel.{Channel}
-use Rattle.net_types.specs.declared.number.Mark.{Mark}
-use Rattle.atm_cells.specs.declared.cell.Cell.{Cell}
+use Rattle.world_model.specs.Words.{Channel, Mark, Cell, Journal, frame_cells, last_mark, Reassembly, passed_over, without_slot, too_long, most_cells}
 use Rattle.aal5_frames.specs.Frame.{cells_with, cell_of, pdu_of}
-use Rattle.link_model.specs.Notes.{Journal}
-use Rattle.frame_model.specs.Frame.{frame_cells, last_mark}
-use Rattle.frame_model.specs.Reassembly.{Reassembly, Taken, taken, passed_over, without_slot, too_long, joined, most_cells}
+use Rattle.world_model.specs.frame_model.Reassembly.{Taken, taken, joined}
 use Rattle.ordered_lists.specs.Ordered.{Every}
 use Rattle.actor_pace.specs.Pace.{IsUpTo, AreUpTo, AreAllUpTo}
 

@@ -1,9 +1,8 @@
 -- The frame numbers of cells, and the changes of routes that came
 
 use Rattle.std.specs.Prelude.{ℕ, ◌+◌, ◌≤◌, List, length}
-use Rattle.atm_cells.specs.declared.cell.Cell.{Cell}
+use Rattle.world_model.specs.Words.{Cell, Controller}
 use Rattle.ordered_lists.specs.Ordered.{Every}
-use Rattle.world_model.specs.Controller.{Controller}
 
 -- no cell's frame has a greater number
 abbrev pub IsUpTo : (most : ℕ) → Cell → Type 0

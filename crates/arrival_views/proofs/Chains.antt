@@ -1,28 +1,21 @@
 -- a cell comes to the default channel of the link's port: it joins the chain, or is given up, and so may the chain be
 
 use Rattle.std.proofs.Common.{◌≡◌, ℕ, Bool, true, false, List, [], ◌∷◌, ◌++◌, Option, None, Some, refl, sym, ◌∙◌, ap, subst, append-nil, remove, if◌then◌else◌}
-use Rattle.atm_cells.specs.declared.cell.Cell.{Cell}
-use Rattle.net_types.specs.declared.node.PortNo.{PortNo}
-use Rattle.link_model.specs.declared.frames.Frame.{Frame}
-use Rattle.link_model.specs.Ledger.{payload_of}
-use Rattle.link_model.specs.Notes.{Journal}
-use Rattle.frame_model.specs.Reassembly.{Reassembly}
-use Rattle.keyed_lists.specs.Keyed.{at, put}
-use Rattle.port_facts.proofs.Keyed.{at_put_same}
-use Rattle.label_line.specs.Cells as lines
-use Rattle.label_line.specs.Cells.{Role, Downstream, Upstream, Way, InChain, ToController}
-use Rattle.label_line.specs.Downstream.{takes_cell}
-use Rattle.label_line.specs.Line.{Line}
-use Rattle.label_line.specs.Moves.{Reassemble, Lose, reassembles_upstream, step, run}
-use Rattle.port_model.specs.declared.action.Action.{Action}
-use Rattle.world_model.specs.Controller.{Acted, Linked, port_key, linked_at, with_linked}
-use Rattle.port_views.specs.Link.{LinkLabel, other}
-use Rattle.port_views.specs.Shown.{Part, part_of, ShownAt}
-use Rattle.port_views.proofs.Reach.{run_join}
-use Rattle.shown_cells.specs.Seen.{Word, Unknown}
-use Rattle.shown_cells.specs.Label.{Told, OnControl, ShowsCells, erased, seen, seen_message, seen_packet, seen_payload, told_of}
-use Rattle.shown_cells.proofs.Shows.{First, no_word, a_word, shows_join, shows_behind, one_word, one_hidden}
-use Rattle.shown_cells.proofs.Frames.{seen_default}
+use Rattle.world_model.specs.Words.{Cell, PortNo, Frame, payload_of, Journal, Reassembly, at, put, Action, Linked, port_key, linked_at, with_linked}
+use Rattle.controller_views.proofs.port_facts.Keyed.{at_put_same}
+use Rattle.controller_views.specs.label_line.Cells as lines
+use Rattle.controller_views.specs.label_line.Cells.{Role, Downstream, Upstream, Way, InChain, ToController}
+use Rattle.controller_views.specs.label_line.Downstream.{takes_cell}
+use Rattle.controller_views.specs.label_line.Line.{Line}
+use Rattle.controller_views.specs.label_line.Moves.{Reassemble, Lose, reassembles_upstream, step, run}
+use Rattle.world_model.specs.Controller.{Acted}
+use Rattle.controller_views.specs.port_views.Link.{LinkLabel, other}
+use Rattle.controller_views.specs.port_views.Shown.{Part, part_of, ShownAt}
+use Rattle.controller_views.proofs.port_views.Reach.{run_join}
+use Rattle.controller_views.specs.shown_cells.Seen.{Word, Unknown}
+use Rattle.controller_views.specs.shown_cells.Label.{Told, OnControl, ShowsCells, erased, seen, seen_message, seen_packet, seen_payload, told_of}
+use Rattle.controller_views.proofs.shown_cells.Shows.{First, no_word, a_word, shows_join, shows_behind, one_word, one_hidden}
+use Rattle.controller_views.proofs.shown_cells.Frames.{seen_default}
 use Rattle.controller_views.specs.Ends.{way_to, with_way, working, End, Pieces, Net, Goes, asking, placed}
 use Rattle.controller_views.specs.Queues.{awaited}
 use Rattle.controller_views.proofs.Parts.{both, own_end}

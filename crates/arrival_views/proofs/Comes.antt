@@ -2,40 +2,23 @@
 
 use Rattle.std.proofs.Common.{◌≡◌, ℕ, Bool, true, false, List, [], ◌∷◌, ◌++◌, Option, None, Some, Result, Ok, Err, refl, sym, ◌∙◌, ap, subst, ◌⊎◌, inl, inr, length, if◌then◌else◌}
 use Rattle.std.specs.Prelude.{not, nat_le, nat_lt, drop, ◌==◌}
-use Rattle.net_types.specs.declared.node.PortNo.{PortNo}
-use Rattle.net_types.specs.declared.number.Mark.{Mark}
-use Rattle.ipv4_packet.specs.Packet.{protocol_of, source_of, first_fault}
-use Rattle.ipv4_packet.specs.declared.validate.PacketFault.{PacketFault}
-use Rattle.atm_cells.specs.declared.cell.Cell.{Cell}
-use Rattle.flow_encaps.specs.declared.default.EncapsFault.{EncapsFault}
-use Rattle.flow_encaps.specs.Unwrapped.{default_unwrapped}
-use Rattle.ifmp_wire.specs.declared.message.Message.{Message}
-use Rattle.ifmp_wire.specs.declared.reader.Fault.{Fault}
-use Rattle.ifmp_wire.specs.Fields.{decoded as ifmp_decoded}
-use Rattle.refusal_names.specs.Names.{encaps_refusal, packet_refusal, ifmp_refusal}
-use Rattle.link_model.specs.declared.frames.Frame.{Frame}
-use Rattle.link_model.specs.declared.record.Record.{Record}
-use Rattle.link_model.specs.declared.record.Record.TheVariants.{Bad, Loss, Chance}
-use Rattle.link_model.specs.declared.record.Cause.TheVariants.{PoolFull}
-use Rattle.link_model.specs.declared.record.Layer.TheVariants.{Encaps, Packet, Ifmp}
-use Rattle.link_model.specs.Ledger.{payload_of, is_frame}
-use Rattle.link_model.specs.Notes.{Journal, noted}
-use Rattle.frame_model.specs.Reassembly.{Reassembly, Taken, marks_of, most_cells, broken, passed_over, without_slot, too_long, joined}
-use Rattle.frame_model.specs.Frame.{octets_of, last_mark, payload_in, passed, tested, tested_by}
-use Rattle.keyed_lists.specs.Keyed.{at, put}
-use Rattle.port_facts.proofs.Keyed.{on_each, at_key, at_put_same}
-use Rattle.label_line.specs.Cells.{Role}
-use Rattle.label_line.specs.Line.{Line}
-use Rattle.port_model.specs.Hearing.{hears}
-use Rattle.world_model.specs.Controller.{Acted, Linked, port_key, free_slots, linked_at, with_linked, note}
-use Rattle.world_model.specs.Packets.{routes, control_protocol}
-use Rattle.world_model.specs.Performing.{Rule, works, at_port}
-use Rattle.world_model.specs.Cells.{Taker, ForDefault, ifmp_holds, counted_at, packet_holds, default_holds, after_test, ends_frame, after_cell, takes_cell}
-use Rattle.port_views.specs.Link.{LinkLabel, other}
-use Rattle.shown_cells.specs.Seen.{nothing}
-use Rattle.shown_cells.specs.Label.{seen_payload}
-use Rattle.shown_cells.proofs.Shows.{first_of}
-use Rattle.shown_cells.proofs.Tested.{broken_frames, frame_is, last_is}
+use Rattle.world_model.specs.Words.{PortNo, Mark, protocol_of, source_of, PacketFault, Cell, EncapsFault, default_unwrapped, encaps_refusal, packet_refusal, ifmp_refusal, Frame, Record, Bad, Loss, Chance, PoolFull, Encaps, Packet, Ifmp, payload_of, is_frame, Journal, noted, Reassembly, marks_of, most_cells, broken, passed_over, without_slot, too_long, last_mark, payload_in, tested, tested_by, at, put, hears, Linked, port_key, linked_at, with_linked, routes, control_protocol, Rule, works, at_port, ForDefault, ifmp_holds, counted_at, packet_holds, default_holds, takes_cell}
+use Rattle.world_model.specs.ipv4_packet.Packet.{first_fault}
+use Rattle.world_model.specs.ifmp_wire.declared.message.Message.{Message}
+use Rattle.world_model.specs.ifmp_wire.declared.reader.Fault.{Fault}
+use Rattle.world_model.specs.ifmp_wire.Fields.{decoded as ifmp_decoded}
+use Rattle.world_model.specs.frame_model.Reassembly.{Taken, joined}
+use Rattle.world_model.specs.frame_model.Frame.{octets_of, passed}
+use Rattle.controller_views.proofs.port_facts.Keyed.{on_each, at_key, at_put_same}
+use Rattle.controller_views.specs.label_line.Cells.{Role}
+use Rattle.controller_views.specs.label_line.Line.{Line}
+use Rattle.world_model.specs.Controller.{Acted, free_slots, note}
+use Rattle.world_model.specs.Cells.{Taker, after_test, ends_frame, after_cell}
+use Rattle.controller_views.specs.port_views.Link.{LinkLabel, other}
+use Rattle.controller_views.specs.shown_cells.Seen.{nothing}
+use Rattle.controller_views.specs.shown_cells.Label.{seen_payload}
+use Rattle.controller_views.proofs.shown_cells.Shows.{first_of}
+use Rattle.controller_views.proofs.shown_cells.Tested.{broken_frames, frame_is, last_is}
 use Rattle.controller_views.specs.Ends.{way_to, Pieces, Net, Goes, EndLeads, asking, placed}
 use Rattle.controller_views.specs.Lifted.{IsProper}
 use Rattle.controller_views.specs.Queues.{awaited}

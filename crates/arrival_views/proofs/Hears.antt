@@ -4,32 +4,26 @@ use Rattle.std.proofs.Common.{◌≡◌, ℕ, ◌≤◌, Bool, true, false, List
 use Rattle.std.specs.Prelude.{◌==◌, ◌&&◌, drop}
 use Rattle.std.specs.Option.{option_and_then, option_map}
 use Rattle.std.proofs.lemmas.Bool.Decides.{nat_tests}
-use Rattle.net_types.specs.declared.prefix.Addr.{Addr}
-use Rattle.ipv4_packet.specs.Packet.{source_of}
-use Rattle.atm_cells.specs.declared.cell.Cell.{Cell}
-use Rattle.flow_encaps.specs.declared.default.EncapsFault.{EncapsFault}
-use Rattle.ifmp_wire.specs.declared.message.Message.{Message}
-use Rattle.ifmp_wire.specs.declared.reader.Fault.{Fault}
-use Rattle.ifmp_wire.specs.Fields.{decoded as ifmp_decoded}
-use Rattle.ordered_lists.specs.Ordered.{Every}
-use Rattle.label_line.specs.Cells as lines
-use Rattle.label_line.specs.Cells.{Role, Downstream, Upstream}
-use Rattle.label_line.specs.Line.{Line}
-use Rattle.label_line.specs.Moves.{Hear, step, run}
-use Rattle.port_model.specs.Port.{Work}
-use Rattle.world_model.specs.Controller.{Acted, Linked, linked_at}
-use Rattle.world_model.specs.Resets.{begins, with_work}
-use Rattle.world_model.specs.Performing.{works_as}
+use Rattle.world_model.specs.Words.{Addr, source_of, Cell, EncapsFault, Work, Linked, linked_at, begins, with_work, works_as}
+use Rattle.world_model.specs.ifmp_wire.declared.message.Message.{Message}
+use Rattle.world_model.specs.ifmp_wire.declared.reader.Fault.{Fault}
+use Rattle.world_model.specs.ifmp_wire.Fields.{decoded as ifmp_decoded}
+use Rattle.controller_views.specs.ordered_lists.Ordered.{Every}
+use Rattle.controller_views.specs.label_line.Cells as lines
+use Rattle.controller_views.specs.label_line.Cells.{Role, Downstream, Upstream}
+use Rattle.controller_views.specs.label_line.Line.{Line}
+use Rattle.controller_views.specs.label_line.Moves.{Hear, step, run}
+use Rattle.world_model.specs.Controller.{Acted}
 use Rattle.world_model.specs.Ways.{told}
-use Rattle.port_views.specs.Link.{LinkLabel, other}
-use Rattle.port_views.specs.Heard.{heard_by, is_own}
-use Rattle.port_views.specs.Shown.{Shown}
-use Rattle.port_views.specs.Reaching.{ReachesFrom, Comes, heard, unheard, hears_at}
-use Rattle.port_views.proofs.Messages.{message_comes}
-use Rattle.port_views.proofs.Reach.{run_join}
-use Rattle.shown_cells.specs.Seen.{Seen, Nothing, Word, Unknown}
-use Rattle.shown_cells.specs.Label.{OnControl, erased, seen, seen_message, seen_packet, seen_payload, told_in, told_of}
-use Rattle.shown_cells.proofs.Shows.{no_word, a_word}
+use Rattle.controller_views.specs.port_views.Link.{LinkLabel, other}
+use Rattle.controller_views.specs.port_views.Heard.{heard_by, is_own}
+use Rattle.controller_views.specs.port_views.Shown.{Shown}
+use Rattle.controller_views.specs.port_views.Reaching.{ReachesFrom, Comes, heard, unheard, hears_at}
+use Rattle.controller_views.proofs.port_views.Messages.{message_comes}
+use Rattle.controller_views.proofs.port_views.Reach.{run_join}
+use Rattle.controller_views.specs.shown_cells.Seen.{Seen, Nothing, Word, Unknown}
+use Rattle.controller_views.specs.shown_cells.Label.{OnControl, erased, seen, seen_message, seen_packet, seen_payload, told_in, told_of}
+use Rattle.controller_views.proofs.shown_cells.Shows.{no_word, a_word}
 use Rattle.controller_views.specs.Ends.{way_to, End, Pieces, Net, Goes, asking, placed}
 use Rattle.controller_views.specs.Lifted.{IsProper, IsReadableAction}
 use Rattle.controller_views.proofs.Parts.{own_end, moved, net_goes}

@@ -4,28 +4,18 @@ use Rattle.std.proofs.Common.{◌≡◌, ◌≢◌, ℕ, ◌+◌, ◌*◌, ◌/�
 use Rattle.std.specs.Prelude.{not, nat_le, nat_lt}
 use Rattle.std.specs.Option.{option_and_then}
 use Rattle.std.proofs.lemmas.Bool.Decides.{nat_tests}
-use Rattle.net_types.specs.declared.node.PortNo.{PortNo}
-use Rattle.net_types.specs.declared.number.Mark.{Mark}
-use Rattle.net_types.specs.declared.channel.Channel.{Channel}
-use Rattle.net_types.specs.Label.{label_number_of}
-use Rattle.atm_cells.specs.declared.cell.Cell.{Cell}
-use Rattle.link_model.specs.declared.record.Record.TheVariants.{Loss, Chance}
-use Rattle.link_model.specs.declared.record.Cause.TheVariants.{PoolFull, Unbound}
-use Rattle.link_model.specs.Ledger.{payload_of, is_frame}
-use Rattle.link_model.specs.Notes.{Journal, noted}
-use Rattle.frame_model.specs.Reassembly.{Reassembly, Taken, marks_of, most_cells, broken, passed_over, without_slot, too_long, joined}
-use Rattle.frame_model.specs.Frame.{octets_of, last_mark, payload_in, passed, tested_by}
-use Rattle.port_facts.proofs.Keyed.{on_each, by_eq, at_key}
-use Rattle.label_line.specs.Cells.{Role, Downstream, Upstream}
-use Rattle.label_line.specs.Line.{Line}
-use Rattle.port_model.specs.Labels.{Label, is_bound}
-use Rattle.port_model.specs.Port.{label_at}
-use Rattle.world_model.specs.Controller.{Acted, Linked, port_key, free_slots, linked_at, note, chains_with, default_channel}
-use Rattle.world_model.specs.Cells.{Taker, ForGsmp, ForDefault, ForLabel, port_on, on_link, same_channel, label_taker, taker_at, taker_of, reassembly_of, with_reassembly, frame_holds, after_test, after_cell, takes_cell, cell_comes}
-use Rattle.port_views.specs.Link.{LinkLabel}
-use Rattle.shown_cells.specs.Label.{OnControl, channel_at}
-use Rattle.shown_cells.proofs.Frames.{same_is}
-use Rattle.shown_cells.proofs.Tested.{broken_frames, frame_is, last_is}
+use Rattle.world_model.specs.Words.{PortNo, Mark, Channel, label_number_of, Cell, Loss, Chance, PoolFull, Unbound, payload_of, is_frame, Journal, noted, Reassembly, marks_of, most_cells, broken, passed_over, without_slot, too_long, last_mark, payload_in, tested_by, Label, is_bound, label_at, Linked, port_key, linked_at, chains_with, default_channel, ForGsmp, ForDefault, ForLabel, port_on, on_link, same_channel, label_taker, taker_at, taker_of, reassembly_of, with_reassembly, frame_holds, takes_cell}
+use Rattle.world_model.specs.frame_model.Reassembly.{Taken, joined}
+use Rattle.world_model.specs.frame_model.Frame.{octets_of, passed}
+use Rattle.controller_views.proofs.port_facts.Keyed.{on_each, by_eq, at_key}
+use Rattle.controller_views.specs.label_line.Cells.{Role, Downstream, Upstream}
+use Rattle.controller_views.specs.label_line.Line.{Line}
+use Rattle.world_model.specs.Controller.{Acted, free_slots, note}
+use Rattle.world_model.specs.Cells.{Taker, after_test, after_cell, cell_comes}
+use Rattle.controller_views.specs.port_views.Link.{LinkLabel}
+use Rattle.controller_views.specs.shown_cells.Label.{OnControl, channel_at}
+use Rattle.controller_views.proofs.shown_cells.Frames.{same_is}
+use Rattle.controller_views.proofs.shown_cells.Tested.{broken_frames, frame_is, last_is}
 use Rattle.controller_views.specs.Ends.{Pieces, Net, Goes, EndLeads, idle, asking, placed}
 use Rattle.controller_views.specs.Lifted.{IsProper}
 use Rattle.controller_views.specs.Queues.{awaited}

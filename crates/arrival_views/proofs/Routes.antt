@@ -5,68 +5,44 @@ use Rattle.std.proofs.Common.{◌≡◌, ◌≢◌, ℕ, zero, suc, ◌≤◌, �
 use Rattle.std.specs.Prelude.{◌==◌, ◌&&◌, find, nat_eq}
 use Rattle.std.specs.Option.{option_or, option_map, option_map_or, option_and_then}
 use Rattle.std.proofs.lemmas.Bool.Decides.{nat_tests}
-use Rattle.net_types.specs.declared.node.PortNo.{PortNo}
-use Rattle.net_types.specs.declared.number.Mark.{Mark}
-use Rattle.net_types.specs.declared.channel.Channel.{Channel}
-use Rattle.net_types.specs.Number.{GivenOut, next_control, with_control}
-use Rattle.net_types.specs.Label.{label_channel_of, is_label_number}
-use Rattle.ipv4_packet.specs.Packet.{protocol_of, source_of, ttl_of}
-use Rattle.ipv4_packet.proofs.RouteLemmas.{protocol_of-rerouted}
-use Rattle.ifmp_wire.specs.declared.message.Message.{Message}
-use Rattle.ifmp_wire.specs.Fields.{decoded as ifmp_decoded}
+use Rattle.world_model.specs.Words.{PortNo, Mark, Channel, GivenOut, next_control, with_control, label_channel_of, is_label_number, protocol_of, source_of, ttl_of, EncapsFault, onward, hop_of, Hop, Here, On, FlowId, kind_of, flow_of, same_flow, default_payload, labelled_payload, Frame, Delivered, Dropped, Loss, PoolFull, payload_of, noted, Cell, frame_cells, made, next_mark, at, control_end, Grant, GrantState, ByController, grant_label, grant_for, grant_of_kind, grant_matching, is_by_controller, Linked, linked_at, default_channel, default_home, same_channel, sends_control, is_control, sends_next, goes_by, goes_on, routes, control_protocol}
+use Rattle.world_model.proofs.ipv4_packet.RouteLemmas.{protocol_of-rerouted}
+use Rattle.world_model.specs.ifmp_wire.declared.message.Message.{Message}
+use Rattle.world_model.specs.ifmp_wire.Fields.{decoded as ifmp_decoded}
 use Rattle.wire_laws.proofs.Packets.{unwrapped_again}
 use Rattle.world_model.specs.Ways.{told}
-use Rattle.flow_encaps.specs.declared.default.EncapsFault.{EncapsFault}
 use Rattle.arrival_views.specs.Packets.{IsFree, of_control, of_packet, IsPlain, HasLabelGrants}
-use Rattle.ipv4_forward.specs.Hop.{onward, hop_of}
-use Rattle.ipv4_forward.specs.declared.outcome.Hop.{Hop}
-use Rattle.ipv4_forward.specs.declared.outcome.Hop.TheVariants.{Here, On, NoRoute, Expired}
-use Rattle.ipv4_packet.specs.declared.flow.FlowKind.TheVariants.{One, Two}
-use Rattle.ipv4_packet.specs.declared.flow.FlowId.{FlowId}
-use Rattle.ipv4_packet.specs.Flow.{kind_of, flow_of}
-use Rattle.ipv4_packet.specs.Parts.{same_flow}
-use Rattle.flow_encaps.specs.Default.{default_payload}
-use Rattle.flow_encaps.specs.Labelled.{labelled_payload}
-use Rattle.link_model.specs.declared.frames.Frame.{Frame}
-use Rattle.link_model.specs.declared.record.DropCause.TheVariants.{NoRoute as NoRouteCause, Expired as ExpiredCause}
-use Rattle.link_model.specs.declared.record.Record.TheVariants.{Delivered, Dropped, Loss}
-use Rattle.link_model.specs.declared.record.Cause.TheVariants.{PoolFull}
-use Rattle.link_model.specs.Ledger.{payload_of}
-use Rattle.link_model.specs.Notes.{noted}
-use Rattle.atm_cells.specs.declared.cell.Cell.{Cell}
-use Rattle.frame_model.specs.Frame.{frame_cells, made, next_mark}
-use Rattle.ordered_lists.specs.Ordered.{Every}
-use Rattle.keyed_lists.specs.Keyed.{at}
-use Rattle.port_facts.proofs.Keyed.{by_eq, on_both}
-use Rattle.port_facts.proofs.Found.{find_passes, find_every}
-use Rattle.port_facts.proofs.Rules.{and_first}
-use Rattle.label_line.specs.Cells as lines
-use Rattle.label_line.specs.Cells.{Role, Downstream, Upstream}
-use Rattle.label_line.specs.Line as states
-use Rattle.label_line.specs.Line.{Line}
-use Rattle.label_line.specs.Moves.{SendLabelled, step, run}
-use Rattle.label_line.specs.Upstream.{sends_labelled}
-use Rattle.port_model.specs.Setup.{control_end}
-use Rattle.port_model.specs.Grants.{Grant, GrantState, ByController, grant_label, grant_for, grant_of_kind, grant_matching, is_by_controller}
-use Rattle.world_model.specs.Controller.{Acted, Linked, linked_at, default_channel, default_home}
-use Rattle.world_model.specs.Cells.{same_channel}
-use Rattle.world_model.specs.Sending.{with_cells, sends, sends_control}
-use Rattle.world_model.specs.Packets.{is_control, sends_next, goes_by, goes_on, forwarded, routes, control_protocol}
-use Rattle.port_views.specs.Link.{LinkLabel, other}
-use Rattle.port_views.specs.Flows.{flow_number}
-use Rattle.port_views.specs.Shown.{grant_in, granted, GrantShows, IsOfOther, Once}
-use Rattle.port_views.proofs.Reach.{run_join}
-use Rattle.shown_cells.specs.Seen.{Nothing, IsUnmade, Extends, nothing, word}
-use Rattle.shown_cells.specs.Label.{OnControl, ShowsCells, channel_at, seen, seen_payload, seen_packet, on_label, Told, told_in, told_of}
-use Rattle.shown_cells.proofs.Shows.{shows_join, shows_hidden}
-use Rattle.shown_cells.proofs.Made.{extends_made, unmade_next, unmade_packet, shows_more}
-use Rattle.shown_cells.proofs.Frames.{IsOf, IsCut, frame_is_cut, frame_quiet, frame_elsewhere, same_self, differ}
+use Rattle.world_model.specs.ipv4_forward.declared.outcome.Hop.TheVariants.{NoRoute, Expired}
+use Rattle.world_model.specs.ipv4_packet.declared.flow.FlowKind.TheVariants.{One, Two}
+use Rattle.world_model.specs.link_model.declared.record.DropCause.TheVariants.{NoRoute as NoRouteCause, Expired as ExpiredCause}
+use Rattle.controller_views.specs.ordered_lists.Ordered.{Every}
+use Rattle.controller_views.proofs.port_facts.Keyed.{by_eq, on_both}
+use Rattle.controller_views.proofs.port_facts.Found.{find_passes, find_every}
+use Rattle.controller_views.proofs.port_facts.Rules.{and_first}
+use Rattle.controller_views.specs.label_line.Cells as lines
+use Rattle.controller_views.specs.label_line.Cells.{Role, Downstream, Upstream}
+use Rattle.controller_views.specs.label_line.Line as states
+use Rattle.controller_views.specs.label_line.Line.{Line}
+use Rattle.controller_views.specs.label_line.Moves.{SendLabelled, step, run}
+use Rattle.controller_views.specs.label_line.Upstream.{sends_labelled}
+use Rattle.world_model.specs.Controller.{Acted}
+use Rattle.world_model.specs.Sending.{with_cells, sends}
+use Rattle.world_model.specs.Packets.{forwarded}
+use Rattle.controller_views.specs.port_views.Link.{LinkLabel, other}
+use Rattle.controller_views.specs.port_views.Flows.{flow_number}
+use Rattle.controller_views.specs.port_views.Shown.{grant_in, granted, GrantShows, IsOfOther, Once}
+use Rattle.controller_views.proofs.port_views.Reach.{run_join}
+use Rattle.controller_views.specs.shown_cells.Seen.{Nothing, IsUnmade, Extends, nothing, word}
+use Rattle.controller_views.specs.shown_cells.Label.{OnControl, ShowsCells, channel_at, seen, seen_payload, seen_packet, on_label, Told, told_in, told_of}
+use Rattle.controller_views.proofs.shown_cells.Shows.{shows_join, shows_hidden}
+use Rattle.controller_views.proofs.shown_cells.Made.{extends_made, unmade_next, unmade_packet, shows_more}
+use Rattle.controller_views.proofs.shown_cells.Frames.{IsOf, IsCut, frame_is_cut, frame_quiet, frame_elsewhere, same_self, differ}
 use Rattle.controller_views.specs.Ends.{End, EndGoes, EndLeads, Quietly}
 use Rattle.controller_views.specs.Lifted.{IsProper}
 use Rattle.controller_views.proofs.Parts.{quiet_leads}
 use Rattle.controller_views.proofs.Sends.{with_sent, Resends, sent_cases, sent_quietly, sends_quietly, port_default, port_label, label_vpi, label_vci, resends_goes, nothing_sent}
 use Rattle.controller_views.proofs.Works.{linked_is, port_is, quiet_note}
-use Rattle.controller_facts.proofs.Entering.{by_controller}
+use Rattle.controller_views.proofs.controller_facts.Entering.{by_controller}
 
 -- *A packet that is no message of IFMP*, and what is sent on of it
 abbrev of_told : List ℕ → Message → Told

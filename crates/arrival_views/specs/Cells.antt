@@ -1,26 +1,17 @@
 -- What a cell that comes to a controller has to be, so that the lines of labels follow it
 
 use Rattle.std.specs.Prelude.{◌≡◌, ℕ, ◌≤◌, ◌==◌, nat_le, nat_lt, true, false, List, [], ◌∷◌, ◌++◌, drop, length, None, Some, Ok}
-use Rattle.net_types.specs.declared.prefix.Addr.{Addr}
-use Rattle.ipv4_packet.specs.Packet.{protocol_of, source_of, first_fault}
-use Rattle.atm_cells.specs.declared.cell.Cell.{Cell}
-use Rattle.flow_encaps.specs.Unwrapped.{default_unwrapped}
-use Rattle.ifmp_wire.specs.declared.message.Message.{Message}
-use Rattle.ifmp_wire.specs.Fields.{decoded}
-use Rattle.link_model.specs.Ledger.{payload_of, is_frame}
-use Rattle.frame_model.specs.Frame.{octets_of, last_mark, payload_in}
-use Rattle.frame_model.specs.Reassembly.{Reassembly, most_cells}
-use Rattle.ordered_lists.specs.Ordered.{Every}
-use Rattle.label_line.specs.Cells.{Role}
-use Rattle.port_model.specs.Saying.{is_spent}
-use Rattle.port_model.specs.Port.{Work}
-use Rattle.port_model.specs.Hearing.{hears}
-use Rattle.world_model.specs.Controller.{Acted, Linked, free_slots, linked_at, with_linked, default_channel}
-use Rattle.world_model.specs.Packets.{routes, control_protocol}
-use Rattle.world_model.specs.Cells.{Taker, taker_of, reassembly_of, with_reassembly, frame_holds, counted_at}
-use Rattle.world_model.specs.Resets.{begins}
-use Rattle.port_views.specs.Link.{LinkLabel}
-use Rattle.shown_cells.specs.Label.{OnControl, channel_at}
+use Rattle.world_model.specs.Words.{Addr, protocol_of, source_of, Cell, default_unwrapped, payload_of, is_frame, last_mark, payload_in, Reassembly, most_cells, is_spent, Work, hears, Linked, linked_at, with_linked, default_channel, routes, control_protocol, taker_of, reassembly_of, with_reassembly, frame_holds, counted_at, begins}
+use Rattle.world_model.specs.ipv4_packet.Packet.{first_fault}
+use Rattle.world_model.specs.ifmp_wire.declared.message.Message.{Message}
+use Rattle.world_model.specs.ifmp_wire.Fields.{decoded}
+use Rattle.world_model.specs.frame_model.Frame.{octets_of}
+use Rattle.controller_views.specs.ordered_lists.Ordered.{Every}
+use Rattle.controller_views.specs.label_line.Cells.{Role}
+use Rattle.world_model.specs.Controller.{Acted, free_slots}
+use Rattle.world_model.specs.Cells.{Taker}
+use Rattle.controller_views.specs.port_views.Link.{LinkLabel}
+use Rattle.controller_views.specs.shown_cells.Label.{OnControl, channel_at}
 use Rattle.controller_views.specs.Ends.{EndLeads}
 use Rattle.controller_views.specs.Lifted.{IsReadableAction}
 

@@ -1,16 +1,9 @@
 -- What a packet that is sent on has to be, so that the lines of labels follow it
 
 use Rattle.std.specs.Prelude.{◌≡◌, ◌≢◌, ℕ, ◌≤◌, ◌==◌, true, false, List, length, None, Some}
-use Rattle.net_types.specs.declared.node.PortNo.{PortNo}
-use Rattle.net_types.specs.declared.number.Mark.{Mark}
-use Rattle.net_types.specs.Label.{is_label_number}
-use Rattle.ipv4_packet.specs.Packet.{protocol_of}
-use Rattle.link_model.specs.Ledger.{payload_of}
-use Rattle.frame_model.specs.Frame.{next_mark}
-use Rattle.ordered_lists.specs.Ordered.{Every}
-use Rattle.port_model.specs.Grants.{Grant}
-use Rattle.world_model.specs.Controller.{Controller, Acted, Linked, linked_at}
-use Rattle.world_model.specs.Packets.{is_control, control_protocol}
+use Rattle.world_model.specs.Words.{PortNo, Mark, is_label_number, protocol_of, payload_of, next_mark, Grant, Controller, Linked, linked_at, is_control, control_protocol}
+use Rattle.controller_views.specs.ordered_lists.Ordered.{Every}
+use Rattle.world_model.specs.Controller.{Acted}
 
 -- *The mark of its next frame*: nothing was made under it
 pub data IsFree (a : Acted) (came : Mark) : Type 0 where

@@ -7,14 +7,12 @@
 #![tactic(auto)]
 
 ghost use Rattle.std.specs.Prelude.{◌≡◌, [], ◌∷◌, List, ℕ};
-ghost use Rattle.net_types.specs.declared.number.Mark.{Mark};
-ghost use Rattle.atm_cells.specs.declared.cell.Cell.{Cell};
-ghost use Rattle.label_line.specs.Cells.{Role};
-ghost use Rattle.label_line.specs.Line.{Line};
+ghost use Rattle.world_model.specs.Words.{Mark, Cell, routes};
+ghost use Rattle.controller_views.specs.label_line.Cells.{Role};
+ghost use Rattle.controller_views.specs.label_line.Line.{Line};
 ghost use Rattle.world_model.specs.Controller.{Acted};
-ghost use Rattle.world_model.specs.Packets.{routes};
 ghost use Rattle.world_model.specs.Cells.{cell_comes};
-ghost use Rattle.port_views.specs.Link.{LinkLabel};
+ghost use Rattle.controller_views.specs.port_views.Link.{LinkLabel};
 ghost use Rattle.controller_views.specs.Ends.{EndLeads, Pieces, Net, Goes, asking, placed};
 ghost use Rattle.controller_views.specs.Queues.{awaited};
 ghost use Rattle.controller_views.specs.Lifted.{IsProper};

@@ -4,46 +4,26 @@ use Rattle.std.proofs.Common.{◌≡◌, ℕ, Bool, true, false, true≢false, L
 use Rattle.std.specs.Prelude.{◌==◌, ◌&&◌, ◌||◌, not, nat_le, nat_lt}
 use Rattle.std.specs.List.{list_any}
 use Rattle.std.specs.FinMap.{get}
-use Rattle.net_types.specs.declared.channel.End.{End}
-use Rattle.net_types.specs.declared.number.Mark.{Mark}
-use Rattle.net_types.specs.declared.adjacency.Greeting.{Greeting}
-use Rattle.net_types.specs.declared.adjacency.Party.{Party}
-use Rattle.net_types.specs.Number.{next_control}
-use Rattle.adjacency_table.specs.declared.message.Answer.{Answer}
-use Rattle.adjacency_table.specs.declared.message.Answer.TheVariants.{Quiet, Send, Open, Reset}
-use Rattle.adjacency_table.specs.Side.{Step, is_estab}
-use Rattle.adjacency_table.specs.Greeting.{gsmp_answer, gsmp_received}
-use Rattle.atm_cells.specs.declared.cell.Cell.{Cell}
-use Rattle.gsmp_wire.specs.declared.fault.Fault.{Fault}
-use Rattle.gsmp_wire.specs.declared.message.Message.{Message}
-use Rattle.gsmp_wire.specs.declared.message.Message.TheVariants.{Adjacency, Branch as BranchMessage, Move, Port, AllPorts as AllPortsMessage}
-use Rattle.gsmp_wire.specs.declared.request.Request.{Request}
-use Rattle.gsmp_wire.specs.declared.request.Request.TheVariants.{AddBranch, MoveBranch, DeleteTree, VerifyTree, DeleteAll, PortManagement, AllPorts}
-use Rattle.gsmp_wire.specs.Layout.{octets_of as message_octets}
-use Rattle.gsmp_wire.specs.Fields.{decoded}
-use Rattle.link_model.specs.declared.record.Record.{Record}
-use Rattle.link_model.specs.declared.record.Record.TheVariants.{Loss, Chance, Bad}
-use Rattle.link_model.specs.declared.record.Cause.TheVariants.{PoolFull, Cut}
-use Rattle.link_model.specs.declared.record.Layer.TheVariants.{Gsmp}
-use Rattle.link_model.specs.Ledger.{payload_of, is_frame}
-use Rattle.link_model.specs.Notes.{Journal, noted}
-use Rattle.refusal_names.specs.Names.{gsmp_refusal}
-use Rattle.frame_model.specs.Frame.{made, octets_of, last_mark, payload_in, tested_by, frame_cells}
-use Rattle.frame_model.specs.Sending.{Sent}
-use Rattle.frame_model.specs.Reassembly.{Taken, most_cells, passed_over, without_slot, too_long, taken}
-use Rattle.crossbar_model.specs.declared.branch.Branch.{Branch}
-use Rattle.crossbar_model.specs.Crossbar.{cut_by_move}
+use Rattle.world_model.specs.Words.{End, Mark, Greeting, Party, next_control, Answer, Quiet, Send, Open, Step, is_estab, gsmp_answer, gsmp_received, Cell, Move, Request, AddBranch, MoveBranch, DeleteTree, VerifyTree, PortManagement, Record, Loss, Chance, Bad, PoolFull, Cut, Gsmp, payload_of, is_frame, Journal, noted, gsmp_refusal, made, last_mark, payload_in, tested_by, frame_cells, most_cells, passed_over, without_slot, too_long, cut_by_move, Switch, control_port, gsmp_channel, Changed, noted_cut, moved_by, moved_to, ended_by, all_ended, inputs_on, branches_after, asked_in, is_request, failure_of, handled_by, handled_asked, handled, replied, requested, read, gsmp_cell, is_wild, IsTame}
+use Rattle.world_model.specs.adjacency_table.declared.message.Answer.TheVariants.{Reset}
+use Rattle.world_model.specs.gsmp_wire.declared.fault.Fault.{Fault}
+use Rattle.world_model.specs.gsmp_wire.declared.message.Message.{Message}
+use Rattle.world_model.specs.gsmp_wire.declared.message.Message.TheVariants.{Adjacency, Branch as BranchMessage, Port, AllPorts as AllPortsMessage}
+use Rattle.world_model.specs.gsmp_wire.declared.request.Request.TheVariants.{DeleteAll, AllPorts}
+use Rattle.world_model.specs.gsmp_wire.Layout.{octets_of as message_octets}
+use Rattle.world_model.specs.gsmp_wire.Fields.{decoded}
+use Rattle.world_model.specs.frame_model.Frame.{octets_of}
+use Rattle.world_model.specs.frame_model.Sending.{Sent}
+use Rattle.world_model.specs.frame_model.Reassembly.{Taken, taken}
+use Rattle.world_model.specs.crossbar_model.declared.branch.Branch.{Branch}
 use Rattle.world_model.specs.declared.request.Asked.{Asked}
 use Rattle.world_model.specs.declared.request.Failure.{Failure}
-use Rattle.world_model.specs.Switch.{Switch, Acted, control_port, gsmp_channel, free_slots}
-use Rattle.world_model.specs.Requests.{Changed, noted_cut, moved_by, moved_to, ended_by, ended, all_ended, inputs_on, cleared, branches_after, asked_in, is_request}
-use Rattle.world_model.specs.Failures.{failure_of}
-use Rattle.world_model.specs.Answers.{handled_by, handled_asked, handled}
-use Rattle.world_model.specs.Conduct.{with_cells, says, answers, steps, replied, requested, told, read, after_test, ends_frame, gsmp_cell}
-use Rattle.port_facts.proofs.Keyed.{on_both}
-use Rattle.world_model.specs.Headline.{is_wild, IsTame}
+use Rattle.world_model.specs.Switch.{Acted, free_slots}
+use Rattle.world_model.specs.Requests.{ended, cleared}
+use Rattle.world_model.specs.Conduct.{with_cells, says, answers, steps, told, after_test, ends_frame}
+use Rattle.world_views.proofs.port_facts.Keyed.{on_both}
 use Rattle.branch_shapes.specs.Shapes.{ended_by as chain_ended}
-use Rattle.shown_cells.proofs.Tested.{frame_is, last_is}
+use Rattle.world_views.proofs.shown_cells.Tested.{frame_is, last_is}
 
 -- *Records are added* behind those before them
 record Longer (before after : Journal) : Type 0 where

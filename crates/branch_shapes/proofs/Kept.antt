@@ -4,48 +4,27 @@ use Rattle.std.proofs.Common.{◌≡◌, ℕ, suc, zero, Bool, true, false, List
 use Rattle.std.specs.Prelude.{nat_le, nat_lt, ◌&&◌}
 use Rattle.std.specs.Option.{option_map, option_and_then}
 use Rattle.std.specs.FinMap.{get, keys}
-use Rattle.net_types.specs.declared.channel.End.{End}
-use Rattle.net_types.specs.declared.node.PortNo.{PortNo}
-use Rattle.net_types.specs.declared.number.Instance.{Instance}
-use Rattle.net_types.specs.declared.number.Mark.{Mark}
-use Rattle.net_types.specs.declared.channel.Channel.{Channel}
-use Rattle.net_types.specs.Number.{next_control, with_control}
-use Rattle.net_types.specs.declared.adjacency.Greeting.{Greeting}
-use Rattle.net_types.specs.declared.adjacency.Party.{Party}
-use Rattle.adjacency_table.specs.declared.message.Answer.{Answer}
-use Rattle.adjacency_table.specs.declared.message.Answer.TheVariants.{Quiet, Send, Open, Reset}
-use Rattle.adjacency_table.specs.Side.{Step, is_estab, ticked}
-use Rattle.adjacency_table.specs.Greeting.{gsmp_answer, gsmp_received}
-use Rattle.atm_cells.specs.declared.cell.Cell.{Cell}
-use Rattle.gsmp_wire.specs.declared.fault.Fault.{Fault}
-use Rattle.gsmp_wire.specs.declared.message.Message.{Message}
-use Rattle.gsmp_wire.specs.declared.message.Message.TheVariants.{Adjacency, Branch as BranchMessage, Move, Port, AllPorts as AllPortsMessage}
-use Rattle.gsmp_wire.specs.declared.request.Request.{Request}
-use Rattle.gsmp_wire.specs.Layout.{octets_of as message_octets}
-use Rattle.gsmp_wire.specs.Fields.{decoded}
-use Rattle.link_model.specs.declared.record.Record.TheVariants.{Loss}
-use Rattle.link_model.specs.declared.record.Cause.TheVariants.{PoolFull}
-use Rattle.link_model.specs.Notes.{Journal, noted}
-use Rattle.frame_model.specs.Frame.{made, octets_of, last_mark, payload_in, passed, tested_by, frame_cells}
-use Rattle.frame_model.specs.Sending.{Sent}
-use Rattle.frame_model.specs.Reassembly.{Taken, taken}
-use Rattle.crossbar_model.specs.declared.branch.Branch.{Branch}
-use Rattle.crossbar_model.specs.declared.routed.Routed.{Routed}
-use Rattle.crossbar_model.specs.declared.routed.Routed.TheVariants as routes
-use Rattle.crossbar_model.specs.Crossbar.{Crossbar, input_of, unfinished_after, routed, switched_on}
-use Rattle.port_model.specs.Desk.{Standing}
+use Rattle.world_model.specs.Words.{End, PortNo, Instance, Mark, Channel, next_control, with_control, Greeting, Party, Answer, Quiet, Send, Open, Step, is_estab, ticked, gsmp_answer, gsmp_received, Cell, Move, Request, Loss, PoolFull, Journal, noted, made, last_mark, payload_in, tested_by, frame_cells, Routed, Crossbar, unfinished_after, routed, switched_on, Standing, Switch, control_port, gsmp_channel, numbers_of, asked_in, is_request, ports_after, failure_of, handled_by, handled_asked, handled, replied, requested, read, gsmp_cell, switched_cell, is_gsmp, Setup, gsmp_of, copy_by, copy_of}
+use Rattle.world_model.specs.adjacency_table.declared.message.Answer.TheVariants.{Reset}
+use Rattle.world_model.specs.gsmp_wire.declared.fault.Fault.{Fault}
+use Rattle.world_model.specs.gsmp_wire.declared.message.Message.{Message}
+use Rattle.world_model.specs.gsmp_wire.declared.message.Message.TheVariants.{Adjacency, Branch as BranchMessage, Port, AllPorts as AllPortsMessage}
+use Rattle.world_model.specs.gsmp_wire.Layout.{octets_of as message_octets}
+use Rattle.world_model.specs.gsmp_wire.Fields.{decoded}
+use Rattle.world_model.specs.frame_model.Frame.{octets_of, passed}
+use Rattle.world_model.specs.frame_model.Sending.{Sent}
+use Rattle.world_model.specs.frame_model.Reassembly.{Taken, taken}
+use Rattle.world_model.specs.crossbar_model.declared.branch.Branch.{Branch}
+use Rattle.world_model.specs.crossbar_model.declared.routed.Routed.TheVariants as routes
+use Rattle.world_model.specs.crossbar_model.Crossbar.{input_of}
 use Rattle.world_model.specs.declared.port.PortState.{PortState}
 use Rattle.world_model.specs.declared.request.Asked.{Asked}
 use Rattle.world_model.specs.declared.request.Failure.{Failure}
-use Rattle.world_model.specs.Switch.{Switch, Acted, control_port, gsmp_channel, free_slots, numbers_of, begun}
-use Rattle.world_model.specs.Requests.{asked_in, is_request, ports_after}
-use Rattle.world_model.specs.Failures.{failure_of}
-use Rattle.world_model.specs.Answers.{handled_by, handled_asked, handled}
-use Rattle.world_model.specs.Conduct.{sends, with_cells, says, answers, steps, replied, requested, told, read, after_test, ends_frame, gsmp_cell, passed as passed_cell, switched_cell, is_gsmp}
-use Rattle.port_model.specs.Setup.{Setup}
-use Rattle.port_facts.specs.Port.{IsShaped, asks_ports, empties_control, empties_port, opens_input, opens_output, leads_label, leads_grant, joins_label, parts_label, frees_label}
-use Rattle.port_facts.proofs.Keyed.{on_both}
-use Rattle.world_model.specs.Ways.{told as heard, gsmp_of, copy_by, copy_of}
+use Rattle.world_model.specs.Switch.{Acted, free_slots, begun}
+use Rattle.world_model.specs.Conduct.{sends, with_cells, says, answers, steps, told, after_test, ends_frame, passed as passed_cell}
+use Rattle.world_views.specs.port_facts.Port.{IsShaped, asks_ports, empties_control, empties_port, opens_input, opens_output, leads_label, leads_grant, joins_label, parts_label, frees_label}
+use Rattle.world_views.proofs.port_facts.Keyed.{on_both}
+use Rattle.world_model.specs.Ways.{told as heard}
 use Rattle.branch_shapes.specs.Shapes.{AreShaped, HasShapes, Brings, CellsKeepShapes, TicksKeepShapes, RestartsKeepShapes}
 use Rattle.branch_shapes.proofs.Asked.{shaped_put, ended_all, asked_shaped}
 

@@ -4,32 +4,16 @@ use Rattle.std.proofs.Common.{◌≡◌, ℕ, suc, List, [], ◌∷◌, ◌++◌
 use Rattle.std.specs.Prelude.{Contains}
 use Rattle.std.specs.Option.{option_map, option_map_or}
 use Rattle.std.specs.FinMap.{get-empty}
-use Rattle.net_types.specs.declared.node.NodeId.{NodeId}
-use Rattle.net_types.specs.declared.node.PortNo.{PortNo}
-use Rattle.net_types.specs.declared.node.Place.TheVariants.{Down}
-use Rattle.net_types.specs.declared.number.Instance.{Instance}
-use Rattle.net_types.specs.Number.{GivenOut, next_instance}
-use Rattle.atm_cells.specs.declared.cell.Cell.{Cell}
-use Rattle.crossbar_model.specs.declared.branch.Branch.{Branch}
-use Rattle.crossbar_model.specs.Channels.{end_cmp}
-use Rattle.ordered_lists.specs.Ordered.{Every}
-use Rattle.ordered_lists.proofs.Every.{every_join}
-use Rattle.port_model.specs.Desk.{Standing}
-use Rattle.world_model.specs.Switch.{control_port, numbers_of, begun}
-use Rattle.port_model.specs.Setup.{Policy}
-use Rattle.port_facts.specs.Port.{IsShaped}
-use Rattle.port_facts.proofs.Keyed.{at_every}
-use Rattle.world_model.specs.Controller.{default_channel}
-use Rattle.world_model.specs.Opening.{after_opening}
+use Rattle.world_model.specs.Words.{NodeId, PortNo, Down, Instance, GivenOut, next_instance, Cell, end_cmp, Standing, control_port, numbers_of, Policy, default_channel, after_opening, Topology, Node, IsTopology, World, Site, site_key, site_at, opened_site, with_opened, opens_each, empty_world, queue_in, next, world_after, gsmp_to_switch, on_channel, IsTame}
+use Rattle.world_model.specs.crossbar_model.declared.branch.Branch.{Branch}
+use Rattle.world_views.specs.ordered_lists.Ordered.{Every}
+use Rattle.world_views.proofs.ordered_lists.Every.{every_join}
+use Rattle.world_model.specs.Switch.{begun}
+use Rattle.world_views.specs.port_facts.Port.{IsShaped}
+use Rattle.world_views.proofs.port_facts.Keyed.{at_every}
 use Rattle.world_model.specs.declared.event.Event.{Event}
 use Rattle.world_model.specs.Topology as topologies
-use Rattle.world_model.specs.Topology.{Topology, Node}
-use Rattle.world_model.specs.Conditions.{IsTopology}
-use Rattle.world_model.specs.World.{World, Site, site_key, site_at, opened_site, with_opened, opens_each, empty_world, opened}
-use Rattle.world_model.specs.Places.{queue_in}
-use Rattle.world_model.specs.Run.{next, world_after}
-use Rattle.world_model.specs.Ways.{gsmp_to_switch, on_channel}
-use Rattle.world_model.specs.Headline.{IsTame}
+use Rattle.world_model.specs.World.{opened}
 use Rattle.world_model.proofs.Opening.{site_ports}
 use Rattle.world_views.specs.Between as worlds
 use Rattle.world_views.specs.Between.{EachSite, setups_of}

@@ -4,48 +4,28 @@ use Rattle.std.proofs.Common.{◌≡◌, ℕ, suc, ◌≤◌, ◌+◌, Bool, tru
 use Rattle.std.specs.Prelude.{◌==◌, ◌&&◌, Contains}
 use Rattle.std.specs.Option.{option_map_or}
 use Rattle.std.proofs.lemmas.Bool.Decides.{nat_tests}
-use Rattle.net_types.specs.declared.node.NodeId.{NodeId}
-use Rattle.net_types.specs.declared.node.PortNo.{PortNo}
-use Rattle.net_types.specs.declared.node.Place.{Place}
-use Rattle.net_types.specs.declared.node.Place.TheVariants.{Down, Up, Out}
-use Rattle.net_types.specs.declared.channel.Channel.{Channel}
-use Rattle.net_types.specs.Number.{GivenOut, next_control, with_control}
-use Rattle.atm_cells.specs.declared.cell.Cell.{Cell}
-use Rattle.link_model.specs.declared.record.Refusal.{Refusal}
-use Rattle.link_model.specs.declared.record.Record.TheVariants.{Forged}
-use Rattle.link_model.specs.Notes.{Journal}
-use Rattle.ordered_lists.specs.Ordered.{Every}
-use Rattle.port_model.specs.Desk.{Standing}
+use Rattle.world_model.specs.Words.{NodeId, PortNo, Place, Down, Up, Out, Channel, GivenOut, next_control, with_control, Cell, Refusal, Forged, Journal, Standing, control_port, Setup, Controller, Linked, default_channel, inject_refusal, injected, node_restarts, change_comes, Topology, IsTopology, World, Site, site_key, site_at, controller_acts, switch_acts, place_node, queue_in, queue_at, with_queue_in, with_queue_of, with_queue, put_away, next, world_after, IsTame, forges, injects_by, arrives_at, carries_head, loses_head, requests_chain_at, gsmp_to_switch, on_channel, copy_under}
+use Rattle.world_views.specs.ordered_lists.Ordered.{Every}
 use Rattle.world_model.specs.Switch as switches
-use Rattle.world_model.specs.Switch.{control_port}
 use Rattle.world_model.specs.Conduct as switch
-use Rattle.port_model.specs.Setup.{Setup}
-use Rattle.port_facts.specs.Port.{IsShaped}
-use Rattle.port_facts.proofs.Keyed.{at_every}
-use Rattle.world_model.specs.Controller.{Controller, Acted, Linked, default_channel}
-use Rattle.world_model.specs.Packets.{inject_refusal, injected}
+use Rattle.world_views.specs.port_facts.Port.{IsShaped}
+use Rattle.world_views.proofs.port_facts.Keyed.{at_every}
+use Rattle.world_model.specs.Controller.{Acted}
 use Rattle.world_model.specs.Cells as controller
 use Rattle.world_model.specs.Ticks as controller_ticks
-use Rattle.world_model.specs.Resets.{node_restarts}
-use Rattle.world_model.specs.Changes.{change_comes}
 use Rattle.world_model.specs.Sending.{sends}
-use Rattle.controller_facts.specs.Inputs.{FrameIsForged, Input, CellComes, PacketEnters, Ticks, Restarts, ChangeComes, enters_unless, takes_input}
-use Rattle.controller_facts.specs.Sound.{IsSound, setups_by}
-use Rattle.controller_facts.proofs.Laws.{always_sound, input_sound}
+use Rattle.world_views.specs.controller_facts.Inputs.{FrameIsForged, Input, CellComes, PacketEnters, Ticks, Restarts, ChangeComes, enters_unless, takes_input}
+use Rattle.world_views.specs.controller_facts.Sound.{IsSound, setups_by}
+use Rattle.world_views.proofs.controller_facts.Laws.{always_sound, input_sound}
 use Rattle.world_model.specs.declared.event.Event.{Event}
 use Rattle.world_model.specs.declared.event.Event.TheVariants.{Inject, Carry, Lose, Tick, TickSwitch, Restart, RestartSwitch, Forge, Route}
 use Rattle.world_model.specs.declared.link.LinkEnd.{LinkEnd}
-use Rattle.world_model.specs.Topology.{Topology, peer_of}
-use Rattle.world_model.specs.Conditions.{IsTopology}
-use Rattle.world_model.specs.World.{World, Site, site_key, site_at, controller_acts, at_controller, switch_acts, at_switch, opened}
-use Rattle.world_model.specs.Places.{place_node, queue_in, queue_at, with_queue_in, with_queue_of, with_queue}
-use Rattle.world_model.specs.Run.{put_away, next, world_after}
-use Rattle.world_model.specs.Headline.{IsTame}
-use Rattle.world_model.specs.Step.{note, forges, injects_by, arrives_at, carries_head, loses_head, acts}
-use Rattle.world_model.specs.Ways.{requests_chain_at, gsmp_to_switch, on_channel, copy_under}
-use Rattle.lifetimes.proofs.Opened.{IsFed, opening_fed}
-use Rattle.lifetimes.proofs.Runs.{run_fed}
-use Rattle.lifetimes.proofs.Feeding.{acted_by}
+use Rattle.world_model.specs.Topology.{peer_of}
+use Rattle.world_model.specs.World.{at_controller, at_switch, opened}
+use Rattle.world_model.specs.Step.{note, acts}
+use Rattle.causes.proofs.lifetimes.Opened.{IsFed, opening_fed}
+use Rattle.causes.proofs.lifetimes.Runs.{run_fed}
+use Rattle.causes.proofs.lifetimes.Feeding.{acted_by}
 use Rattle.causes.proofs.Shown.{peer_back}
 use Rattle.world_views.specs.Between.{setups_of}
 use Rattle.world_views.proofs.Put.{put_found, Sited, put_sited}

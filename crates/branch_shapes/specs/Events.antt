@@ -1,18 +1,11 @@
 -- What an event of a network keeps of the shapes of branches and requests
 
 use Rattle.std.specs.Prelude.{◌≡◌, List, ◌∷◌, ◌++◌, Contains, Some}
-use Rattle.atm_cells.specs.declared.cell.Cell.{Cell}
-use Rattle.ordered_lists.specs.Ordered.{Every}
-use Rattle.port_model.specs.Desk.{Standing}
-use Rattle.port_model.specs.Setup.{Policy}
-use Rattle.port_facts.specs.Port.{IsShaped}
+use Rattle.world_model.specs.Words.{Cell, Standing, Policy, Topology, IsTopology, World, Site, next, world_after, gsmp_to_switch, copy_under, IsTame}
+use Rattle.world_views.specs.ordered_lists.Ordered.{Every}
+use Rattle.world_views.specs.port_facts.Port.{IsShaped}
 use Rattle.world_model.specs.declared.event.Event.{Event}
-use Rattle.world_model.specs.Topology.{Topology}
-use Rattle.world_model.specs.Conditions.{IsTopology}
-use Rattle.world_model.specs.World.{World, Site, opened}
-use Rattle.world_model.specs.Run.{next, world_after}
-use Rattle.world_model.specs.Ways.{gsmp_to_switch, copy_under}
-use Rattle.world_model.specs.Headline.{IsTame}
+use Rattle.world_model.specs.World.{opened}
 use Rattle.world_views.specs.Between as worlds
 use Rattle.world_views.specs.Between.{EachSite, setups_of}
 use Rattle.branch_shapes.specs.Shapes.{HasShapes}

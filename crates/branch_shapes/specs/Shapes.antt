@@ -1,19 +1,13 @@
 -- How the branches of a switch lead, where its controller alone asks for them
 
 use Rattle.std.specs.Prelude.{◌≡◌, ℕ, true, nat_lt, List, ◌∷◌, map, Some}
-use Rattle.net_types.specs.declared.channel.End.{End}
-use Rattle.net_types.specs.declared.node.PortNo.{PortNo}
-use Rattle.atm_cells.specs.declared.cell.Cell.{Cell}
-use Rattle.link_model.specs.Ledger.{payload_of}
-use Rattle.frame_model.specs.Frame.{octets_of, payload_in}
-use Rattle.frame_model.specs.Reassembly.{taken}
-use Rattle.crossbar_model.specs.Crossbar.{Branches, output_of}
-use Rattle.port_model.specs.Desk.{Standing}
-use Rattle.world_model.specs.Switch.{Switch, Acted, control_port, free_slots, numbers_of}
-use Rattle.world_model.specs.Conduct.{is_gsmp, cell_comes, tick_comes, restarted}
-use Rattle.port_model.specs.Setup.{Setup}
-use Rattle.port_facts.specs.Port.{IsShaped}
-use Rattle.world_model.specs.Ways.{copy_under}
+use Rattle.world_model.specs.Words.{End, PortNo, Cell, payload_of, payload_in, Branches, Standing, Switch, control_port, numbers_of, is_gsmp, tick_comes, restarted, Setup, copy_under}
+use Rattle.world_model.specs.frame_model.Frame.{octets_of}
+use Rattle.world_model.specs.frame_model.Reassembly.{taken}
+use Rattle.world_model.specs.crossbar_model.Crossbar.{output_of}
+use Rattle.world_model.specs.Switch.{Acted, free_slots}
+use Rattle.world_model.specs.Conduct.{cell_comes}
+use Rattle.world_views.specs.port_facts.Port.{IsShaped}
 use Rattle.world_views.specs.Between.{IsShapedBranch}
 
 -- *Shapes*: each branch has the shape of one that a controller with these ports asks for, and the switch has port 0 and

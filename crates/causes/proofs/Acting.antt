@@ -1,18 +1,8 @@
 -- a controller has acted: the lists of the world it leaves
 
 use Rattle.std.proofs.Common.{◌≡◌, ◌≢◌, false, List, [], ◌∷◌, None, Some, refl, sym, ◌∙◌, ap, ◌⊎◌, inl, inr}
-use Rattle.net_types.specs.declared.node.NodeId.{NodeId}
-use Rattle.net_types.specs.declared.node.Place.{Place}
-use Rattle.net_types.specs.declared.node.Place.TheVariants.{Down, Up}
-use Rattle.net_types.specs.declared.channel.Channel.{Channel}
-use Rattle.atm_cells.specs.declared.cell.Cell.{Cell}
-use Rattle.link_model.specs.declared.entries.Entry.{Entry}
-use Rattle.frame_model.specs.Reassembly.{Reassembly, nothing_taken}
+use Rattle.world_model.specs.Words.{NodeId, Place, Down, Up, Channel, Cell, Entry, Reassembly, nothing_taken, Topology, IsTopology, World, Site, site_key, site_at, with_site, queue_at}
 use Rattle.world_model.specs.Controller.{Acted}
-use Rattle.world_model.specs.Topology.{Topology}
-use Rattle.world_model.specs.Conditions.{IsTopology}
-use Rattle.world_model.specs.World.{World, Site, site_key, site_at, with_site}
-use Rattle.world_model.specs.Places.{queue_at}
 use Rattle.cell_lists.proofs.Real.{AreApart, IsReal, real_alike}
 use Rattle.causes.specs.Feeding.{IsLed, branch_at}
 use Rattle.causes.proofs.Spots.{Spot, same_spot, yields, home, down, up}

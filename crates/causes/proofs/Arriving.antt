@@ -4,32 +4,15 @@ use Rattle.std.proofs.Common.{◌≡◌, ◌≢◌, ℕ, Bool, true, false, List
 use Rattle.std.specs.Prelude.{◌==◌, ◌&&◌, nat_lt, IsSome, is_some}
 use Rattle.std.specs.Option.{option_map, option_map_or, option_and_then}
 use Rattle.std.proofs.lemmas.Bool.Decides.{nat_tests}
-use Rattle.net_types.specs.declared.node.NodeId.{NodeId}
-use Rattle.net_types.specs.declared.node.Place.{Place}
-use Rattle.net_types.specs.declared.node.Place.TheVariants.{Down, Up, Out}
-use Rattle.net_types.specs.declared.channel.Channel.{Channel}
-use Rattle.atm_cells.specs.declared.cell.Cell.{Cell}
-use Rattle.link_model.specs.declared.entries.Entry.{Entry}
-use Rattle.link_model.specs.declared.record.Cause.TheVariants.{Unbound}
-use Rattle.link_model.specs.declared.record.Record.TheVariants.{Loss}
-use Rattle.link_model.specs.Notes.{Journal, noted}
-use Rattle.frame_model.specs.Reassembly.{Reassembly, Taken, taken, nothing_taken}
-use Rattle.frame_model.specs.Frame.{Tested, tested, last_mark}
-use Rattle.frame_model.specs.Stretch.{stretch_from}
-use Rattle.world_model.specs.Controller.{Controller, Acted, free_slots, default_channel}
+use Rattle.world_model.specs.Words.{NodeId, Place, Down, Up, Out, Channel, Cell, Entry, Unbound, Loss, Journal, noted, Reassembly, nothing_taken, Tested, tested, last_mark, stretch_from, Controller, default_channel, ForGsmp, ForDefault, ForLabel, same_channel, taker_of, reassembly_of, with_reassembly, takes_cell, Topology, IsTopology, World, Site, site_key, site_at, with_site, queue_at, on_channel, tallied, put_away, OfController, OfSwitch, same_taker, reassembly_at, cell_for, arrival, cut_turn}
+use Rattle.world_model.specs.frame_model.Reassembly.{Taken, taken}
+use Rattle.world_model.specs.Controller.{Acted, free_slots}
 use Rattle.world_model.specs.Cells as cells_of
-use Rattle.world_model.specs.Cells.{ForGsmp, ForDefault, ForLabel, same_channel, taker_of, reassembly_of, with_reassembly, opened_frame, after_test, ends_frame, after_cell, takes_cell, cell_comes}
+use Rattle.world_model.specs.Cells.{opened_frame, after_test, ends_frame, after_cell, cell_comes}
 use Rattle.world_model.specs.declared.event.Event.{Event}
 use Rattle.world_model.specs.declared.event.Event.TheVariants.{Carry}
-use Rattle.world_model.specs.Topology.{Topology}
-use Rattle.world_model.specs.Conditions.{IsTopology}
-use Rattle.world_model.specs.World.{World, Site, site_key, site_at, with_site}
-use Rattle.world_model.specs.Places.{queue_at}
-use Rattle.world_model.specs.Ways.{on_channel}
-use Rattle.world_model.specs.Step.{tallied}
-use Rattle.world_model.specs.Run.{put_away}
-use Rattle.world_model.specs.Stretches.{Taker, OfController, OfSwitch, at_controller, same_taker, reassembly_at, cell_for, arrival, cut_turn}
-use Rattle.port_facts.proofs.Keyed.{by_eq}
+use Rattle.world_model.specs.Stretches.{Taker, at_controller}
+use Rattle.controller_bindings.proofs.port_facts.Keyed.{by_eq}
 use Rattle.cell_lists.proofs.Taking.{Adds, adds_then, adds_others, stretch_after}
 use Rattle.cell_lists.proofs.Net.{Takes as TakesEnd}
 use Rattle.cell_lists.proofs.Real.{AreApart, IsReal, TakesReal, real_takes, real_grown, real_alike, chain_is_stretch, no_stretch}

@@ -3,30 +3,13 @@
 use Rattle.std.proofs.Common.{◌≡◌, ◌≢◌, ℕ, Bool, true, false, List, [], ◌∷◌, Option, None, Some, refl, sym, ◌∙◌, ap, subst, arith, append-nil, inl, inr, if◌then◌else◌}
 use Rattle.std.specs.Prelude.{◌==◌}
 use Rattle.std.specs.Option.{option_map_or, option_and_then}
-use Rattle.port_model.specs.Setup.{home_of}
+use Rattle.world_model.specs.Words.{home_of, NodeId, Down, End as PortEnd, Mark, Cell, Entry, Cut, same_mark, Journal, Reassembly, Request, AddBranch, MoveBranch, DeleteTree, VerifyTree, PortManagement, Crossbar, Branches, same_end, new_branch, Changed, noted_cut, added_by, added, moved_by, moved_to, ended_by, all_ended, inputs_on, branches_after, Topology, IsTopology, World, Site, site_at, queue_in, queue_at, on_channel}
 use Rattle.std.specs.FinMap.{get, insert, remove}
 use Rattle.std.proofs.lemmas.Bool.Decides.{nat_tests}
-use Rattle.net_types.specs.declared.node.NodeId.{NodeId}
-use Rattle.net_types.specs.declared.node.Place.TheVariants.{Down}
-use Rattle.net_types.specs.declared.channel.End.{End as PortEnd}
-use Rattle.net_types.specs.declared.number.Mark.{Mark}
-use Rattle.atm_cells.specs.declared.cell.Cell.{Cell}
-use Rattle.link_model.specs.declared.entries.Entry.{Entry}
-use Rattle.link_model.specs.declared.record.Cause.TheVariants.{Cut}
-use Rattle.link_model.specs.Ledger.{same_mark}
-use Rattle.link_model.specs.Notes.{Journal}
-use Rattle.frame_model.specs.Reassembly.{Reassembly}
-use Rattle.gsmp_wire.specs.declared.request.Request.{Request}
-use Rattle.gsmp_wire.specs.declared.request.Request.TheVariants.{AddBranch, MoveBranch, DeleteTree, VerifyTree, DeleteAll, PortManagement, AllPorts}
-use Rattle.crossbar_model.specs.declared.branch.Branch.{Branch}
-use Rattle.crossbar_model.specs.Crossbar.{Crossbar, Branches, same_end, new_branch}
-use Rattle.world_model.specs.Requests.{Changed, noted_cut, added_by, added, moved_by, moved_to, ended_by, ended, all_ended, inputs_on, cleared, branches_after}
-use Rattle.world_model.specs.Topology.{Topology}
-use Rattle.world_model.specs.Conditions.{IsTopology}
-use Rattle.world_model.specs.World.{World, Site, site_at}
-use Rattle.world_model.specs.Places.{queue_in, queue_at}
-use Rattle.world_model.specs.Ways.{on_channel}
-use Rattle.port_facts.proofs.Keyed.{by_eq}
+use Rattle.world_model.specs.gsmp_wire.declared.request.Request.TheVariants.{DeleteAll, AllPorts}
+use Rattle.world_model.specs.crossbar_model.declared.branch.Branch.{Branch}
+use Rattle.world_model.specs.Requests.{ended, cleared}
+use Rattle.controller_bindings.proofs.port_facts.Keyed.{by_eq}
 use Rattle.cell_lists.specs.Causes.{is_cause_of}
 use Rattle.cell_lists.proofs.Lists.{any_back}
 use Rattle.cell_lists.proofs.Net.{HasCut}

@@ -1,8 +1,7 @@
 -- what a port asks to be noted is no loss
 
 use Rattle.std.proofs.Common.{◌≡◌, [], ◌∷◌, refl}
-use Rattle.link_model.specs.declared.record.Record.{Record}
-use Rattle.link_model.specs.Notes.{losses_of}
+use Rattle.world_model.specs.Words.{Record, losses_of}
 use Rattle.causes.proofs.Noting.{AllowsNotes, AllowsBinding}
 
 -- *A record of no loss*

@@ -4,34 +4,17 @@ use Rattle.std.proofs.Common.{◌≡◌, ◌≢◌, ℕ, zero, suc, ◌<◌, ◌
 use Rattle.std.specs.Prelude.{◌==◌}
 use Rattle.std.specs.Option.{option_map, option_and_then}
 use Rattle.std.specs.FinMap.{get}
-use Rattle.net_types.specs.declared.node.NodeId.{NodeId}
-use Rattle.net_types.specs.declared.node.PortNo.{PortNo}
-use Rattle.net_types.specs.declared.node.Place.{Place}
-use Rattle.net_types.specs.declared.node.Place.TheVariants.{Down}
-use Rattle.net_types.specs.declared.channel.End.{End as PortEnd}
-use Rattle.atm_cells.specs.declared.cell.Cell.{Cell}
-use Rattle.link_model.specs.declared.record.Cause.{Cause}
-use Rattle.link_model.specs.declared.record.Cause.TheVariants.{Unconnected, PoolFull, Broken}
-use Rattle.link_model.specs.declared.record.Record.TheVariants.{Loss}
-use Rattle.link_model.specs.Notes.{noted}
-use Rattle.frame_model.specs.Reassembly.{Reassembly}
-use Rattle.crossbar_model.specs.declared.branch.Branch.{Branch}
-use Rattle.crossbar_model.specs.Crossbar.{Crossbar, route_on, on_channel_of, unfinished_after, forwarded, switched_on}
+use Rattle.world_model.specs.Words.{NodeId, PortNo, Place, Down, End as PortEnd, Cell, Cause, Unconnected, PoolFull, Broken, Loss, noted, Reassembly, Crossbar, route_on, on_channel_of, unfinished_after, switched_on, switched_cell, Topology, IsTopology, World, Site, site_at, with_site, place_node, queue_at, queue_number, on_channel, tallied, put_away, cell_for, arrival, is_broken}
+use Rattle.world_model.specs.crossbar_model.declared.branch.Branch.{Branch}
+use Rattle.world_model.specs.crossbar_model.Crossbar.{forwarded}
 use Rattle.world_model.specs.Switch.{Acted, free_slots}
-use Rattle.world_model.specs.Conduct.{passed, switched_cell, counted}
+use Rattle.world_model.specs.Conduct.{passed, counted}
 use Rattle.world_model.specs.declared.event.Event.{Event}
 use Rattle.world_model.specs.declared.link.LinkEnd.{LinkEnd}
-use Rattle.world_model.specs.Topology.{Topology, peer_of}
-use Rattle.world_model.specs.Conditions.{IsTopology}
-use Rattle.world_model.specs.World.{World, Site, site_at, with_site}
-use Rattle.world_model.specs.Places.{place_node, queue_at, queue_number}
-use Rattle.world_model.specs.Ways.{on_channel}
-use Rattle.world_model.specs.Step.{tallied}
-use Rattle.world_model.specs.Run.{put_away}
-use Rattle.world_model.specs.Stretches.{Taker, cell_for, arrival}
+use Rattle.world_model.specs.Topology.{peer_of}
+use Rattle.world_model.specs.Stretches.{Taker}
 use Rattle.world_model.proofs.Lists.{length_set}
-use Rattle.port_facts.proofs.Keyed.{by_eq}
-use Rattle.world_model.specs.Beside.{is_broken}
+use Rattle.controller_bindings.proofs.port_facts.Keyed.{by_eq}
 use Rattle.cell_lists.proofs.Real.{IsReal, real_over}
 use Rattle.causes.specs.Feeding.{IsLed, branch_at}
 use Rattle.causes.proofs.Spots.{Spot, same_spot, yields, home, up, out}

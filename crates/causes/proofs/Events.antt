@@ -4,41 +4,21 @@ use Rattle.std.proofs.Common.{◌≡◌, ◌≢◌, ℕ, ◌+◌, ◌≤◌, Boo
 use Rattle.std.specs.Prelude.{◌==◌, ◌&&◌, IsSome, is_some}
 use Rattle.std.specs.Option.{option_map, option_map_or}
 use Rattle.std.proofs.lemmas.Bool.Decides.{nat_tests}
-use Rattle.net_types.specs.declared.node.NodeId.{NodeId}
-use Rattle.net_types.specs.declared.node.PortNo.{PortNo}
-use Rattle.net_types.specs.declared.node.Place.{Place}
-use Rattle.net_types.specs.declared.node.Place.TheVariants.{Down, Up, Out}
-use Rattle.net_types.specs.declared.channel.Channel.{Channel}
-use Rattle.atm_cells.specs.declared.cell.Cell.{Cell}
-use Rattle.link_model.specs.declared.record.Cause.TheVariants.{Lost}
-use Rattle.link_model.specs.declared.record.Record.TheVariants.{Refused, Loss}
-use Rattle.link_model.specs.declared.record.Refusal.{Refusal}
-use Rattle.ipv4_packet.specs.declared.validate.PacketFault.{PacketFault}
-use Rattle.ipv4_packet.specs.Packet.{first_fault}
-use Rattle.frame_model.specs.Stretch.{stretch_from}
-use Rattle.keyed_lists.specs.Keyed.{at, put}
+use Rattle.world_model.specs.Words.{NodeId, PortNo, Place, Down, Up, Out, Channel, Cell, Lost, Refused, Loss, Refusal, PacketFault, stretch_from, at, put, control_port, gsmp_channel, same_channel, node_restarts, change_comes, inject_refusal, refused_by, injected, Topology, IsTopology, IsNode, IsPlace, IsEvent, World, Site, site_key, site_at, with_site, controller_acts, switch_acts, place_node, queue_in, queue_at, queue_number, with_queue, with_queue_of, with_queue_in, put_away, next, tallied, injects_by, carries_head, loses_head, arrives, arrives_at, OfController, OfSwitch, reassembly_at, cell_for, arrival, cut_turn}
+use Rattle.world_model.specs.ipv4_packet.Packet.{first_fault}
 use Rattle.world_model.specs.Switch as switch_of
-use Rattle.world_model.specs.Switch.{control_port, gsmp_channel}
 use Rattle.world_model.specs.Conduct as switch
 use Rattle.world_model.specs.Controller.{Acted}
 use Rattle.world_model.specs.Cells as controller
-use Rattle.world_model.specs.Cells.{same_channel}
 use Rattle.world_model.specs.Ticks.{ticks}
-use Rattle.world_model.specs.Resets.{node_restarts}
-use Rattle.world_model.specs.Changes.{change_comes}
-use Rattle.world_model.specs.Packets.{inject_refusal, refused_by, injected}
 use Rattle.world_model.specs.declared.event.Event.{Event}
 use Rattle.world_model.specs.declared.event.Event.TheVariants.{Inject, Carry, Lose, Tick, TickSwitch, Restart, RestartSwitch, Forge, Route}
 use Rattle.world_model.specs.declared.link.LinkEnd.{LinkEnd}
-use Rattle.world_model.specs.Topology.{Topology, peer_of}
-use Rattle.world_model.specs.Conditions.{IsTopology, IsNode, IsPlace, IsEvent}
-use Rattle.world_model.specs.World.{World, Site, site_key, site_at, with_site, controller_acts, switch_acts}
-use Rattle.world_model.specs.Places.{place_node, queue_in, queue_at, queue_number, with_queue, with_queue_of, with_queue_in}
-use Rattle.world_model.specs.Run.{put_away, next}
-use Rattle.world_model.specs.Step.{tallied, injects_by, note, carries_head, loses_head, arrives, arrives_at}
-use Rattle.world_model.specs.Stretches.{Taker, OfController, OfSwitch, reassembly_at, cell_for, arrival, at_controller, at_switch, cut_turn}
+use Rattle.world_model.specs.Topology.{peer_of}
+use Rattle.world_model.specs.Step.{note}
+use Rattle.world_model.specs.Stretches.{Taker, at_controller, at_switch}
 use Rattle.world_model.proofs.Lists.{at_key, at_put_same, at_put_other}
-use Rattle.port_facts.proofs.Keyed.{by_eq}
+use Rattle.controller_bindings.proofs.port_facts.Keyed.{by_eq}
 use Rattle.causes.proofs.Sizes.{fault_short}
 use Rattle.causes.proofs.Rules.{Kept, ticks_kept, node_restarts_kept, change_comes_kept, routes_kept}
 use Rattle.causes.proofs.Sites.{site_here}

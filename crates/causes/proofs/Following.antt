@@ -3,28 +3,12 @@
 use Rattle.std.proofs.Common.{◌≡◌, ◌≢◌, ℕ, ◌≤◌, Bool, true, false, List, [], ◌∷◌, ◌++◌, length, Option, None, Some, refl, sym, ◌∙◌, ap, ap₂, subst, append-nil, inl, if◌then◌else◌}
 use Rattle.std.specs.Prelude.{nat_eq, IsSome}
 use Rattle.std.specs.Option.{option_map, option_map_or, option_and_then}
-use Rattle.net_types.specs.declared.node.NodeId.{NodeId}
-use Rattle.net_types.specs.declared.node.Place.{Place}
-use Rattle.net_types.specs.declared.node.Place.TheVariants.{Down, Up, Out}
-use Rattle.net_types.specs.declared.channel.Channel.{Channel}
-use Rattle.atm_cells.specs.declared.cell.Cell.{Cell}
-use Rattle.link_model.specs.declared.entries.Entry.{Entry}
-use Rattle.frame_model.specs.Reassembly.{Reassembly}
-use Rattle.frame_model.specs.Stretch.{stretch_from}
-use Rattle.keyed_lists.specs.Keyed.{at}
-use Rattle.world_model.specs.Controller.{Controller, Acted, default_channel}
-use Rattle.world_model.specs.Cells.{same_channel, taker_of, reassembly_of}
+use Rattle.world_model.specs.Words.{NodeId, Place, Down, Up, Out, Channel, Cell, Entry, Reassembly, stretch_from, at, Controller, default_channel, same_channel, taker_of, reassembly_of, Topology, IsTopology, World, Site, site_key, site_at, controller_at, controller_acts, queue_in, on_channel, tallied, put_away, OfController, OfSwitch, reassembly_at, cell_for, arrival, cut_turn, turns_at}
+use Rattle.world_model.specs.Controller.{Acted}
 use Rattle.world_model.specs.declared.event.Event.{Event}
-use Rattle.world_model.specs.Topology.{Topology}
-use Rattle.world_model.specs.Conditions.{IsTopology}
-use Rattle.world_model.specs.World.{World, Site, site_key, site_at, controller_at, controller_acts}
-use Rattle.world_model.specs.Places.{queue_in}
-use Rattle.world_model.specs.Ways.{on_channel}
-use Rattle.world_model.specs.Step.{tallied}
-use Rattle.world_model.specs.Run.{put_away}
-use Rattle.world_model.specs.Stretches.{Taker, OfController, OfSwitch, reassembly_at, cell_for, arrival, cut_turn, turns_at}
+use Rattle.world_model.specs.Stretches.{Taker}
 use Rattle.world_model.proofs.Lists.{at_key}
-use Rattle.port_facts.proofs.Keyed.{by_eq}
+use Rattle.controller_bindings.proofs.port_facts.Keyed.{by_eq}
 use Rattle.cell_lists.proofs.Taking.{Adds}
 use Rattle.cell_lists.proofs.Real.{AreApart, IsReal, real_alike}
 use Rattle.causes.proofs.Rules.{IsNamed, Kept}

@@ -3,19 +3,10 @@
 use Rattle.std.proofs.Common.{◌≡◌, ℕ, Bool, true, false, true≢false, Option, None, Some, refl, sym, ◌∙◌, ap, subst, if◌then◌else◌}
 use Rattle.std.specs.Prelude.{is_some}
 use Rattle.std.specs.Option.{option_map, option_map_or, option_and_then}
-use Rattle.net_types.specs.declared.node.NodeId.{NodeId}
-use Rattle.net_types.specs.declared.channel.Channel.{Channel}
-use Rattle.net_types.specs.Label.{label_number_of}
-use Rattle.frame_model.specs.Reassembly.{nothing_taken}
-use Rattle.ordered_lists.specs.Ordered.{Every}
-use Rattle.keyed_lists.specs.Keyed.{at}
-use Rattle.port_model.specs.Labels.{Label}
-use Rattle.port_model.specs.Port.{label_at}
-use Rattle.port_facts.proofs.Keyed.{at_key, at_every}
-use Rattle.world_model.specs.Controller.{Controller, Linked, LabelChain, chain_key, port_key, default_channel}
-use Rattle.world_model.specs.Cells.{ForGsmp, ForDefault, ForLabel, port_on, on_link, same_channel, label_taker, taker_at}
-use Rattle.world_model.specs.World.{World, Site, site_key, site_at, controller_at, opened}
-use Rattle.world_model.specs.Run.{world_after}
+use Rattle.world_model.specs.Words.{NodeId, Channel, label_number_of, nothing_taken, at, Label, label_at, Controller, Linked, LabelChain, chain_key, port_key, default_channel, ForGsmp, ForDefault, ForLabel, port_on, on_link, same_channel, label_taker, taker_at, World, Site, site_key, site_at, controller_at, world_after}
+use Rattle.controller_bindings.specs.ordered_lists.Ordered.{Every}
+use Rattle.controller_bindings.proofs.port_facts.Keyed.{at_key, at_every}
+use Rattle.world_model.specs.World.{opened}
 use Rattle.controller_bindings.specs.Bindings.{IsOfBound}
 use Rattle.controller_bindings.proofs.Laws.{always_gathers}
 use Rattle.lifetimes.proofs.Opened.{IsFed, opening_fed}

@@ -4,31 +4,13 @@ use Rattle.std.proofs.Common.{◌≡◌, ◌≢◌, ℕ, Bool, true, false, List
 use Rattle.std.specs.Prelude.{◌==◌, nat_lt, IsSome}
 use Rattle.std.specs.Option.{option_map, option_map_or}
 use Rattle.std.proofs.lemmas.Bool.Decides.{nat_tests}
-use Rattle.net_types.specs.declared.node.NodeId.{NodeId}
-use Rattle.net_types.specs.declared.node.Place.{Place}
-use Rattle.net_types.specs.declared.node.Place.TheVariants.{Down, Up, Out}
-use Rattle.net_types.specs.declared.channel.Channel.{Channel}
-use Rattle.atm_cells.specs.declared.cell.Cell.{Cell}
-use Rattle.link_model.specs.declared.entries.Entry.{Entry}
-use Rattle.link_model.specs.Notes.{Journal}
-use Rattle.frame_model.specs.Reassembly.{Reassembly, Taken, taken}
-use Rattle.frame_model.specs.Frame.{Tested, tested}
-use Rattle.frame_model.specs.Stretch.{stretch_from}
-use Rattle.crossbar_model.specs.Crossbar.{Crossbar}
-use Rattle.world_model.specs.Switch.{Acted, free_slots, gsmp_channel}
-use Rattle.world_model.specs.Conduct.{gsmp_cell, ends_frame, opened_frame}
-use Rattle.world_model.specs.Controller.{default_channel}
-use Rattle.world_model.specs.Cells.{same_channel}
+use Rattle.world_model.specs.Words.{NodeId, Place, Down, Up, Out, Channel, Cell, Entry, Journal, Reassembly, Tested, tested, stretch_from, Crossbar, gsmp_channel, gsmp_cell, default_channel, same_channel, Topology, IsTopology, World, Site, site_at, with_site, queue_at, on_channel, tallied, put_away, OfController, OfSwitch, reassembly_at, cell_for, arrival, cut_turn}
+use Rattle.world_model.specs.frame_model.Reassembly.{Taken, taken}
+use Rattle.world_model.specs.Switch.{Acted, free_slots}
+use Rattle.world_model.specs.Conduct.{ends_frame, opened_frame}
 use Rattle.world_model.specs.declared.event.Event.{Event}
 use Rattle.world_model.specs.declared.event.Event.TheVariants.{Carry}
-use Rattle.world_model.specs.Topology.{Topology}
-use Rattle.world_model.specs.Conditions.{IsTopology}
-use Rattle.world_model.specs.World.{World, Site, site_at, with_site}
-use Rattle.world_model.specs.Places.{queue_at}
-use Rattle.world_model.specs.Ways.{on_channel}
-use Rattle.world_model.specs.Step.{tallied}
-use Rattle.world_model.specs.Run.{put_away}
-use Rattle.world_model.specs.Stretches.{Taker, OfController, OfSwitch, at_switch, reassembly_at, cell_for, arrival, cut_turn}
+use Rattle.world_model.specs.Stretches.{Taker, at_switch}
 use Rattle.cell_lists.proofs.Taking.{Adds, adds_then, adds_others, stretch_after}
 use Rattle.cell_lists.proofs.Net.{Takes as TakesEnd}
 use Rattle.cell_lists.proofs.Real.{IsReal, TakesReal, real_takes, real_grown, real_alike, chain_is_stretch}

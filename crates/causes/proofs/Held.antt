@@ -3,50 +3,24 @@
 use Rattle.std.proofs.Common.{◌≡◌, ◌≢◌, ℕ, suc, ◌≤◌, ◌+◌, ◌*◌, Bool, true, false, List, [], ◌∷◌, ◌++◌, length, map, Option, None, Some, refl, sym, ◌∙◌, ap, subst, arith, append-nil, inr, if◌then◌else◌}
 use Rattle.std.specs.Prelude.{◌==◌, ◌&&◌, nat_le, slice_set, slice_index_or, Result, Ok, Err}
 use Rattle.std.specs.FinMap.{get}
-use Rattle.net_types.specs.declared.node.NodeId.{NodeId}
-use Rattle.net_types.specs.declared.node.Place.TheVariants.{Down}
-use Rattle.net_types.specs.declared.channel.End.{End as PortEnd}
-use Rattle.net_types.specs.declared.number.Mark.{Mark}
-use Rattle.net_types.specs.declared.adjacency.Greeting.{Greeting}
-use Rattle.net_types.specs.declared.adjacency.Party.{Party}
-use Rattle.net_types.specs.Number.{next_control, with_control}
-use Rattle.atm_cells.specs.declared.cell.Cell.{Cell}
-use Rattle.adjacency_table.specs.declared.message.Answer.{Answer}
-use Rattle.adjacency_table.specs.declared.message.Answer.TheVariants.{Quiet, Send, Open, Reset}
-use Rattle.adjacency_table.specs.declared.message.Said.{Said}
-use Rattle.adjacency_table.specs.Side.{Step, is_estab}
-use Rattle.adjacency_table.specs.Greeting.{greeting_of, gsmp_answer, gsmp_received}
-use Rattle.gsmp_wire.specs.declared.fault.Fault.{Fault}
-use Rattle.gsmp_wire.specs.declared.message.Message.{Message}
-use Rattle.gsmp_wire.specs.declared.message.Message.TheVariants.{Adjacency, Branch as BranchMessage, Move, Port, AllPorts as AllPortsMessage}
-use Rattle.gsmp_wire.specs.declared.request.Request.{Request}
-use Rattle.gsmp_wire.specs.declared.request.Request.TheVariants.{AddBranch, MoveBranch, DeleteTree, VerifyTree, DeleteAll, PortManagement, AllPorts}
-use Rattle.gsmp_wire.specs.Layout.{octets_of}
-use Rattle.gsmp_wire.specs.Fields.{decoded}
-use Rattle.link_model.specs.declared.entries.Entry.{Entry}
-use Rattle.link_model.specs.declared.record.Cause.TheVariants.{PoolFull}
-use Rattle.link_model.specs.declared.record.Record.TheVariants.{Loss}
-use Rattle.link_model.specs.Notes.{noted}
-use Rattle.frame_model.specs.Reassembly.{Reassembly}
-use Rattle.frame_model.specs.Frame.{frame_cells, made}
-use Rattle.frame_model.specs.Sending.{Sent}
-use Rattle.ordered_lists.specs.Ordered.{Every}
-use Rattle.crossbar_model.specs.Crossbar.{Crossbar, Branches, queue_of, sent}
+use Rattle.world_model.specs.Words.{NodeId, Down, End as PortEnd, Mark, Greeting, Party, next_control, with_control, Cell, Answer, Quiet, Send, Open, Said, Step, is_estab, greeting_of, gsmp_answer, gsmp_received, Move, Request, AddBranch, MoveBranch, DeleteTree, VerifyTree, PortManagement, Entry, PoolFull, Loss, noted, Reassembly, frame_cells, made, Crossbar, Branches, queue_of, sent, Switch, control_port, gsmp_channel, with_branches, with_port, Changed, asked_in, is_request, branches_after, ports_after, managed, failure_of, failure_answer, success_answer, refused, carried_out, handled_by, handled_asked, handled, replied, requested, read, default_channel, Topology, IsTopology, World, Site, site_at, queue_at}
+use Rattle.world_model.specs.adjacency_table.declared.message.Answer.TheVariants.{Reset}
+use Rattle.world_model.specs.gsmp_wire.declared.fault.Fault.{Fault}
+use Rattle.world_model.specs.gsmp_wire.declared.message.Message.{Message}
+use Rattle.world_model.specs.gsmp_wire.declared.message.Message.TheVariants.{Adjacency, Branch as BranchMessage, Port, AllPorts as AllPortsMessage}
+use Rattle.world_model.specs.gsmp_wire.declared.request.Request.TheVariants.{DeleteAll, AllPorts}
+use Rattle.world_model.specs.gsmp_wire.Layout.{octets_of}
+use Rattle.world_model.specs.gsmp_wire.Fields.{decoded}
+use Rattle.world_model.specs.frame_model.Sending.{Sent}
+use Rattle.controller_bindings.specs.ordered_lists.Ordered.{Every}
 use Rattle.world_model.specs.declared.port.PortState.{PortState}
 use Rattle.world_model.specs.declared.request.Asked.{Asked}
 use Rattle.world_model.specs.declared.request.Failure.{Failure}
-use Rattle.world_model.specs.Switch.{Switch, Acted, control_port, gsmp_channel, free_slots, with_branches, with_port}
-use Rattle.world_model.specs.Requests.{Changed, asked_in, is_request, branches_after, ports_after, managed}
-use Rattle.world_model.specs.Failures.{failure_of}
-use Rattle.world_model.specs.Answers.{failure_answer, success_answer, row_of, refused, carried_out, handled_by, handled_asked, handled}
-use Rattle.world_model.specs.Conduct.{with_cells, says, answers, steps, replied, requested, told, read, opened_frame}
-use Rattle.world_model.specs.Controller.{default_channel}
-use Rattle.world_model.specs.Topology.{Topology}
-use Rattle.world_model.specs.Conditions.{IsTopology}
-use Rattle.world_model.specs.World.{World, Site, site_at}
-use Rattle.world_model.specs.Places.{queue_at}
+use Rattle.world_model.specs.Switch.{Acted, free_slots}
+use Rattle.world_model.specs.Answers.{row_of}
+use Rattle.world_model.specs.Conduct.{with_cells, says, answers, steps, told, opened_frame}
 use Rattle.world_model.proofs.Lists.{length_set}
-use Rattle.port_facts.proofs.Keyed.{by_eq, on_both, on_each}
+use Rattle.controller_bindings.proofs.port_facts.Keyed.{by_eq, on_both, on_each}
 use Rattle.cell_lists.specs.Causes.{bare}
 use Rattle.cell_lists.proofs.Frames.{IsWhole, whole_frame}
 use Rattle.cell_lists.proofs.Net.{Leads}

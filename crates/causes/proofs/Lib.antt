@@ -1,3 +1,9 @@
+pub use Rattle.controller_bindings.proofs.port_facts as port_facts
+pub use Rattle.controller_bindings.proofs.controller_facts as controller_facts
+pub use Rattle.controller_bindings.proofs.controller_law as controller_law
+pub use Rattle.controller_bindings.proofs as controller_bindings
+pub use Rattle.lifetimes.proofs as lifetimes
+pub use Rattle.cell_lists.proofs as cell_lists
 pub mod Sizes
 pub mod Noting
 pub mod Calm

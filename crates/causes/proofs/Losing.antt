@@ -4,31 +4,13 @@ use Rattle.std.proofs.Common.{◌≡◌, ◌≤◌, Bool, true, false, List, [],
 use Rattle.std.specs.Option.{option_map, option_and_then}
 use Rattle.std.specs.FinMap.{get}
 use Rattle.std.proofs.lemmas.Bool.Decides.{nat_tests}
-use Rattle.net_types.specs.declared.node.NodeId.{NodeId}
-use Rattle.net_types.specs.declared.node.Place.{Place}
-use Rattle.net_types.specs.declared.node.Place.TheVariants.{Down, Up, Out}
-use Rattle.net_types.specs.declared.channel.Channel.{Channel}
-use Rattle.net_types.specs.declared.channel.End.{End as PortEnd}
-use Rattle.atm_cells.specs.declared.cell.Cell.{Cell}
-use Rattle.link_model.specs.declared.entries.Entry.{Entry}
-use Rattle.link_model.specs.declared.record.Cause.{Cause}
-use Rattle.link_model.specs.Ledger.{same_mark}
-use Rattle.frame_model.specs.Reassembly.{Reassembly}
-use Rattle.frame_model.specs.Stretch.{stretch_from}
-use Rattle.port_model.specs.Setup.{home_of}
-use Rattle.world_model.specs.Controller.{Controller, default_channel}
-use Rattle.crossbar_model.specs.declared.branch.Branch.{Branch}
-use Rattle.world_model.specs.Cells.{same_channel, taker_of, reassembly_of}
+use Rattle.world_model.specs.Words.{NodeId, Place, Down, Up, Out, Channel, End as PortEnd, Cell, Entry, Cause, same_mark, Reassembly, stretch_from, home_of, Controller, default_channel, same_channel, taker_of, reassembly_of, Topology, World, Site, site_key, site_at, controller_at, place_node, queue_at, queue_number, with_queue_in, on_channel, OfController, OfSwitch, reassembly_at, cell_for, arrival, cut_turn, is_broken}
+use Rattle.world_model.specs.crossbar_model.declared.branch.Branch.{Branch}
 use Rattle.world_model.specs.declared.event.Event.{Event}
-use Rattle.world_model.specs.Topology.{Topology}
-use Rattle.world_model.specs.World.{World, Site, site_key, site_at, controller_at}
-use Rattle.world_model.specs.Places.{place_node, queue_at, queue_number, with_queue_in}
-use Rattle.world_model.specs.Ways.{on_channel}
-use Rattle.world_model.specs.Stretches.{Taker, OfController, OfSwitch, reassembly_at, cell_for, arrival, cut_turn}
+use Rattle.world_model.specs.Stretches.{Taker}
 use Rattle.world_model.proofs.Lists.{length_set}
 use Rattle.world_model.proofs.Queues.{Sets}
-use Rattle.port_facts.proofs.Keyed.{by_eq}
-use Rattle.world_model.specs.Beside.{is_broken}
+use Rattle.controller_bindings.proofs.port_facts.Keyed.{by_eq}
 use Rattle.cell_lists.specs.Causes.{has_cause, is_cause_of}
 use Rattle.cell_lists.proofs.Lists.{any_back}
 use Rattle.cell_lists.proofs.Real.{IsReal, real_grown, real_alike, real_loses}

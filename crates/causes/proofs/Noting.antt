@@ -4,47 +4,25 @@ use Rattle.std.proofs.Common.{◌≡◌, ℕ, Bool, true, false, ◌+◌, List, 
 use Rattle.std.specs.Prelude.{◌&&◌, ◌||◌, nat_lt}
 use Rattle.std.specs.Option.{option_map_or}
 use Rattle.std.proofs.lemmas.List.Concat.{flat_map-cons}
-use Rattle.net_types.specs.declared.prefix.Addr.{Addr}
-use Rattle.net_types.specs.declared.node.NodeId.{NodeId}
-use Rattle.net_types.specs.declared.node.PortNo.{PortNo}
-use Rattle.net_types.specs.declared.channel.End.{End}
-use Rattle.net_types.specs.Label.{label_channel_of}
-use Rattle.net_types.specs.declared.adjacency.Hello.{Hello}
-use Rattle.net_types.specs.declared.adjacency.Peer.{Peer}
-use Rattle.net_types.specs.declared.number.Instance.{Instance}
-use Rattle.adjacency_table.specs.declared.message.Answer.{Answer}
-use Rattle.adjacency_table.specs.declared.message.Answer.TheVariants.{Quiet, Send, Open, Reset}
-use Rattle.adjacency_table.specs.Side as sides
-use Rattle.adjacency_table.specs.Hello.{ifmp_answer}
-use Rattle.ipv4_packet.specs.declared.flow.FlowId.{FlowId}
-use Rattle.ifmp_wire.specs.declared.message.Message.{Message}
-use Rattle.gsmp_wire.specs.declared.request.Request.{Request}
-use Rattle.link_model.specs.declared.record.Record.{Record}
-use Rattle.link_model.specs.declared.record.Record.TheVariants.{Opened, Closed, Bind, Free, Join}
-use Rattle.ordered_lists.specs.Ordered.{Every}
-use Rattle.ordered_lists.proofs.Every.{every_join}
-use Rattle.port_model.specs.Desk.{Desk, on_input}
-use Rattle.port_model.specs.declared.action.Action.{Action}
-use Rattle.port_model.specs.declared.action.Action.TheVariants as actions
-use Rattle.port_model.specs.Setup.{Setup, label_end}
-use Rattle.port_model.specs.Labels.{Label, label_for, lowest_spare}
-use Rattle.port_model.specs.Grants.{Grant, GrantState, Idle, ByController, ByInput, Leaving}
-use Rattle.port_model.specs.Counts.{packets_in, counted_once}
-use Rattle.port_model.specs.Port.{Session, Work, acts, halts, with_session, with_label, with_new_label, without_label, with_grants, without_grant, label_at, desk_after, has_room}
-use Rattle.port_model.specs.Saying.{Unnumbered, last_number, greets, spent_number, numbered, tells, tells_in, closes, is_spent, reclaim_ack}
-use Rattle.port_model.specs.Adjacency.{opens, answers, steps, unwires}
-use Rattle.port_model.specs.Counting.{wires, used_label, counts_flow, counts_by, counts, used, packet_flow}
-use Rattle.port_model.specs.Redirection.{accepts}
-use Rattle.port_model.specs.Hearing.{hears}
-use Rattle.port_model.specs.Ticks.{ticks}
-use Rattle.port_model.specs.Answers.{done}
-use Rattle.port_model.specs.Joins.{joins_label, joined, parted, lent, ended, given_back_in, given_back}
-use Rattle.port_model.specs.Resets.{closing, withdrawing_in, withdrawing_of, withdrawing, taking_back_in, taking_back, resets, restarts}
-use Rattle.port_facts.specs.Port.{Lives}
-use Rattle.port_facts.proofs.Keyed.{on_both}
-use Rattle.port_facts.proofs.Steps.{Step, greeting, telling, closing as closes_now, noting, turning, heard, minding, relabelling, wiring, binding, quitting, unwiring, freeing, accepting, granting, regranting, starting, ending, taking_back as takes_back, Goes, goes_keeps}
-use Rattle.port_facts.proofs.Rules.{done_goes}
-use Rattle.port_facts.proofs.Hearings.{hears_goes, ticks_goes}
+use Rattle.world_model.specs.Words.{Addr, NodeId, PortNo, End, label_channel_of, Hello, Peer, Instance, Answer, Quiet, Send, Open, ifmp_answer, FlowId, Request, Record, Opened, Closed, Bind, Free, Desk, on_input, Action, Setup, label_end, Label, label_for, lowest_spare, Grant, GrantState, Idle, ByController, ByInput, Leaving, packets_in, counted_once, Session, Work, halts, with_session, with_label, with_new_label, without_label, with_grants, without_grant, label_at, desk_after, has_room, Unnumbered, last_number, greets, spent_number, tells, tells_in, closes, is_spent, reclaim_ack, opens, unwires, wires, used_label, counts_flow, counts_by, counts, used, packet_flow, accepts, hears, joins_label, parted, lent, given_back_in, given_back, closing, withdrawing_in, withdrawing_of, withdrawing, taking_back_in, taking_back, resets, restarts}
+use Rattle.world_model.specs.adjacency_table.declared.message.Answer.TheVariants.{Reset}
+use Rattle.world_model.specs.adjacency_table.Side as sides
+use Rattle.world_model.specs.ifmp_wire.declared.message.Message.{Message}
+use Rattle.world_model.specs.link_model.declared.record.Record.TheVariants.{Join}
+use Rattle.controller_bindings.specs.ordered_lists.Ordered.{Every}
+use Rattle.controller_bindings.proofs.ordered_lists.Every.{every_join}
+use Rattle.world_model.specs.port_model.declared.action.Action.TheVariants as actions
+use Rattle.world_model.specs.port_model.Port.{acts}
+use Rattle.world_model.specs.port_model.Saying.{numbered}
+use Rattle.world_model.specs.port_model.Adjacency.{answers, steps}
+use Rattle.world_model.specs.port_model.Ticks.{ticks}
+use Rattle.world_model.specs.port_model.Answers.{done}
+use Rattle.world_model.specs.port_model.Joins.{joined, ended}
+use Rattle.controller_bindings.specs.port_facts.Port.{Lives}
+use Rattle.controller_bindings.proofs.port_facts.Keyed.{on_both}
+use Rattle.controller_bindings.proofs.port_facts.Steps.{Step, greeting, telling, closing as closes_now, noting, turning, heard, minding, relabelling, wiring, binding, quitting, unwiring, freeing, accepting, granting, regranting, starting, ending, taking_back as takes_back, Goes, goes_keeps}
+use Rattle.controller_bindings.proofs.port_facts.Rules.{done_goes}
+use Rattle.controller_bindings.proofs.port_facts.Hearings.{hears_goes, ticks_goes}
 
 -- *What a port notes*: that its adjacency opens or closes, that an input is joined, and that a label is free
 pub record AllowsNotes (Q : Record → Type 0) : Type 0 where

@@ -6,34 +6,18 @@ use Rattle.std.specs.Option.{option_map, option_map_or, option_and_then}
 use Rattle.std.specs.List.{range_with_len}
 use Rattle.std.specs.FinMap.{empty, get, get-empty}
 use Rattle.std.proofs.lemmas.Bool.Decides.{nat_tests}
-use Rattle.net_types.specs.declared.node.NodeId.{NodeId}
-use Rattle.net_types.specs.declared.node.Place.{Place}
-use Rattle.net_types.specs.declared.node.Place.TheVariants.{Down, Up, Out}
-use Rattle.net_types.specs.declared.channel.Channel.{Channel}
-use Rattle.net_types.specs.declared.number.Mark.{Mark}
-use Rattle.net_types.specs.Number.{GivenOut, next_instance}
-use Rattle.atm_cells.specs.declared.cell.Cell.{Cell}
-use Rattle.frame_model.specs.Reassembly.{Reassembly, nothing_taken}
-use Rattle.crossbar_model.specs.Channels.{end_cmp}
-use Rattle.crossbar_model.specs.declared.branch.Branch.{Branch}
-use Rattle.ordered_lists.specs.Ordered.{Every}
-use Rattle.ordered_lists.proofs.Every.{every_join}
-use Rattle.keyed_lists.specs.Keyed.{at}
-use Rattle.port_model.specs.Setup.{Policy, Setup}
+use Rattle.world_model.specs.Words.{NodeId, Place, Down, Up, Out, Channel, Mark, GivenOut, next_instance, Cell, Reassembly, nothing_taken, end_cmp, at, Policy, Setup, port_key, default_channel, same_channel, on_link, port_on, label_number_of, setup_of, opens_port, opens_ports, after_opening, Topology, Node, ranges_of, timers_of, World, Site, site_key, site_at, empty_world, opened_site, with_opened, opens_each, AreShaped, queue_in, queue_at, on_channel}
+use Rattle.world_model.specs.crossbar_model.declared.branch.Branch.{Branch}
+use Rattle.controller_bindings.specs.ordered_lists.Ordered.{Every}
+use Rattle.controller_bindings.proofs.ordered_lists.Every.{every_join}
 use Rattle.world_model.specs.declared.range.PortRange.{PortRange}
-use Rattle.world_model.specs.Controller.{port_key, default_channel}
-use Rattle.world_model.specs.Cells.{same_channel, on_link, port_on}
-use Rattle.net_types.specs.Label.{label_number_of}
-use Rattle.world_model.specs.Opening.{setup_of, opens_port, opens_ports, after_opening}
 use Rattle.world_model.specs.Switch.{begun}
 use Rattle.world_model.specs.Topology as topologies
-use Rattle.world_model.specs.Topology.{Topology, Node, peer_of, ranges_of, timers_of}
-use Rattle.world_model.specs.World.{World, Site, site_key, site_at, empty_world, opened, opened_site, with_opened, opens_each}
-use Rattle.world_model.specs.Places.{AreShaped, queue_in, queue_at}
+use Rattle.world_model.specs.Topology.{peer_of}
+use Rattle.world_model.specs.World.{opened}
 use Rattle.world_model.specs.Stretches.{Taker}
-use Rattle.world_model.specs.Ways.{on_channel}
 use Rattle.world_model.proofs.Opening.{opened_is_shaped}
-use Rattle.port_facts.proofs.Keyed.{by_eq, at_every}
+use Rattle.controller_bindings.proofs.port_facts.Keyed.{by_eq, at_every}
 use Rattle.cell_lists.proofs.Taking.{taker_new}
 use Rattle.cell_lists.proofs.Net.{End, Takes, Leads, Nowhere, Closed, Line, IsEnd}
 use Rattle.causes.specs.Feeding.{branch_at}

@@ -4,25 +4,10 @@ use Rattle.std.proofs.Common.{◌≡◌, ◌≢◌, ℕ, Bool, true, false, true
 use Rattle.std.specs.Prelude.{◌==◌, ◌||◌}
 use Rattle.std.specs.Option.{option_map}
 use Rattle.std.proofs.lemmas.Bool.Decides.{nat_tests}
-use Rattle.net_types.specs.declared.node.NodeId.{NodeId}
-use Rattle.net_types.specs.declared.node.PortNo.{PortNo}
-use Rattle.net_types.specs.declared.node.Place.{Place}
-use Rattle.net_types.specs.declared.node.Place.TheVariants.{Down, Up, Out}
-use Rattle.net_types.specs.declared.channel.Channel.{Channel}
-use Rattle.net_types.specs.declared.channel.End.{End as PortEnd}
-use Rattle.net_types.specs.declared.number.Mark.{Mark}
-use Rattle.atm_cells.specs.declared.cell.Cell.{Cell}
-use Rattle.frame_model.specs.Reassembly.{Reassembly}
-use Rattle.crossbar_model.specs.declared.branch.Branch.{Branch}
-use Rattle.port_model.specs.Setup.{home_of}
-use Rattle.world_model.specs.Controller.{Controller, Linked, default_channel}
-use Rattle.world_model.specs.Cells.{same_channel}
+use Rattle.world_model.specs.Words.{NodeId, PortNo, Place, Down, Up, Out, Channel, End as PortEnd, Mark, Cell, Reassembly, home_of, Controller, Linked, default_channel, same_channel, Topology, IsTopology, World, Site, site_at, controller_at, queue_at, on_channel}
+use Rattle.world_model.specs.crossbar_model.declared.branch.Branch.{Branch}
 use Rattle.world_model.specs.declared.link.LinkEnd.{LinkEnd}
-use Rattle.world_model.specs.Topology.{Topology, peer_of}
-use Rattle.world_model.specs.Conditions.{IsTopology}
-use Rattle.world_model.specs.World.{World, Site, site_at, controller_at}
-use Rattle.world_model.specs.Places.{queue_at}
-use Rattle.world_model.specs.Ways.{on_channel}
+use Rattle.world_model.specs.Topology.{peer_of}
 use Rattle.cell_lists.proofs.Net.{End, Takes, Leads, Nowhere}
 use Rattle.cell_lists.proofs.Real.{AreApart, AreQuiet}
 use Rattle.causes.specs.Feeding.{IsLed, branch_at}

@@ -3,33 +3,14 @@
 use Rattle.std.proofs.Common.{◌≡◌, ◌≢◌, ℕ, ◌<◌, ◌≤◌, ◌+◌, ◌*◌, Bool, true, false, true≢false, List, [], ◌∷◌, ◌++◌, map, length, Option, None, Some, refl, sym, ◌∙◌, ap, ap₂, subst, arith, append-nil, append_assoc, ◌⊎◌, inl, inr, if◌then◌else◌}
 use Rattle.std.specs.Prelude.{◌||◌, ◌/◌, ◌%◌, nat_le, nat_eq, is_some}
 use Rattle.std.proofs.lemmas.Bool.Decides.{nat_tests}
-use Rattle.net_types.specs.declared.node.NodeId.{NodeId}
-use Rattle.net_types.specs.declared.node.PortNo.{PortNo}
-use Rattle.net_types.specs.declared.node.Place.{Place}
-use Rattle.net_types.specs.declared.node.Place.TheVariants.{Down, Up, Out}
-use Rattle.net_types.specs.declared.channel.Channel.{Channel}
-use Rattle.net_types.specs.declared.number.Mark.{Mark}
-use Rattle.net_types.specs.Channel.{channel_on_control}
-use Rattle.net_types.specs.Label.{label_channel_of, label_number_of, is_label_number, is_label_channel}
-use Rattle.atm_cells.specs.declared.cell.Cell.{Cell}
-use Rattle.link_model.specs.declared.entries.Entry.{Entry}
-use Rattle.link_model.specs.declared.record.Cause.TheVariants.{Broken, PoolFull, Cut}
-use Rattle.link_model.specs.declared.record.Record.{Record}
-use Rattle.link_model.specs.declared.record.Record.TheVariants.{Loss}
-use Rattle.link_model.specs.Notes.{Journal, noted}
-use Rattle.frame_model.specs.Reassembly.{Reassembly, nothing_taken, cut}
-use Rattle.frame_model.specs.Frame.{frame_cells, made}
-use Rattle.frame_model.specs.Sending.{Sent}
-use Rattle.ordered_lists.specs.Ordered.{Every}
-use Rattle.ordered_lists.proofs.Every.{every_join, every_map}
-use Rattle.keyed_lists.specs.Keyed.{at, put}
-use Rattle.port_model.specs.Port.{Port}
-use Rattle.port_facts.proofs.Keyed.{by_eq, on_both, at_key, at_put_same}
-use Rattle.world_model.specs.Controller.{Controller, Acted, LabelChain, Linked, port_key, free_slots, linked_at, note, chain_of, chains_with, default_channel}
+use Rattle.world_model.specs.Words.{NodeId, PortNo, Place, Down, Up, Out, Channel, Mark, channel_on_control, label_channel_of, label_number_of, is_label_number, is_label_channel, Cell, Entry, Broken, PoolFull, Cut, Record, Loss, Journal, noted, Reassembly, nothing_taken, cut, frame_cells, made, at, put, Controller, LabelChain, Linked, port_key, linked_at, chain_of, chains_with, default_channel, cuts_of, cuts_label, cuts_default_of, cuts_default, ForGsmp, port_on, on_link, same_channel, taker_at, on_channel}
+use Rattle.world_model.specs.frame_model.Sending.{Sent}
+use Rattle.controller_bindings.specs.ordered_lists.Ordered.{Every}
+use Rattle.controller_bindings.proofs.ordered_lists.Every.{every_join, every_map}
+use Rattle.world_model.specs.port_model.Port.{Port}
+use Rattle.controller_bindings.proofs.port_facts.Keyed.{by_eq, on_both, at_key, at_put_same}
+use Rattle.world_model.specs.Controller.{Acted, free_slots, note}
 use Rattle.world_model.specs.Sending.{with_cells, sends}
-use Rattle.world_model.specs.Resets.{cuts_of, cuts_label, cuts_default_of, cuts_default}
-use Rattle.world_model.specs.Cells.{ForGsmp, port_on, on_link, same_channel, taker_at}
-use Rattle.world_model.specs.Ways.{on_channel}
 use Rattle.cell_lists.specs.Causes.{bare}
 use Rattle.cell_lists.proofs.Frames.{IsWhole, whole_frame}
 use Rattle.cell_lists.proofs.Taking.{cut_grows}
@@ -38,7 +19,7 @@ use Rattle.cell_lists.proofs.Real.{Shown, AreApart, IsReal, Clashes, Toggles, st
 use Rattle.causes.proofs.Sizes.{HasLength}
 use Rattle.causes.proofs.Calm.{IsCalm}
 use Rattle.causes.proofs.Rules.{IsNamed, IsAlike, Kept}
-use Rattle.net_types.proofs.Labels.{label_number_of-label_channel_of}
+use Rattle.world_model.proofs.net_types.Labels.{label_number_of-label_channel_of}
 use Rattle.causes.proofs.Spots.{Spot, same_spot, same_number, yields, home, down, up, channels_are, channels_apart, on_join, on_all, on_none, IsOn, frame_on}
 use Rattle.causes.proofs.Ends.{has_cells, label_chain, chain_at, chain_in, open_in, end_for, end_in, nothing_is, put_same, taken_by_port, chain_here, chain_there, label_link, control_parts, parts_of_control}
 

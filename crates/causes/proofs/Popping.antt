@@ -5,18 +5,10 @@ use Rattle.std.specs.Prelude.{◌==◌}
 use Rattle.std.specs.Option.{option_map, option_and_then}
 use Rattle.std.specs.FinMap.{get}
 use Rattle.std.proofs.lemmas.Bool.Decides.{nat_tests}
-use Rattle.net_types.specs.declared.node.Place.{Place}
-use Rattle.net_types.specs.declared.node.Place.TheVariants.{Down, Up, Out}
-use Rattle.net_types.specs.declared.channel.Channel.{Channel}
-use Rattle.atm_cells.specs.declared.cell.Cell.{Cell}
-use Rattle.keyed_lists.specs.Keyed.{at}
-use Rattle.world_model.specs.Topology.{Topology}
-use Rattle.world_model.specs.World.{World, Site, site_key, site_at, with_site}
-use Rattle.world_model.specs.Places.{place_node, queue_at, queue_number, with_queue_in}
-use Rattle.world_model.specs.Ways.{on_channel}
+use Rattle.world_model.specs.Words.{Place, Down, Up, Out, Channel, Cell, at, Topology, World, Site, site_key, site_at, with_site, place_node, queue_at, queue_number, with_queue_in, on_channel}
 use Rattle.world_model.proofs.Lists.{at_key}
 use Rattle.world_model.proofs.Queues.{Sets, sets_down, sets_out}
-use Rattle.port_facts.proofs.Keyed.{by_eq}
+use Rattle.controller_bindings.proofs.port_facts.Keyed.{by_eq}
 use Rattle.causes.proofs.Spots.{Spot, on_head, on_other, channel_self, channels_apart}
 use Rattle.causes.proofs.Shown.{Inlet}
 use Rattle.causes.proofs.Parts.{takers_of, controller_end, shown, shown_at, shown_end, parts_of}

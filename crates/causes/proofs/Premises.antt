@@ -1,10 +1,7 @@
 -- what the law asks of each world of a run
 
 use Rattle.std.proofs.Common.{◌≡◌, true, Some}
-use Rattle.net_types.specs.declared.node.NodeId.{NodeId}
-use Rattle.net_types.specs.declared.channel.Channel.{Channel}
-use Rattle.world_model.specs.Controller.{Controller}
-use Rattle.world_model.specs.World.{World, controller_at}
+use Rattle.world_model.specs.Words.{NodeId, Channel, Controller, World, controller_at}
 use Rattle.causes.specs.Feeding.{IsFedOnce}
 use Rattle.causes.proofs.Ends.{has_cells, chain_in, open_in}
 

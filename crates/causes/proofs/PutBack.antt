@@ -3,16 +3,10 @@
 use Rattle.std.proofs.Common.{◌≡◌, ◌≢◌, ℕ, Bool, true, false, List, Option, None, Some, refl, sym, ◌∙◌, ap, ap₂, subst, if◌then◌else◌}
 use Rattle.std.specs.Prelude.{is_some}
 use Rattle.std.specs.Option.{option_and_then}
-use Rattle.net_types.specs.declared.channel.Channel.{Channel}
-use Rattle.net_types.specs.Channel.{channel_on_control}
-use Rattle.net_types.specs.Label.{label_number_of}
-use Rattle.frame_model.specs.Reassembly.{Reassembly}
-use Rattle.keyed_lists.specs.Keyed.{at, put}
-use Rattle.port_model.specs.Labels.{Label, label_number, is_bound}
-use Rattle.port_model.specs.Port.{label_at, labels_of}
-use Rattle.port_facts.proofs.Keyed.{at_key}
-use Rattle.world_model.specs.Controller.{Controller, Acted, Linked, port_key, chains_with, default_channel}
-use Rattle.world_model.specs.Cells.{Taker, ForGsmp, ForDefault, ForLabel, port_on, on_link, same_channel, label_taker, taker_at, taker_of, with_reassembly}
+use Rattle.world_model.specs.Words.{Channel, channel_on_control, label_number_of, Reassembly, at, put, Label, label_number, is_bound, label_at, labels_of, Controller, Linked, port_key, chains_with, default_channel, ForGsmp, ForDefault, ForLabel, port_on, on_link, same_channel, label_taker, taker_at, taker_of, with_reassembly}
+use Rattle.controller_bindings.proofs.port_facts.Keyed.{at_key}
+use Rattle.world_model.specs.Controller.{Acted}
+use Rattle.world_model.specs.Cells.{Taker}
 use Rattle.causes.proofs.Spots.{channels_are, channels_apart}
 use Rattle.causes.proofs.Ends.{label_chain, chain_at, chain_in, open_in, put_same, put_new, taken_by_port, chain_here, chain_there, label_link, control_parts}
 

@@ -3,36 +3,13 @@
 use Rattle.std.proofs.Common.{◌≡◌, ◌≢◌, ℕ, suc, Bool, true, false, List, [], ◌∷◌, length, map, Option, None, Some, refl, sym, ◌∙◌, ap, ap₂, subst, arith, ◌⊎◌, inl, inr, if◌then◌else◌}
 use Rattle.std.specs.Option.{option_map}
 use Rattle.std.specs.FinMap.{keys}
-use Rattle.net_types.specs.declared.node.NodeId.{NodeId}
-use Rattle.net_types.specs.declared.node.Place.{Place}
-use Rattle.net_types.specs.declared.node.Place.TheVariants.{Down, Up, Out}
-use Rattle.net_types.specs.declared.channel.Channel.{Channel}
-use Rattle.net_types.specs.declared.number.Instance.{Instance}
-use Rattle.net_types.specs.Number.{next_instance}
-use Rattle.atm_cells.specs.declared.cell.Cell.{Cell}
-use Rattle.adjacency_table.specs.Side.{ticked}
-use Rattle.link_model.specs.declared.entries.Entry.{Entry}
-use Rattle.link_model.specs.Notes.{Journal}
-use Rattle.frame_model.specs.Reassembly.{Reassembly, nothing_taken, cut}
-use Rattle.frame_model.specs.Stretch.{stretch_from}
-use Rattle.crossbar_model.specs.Crossbar.{Crossbar}
+use Rattle.world_model.specs.Words.{NodeId, Place, Down, Up, Out, Channel, Instance, next_instance, Cell, ticked, Entry, Journal, Reassembly, nothing_taken, cut, stretch_from, Crossbar, Changed, all_ended, tick_comes, restarted, default_channel, same_channel, Topology, IsTopology, World, Site, site_at, with_site, queue_at, tallied, put_away, OfController, OfSwitch, reassembly_at, cell_for, arrival, cut_turn, Broken, Cut}
 use Rattle.world_model.specs.declared.port.PortState.{PortState}
 use Rattle.world_model.specs.Switch.{Acted, begun as begun_port}
-use Rattle.world_model.specs.Requests.{Changed, all_ended}
-use Rattle.world_model.specs.Conduct.{tick_comes, restarted}
-use Rattle.world_model.specs.Controller.{default_channel}
-use Rattle.world_model.specs.Cells.{same_channel}
 use Rattle.world_model.specs.declared.event.Event.{Event}
-use Rattle.world_model.specs.Topology.{Topology}
-use Rattle.world_model.specs.Conditions.{IsTopology}
-use Rattle.world_model.specs.World.{World, Site, site_at, with_site}
-use Rattle.world_model.specs.Places.{queue_at}
-use Rattle.world_model.specs.Step.{tallied}
-use Rattle.world_model.specs.Run.{put_away}
-use Rattle.world_model.specs.Stretches.{Taker, OfController, OfSwitch, reassembly_at, cell_for, arrival, cut_turn}
-use Rattle.link_model.specs.declared.record.Cause.TheVariants.{Broken, Cut}
-use Rattle.ordered_lists.specs.Ordered.{Every}
-use Rattle.ordered_lists.proofs.Every.{every_map}
+use Rattle.world_model.specs.Stretches.{Taker}
+use Rattle.controller_bindings.specs.ordered_lists.Ordered.{Every}
+use Rattle.controller_bindings.proofs.ordered_lists.Every.{every_map}
 use Rattle.cell_lists.proofs.Taking.{cut_grows}
 use Rattle.cell_lists.proofs.Net.{Takes}
 use Rattle.cell_lists.proofs.Real.{IsReal, real_cuts, real_alike, no_stretch}

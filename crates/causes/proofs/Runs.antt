@@ -6,40 +6,19 @@ use Rattle.std.specs.List.{list_any}
 use Rattle.std.proofs.lemmas.Bool.{and_parts}
 use Rattle.std.proofs.lemmas.Bool.Decides.{nat_tests}
 use Rattle.std.proofs.lemmas.List.Concat.{flat_map-cons}
-use Rattle.net_types.specs.declared.node.Place.{Place}
-use Rattle.net_types.specs.declared.node.Place.TheVariants.{Down, Up, Out}
-use Rattle.net_types.specs.declared.channel.Channel.{Channel}
-use Rattle.net_types.specs.Number.{next_control, with_control}
-use Rattle.net_types.specs.declared.number.Mark.{Mark}
-use Rattle.atm_cells.specs.declared.cell.Cell.{Cell}
-use Rattle.link_model.specs.declared.entries.Entry.{Entry}
-use Rattle.link_model.specs.declared.record.Cause.TheVariants.{PoolFull, Broken}
-use Rattle.link_model.specs.declared.record.Record.{Record}
-use Rattle.link_model.specs.declared.record.Record.TheVariants.{Loss, Forged}
-use Rattle.link_model.specs.Ledger.{same_mark}
-use Rattle.link_model.specs.Notes.{noted}
-use Rattle.link_model.proofs.Marks.{same_mark-Decides}
-use Rattle.frame_model.specs.Frame.{frame_cells, made}
-use Rattle.frame_model.specs.Sending.{Sent, sent_frame}
-use Rattle.frame_model.specs.Stretch.{Turn, Takes, IsCut, stretch_from, open_stretch}
-use Rattle.ordered_lists.specs.Ordered.{Every}
-use Rattle.world_model.specs.Beside.{StandsBesideCause, is_broken, has_mark}
+use Rattle.world_model.specs.Words.{Place, Down, Up, Out, Channel, next_control, with_control, Mark, Cell, Entry, PoolFull, Broken, Record, Loss, Forged, same_mark, noted, frame_cells, made, sent_frame, Turn, Takes, IsCut, stretch_from, open_stretch, StandsBesideCause, is_broken, has_mark, control_port, Policy, Topology, IsTopology, IsEvent, World, Site, site_at, controller_acts, switch_acts, forges_at, put_away, next, worlds_from, run, world_after, records_of, turns_at, turns_of, HasCause, HasCauses, is_wild, IsTame, IsRun}
+use Rattle.world_model.proofs.link_model.Marks.{same_mark-Decides}
+use Rattle.world_model.specs.frame_model.Sending.{Sent}
+use Rattle.controller_bindings.specs.ordered_lists.Ordered.{Every}
 use Rattle.world_model.specs.Switch as switches
-use Rattle.world_model.specs.Switch.{control_port}
 use Rattle.world_model.specs.Conduct as switch
 use Rattle.world_model.specs.Controller.{free_slots}
 use Rattle.world_model.specs.Sending.{with_cells, sends}
-use Rattle.port_model.specs.Setup.{Policy}
 use Rattle.world_model.specs.declared.event.Event.{Event}
 use Rattle.world_model.specs.declared.event.Event.TheVariants.{Inject, Carry, Lose, Tick, TickSwitch, Restart, RestartSwitch, Forge, Route}
-use Rattle.world_model.specs.Topology.{Topology}
-use Rattle.world_model.specs.Conditions.{IsTopology, IsEvent}
-use Rattle.world_model.specs.World.{World, Site, site_at, controller_acts, switch_acts, opened}
-use Rattle.world_model.specs.Step.{note, forges_at}
-use Rattle.world_model.specs.Run.{put_away, next, worlds_from, run, world_after, records_of}
-use Rattle.world_model.specs.Stretches.{Taker, turns_at, turns_of}
-use Rattle.world_model.specs.Causes.{HasCause, HasCauses}
-use Rattle.world_model.specs.Headline.{is_wild, IsTame, IsRun}
+use Rattle.world_model.specs.World.{opened}
+use Rattle.world_model.specs.Step.{note}
+use Rattle.world_model.specs.Stretches.{Taker}
 use Rattle.cell_lists.specs.Causes.{is_cause_of, has_cause}
 use Rattle.cell_lists.proofs.Law.{AtPlace, adds_at}
 use Rattle.causes.specs.Feeding.{IsFedOnce}

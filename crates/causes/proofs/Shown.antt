@@ -4,19 +4,11 @@ use Rattle.std.proofs.Common.{◌≡◌, ◌≢◌, ℕ, suc, ◌≤◌, Bool, t
 use Rattle.std.specs.Prelude.{◌==◌}
 use Rattle.std.specs.Option.{option_map, option_or}
 use Rattle.std.proofs.lemmas.Bool.Decides.{nat_tests}
-use Rattle.net_types.specs.declared.node.NodeId.{NodeId}
-use Rattle.net_types.specs.declared.node.PortNo.{PortNo}
-use Rattle.net_types.specs.declared.node.Place.{Place}
-use Rattle.net_types.specs.declared.node.Place.TheVariants.{Down, Up, Out}
-use Rattle.net_types.specs.declared.channel.Channel.{Channel}
-use Rattle.net_types.specs.declared.channel.End.{End as PortEnd}
-use Rattle.crossbar_model.specs.declared.branch.Branch.{Branch}
-use Rattle.world_model.specs.Controller.{default_channel}
-use Rattle.world_model.specs.Cells.{same_channel}
+use Rattle.world_model.specs.Words.{NodeId, PortNo, Place, Down, Up, Out, Channel, End as PortEnd, default_channel, same_channel, Topology, Link, same_link_end, peer_on, peer_among, IsTopology, IsLink, IsPort, IsNode}
+use Rattle.world_model.specs.crossbar_model.declared.branch.Branch.{Branch}
 use Rattle.world_model.specs.declared.link.LinkEnd.{LinkEnd}
-use Rattle.world_model.specs.Topology.{Topology, Link, same_link_end, peer_on, peer_among, peer_of}
-use Rattle.world_model.specs.Conditions.{IsTopology, IsLink, IsPort, IsNode}
-use Rattle.port_facts.proofs.Keyed.{by_eq}
+use Rattle.world_model.specs.Topology.{peer_of}
+use Rattle.controller_bindings.proofs.port_facts.Keyed.{by_eq}
 use Rattle.cell_lists.proofs.Net.{End, Leads, Nowhere}
 use Rattle.causes.proofs.Spots.{Spot, same_spot, down, up, out}
 

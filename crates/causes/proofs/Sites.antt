@@ -4,18 +4,9 @@ use Rattle.std.proofs.Common.{◌≡◌, ◌≢◌, ℕ, Bool, true, false, List
 use Rattle.std.specs.Prelude.{nat_eq}
 use Rattle.std.specs.Option.{option_map, option_map_or, option_and_then}
 use Rattle.std.specs.FinMap.{get}
-use Rattle.net_types.specs.declared.node.NodeId.{NodeId}
-use Rattle.net_types.specs.declared.node.Place.{Place}
-use Rattle.net_types.specs.declared.node.Place.TheVariants.{Down, Up, Out}
-use Rattle.atm_cells.specs.declared.cell.Cell.{Cell}
-use Rattle.crossbar_model.specs.Crossbar.{queue_of}
-use Rattle.keyed_lists.specs.Keyed.{at, put}
-use Rattle.world_model.specs.Topology.{Topology}
-use Rattle.world_model.specs.World.{World, Site, site_key, site_at, with_site}
-use Rattle.world_model.specs.Places.{place_node, queue_in, queue_at}
-use Rattle.world_model.specs.Ways.{on_channel}
+use Rattle.world_model.specs.Words.{NodeId, Place, Down, Up, Out, Cell, queue_of, at, put, Topology, World, Site, site_key, site_at, with_site, place_node, queue_in, queue_at, on_channel}
 use Rattle.world_model.proofs.Lists.{at_put_same, at_put_other}
-use Rattle.port_facts.proofs.Keyed.{by_eq}
+use Rattle.controller_bindings.proofs.port_facts.Keyed.{by_eq}
 use Rattle.causes.specs.Feeding.{branch_at}
 use Rattle.causes.proofs.Spots.{Spot}
 use Rattle.causes.proofs.Ends.{end_in}

@@ -6,43 +6,27 @@ use Rattle.std.specs.Option.{option_or}
 use Rattle.std.specs.Int.{w32, to_be_bytes}
 use Rattle.std.proofs.Math.ListN.{length-set}
 use Rattle.std.proofs.lemmas.Bool.Decides.{nat_tests}
-use Rattle.net_types.specs.declared.prefix.Addr.{Addr}
-use Rattle.net_types.specs.declared.adjacency.Greeting.{Greeting}
-use Rattle.net_types.specs.declared.adjacency.Party.{Party}
-use Rattle.net_types.specs.declared.adjacency.HelloKind.{HelloKind}
-use Rattle.port_facts.proofs.Keyed.{on_both}
-use Rattle.ipv4_packet.specs.Packet.{canonical, with_ttl, ttl_of, total_length_of, header_sum, first_fault, ifmp_packet_of, ifmp_header}
-use Rattle.ipv4_packet.specs.declared.validate.PacketFault.{PacketFault}
-use Rattle.ipv4_packet.specs.declared.validate.PacketFault.TheVariants as faults
-use Rattle.ipv4_packet.specs.declared.validate.PacketFault.TheVariants.{Short, Version, Options, TooLong}
-use Rattle.ipv4_packet.proofs.HeaderLemmas.{on_header, length-canonical}
-use Rattle.ipv4_forward.specs.Hop.{onward}
-use Rattle.ipv4_packet.specs.declared.flow.FlowId.{FlowId}
-use Rattle.ipv4_packet.specs.declared.flow.FlowId.TheVariants.{One, Two}
-use Rattle.ipv4_packet.specs.declared.flow.FlowKind.{FlowKind}
-use Rattle.ipv4_packet.specs.declared.flow.FlowKind.TheVariants.{One as ConnectionKind, Two as HostsKind}
-use Rattle.ipv4_packet.specs.Flow.{kind_of}
-use Rattle.ipv4_packet.specs.Identifier.{identifier}
-use Rattle.flow_encaps.specs.Default.{default_payload}
-use Rattle.flow_encaps.specs.Labelled.{labelled_payload, rebuilt, unwrap_fault, layout_fault, checksum_fault, head_size, left_out, said_length, has_zeros}
-use Rattle.flow_encaps.specs.Unwrapped.{unwrapped, unwrapped_by}
-use Rattle.flow_encaps.specs.declared.default.EncapsFault.{EncapsFault}
-use Rattle.flow_encaps.specs.declared.default.EncapsFault.TheVariants.{Reserved, Short as EncapsShort, Length as EncapsLength}
-use Rattle.flow_encaps.proofs.RebuiltLemmas.{length-rebuilt, long-rebuilt}
-use Rattle.ifmp_wire.specs.declared.message.Message.{Message as IfmpMessage}
-use Rattle.ifmp_wire.specs.declared.message.Message.TheVariants as said
-use Rattle.ifmp_wire.specs.Message.{octets_of as ifmp_octets}
-use Rattle.gsmp_wire.specs.declared.message.Message.{Message as GsmpMessage}
-use Rattle.gsmp_wire.specs.declared.message.Message.TheVariants as messages
-use Rattle.gsmp_wire.specs.declared.request.Request.{Request}
-use Rattle.gsmp_wire.specs.declared.request.Request.TheVariants.{AddBranch, MoveBranch, DeleteTree, VerifyTree, DeleteAll, PortManagement, AllPorts}
-use Rattle.gsmp_wire.specs.declared.rows.PortRow.{PortRow}
-use Rattle.gsmp_wire.specs.declared.fault.Fault.{Fault as GsmpFault}
-use Rattle.gsmp_wire.specs.Refusal.{refusal, type_of}
-use Rattle.gsmp_wire.specs.Fields.{hello_kind, party_in, decoded_by, decoded as gsmp_decoded}
-use Rattle.gsmp_wire.specs.Layout.{octets_of as gsmp_octets, rows_octets}
-use Rattle.port_model.specs.Desk.{Desk, Standing, message_at}
-use Rattle.port_model.specs.Messages.{message_of}
+use Rattle.world_model.specs.Words.{Addr, Greeting, Party, HelloKind, canonical, with_ttl, ttl_of, total_length_of, header_sum, ifmp_packet_of, ifmp_header, PacketFault, Version, Options, TooLong, onward, FlowId, FlowKind, kind_of, identifier, default_payload, labelled_payload, rebuilt, unwrap_fault, layout_fault, checksum_fault, head_size, left_out, said_length, unwrapped, unwrapped_by, EncapsFault, Request, AddBranch, MoveBranch, DeleteTree, VerifyTree, PortManagement, PortRow, refusal, type_of, hello_kind, party_in, rows_octets, Desk, Standing, message_of}
+use Rattle.controller_bindings.proofs.port_facts.Keyed.{on_both}
+use Rattle.world_model.specs.ipv4_packet.Packet.{first_fault}
+use Rattle.world_model.specs.ipv4_packet.declared.validate.PacketFault.TheVariants as faults
+use Rattle.world_model.specs.ipv4_packet.declared.validate.PacketFault.TheVariants.{Short}
+use Rattle.world_model.proofs.ipv4_packet.HeaderLemmas.{on_header, length-canonical}
+use Rattle.world_model.specs.ipv4_packet.declared.flow.FlowId.TheVariants.{One, Two}
+use Rattle.world_model.specs.ipv4_packet.declared.flow.FlowKind.TheVariants.{One as ConnectionKind, Two as HostsKind}
+use Rattle.world_model.specs.flow_encaps.Labelled.{has_zeros}
+use Rattle.world_model.specs.flow_encaps.declared.default.EncapsFault.TheVariants.{Reserved, Short as EncapsShort, Length as EncapsLength}
+use Rattle.world_model.proofs.flow_encaps.RebuiltLemmas.{length-rebuilt, long-rebuilt}
+use Rattle.world_model.specs.ifmp_wire.declared.message.Message.{Message as IfmpMessage}
+use Rattle.world_model.specs.ifmp_wire.declared.message.Message.TheVariants as said
+use Rattle.world_model.specs.ifmp_wire.Message.{octets_of as ifmp_octets}
+use Rattle.world_model.specs.gsmp_wire.declared.message.Message.{Message as GsmpMessage}
+use Rattle.world_model.specs.gsmp_wire.declared.message.Message.TheVariants as messages
+use Rattle.world_model.specs.gsmp_wire.declared.request.Request.TheVariants.{DeleteAll, AllPorts}
+use Rattle.world_model.specs.gsmp_wire.declared.fault.Fault.{Fault as GsmpFault}
+use Rattle.world_model.specs.gsmp_wire.Fields.{decoded_by, decoded as gsmp_decoded}
+use Rattle.world_model.specs.gsmp_wire.Layout.{octets_of as gsmp_octets}
+use Rattle.world_model.specs.port_model.Desk.{message_at}
 
 abbrev pub HasLength : List ℕ → Type 0
 HasLength payload = (1 ≤ length payload) × (length payload ≤ 1528)

@@ -4,21 +4,11 @@ use Rattle.std.proofs.Common.{◌≡◌, ◌≢◌, ℕ, Bool, true, false, true
 use Rattle.std.specs.Prelude.{◌==◌}
 use Rattle.std.specs.List.{range_with_len}
 use Rattle.std.proofs.lemmas.Bool.Decides.{nat_tests}
-use Rattle.net_types.specs.declared.node.NodeId.{NodeId}
-use Rattle.net_types.specs.declared.node.PortNo.{PortNo}
-use Rattle.net_types.specs.declared.node.Place.{Place}
-use Rattle.net_types.specs.declared.node.Place.TheVariants.{Down, Up, Out}
-use Rattle.net_types.specs.declared.channel.Channel.{Channel}
-use Rattle.net_types.specs.declared.number.Mark.{Mark}
-use Rattle.net_types.specs.Channel.{channel_on_control}
-use Rattle.atm_cells.specs.declared.cell.Cell.{Cell}
-use Rattle.aal5_frames.specs.Frame.{cell_of, cells_for, pdu_of}
-use Rattle.aal5_frames.proofs.Cells.{cells_all, length-pdu_of}
-use Rattle.frame_model.specs.Frame.{frame_cells}
-use Rattle.ordered_lists.specs.Ordered.{Every}
-use Rattle.world_model.specs.Cells.{same_channel}
-use Rattle.port_facts.proofs.Keyed.{by_eq}
-use Rattle.world_model.specs.Ways.{on_channel}
+use Rattle.world_model.specs.Words.{NodeId, PortNo, Place, Down, Up, Out, Channel, Mark, channel_on_control, Cell, frame_cells, same_channel, on_channel}
+use Rattle.lifetimes.specs.aal5_frames.Frame.{cell_of, cells_for, pdu_of}
+use Rattle.lifetimes.proofs.aal5_frames.Cells.{cells_all, length-pdu_of}
+use Rattle.controller_bindings.specs.ordered_lists.Ordered.{Every}
+use Rattle.controller_bindings.proofs.port_facts.Keyed.{by_eq}
 
 -- *Channels*
 pub channels_are : (a b : Channel) → same_channel a b ≡ true → a ≡ b

@@ -4,26 +4,10 @@ use Rattle.std.proofs.Common.{◌≡◌, ◌≢◌, ℕ, ◌<◌, Bool, true, fa
 use Rattle.std.specs.Prelude.{◌==◌}
 use Rattle.std.specs.Option.{option_map, option_map_or, option_and_then}
 use Rattle.std.specs.FinMap.{get}
-use Rattle.net_types.specs.declared.node.NodeId.{NodeId}
-use Rattle.net_types.specs.declared.node.PortNo.{PortNo}
-use Rattle.net_types.specs.declared.node.Place.{Place}
-use Rattle.net_types.specs.declared.node.Place.TheVariants.{Down, Up, Out}
-use Rattle.net_types.specs.declared.channel.Channel.{Channel}
-use Rattle.net_types.specs.declared.channel.End.{End as PortEnd}
-use Rattle.atm_cells.specs.declared.cell.Cell.{Cell}
-use Rattle.frame_model.specs.Reassembly.{Reassembly}
-use Rattle.ordered_lists.specs.Ordered.{Every}
-use Rattle.crossbar_model.specs.Crossbar.{Crossbar, queue_of, sent}
-use Rattle.keyed_lists.specs.Keyed.{at}
-use Rattle.world_model.specs.Controller.{default_channel}
-use Rattle.world_model.specs.Cells.{same_channel}
-use Rattle.world_model.specs.Topology.{Topology}
-use Rattle.world_model.specs.Conditions.{IsTopology}
-use Rattle.world_model.specs.World.{World, Site, site_key, site_at, with_site}
-use Rattle.world_model.specs.Places.{place_node, queue_in, queue_at}
-use Rattle.world_model.specs.Ways.{on_channel}
+use Rattle.world_model.specs.Words.{NodeId, PortNo, Place, Down, Up, Out, Channel, End as PortEnd, Cell, Reassembly, Crossbar, queue_of, sent, at, default_channel, same_channel, Topology, IsTopology, World, Site, site_key, site_at, with_site, place_node, queue_in, queue_at, on_channel}
+use Rattle.controller_bindings.specs.ordered_lists.Ordered.{Every}
 use Rattle.world_model.proofs.Lists.{at_key, index_set, index_here}
-use Rattle.port_facts.proofs.Keyed.{by_eq}
+use Rattle.controller_bindings.proofs.port_facts.Keyed.{by_eq}
 use Rattle.cell_lists.proofs.Net.{Takes}
 use Rattle.causes.specs.Feeding.{branch_at}
 use Rattle.causes.proofs.Spots.{Spot, down, up, out, IsOn, on_join, on_all, on_none}

@@ -4,19 +4,10 @@ use Rattle.std.proofs.Common.{◌≡◌, ℕ, suc, Bool, true, false, true≢fal
 use Rattle.std.specs.Prelude.{◌==◌, ◌&&◌, ◌||◌, nat_lt, nat_le, is_some, option_map}
 use Rattle.std.specs.Option.{option_and_then}
 use Rattle.std.proofs.lemmas.Bool.Decides.{nat_tests}
-use Rattle.net_types.specs.declared.node.NodeId.{NodeId}
-use Rattle.net_types.specs.declared.node.Place.{Place}
-use Rattle.net_types.specs.declared.node.Place.TheVariants.{Down, Up, Out}
-use Rattle.net_types.specs.declared.channel.Channel.{Channel}
-use Rattle.atm_cells.specs.declared.cell.Cell.{Cell}
-use Rattle.link_model.specs.Notes.{Journal}
-use Rattle.frame_model.specs.Reassembly.{Reassembly, taken, passed_over, without_slot, too_long, nothing_taken, most_cells}
-use Rattle.frame_model.specs.Stretch.{Takes, IsCut, stretch_from}
-use Rattle.world_model.specs.Controller.{Controller, default_channel}
-use Rattle.world_model.specs.Cells.{taker_of, reassembly_of, same_channel}
+use Rattle.world_model.specs.Words.{NodeId, Place, Down, Up, Out, Channel, Cell, Journal, Reassembly, passed_over, without_slot, too_long, nothing_taken, most_cells, Takes, IsCut, stretch_from, Controller, default_channel, taker_of, reassembly_of, same_channel, World, controller_at, OfController, OfSwitch, reassembly_at, has_slot, cell_for, arrival, taken_at, left_by, is_nothing, cut_turn, cell_turn, turns_at}
+use Rattle.world_model.specs.frame_model.Reassembly.{taken}
 use Rattle.world_model.specs.Cells as cells
-use Rattle.world_model.specs.World.{World, controller_at}
-use Rattle.world_model.specs.Stretches.{Taker, OfController, OfSwitch, reassembly_at, has_slot, cell_for, arrival, taken_at, left_by, is_nothing, cut_turn, cell_turn, turns_at}
+use Rattle.world_model.specs.Stretches.{Taker}
 use Rattle.world_model.specs.declared.event.Event.{Event}
 use Rattle.causes.proofs.Spots.{Spot}
 use Rattle.causes.proofs.Ends.{has_cells, chain_in, open_in, taken_chain}

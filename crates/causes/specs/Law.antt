@@ -1,16 +1,10 @@
 -- What is so of every run
 
 use Rattle.std.specs.Prelude.{◌≡◌, List, ◌++◌, Some}
-use Rattle.net_types.specs.declared.node.NodeId.{NodeId}
-use Rattle.ordered_lists.specs.Ordered.{Every}
-use Rattle.port_model.specs.Setup.{Policy}
-use Rattle.world_model.specs.Controller.{Controller, Linked}
+use Rattle.world_model.specs.Words.{NodeId, Policy, Controller, Linked, Topology, controller_at, run, world_after, records_of, HasCauses, IsTame, IsRun}
+use Rattle.controller_bindings.specs.ordered_lists.Ordered.{Every}
 use Rattle.world_model.specs.declared.event.Event.{Event}
-use Rattle.world_model.specs.Topology.{Topology}
-use Rattle.world_model.specs.World.{controller_at, opened}
-use Rattle.world_model.specs.Run.{run, world_after, records_of}
-use Rattle.world_model.specs.Causes.{HasCauses}
-use Rattle.world_model.specs.Headline.{IsTame, IsRun}
+use Rattle.world_model.specs.World.{opened}
 use Rattle.controller_bindings.specs.Bindings.{IsOfBound}
 use Rattle.causes.specs.Feeding.{IsFedOnce}
 

@@ -6,14 +6,12 @@ use Rattle.std.specs.Int.{w16, w32, to_be_bytes}
 use Rattle.std.proofs.lemmas.Bool.Decides.{nat_tests}
 use Rattle.std.proofs.lemmas.List.{take_at, take_all}
 use Rattle.std.proofs.lemmas.List.FromFn.{map-range_with_len_more, length-map-range_with_len}
-use Rattle.net_types.specs.declared.channel.Channel.{Channel}
-use Rattle.net_types.specs.declared.number.Mark.{Mark}
-use Rattle.atm_cells.specs.declared.cell.Cell.{Cell}
+use Rattle.world_model.specs.Words.{Channel, Mark, Cell, frame_cells, payload_in, payload_by}
 use Rattle.aal5_frames.specs.Crc.{crc_of}
 use Rattle.aal5_frames.specs.Frame.{cell_of, cells_for, pdu_of, pdu_fault, pdu_front, length_field, IsPdu}
 use Rattle.aal5_frames.proofs.Cells.{cells_all, gathered, length-pdu_of, IsPdu-pdu_of}
 use Rattle.aal5_frames.proofs.Trailer.{pdu_passes}
-use Rattle.frame_model.specs.Frame.{frame_cells, octets_of, payload_in, payload_by}
+use Rattle.world_model.specs.frame_model.Frame.{octets_of}
 use Rattle.ordered_lists.specs.Ordered.{Every}
 use Rattle.ordered_lists.proofs.Every.{every_join, every_right, every_map}
 use Rattle.cell_lists.specs.Causes.{plain, bare}

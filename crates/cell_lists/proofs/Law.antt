@@ -1,10 +1,7 @@
 -- an entry Broken at a place stands in the stretch, behind an entry of another cause for a mark of the stretch
 
 use Rattle.std.proofs.Common.{◌≡◌, ℕ, zero, suc, ◌+◌, true, List, [], ◌∷◌, ◌++◌, length, Some, slice_get, sym, ◌∙◌, ap, subst, arith, append_assoc, length-append}
-use Rattle.atm_cells.specs.declared.cell.Cell.{Cell}
-use Rattle.link_model.specs.declared.entries.Entry.{Entry}
-use Rattle.link_model.specs.declared.record.Cause.TheVariants.{Broken}
-use Rattle.world_model.specs.Beside.{has_mark}
+use Rattle.world_model.specs.Words.{Cell, Entry, Broken, has_mark}
 use Rattle.cell_lists.specs.Causes.{is_caused}
 use Rattle.cell_lists.proofs.Taking.{Beside, Adds}
 

@@ -2,12 +2,8 @@
 -- holds is said of each list alone, and of each list with the one that feeds it.
 
 use Rattle.std.proofs.Common.{◌≡◌, ◌≢◌, Bool, true, List, [], ◌∷◌, ◌++◌, map, Option, None, Some, refl, sym, ◌∙◌, ap, subst, ◌⊎◌, inl, inr}
-use Rattle.net_types.specs.declared.number.Mark.{Mark}
-use Rattle.atm_cells.specs.declared.cell.Cell.{Cell}
-use Rattle.link_model.specs.declared.entries.Entry.{Entry}
-use Rattle.link_model.specs.Notes.{Journal}
-use Rattle.frame_model.specs.Reassembly.{Reassembly, Taken, taken, nothing_taken, cut}
-use Rattle.crossbar_model.specs.Crossbar.{unfinished_after}
+use Rattle.world_model.specs.Words.{Mark, Cell, Entry, Journal, Reassembly, nothing_taken, cut, unfinished_after}
+use Rattle.world_model.specs.frame_model.Reassembly.{Taken, taken}
 use Rattle.ordered_lists.specs.Ordered.{Every}
 use Rattle.ordered_lists.proofs.Every.{every_map}
 use Rattle.cell_lists.specs.Causes.{has_cause, bare}

@@ -2,13 +2,8 @@
 -- most one may be another than its home; a home yields to it, and is empty then.
 
 use Rattle.std.proofs.Common.{◌≡◌, ◌≢◌, Bool, true, false, true≢false, List, [], ◌∷◌, ◌++◌, map, Option, None, Some, refl, sym, ◌∙◌, ap, subst, ◌⊎◌, inl, inr}
-use Rattle.net_types.specs.declared.number.Mark.{Mark}
-use Rattle.atm_cells.specs.declared.cell.Cell.{Cell}
-use Rattle.link_model.specs.declared.entries.Entry.{Entry}
-use Rattle.link_model.specs.Notes.{Journal}
-use Rattle.frame_model.specs.Reassembly.{Reassembly, Taken, taken, nothing_taken, cut}
-use Rattle.frame_model.specs.Frame.{tested}
-use Rattle.crossbar_model.specs.Crossbar.{unfinished_after}
+use Rattle.world_model.specs.Words.{Mark, Cell, Entry, Journal, Reassembly, nothing_taken, cut, tested, unfinished_after}
+use Rattle.world_model.specs.frame_model.Reassembly.{Taken, taken}
 use Rattle.cell_lists.specs.Causes.{has_cause, bare}
 use Rattle.cell_lists.proofs.Frames.{IsWhole}
 use Rattle.cell_lists.proofs.Streams.{IsTorn}

@@ -2,9 +2,7 @@
 -- open in front of the cells, `t` what is still to come of the one that is open behind them
 
 use Rattle.std.proofs.Common.{◌≡◌, true, List, [], ◌∷◌, ◌++◌, map, refl, sym, ◌∙◌, ap, subst, append_assoc, ◌⊎◌, inl, inr}
-use Rattle.net_types.specs.declared.number.Mark.{Mark}
-use Rattle.atm_cells.specs.declared.cell.Cell.{Cell}
-use Rattle.link_model.specs.declared.entries.Entry.{Entry}
+use Rattle.world_model.specs.Words.{Mark, Cell, Entry}
 use Rattle.ordered_lists.specs.Ordered.{Every}
 use Rattle.ordered_lists.proofs.Every.{every_map}
 use Rattle.cell_lists.specs.Causes.{has_cause, is_cause_of, bare}

@@ -1,11 +1,8 @@
 -- where the cells end: the stretch of a channel, and what is to come of the frame that is open
 
 use Rattle.std.proofs.Common.{◌≡◌, suc, ◌≤◌, Bool, true, false, List, [], ◌∷◌, ◌++◌, map, length, None, refl, sym, ◌∙◌, ap, subst, arith, append_assoc, append-nil, length-append, ◌⊎◌, inl, inr}
-use Rattle.net_types.specs.declared.number.Mark.{Mark}
-use Rattle.atm_cells.specs.declared.cell.Cell.{Cell}
-use Rattle.link_model.specs.declared.entries.Entry.{Entry}
-use Rattle.link_model.specs.Ledger.{same_mark, has_entry}
-use Rattle.frame_model.specs.Frame.{payload_in, octets_of}
+use Rattle.world_model.specs.Words.{Mark, Cell, Entry, same_mark, has_entry, payload_in}
+use Rattle.world_model.specs.frame_model.Frame.{octets_of}
 use Rattle.ordered_lists.specs.Ordered.{Every}
 use Rattle.ordered_lists.proofs.Every.{every_map, every_left, every_right}
 use Rattle.cell_lists.specs.Causes.{has_cause, is_caused, bare}

@@ -3,20 +3,12 @@
 use Rattle.std.proofs.Common.{◌≡◌, ◌≢◌, ℕ, ◌≤◌, Bool, true, false, not, if◌then◌else◌, List, [], ◌∷◌, ◌++◌, map, filter, length, Option, None, Some, nat_le, refl, sym, ◌∙◌, ap, subst, arith, append_assoc, append-nil, ◌⊎◌, inl, inr}
 use Rattle.std.specs.List.{list_any}
 use Rattle.std.proofs.lemmas.Bool.Decides.{nat_tests}
-use Rattle.net_types.specs.declared.number.Mark.{Mark}
-use Rattle.atm_cells.specs.declared.cell.Cell.{Cell}
-use Rattle.link_model.specs.declared.entries.Entry.{Entry}
-use Rattle.link_model.specs.declared.record.Cause.{Cause}
-use Rattle.link_model.specs.declared.record.Cause.TheVariants.{Broken, Cut, PoolFull}
-use Rattle.link_model.specs.declared.record.Record.TheVariants.{Loss, Chance}
-use Rattle.link_model.specs.Ledger.{same_mark, has_entry, is_frame}
-use Rattle.link_model.specs.Notes.{Journal, noted}
-use Rattle.link_model.proofs.Marks.{same_mark-Decides}
-use Rattle.frame_model.specs.Reassembly.{Reassembly, Taken, taken, broken, marks_of, most_cells, skipping_from, nothing_taken, distinct, noted_all, cut}
-use Rattle.frame_model.specs.Frame.{payload_in, octets_of, tested, tested_by, passed, last_mark}
+use Rattle.world_model.specs.Words.{Mark, Cell, Entry, Cause, Broken, Cut, PoolFull, Loss, Chance, same_mark, has_entry, is_frame, Journal, noted, Reassembly, broken, marks_of, most_cells, skipping_from, nothing_taken, distinct, noted_all, cut, payload_in, tested, tested_by, last_mark, has_mark}
+use Rattle.world_model.proofs.link_model.Marks.{same_mark-Decides}
+use Rattle.world_model.specs.frame_model.Reassembly.{Taken, taken}
+use Rattle.world_model.specs.frame_model.Frame.{octets_of, passed}
 use Rattle.ordered_lists.specs.Ordered.{Every}
 use Rattle.ordered_lists.proofs.Every.{every_map, every_left}
-use Rattle.world_model.specs.Beside.{has_mark}
 use Rattle.cell_lists.specs.Causes.{has_cause, is_cause_of, is_caused, bare}
 use Rattle.cell_lists.proofs.Lists.{any_front, any_back, if_cases}
 use Rattle.cell_lists.proofs.Frames.{IsWhole, IsOf, marks_behind}

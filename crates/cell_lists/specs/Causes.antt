@@ -2,12 +2,7 @@
 
 use Rattle.std.specs.Prelude.{Bool, not, ◌&&◌, List}
 use Rattle.std.specs.List.{list_any}
-use Rattle.net_types.specs.declared.channel.Channel.{Channel}
-use Rattle.net_types.specs.declared.number.Mark.{Mark}
-use Rattle.atm_cells.specs.declared.cell.Cell.{Cell}
-use Rattle.link_model.specs.declared.entries.Entry.{Entry}
-use Rattle.link_model.specs.Ledger.{same_mark}
-use Rattle.world_model.specs.Beside.{is_broken}
+use Rattle.world_model.specs.Words.{Channel, Mark, Cell, Entry, same_mark, is_broken}
 
 abbrev pub is_cause_of : Mark → Entry → Bool
 is_cause_of mark entry = same_mark entry.mark mark && not (is_broken entry.cause)

@@ -3,13 +3,10 @@
 use Rattle.std.proofs.Common.{◌≡◌, ℕ, Bool, true, false, cond, not, ◌||◌, Option, None, Some, refl, sym, ◌∙◌, ap, inl, inr}
 use Rattle.std.specs.Prelude.{◌==◌}
 use Rattle.std.specs.FinMap.{get, insert, remove, retain_keys}
-use Rattle.net_types.specs.declared.channel.End.{End}
-use Rattle.crossbar_model.specs.Crossbar.{same_end}
-use Rattle.gsmp_wire.specs.declared.request.Request.{Request}
-use Rattle.gsmp_wire.specs.declared.request.Request.TheVariants.{AddBranch, MoveBranch, DeleteTree, VerifyTree, DeleteAll, PortManagement, AllPorts}
+use Rattle.world_model.specs.Words.{End, same_end, Request, AddBranch, MoveBranch, DeleteTree, VerifyTree, PortManagement, leads_elsewhere}
+use Rattle.world_model.specs.gsmp_wire.declared.request.Request.TheVariants.{DeleteAll, AllPorts}
 use Rattle.world_model.specs.declared.request.Failure.{Failure}
 use Rattle.world_model.specs.declared.request.Failure.TheVariants.{NoPort, OutOfRange, Busy, NoConnection}
-use Rattle.world_model.specs.Failures.{leads_elsewhere}
 use Rattle.console_model.specs.Plain.{Links, is_busy, leads_there, lacks_branch, applies, failure_of, success, answer_by, answer, changed, after_by, after}
 use Rattle.console_laws.specs.Again.{IsSame, ComesAgain}
 use Rattle.console_laws.proofs.Maps.{same_input, same_self, insert_here, insert_away, remove_here, remove_away, retained}

@@ -2,8 +2,7 @@
 
 use Rattle.std.proofs.Common.{◌≡◌, ℕ, zero, suc, ◌+◌, ◌<◌, ◌≤◌, List, [], ◌∷◌, ◌++◌, length, take, slice_get, fold, Some, refl, sym, ◌∙◌, ap, subst, arith, add-one}
 use Rattle.std.specs.FinMap.{empty, get-empty}
-use Rattle.crossbar_model.specs.Channels.{end_cmp}
-use Rattle.gsmp_wire.specs.declared.request.Request.{Request}
+use Rattle.world_model.specs.Words.{end_cmp, Request}
 use Rattle.ordered_lists.specs.Ordered.{Every}
 use Rattle.console_model.specs.declared.reply.Reply.{Reply}
 use Rattle.console_model.specs.Plain.{Links, answer, after, map_after, answers_on, answers_of}

@@ -2,23 +2,12 @@
 
 use Rattle.std.proofs.Common.{◌≡◌, ℕ, ◌+◌, ◌==◌, ◌&&◌, Bool, true, false, not, List, [], ◌∷◌, ◌++◌, length, filter, slice_get, Option, None, Some, refl, sym, ◌∙◌, ap, subst, arith}
 use Rattle.std.specs.Option.{option_map_or}
-use Rattle.net_types.specs.declared.adjacency.Greeting.{Greeting}
-use Rattle.net_types.specs.declared.adjacency.HelloKind.{HelloKind}
-use Rattle.net_types.specs.declared.adjacency.Party.{Party}
-use Rattle.adjacency_table.specs.declared.message.Answer.{Answer}
-use Rattle.adjacency_table.specs.declared.message.Heard.{Heard}
-use Rattle.adjacency_table.specs.declared.message.Said.{Said}
-use Rattle.adjacency_table.specs.Side.{Side, Step, is_estab, said as says_as, answer_to, answer_of, opened as opens, is_entry, followed, counted, followed_tick, ticked}
-use Rattle.adjacency_table.specs.Table.{Reply, Silent, Says, Resets, Row, row, tick_reply}
-use Rattle.adjacency_table.specs.Greeting.{same_party, heard_in, greeting_of, gsmp_answer, gsmp_received}
-use Rattle.gsmp_wire.specs.declared.message.Message.TheVariants as messages
-use Rattle.gsmp_wire.specs.declared.request.Request.{Request}
-use Rattle.gsmp_wire.specs.declared.request.Request.TheVariants.{AllPorts}
-use Rattle.gsmp_wire.specs.declared.rows.PortRow.{PortRow}
-use Rattle.gsmp_wire.specs.Layout.{octets_of}
-use Rattle.port_model.specs.Desk.{Desk, Standing, asked}
-use Rattle.port_model.specs.Messages.{message_of}
-use Rattle.port_model.specs.Requests.{withdraws}
+use Rattle.world_model.specs.Words.{Greeting, HelloKind, Party, Answer, Heard, Said, Side, Step, is_estab, said as says_as, answer_to, answer_of, is_entry, followed, followed_tick, ticked, Reply, Silent, Says, Resets, Row, row, tick_reply, same_party, heard_in, greeting_of, gsmp_answer, gsmp_received, Request, PortRow, Desk, Standing, message_of, withdraws}
+use Rattle.world_model.specs.adjacency_table.Side.{opened as opens, counted}
+use Rattle.world_model.specs.gsmp_wire.declared.message.Message.TheVariants as messages
+use Rattle.world_model.specs.gsmp_wire.declared.request.Request.TheVariants.{AllPorts}
+use Rattle.world_model.specs.gsmp_wire.Layout.{octets_of}
+use Rattle.world_model.specs.port_model.Desk.{asked}
 use Rattle.console_model.specs.Lab.{Lab, with_desk, with_side}
 use Rattle.console_model.specs.Asking.{says, sends_request, asks, meets, next_command, may_ask, asks_by, asks_next, resets}
 use Rattle.console_model.specs.Hearing.{follows, steps}

@@ -3,22 +3,14 @@
 use Rattle.std.proofs.Common.{◌≡◌, ℕ, ◌+◌, ◌<◌, ◌≤◌, List, [], ◌∷◌, ◌++◌, length, take, slice_get, Some, refl, sym, ◌∙◌, ap, subst, arith}
 use Rattle.std.specs.Prelude.{◌/◌}
 use Rattle.std.specs.List.{range_with_len}
-use Rattle.net_types.specs.declared.adjacency.Greeting.{Greeting}
-use Rattle.net_types.specs.declared.channel.Channel.{Channel}
-use Rattle.net_types.specs.declared.number.Mark.{Mark}
-use Rattle.atm_cells.specs.declared.cell.Cell.{Cell}
+use Rattle.world_model.specs.Words.{Greeting, Channel, Mark, Cell, Request, payload_of, frame_cells, message_of, gsmp_channel}
 use Rattle.aal5_frames.specs.Frame.{cells_with, cell_of, pdu_of}
-use Rattle.gsmp_wire.specs.declared.message.Message.TheVariants as messages
-use Rattle.gsmp_wire.specs.declared.request.Request.{Request}
-use Rattle.gsmp_wire.specs.declared.request.Request.TheVariants.{AllPorts}
-use Rattle.gsmp_wire.specs.Layout.{octets_of}
-use Rattle.link_model.specs.Ledger.{payload_of}
-use Rattle.frame_model.specs.Frame.{frame_cells}
+use Rattle.world_model.specs.gsmp_wire.declared.message.Message.TheVariants as messages
+use Rattle.world_model.specs.gsmp_wire.declared.request.Request.TheVariants.{AllPorts}
+use Rattle.world_model.specs.gsmp_wire.Layout.{octets_of}
 use Rattle.ordered_lists.specs.Ordered.{Every}
 use Rattle.ordered_lists.proofs.Every.{every_map, every_mapped, every_all}
-use Rattle.port_model.specs.Messages.{message_of}
 use Rattle.console_laws.proofs.Frames.{made_is, made_elsewhere}
-use Rattle.world_model.specs.Switch.{gsmp_channel}
 use Rattle.console_model.specs.Plain.{answer, map_after}
 use Rattle.console_laws.specs.Words.{first_rows, Course, SuitsList, SuitsCommand, IsAsked, greeting_asked, list_asked, command_asked, Tells, IsTold, greeting_told, list_told, answer_told, Made, IsOf, Answers, AreAsked}
 

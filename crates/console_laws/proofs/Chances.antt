@@ -4,39 +4,20 @@ use Rattle.std.proofs.Common.{◌≡◌, ℕ, Bool, true, false, ◌||◌, List,
 use Rattle.std.specs.Prelude.{◌&&◌, ◌==◌}
 use Rattle.std.specs.List.{list_any}
 use Rattle.std.specs.FinMap.{get}
-use Rattle.net_types.specs.declared.channel.End.{End}
-use Rattle.net_types.specs.declared.number.Mark.{Mark}
-use Rattle.net_types.specs.declared.adjacency.Greeting.{Greeting}
-use Rattle.net_types.specs.declared.adjacency.Party.{Party}
-use Rattle.net_types.specs.Number.{next_control}
-use Rattle.adjacency_table.specs.declared.message.Answer.{Answer}
-use Rattle.adjacency_table.specs.declared.message.Answer.TheVariants.{Quiet, Send, Open, Reset}
-use Rattle.adjacency_table.specs.Side.{Step, is_estab}
-use Rattle.adjacency_table.specs.Greeting.{gsmp_answer, gsmp_received}
-use Rattle.gsmp_wire.specs.declared.fault.Fault.{Fault}
-use Rattle.gsmp_wire.specs.declared.message.Message.{Message}
-use Rattle.gsmp_wire.specs.declared.message.Message.TheVariants as messages
-use Rattle.gsmp_wire.specs.declared.request.Request.{Request}
-use Rattle.gsmp_wire.specs.declared.request.Request.TheVariants.{AddBranch, MoveBranch, DeleteTree, VerifyTree, DeleteAll, PortManagement, AllPorts}
-use Rattle.gsmp_wire.specs.Layout.{octets_of}
-use Rattle.link_model.specs.declared.record.Record.{Record}
-use Rattle.link_model.specs.declared.record.Record.TheVariants.{Loss, Chance, Bad}
-use Rattle.link_model.specs.declared.record.Cause.TheVariants.{PoolFull, Cut}
-use Rattle.link_model.specs.declared.record.Layer.TheVariants.{Gsmp}
-use Rattle.link_model.specs.Notes.{Journal, noted}
-use Rattle.refusal_names.specs.Names.{gsmp_refusal}
-use Rattle.frame_model.specs.Frame.{frame_cells, made}
-use Rattle.frame_model.specs.Sending.{Sent}
-use Rattle.crossbar_model.specs.declared.branch.Branch.{Branch}
-use Rattle.crossbar_model.specs.Crossbar.{cut_by_move}
-use Rattle.port_model.specs.Desk.{asked, emptied, message_at}
-use Rattle.port_model.specs.DeskAnswers.{Answered, Unknown, Done, Ports, Failed, answered, after_answer}
+use Rattle.world_model.specs.Words.{End, Mark, Greeting, Party, next_control, Answer, Quiet, Send, Open, Step, is_estab, gsmp_answer, gsmp_received, Request, AddBranch, MoveBranch, DeleteTree, VerifyTree, PortManagement, Record, Loss, Chance, Bad, PoolFull, Cut, Gsmp, Journal, noted, gsmp_refusal, frame_cells, made, cut_by_move, emptied, Answered, Unknown, Done, Ports, Failed, answered, after_answer, Switch, control_port, gsmp_channel, Changed, noted_cut, moved_by, ended_by, all_ended, inputs_on, branches_after, asked_in, is_request, failure_of, handled_by, handled_asked, handled}
+use Rattle.world_model.specs.adjacency_table.declared.message.Answer.TheVariants.{Reset}
+use Rattle.world_model.specs.gsmp_wire.declared.fault.Fault.{Fault}
+use Rattle.world_model.specs.gsmp_wire.declared.message.Message.{Message}
+use Rattle.world_model.specs.gsmp_wire.declared.message.Message.TheVariants as messages
+use Rattle.world_model.specs.gsmp_wire.declared.request.Request.TheVariants.{DeleteAll, AllPorts}
+use Rattle.world_model.specs.gsmp_wire.Layout.{octets_of}
+use Rattle.world_model.specs.frame_model.Sending.{Sent}
+use Rattle.world_model.specs.crossbar_model.declared.branch.Branch.{Branch}
+use Rattle.world_model.specs.port_model.Desk.{asked, message_at}
 use Rattle.world_model.specs.declared.request.Asked.{Asked}
 use Rattle.world_model.specs.declared.request.Failure.{Failure}
-use Rattle.world_model.specs.Switch.{Switch, Acted, control_port, gsmp_channel, free_slots as switch_slots}
-use Rattle.world_model.specs.Requests.{Changed, noted_cut, moved_by, ended_by, ended, all_ended, inputs_on, cleared, branches_after, asked_in, is_request}
-use Rattle.world_model.specs.Failures.{failure_of}
-use Rattle.world_model.specs.Answers.{handled_by, handled_asked, handled}
+use Rattle.world_model.specs.Switch.{Acted, free_slots as switch_slots}
+use Rattle.world_model.specs.Requests.{ended, cleared}
 use Rattle.world_model.specs.Conduct as switch
 use Rattle.console_model.specs.declared.reply.Reply.{Reply}
 use Rattle.console_model.specs.declared.reply.Reply.TheVariants as replies

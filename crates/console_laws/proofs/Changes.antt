@@ -3,14 +3,10 @@
 use Rattle.std.proofs.Common.{◌≡◌, ℕ, ◌+◌, ◌<◌, ◌≤◌, Bool, true, false, List, [], ◌∷◌, ◌++◌, length, take, drop, slice_get, slice_set, slice_index_or, Some, refl, sym, ◌∙◌, ap, subst, arith, ◌⊎◌, inl, inr, length-set}
 use Rattle.std.proofs.lemmas.List.{length_push}
 use Rattle.std.specs.FinMap.{get}
-use Rattle.atm_cells.specs.declared.cell.Cell.{Cell}
-use Rattle.crossbar_model.specs.Crossbar.{Branches}
-use Rattle.gsmp_wire.specs.declared.request.Request.{Request}
-use Rattle.gsmp_wire.specs.declared.request.Request.TheVariants.{AllPorts}
-use Rattle.link_model.specs.declared.frames.Frame.{Frame}
+use Rattle.world_model.specs.Words.{Cell, Branches, Request, Frame, Standing}
+use Rattle.world_model.specs.gsmp_wire.declared.request.Request.TheVariants.{AllPorts}
 use Rattle.ordered_lists.specs.Ordered.{Every}
 use Rattle.ordered_lists.proofs.Every.{every_join}
-use Rattle.port_model.specs.Desk.{Standing}
 use Rattle.world_model.specs.declared.port.PortState.{PortState}
 use Rattle.console_model.specs.declared.reply.Reply.{Reply}
 use Rattle.console_model.specs.Plain.{Links, answer, after, map_after, answers_of}

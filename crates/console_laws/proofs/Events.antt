@@ -1,12 +1,9 @@
 -- each event keeps what is so
 
 use Rattle.std.proofs.Common.{◌≡◌, ℕ, ◌+◌, ◌<◌, ◌≤◌, ◌^◌, List, [], ◌∷◌, ◌++◌, refl}
-use Rattle.atm_cells.specs.declared.cell.Cell.{Cell}
-use Rattle.gsmp_wire.specs.declared.request.Request.{Request}
-use Rattle.gsmp_wire.specs.declared.request.Request.TheVariants.{AddBranch, MoveBranch, DeleteTree, VerifyTree, DeleteAll}
+use Rattle.world_model.specs.Words.{Cell, Request, AddBranch, MoveBranch, DeleteTree, VerifyTree, control_port, queue_of}
+use Rattle.world_model.specs.gsmp_wire.declared.request.Request.TheVariants.{DeleteAll}
 use Rattle.console_laws.proofs.Frames.{cut_frames}
-use Rattle.world_model.specs.Switch.{control_port}
-use Rattle.crossbar_model.specs.Crossbar.{queue_of}
 use Rattle.console_model.specs.declared.event.Side.TheVariants as side
 use Rattle.console_model.specs.declared.event.ConsoleEvent.{ConsoleEvent}
 use Rattle.console_model.specs.declared.event.ConsoleEvent.TheVariants.{Add, Move, Delete, Clear, Verify, Carry, Lose, Tick, Restart}

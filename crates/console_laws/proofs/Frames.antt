@@ -4,18 +4,9 @@ use Rattle.std.proofs.Common.{◌≡◌, ◌≢◌, ℕ, Bool, true, false, cond
 use Rattle.std.specs.Str.{bytes_eq}
 use Rattle.std.specs.Option.{option_map_or}
 use Rattle.std.proofs.lemmas.Slice.Eq.{bytes_eq-Decides}
-use Rattle.net_types.specs.declared.number.Mark.{Mark}
-use Rattle.atm_cells.specs.declared.cell.Cell.{Cell}
-use Rattle.link_model.specs.declared.frames.Frame.{Frame}
-use Rattle.link_model.specs.declared.record.Record.{Record}
-use Rattle.link_model.specs.declared.record.Record.TheVariants.{Loss}
-use Rattle.link_model.specs.declared.record.Cause.TheVariants.{Broken, Cut}
-use Rattle.link_model.specs.Ledger.{payload_of, is_frame, has_entry, same_mark}
-use Rattle.link_model.specs.Notes.{Journal, noted}
-use Rattle.link_model.proofs.Latest.{payload_of_push}
-use Rattle.link_model.proofs.Marks.{same_mark-Decides}
-use Rattle.frame_model.specs.Reassembly.{Reassembly, marks_of, broken, noted_all, distinct, cut}
-use Rattle.frame_model.specs.Frame.{last_mark}
+use Rattle.world_model.specs.Words.{Mark, Cell, Frame, Record, Loss, Broken, Cut, payload_of, is_frame, has_entry, same_mark, Journal, noted, Reassembly, marks_of, broken, noted_all, distinct, cut, last_mark}
+use Rattle.world_model.proofs.link_model.Latest.{payload_of_push}
+use Rattle.world_model.proofs.link_model.Marks.{same_mark-Decides}
 
 noted_frames : (notes : Journal) (items : List Record) → (noted_all notes items).frames ≡ notes.frames
 noted_frames notes [] = refl

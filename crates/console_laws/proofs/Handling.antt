@@ -3,22 +3,15 @@
 use Rattle.std.proofs.Common.{◌≡◌, ℕ, ◌<◌, ◌^◌, Bool, true, false, List, [], ◌∷◌, Option, None, Some, refl, sym, ◌∙◌, ap, subst, inl, inr}
 use Rattle.std.specs.FinMap.{get, insert, remove, retain_keys}
 use Rattle.std.specs.Prelude.{cond, not, ◌==◌}
-use Rattle.net_types.specs.declared.channel.End.{End}
-use Rattle.net_types.specs.declared.number.Mark.{Mark}
-use Rattle.crossbar_model.specs.declared.branch.Branch.{Branch}
-use Rattle.crossbar_model.specs.Crossbar.{cut_by_move}
-use Rattle.gsmp_wire.specs.declared.message.Message.{Message}
-use Rattle.gsmp_wire.specs.declared.request.Request.{Request}
-use Rattle.gsmp_wire.specs.declared.request.Request.TheVariants.{AddBranch, MoveBranch, DeleteTree, VerifyTree, DeleteAll, PortManagement, AllPorts}
-use Rattle.link_model.specs.Notes.{Journal}
-use Rattle.port_model.specs.Messages.{message_of}
+use Rattle.world_model.specs.Words.{End, Mark, cut_by_move, Request, AddBranch, MoveBranch, DeleteTree, VerifyTree, PortManagement, Journal, message_of, Switch, Changed, asked_in, noted_cut, moved_by, ended_by, all_ended, inputs_on, branches_after, ports_after, Handled, handled_by, handled_asked, handled, success_answer}
+use Rattle.world_model.specs.crossbar_model.declared.branch.Branch.{Branch}
+use Rattle.world_model.specs.gsmp_wire.declared.message.Message.{Message}
+use Rattle.world_model.specs.gsmp_wire.declared.request.Request.TheVariants.{DeleteAll, AllPorts}
 use Rattle.world_model.specs.declared.port.PortState.{PortState}
 use Rattle.world_model.specs.declared.request.Asked.{Asked}
 use Rattle.world_model.specs.declared.request.Failure.{Failure}
-use Rattle.world_model.specs.Switch.{Switch}
-use Rattle.world_model.specs.Requests.{Changed, asked_in, noted_cut, moved_by, ended_by, ended, all_ended, inputs_on, branches_after, ports_after}
+use Rattle.world_model.specs.Requests.{ended}
 use Rattle.world_model.specs.Failures as switch
-use Rattle.world_model.specs.Answers.{Handled, handled_by, handled_asked, handled, success_answer}
 use Rattle.console_model.specs.Law.{IsEnd}
 use Rattle.console_model.specs.Plain.{Links, failure_of, answer_by, after, after_by, changed}
 use Rattle.console_laws.specs.Words.{first_ports, first_rows, IsCommand, Tells}

@@ -7,16 +7,12 @@ use Rattle.std.specs.Ordering.{eq_by_cmp, is_eq}
 use Rattle.std.specs.declared.cmp.Ordering.{Ordering}
 use Rattle.std.specs.declared.cmp.Ordering.TheVariants.{Less, Equal, Greater}
 use Rattle.std.specs.FinMap.{get, insert, remove, retain_keys, keys, contains_key-keys}
-use Rattle.net_types.specs.declared.node.PortNo.{PortNo}
-use Rattle.net_types.specs.declared.channel.End.{End}
-use Rattle.crossbar_model.specs.declared.branch.Branch.{Branch}
-use Rattle.crossbar_model.specs.Channels.{end_cmp}
-use Rattle.crossbar_model.specs.Crossbar.{Branches, output_of, new_branch, same_end}
-use Rattle.gsmp_wire.specs.declared.request.Request.{Request}
-use Rattle.gsmp_wire.specs.declared.request.Request.TheVariants.{AddBranch, MoveBranch, DeleteTree, VerifyTree, DeleteAll, PortManagement, AllPorts}
+use Rattle.world_model.specs.Words.{PortNo, End, end_cmp, Branches, new_branch, same_end, Request, AddBranch, MoveBranch, DeleteTree, VerifyTree, PortManagement, is_busy, lacks_branch, Changed, added_by, moved_by, ended_by, all_ended, inputs_on, branches_after}
+use Rattle.world_model.specs.crossbar_model.declared.branch.Branch.{Branch}
+use Rattle.world_model.specs.crossbar_model.Crossbar.{output_of}
+use Rattle.world_model.specs.gsmp_wire.declared.request.Request.TheVariants.{DeleteAll, AllPorts}
 use Rattle.ordered_lists.specs.Ordered.{Every}
-use Rattle.world_model.specs.Failures.{is_busy, lacks_branch}
-use Rattle.world_model.specs.Requests.{Changed, added_by, moved_by, ended_by, ended, all_ended, inputs_on, cleared, branches_after}
+use Rattle.world_model.specs.Requests.{ended, cleared}
 use Rattle.console_model.specs.Plain.{Links, changed}
 use Rattle.console_laws.specs.Words.{IsCommand}
 use Rattle.console_laws.specs.Kept.{Leads}

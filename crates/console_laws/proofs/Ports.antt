@@ -4,15 +4,11 @@ use Rattle.std.proofs.Common.{◌≡◌, ℕ, zero, suc, ◌+◌, ◌≤◌, ◌
 use Rattle.std.specs.List.{range_with_len, list_any, list_all}
 use Rattle.std.specs.Option.{option_map_or}
 use Rattle.std.proofs.lemmas.Bool.Decides.{nat_tests}
-use Rattle.net_types.specs.declared.node.PortNo.{PortNo}
-use Rattle.net_types.specs.declared.channel.End.{End}
-use Rattle.net_types.specs.declared.number.Instance.{Instance}
-use Rattle.crossbar_model.specs.Channels.{is_link_channel, is_connectable}
-use Rattle.gsmp_wire.specs.declared.rows.PortRow.{PortRow}
+use Rattle.world_model.specs.Words.{PortNo, End, Instance, is_link_channel, is_connectable, PortRow, session_of, control_port, has_port, has_session, numbers_of}
 use Rattle.ordered_lists.specs.Ordered.{Every}
-use Rattle.port_model.specs.Messages.{session_of, row_of as row_found}
+use Rattle.world_model.specs.port_model.Messages.{row_of as row_found}
 use Rattle.world_model.specs.declared.port.PortState.{PortState}
-use Rattle.world_model.specs.Switch.{begun, control_port, port_of, has_port, is_up, has_session, numbers_of}
+use Rattle.world_model.specs.Switch.{begun, port_of, is_up}
 use Rattle.world_model.specs.Answers.{row_of}
 use Rattle.console_model.specs.Lab.{ports_to}
 use Rattle.console_model.specs.Plain.{is_port}

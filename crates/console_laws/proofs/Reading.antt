@@ -5,25 +5,17 @@ use Rattle.std.specs.Prelude.{slice_index}
 use Rattle.std.specs.List.{range_with_len}
 use Rattle.std.proofs.lemmas.List.{length-map}
 use Rattle.std.proofs.lemmas.List.FromFn.{length-range_with_len}
-use Rattle.net_types.specs.declared.adjacency.Greeting.{Greeting}
-use Rattle.net_types.specs.declared.channel.Channel.{Channel}
-use Rattle.net_types.specs.declared.channel.End.{End}
-use Rattle.net_types.specs.declared.node.PortNo.{PortNo}
-use Rattle.gsmp_wire.specs.declared.fault.Fault.{Fault}
-use Rattle.gsmp_wire.specs.declared.message.BranchKind.{BranchKind}
-use Rattle.gsmp_wire.specs.declared.message.BranchKind.TheVariants.{Add, Delete, Verify, DeleteAll as DeleteAllKind}
-use Rattle.gsmp_wire.specs.declared.message.Message.{Message}
-use Rattle.gsmp_wire.specs.declared.message.Message.TheVariants as messages
-use Rattle.gsmp_wire.specs.declared.request.Request.{Request}
-use Rattle.gsmp_wire.specs.declared.request.Request.TheVariants.{AddBranch, MoveBranch, DeleteTree, VerifyTree, DeleteAll, PortManagement, AllPorts}
-use Rattle.gsmp_wire.specs.Fields.{decoded, decoded_by}
-use Rattle.gsmp_wire.specs.Layout.{octets_of}
-use Rattle.gsmp_wire.specs.Range.{Bits, Fits, FitsChannel, FitsRows}
-use Rattle.gsmp_wire.specs.Refusal.{refusal, type_of}
+use Rattle.world_model.specs.Words.{Greeting, Channel, End, PortNo, BranchKind, Add, Delete, Verify, Request, AddBranch, MoveBranch, DeleteTree, VerifyTree, PortManagement, Bits, Fits, FitsChannel, FitsRows, refusal, type_of, session_of, message_of, control_port}
+use Rattle.world_model.specs.gsmp_wire.declared.fault.Fault.{Fault}
+use Rattle.world_model.specs.gsmp_wire.declared.message.BranchKind.TheVariants.{DeleteAll as DeleteAllKind}
+use Rattle.world_model.specs.gsmp_wire.declared.message.Message.{Message}
+use Rattle.world_model.specs.gsmp_wire.declared.message.Message.TheVariants as messages
+use Rattle.world_model.specs.gsmp_wire.declared.request.Request.TheVariants.{DeleteAll, AllPorts}
+use Rattle.world_model.specs.gsmp_wire.Fields.{decoded, decoded_by}
+use Rattle.world_model.specs.gsmp_wire.Layout.{octets_of}
 use Rattle.gsmp_reading.specs.Said.{asks, succeeds, no_branch, all_asked, all_told}
 use Rattle.gsmp_reading.proofs.Read.{message_is_read}
-use Rattle.port_model.specs.Messages.{session_of, message_of}
-use Rattle.world_model.specs.Switch.{begun, control_port}
+use Rattle.world_model.specs.Switch.{begun}
 use Rattle.world_model.specs.Answers.{row_of}
 use Rattle.console_model.specs.Lab.{ports_to}
 use Rattle.console_model.specs.Law.{IsPort, IsEnd}

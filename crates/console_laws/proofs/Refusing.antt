@@ -2,19 +2,13 @@
 
 use Rattle.std.proofs.Common.{◌≡◌, ℕ, ◌≤◌, Bool, true, false, cond, not, List, [], ◌∷◌, Option, None, Some, is_none, refl, ap}
 use Rattle.std.specs.List.{list_all}
-use Rattle.net_types.specs.declared.node.PortNo.{PortNo}
-use Rattle.net_types.specs.declared.channel.End.{End}
-use Rattle.crossbar_model.specs.Channels.{is_link_channel, is_connectable}
-use Rattle.crossbar_model.specs.Crossbar.{Branches}
-use Rattle.gsmp_wire.specs.declared.request.Request.{Request}
-use Rattle.gsmp_wire.specs.declared.request.Request.TheVariants.{AddBranch, MoveBranch, DeleteTree, VerifyTree, DeleteAll, PortManagement, AllPorts}
+use Rattle.world_model.specs.Words.{PortNo, End, is_link_channel, is_connectable, Branches, Request, AddBranch, MoveBranch, DeleteTree, VerifyTree, PortManagement, session_of, named_ends, named_ports, used_ports, names_session, leads_elsewhere, is_last_session, has_port, numbers_of}
+use Rattle.world_model.specs.gsmp_wire.declared.request.Request.TheVariants.{DeleteAll, AllPorts}
 use Rattle.ordered_lists.specs.Ordered.{Every}
-use Rattle.port_model.specs.Messages.{session_of}
 use Rattle.world_model.specs.declared.request.Asked.{Asked}
 use Rattle.world_model.specs.declared.request.Failure.TheVariants.{NoPort, BadSession, PortDown, OutOfRange, Busy, NoConnection, SessionsSpent}
 use Rattle.world_model.specs.Failures as switch
-use Rattle.world_model.specs.Failures.{named_ends, named_ports, used_ports, names_session, leads_elsewhere, is_last_session}
-use Rattle.world_model.specs.Switch.{has_port, is_up, numbers_of}
+use Rattle.world_model.specs.Switch.{is_up}
 use Rattle.console_model.specs.Plain as plain
 use Rattle.console_model.specs.Plain.{Links, is_port, leads_there}
 use Rattle.console_laws.specs.Words.{first_ports, first_rows, IsCommand}

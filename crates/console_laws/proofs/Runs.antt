@@ -6,11 +6,9 @@ use Rattle.std.specs.List.{list_any}
 use Rattle.std.proofs.lemmas.List.Elements.{All-head, All-tail}
 use Rattle.std.specs.Option.{option_map}
 use Rattle.std.specs.FinMap.{get-empty}
-use Rattle.crossbar_model.specs.declared.branch.Branch.{Branch}
-use Rattle.crossbar_model.specs.Channels.{end_cmp}
-use Rattle.link_model.specs.declared.record.Record.{Record}
+use Rattle.world_model.specs.crossbar_model.declared.branch.Branch.{Branch}
+use Rattle.world_model.specs.Words.{end_cmp, Record, event_limit}
 use Rattle.console_model.specs.declared.event.ConsoleEvent.{ConsoleEvent}
-use Rattle.world_model.specs.Limits.{event_limit}
 use Rattle.console_model.specs.Lab.{Lab, opened}
 use Rattle.console_model.specs.Steps.{next, lab_after, put_away}
 use Rattle.console_model.specs.Plain.{map_after}

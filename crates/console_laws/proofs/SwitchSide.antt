@@ -1,30 +1,19 @@
 -- what a cell or a tick that comes to the switch keeps
 
 use Rattle.std.proofs.Common.{◌≡◌, ℕ, ◌+◌, ◌<◌, ◌≤◌, ◌^◌, ◌&&◌, Bool, true, false, List, [], ◌∷◌, length, map, take, slice_get, Option, None, Some, Result, Ok, refl, sym, ◌∙◌, ap, subst, arith, nat_lt, if◌then◌else◌}
-use Rattle.net_types.specs.declared.adjacency.Greeting.{Greeting}
-use Rattle.net_types.specs.declared.adjacency.Party.{Party}
-use Rattle.atm_cells.specs.declared.cell.Cell.{Cell}
-use Rattle.adjacency_table.specs.declared.message.Answer.{Answer}
-use Rattle.adjacency_table.specs.declared.message.Answer.TheVariants.{Quiet, Send, Open, Reset}
-use Rattle.adjacency_table.specs.Side.{Step, is_estab, ticked}
-use Rattle.adjacency_table.specs.Greeting.{gsmp_answer, gsmp_received}
-use Rattle.gsmp_wire.specs.declared.fault.Fault.{Fault}
-use Rattle.gsmp_wire.specs.declared.message.Message.{Message}
-use Rattle.gsmp_wire.specs.declared.message.Message.TheVariants as messages
-use Rattle.gsmp_wire.specs.declared.request.Request.{Request}
-use Rattle.gsmp_wire.specs.declared.request.Request.TheVariants.{AddBranch, MoveBranch, DeleteTree, VerifyTree, DeleteAll, PortManagement, AllPorts}
-use Rattle.gsmp_wire.specs.Layout.{octets_of}
-use Rattle.gsmp_wire.specs.Fields.{decoded}
-use Rattle.link_model.specs.Ledger.{payload_of}
-use Rattle.link_model.specs.Notes.{Journal}
-use Rattle.frame_model.specs.Frame.{tested}
-use Rattle.frame_model.specs.Reassembly.{Reassembly, Taken, taken}
-use Rattle.port_model.specs.Messages.{message_of}
+use Rattle.world_model.specs.Words.{Greeting, Party, Cell, Answer, Quiet, Send, Open, Step, is_estab, ticked, gsmp_answer, gsmp_received, Request, AddBranch, MoveBranch, DeleteTree, VerifyTree, PortManagement, payload_of, Journal, tested, Reassembly, message_of, control_port, is_request, Handled, handled, replied, requested, read, gsmp_cell, switched_cell, is_gsmp, tick_comes}
+use Rattle.world_model.specs.adjacency_table.declared.message.Answer.TheVariants.{Reset}
+use Rattle.world_model.specs.gsmp_wire.declared.fault.Fault.{Fault}
+use Rattle.world_model.specs.gsmp_wire.declared.message.Message.{Message}
+use Rattle.world_model.specs.gsmp_wire.declared.message.Message.TheVariants as messages
+use Rattle.world_model.specs.gsmp_wire.declared.request.Request.TheVariants.{DeleteAll, AllPorts}
+use Rattle.world_model.specs.gsmp_wire.Layout.{octets_of}
+use Rattle.world_model.specs.gsmp_wire.Fields.{decoded}
+use Rattle.world_model.specs.frame_model.Reassembly.{Taken, taken}
 use Rattle.world_model.specs.declared.port.PortState.{PortState}
-use Rattle.world_model.specs.Switch.{Acted, control_port, free_slots}
-use Rattle.world_model.specs.Requests.{is_request}
-use Rattle.world_model.specs.Answers.{Handled, handled, row_of}
-use Rattle.world_model.specs.Conduct.{says, answers, steps, replied, requested, told, read, opened_frame, ends_frame, gsmp_cell, switched_cell, is_gsmp, cell_comes, tick_comes}
+use Rattle.world_model.specs.Switch.{Acted, free_slots}
+use Rattle.world_model.specs.Answers.{row_of}
+use Rattle.world_model.specs.Conduct.{says, answers, steps, told, opened_frame, ends_frame, cell_comes}
 use Rattle.console_model.specs.Lab.{Lab}
 use Rattle.console_model.specs.Steps.{with_queue}
 use Rattle.console_model.specs.Plain.{map_after}

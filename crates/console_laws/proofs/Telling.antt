@@ -2,19 +2,15 @@
 
 use Rattle.std.proofs.Common.{◌≡◌, ℕ, ◌<◌, ◌≤◌, ◌^◌, min, Option, None, Some, is_none, false, List, refl, sym, ◌∙◌, ap, subst, arith, inl, inr}
 use Rattle.std.specs.FinMap.{get}
-use Rattle.net_types.specs.declared.channel.End.{End}
-use Rattle.crossbar_model.specs.Crossbar.{Branches, output_of}
-use Rattle.gsmp_wire.specs.declared.message.BranchKind.TheVariants.{Add, Delete, Verify, DeleteAll as DeleteAllKind}
-use Rattle.gsmp_wire.specs.declared.request.Request.{Request}
-use Rattle.gsmp_wire.specs.declared.request.Request.TheVariants.{AddBranch, MoveBranch, DeleteTree, VerifyTree, DeleteAll, PortManagement, AllPorts}
-use Rattle.gsmp_wire.specs.Range.{Bits}
+use Rattle.world_model.specs.Words.{End, Branches, Add, Delete, Verify, Request, AddBranch, MoveBranch, DeleteTree, VerifyTree, PortManagement, Bits, message_of, session_of, unnamed, failure_code, failure_answer, branch_answer, told_output, count_of, success_answer}
+use Rattle.world_model.specs.crossbar_model.Crossbar.{output_of}
+use Rattle.world_model.specs.gsmp_wire.declared.message.BranchKind.TheVariants.{DeleteAll as DeleteAllKind}
+use Rattle.world_model.specs.gsmp_wire.declared.request.Request.TheVariants.{DeleteAll, AllPorts}
 use Rattle.gsmp_reading.specs.Said.{succeeds, fails, HasBranches, no_branch, one_branch}
 use Rattle.gsmp_reading.proofs.Read.{message_is_read}
-use Rattle.port_model.specs.Messages.{message_of, session_of, unnamed}
 use Rattle.world_model.specs.declared.port.PortState.{PortState}
 use Rattle.world_model.specs.declared.request.Failure.{Failure}
 use Rattle.world_model.specs.declared.request.Failure.TheVariants.{NoPort, BadSession, PortDown, OutOfRange, Busy, NoConnection, SessionsSpent}
-use Rattle.world_model.specs.Answers.{failure_code, failure_answer, branch_answer, told_output, count_of, success_answer}
 use Rattle.console_model.specs.declared.reply.Reply.TheVariants as replies
 use Rattle.console_model.specs.Law.{IsEnd}
 use Rattle.console_model.specs.Plain.{Links, success, told_end}

@@ -1,14 +1,9 @@
 -- a cell that comes is kept, passed over, or ends a chain, which holds what its last cell's frame was made of: unless by chance
 
 use Rattle.std.proofs.Common.{◌≡◌, ℕ, Bool, true, false, true≢false, not, List, [], ◌∷◌, ◌++◌, length, Option, None, Some, refl, sym, ◌∙◌, subst, nat_le, if◌then◌else◌}
-use Rattle.net_types.specs.declared.number.Mark.{Mark}
-use Rattle.atm_cells.specs.declared.cell.Cell.{Cell}
-use Rattle.link_model.specs.declared.record.Record.TheVariants.{Loss, Chance}
-use Rattle.link_model.specs.declared.record.Cause.TheVariants.{PoolFull}
-use Rattle.link_model.specs.Ledger.{payload_of, is_frame}
-use Rattle.link_model.specs.Notes.{Journal, noted}
-use Rattle.frame_model.specs.Frame.{octets_of, last_mark, payload_in, tested_by, tested}
-use Rattle.frame_model.specs.Reassembly.{Reassembly, Taken, taken, passed_over, without_slot, too_long, joined, most_cells, marks_of, broken}
+use Rattle.world_model.specs.Words.{Mark, Cell, Loss, Chance, PoolFull, payload_of, is_frame, Journal, noted, last_mark, payload_in, tested_by, tested, Reassembly, passed_over, without_slot, too_long, most_cells, marks_of, broken}
+use Rattle.world_model.specs.frame_model.Frame.{octets_of}
+use Rattle.world_model.specs.frame_model.Reassembly.{Taken, taken, joined}
 use Rattle.console_laws.proofs.Frames.{broken_frames, frame_is, last_is}
 use Rattle.console_laws.proofs.Views.{on_each}
 use Rattle.console_laws.proofs.Chances.{HasChance, IsFree, chance_noted}

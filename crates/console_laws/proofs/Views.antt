@@ -1,19 +1,13 @@
 -- what a message that is sent leaves
 
 use Rattle.std.proofs.Common.{◌≡◌, ℕ, ◌+◌, ◌<◌, Bool, true, false, List, [], ◌∷◌, ◌++◌, length, refl, sym, subst, arith, length-set, slice_set, slice_index_or, nat_le, if◌then◌else◌}
-use Rattle.net_types.specs.Number.{next_control, with_control}
-use Rattle.atm_cells.specs.declared.cell.Cell.{Cell}
-use Rattle.gsmp_wire.specs.declared.message.Message.{Message}
-use Rattle.gsmp_wire.specs.Layout.{octets_of}
-use Rattle.link_model.specs.declared.frames.Frame.{Frame}
-use Rattle.link_model.specs.declared.record.Record.TheVariants.{Loss}
-use Rattle.link_model.specs.declared.record.Cause.TheVariants.{PoolFull}
-use Rattle.link_model.specs.Notes.{noted}
-use Rattle.frame_model.specs.Frame.{frame_cells, made}
-use Rattle.frame_model.specs.Sending.{Sent}
+use Rattle.world_model.specs.Words.{next_control, with_control, Cell, Frame, Loss, PoolFull, noted, frame_cells, made, Switch, control_port, gsmp_channel}
+use Rattle.world_model.specs.gsmp_wire.declared.message.Message.{Message}
+use Rattle.world_model.specs.gsmp_wire.Layout.{octets_of}
+use Rattle.world_model.specs.frame_model.Sending.{Sent}
 use Rattle.ordered_lists.specs.Ordered.{Every}
 use Rattle.ordered_lists.proofs.Every.{every_map, every_join}
-use Rattle.world_model.specs.Switch.{Switch, Acted, control_port, gsmp_channel, free_slots as switch_slots}
+use Rattle.world_model.specs.Switch.{Acted, free_slots as switch_slots}
 use Rattle.world_model.specs.Conduct as switch
 use Rattle.console_model.specs.Lab.{Console, Lab, free_slots}
 use Rattle.console_model.specs.Asking.{with_cells, says}

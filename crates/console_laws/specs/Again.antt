@@ -2,8 +2,7 @@
 
 use Rattle.std.specs.Prelude.{◌≡◌, ℕ}
 use Rattle.std.specs.FinMap.{get}
-use Rattle.net_types.specs.declared.channel.End.{End}
-use Rattle.gsmp_wire.specs.declared.request.Request.{Request}
+use Rattle.world_model.specs.Words.{End, Request}
 use Rattle.console_model.specs.Plain.{Links, answer, after}
 
 -- each input leads where it does in the other

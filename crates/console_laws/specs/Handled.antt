@@ -2,12 +2,7 @@
 
 use Rattle.std.specs.Prelude.{◌≡◌, ℕ, ◌<◌, ◌^◌, Some}
 use Rattle.std.specs.FinMap.{get}
-use Rattle.net_types.specs.declared.channel.End.{End}
-use Rattle.gsmp_wire.specs.declared.request.Request.{Request}
-use Rattle.link_model.specs.Notes.{Journal}
-use Rattle.port_model.specs.Messages.{message_of}
-use Rattle.world_model.specs.Switch.{Switch}
-use Rattle.world_model.specs.Answers.{Handled, handled}
+use Rattle.world_model.specs.Words.{End, Request, Journal, message_of, Switch, Handled, handled}
 use Rattle.console_model.specs.Law.{IsEnd, IsMap}
 use Rattle.console_model.specs.Plain.{Links, answer, after}
 use Rattle.console_laws.specs.Words.{first_ports, first_rows, IsCommand, Tells}

@@ -2,15 +2,10 @@
 
 use Rattle.std.specs.Prelude.{◌≡◌, ℕ, ◌+◌, ◌<◌, ◌≤◌, Bool, true, List, [], ◌∷◌, length, take, slice_get, slice_index_or, Some}
 use Rattle.std.specs.FinMap.{get}
-use Rattle.net_types.specs.declared.channel.End.{End}
-use Rattle.atm_cells.specs.declared.cell.Cell.{Cell}
-use Rattle.adjacency_table.specs.Side.{is_estab}
-use Rattle.crossbar_model.specs.Crossbar.{Branches, output_of}
-use Rattle.gsmp_wire.specs.declared.request.Request.{Request}
-use Rattle.gsmp_wire.specs.declared.request.Request.TheVariants.{AllPorts}
-use Rattle.link_model.specs.declared.frames.Frame.{Frame}
+use Rattle.world_model.specs.Words.{End, Cell, is_estab, Branches, Request, Frame, Desk}
+use Rattle.world_model.specs.crossbar_model.Crossbar.{output_of}
+use Rattle.world_model.specs.gsmp_wire.declared.request.Request.TheVariants.{AllPorts}
 use Rattle.ordered_lists.specs.Ordered.{Every}
-use Rattle.port_model.specs.Desk.{Desk}
 use Rattle.world_model.specs.declared.port.PortState.{PortState}
 use Rattle.console_model.specs.declared.reply.Reply.{Reply}
 use Rattle.console_model.specs.Lab.{Lab}

@@ -4,30 +4,21 @@ use Rattle.std.proofs.Common.{◌≡◌, ℕ, Bool, true, false, List, [], ◌�
 use Rattle.std.specs.Prelude.{◌==◌, ◌&&◌, nat_lt, option_map}
 use Rattle.std.specs.Option.{option_map_or, option_and_then}
 use Rattle.std.proofs.lemmas.Bool.Decides.{nat_tests}
-use Rattle.net_types.specs.declared.node.NodeId.{NodeId}
-use Rattle.net_types.specs.declared.node.Place.TheVariants.{Down, Up, Out}
-use Rattle.atm_cells.specs.declared.cell.Cell.{Cell}
-use Rattle.link_model.specs.Ledger.{payload_of}
-use Rattle.frame_model.specs.Frame.{octets_of, last_mark, payload_in}
-use Rattle.frame_model.specs.Reassembly.{Reassembly, Taken, taken}
-use Rattle.port_facts.proofs.Keyed.{on_each}
-use Rattle.port_facts.proofs.Rules.{and_first, and_second}
+use Rattle.world_model.specs.Words.{NodeId, Down, Up, Out, Cell, payload_of, last_mark, payload_in, Reassembly, gsmp_channel, Controller, same_channel, taker_of, reassembly_of, World, Site, site_at, queue_at, past_of, IsTame, is_wild, OfController, OfSwitch, reassembly_at, has_slot, Arrival, cell_for, taken_at, CountsAsItsFrame}
+use Rattle.world_model.specs.frame_model.Frame.{octets_of}
+use Rattle.world_model.specs.frame_model.Reassembly.{Taken, taken}
+use Rattle.frame_readings.proofs.port_facts.Keyed.{on_each}
+use Rattle.frame_readings.proofs.port_facts.Rules.{and_first, and_second}
 use Rattle.world_model.specs.Switch as switches
-use Rattle.world_model.specs.Switch.{gsmp_channel}
-use Rattle.world_model.specs.Controller.{Controller, free_slots}
+use Rattle.world_model.specs.Controller.{free_slots}
 use Rattle.world_model.specs.Cells as controllers
-use Rattle.world_model.specs.Cells.{same_channel, taker_of, reassembly_of}
 use Rattle.world_model.specs.declared.event.Event.{Event}
 use Rattle.world_model.specs.declared.event.Event.TheVariants.{Inject, Carry, Lose, Tick, TickSwitch, Restart, RestartSwitch, Forge, Route}
-use Rattle.world_model.specs.World.{World, Site, site_at}
-use Rattle.world_model.specs.Places.{queue_at}
-use Rattle.world_model.specs.Past.{past_of}
-use Rattle.world_model.specs.Headline.{IsTame, is_wild}
-use Rattle.world_model.specs.Stretches.{Taker, OfController, OfSwitch, reassembly_at, has_slot, Arrival, at_controller, at_switch, cell_for, taken_at, CountsAsItsFrame}
-use Rattle.world_views.specs.Kept.{behind}
-use Rattle.input_steps.specs.Hearing.{IsEnded, PassesTrue}
-use Rattle.shown_cells.proofs.Tested.{frame_is}
-use Rattle.causes.proofs.Spots.{channels_are}
+use Rattle.world_model.specs.Stretches.{Taker, at_controller, at_switch}
+use Rattle.frame_readings.specs.world_views.Kept.{behind}
+use Rattle.running_worlds.specs.input_steps.Hearing.{IsEnded, PassesTrue}
+use Rattle.frame_readings.proofs.shown_cells.Tested.{frame_is}
+use Rattle.running_worlds.proofs.causes.Spots.{channels_are}
 use Rattle.run_facts.specs.Steps.{IsStep}
 use Rattle.run_facts.proofs.Lists.{any_none}
 use Rattle.run_facts.proofs.Steps.{events_are_steps}

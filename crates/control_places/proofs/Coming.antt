@@ -3,52 +3,31 @@
 use Rattle.std.proofs.Common.{◌≡◌, ◌≢◌, ℕ, Bool, true, List, [], ◌∷◌, ◌++◌, Option, None, Some, Result, Ok, Err, refl, sym, ◌∙◌, subst, arith, drop, if◌then◌else◌}
 use Rattle.std.specs.Prelude.{◌+◌, ◌==◌, nat_lt}
 use Rattle.std.proofs.lemmas.Bool.Decides.{nat_tests}
-use Rattle.net_types.specs.declared.node.PortNo.{PortNo}
-use Rattle.net_types.specs.declared.channel.Channel.{Channel}
-use Rattle.net_types.specs.declared.number.Mark.{Mark}
-use Rattle.atm_cells.specs.declared.cell.Cell.{Cell}
-use Rattle.ipv4_packet.specs.Packet.{source_of, first_fault, ifmp_packet_of}
-use Rattle.ipv4_packet.specs.declared.validate.PacketFault.{PacketFault}
-use Rattle.ipv4_forward.specs.Change.{changed}
-use Rattle.ipv4_forward.specs.Hop.{hop_of, onward}
-use Rattle.ipv4_forward.specs.declared.change.RouteChange.{RouteChange}
-use Rattle.ipv4_forward.specs.declared.outcome.Hop.{Hop}
-use Rattle.ipv4_forward.specs.declared.outcome.Hop.TheVariants.{Here, On, NoRoute, Expired}
-use Rattle.ipv4_forward.specs.declared.table.Route.{Route}
-use Rattle.ipv4_packet.specs.Flow.{kind_of}
-use Rattle.flow_encaps.specs.Default.{default_payload}
-use Rattle.flow_encaps.specs.Labelled.{labelled_payload}
-use Rattle.flow_encaps.specs.Unwrapped.{default_unwrapped, unwrapped}
-use Rattle.flow_encaps.specs.declared.default.EncapsFault.{EncapsFault}
-use Rattle.ifmp_wire.specs.declared.message.Message.{Message as IfmpMessage}
-use Rattle.ifmp_wire.specs.declared.reader.Fault.{Fault as IfmpFault}
-use Rattle.ifmp_wire.specs.Message.{octets_of as ifmp_octets}
-use Rattle.ifmp_wire.specs.Fields.{decoded as ifmp_decoded}
-use Rattle.gsmp_wire.specs.declared.message.Message.{Message}
-use Rattle.gsmp_wire.specs.Fields.{decoded as gsmp_decoded}
-use Rattle.link_model.specs.declared.frames.Frame.{Frame}
-use Rattle.link_model.specs.Notes.{Journal}
-use Rattle.frame_model.specs.Frame.{last_mark, next_mark, Tested, tested, tested_by, octets_of, payload_in}
-use Rattle.frame_model.specs.Reassembly.{Taken, taken}
-use Rattle.port_model.specs.Setup.{Setup, control_end}
-use Rattle.port_model.specs.Labels.{Label}
-use Rattle.port_model.specs.Grants.{Grant}
-use Rattle.port_model.specs.Hearing.{hears}
-use Rattle.port_model.specs.Counting.{counts, used}
-use Rattle.world_views.specs.Made.{IsMadeAs}
+use Rattle.world_model.specs.Words.{PortNo, Channel, Mark, Cell, source_of, ifmp_packet_of, PacketFault, changed, hop_of, onward, RouteChange, Hop, Here, On, kind_of, default_payload, labelled_payload, default_unwrapped, unwrapped, EncapsFault, Frame, Journal, last_mark, next_mark, Tested, tested, tested_by, payload_in, Setup, control_end, Label, Grant, hears, counts, used, Linked, chain_of, chains_with, default_home, sends_control, says_gsmp, Rule, at_port, is_control, sends_next, goes_by, grant_by, routes, ForGsmp, ForDefault, ForLabel, taker_of, reassembly_of, with_reassembly, label_holds, ifmp_holds, counted_at, packet_holds, default_holds, frame_holds, takes_cell}
+use Rattle.world_model.specs.ipv4_packet.Packet.{first_fault}
+use Rattle.world_model.specs.ipv4_forward.declared.outcome.Hop.TheVariants.{NoRoute, Expired}
+use Rattle.world_model.specs.ipv4_forward.declared.table.Route.{Route}
+use Rattle.world_model.specs.ifmp_wire.declared.message.Message.{Message as IfmpMessage}
+use Rattle.world_model.specs.ifmp_wire.declared.reader.Fault.{Fault as IfmpFault}
+use Rattle.world_model.specs.ifmp_wire.Message.{octets_of as ifmp_octets}
+use Rattle.world_model.specs.ifmp_wire.Fields.{decoded as ifmp_decoded}
+use Rattle.world_model.specs.gsmp_wire.declared.message.Message.{Message}
+use Rattle.world_model.specs.gsmp_wire.Fields.{decoded as gsmp_decoded}
+use Rattle.world_model.specs.frame_model.Frame.{octets_of}
+use Rattle.world_model.specs.frame_model.Reassembly.{Taken, taken}
+use Rattle.frame_readings.specs.world_views.Made.{IsMadeAs}
 use Rattle.frame_readings.specs.Reading.{Holds, sent as holds_sent, told as holds_told}
 use Rattle.frame_readings.proofs.Packets.{is_forwarded, is_heard}
 use Rattle.frame_readings.proofs.Reading.{read_default}
-use Rattle.port_facts.proofs.Rules.{and_first}
-use Rattle.port_facts.proofs.Keyed.{on_each}
-use Rattle.world_model.specs.Controller.{Acted, Linked, free_slots, chain_of, chains_with, default_home}
-use Rattle.world_model.specs.Sending.{sends, sends_control, says_gsmp}
-use Rattle.world_model.specs.Performing.{Rule, at_port}
-use Rattle.world_model.specs.Packets.{is_control, sends_next, goes_by, grant_by, forwarded, routes}
-use Rattle.world_model.specs.Cells.{Taker, ForGsmp, ForDefault, ForLabel, taker_of, reassembly_of, with_reassembly, label_holds, ifmp_holds, counted_at, packet_holds, default_holds, frame_holds, after_test, ends_frame, takes_cell, cell_comes}
+use Rattle.frame_readings.proofs.port_facts.Rules.{and_first}
+use Rattle.frame_readings.proofs.port_facts.Keyed.{on_each}
+use Rattle.world_model.specs.Controller.{Acted, free_slots}
+use Rattle.world_model.specs.Sending.{sends}
+use Rattle.world_model.specs.Packets.{forwarded}
+use Rattle.world_model.specs.Cells.{Taker, after_test, ends_frame, cell_comes}
 use Rattle.run_facts.proofs.Taking.{taken_frames, tested_frames, taken_chain}
 use Rattle.run_facts.proofs.Takers.{taker_at_port}
-use Rattle.actor_pace.proofs.Cells.{ended_last}
+use Rattle.run_facts.proofs.actor_pace.Cells.{ended_last}
 use Rattle.running_worlds.proofs.MadeCells.{IsRead, Ends, taken_by}
 use Rattle.run_facts.proofs.Walks.{Sees, At, Has, with_frames, back, sent, at_work, gsmp_frame}
 

@@ -2,42 +2,29 @@
 
 use Rattle.std.proofs.Common.{◌≡◌, ◌≢◌, true, ℕ, ◌<◌, ◌/◌, ◌*◌, List, [], ◌∷◌, ◌++◌, length, Option, None, Some, Ok, refl, sym, ◌∙◌, ap, subst, arith, cond, map}
 use Rattle.std.specs.Prelude.{◌+◌, nat_le}
-use Rattle.net_types.specs.declared.node.PortNo.{PortNo}
-use Rattle.net_types.specs.declared.channel.Channel.{Channel}
-use Rattle.net_types.specs.declared.number.Mark.{Mark}
-use Rattle.atm_cells.specs.declared.cell.Cell.{Cell}
-use Rattle.aal5_frames.specs.Frame.{cells_with, cell_of, pdu_of}
+use Rattle.world_model.specs.Words.{PortNo, Channel, Mark, Cell, RouteChange, Frame, Loss, PoolFull, Refusal, payload_of, noted, frame_cells, made, next_mark, Setup, Controller, Linked, default_channel, default_home, same_channel, port_on, taker_of, inject_refusal, sends_control, says_gsmp}
+use Rattle.frame_readings.specs.aal5_frames.Frame.{cells_with, cell_of, pdu_of}
 use Rattle.std.specs.List.{range_with_len}
-use Rattle.gsmp_wire.specs.declared.message.Message.{Message}
-use Rattle.gsmp_wire.specs.Layout.{octets_of}
-use Rattle.gsmp_wire.specs.Fields.{decoded}
-use Rattle.ipv4_forward.specs.declared.change.RouteChange.{RouteChange}
-use Rattle.ipv4_forward.specs.declared.table.Route.{Route}
-use Rattle.link_model.specs.declared.frames.Frame.{Frame}
-use Rattle.link_model.specs.declared.record.Record.TheVariants.{Loss}
-use Rattle.link_model.specs.declared.record.Cause.TheVariants.{PoolFull}
-use Rattle.link_model.specs.declared.record.Refusal.{Refusal}
-use Rattle.link_model.specs.Ledger.{payload_of}
-use Rattle.link_model.specs.Notes.{noted}
-use Rattle.link_model.proofs.Latest.{payload_of_push}
-use Rattle.link_model.proofs.Marks.{same_mark-Decides}
-use Rattle.frame_model.specs.Sending.{Sent}
-use Rattle.frame_model.specs.Frame.{frame_cells, made, next_mark}
-use Rattle.ordered_lists.specs.Ordered.{Every}
-use Rattle.ordered_lists.proofs.Every.{every_join, every_map, every_all}
-use Rattle.port_facts.proofs.Keyed.{on_both}
-use Rattle.port_model.specs.Setup.{Setup}
-use Rattle.world_model.specs.Controller.{Controller, Acted, Linked, free_slots, default_channel, default_home}
-use Rattle.world_model.specs.Cells.{Taker, same_channel, port_on, taker_of}
-use Rattle.world_model.specs.Packets.{inject_refusal}
-use Rattle.world_model.specs.Sending.{with_cells, sends, sends_control, says_gsmp}
-use Rattle.controller_facts.specs.Inputs.{Input, CellComes, PacketEnters, Ticks, Restarts, ChangeComes, FrameIsForged, CellLeaves, Meanwhile, enters_unless, takes_input}
+use Rattle.world_model.specs.gsmp_wire.declared.message.Message.{Message}
+use Rattle.world_model.specs.gsmp_wire.Layout.{octets_of}
+use Rattle.world_model.specs.gsmp_wire.Fields.{decoded}
+use Rattle.world_model.specs.ipv4_forward.declared.table.Route.{Route}
+use Rattle.world_model.proofs.link_model.Latest.{payload_of_push}
+use Rattle.world_model.proofs.link_model.Marks.{same_mark-Decides}
+use Rattle.world_model.specs.frame_model.Sending.{Sent}
+use Rattle.frame_readings.specs.ordered_lists.Ordered.{Every}
+use Rattle.frame_readings.proofs.ordered_lists.Every.{every_join, every_map, every_all}
+use Rattle.frame_readings.proofs.port_facts.Keyed.{on_both}
+use Rattle.world_model.specs.Controller.{Acted, free_slots}
+use Rattle.world_model.specs.Cells.{Taker}
+use Rattle.world_model.specs.Sending.{with_cells, sends}
+use Rattle.frame_readings.specs.controller_facts.Inputs.{Input, CellComes, PacketEnters, Ticks, Restarts, ChangeComes, FrameIsForged, CellLeaves, Meanwhile, enters_unless, takes_input}
 use Rattle.run_facts.specs.Frames.{IsFree}
 use Rattle.run_facts.proofs.Frames.{free_next, free_packet}
 use Rattle.running_worlds.proofs.MadeCells.{Ends, taken_by}
 use Rattle.run_facts.proofs.Walks.{Has, change_walk, tick_walk, restart_walk}
 use Rattle.control_places.proofs.Coming.{routed_walk, cell_walk}
-use Rattle.shown_cells.proofs.Made.{made_elsewhere}
+use Rattle.frame_readings.proofs.shown_cells.Made.{made_elsewhere}
 
 -- *The payload of a message of GSMP*, read or written
 pub data IsOfGsmp (payload : List ℕ) : Type 0 where

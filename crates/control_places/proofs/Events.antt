@@ -1,33 +1,20 @@
 -- each event leaves the control frames between a controller and its switch where they are to be
 
 use Rattle.std.proofs.Common.{◌≡◌, ℕ, ◌+◌, List, [], ◌∷◌, Option, None, Some, refl, sym, ap, subst, arith, inl, inr}
-use Rattle.net_types.specs.declared.node.NodeId.{NodeId}
-use Rattle.net_types.specs.declared.node.PortNo.{PortNo}
-use Rattle.net_types.specs.declared.node.Place.{Place}
-use Rattle.net_types.specs.declared.node.Place.TheVariants.{Down, Up, Out}
-use Rattle.net_types.specs.Number.{GivenOut}
-use Rattle.atm_cells.specs.declared.cell.Cell.{Cell}
-use Rattle.link_model.specs.declared.frames.Frame.{Frame}
-use Rattle.link_model.specs.declared.record.Refusal.{Refusal}
-use Rattle.link_model.specs.Notes.{Journal}
-use Rattle.world_model.specs.Switch.{control_port}
+use Rattle.world_model.specs.Words.{NodeId, PortNo, Place, Down, Up, Out, GivenOut, Cell, Frame, Refusal, Journal, control_port, inject_refusal, injected, node_restarts, change_comes, Topology, World, Site, site_at, queue_at, with_queue_in, with_queue_of, with_queue, injects_by, arrives_at, carries_head, loses_head}
 use Rattle.world_model.specs.Controller.{Acted}
-use Rattle.world_model.specs.Packets.{inject_refusal, injected}
 use Rattle.world_model.specs.Cells as controller
 use Rattle.world_model.specs.Ticks.{ticks}
-use Rattle.world_model.specs.Resets.{node_restarts}
-use Rattle.world_model.specs.Changes.{change_comes}
-use Rattle.controller_facts.specs.Inputs.{Input, CellComes, PacketEnters, Ticks, Restarts, ChangeComes, enters_unless, takes_input}
-use Rattle.controller_facts.specs.Sound.{IsOwn}
+use Rattle.frame_readings.specs.controller_facts.Inputs.{Input, CellComes, PacketEnters, Ticks, Restarts, ChangeComes, enters_unless, takes_input}
+use Rattle.frame_readings.specs.controller_facts.Sound.{IsOwn}
 use Rattle.world_model.specs.declared.event.Event.{Event}
 use Rattle.world_model.specs.declared.event.Event.TheVariants.{Inject, Carry, Lose, Tick, TickSwitch, Restart, RestartSwitch, Forge, Route}
 use Rattle.world_model.specs.declared.link.LinkEnd.{LinkEnd}
-use Rattle.world_model.specs.Topology.{Topology, peer_of}
-use Rattle.world_model.specs.World.{World, Site, site_at, at_controller, at_switch}
-use Rattle.world_model.specs.Places.{queue_at, with_queue_in, with_queue_of, with_queue}
-use Rattle.world_model.specs.Step.{injects_by, arrives_at, carries_head, loses_head, acts}
-use Rattle.world_views.specs.Ready.{setups_of}
-use Rattle.world_views.specs.Shown.{acting}
+use Rattle.world_model.specs.Topology.{peer_of}
+use Rattle.world_model.specs.World.{at_controller, at_switch}
+use Rattle.world_model.specs.Step.{acts}
+use Rattle.frame_readings.specs.world_views.Ready.{setups_of}
+use Rattle.frame_readings.specs.world_views.Shown.{acting}
 use Rattle.run_facts.specs.Inputs as turns
 use Rattle.run_facts.specs.Inputs.{SwitchInput, switch_takes}
 use Rattle.run_facts.specs.Frames.{IsFree, Stay}

@@ -2,41 +2,23 @@
 
 use Rattle.std.proofs.Common.{◌≡◌, ℕ, true, List, [], ◌∷◌, drop, Option, None, Some, Result, Ok, refl, sym, subst}
 use Rattle.std.specs.Prelude.{◌==◌, nat_lt}
-use Rattle.net_types.specs.declared.node.PortNo.{PortNo}
-use Rattle.net_types.specs.declared.channel.Channel.{Channel}
-use Rattle.net_types.specs.declared.number.Mark.{Mark}
-use Rattle.atm_cells.specs.declared.cell.Cell.{Cell}
-use Rattle.ipv4_packet.specs.Packet.{protocol_of, first_fault}
-use Rattle.ipv4_packet.specs.declared.validate.PacketFault.{PacketFault}
-use Rattle.ipv4_packet.specs.Flow.{kind_of}
-use Rattle.ipv4_forward.specs.Hop.{hop_of, onward}
-use Rattle.ipv4_forward.specs.declared.outcome.Hop.{Hop}
-use Rattle.ipv4_forward.specs.declared.outcome.Hop.TheVariants.{Here, On, NoRoute, Expired}
-use Rattle.flow_encaps.specs.Default.{default_payload}
-use Rattle.flow_encaps.specs.Labelled.{labelled_payload}
-use Rattle.flow_encaps.specs.Unwrapped.{default_unwrapped, unwrapped}
-use Rattle.flow_encaps.specs.declared.default.EncapsFault.{EncapsFault}
-use Rattle.ifmp_wire.specs.declared.message.Message.{Message as IfmpMessage}
-use Rattle.ifmp_wire.specs.declared.reader.Fault.{Fault as IfmpFault}
-use Rattle.ifmp_wire.specs.Fields.{decoded as ifmp_decoded}
-use Rattle.gsmp_wire.specs.declared.fault.Fault.{Fault}
-use Rattle.gsmp_wire.specs.declared.message.Message.{Message}
-use Rattle.gsmp_wire.specs.Fields.{decoded as gsmp_decoded}
-use Rattle.link_model.specs.declared.record.Record.TheVariants.{Loss, Delivered, Dropped}
-use Rattle.link_model.specs.declared.record.Cause.TheVariants.{Unbound}
-use Rattle.link_model.specs.declared.record.DropCause.TheVariants as drop_causes
-use Rattle.link_model.specs.Notes.{Journal}
-use Rattle.frame_model.specs.Frame.{next_mark, octets_of, last_mark, payload_in, tested_by}
-use Rattle.frame_model.specs.Reassembly.{Reassembly, Taken, taken}
-use Rattle.port_model.specs.Setup.{control_end}
-use Rattle.port_model.specs.Labels.{Label}
-use Rattle.port_model.specs.Grants.{Grant}
-use Rattle.port_facts.proofs.Keyed.{on_both, on_each}
-use Rattle.world_model.specs.Controller.{Acted, Linked, free_slots, default_home}
-use Rattle.world_model.specs.Sending.{sends, sends_control}
-use Rattle.world_model.specs.Packets.{is_control, sends_next, goes_by, grant_by, forwarded, routes, injected, control_protocol}
-use Rattle.world_model.specs.Gsmp.{gsmp_holds}
-use Rattle.world_model.specs.Cells.{Taker, ForGsmp, ForDefault, ForLabel, taker_of, reassembly_of, with_reassembly, label_holds, ifmp_holds, counted_at, packet_holds, default_holds, frame_holds, after_test, ends_frame, takes_cell, cell_comes}
+use Rattle.world_model.specs.Words.{PortNo, Channel, Mark, Cell, protocol_of, PacketFault, kind_of, hop_of, onward, Hop, Here, On, default_payload, labelled_payload, default_unwrapped, unwrapped, EncapsFault, Loss, Delivered, Dropped, Unbound, Journal, next_mark, last_mark, payload_in, tested_by, Reassembly, control_end, Label, Grant, Linked, default_home, sends_control, is_control, sends_next, goes_by, grant_by, routes, injected, control_protocol, gsmp_holds, ForGsmp, ForDefault, ForLabel, taker_of, reassembly_of, with_reassembly, label_holds, ifmp_holds, counted_at, packet_holds, default_holds, frame_holds, takes_cell}
+use Rattle.world_model.specs.ipv4_packet.Packet.{first_fault}
+use Rattle.world_model.specs.ipv4_forward.declared.outcome.Hop.TheVariants.{NoRoute, Expired}
+use Rattle.world_model.specs.ifmp_wire.declared.message.Message.{Message as IfmpMessage}
+use Rattle.world_model.specs.ifmp_wire.declared.reader.Fault.{Fault as IfmpFault}
+use Rattle.world_model.specs.ifmp_wire.Fields.{decoded as ifmp_decoded}
+use Rattle.world_model.specs.gsmp_wire.declared.fault.Fault.{Fault}
+use Rattle.world_model.specs.gsmp_wire.declared.message.Message.{Message}
+use Rattle.world_model.specs.gsmp_wire.Fields.{decoded as gsmp_decoded}
+use Rattle.world_model.specs.link_model.declared.record.DropCause.TheVariants as drop_causes
+use Rattle.world_model.specs.frame_model.Frame.{octets_of}
+use Rattle.world_model.specs.frame_model.Reassembly.{Taken, taken}
+use Rattle.frame_readings.proofs.port_facts.Keyed.{on_both, on_each}
+use Rattle.world_model.specs.Controller.{Acted, free_slots}
+use Rattle.world_model.specs.Sending.{sends}
+use Rattle.world_model.specs.Packets.{forwarded}
+use Rattle.world_model.specs.Cells.{Taker, after_test, ends_frame, cell_comes}
 use Rattle.control_places.proofs.Notes.{AreFair, note_fair, taken_fair, tested_fair}
 use Rattle.control_places.proofs.RefusedWalks.{Has, sends_fair, control_fair, used_fair, counted_fair, ifmp_fair, told_fair}
 

@@ -4,18 +4,12 @@ use Rattle.std.proofs.Common.{◌≡◌, ℕ, ◌<◌, ◌≤◌, ◌+◌, ◌*�
 use Rattle.std.specs.Prelude.{nat_eq}
 use Rattle.std.specs.Option.{is_some}
 use Rattle.std.proofs.lemmas.Bool.Decides.{nat_tests}
-use Rattle.net_types.specs.declared.node.PortNo.{PortNo}
-use Rattle.net_types.specs.declared.channel.End.{End}
-use Rattle.keyed_lists.specs.Keyed.{at}
-use Rattle.ordered_lists.specs.Ordered.{Every}
-use Rattle.crossbar_model.specs.Channels.{IsLinkPort}
-use Rattle.port_model.specs.Setup.{Setup, home_of}
-use Rattle.port_facts.specs.Port.{setup_port, IsLinked}
-use Rattle.port_facts.proofs.Keyed.{at_every, at_key}
-use Rattle.world_model.specs.Controller.{Linked, port_key}
-use Rattle.world_model.specs.Cells.{port_on}
-use Rattle.controller_facts.proofs.Conditions.{label_has_home}
-use Rattle.world_views.specs.Between.{IsPortEnd, IsShapedBranch, default, label, home, out, joined}
+use Rattle.world_model.specs.Words.{PortNo, End, at, IsLinkPort, Setup, home_of, Linked, port_key, port_on}
+use Rattle.frame_readings.specs.ordered_lists.Ordered.{Every}
+use Rattle.frame_readings.specs.port_facts.Port.{setup_port, IsLinked}
+use Rattle.frame_readings.proofs.port_facts.Keyed.{at_every, at_key}
+use Rattle.frame_readings.proofs.controller_facts.Conditions.{label_has_home}
+use Rattle.frame_readings.specs.world_views.Between.{IsPortEnd, IsShapedBranch, default, label, home, out, joined}
 
 -- *Each port*, where the one of each number is
 pub each_port : (P : PortNo → Type 0) (xs : List Linked) → ((port : PortNo) (x : Linked) → at port_key port.0 xs ≡ Some x → P port) → Every (λ (x : Linked). P x.setup.port) xs

@@ -3,43 +3,27 @@
 use Rattle.std.proofs.Common.{◌≡◌, ℕ, zero, suc, ◌≤◌, List, [], ◌∷◌, Option, None, Some, Result, Ok, Err, refl, sym, ◌∙◌, ap, subst, arith, ◌⊎◌, inl, inr}
 use Rattle.std.specs.Prelude.{Contains, slice_index}
 use Rattle.std.specs.Option.{option_map, option_map_or, option_and_then}
-use Rattle.net_types.specs.declared.node.NodeId.{NodeId}
-use Rattle.net_types.specs.declared.node.Place.TheVariants.{Down, Up}
-use Rattle.net_types.specs.declared.number.Mark.{Mark}
-use Rattle.net_types.specs.declared.prefix.Addr.{Addr}
-use Rattle.atm_cells.specs.declared.cell.Cell.{Cell}
-use Rattle.ifmp_wire.specs.declared.message.Message.{Message as IfmpMessage}
-use Rattle.gsmp_wire.specs.declared.fault.Fault.{Fault}
-use Rattle.gsmp_wire.specs.declared.message.Message.{Message}
-use Rattle.gsmp_wire.specs.Layout.{octets_of}
-use Rattle.gsmp_wire.specs.Fields.{decoded}
-use Rattle.gsmp_reading.proofs.Read.{message_is_read}
-use Rattle.link_model.specs.declared.frames.Frame.{Frame}
-use Rattle.link_model.specs.Ledger.{payload_of}
-use Rattle.ordered_lists.specs.Ordered.{Every}
-use Rattle.keyed_lists.specs.Keyed.{at}
-use Rattle.port_facts.proofs.Keyed.{at_key, at_every, every_more}
-use Rattle.crossbar_model.specs.Crossbar.{queue_of}
-use Rattle.world_model.specs.Switch.{control_port}
-use Rattle.port_model.specs.Setup.{Policy}
-use Rattle.world_model.specs.Controller.{Linked, port_key}
-use Rattle.world_model.specs.Cells.{port_on}
-use Rattle.controller_facts.specs.Inputs.{Input, takes_input}
-use Rattle.controller_facts.specs.Sound.{IsOwn}
-use Rattle.controller_views.specs.Lifted.{payload_by}
+use Rattle.world_model.specs.Words.{NodeId, Down, Up, Mark, Addr, Cell, Frame, payload_of, at, queue_of, control_port, Policy, Linked, port_key, port_on, Topology, Node, World, Site, site_key, site_at, empty_world, opened_site, opens_each, with_opened, queue_in, queue_at, put_away, world_after, gsmp_of, gsmp_under, Past, past_of, frames_of}
+use Rattle.world_model.specs.ifmp_wire.declared.message.Message.{Message as IfmpMessage}
+use Rattle.world_model.specs.gsmp_wire.declared.fault.Fault.{Fault}
+use Rattle.world_model.specs.gsmp_wire.declared.message.Message.{Message}
+use Rattle.world_model.specs.gsmp_wire.Layout.{octets_of}
+use Rattle.world_model.specs.gsmp_wire.Fields.{decoded}
+use Rattle.frame_readings.proofs.gsmp_reading.Read.{message_is_read}
+use Rattle.frame_readings.specs.ordered_lists.Ordered.{Every}
+use Rattle.frame_readings.proofs.port_facts.Keyed.{at_key, at_every, every_more}
+use Rattle.frame_readings.specs.controller_facts.Inputs.{Input, takes_input}
+use Rattle.frame_readings.specs.controller_facts.Sound.{IsOwn}
+use Rattle.frame_readings.specs.controller_views.Lifted.{payload_by}
 use Rattle.world_model.specs.declared.event.Event.{Event}
-use Rattle.world_model.specs.Topology.{Topology, Node}
-use Rattle.world_model.specs.World.{World, Site, site_key, site_at, empty_world, opened, opened_site, opens_each, with_opened}
-use Rattle.world_model.specs.Places.{queue_in, queue_at}
+use Rattle.world_model.specs.World.{opened}
 use Rattle.world_model.specs.Step.{acts}
-use Rattle.world_model.specs.Run.{put_away, world_after}
-use Rattle.world_model.specs.Ways.{gsmp_of, gsmp_under, told}
-use Rattle.world_model.specs.Past.{Past, past_of, frames_of}
-use Rattle.world_views.specs.Made.{IsMadeAs, AreMade, plain, labelled, told as told_as, said}
-use Rattle.world_views.specs.Ready.{setups_of}
-use Rattle.world_views.specs.Shown.{acting}
-use Rattle.world_views.specs.Between.{IsWorld}
-use Rattle.world_views.specs.Kept.{Comes, behind}
+use Rattle.world_model.specs.Ways.{told}
+use Rattle.frame_readings.specs.world_views.Made.{IsMadeAs, AreMade, plain, labelled, told as told_as, said}
+use Rattle.frame_readings.specs.world_views.Ready.{setups_of}
+use Rattle.frame_readings.specs.world_views.Shown.{acting}
+use Rattle.frame_readings.specs.world_views.Between.{IsWorld}
+use Rattle.frame_readings.specs.world_views.Kept.{Comes, behind}
 use Rattle.run_facts.specs.Nodes.{IsNodeOfRun}
 use Rattle.run_facts.specs.Frames.{Stay}
 use Rattle.run_facts.proofs.Nodes.{runs_have_nodes}

@@ -3,18 +3,10 @@
 use Rattle.std.proofs.Common.{◌≡◌, ℕ, Bool, true, false, not, List, [], ◌∷◌, ◌++◌, length, map, Option, None, Some, refl, subst}
 use Rattle.std.specs.Prelude.{◌||◌, nat_le}
 use Rattle.std.specs.List.{list_any}
-use Rattle.net_types.specs.declared.number.Mark.{Mark}
-use Rattle.atm_cells.specs.declared.cell.Cell.{Cell}
-use Rattle.link_model.specs.declared.record.Record.{Record}
-use Rattle.link_model.specs.declared.record.Record.TheVariants.{Loss, Chance}
-use Rattle.link_model.specs.declared.record.Cause.TheVariants.{PoolFull, Cut, Broken}
-use Rattle.link_model.specs.Ledger.{has_entry, is_frame}
-use Rattle.link_model.specs.Notes.{Journal, noted}
-use Rattle.frame_model.specs.Frame.{last_mark, tested_by}
-use Rattle.frame_model.specs.Reassembly.{Reassembly, Taken, most_cells, marks_of, broken, distinct, noted_all, cut, passed_over, without_slot, too_long, joined, taken}
-use Rattle.ordered_lists.specs.Ordered.{Every}
-use Rattle.port_facts.proofs.Keyed.{on_both, on_each, every_more}
-use Rattle.world_model.specs.Headline.{is_bad}
+use Rattle.world_model.specs.Words.{Mark, Cell, Record, Loss, Chance, PoolFull, Cut, Broken, has_entry, is_frame, Journal, noted, last_mark, tested_by, Reassembly, most_cells, marks_of, broken, distinct, noted_all, cut, passed_over, without_slot, too_long, is_bad}
+use Rattle.world_model.specs.frame_model.Reassembly.{Taken, joined, taken}
+use Rattle.frame_readings.specs.ordered_lists.Ordered.{Every}
+use Rattle.frame_readings.proofs.port_facts.Keyed.{on_both, on_each, every_more}
 use Rattle.run_facts.proofs.Taking.{IsByLast}
 
 -- *No record is `Bad`*

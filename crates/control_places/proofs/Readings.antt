@@ -5,43 +5,25 @@ use Rattle.std.proofs.Common.{◌≡◌, ℕ, ◌/◌, ◌%◌, Bool, true, fals
 use Rattle.std.specs.Prelude.{◌==◌, ◌&&◌, is_some}
 use Rattle.std.specs.Option.{option_and_then}
 use Rattle.std.proofs.lemmas.Bool.Decides.{nat_tests}
-use Rattle.net_types.specs.declared.channel.Channel.{Channel}
-use Rattle.net_types.specs.declared.node.NodeId.{NodeId}
-use Rattle.net_types.specs.declared.node.PortNo.{PortNo}
-use Rattle.net_types.specs.declared.node.Place.TheVariants.{Up}
-use Rattle.net_types.specs.declared.number.Mark.{Mark}
-use Rattle.net_types.specs.declared.prefix.Addr.{Addr}
-use Rattle.net_types.specs.Label.{number_of_channel, label_number_of}
-use Rattle.atm_cells.specs.declared.cell.Cell.{Cell}
-use Rattle.ipv4_packet.specs.Packet.{ifmp_packet_of}
-use Rattle.ipv4_packet.specs.declared.flow.FlowId.{FlowId}
-use Rattle.flow_encaps.specs.Default.{default_payload}
-use Rattle.flow_encaps.specs.Labelled.{Carries}
-use Rattle.flow_encaps.specs.Unwrapped.{default_unwrapped}
-use Rattle.wire_laws.proofs.Packets.{unwrapped_again}
-use Rattle.ifmp_wire.specs.declared.message.Message.{Message as IfmpMessage}
-use Rattle.ifmp_wire.specs.Message.{octets_of as ifmp_octets}
-use Rattle.gsmp_wire.specs.declared.fault.Fault.{Fault}
-use Rattle.gsmp_wire.specs.declared.message.Message.{Message}
-use Rattle.gsmp_wire.specs.Fields.{decoded}
-use Rattle.link_model.specs.Ledger.{payload_of}
-use Rattle.port_model.specs.Labels.{Label, is_bound}
-use Rattle.port_model.specs.Port.{label_at}
-use Rattle.port_facts.proofs.Rules.{and_first, and_second}
-use Rattle.world_model.specs.Switch.{control_port}
-use Rattle.world_model.specs.Controller.{Controller, Acted, Linked, linked_at, default_channel}
-use Rattle.world_model.specs.Cells.{Taker, ForGsmp, ForDefault, ForLabel, same_channel, port_on, on_link, label_taker, taker_at, taker_of}
-use Rattle.controller_views.specs.Lifted.{payload_by}
-use Rattle.controller_bindings.specs.Bindings.{site, HasBoundLabels}
+use Rattle.world_model.specs.Words.{Channel, NodeId, PortNo, Up, Mark, Addr, number_of_channel, label_number_of, Cell, ifmp_packet_of, FlowId, default_payload, Carries, default_unwrapped, payload_of, Label, is_bound, label_at, control_port, Controller, Linked, linked_at, default_channel, ForGsmp, ForDefault, ForLabel, same_channel, port_on, on_link, label_taker, taker_at, taker_of, Topology, IsTopology, gsmp_of, Past, frames_of, last_bound}
+use Rattle.frame_readings.proofs.wire_laws.Packets.{unwrapped_again}
+use Rattle.world_model.specs.ifmp_wire.declared.message.Message.{Message as IfmpMessage}
+use Rattle.world_model.specs.ifmp_wire.Message.{octets_of as ifmp_octets}
+use Rattle.world_model.specs.gsmp_wire.declared.fault.Fault.{Fault}
+use Rattle.world_model.specs.gsmp_wire.declared.message.Message.{Message}
+use Rattle.world_model.specs.gsmp_wire.Fields.{decoded}
+use Rattle.frame_readings.proofs.port_facts.Rules.{and_first, and_second}
+use Rattle.world_model.specs.Controller.{Acted}
+use Rattle.world_model.specs.Cells.{Taker}
+use Rattle.frame_readings.specs.controller_views.Lifted.{payload_by}
+use Rattle.run_facts.specs.controller_bindings.Bindings.{site, HasBoundLabels}
 use Rattle.world_model.specs.declared.link.LinkEnd.{LinkEnd}
-use Rattle.world_model.specs.Topology.{Topology, peer_of}
-use Rattle.world_model.specs.Conditions.{IsTopology}
-use Rattle.world_model.specs.Ways.{told, gsmp_of}
-use Rattle.world_model.specs.Past.{Past, frames_of, last_bound}
-use Rattle.causes.proofs.Shown.{peer_back}
-use Rattle.shown_cells.specs.Label.{Told}
-use Rattle.world_views.specs.Made.{IsFit, IsMadeAs, plain as made_plain, labelled as made_labelled, told as made_told, said as made_said}
-use Rattle.world_views.specs.Marks.{Heading, own_end, heading_at, Means, early, control, local, plain, labelled}
+use Rattle.world_model.specs.Topology.{peer_of}
+use Rattle.world_model.specs.Ways.{told}
+use Rattle.running_worlds.proofs.causes.Shown.{peer_back}
+use Rattle.frame_readings.specs.shown_cells.Label.{Told}
+use Rattle.frame_readings.specs.world_views.Made.{IsFit, IsMadeAs, plain as made_plain, labelled as made_labelled, told as made_told, said as made_said}
+use Rattle.frame_readings.specs.world_views.Marks.{Heading, own_end, heading_at, Means, early, control, local, plain, labelled}
 use Rattle.frame_readings.specs.Reading.{IsToldAs}
 use Rattle.frame_readings.proofs.Apart.{snaps_apart}
 use Rattle.frame_readings.proofs.Packets.{is_forwarded, is_heard}

@@ -3,39 +3,27 @@
 use Rattle.std.proofs.Common.{◌≡◌, ℕ, ◌+◌, ◌≤◌, Bool, true, List, [], ◌∷◌, Option, None, Some, refl, subst, arith, inl, inr}
 use Rattle.std.specs.Prelude.{◌==◌, ◌&&◌}
 use Rattle.std.proofs.lemmas.Bool.Decides.{nat_tests}
-use Rattle.net_types.specs.declared.node.NodeId.{NodeId}
-use Rattle.net_types.specs.declared.node.PortNo.{PortNo}
-use Rattle.net_types.specs.declared.node.Place.{Place}
-use Rattle.net_types.specs.declared.node.Place.TheVariants.{Down, Up, Out}
-use Rattle.atm_cells.specs.declared.cell.Cell.{Cell}
-use Rattle.link_model.specs.declared.record.Record.TheVariants.{Loss, Refused}
-use Rattle.link_model.specs.declared.record.Cause.TheVariants.{Lost}
-use Rattle.link_model.specs.declared.record.Refusal.{Refusal}
-use Rattle.port_facts.proofs.Rules.{and_first}
+use Rattle.world_model.specs.Words.{NodeId, PortNo, Place, Down, Up, Out, Cell, Loss, Refused, Lost, Refusal, control_port, inject_refusal, injected, taker_of, node_restarts, change_comes, Topology, World, Site, site_at, controller_acts, switch_acts, place_node, queue_at, with_queue_in, with_queue_of, with_queue, injects_by, arrives_at, carries_head, loses_head}
+use Rattle.frame_readings.proofs.port_facts.Rules.{and_first}
 use Rattle.world_model.specs.Switch as switches
-use Rattle.world_model.specs.Switch.{control_port}
 use Rattle.world_model.specs.Conduct as conduct
 use Rattle.world_model.specs.Controller.{Acted}
-use Rattle.world_model.specs.Packets.{inject_refusal, injected}
 use Rattle.world_model.specs.Cells as controller
-use Rattle.world_model.specs.Cells.{Taker, taker_of}
+use Rattle.world_model.specs.Cells.{Taker}
 use Rattle.world_model.specs.Ticks.{ticks}
-use Rattle.world_model.specs.Resets.{node_restarts}
-use Rattle.world_model.specs.Changes.{change_comes}
 use Rattle.world_model.specs.declared.event.Event.{Event}
 use Rattle.world_model.specs.declared.event.Event.TheVariants.{Inject, Carry, Lose, Tick, TickSwitch, Restart, RestartSwitch, Forge, Route}
 use Rattle.world_model.specs.declared.link.LinkEnd.{LinkEnd}
-use Rattle.world_model.specs.Topology.{Topology, peer_of}
-use Rattle.world_model.specs.World.{World, Site, site_at, controller_acts, at_controller, switch_acts, at_switch}
-use Rattle.world_model.specs.Places.{place_node, queue_at, with_queue_in, with_queue_of, with_queue}
-use Rattle.world_model.specs.Step.{injects_by, arrives_at, carries_head, loses_head, acts}
-use Rattle.world_views.specs.Shown.{acting}
+use Rattle.world_model.specs.Topology.{peer_of}
+use Rattle.world_model.specs.World.{at_controller, at_switch}
+use Rattle.world_model.specs.Step.{acts}
+use Rattle.frame_readings.specs.world_views.Shown.{acting}
 use Rattle.running_worlds.proofs.MadeSites.{put_found}
 use Rattle.control_places.proofs.Notes.{AreFair, note_fair}
 use Rattle.control_places.proofs.RefusedWalks.{ticks_fair, node_restarts_fair, change_comes_fair}
 use Rattle.control_places.proofs.Frames.{EndsRight, taken_by, injected_fair, cell_fair}
 use Rattle.control_places.proofs.RefusedSwitches as switch
-use Rattle.input_events.proofs.Acting.{beside}
+use Rattle.running_worlds.proofs.input_events.Acting.{beside}
 
 -- *What is asked of an event*: each frame that a cell ends can be read, and no cell comes over a link to port 0
 abbrev pub UpRight : World → NodeId → Cell → Type 0

@@ -3,34 +3,24 @@
 use Rattle.std.proofs.Common.{◌≡◌, ℕ, true, false, List, [], ◌∷◌, None, Some, refl, sym, subst, arith, inl, inr}
 use Rattle.std.specs.Prelude.{nat_lt, Contains}
 use Rattle.std.specs.List.{list_any}
-use Rattle.net_types.specs.declared.node.NodeId.{NodeId}
-use Rattle.net_types.specs.declared.node.Place.TheVariants.{Down, Up, Out}
-use Rattle.net_types.specs.declared.number.Mark.{Mark}
-use Rattle.atm_cells.specs.declared.cell.Cell.{Cell}
-use Rattle.link_model.specs.Ledger.{payload_of}
-use Rattle.port_model.specs.Setup.{Policy}
+use Rattle.world_model.specs.Words.{NodeId, Down, Up, Out, Mark, Cell, payload_of, Policy, default_channel, ForGsmp, ForDefault, ForLabel, same_channel, port_on, taker_of, reassembly_of, Topology, World, Site, site_at, queue_at, put_away, Past, past_of, frames_of, is_bad}
 use Rattle.world_model.specs.Switch as switches
-use Rattle.world_model.specs.Controller.{free_slots, default_channel}
-use Rattle.world_model.specs.Cells.{Taker, ForGsmp, ForDefault, ForLabel, same_channel, port_on, taker_of, reassembly_of}
+use Rattle.world_model.specs.Controller.{free_slots}
+use Rattle.world_model.specs.Cells.{Taker}
 use Rattle.world_model.specs.declared.event.Event.{Event}
 use Rattle.world_model.specs.declared.event.Event.TheVariants.{Inject, Carry, Lose, Tick, TickSwitch, Restart, RestartSwitch, Forge, Route}
-use Rattle.world_model.specs.Topology.{Topology, peer_of}
-use Rattle.world_model.specs.World.{World, Site, site_at}
-use Rattle.world_model.specs.Places.{queue_at}
+use Rattle.world_model.specs.Topology.{peer_of}
 use Rattle.world_model.specs.Step.{acts}
-use Rattle.world_model.specs.Run.{put_away}
-use Rattle.world_model.specs.Past.{Past, past_of, frames_of}
-use Rattle.world_model.specs.Headline.{is_bad}
-use Rattle.world_views.specs.Marks.{Means, heading_at}
-use Rattle.world_views.specs.Shown.{acting}
-use Rattle.world_views.specs.Between.{IsWorld}
-use Rattle.world_views.specs.Kept.{Comes}
+use Rattle.frame_readings.specs.world_views.Marks.{Means, heading_at}
+use Rattle.frame_readings.specs.world_views.Shown.{acting}
+use Rattle.frame_readings.specs.world_views.Between.{IsWorld}
+use Rattle.frame_readings.specs.world_views.Kept.{Comes}
 use Rattle.ownership.specs.Places.{HasPlaces}
 use Rattle.run_facts.specs.Steps.{HasFront}
 use Rattle.run_facts.proofs.Nodes.{runs_have_nodes}
 use Rattle.run_facts.proofs.Steps.{runs_have_fronts, events_are_steps}
 use Rattle.run_facts.proofs.Takers.{gsmp_of}
-use Rattle.actor_pace.proofs.Cells.{ended_last}
+use Rattle.run_facts.proofs.actor_pace.Cells.{ended_last}
 use Rattle.running_worlds.proofs.Labels.{of_label}
 use Rattle.running_worlds.proofs.Made.{up, down}
 use Rattle.running_worlds.proofs.Kept.{given}
@@ -40,7 +30,7 @@ use Rattle.control_places.proofs.Frames.{IsOfGsmp, EndsRight, CanBeRead, taken_b
 use Rattle.control_places.proofs.RefusedSwitches as switch
 use Rattle.control_places.proofs.Readings.{no_peer, no_end, gsmp_can, IsOfDefault, of_default, some_end, default_can, label_can}
 use Rattle.control_places.proofs.RefusedEvents.{IsRight, event_fair}
-use Rattle.input_events.proofs.Acting.{beside}
+use Rattle.running_worlds.proofs.input_events.Acting.{beside}
 
 module _ (policy : Policy) (topology : Topology) (before : List Event) (world : IsWorld (past_of policy topology before)) (places : HasPlaces (past_of policy topology before)) where
   abbrev past : Past

@@ -3,29 +3,19 @@
 use Rattle.std.proofs.Common.{◌≡◌, ℕ, true, List, [], ◌∷◌, Option, None, Some, refl, sym, ◌∙◌, ap, subst}
 use Rattle.std.specs.Prelude.{slice_index_or}
 use Rattle.std.specs.Option.{option_map_or}
-use Rattle.net_types.specs.declared.node.NodeId.{NodeId}
-use Rattle.net_types.specs.declared.node.PortNo.{PortNo}
-use Rattle.net_types.specs.declared.node.Place.{Place}
-use Rattle.net_types.specs.declared.node.Place.TheVariants.{Down, Up, Out}
-use Rattle.atm_cells.specs.declared.cell.Cell.{Cell}
-use Rattle.link_model.specs.declared.frames.Frame.{Frame}
-use Rattle.ordered_lists.specs.Ordered.{Every}
-use Rattle.crossbar_model.specs.Crossbar.{queue_of}
+use Rattle.world_model.specs.Words.{NodeId, PortNo, Place, Down, Up, Out, Cell, Frame, queue_of, control_port, Linked, Topology, is_linked, World, Site, site_at, controller_acts, switch_acts, place_node, queue_in, queue_at, with_queue_in, with_queue_of, with_queue}
+use Rattle.frame_readings.specs.ordered_lists.Ordered.{Every}
 use Rattle.world_model.specs.Switch as switches
-use Rattle.world_model.specs.Switch.{control_port}
-use Rattle.world_model.specs.Controller.{Acted, Linked}
-use Rattle.controller_facts.specs.Inputs.{Input, takes_input}
-use Rattle.world_model.specs.Topology.{Topology}
-use Rattle.world_model.specs.Lines.{is_linked}
-use Rattle.world_model.specs.World.{World, Site, site_at, controller_acts, at_controller, switch_acts, at_switch}
-use Rattle.world_model.specs.Places.{place_node, queue_in, queue_at, with_queue_in, with_queue_of, with_queue}
-use Rattle.world_views.specs.Shown.{acting}
+use Rattle.world_model.specs.Controller.{Acted}
+use Rattle.frame_readings.specs.controller_facts.Inputs.{Input, takes_input}
+use Rattle.world_model.specs.World.{at_controller, at_switch}
+use Rattle.frame_readings.specs.world_views.Shown.{acting}
 use Rattle.run_facts.specs.Inputs.{SwitchInput, switch_takes}
 use Rattle.run_facts.specs.Frames.{IsFree, Stay}
 use Rattle.running_worlds.proofs.MadeSites.{Sited, put_sited}
 use Rattle.control_places.proofs.Controllers.{AreRight, rights_later, IsGiven, input_right}
 use Rattle.control_places.proofs.Switches.{LeadsHome, queue_set, switch_good}
-use Rattle.input_events.proofs.Acting.{beside}
+use Rattle.running_worlds.proofs.input_events.Acting.{beside}
 
 module _ (t : Topology) where
   abbrev pub LinkedTo : NodeId → PortNo → Type 0

@@ -1,12 +1,8 @@
 -- A chain that passes its test counts as the frame of its last cell
 
 use Rattle.std.specs.Prelude.{List, [], ◌∷◌, ◌++◌}
-use Rattle.port_model.specs.Setup.{Policy}
+use Rattle.world_model.specs.Words.{Policy, Topology, CountsAsItsFrame, past_of, IsTame}
 use Rattle.world_model.specs.declared.event.Event.{Event}
-use Rattle.world_model.specs.Topology.{Topology}
-use Rattle.world_model.specs.Stretches.{CountsAsItsFrame}
-use Rattle.world_model.specs.Past.{past_of}
-use Rattle.world_model.specs.Headline.{IsTame}
 
 -- *A chain that passes* has the payload of its last cell's frame, in each event of a run behind which no frame was forged and
 -- none has passed by chance

@@ -1,12 +1,10 @@
 -- Control frames between a controller and its switch stay on GSMP's channel, or on channels of ports of links
 
 use Rattle.std.specs.Prelude.{List}
-use Rattle.port_model.specs.Setup.{Policy}
+use Rattle.world_model.specs.Words.{Policy, Topology, past_of}
 use Rattle.world_model.specs.declared.event.Event.{Event}
-use Rattle.world_model.specs.Topology.{Topology}
-use Rattle.world_model.specs.Past.{past_of}
-use Rattle.world_views.specs.Between.{IsWorld}
-use Rattle.world_views.specs.Kept.{Comes, Begins, behind}
+use Rattle.frame_readings.specs.world_views.Between.{IsWorld}
+use Rattle.frame_readings.specs.world_views.Kept.{Comes, Begins, behind}
 use Rattle.ownership.specs.Places.{HasPlaces}
 
 abbrev pub PlacesAreKept : Type 0

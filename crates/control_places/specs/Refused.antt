@@ -2,13 +2,10 @@
 
 use Rattle.std.specs.Prelude.{◌≡◌, false, List}
 use Rattle.std.specs.List.{list_any}
-use Rattle.port_model.specs.Setup.{Policy}
+use Rattle.world_model.specs.Words.{Policy, Topology, past_of, is_bad}
 use Rattle.world_model.specs.declared.event.Event.{Event}
-use Rattle.world_model.specs.Topology.{Topology}
-use Rattle.world_model.specs.Past.{past_of}
-use Rattle.world_model.specs.Headline.{is_bad}
-use Rattle.world_views.specs.Between.{IsWorld}
-use Rattle.world_views.specs.Kept.{Comes, behind}
+use Rattle.frame_readings.specs.world_views.Between.{IsWorld}
+use Rattle.frame_readings.specs.world_views.Kept.{Comes, behind}
 use Rattle.ownership.specs.Places.{HasPlaces}
 
 -- the records of the event that comes have no `Bad`

@@ -5,23 +5,12 @@ use Rattle.std.specs.Prelude.{◌⊎◌, nat_eq, ◌||◌}
 use Rattle.std.specs.Option.{option_map_or}
 use Rattle.std.specs.List.{list_any}
 use Rattle.std.proofs.lemmas.Bool.Decides.{nat_tests}
-use Rattle.net_types.specs.declared.node.NodeId.{NodeId}
-use Rattle.net_types.specs.declared.node.PortNo.{PortNo}
-use Rattle.link_model.specs.declared.record.Record.{Record}
-use Rattle.link_model.specs.declared.record.Record.TheVariants.{Closed}
-use Rattle.link_model.specs.Notes.{noted}
-use Rattle.ordered_lists.specs.Ordered.{Every, InOrder}
-use Rattle.ordered_lists.proofs.Every.{every_map}
-use Rattle.keyed_lists.specs.Keyed.{at, put, without}
-use Rattle.port_model.specs.declared.action.Action.TheVariants.{CutChain}
-use Rattle.port_model.specs.Setup.{Setup}
-use Rattle.port_model.specs.Labels.{Label, label_number}
-use Rattle.port_model.specs.Port.{Session, Work, labels_of}
-use Rattle.port_model.specs.Resets.{closing, restarts}
-use Rattle.port_facts.proofs.Keyed.{by_eq, at_key, at_every, at_put_same, put_every, put_order}
-use Rattle.world_model.specs.Controller.{Acted, Linked, LabelChain, port_key, chain_key, linked_at, ports_of, chain_of}
-use Rattle.world_model.specs.Resets.{begins, with_work, cuts_of, closes_by, port_restarts_of, port_restarts, resets_gsmp, node_resets}
-use Rattle.controller_facts.proofs.Unmet.{put_each, none_with}
+use Rattle.world_model.specs.Words.{NodeId, PortNo, Record, Closed, noted, at, put, without, CutChain, Setup, Label, label_number, Session, Work, labels_of, closing, restarts, Linked, LabelChain, port_key, chain_key, linked_at, chain_of, begins, with_work, cuts_of, closes_by, port_restarts_of, port_restarts, resets_gsmp, node_resets}
+use Rattle.controller_law.specs.ordered_lists.Ordered.{Every, InOrder}
+use Rattle.controller_law.proofs.ordered_lists.Every.{every_map}
+use Rattle.controller_law.proofs.port_facts.Keyed.{by_eq, at_key, at_every, at_put_same, put_every, put_order}
+use Rattle.world_model.specs.Controller.{Acted, ports_of}
+use Rattle.controller_law.proofs.controller_facts.Unmet.{put_each, none_with}
 use Rattle.controller_law.proofs.Lists.{any_at}
 use Rattle.controller_bindings.proofs.Lasts.{some_same, Grows, stays_so, grows_then, grows_where, noted_grows, cut_grows}
 

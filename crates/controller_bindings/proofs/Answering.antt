@@ -2,42 +2,23 @@
 
 use Rattle.std.proofs.Common.{◌≡◌, ℕ, Bool, true, List, [], ◌∷◌, Option, None, Some, refl, if◌then◌else◌, map, fold}
 use Rattle.std.specs.Prelude.{◌==◌, ◌&&◌, find, flat_map, ◌++◌}
-use Rattle.net_types.specs.declared.node.PortNo.{PortNo}
-use Rattle.net_types.specs.declared.channel.End.{End}
-use Rattle.port_model.specs.Resets.{cleared}
-use Rattle.adjacency_table.specs.Side.{is_estab}
-use Rattle.gsmp_wire.specs.declared.request.Request.{Request}
-use Rattle.gsmp_wire.specs.declared.request.Request.TheVariants.{AddBranch, MoveBranch, DeleteTree, VerifyTree, DeleteAll, PortManagement, AllPorts}
-use Rattle.gsmp_wire.specs.declared.message.Message.{Message}
-use Rattle.gsmp_wire.specs.declared.message.Message.TheVariants as messages
-use Rattle.ordered_lists.specs.Ordered.{Every}
-use Rattle.port_model.specs.Desk.{Standing, empty_desk}
-use Rattle.port_model.specs.DeskAnswers.{Head, head_of, is_of_type, Answered, Unknown, Done, Ports, Failed, succeeded, outcome, answered_with, after_answer}
-use Rattle.port_model.specs.Setup.{Setup}
-use Rattle.port_facts.proofs.Keyed.{on_both}
-use Rattle.port_facts.proofs.Found.{by_number}
-use Rattle.port_facts.proofs.Rules.{IsTree, done_goes}
-use Rattle.world_model.specs.Controller.{Acted, Linked, linked_at, ports_of, with_linked, with_desk, default_end, default_home}
-use Rattle.world_model.specs.Asking.{asks}
-use Rattle.world_model.specs.Resets.{node_resets, begins}
-use Rattle.world_model.specs.Joins.{releases}
-use Rattle.world_model.specs.Meeting.{meets, up_ports, empties, default_branches, ends_meeting, has_emptied, port_of_input, behind_delete_all, causes_in_estab, causes, may_clear, clears_of, clears_port, clears, takes_answer, answer_comes, tells_port}
-use Rattle.crossbar_model.specs.Channels.{IsLinkPort}
-use Rattle.controller_facts.proofs.Moves.{by_rule, found_at_own}
+use Rattle.world_model.specs.Words.{PortNo, End, is_estab, Request, AddBranch, MoveBranch, DeleteTree, VerifyTree, PortManagement, Standing, empty_desk, Head, head_of, is_of_type, Answered, Unknown, Done, Ports, Failed, succeeded, outcome, answered_with, after_answer, Setup, Linked, linked_at, with_linked, with_desk, default_end, default_home, asks, node_resets, begins, releases, meets, up_ports, empties, default_branches, ends_meeting, has_emptied, port_of_input, behind_delete_all, causes_in_estab, causes, may_clear, clears_of, clears_port, clears, takes_answer, answer_comes, tells_port, IsLinkPort, NodeId, label_number_of, Label, label_at, label_by, freed, works, Record}
+use Rattle.world_model.specs.port_model.Resets.{cleared}
+use Rattle.world_model.specs.gsmp_wire.declared.request.Request.TheVariants.{DeleteAll, AllPorts}
+use Rattle.world_model.specs.gsmp_wire.declared.message.Message.{Message}
+use Rattle.world_model.specs.gsmp_wire.declared.message.Message.TheVariants as messages
+use Rattle.controller_law.specs.ordered_lists.Ordered.{Every}
+use Rattle.controller_law.proofs.port_facts.Keyed.{on_both}
+use Rattle.controller_law.proofs.port_facts.Found.{by_number}
+use Rattle.controller_law.proofs.port_facts.Rules.{IsTree, done_goes}
+use Rattle.world_model.specs.Controller.{Acted, ports_of}
+use Rattle.controller_law.proofs.controller_facts.Moves.{by_rule, found_at_own}
 use Rattle.controller_law.proofs.Holding.{Holds, answered_holds}
 use Rattle.controller_law.proofs.Settling.{IsSettled, answered_fits, releases_fits}
 use Rattle.controller_law.proofs.Whole.{Whole, holds_of, whole_of}
 use Rattle.controller_law.proofs.Meeting.{freed_by}
 use Rattle.controller_law.proofs.Releasing.{IsFree, releases_holds}
-use Rattle.net_types.specs.declared.node.NodeId.{NodeId}
-use Rattle.net_types.specs.Label.{label_number_of}
-use Rattle.port_model.specs.Labels.{Label}
-use Rattle.port_model.specs.Port.{label_at}
-use Rattle.port_model.specs.Hearing.{label_by}
-use Rattle.port_model.specs.Answers.{freed}
-use Rattle.port_model.specs.Answers as port_answers
-use Rattle.world_model.specs.Performing.{works}
-use Rattle.link_model.specs.declared.record.Record.{Record}
+use Rattle.world_model.specs.port_model.Answers as port_answers
 use Rattle.controller_bindings.proofs.Lasts.{stays_so}
 use Rattle.controller_bindings.proofs.Working.{freed_body}
 use Rattle.controller_bindings.proofs.Anew.{Fit}

@@ -2,77 +2,41 @@
 
 use Rattle.std.proofs.Common.{◌≡◌, ℕ, Bool, true, List, [], ◌∷◌, length, Option, None, Some, refl, ◌∙◌, fold, sym, ap, subst, inl, ◌++◌, append-nil, append_assoc}
 use Rattle.std.specs.Prelude.{nat_lt, ◌==◌, drop, Result, Ok, Err, ◌||◌}
-use Rattle.net_types.specs.declared.node.PortNo.{PortNo}
-use Rattle.net_types.specs.declared.channel.Channel.{Channel}
-use Rattle.net_types.specs.declared.number.Mark.{Mark}
-use Rattle.net_types.specs.declared.adjacency.Party.{Party}
-use Rattle.ipv4_packet.specs.Packet.{protocol_of, source_of, first_fault}
-use Rattle.ipv4_packet.specs.declared.validate.PacketFault.{PacketFault}
-use Rattle.ipv4_forward.specs.Hop.{hop_of, onward}
-use Rattle.ipv4_forward.specs.declared.outcome.Hop.{Hop}
-use Rattle.ipv4_forward.specs.declared.outcome.Hop.TheVariants.{Here, On, NoRoute, Expired}
-use Rattle.atm_cells.specs.declared.cell.Cell.{Cell}
-use Rattle.ipv4_packet.specs.Flow.{kind_of}
-use Rattle.flow_encaps.specs.Default.{default_payload}
-use Rattle.flow_encaps.specs.Labelled.{labelled_payload}
-use Rattle.flow_encaps.specs.declared.default.EncapsFault.{EncapsFault}
-use Rattle.flow_encaps.specs.Unwrapped.{default_unwrapped, unwrapped}
-use Rattle.ifmp_wire.specs.declared.message.Message.{Message as IfmpMessage}
-use Rattle.ifmp_wire.specs.declared.reader.Fault.{Fault as IfmpFault}
-use Rattle.ifmp_wire.specs.Fields.{decoded as ifmp_decoded}
-use Rattle.gsmp_wire.specs.Fields.{decoded as gsmp_decoded}
-use Rattle.gsmp_wire.specs.declared.fault.Fault.{Fault as GsmpFault}
-use Rattle.gsmp_wire.specs.declared.message.Message.{Message}
-use Rattle.gsmp_wire.specs.declared.message.Message.TheVariants as messages
-use Rattle.adjacency_table.specs.declared.message.Said.{Said}
-use Rattle.adjacency_table.specs.declared.message.Answer.{Answer}
-use Rattle.adjacency_table.specs.declared.message.Answer.TheVariants.{Quiet, Send, Open, Reset}
-use Rattle.adjacency_table.specs.Side as sides
-use Rattle.adjacency_table.specs.Side.{Side, IsSide, is_estab, is_open, ticked}
-use Rattle.adjacency_table.specs.Greeting.{greeting_of, gsmp_answer, gsmp_received}
-use Rattle.link_model.specs.declared.record.Cause.TheVariants.{Unbound}
-use Rattle.frame_model.specs.Frame.{Tested, tested, last_mark, next_mark}
-use Rattle.link_model.specs.declared.record.Layer.TheVariants as layers
-use Rattle.link_model.specs.declared.record.DropCause.TheVariants as causes_of
-use Rattle.link_model.specs.declared.record.Record.{Record}
-use Rattle.link_model.specs.declared.record.Record.TheVariants.{Bad, Loss, Delivered, Dropped}
-use Rattle.refusal_names.specs.Names.{encaps_refusal, packet_refusal, ifmp_refusal, gsmp_refusal}
-use Rattle.frame_model.specs.Reassembly.{Reassembly, Taken, taken, cut, nothing_taken}
-use Rattle.port_model.specs.Desk.{sent_again}
-use Rattle.port_model.specs.Setup.{Setup, control_end}
-use Rattle.port_model.specs.Labels.{Label, is_bound}
-use Rattle.port_model.specs.Grants.{Grant}
-use Rattle.port_model.specs.Counting.{counts, used}
-use Rattle.port_model.specs.Hearing.{hears}
-use Rattle.port_model.specs.Ticks as port_ticks
-use Rattle.port_facts.specs.Port.{Lives}
-use Rattle.port_facts.proofs.Keyed.{on_both, on_each, entered_every, without_every}
-use Rattle.port_facts.proofs.Rules.{used_goes, counts_goes}
-use Rattle.port_facts.proofs.Hearings.{hears_goes, ticks_goes}
-use Rattle.ordered_lists.specs.Ordered.{Every}
-use Rattle.crossbar_model.specs.Channels.{IsLinkPort}
-use Rattle.world_model.specs.Controller.{Acted, Linked, free_slots, linked_at, ports_of, note, chains_with, default_channel, default_home, LabelChain, port_key, chain_key, chain_slots, with_linked}
-use Rattle.world_model.specs.Sending.{sends, sends_control, says_gsmp}
-use Rattle.world_model.specs.Asking.{sends_request}
-use Rattle.world_model.specs.Resets.{begins, cuts_default_of, cuts_default, cuts_gsmp, node_resets, node_restarts}
-use Rattle.world_model.specs.Joins.{tries_joins}
-use Rattle.world_model.specs.Gsmp.{answers, steps, told, gsmp_holds}
-use Rattle.world_model.specs.Packets.{is_control, sends_next, goes_by, grant_by, forwarded, routes, control_protocol, inject_refusal}
-use Rattle.world_model.specs.Cells.{Taker, ForGsmp, ForDefault, ForLabel, reassembly_of, with_reassembly, label_holds, ifmp_holds, counted_at, packet_holds, default_holds, frame_holds, opened_frame, ends_frame, cell_comes, port_on, on_link, same_channel, label_taker, taker_at, takes_cell}
-use Rattle.world_model.specs.Ticks.{sends_again, ticks_port, ticks_ports, ticks_by, ticks}
-use Rattle.link_model.specs.declared.record.Refusal.{Refusal}
-use Rattle.controller_facts.specs.Inputs.{Input, CellComes, PacketEnters, Ticks, Restarts, ChangeComes, FrameIsForged, CellLeaves, Meanwhile, enters_unless, takes_input, takes_inputs}
-use Rattle.controller_facts.proofs.Lifetimes.{decoded_lives}
-use Rattle.controller_facts.proofs.Moves.{IsGsmpTurn, ages, gathering, moves_to, found_at_own, found_port, Found}
-use Rattle.controller_facts.proofs.Laws.{has_ports, moves_sound}
+use Rattle.world_model.specs.Words.{PortNo, Channel, Mark, Party, protocol_of, source_of, PacketFault, hop_of, onward, Hop, Here, On, Cell, kind_of, default_payload, labelled_payload, EncapsFault, default_unwrapped, unwrapped, Said, Answer, Quiet, Send, Open, Side, IsSide, is_estab, is_open, ticked, greeting_of, gsmp_answer, gsmp_received, Unbound, Tested, tested, last_mark, next_mark, Record, Bad, Loss, Delivered, Dropped, encaps_refusal, packet_refusal, ifmp_refusal, gsmp_refusal, Reassembly, cut, nothing_taken, sent_again, Setup, control_end, Label, is_bound, Grant, counts, used, hears, IsLinkPort, Linked, linked_at, chains_with, default_channel, default_home, LabelChain, port_key, chain_key, chain_slots, with_linked, sends_control, says_gsmp, sends_request, begins, cuts_default_of, cuts_default, cuts_gsmp, node_resets, node_restarts, tries_joins, gsmp_holds, is_control, sends_next, goes_by, grant_by, routes, control_protocol, inject_refusal, ForGsmp, ForDefault, ForLabel, reassembly_of, with_reassembly, label_holds, ifmp_holds, counted_at, packet_holds, default_holds, frame_holds, port_on, on_link, same_channel, label_taker, taker_at, takes_cell, sends_again, ticks_port, ticks_ports, ticks_by, Refusal, NodeId, label_number_of, entered, without, key_le, label_at, labels_of, meets, Layer}
+use Rattle.world_model.specs.ipv4_packet.Packet.{first_fault}
+use Rattle.world_model.specs.ipv4_forward.declared.outcome.Hop.TheVariants.{NoRoute, Expired}
+use Rattle.world_model.specs.ifmp_wire.declared.message.Message.{Message as IfmpMessage}
+use Rattle.world_model.specs.ifmp_wire.declared.reader.Fault.{Fault as IfmpFault}
+use Rattle.world_model.specs.ifmp_wire.Fields.{decoded as ifmp_decoded}
+use Rattle.world_model.specs.gsmp_wire.Fields.{decoded as gsmp_decoded}
+use Rattle.world_model.specs.gsmp_wire.declared.fault.Fault.{Fault as GsmpFault}
+use Rattle.world_model.specs.gsmp_wire.declared.message.Message.{Message}
+use Rattle.world_model.specs.gsmp_wire.declared.message.Message.TheVariants as messages
+use Rattle.world_model.specs.adjacency_table.declared.message.Answer.TheVariants.{Reset}
+use Rattle.world_model.specs.adjacency_table.Side as sides
+use Rattle.world_model.specs.link_model.declared.record.Layer.TheVariants as layers
+use Rattle.world_model.specs.link_model.declared.record.DropCause.TheVariants as causes_of
+use Rattle.world_model.specs.frame_model.Reassembly.{Taken, taken}
+use Rattle.world_model.specs.port_model.Ticks as port_ticks
+use Rattle.controller_law.specs.port_facts.Port.{Lives}
+use Rattle.controller_law.proofs.port_facts.Keyed.{on_both, on_each, entered_every, without_every}
+use Rattle.controller_law.proofs.port_facts.Rules.{used_goes, counts_goes}
+use Rattle.controller_law.proofs.port_facts.Hearings.{hears_goes, ticks_goes}
+use Rattle.controller_law.specs.ordered_lists.Ordered.{Every}
+use Rattle.world_model.specs.Controller.{Acted, free_slots, ports_of, note}
+use Rattle.world_model.specs.Sending.{sends}
+use Rattle.world_model.specs.Gsmp.{answers, steps, told}
+use Rattle.world_model.specs.Packets.{forwarded}
+use Rattle.world_model.specs.Cells.{Taker, opened_frame, ends_frame, cell_comes}
+use Rattle.world_model.specs.Ticks.{ticks}
+use Rattle.controller_law.specs.controller_facts.Inputs.{Input, CellComes, PacketEnters, Ticks, Restarts, ChangeComes, FrameIsForged, CellLeaves, Meanwhile, enters_unless, takes_input, takes_inputs}
+use Rattle.controller_law.proofs.controller_facts.Lifetimes.{decoded_lives}
+use Rattle.controller_law.proofs.controller_facts.Moves.{IsGsmpTurn, ages, gathering, moves_to, found_at_own, found_port, Found}
+use Rattle.controller_law.proofs.controller_facts.Laws.{has_ports, moves_sound}
 use Rattle.controller_law.proofs.Whole.{Whole, numbered_whole, chained_whole}
 use Rattle.std.specs.Option.{option_and_then}
-use Rattle.net_types.specs.declared.node.NodeId.{NodeId}
-use Rattle.net_types.specs.Label.{label_number_of}
-use Rattle.keyed_lists.specs.Keyed.{entered, without, key_le}
-use Rattle.port_model.specs.Port.{label_at, labels_of}
-use Rattle.port_facts.proofs.Found.{by_number}
-use Rattle.controller_facts.specs.Sound.{IsOwn}
+use Rattle.controller_law.proofs.port_facts.Found.{by_number}
+use Rattle.controller_law.specs.controller_facts.Sound.{IsOwn}
 use Rattle.controller_law.proofs.Events.{routes_holds, steps_holds, sends_again_holds, ticks_port_holds, input_holds}
 use Rattle.std.proofs.Math.Seq.{drop-append_seam}
 use Rattle.controller_bindings.specs.Bindings.{IsOfNode, noted_by, noted_by_all}
@@ -83,8 +47,6 @@ use Rattle.controller_bindings.proofs.Tied.{Tied, noted_put, Settled, NoCut, Goe
 use Rattle.controller_bindings.proofs.Performing.{IsTied, tied_at, put_tied, at_port_goes}
 use Rattle.controller_bindings.proofs.Joining.{tries_joins_settled, change_comes_settled}
 use Rattle.controller_bindings.proofs.Answering.{meets_goes, answer_comes_settled}
-use Rattle.world_model.specs.Meeting.{meets}
-use Rattle.link_model.specs.declared.record.Layer.{Layer}
 
 -- *Packets*
 sends_next_goes : (a : Acted) (came : Mark) (channel : Channel) (payload : List ℕ) → Goes a (sends_next a came channel payload)

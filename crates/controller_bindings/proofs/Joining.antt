@@ -5,51 +5,26 @@ use Rattle.std.proofs.Common.{◌≡◌, ℕ, Bool, true, false, List, [], ◌�
 use Rattle.std.specs.Prelude.{◌+◌, ◌&&◌, not, is_none, nat_lt, flat_map}
 use Rattle.std.specs.Option.{option_map, option_and_then}
 use Rattle.std.specs.List.{list_any, filter_map, cons_option}
-use Rattle.net_types.specs.declared.node.NodeId.{NodeId}
-use Rattle.net_types.specs.declared.node.PortNo.{PortNo}
-use Rattle.net_types.specs.declared.channel.End.{End}
-use Rattle.net_types.specs.Label.{number_of_channel}
-use Rattle.ipv4_packet.specs.declared.flow.FlowId.{FlowId}
-use Rattle.ipv4_packet.specs.Flow.{next_hop_of}
-use Rattle.ipv4_packet.specs.Parts.{flow_destination, same_flow}
-use Rattle.ipv4_forward.specs.Best.{best}
-use Rattle.ipv4_forward.specs.Change.{changed}
-use Rattle.ipv4_forward.specs.declared.change.RouteChange.{RouteChange}
-use Rattle.ipv4_forward.specs.declared.table.Next.{Next}
-use Rattle.ipv4_forward.specs.declared.table.Next.TheVariants.{Local, Via}
-use Rattle.ipv4_forward.specs.declared.table.Route.{Route}
-use Rattle.gsmp_wire.specs.declared.request.Request.{Request}
-use Rattle.gsmp_wire.specs.declared.request.Request.TheVariants.{MoveBranch}
-use Rattle.link_model.specs.declared.record.Record.TheVariants.{Part, Routes}
-use Rattle.ordered_lists.specs.Ordered.{Every}
-use Rattle.ordered_lists.proofs.Every.{every_map, every_map2, every_left, every_right}
-use Rattle.keyed_lists.specs.Keyed.{entered, in_order}
-use Rattle.port_model.specs.Desk.{on_input, most_asked}
-use Rattle.port_model.specs.Setup.{Setup, home_of}
-use Rattle.port_model.specs.Labels.{Label, Offered, label_number}
-use Rattle.port_model.specs.Grants.{Grant, grant_for, is_by_controller, input_of}
-use Rattle.port_model.specs.Port.{label_at, labels_of}
-use Rattle.port_model.specs.Saying.{closes}
-use Rattle.port_model.specs.Joins as port_joins
-use Rattle.port_facts.specs.Port.{setup_port, IsLabelEnd, IsPort}
-use Rattle.port_facts.proofs.Keyed.{on_both, on_each, at_key, at_every}
-use Rattle.port_facts.proofs.Found.{find_passes}
-use Rattle.port_facts.proofs.Rules.{and_first, and_second}
-use Rattle.world_model.specs.Controller.{Acted, Linked, port_key, linked_at, note, ports_of}
-use Rattle.world_model.specs.Resets.{begins}
-use Rattle.world_model.specs.Joins.{Join, join_to, joins_at, joins_of, end_le, join_of, parts, gives_back, releases_join, releases_input, released_inputs, resets_spent, releases, output_of, port_by, join_through, join_by, join_for, is_offered, may_join, enters_grant, enters_label, joins, tries_label, label_on, tries_join, inputs_at, tries_joins}
-use Rattle.world_model.specs.Routes.{same_next, differs, route_stays}
-use Rattle.world_model.specs.Changes.{is_changed, changed_joins, takes_join_back, begins_change, takes_change, may_take, takes_each, takes_changes, change_comes}
-use Rattle.controller_facts.specs.Sound.{IsSound}
-use Rattle.controller_facts.proofs.Moves.{Found, HasPorts, found_setup}
-use Rattle.controller_facts.proofs.Joining.{every_flat_map, each_there}
-use Rattle.controller_facts.proofs.Entering.{is_offered_by, inputs_of_port}
-use Rattle.controller_facts.proofs.Laws.{has_ports}
-use Rattle.controller_facts.proofs.Each.{tries_join_keeps}
+use Rattle.world_model.specs.Words.{NodeId, PortNo, End, number_of_channel, FlowId, next_hop_of, flow_destination, same_flow, best, changed, RouteChange, Next, Local, Via, Request, MoveBranch, Part, Routes, entered, in_order, on_input, most_asked, Setup, home_of, Label, Offered, label_number, Grant, grant_for, is_by_controller, label_at, labels_of, closes, Linked, port_key, linked_at, begins, join_to, joins_at, joins_of, end_le, join_of, parts, gives_back, releases_join, releases_input, released_inputs, resets_spent, releases, port_by, join_through, join_by, join_for, is_offered, may_join, enters_grant, enters_label, joins, tries_label, label_on, tries_join, inputs_at, tries_joins, same_next, differs, route_stays, is_changed, changed_joins, takes_join_back, begins_change, takes_change, may_take, takes_each, takes_changes, change_comes, last_bound, Record}
+use Rattle.world_model.specs.ipv4_forward.declared.table.Route.{Route}
+use Rattle.controller_law.specs.ordered_lists.Ordered.{Every}
+use Rattle.controller_law.proofs.ordered_lists.Every.{every_map, every_map2, every_left, every_right}
+use Rattle.world_model.specs.port_model.Grants.{input_of}
+use Rattle.world_model.specs.port_model.Joins as port_joins
+use Rattle.controller_law.specs.port_facts.Port.{setup_port, IsLabelEnd, IsPort}
+use Rattle.controller_law.proofs.port_facts.Keyed.{on_both, on_each, at_key, at_every}
+use Rattle.controller_law.proofs.port_facts.Found.{find_passes}
+use Rattle.controller_law.proofs.port_facts.Rules.{and_first, and_second}
+use Rattle.world_model.specs.Controller.{Acted, note, ports_of}
+use Rattle.world_model.specs.Joins.{Join, output_of}
+use Rattle.controller_law.specs.controller_facts.Sound.{IsSound}
+use Rattle.controller_law.proofs.controller_facts.Moves.{Found, HasPorts, found_setup}
+use Rattle.controller_law.proofs.controller_facts.Joining.{every_flat_map, each_there}
+use Rattle.controller_law.proofs.controller_facts.Entering.{is_offered_by, inputs_of_port}
+use Rattle.controller_law.proofs.controller_facts.Laws.{has_ports}
+use Rattle.controller_law.proofs.controller_facts.Each.{tries_join_keeps}
 use Rattle.controller_law.proofs.Lists.{any_each}
 use Rattle.controller_law.proofs.Ordering.{same_number}
-use Rattle.world_model.specs.Past.{last_bound}
-use Rattle.link_model.specs.declared.record.Record.{Record}
 use Rattle.controller_bindings.specs.Bindings.{site, IsBoundLast}
 use Rattle.controller_bindings.proofs.Lasts.{stays_so}
 use Rattle.controller_bindings.proofs.Working.{Lends, joins_body, lent_body, given_back_body, closes_body, joins_mild, lent_mild, given_back_mild, closes_mild}

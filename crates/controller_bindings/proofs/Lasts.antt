@@ -8,25 +8,13 @@ use Rattle.std.proofs.lemmas.Grind.{flat_map-append}
 use Rattle.std.proofs.lemmas.List.{append-nil}
 use Rattle.std.proofs.lemmas.Bool.Decides.{nat_tests}
 use Rattle.std.proofs.lemmas.List.Folds.{list_any-append}
-use Rattle.net_types.specs.declared.node.NodeId.{NodeId}
-use Rattle.net_types.specs.declared.node.PortNo.{PortNo}
-use Rattle.net_types.specs.declared.number.Mark.{Mark}
-use Rattle.ipv4_packet.specs.declared.flow.FlowId.{FlowId}
-use Rattle.atm_cells.specs.declared.cell.Cell.{Cell}
-use Rattle.link_model.specs.declared.record.Record.{Record}
-use Rattle.link_model.specs.declared.record.Record.TheVariants.{Loss, Bind, Chance}
-use Rattle.link_model.specs.declared.record.Cause.TheVariants.{PoolFull, Broken, Cut}
-use Rattle.link_model.specs.Ledger.{has_entry, is_frame}
-use Rattle.link_model.specs.Notes.{Journal, noted}
-use Rattle.frame_model.specs.Reassembly.{Reassembly, Taken, broken, noted_all, cut, distinct, marks_of, taken, passed_over, without_slot, too_long, joined, most_cells}
-use Rattle.frame_model.specs.Frame.{tested, tested_by, payload_in, octets_of, last_mark}
-use Rattle.port_model.specs.declared.action.Action.{Action}
-use Rattle.port_model.specs.declared.action.Action.TheVariants.{Note, CutChain}
-use Rattle.ordered_lists.specs.Ordered.{Every}
-use Rattle.ordered_lists.proofs.Every.{every_join}
-use Rattle.port_facts.proofs.Keyed.{on_both}
+use Rattle.world_model.specs.Words.{NodeId, PortNo, Mark, FlowId, Cell, Record, Loss, Bind, Chance, PoolFull, Broken, Cut, has_entry, is_frame, Journal, noted, Reassembly, broken, noted_all, cut, distinct, marks_of, passed_over, without_slot, too_long, most_cells, tested, tested_by, payload_in, last_mark, Action, Note, CutChain, bound_by, last_bound}
+use Rattle.world_model.specs.frame_model.Reassembly.{Taken, taken, joined}
+use Rattle.world_model.specs.frame_model.Frame.{octets_of}
+use Rattle.controller_law.specs.ordered_lists.Ordered.{Every}
+use Rattle.controller_law.proofs.ordered_lists.Every.{every_join}
+use Rattle.controller_law.proofs.port_facts.Keyed.{on_both}
 use Rattle.world_model.specs.declared.link.LinkEnd.{LinkEnd}
-use Rattle.world_model.specs.Past.{bound_by, last_bound}
 use Rattle.controller_bindings.specs.Bindings.{site, IsOfNode}
 
 -- *Options*

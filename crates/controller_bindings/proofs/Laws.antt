@@ -3,35 +3,24 @@
 use Rattle.std.proofs.Common.{◌≡◌, ℕ, List, [], ◌∷◌, Option, None, Some, refl, sym, ◌∙◌, ap, subst, inl, inr}
 use Rattle.std.specs.Prelude.{◌+◌}
 use Rattle.std.specs.Option.{option_and_then}
-use Rattle.net_types.specs.declared.node.NodeId.{NodeId}
-use Rattle.net_types.specs.declared.node.PortNo.{PortNo}
-use Rattle.net_types.specs.Label.{number_of_channel}
-use Rattle.ipv4_packet.specs.declared.flow.FlowId.{FlowId}
-use Rattle.ipv4_forward.specs.declared.table.Next.TheVariants.{Via}
-use Rattle.ordered_lists.specs.Ordered.{Every}
-use Rattle.ordered_lists.proofs.Every.{every_all, every_map, every_map2, every_mapped, every_unmapped}
-use Rattle.port_model.specs.Setup.{Setup}
-use Rattle.port_model.specs.Labels.{Label, label_number}
-use Rattle.port_model.specs.Grants.{grant_label}
-use Rattle.port_model.specs.Port.{label_at, labels_of}
-use Rattle.port_facts.specs.Port.{IsLabel}
-use Rattle.port_facts.proofs.Keyed.{at_key, at_every}
+use Rattle.world_model.specs.Words.{NodeId, PortNo, number_of_channel, FlowId, Via, Setup, Label, label_number, grant_label, label_at, labels_of, Linked, LabelChain, port_key, linked_at, joins_of, label_on, setup_of, opens_ports, last_bound, Record}
+use Rattle.controller_law.specs.ordered_lists.Ordered.{Every}
+use Rattle.controller_law.proofs.ordered_lists.Every.{every_all, every_map, every_map2, every_mapped, every_unmapped}
+use Rattle.controller_law.specs.port_facts.Port.{IsLabel}
+use Rattle.controller_law.proofs.port_facts.Keyed.{at_key, at_every}
 use Rattle.world_model.specs.declared.range.PortRange.{PortRange}
-use Rattle.world_model.specs.Controller.{Acted, Linked, LabelChain, port_key, linked_at}
-use Rattle.world_model.specs.Joins.{Join, joins_of, output_of, label_on}
-use Rattle.world_model.specs.Opening.{setup_of, opens_ports}
-use Rattle.controller_facts.specs.Inputs.{Input, takes_inputs}
-use Rattle.controller_facts.specs.Sound.{linked_setup, Opening, opened_by, setups_by}
-use Rattle.controller_facts.proofs.Moves.{HasPorts, found_port}
-use Rattle.controller_facts.proofs.Joining.{IsJoin, joins_are}
-use Rattle.controller_facts.proofs.Unmet.{ports_apart}
-use Rattle.controller_facts.proofs.Laws.{has_ports, always_sound}
+use Rattle.world_model.specs.Controller.{Acted}
+use Rattle.world_model.specs.Joins.{Join, output_of}
+use Rattle.controller_law.specs.controller_facts.Inputs.{Input, takes_inputs}
+use Rattle.controller_law.specs.controller_facts.Sound.{linked_setup, Opening, opened_by, setups_by}
+use Rattle.controller_law.proofs.controller_facts.Moves.{HasPorts, found_port}
+use Rattle.controller_law.proofs.controller_facts.Joining.{IsJoin, joins_are}
+use Rattle.controller_law.proofs.controller_facts.Unmet.{ports_apart}
+use Rattle.controller_law.proofs.controller_facts.Laws.{has_ports, always_sound}
 use Rattle.controller_law.specs.Law.{IsOpening}
 use Rattle.controller_law.proofs.Ordering.{same_number}
 use Rattle.controller_law.proofs.Whole.{Whole}
 use Rattle.controller_law.proofs.Laws.{always_holds, held_joins, links_by}
-use Rattle.world_model.specs.Past.{last_bound}
-use Rattle.link_model.specs.declared.record.Record.{Record}
 use Rattle.controller_bindings.specs.Bindings.{site, IsBoundLast, HasBoundLabels, IsLed, HasLedJoins, IsOfBound, GathersForBound, noted_by_all, JournalsGrow, NotesOwn, Always}
 use Rattle.controller_bindings.proofs.Lasts.{some_same}
 use Rattle.controller_bindings.proofs.Working.{Lends, Remains}

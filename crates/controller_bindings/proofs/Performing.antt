@@ -5,48 +5,28 @@ use Rattle.std.proofs.Common.{◌≡◌, ◌≢◌, ℕ, Bool, true, false, List
 use Rattle.std.specs.Prelude.{◌⊎◌, ◌||◌, nat_eq, flat_map}
 use Rattle.std.specs.Option.{option_map_or, option_and_then}
 use Rattle.std.proofs.lemmas.Bool.Decides.{nat_tests}
-use Rattle.net_types.specs.declared.node.NodeId.{NodeId}
-use Rattle.net_types.specs.declared.node.PortNo.{PortNo}
-use Rattle.net_types.specs.declared.channel.End.{End}
-use Rattle.net_types.specs.Label.{number_of_channel}
-use Rattle.ipv4_packet.specs.declared.flow.FlowId.{FlowId}
-use Rattle.flow_encaps.specs.Default.{default_payload}
-use Rattle.ifmp_wire.specs.Message.{octets_of as ifmp_octets}
-use Rattle.ipv4_forward.specs.declared.table.Route.{Route}
-use Rattle.ipv4_packet.specs.Packet.{ifmp_packet_of}
-use Rattle.adjacency_table.specs.Side.{is_estab}
-use Rattle.gsmp_wire.specs.declared.request.Request.TheVariants.{DeleteAll}
-use Rattle.link_model.specs.declared.record.Record.{Record}
-use Rattle.frame_model.specs.Reassembly.{cut}
-use Rattle.ordered_lists.specs.Ordered.{Every}
-use Rattle.ordered_lists.proofs.Every.{every_all, every_map, every_map2, every_join, every_right}
-use Rattle.keyed_lists.specs.Keyed.{at, put, without}
-use Rattle.port_model.specs.declared.action.Action.{Action}
-use Rattle.port_model.specs.declared.action.Action.TheVariants as actions
-use Rattle.port_model.specs.declared.action.Action.TheVariants.{Say, Ask, Note, CutChain, TakeBack, Withdraw}
-use Rattle.port_model.specs.Setup.{Setup}
-use Rattle.port_model.specs.Labels.{Label}
-use Rattle.port_model.specs.Grants.{Grant, GrantState, Idle, ByController, ByInput, Leaving, grant_label, input_of}
-use Rattle.port_model.specs.Port.{Session, Work, labels_of}
-use Rattle.port_model.specs.Resets.{closing, left_in, left_of, withdrawing_in, withdrawing_of, withdrawing, taking_back_in, taking_back, resets}
-use Rattle.port_facts.specs.Port.{IsPort, IsAction, AnyChannel}
-use Rattle.port_facts.proofs.Keyed.{on_both, on_each, by_eq, at_key, at_every, at_put_same, put_every, put_order, each_found}
-use Rattle.port_facts.proofs.Steps.{GoesOn}
-use Rattle.world_model.specs.Controller.{Acted, Linked, LabelChain, port_key, chain_key, linked_at, chain_of, note, default_home}
-use Rattle.world_model.specs.Resets.{cuts_of, closes_by, begins, with_work}
-use Rattle.world_model.specs.Performing.{does, does_in_estab, resets_as, resets_of, resets_port, performs, performs_in_estab, Rule, works_as, works, at_port}
-use Rattle.world_model.specs.Meeting.{is_clearing}
-use Rattle.controller_facts.specs.Sound.{IsSound}
-use Rattle.controller_facts.proofs.Moves.{Worked, worked_kept, by_rule, Found, placing, moves_to, HasPorts, found_setup, found_at_own, begun}
-use Rattle.controller_facts.proofs.Joining.{every_flat_map, each_there}
-use Rattle.controller_facts.proofs.Laws.{has_ports, moves_sound}
-use Rattle.controller_facts.proofs.Each.{performs_keeps}
-use Rattle.controller_facts.proofs.Unmet.{put_each, none_with}
+use Rattle.world_model.specs.Words.{NodeId, PortNo, End, number_of_channel, FlowId, default_payload, ifmp_packet_of, is_estab, Record, cut, at, put, without, Action, Say, Ask, Note, CutChain, TakeBack, Withdraw, Setup, Label, Grant, GrantState, Idle, ByController, ByInput, Leaving, grant_label, Session, Work, labels_of, closing, left_in, left_of, withdrawing_in, withdrawing_of, withdrawing, taking_back_in, taking_back, resets, Linked, LabelChain, port_key, chain_key, linked_at, chain_of, default_home, cuts_of, closes_by, begins, with_work, does, does_in_estab, resets_as, resets_of, resets_port, performs, performs_in_estab, Rule, works_as, works, at_port, is_clearing, last_bound}
+use Rattle.world_model.specs.ifmp_wire.Message.{octets_of as ifmp_octets}
+use Rattle.world_model.specs.ipv4_forward.declared.table.Route.{Route}
+use Rattle.world_model.specs.gsmp_wire.declared.request.Request.TheVariants.{DeleteAll}
+use Rattle.controller_law.specs.ordered_lists.Ordered.{Every}
+use Rattle.controller_law.proofs.ordered_lists.Every.{every_all, every_map, every_map2, every_join, every_right}
+use Rattle.world_model.specs.port_model.declared.action.Action.TheVariants as actions
+use Rattle.world_model.specs.port_model.Grants.{input_of}
+use Rattle.controller_law.specs.port_facts.Port.{IsPort, IsAction, AnyChannel}
+use Rattle.controller_law.proofs.port_facts.Keyed.{on_both, on_each, by_eq, at_key, at_every, at_put_same, put_every, put_order, each_found}
+use Rattle.controller_law.proofs.port_facts.Steps.{GoesOn}
+use Rattle.world_model.specs.Controller.{Acted, note}
+use Rattle.controller_law.specs.controller_facts.Sound.{IsSound}
+use Rattle.controller_law.proofs.controller_facts.Moves.{Worked, worked_kept, by_rule, Found, placing, moves_to, HasPorts, found_setup, found_at_own, begun}
+use Rattle.controller_law.proofs.controller_facts.Joining.{every_flat_map, each_there}
+use Rattle.controller_law.proofs.controller_facts.Laws.{has_ports, moves_sound}
+use Rattle.controller_law.proofs.controller_facts.Each.{performs_keeps}
+use Rattle.controller_law.proofs.controller_facts.Unmet.{put_each, none_with}
 use Rattle.controller_law.specs.Match.{joined_in, lent_in, lent_at, end_at}
 use Rattle.controller_law.proofs.Pairing.{same_pairs}
 use Rattle.controller_law.proofs.Matching.{any_goes}
 use Rattle.controller_law.proofs.Whole.{Whole}
-use Rattle.world_model.specs.Past.{last_bound}
 use Rattle.controller_bindings.specs.Bindings.{site, IsBoundLast, IsOfNode}
 use Rattle.controller_bindings.proofs.Lasts.{some_same, quiet_more, grows_where, cut_grows, notes_by, noted_in, cuts_in, Has}
 use Rattle.controller_bindings.proofs.Working.{Lends, Remains, Body, IsMild, goes_body}

@@ -4,45 +4,18 @@
 use Rattle.std.proofs.Common.{append-nil, append_assoc, ◌≡◌, ℕ, Bool, true, false, List, [], ◌∷◌, ◌++◌, length, Option, Some, refl, sym, ◌∙◌, ap, subst, if◌then◌else◌, fold, inl, inr}
 use Rattle.std.specs.Prelude.{◌==◌, nat_le}
 use Rattle.std.specs.Option.{option_map_or}
-use Rattle.net_types.specs.declared.node.NodeId.{NodeId}
-use Rattle.net_types.specs.declared.node.PortNo.{PortNo}
-use Rattle.net_types.specs.declared.channel.Channel.{Channel}
-use Rattle.net_types.specs.declared.channel.End.{End}
-use Rattle.net_types.specs.declared.number.Mark.{Mark}
-use Rattle.net_types.specs.Number.{next_control, with_control}
-use Rattle.net_types.specs.Label.{number_of_channel}
-use Rattle.ipv4_packet.specs.declared.flow.FlowId.{FlowId}
-use Rattle.ipv4_packet.specs.Flow.{next_hop_of}
-use Rattle.ipv4_packet.specs.Parts.{flow_destination}
-use Rattle.ipv4_forward.specs.Best.{best}
-use Rattle.ipv4_forward.specs.declared.table.Next.TheVariants.{Via}
-use Rattle.ipv4_forward.specs.declared.table.Route.{Route}
-use Rattle.adjacency_table.specs.Side.{is_estab}
-use Rattle.gsmp_wire.specs.Layout.{octets_of as gsmp_octets}
-use Rattle.gsmp_wire.specs.declared.message.Message.{Message as GsmpMessage}
-use Rattle.gsmp_wire.specs.declared.request.Request.{Request}
-use Rattle.gsmp_wire.specs.declared.request.Request.TheVariants.{MoveBranch}
-use Rattle.link_model.specs.declared.record.Record.{Record}
-use Rattle.link_model.specs.declared.record.Record.TheVariants.{Loss}
-use Rattle.link_model.specs.declared.record.Cause.TheVariants.{PoolFull}
-use Rattle.link_model.specs.Notes.{Journal, noted}
-use Rattle.frame_model.specs.Sending.{Sent}
-use Rattle.frame_model.specs.Frame.{frame_cells, made}
-use Rattle.ordered_lists.specs.Ordered.{Every, InOrder}
-use Rattle.ordered_lists.proofs.Every.{every_map, every_map2, every_join}
-use Rattle.port_model.specs.Desk.{Standing, asked, is_led_home, message_at, last_transaction}
-use Rattle.port_model.specs.Setup.{Setup, home_of}
-use Rattle.port_model.specs.Labels.{Label}
-use Rattle.port_model.specs.Port.{Session, labels_of}
-use Rattle.port_model.specs.declared.action.Action.{Action}
-use Rattle.port_facts.proofs.Keyed.{on_both, at_every, put_every}
-use Rattle.keyed_lists.specs.Keyed.{at, put}
-use Rattle.world_model.specs.Controller.{Controller, Acted, Linked, LabelChain, port_key, free_slots, with_desk, note, default_channel}
-use Rattle.world_model.specs.Sending.{with_cells, sends, sends_control, says_gsmp}
-use Rattle.world_model.specs.Asking.{sends_request, asks_next, asks, takes_back, withdraws_input}
-use Rattle.world_model.specs.Resets.{node_resets}
-use Rattle.controller_facts.specs.Sound.{IsSound, IsShutLinked}
-use Rattle.world_model.specs.Past.{last_bound}
+use Rattle.world_model.specs.Words.{NodeId, PortNo, Channel, End, Mark, next_control, with_control, number_of_channel, FlowId, next_hop_of, flow_destination, best, Via, is_estab, Request, MoveBranch, Record, Loss, PoolFull, Journal, noted, frame_cells, made, Standing, is_led_home, last_transaction, Setup, home_of, Label, Session, labels_of, Action, at, put, Controller, Linked, LabelChain, port_key, with_desk, default_channel, sends_control, says_gsmp, sends_request, asks_next, asks, takes_back, withdraws_input, node_resets, last_bound}
+use Rattle.world_model.specs.ipv4_forward.declared.table.Route.{Route}
+use Rattle.world_model.specs.gsmp_wire.Layout.{octets_of as gsmp_octets}
+use Rattle.world_model.specs.gsmp_wire.declared.message.Message.{Message as GsmpMessage}
+use Rattle.world_model.specs.frame_model.Sending.{Sent}
+use Rattle.controller_law.specs.ordered_lists.Ordered.{Every, InOrder}
+use Rattle.controller_law.proofs.ordered_lists.Every.{every_map, every_map2, every_join}
+use Rattle.world_model.specs.port_model.Desk.{asked, message_at}
+use Rattle.controller_law.proofs.port_facts.Keyed.{on_both, at_every, put_every}
+use Rattle.world_model.specs.Controller.{Acted, free_slots, note}
+use Rattle.world_model.specs.Sending.{with_cells, sends}
+use Rattle.controller_law.specs.controller_facts.Sound.{IsSound, IsShutLinked}
 use Rattle.controller_bindings.specs.Bindings.{site, IsBoundLast, IsOfNode}
 use Rattle.controller_bindings.proofs.Lasts.{none_some, SameLast, same_behind, BindNothing, Grows, stays_so, grows_then, grows_where, grows_behind, noted_grows, noted_in, cuts_in, Has}
 use Rattle.controller_bindings.proofs.Working.{Lends, Remains}

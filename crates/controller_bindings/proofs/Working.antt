@@ -5,52 +5,29 @@ use Rattle.std.proofs.Common.{◌≡◌, ◌≢◌, ℕ, ◌<◌, Bool, true, fa
 use Rattle.std.specs.Prelude.{◌⊎◌, not, ◌||◌, ◌+◌, is_some, nat_lt, nat_eq}
 use Rattle.std.specs.Option.{option_map, option_map_or, option_and_then}
 use Rattle.std.proofs.lemmas.Bool.Decides.{nat_tests}
-use Rattle.net_types.specs.declared.channel.End.{End}
-use Rattle.net_types.specs.declared.adjacency.Peer.{Peer}
-use Rattle.net_types.specs.Label.{number_of_channel, label_channel_of}
-use Rattle.ipv4_packet.specs.declared.flow.FlowId.{FlowId}
-use Rattle.adjacency_table.specs.declared.message.Said.{Said}
-use Rattle.adjacency_table.specs.declared.message.Answer.{Answer}
-use Rattle.adjacency_table.specs.declared.message.Answer.TheVariants.{Quiet, Send, Open, Reset}
-use Rattle.adjacency_table.specs.Side as sides
-use Rattle.adjacency_table.specs.declared.State.{State}
-use Rattle.adjacency_table.specs.declared.State.TheVariants.{Clearing, SynSent, SynRcvd, Estab}
-use Rattle.adjacency_table.specs.Side.{Side, IsSide, is_open, is_estab}
-use Rattle.adjacency_table.specs.Hello.{same_peer, hello_of, ifmp_answer, heard_from}
-use Rattle.gsmp_wire.specs.declared.request.Request.TheVariants.{AddBranch, DeleteTree}
-use Rattle.ifmp_wire.specs.declared.message.Message.TheVariants.{Adjacency}
-use Rattle.link_model.specs.declared.record.Record.{Record}
-use Rattle.link_model.specs.declared.record.Record.TheVariants.{Bind, Free, Opened, Join}
-use Rattle.ordered_lists.specs.Ordered.{Every, InOrder}
-use Rattle.ordered_lists.proofs.Every.{every_all, every_map}
-use Rattle.ordered_lists.proofs.InOrder.{order_map}
-use Rattle.keyed_lists.specs.Keyed.{at, put, without, entered, key_le}
-use Rattle.port_model.specs.Desk.{Desk, on_input}
-use Rattle.port_model.specs.declared.action.Action.{Action}
-use Rattle.port_model.specs.declared.action.Action.TheVariants as actions
-use Rattle.port_model.specs.declared.action.Action.TheVariants.{Say, Ask, Note, CutChain, TakeBack}
-use Rattle.port_model.specs.Setup.{Setup, label_end, control_end}
-use Rattle.port_model.specs.Labels.{Label, LabelState, Wiring, Offered, Recalled, Wired, label_number, is_bound, is_spare}
-use Rattle.port_model.specs.Grants.{Grant, GrantState, Idle, ByController, ByInput, Leaving, grant_label, input_of}
-use Rattle.port_model.specs.Port.{Session, Port, Work, acts, halts, with_session, with_label, with_new_label, without_label, with_grants, without_grant, labels_of, label_at, desk_after, has_room}
-use Rattle.port_model.specs.Saying.{Unnumbered, last_number, spent_number, own_of, peer_of, is_spent, tells_in, tells, closes, reclaim_ack}
-use Rattle.port_model.specs.Adjacency.{first_session, opens, answers}
-use Rattle.port_model.specs.Redirection.{accepts}
-use Rattle.port_model.specs.Joins.{joins_label, lent, given_back_in, given_back}
-use Rattle.port_model.specs.Answers.{freed_in}
-use Rattle.port_facts.specs.Port.{setup_port, AnyChannel, IsLabel, IsBefore, IsWork}
-use Rattle.port_facts.proofs.Keyed.{on_both, by_eq, at_key, at_every, at_put_same, at_put_other, put_every, without_every, entered_every, every_more}
-use Rattle.port_facts.proofs.Steps.{IsTurn, hears, ages, StepOn, GoesOn, greeting, telling, closing, noting, turning, heard, minding, relabelling, wiring, binding, quitting, unwiring, freeing, accepting, granting, regranting, starting, ending, taking_back, steps_to, goes_on_keeps}
-use Rattle.port_facts.proofs.Said.{any_step}
-use Rattle.port_facts.proofs.Turns.{IsTurned, received_turns, ticked_turns}
-use Rattle.port_facts.proofs.Kept.{step_kept}
-use Rattle.world_model.specs.Controller.{LabelChain}
-use Rattle.world_model.specs.Meeting.{is_clearing}
-use Rattle.controller_facts.proofs.Unmet.{put_each}
+use Rattle.world_model.specs.Words.{End, Peer, number_of_channel, label_channel_of, FlowId, Said, Answer, Quiet, Send, Open, State, Clearing, SynSent, SynRcvd, Estab, Side, IsSide, is_open, is_estab, same_peer, hello_of, ifmp_answer, heard_from, AddBranch, DeleteTree, Record, Bind, Free, Opened, at, put, without, entered, key_le, Desk, on_input, Action, Say, Ask, Note, CutChain, TakeBack, Setup, label_end, control_end, Label, LabelState, Wiring, Offered, Recalled, Wired, label_number, is_bound, is_spare, Grant, GrantState, Idle, ByController, ByInput, Leaving, grant_label, Session, Work, halts, with_session, with_label, with_new_label, without_label, with_grants, without_grant, labels_of, label_at, desk_after, has_room, Unnumbered, last_number, spent_number, own_of, is_spent, tells_in, tells, closes, reclaim_ack, first_session, opens, accepts, joins_label, lent, given_back_in, given_back, freed_in, LabelChain, is_clearing, last_bound}
+use Rattle.world_model.specs.adjacency_table.declared.message.Answer.TheVariants.{Reset}
+use Rattle.world_model.specs.adjacency_table.Side as sides
+use Rattle.world_model.specs.ifmp_wire.declared.message.Message.TheVariants.{Adjacency}
+use Rattle.world_model.specs.link_model.declared.record.Record.TheVariants.{Join}
+use Rattle.controller_law.specs.ordered_lists.Ordered.{Every, InOrder}
+use Rattle.controller_law.proofs.ordered_lists.Every.{every_all, every_map}
+use Rattle.controller_law.proofs.ordered_lists.InOrder.{order_map}
+use Rattle.world_model.specs.port_model.declared.action.Action.TheVariants as actions
+use Rattle.world_model.specs.port_model.Grants.{input_of}
+use Rattle.world_model.specs.port_model.Port.{Port, acts}
+use Rattle.world_model.specs.port_model.Saying.{peer_of}
+use Rattle.world_model.specs.port_model.Adjacency.{answers}
+use Rattle.controller_law.specs.port_facts.Port.{setup_port, AnyChannel, IsLabel, IsBefore, IsWork}
+use Rattle.controller_law.proofs.port_facts.Keyed.{on_both, by_eq, at_key, at_every, at_put_same, at_put_other, put_every, without_every, entered_every, every_more}
+use Rattle.controller_law.proofs.port_facts.Steps.{IsTurn, hears, ages, StepOn, GoesOn, greeting, telling, closing, noting, turning, heard, minding, relabelling, wiring, binding, quitting, unwiring, freeing, accepting, granting, regranting, starting, ending, taking_back, steps_to, goes_on_keeps}
+use Rattle.controller_law.proofs.port_facts.Said.{any_step}
+use Rattle.controller_law.proofs.port_facts.Turns.{IsTurned, received_turns, ticked_turns}
+use Rattle.controller_law.proofs.port_facts.Kept.{step_kept}
+use Rattle.controller_law.proofs.controller_facts.Unmet.{put_each}
 use Rattle.controller_law.specs.Match.{joined_in}
 use Rattle.controller_law.proofs.Pairing.{SamePairs, goes_pairs}
 use Rattle.world_model.specs.declared.link.LinkEnd.{LinkEnd}
-use Rattle.world_model.specs.Past.{last_bound}
 use Rattle.controller_bindings.specs.Bindings.{site, IsBoundLast, IsOfNode}
 use Rattle.controller_bindings.proofs.Lasts.{some_same, none_some, noted_in, cuts_in, Has, IsQuiet, more_noted, more_last, more_own, more_cuts, new_cut, bound_now, bound_elsewhere}
 

@@ -1,25 +1,14 @@
 -- What the labels, the joins and the chains of a controller stand for
 
 use Rattle.std.specs.Prelude.{◌≡◌, ◌≢◌, ◌≤◌, true, List, [], ◌∷◌, ◌++◌, length, drop, Some}
-use Rattle.net_types.specs.declared.node.NodeId.{NodeId}
-use Rattle.net_types.specs.declared.node.PortNo.{PortNo}
-use Rattle.net_types.specs.Label.{number_of_channel}
-use Rattle.ipv4_packet.specs.declared.flow.FlowId.{FlowId}
-use Rattle.ipv4_packet.specs.Flow.{flow_ttl, next_hop_of}
-use Rattle.ipv4_packet.specs.Parts.{flow_destination}
-use Rattle.ipv4_forward.specs.Best.{best}
-use Rattle.ipv4_forward.specs.declared.table.Next.TheVariants.{Via}
-use Rattle.link_model.specs.declared.record.Record.{Record}
-use Rattle.link_model.specs.declared.record.Record.TheVariants as kinds
-use Rattle.ordered_lists.specs.Ordered.{Every}
-use Rattle.port_model.specs.Labels.{Label, Wiring, is_bound}
-use Rattle.port_model.specs.Port.{label_at, labels_of}
-use Rattle.world_model.specs.Controller.{Acted, Linked, LabelChain}
-use Rattle.world_model.specs.Joins.{Join, joins_of, label_on}
+use Rattle.world_model.specs.Words.{NodeId, PortNo, number_of_channel, FlowId, flow_ttl, next_hop_of, flow_destination, best, Via, Record, Label, Wiring, is_bound, label_at, labels_of, Linked, LabelChain, joins_of, label_on, last_bound}
+use Rattle.world_model.specs.link_model.declared.record.Record.TheVariants as kinds
+use Rattle.controller_law.specs.ordered_lists.Ordered.{Every}
+use Rattle.world_model.specs.Controller.{Acted}
+use Rattle.world_model.specs.Joins.{Join}
 use Rattle.world_model.specs.declared.link.LinkEnd.{LinkEnd}
-use Rattle.world_model.specs.Past.{last_bound}
-use Rattle.controller_facts.specs.Inputs.{Input, Meanwhile, takes_input, takes_inputs}
-use Rattle.controller_facts.specs.Sound.{Opening, IsOwn, opened_by}
+use Rattle.controller_law.specs.controller_facts.Inputs.{Input, Meanwhile, takes_input, takes_inputs}
+use Rattle.controller_law.specs.controller_facts.Sound.{Opening, IsOwn, opened_by}
 use Rattle.controller_law.specs.Law.{IsOpening}
 
 -- a port of a node, as the end of a link

@@ -2,19 +2,12 @@
 
 use Rattle.std.proofs.Common.{◌≡◌, true, false, List, refl, ◌∙◌, ap, subst, if◌then◌else◌}
 use Rattle.std.specs.Prelude.{◌==◌}
-use Rattle.net_types.specs.declared.channel.End.{End}
-use Rattle.adjacency_table.specs.Side.{is_estab}
-use Rattle.gsmp_wire.specs.declared.request.Request.{Request}
-use Rattle.gsmp_wire.specs.declared.request.Request.TheVariants.{MoveBranch}
+use Rattle.world_model.specs.Words.{End, is_estab, Request, MoveBranch, last_transaction, Setup, home_of, asks_next, asks, takes_back, node_resets}
 use Rattle.branch_desk.specs.Requests.{has_function}
-use Rattle.port_model.specs.Desk.{last_transaction}
-use Rattle.port_model.specs.Setup.{Setup, home_of}
-use Rattle.port_facts.specs.Port.{IsLabelEnd, IsShaped, asks_ports, empties_control, empties_port, opens_input, opens_output, leads_label, leads_grant, joins_label, parts_label, frees_label}
+use Rattle.controller_law.specs.port_facts.Port.{IsLabelEnd, IsShaped, asks_ports, empties_control, empties_port, opens_input, opens_output, leads_label, leads_grant, joins_label, parts_label, frees_label}
 use Rattle.world_model.specs.Controller.{Acted}
-use Rattle.world_model.specs.Asking.{asks_next, asks, takes_back}
-use Rattle.world_model.specs.Resets.{node_resets}
-use Rattle.controller_facts.specs.Conditions as facts
-use Rattle.controller_facts.proofs.Conditions.{label_has_home}
+use Rattle.controller_law.specs.controller_facts.Conditions as facts
+use Rattle.controller_law.proofs.controller_facts.Conditions.{label_has_home}
 use Rattle.controller_law.proofs.Laws.{few_stand}
 use Rattle.controller_law.proofs.Holding.{Holds}
 use Rattle.router.specs.Conditions.{HasRoom, CanAsk, CanTakeBack}

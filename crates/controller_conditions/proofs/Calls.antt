@@ -1,12 +1,9 @@
 -- the conditions of a router's calls, of what is held
 
 use Rattle.std.proofs.Common.{◌≡◌, List, [], ◌∷◌, Option, None, Some, refl, ◌∙◌, subst, fold}
-use Rattle.net_types.specs.declared.node.PortNo.{PortNo}
-use Rattle.adjacency_table.specs.Greeting.{gsmp_received}
-use Rattle.adjacency_table.specs.Side.{ticked}
-use Rattle.world_model.specs.Controller.{Acted, Linked, linked_at, ports_of}
-use Rattle.world_model.specs.Resets.{cuts_default_of, cuts_default, cuts_gsmp, node_resets, node_restarts}
-use Rattle.controller_facts.proofs.Moves.{hears, ages}
+use Rattle.world_model.specs.Words.{PortNo, gsmp_received, ticked, Linked, linked_at, cuts_default_of, cuts_default, cuts_gsmp, node_resets, node_restarts}
+use Rattle.world_model.specs.Controller.{Acted, ports_of}
+use Rattle.controller_law.proofs.controller_facts.Moves.{hears, ages}
 use Rattle.controller_conditions.specs.Kept.{AreIn}
 use Rattle.controller_conditions.specs.Calls.{CanBeAsked, CanBeReset, PortsCanWork, SwitchCanBeMet}
 use Rattle.controller_conditions.proofs.Ready.{ready_of}

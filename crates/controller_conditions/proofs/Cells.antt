@@ -3,38 +3,20 @@
 use Rattle.std.proofs.Common.{◌≡◌, ℕ, Bool, true, false, List, length, Option, None, Some, refl, sym, subst, if◌then◌else◌, map}
 use Rattle.std.specs.Prelude.{nat_le}
 use Rattle.std.specs.Option.{option_and_then}
-use Rattle.net_types.specs.declared.node.PortNo.{PortNo}
-use Rattle.net_types.specs.declared.channel.Channel.{Channel}
-use Rattle.net_types.specs.declared.number.Mark.{Mark}
-use Rattle.net_types.specs.Label.{label_number_of}
-use Rattle.net_types.specs.Number.{next_control, with_control}
-use Rattle.ipv4_forward.specs.Hop.{hop_of, onward}
-use Rattle.ipv4_forward.specs.declared.outcome.Hop.{Hop}
-use Rattle.ipv4_forward.specs.declared.outcome.Hop.TheVariants.{Here, On, NoRoute, Expired}
-use Rattle.ipv4_packet.specs.Flow.{kind_of}
-use Rattle.flow_encaps.specs.Default.{default_payload}
-use Rattle.flow_encaps.specs.Labelled.{labelled_payload}
-use Rattle.link_model.specs.declared.record.Record.TheVariants.{Loss}
-use Rattle.link_model.specs.declared.record.Cause.TheVariants.{PoolFull}
-use Rattle.link_model.specs.Notes.{Journal, noted}
-use Rattle.frame_model.specs.Frame.{frame_cells, made, next_mark}
-use Rattle.frame_model.specs.Reassembly.{Reassembly}
-use Rattle.frame_model.specs.Sending.{Sent}
+use Rattle.world_model.specs.Words.{PortNo, Channel, Mark, label_number_of, next_control, with_control, hop_of, onward, Hop, Here, On, kind_of, default_payload, labelled_payload, Loss, PoolFull, Journal, noted, frame_cells, made, next_mark, Reassembly, Setup, control_end, Label, label_number, is_bound, Grant, label_at, labels_of, Controller, Linked, linked_at, chains_with, default_channel, default_home, sends_control, is_control, sends_next, goes_by, grant_by, routes, ForGsmp, ForDefault, ForLabel, port_on, on_link, same_channel, label_taker, taker_at, taker_of, with_reassembly}
+use Rattle.world_model.specs.ipv4_forward.declared.outcome.Hop.TheVariants.{NoRoute, Expired}
+use Rattle.world_model.specs.frame_model.Sending.{Sent}
 use Rattle.control_link.specs.Cells.{is_channel}
-use Rattle.port_model.specs.Setup.{Setup, control_end}
-use Rattle.port_model.specs.Labels.{Label, label_number, is_bound}
-use Rattle.port_model.specs.Grants.{Grant}
-use Rattle.port_model.specs.Port.{label_at, labels_of}
-use Rattle.port_facts.specs.Port.{IsLabel}
-use Rattle.port_facts.proofs.Keyed.{on_both, at_key, at_every}
-use Rattle.world_model.specs.Controller.{Controller, Acted, Linked, free_slots, linked_at, chains_with, default_channel, default_home}
-use Rattle.world_model.specs.Sending.{with_cells, sends, sends_control}
-use Rattle.world_model.specs.Packets.{is_control, sends_next, goes_by, grant_by, forwarded, routes}
-use Rattle.world_model.specs.Cells.{Taker, ForGsmp, ForDefault, ForLabel, port_on, on_link, same_channel, label_taker, taker_at, taker_of, with_reassembly}
-use Rattle.controller_facts.proofs.Moves.{gathering, chaining, Moves, moves_to, HasPorts, found_setup, found_at_own, found_port}
-use Rattle.controller_facts.proofs.Events.{routes_goes}
-use Rattle.controller_facts.proofs.Flows.{moves_flow}
-use Rattle.controller_facts.proofs.Laws.{has_ports, moves_sound}
+use Rattle.controller_law.specs.port_facts.Port.{IsLabel}
+use Rattle.controller_law.proofs.port_facts.Keyed.{on_both, at_key, at_every}
+use Rattle.world_model.specs.Controller.{Acted, free_slots}
+use Rattle.world_model.specs.Sending.{with_cells, sends}
+use Rattle.world_model.specs.Packets.{forwarded}
+use Rattle.world_model.specs.Cells.{Taker}
+use Rattle.controller_law.proofs.controller_facts.Moves.{gathering, chaining, Moves, moves_to, HasPorts, found_setup, found_at_own, found_port}
+use Rattle.controller_law.proofs.controller_facts.Events.{routes_goes}
+use Rattle.controller_law.proofs.controller_facts.Flows.{moves_flow}
+use Rattle.controller_law.proofs.controller_facts.Laws.{has_ports, moves_sound}
 use Rattle.controller_law.proofs.Whole.{Whole, chained_whole, numbered_whole}
 use Rattle.controller_law.proofs.Events.{routes_holds}
 use Rattle.router.specs.Node.{linked_range}

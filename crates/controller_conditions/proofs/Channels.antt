@@ -3,16 +3,12 @@
 use Rattle.std.proofs.Common.{◌≡◌, ℕ, true, false, List, [], ◌∷◌, Option, Some, refl, ◌∙◌, ap, map, is_some}
 use Rattle.std.specs.Prelude.{◌&&◌, nat_le}
 use Rattle.std.specs.Option.{option_map, option_map_or}
-use Rattle.net_types.specs.declared.node.PortNo.{PortNo}
-use Rattle.net_types.specs.Label.{is_label_number}
-use Rattle.keyed_lists.specs.Keyed.{at}
-use Rattle.port_model.specs.Setup.{Setup, is_in_range}
-use Rattle.port_facts.specs.Port.{setup_port}
-use Rattle.port_facts.proofs.Keyed.{at_map}
-use Rattle.port_facts.proofs.Rules.{and_second}
+use Rattle.world_model.specs.Words.{PortNo, is_label_number, at, Setup, is_in_range, Linked, port_key}
+use Rattle.controller_law.specs.port_facts.Port.{setup_port}
+use Rattle.controller_law.proofs.port_facts.Keyed.{at_map}
+use Rattle.controller_law.proofs.port_facts.Rules.{and_second}
 use Rattle.world_model.specs.declared.range.PortRange.{PortRange}
-use Rattle.world_model.specs.Controller.{Linked, port_key}
-use Rattle.controller_facts.specs.Sound.{linked_setup}
+use Rattle.controller_law.specs.controller_facts.Sound.{linked_setup}
 use Rattle.control_link.specs.Cells.{range_key, is_label_of, is_channel}
 use Rattle.control_link.specs.declared.taker.Taker.TheVariants.{Default, Label}
 use Rattle.router.specs.Node.{linked_range}

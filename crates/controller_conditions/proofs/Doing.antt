@@ -1,29 +1,16 @@
 -- what a port's reset asks can be done, one thing after the other
 
 use Rattle.std.proofs.Common.{◌≡◌, Bool, true, List, [], ◌∷◌, ◌++◌, Option, Some, refl, sym, ◌∙◌, subst, if◌then◌else◌, fold}
-use Rattle.net_types.specs.declared.node.PortNo.{PortNo}
-use Rattle.net_types.specs.declared.channel.End.{End}
-use Rattle.adjacency_table.specs.declared.State.TheVariants.{Clearing}
-use Rattle.adjacency_table.specs.Side.{is_estab}
-use Rattle.crossbar_model.specs.Channels.{IsLinkPort}
-use Rattle.ordered_lists.specs.Ordered.{Every}
-use Rattle.ordered_lists.proofs.Every.{every_map, every_map2}
-use Rattle.keyed_lists.specs.Keyed.{at}
-use Rattle.port_model.specs.Desk.{Desk}
-use Rattle.port_model.specs.declared.action.Action.{Action}
-use Rattle.port_model.specs.declared.action.Action.TheVariants as actions
-use Rattle.port_model.specs.declared.action.Action.TheVariants.{Say, Ask, Note, CutChain, TakeBack, Withdraw}
-use Rattle.port_model.specs.Setup.{Setup}
-use Rattle.port_model.specs.Port.{Work, desk_with}
-use Rattle.port_model.specs.Resets.{resets}
-use Rattle.port_facts.specs.Port.{setup_port, IsAction}
-use Rattle.port_facts.proofs.Keyed.{at_key, at_every, at_put_same, every_more}
-use Rattle.port_facts.proofs.Joins.{resets_kept}
-use Rattle.world_model.specs.Controller.{Acted, Linked, port_key, linked_at}
-use Rattle.world_model.specs.Resets.{begins, with_work}
-use Rattle.world_model.specs.Performing.{does, does_in_estab, resets_of, resets_port}
-use Rattle.controller_facts.proofs.Moves.{by_reset, placing, Moves, moves_to, moves_fold, HasPorts, found_setup, found_at_own, found_port, begun}
-use Rattle.controller_facts.proofs.Performing.{does_in_estab_goes}
+use Rattle.world_model.specs.Words.{PortNo, End, Clearing, is_estab, IsLinkPort, at, Desk, Action, Say, Ask, Note, CutChain, TakeBack, Withdraw, Setup, Work, desk_with, resets, Linked, port_key, linked_at, begins, with_work, does, does_in_estab, resets_of, resets_port}
+use Rattle.controller_law.specs.ordered_lists.Ordered.{Every}
+use Rattle.controller_law.proofs.ordered_lists.Every.{every_map, every_map2}
+use Rattle.world_model.specs.port_model.declared.action.Action.TheVariants as actions
+use Rattle.controller_law.specs.port_facts.Port.{setup_port, IsAction}
+use Rattle.controller_law.proofs.port_facts.Keyed.{at_key, at_every, at_put_same, every_more}
+use Rattle.controller_law.proofs.port_facts.Joins.{resets_kept}
+use Rattle.world_model.specs.Controller.{Acted}
+use Rattle.controller_law.proofs.controller_facts.Moves.{by_reset, placing, Moves, moves_to, moves_fold, HasPorts, found_setup, found_at_own, found_port, begun}
+use Rattle.controller_law.proofs.controller_facts.Performing.{does_in_estab_goes}
 use Rattle.controller_law.specs.Actions as law
 use Rattle.controller_law.specs.Order.{lends_at, is_lent}
 use Rattle.controller_law.proofs.Actions.{asks_what_can_be_done}

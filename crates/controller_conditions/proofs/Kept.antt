@@ -2,16 +2,15 @@
 
 use Rattle.std.proofs.Common.{ℕ, ◌≤◌, ◌<◌, List, arith, inr}
 use Rattle.std.specs.Prelude.{◌+◌}
-use Rattle.net_types.specs.Number.{HasNumbersLeft, AreDrawn}
-use Rattle.ordered_lists.specs.Ordered.{Every}
-use Rattle.port_model.specs.Setup.{Setup}
-use Rattle.world_model.specs.Controller.{Controller, Acted}
-use Rattle.controller_facts.specs.Inputs.{Input, CellComes, PacketEnters, Ticks, Restarts, ChangeComes, FrameIsForged, CellLeaves, Meanwhile, takes_input}
-use Rattle.controller_facts.specs.Sound.{IsOwn, NeverFall}
-use Rattle.controller_facts.specs.Said.{HasFlowsAt}
-use Rattle.controller_facts.proofs.Laws.{input_goes, input_draws, input_draws_marks}
-use Rattle.controller_facts.proofs.Numbers.{moves_never_fall}
-use Rattle.controller_facts.proofs.Flows.{moves_flow}
+use Rattle.world_model.specs.Words.{HasNumbersLeft, AreDrawn, Setup, Controller}
+use Rattle.controller_law.specs.ordered_lists.Ordered.{Every}
+use Rattle.world_model.specs.Controller.{Acted}
+use Rattle.controller_law.specs.controller_facts.Inputs.{Input, CellComes, PacketEnters, Ticks, Restarts, ChangeComes, FrameIsForged, CellLeaves, Meanwhile, takes_input}
+use Rattle.controller_law.specs.controller_facts.Sound.{IsOwn, NeverFall}
+use Rattle.controller_law.specs.controller_facts.Said.{HasFlowsAt}
+use Rattle.controller_law.proofs.controller_facts.Laws.{input_goes, input_draws, input_draws_marks}
+use Rattle.controller_law.proofs.controller_facts.Numbers.{moves_never_fall}
+use Rattle.controller_law.proofs.controller_facts.Flows.{moves_flow}
 use Rattle.controller_law.proofs.Whole.{Whole, holds_of}
 use Rattle.controller_law.proofs.Events.{input_holds}
 use Rattle.controller_law.proofs.Laws.{matched_of}

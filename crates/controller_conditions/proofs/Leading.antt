@@ -3,70 +3,32 @@
 use Rattle.std.proofs.Common.{◌≡◌, ℕ, Bool, true, false, List, [], ◌∷◌, ◌++◌, Option, None, Some, Result, Ok, Err, refl, subst, if◌then◌else◌, drop, map, fold}
 use Rattle.std.specs.Prelude.{◌==◌, not, nat_le, nat_lt, find}
 use Rattle.std.specs.Option.{option_map}
-use Rattle.net_types.specs.declared.node.PortNo.{PortNo}
-use Rattle.net_types.specs.declared.channel.Channel.{Channel}
-use Rattle.net_types.specs.declared.number.Mark.{Mark}
-use Rattle.net_types.specs.declared.prefix.Addr.{Addr}
-use Rattle.net_types.specs.Prefix.{Network}
-use Rattle.net_types.specs.declared.adjacency.Party.{Party}
-use Rattle.adjacency_table.specs.declared.message.Answer.{Answer}
-use Rattle.adjacency_table.specs.declared.message.Answer.TheVariants as answers_of
-use Rattle.adjacency_table.specs.declared.message.Said.{Said}
-use Rattle.adjacency_table.specs.Greeting.{greeting_of, gsmp_answer, gsmp_received}
-use Rattle.adjacency_table.specs.Side.{Step, is_estab, ticked}
-use Rattle.atm_cells.specs.declared.cell.Cell.{Cell}
-use Rattle.ipv4_packet.specs.Packet.{protocol_of, source_of, first_fault, destination_of, ttl_of}
-use Rattle.ipv4_packet.specs.declared.validate.PacketFault.{PacketFault}
-use Rattle.ipv4_forward.specs.Best.{is_same, has_prefix, is_best, best}
-use Rattle.ipv4_forward.specs.Change.{renewed, changed_by, changed}
-use Rattle.ipv4_forward.specs.Hop.{hop_by, hop_of, onward}
-use Rattle.ipv4_forward.specs.declared.change.RouteChange.{RouteChange}
-use Rattle.ipv4_forward.specs.declared.outcome.Hop.{Hop}
-use Rattle.ipv4_forward.specs.declared.outcome.Hop.TheVariants.{Here, On, NoRoute, Expired}
-use Rattle.ipv4_forward.specs.declared.table.Next.{Next}
-use Rattle.ipv4_forward.specs.declared.table.Next.TheVariants.{Local, Via}
-use Rattle.ipv4_forward.specs.declared.table.Route.{Route}
-use Rattle.flow_encaps.specs.Default.{default_payload}
-use Rattle.flow_encaps.specs.Labelled.{labelled_payload}
-use Rattle.flow_encaps.specs.Unwrapped.{default_unwrapped, unwrapped}
-use Rattle.flow_encaps.specs.declared.default.EncapsFault.{EncapsFault}
-use Rattle.ipv4_packet.specs.Flow.{kind_of}
-use Rattle.ifmp_wire.specs.declared.message.Message.{Message as IfmpMessage}
-use Rattle.ifmp_wire.specs.declared.reader.Fault.{Fault as IfmpFault}
-use Rattle.ifmp_wire.specs.Fields.{decoded as ifmp_decoded}
-use Rattle.gsmp_wire.specs.Layout.{octets_of as gsmp_octets}
-use Rattle.gsmp_wire.specs.Fields.{decoded as gsmp_decoded}
-use Rattle.gsmp_wire.specs.declared.message.Message.{Message}
-use Rattle.gsmp_wire.specs.declared.message.Message.TheVariants as messages
-use Rattle.gsmp_wire.specs.declared.fault.Fault.{Fault as GsmpFault}
-use Rattle.crossbar_model.specs.Channels.{IsLinkPort}
-use Rattle.frame_model.specs.Frame.{Tested, tested, last_mark, next_mark}
-use Rattle.frame_model.specs.Reassembly.{Reassembly, Taken, taken}
-use Rattle.link_model.specs.declared.record.Refusal.{Refusal}
-use Rattle.ordered_lists.specs.Ordered.{Every}
-use Rattle.ordered_lists.proofs.Every.{every_map, every_mapped, every_join}
-use Rattle.port_model.specs.DeskAnswers.{Answered, Unknown, Done, Ports, Failed, after_answer, answered}
-use Rattle.port_model.specs.Desk.{sent_again}
-use Rattle.port_model.specs.Setup.{control_end}
-use Rattle.port_model.specs.Labels.{Label}
-use Rattle.port_model.specs.Grants.{Grant}
-use Rattle.port_model.specs.Hearing.{hears}
-use Rattle.port_model.specs.Counting.{counts, used}
-use Rattle.port_model.specs.Ticks as port_ticks
-use Rattle.port_facts.proofs.Keyed.{on_both}
-use Rattle.port_facts.proofs.Found.{find_every}
-use Rattle.world_model.specs.Controller.{Acted, Linked, free_slots, linked_at, ports_of, with_desk, default_channel, default_home}
-use Rattle.world_model.specs.Sending.{sends, sends_control, says_gsmp}
-use Rattle.world_model.specs.Asking.{sends_request}
-use Rattle.world_model.specs.Resets.{cuts_default_of, cuts_default, cuts_gsmp, node_resets}
-use Rattle.world_model.specs.Packets.{is_control, sends_next, goes_by, grant_by, forwarded, routes, control_protocol, inject_refusal}
-use Rattle.world_model.specs.Meeting.{causes, clears, takes_answer, answer_comes}
-use Rattle.world_model.specs.Joins.{releases, tries_joins}
-use Rattle.world_model.specs.Gsmp.{answers, steps, told, gsmp_holds}
-use Rattle.world_model.specs.Cells.{Taker, ForGsmp, ForDefault, ForLabel, reassembly_of, with_reassembly, label_holds, ifmp_holds, counted_at, packet_holds, default_holds, frame_holds, opened_frame, ends_frame, takes_cell, taker_of}
-use Rattle.world_model.specs.Ticks.{sends_again, ticks_port, ticks_ports, ticks_by}
-use Rattle.controller_facts.specs.Inputs.{Input, CellComes, PacketEnters, Ticks, Restarts, ChangeComes, FrameIsForged, CellLeaves, Meanwhile, enters_unless, takes_input}
-use Rattle.controller_facts.proofs.Joining.{every_filter}
+use Rattle.world_model.specs.Words.{PortNo, Channel, Mark, Addr, Network, Party, Answer, Said, greeting_of, gsmp_answer, gsmp_received, Step, is_estab, ticked, Cell, protocol_of, source_of, destination_of, ttl_of, PacketFault, is_same, has_prefix, is_best, best, renewed, changed_by, changed, hop_by, hop_of, onward, RouteChange, Hop, Here, On, Next, Local, Via, default_payload, labelled_payload, default_unwrapped, unwrapped, EncapsFault, kind_of, IsLinkPort, Tested, tested, last_mark, next_mark, Reassembly, Refusal, Answered, Unknown, Done, Ports, Failed, after_answer, answered, sent_again, control_end, Label, Grant, hears, counts, used, Linked, linked_at, with_desk, default_channel, default_home, sends_control, says_gsmp, sends_request, cuts_default_of, cuts_default, cuts_gsmp, node_resets, is_control, sends_next, goes_by, grant_by, routes, control_protocol, inject_refusal, causes, clears, takes_answer, answer_comes, releases, tries_joins, gsmp_holds, ForGsmp, ForDefault, ForLabel, reassembly_of, with_reassembly, label_holds, ifmp_holds, counted_at, packet_holds, default_holds, frame_holds, takes_cell, taker_of, sends_again, ticks_port, ticks_ports, ticks_by}
+use Rattle.world_model.specs.adjacency_table.declared.message.Answer.TheVariants as answers_of
+use Rattle.world_model.specs.ipv4_packet.Packet.{first_fault}
+use Rattle.world_model.specs.ipv4_forward.declared.outcome.Hop.TheVariants.{NoRoute, Expired}
+use Rattle.world_model.specs.ipv4_forward.declared.table.Route.{Route}
+use Rattle.world_model.specs.ifmp_wire.declared.message.Message.{Message as IfmpMessage}
+use Rattle.world_model.specs.ifmp_wire.declared.reader.Fault.{Fault as IfmpFault}
+use Rattle.world_model.specs.ifmp_wire.Fields.{decoded as ifmp_decoded}
+use Rattle.world_model.specs.gsmp_wire.Layout.{octets_of as gsmp_octets}
+use Rattle.world_model.specs.gsmp_wire.Fields.{decoded as gsmp_decoded}
+use Rattle.world_model.specs.gsmp_wire.declared.message.Message.{Message}
+use Rattle.world_model.specs.gsmp_wire.declared.message.Message.TheVariants as messages
+use Rattle.world_model.specs.gsmp_wire.declared.fault.Fault.{Fault as GsmpFault}
+use Rattle.world_model.specs.frame_model.Reassembly.{Taken, taken}
+use Rattle.controller_law.specs.ordered_lists.Ordered.{Every}
+use Rattle.controller_law.proofs.ordered_lists.Every.{every_map, every_mapped, every_join}
+use Rattle.world_model.specs.port_model.Ticks as port_ticks
+use Rattle.controller_law.proofs.port_facts.Keyed.{on_both}
+use Rattle.controller_law.proofs.port_facts.Found.{find_every}
+use Rattle.world_model.specs.Controller.{Acted, free_slots, ports_of}
+use Rattle.world_model.specs.Sending.{sends}
+use Rattle.world_model.specs.Packets.{forwarded}
+use Rattle.world_model.specs.Gsmp.{answers, steps, told}
+use Rattle.world_model.specs.Cells.{Taker, opened_frame, ends_frame}
+use Rattle.controller_law.specs.controller_facts.Inputs.{Input, CellComes, PacketEnters, Ticks, Restarts, ChangeComes, FrameIsForged, CellLeaves, Meanwhile, enters_unless, takes_input}
+use Rattle.controller_law.proofs.controller_facts.Joining.{every_filter}
 use Rattle.controller_conditions.specs.Routes.{LeadsToLink, IsLinkRoute, MayLead, IsLinkChange, IsLinkInput, RoutesLeadToLinks}
 use Rattle.controller_conditions.proofs.Leaving.{Has, each, sent, sent_control, sent_request, node_reset, at_work, try_joins, meet, empty, answered_by, take_changes}
 

@@ -1,3 +1,7 @@
+pub use Rattle.controller_law.proofs.ordered_lists as ordered_lists
+pub use Rattle.controller_law.proofs.port_facts as port_facts
+pub use Rattle.controller_law.proofs.controller_facts as controller_facts
+pub use Rattle.controller_law.proofs as controller_law
 pub mod Ready
 pub mod Channels
 pub mod Restarting

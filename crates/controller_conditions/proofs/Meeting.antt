@@ -3,46 +3,32 @@
 use Rattle.std.proofs.Common.{◌≡◌, Option, Bool, true, false, List, [], ◌∷◌, None, Some, refl, sym, ◌∙◌, ap, subst, if◌then◌else◌, inl, inr, map, fold}
 use Rattle.std.specs.Prelude.{◌==◌, ◌||◌, not, filter, flat_map}
 use Rattle.std.specs.List.{list_any}
-use Rattle.net_types.specs.declared.node.PortNo.{PortNo}
-use Rattle.net_types.specs.declared.channel.End.{End}
-use Rattle.net_types.specs.declared.adjacency.Party.{Party}
-use Rattle.adjacency_table.specs.declared.message.Answer.{Answer}
-use Rattle.adjacency_table.specs.declared.message.Answer.TheVariants.{Quiet, Send, Open, Reset}
-use Rattle.adjacency_table.specs.declared.message.Said.{Said}
-use Rattle.adjacency_table.specs.Greeting.{same_party, heard_in, greeting_of, gsmp_answer}
-use Rattle.adjacency_table.specs.Side as sides
-use Rattle.adjacency_table.specs.Side.{Side, IsSide, is_estab, is_open}
-use Rattle.gsmp_wire.specs.Layout.{octets_of as gsmp_octets}
-use Rattle.gsmp_wire.specs.declared.message.Message.{Message}
-use Rattle.gsmp_wire.specs.declared.message.Message.TheVariants as messages
-use Rattle.gsmp_wire.specs.declared.request.Request.{Request}
-use Rattle.gsmp_wire.specs.declared.request.Request.TheVariants.{AddBranch, MoveBranch, DeleteTree, VerifyTree, DeleteAll, PortManagement, AllPorts}
-use Rattle.crossbar_model.specs.Channels.{IsLinkPort}
-use Rattle.net_types.specs.Number.{next_control, with_control}
-use Rattle.ordered_lists.specs.Ordered.{Every}
-use Rattle.ordered_lists.proofs.Every.{every_map, every_join}
-use Rattle.ordered_lists.proofs.Parts.{part_filtered, every_part}
-use Rattle.port_model.specs.Messages.{is_up}
-use Rattle.port_model.specs.Requests.{input_of, is_delete_all, withdraws}
-use Rattle.port_model.specs.Desk.{all_on, Desk, Standing, asked, empty_desk, message_at, last_transaction}
-use Rattle.port_model.specs.Setup.{Setup}
-use Rattle.port_model.specs.Answers as port_answers
-use Rattle.port_model.specs.Resets.{cleared}
-use Rattle.port_facts.specs.Port.{IsLinked, IsDefaultEnd, IsShaped, asks_ports, empties_control, empties_port, opens_input, opens_output}
-use Rattle.port_facts.proofs.Keyed.{on_both, on_each}
-use Rattle.port_facts.proofs.Rules.{done_goes}
-use Rattle.port_facts.proofs.Turns.{IsTurned, received_turns, ticked_turns}
-use Rattle.world_model.specs.Controller.{Acted, with_desk, default_channel, default_end, default_home, ports_of, Linked, linked_at, with_linked}
-use Rattle.world_model.specs.Sending.{says_gsmp}
-use Rattle.world_model.specs.Asking.{asks_next, asks}
-use Rattle.world_model.specs.Resets.{begins, node_resets}
-use Rattle.world_model.specs.Meeting.{meets, up_ports, empties, default_branches, ends_meeting, is_deleting, has_emptied, port_of_input, tells_port, behind_delete_all, causes_in_estab, causes, may_clear, clears_of, clears_port, clears}
+use Rattle.world_model.specs.Words.{PortNo, End, Party, Answer, Quiet, Send, Open, Said, same_party, heard_in, greeting_of, gsmp_answer, Side, IsSide, is_estab, is_open, Request, AddBranch, MoveBranch, DeleteTree, VerifyTree, PortManagement, IsLinkPort, next_control, with_control, is_delete_all, withdraws, all_on, Desk, Standing, empty_desk, last_transaction, Setup, with_desk, default_channel, default_end, default_home, Linked, linked_at, with_linked, says_gsmp, asks_next, asks, begins, node_resets, meets, up_ports, empties, default_branches, ends_meeting, is_deleting, has_emptied, port_of_input, tells_port, behind_delete_all, causes_in_estab, causes, may_clear, clears_of, clears_port, clears}
+use Rattle.world_model.specs.adjacency_table.declared.message.Answer.TheVariants.{Reset}
+use Rattle.world_model.specs.adjacency_table.Side as sides
+use Rattle.world_model.specs.gsmp_wire.Layout.{octets_of as gsmp_octets}
+use Rattle.world_model.specs.gsmp_wire.declared.message.Message.{Message}
+use Rattle.world_model.specs.gsmp_wire.declared.message.Message.TheVariants as messages
+use Rattle.world_model.specs.gsmp_wire.declared.request.Request.TheVariants.{DeleteAll, AllPorts}
+use Rattle.controller_law.specs.ordered_lists.Ordered.{Every}
+use Rattle.controller_law.proofs.ordered_lists.Every.{every_map, every_join}
+use Rattle.controller_law.proofs.ordered_lists.Parts.{part_filtered, every_part}
+use Rattle.world_model.specs.port_model.Messages.{is_up}
+use Rattle.world_model.specs.port_model.Requests.{input_of}
+use Rattle.world_model.specs.port_model.Desk.{asked, message_at}
+use Rattle.world_model.specs.port_model.Answers as port_answers
+use Rattle.world_model.specs.port_model.Resets.{cleared}
+use Rattle.controller_law.specs.port_facts.Port.{IsLinked, IsDefaultEnd, IsShaped, asks_ports, empties_control, empties_port, opens_input, opens_output}
+use Rattle.controller_law.proofs.port_facts.Keyed.{on_both, on_each}
+use Rattle.controller_law.proofs.port_facts.Rules.{done_goes}
+use Rattle.controller_law.proofs.port_facts.Turns.{IsTurned, received_turns, ticked_turns}
+use Rattle.world_model.specs.Controller.{Acted, ports_of}
 use Rattle.world_model.specs.Gsmp.{answers, steps}
-use Rattle.controller_facts.proofs.Moves.{IsGsmpTurn, hears, ages, turning, ending_meeting, meeting, moves_to, moves_ports, HasPorts, clearing, found_at_own}
-use Rattle.controller_facts.proofs.Performing.{says_gsmp_goes, asks_goes, asks_each, ports_linked}
-use Rattle.controller_facts.proofs.Events.{meets_goes}
-use Rattle.controller_facts.proofs.Joining.{every_filter}
-use Rattle.controller_facts.proofs.Laws.{moves_sound}
+use Rattle.controller_law.proofs.controller_facts.Moves.{IsGsmpTurn, hears, ages, turning, ending_meeting, meeting, moves_to, moves_ports, HasPorts, clearing, found_at_own}
+use Rattle.controller_law.proofs.controller_facts.Performing.{says_gsmp_goes, asks_goes, asks_each, ports_linked}
+use Rattle.controller_law.proofs.controller_facts.Events.{meets_goes}
+use Rattle.controller_law.proofs.controller_facts.Joining.{every_filter}
+use Rattle.controller_law.proofs.controller_facts.Laws.{moves_sound}
 use Rattle.controller_law.specs.Order.{IsDeleting, IsLentMove, is_default}
 use Rattle.controller_law.proofs.Lists.{each_any}
 use Rattle.controller_law.proofs.Ordering.{MayAsk, of_meeting, of_input, for_default, of_input_deletes, empty_order}

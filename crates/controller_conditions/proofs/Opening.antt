@@ -2,16 +2,14 @@
 
 use Rattle.std.proofs.Common.{◌≢◌, ℕ, zero, suc, ◌<◌, List, [], ◌∷◌, length, get_or, arith}
 use Rattle.std.proofs.lemmas.List.{length-map}
-use Rattle.crossbar_model.specs.Channels.{IsLinkPort}
-use Rattle.ordered_lists.specs.Ordered.{Every, InOrder}
-use Rattle.ordered_lists.proofs.Every.{every_map, every_mapped}
-use Rattle.port_model.specs.Setup.{Setup}
-use Rattle.port_facts.specs.Port.{IsRanged}
+use Rattle.world_model.specs.Words.{IsLinkPort, Setup, setup_of}
+use Rattle.controller_law.specs.ordered_lists.Ordered.{Every, InOrder}
+use Rattle.controller_law.proofs.ordered_lists.Every.{every_map, every_mapped}
+use Rattle.controller_law.specs.port_facts.Port.{IsRanged}
 use Rattle.control_link.proofs.Blocks.{few_ports, link_port, port_below}
 use Rattle.world_model.specs.declared.range.PortRange.{PortRange}
-use Rattle.world_model.specs.Opening.{setup_of}
-use Rattle.controller_facts.specs.Sound.{Opening, DifferInPort, opened_by, setups_by}
-use Rattle.controller_facts.proofs.Flows.{always_flowing}
+use Rattle.controller_law.specs.controller_facts.Sound.{Opening, DifferInPort, opened_by, setups_by}
+use Rattle.controller_law.proofs.controller_facts.Flows.{always_flowing}
 use Rattle.controller_law.specs.Law.{IsOpening}
 use Rattle.controller_law.proofs.Laws.{always_holds}
 use Rattle.controller_conditions.specs.Laws.{IsLabelRange, IsOpened, OpensKept}

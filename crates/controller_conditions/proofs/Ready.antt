@@ -1,19 +1,17 @@
 -- what holds of a controller in the midst of an event, and the numbers before a rule whose numbers can be given out
 
 use Rattle.std.proofs.Common.{◌≡◌, ℕ, ◌≤◌, ◌<◌, List, Some, refl, arith}
-use Rattle.net_types.specs.declared.node.PortNo.{PortNo}
-use Rattle.ordered_lists.specs.Ordered.{Every}
-use Rattle.port_model.specs.Setup.{Setup}
-use Rattle.port_facts.specs.Port.{setup_port, IsRanged}
-use Rattle.port_facts.proofs.Keyed.{at_every}
-use Rattle.world_model.specs.Controller.{Acted, Linked, port_key, linked_at}
-use Rattle.world_model.specs.Resets.{begins}
-use Rattle.controller_facts.specs.Sound.{NeverFall}
-use Rattle.controller_facts.specs.Said.{HasFlowsAt}
-use Rattle.controller_facts.proofs.Moves.{Moves, HasPorts, found_setup, found_at_own, begun}
-use Rattle.controller_facts.proofs.Laws.{has_ports}
-use Rattle.controller_facts.proofs.Numbers.{moves_never_fall}
-use Rattle.controller_facts.proofs.Flows.{moves_flow}
+use Rattle.world_model.specs.Words.{PortNo, Setup, Linked, port_key, linked_at, begins}
+use Rattle.controller_law.specs.ordered_lists.Ordered.{Every}
+use Rattle.controller_law.specs.port_facts.Port.{setup_port, IsRanged}
+use Rattle.controller_law.proofs.port_facts.Keyed.{at_every}
+use Rattle.world_model.specs.Controller.{Acted}
+use Rattle.controller_law.specs.controller_facts.Sound.{NeverFall}
+use Rattle.controller_law.specs.controller_facts.Said.{HasFlowsAt}
+use Rattle.controller_law.proofs.controller_facts.Moves.{Moves, HasPorts, found_setup, found_at_own, begun}
+use Rattle.controller_law.proofs.controller_facts.Laws.{has_ports}
+use Rattle.controller_law.proofs.controller_facts.Numbers.{moves_never_fall}
+use Rattle.controller_law.proofs.controller_facts.Flows.{moves_flow}
 use Rattle.controller_law.specs.Actions.{IsFresh}
 use Rattle.controller_law.proofs.Holding.{Holds}
 use Rattle.controller_conditions.specs.Kept.{AreLinks, IsHeld, AreIn}

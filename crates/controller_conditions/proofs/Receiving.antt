@@ -2,14 +2,12 @@
 
 use Rattle.std.proofs.Common.{◌≡◌, Bool, List, [], ◌∷◌, ◌++◌, length, Some, refl, ◌∙◌, ap, if◌then◌else◌, inl, inr}
 use Rattle.std.specs.Prelude.{◌⊎◌, not, nat_le, nat_lt}
-use Rattle.atm_cells.specs.declared.cell.Cell.{Cell}
-use Rattle.link_model.specs.Notes.{Journal}
-use Rattle.frame_model.specs.Frame.{Tested, tested, last_mark}
-use Rattle.frame_model.specs.Reassembly.{Reassembly, Taken, most_cells, passed_over, without_slot, too_long, joined, taken}
+use Rattle.world_model.specs.Words.{Cell, Journal, Tested, tested, last_mark, Reassembly, most_cells, passed_over, without_slot, too_long, ForGsmp, ForDefault, ForLabel, reassembly_of, with_reassembly, taker_of, takes_cell}
+use Rattle.world_model.specs.frame_model.Reassembly.{Taken, joined, taken}
 use Rattle.reassembly.specs.Receipt.{ended}
-use Rattle.port_facts.proofs.Keyed.{on_both}
+use Rattle.controller_law.proofs.port_facts.Keyed.{on_both}
 use Rattle.world_model.specs.Controller.{Acted, free_slots}
-use Rattle.world_model.specs.Cells.{Taker, ForGsmp, ForDefault, ForLabel, reassembly_of, with_reassembly, taker_of, opened_frame, ends_frame, takes_cell, cell_comes}
+use Rattle.world_model.specs.Cells.{Taker, opened_frame, ends_frame, cell_comes}
 use Rattle.router.specs.Cells.{receipt}
 use Rattle.controller_conditions.specs.Cells.{after_receipt}
 

@@ -3,26 +3,19 @@
 use Rattle.std.proofs.Common.{◌≡◌, ℕ, ◌<◌, true, List, [], ◌∷◌, Option, None, Some, refl, sym, ◌∙◌, ap, subst, arith, map, fold, is_some}
 use Rattle.std.specs.Prelude.{◌+◌}
 use Rattle.std.specs.Option.{option_map}
-use Rattle.net_types.specs.declared.node.PortNo.{PortNo}
-use Rattle.net_types.specs.Number.{GivenOut}
-use Rattle.ordered_lists.specs.Ordered.{Every}
-use Rattle.keyed_lists.specs.Keyed.{at}
-use Rattle.port_model.specs.declared.action.Action.{Action}
-use Rattle.port_model.specs.declared.action.Action.TheVariants as actions
-use Rattle.port_model.specs.declared.action.Action.TheVariants.{Say, Ask, Note, CutChain, TakeBack, Withdraw}
-use Rattle.port_model.specs.Setup.{Setup}
-use Rattle.port_model.specs.Resets.{restarts}
-use Rattle.port_facts.specs.Port.{setup_port, IsLinked}
-use Rattle.port_facts.proofs.Keyed.{at_map}
-use Rattle.world_model.specs.Controller.{Acted, Linked, port_key, linked_at, ports_of}
-use Rattle.world_model.specs.Resets.{begins, with_work, cuts_of, closes_by, port_restarts_of, port_restarts, resets_gsmp, node_resets}
-use Rattle.controller_facts.specs.Sound.{linked_setup}
-use Rattle.controller_facts.proofs.Moves.{Fine, fine_moves, fine_fold, fine_ports, HasPorts, found_setup, reset_ports}
-use Rattle.controller_facts.proofs.Performing.{Any, any_ports, ports_linked, port_restarts_of_fine}
-use Rattle.controller_facts.proofs.Flows.{moves_flow}
+use Rattle.world_model.specs.Words.{PortNo, GivenOut, at, Action, Say, Ask, Note, CutChain, TakeBack, Withdraw, Setup, restarts, Linked, port_key, linked_at, begins, with_work, cuts_of, closes_by, port_restarts_of, port_restarts, resets_gsmp, node_resets}
+use Rattle.controller_law.specs.ordered_lists.Ordered.{Every}
+use Rattle.world_model.specs.port_model.declared.action.Action.TheVariants as actions
+use Rattle.controller_law.specs.port_facts.Port.{setup_port, IsLinked}
+use Rattle.controller_law.proofs.port_facts.Keyed.{at_map}
+use Rattle.world_model.specs.Controller.{Acted, ports_of}
+use Rattle.controller_law.specs.controller_facts.Sound.{linked_setup}
+use Rattle.controller_law.proofs.controller_facts.Moves.{Fine, fine_moves, fine_fold, fine_ports, HasPorts, found_setup, reset_ports}
+use Rattle.controller_law.proofs.controller_facts.Performing.{Any, any_ports, ports_linked, port_restarts_of_fine}
+use Rattle.controller_law.proofs.controller_facts.Flows.{moves_flow}
 use Rattle.controller_law.specs.Actions.{CanDo}
 use Rattle.controller_law.proofs.Actions.{asks_what_can_be_done}
-use Rattle.controller_facts.specs.Said.{HasFlowsAt}
+use Rattle.controller_law.specs.controller_facts.Said.{HasFlowsAt}
 use Rattle.router.specs.Node.{linked_range}
 use Rattle.router.specs.Conditions.{CanClose, AllCanClose, CanRestart, EachCanRestart, CanResetNode}
 use Rattle.controller_conditions.specs.Kept.{AreLinks, AreIn}

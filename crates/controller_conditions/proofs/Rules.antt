@@ -3,32 +3,19 @@
 
 use Rattle.std.proofs.Common.{◌≡◌, ℕ, Bool, true, false, List, [], ◌∷◌, Some, refl, sym, ◌∙◌, ap, subst, if◌then◌else◌, fold}
 use Rattle.std.specs.Prelude.{nat_eq}
-use Rattle.net_types.specs.declared.node.PortNo.{PortNo}
-use Rattle.net_types.specs.declared.prefix.Addr.{Addr}
-use Rattle.adjacency_table.specs.Side.{is_estab}
-use Rattle.gsmp_wire.specs.declared.request.Request.{Request}
-use Rattle.ifmp_wire.specs.declared.message.Message.{Message}
-use Rattle.ifmp_wire.specs.Message.{InRange}
-use Rattle.keyed_lists.specs.Keyed.{at, put}
-use Rattle.port_model.specs.Setup.{Setup}
-use Rattle.port_model.specs.Saying.{is_spent, closes}
-use Rattle.port_model.specs.Hearing.{hears}
-use Rattle.port_model.specs.Ticks as port_ticks
-use Rattle.port_model.specs.Counting.{counts}
-use Rattle.port_model.specs.Answers as port_answers
-use Rattle.port_facts.specs.Port.{IsShut}
-use Rattle.port_facts.proofs.Rules.{counts_goes, done_goes}
-use Rattle.port_facts.proofs.Hearings.{hears_goes, ticks_goes}
-use Rattle.port_facts.proofs.Steps as steps_of
-use Rattle.port_facts.proofs.Steps.{Goes, steps_to}
-use Rattle.port_facts.proofs.Keyed.{at_key}
-use Rattle.world_model.specs.Controller.{Acted, Linked, port_key, linked_at, with_linked}
-use Rattle.world_model.specs.Resets.{begins}
-use Rattle.world_model.specs.Performing.{Rule, resets_port, works, at_port}
-use Rattle.world_model.specs.Joins.{resets_spent}
-use Rattle.world_model.specs.Ticks.{ticks_port}
-use Rattle.controller_facts.proofs.Moves.{by_rule, Moves, stays, further, moves_ports, HasPorts, found_at_own, found_port}
-use Rattle.controller_facts.proofs.Performing.{at_port_goes}
+use Rattle.world_model.specs.Words.{PortNo, Addr, is_estab, Request, InRange, at, put, Setup, is_spent, closes, hears, counts, Linked, port_key, linked_at, with_linked, begins, Rule, resets_port, works, at_port, resets_spent, ticks_port}
+use Rattle.world_model.specs.ifmp_wire.declared.message.Message.{Message}
+use Rattle.world_model.specs.port_model.Ticks as port_ticks
+use Rattle.world_model.specs.port_model.Answers as port_answers
+use Rattle.controller_law.specs.port_facts.Port.{IsShut}
+use Rattle.controller_law.proofs.port_facts.Rules.{counts_goes, done_goes}
+use Rattle.controller_law.proofs.port_facts.Hearings.{hears_goes, ticks_goes}
+use Rattle.controller_law.proofs.port_facts.Steps as steps_of
+use Rattle.controller_law.proofs.port_facts.Steps.{Goes, steps_to}
+use Rattle.controller_law.proofs.port_facts.Keyed.{at_key}
+use Rattle.world_model.specs.Controller.{Acted}
+use Rattle.controller_law.proofs.controller_facts.Moves.{by_rule, Moves, stays, further, moves_ports, HasPorts, found_at_own, found_port}
+use Rattle.controller_law.proofs.controller_facts.Performing.{at_port_goes}
 use Rattle.controller_law.proofs.Actions.{asks_what_can_be_done, heard_anyway}
 use Rattle.controller_law.proofs.Holding.{live_met}
 use Rattle.controller_law.proofs.Performing.{at_port_holds}

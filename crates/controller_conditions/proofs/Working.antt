@@ -3,28 +3,17 @@
 use Rattle.std.proofs.Common.{◌≡◌, Bool, true, false, List, [], ◌∷◌, ◌++◌, Option, Some, refl, sym, ◌∙◌, ap, subst, if◌then◌else◌, inl, inr, fold}
 use Rattle.std.specs.Prelude.{◌⊎◌}
 use Rattle.std.specs.List.{list_any}
-use Rattle.net_types.specs.declared.node.PortNo.{PortNo}
-use Rattle.net_types.specs.declared.channel.End.{End}
-use Rattle.adjacency_table.specs.declared.State.TheVariants.{Clearing}
-use Rattle.adjacency_table.specs.Side.{is_estab}
-use Rattle.ordered_lists.specs.Ordered.{Every}
-use Rattle.ordered_lists.proofs.Every.{every_map}
-use Rattle.keyed_lists.specs.Keyed.{at}
-use Rattle.port_model.specs.Desk.{Desk}
-use Rattle.port_model.specs.declared.action.Action.{Action}
-use Rattle.port_model.specs.declared.action.Action.TheVariants as actions
-use Rattle.port_model.specs.declared.action.Action.TheVariants.{Say, Ask, Note, CutChain, TakeBack, Withdraw}
-use Rattle.port_model.specs.Setup.{Setup}
-use Rattle.port_model.specs.Port.{Work, desk_with}
-use Rattle.port_facts.specs.Port.{setup_port, IsAction}
-use Rattle.port_facts.proofs.Keyed.{at_key, at_every, at_put_same}
-use Rattle.port_facts.proofs.Steps.{Goes}
-use Rattle.world_model.specs.Controller.{Acted, Linked, port_key, linked_at}
-use Rattle.world_model.specs.Resets.{begins, with_work}
-use Rattle.world_model.specs.Performing.{does, does_in_estab, performs, performs_in_estab, Rule, works, works_as, at_port}
-use Rattle.controller_facts.specs.Sound.{IsShutLinked}
-use Rattle.controller_facts.proofs.Moves.{by_rule, placing, Found, Moves, moves_to, moves_fold, moves_ports, HasPorts, found_setup, found_at_own, begun}
-use Rattle.controller_facts.proofs.Performing.{performs_in_estab_goes}
+use Rattle.world_model.specs.Words.{PortNo, End, Clearing, is_estab, at, Desk, Action, Say, Ask, Note, CutChain, TakeBack, Withdraw, Setup, Work, desk_with, Linked, port_key, linked_at, begins, with_work, does, does_in_estab, performs, performs_in_estab, Rule, works, works_as, at_port}
+use Rattle.controller_law.specs.ordered_lists.Ordered.{Every}
+use Rattle.controller_law.proofs.ordered_lists.Every.{every_map}
+use Rattle.world_model.specs.port_model.declared.action.Action.TheVariants as actions
+use Rattle.controller_law.specs.port_facts.Port.{setup_port, IsAction}
+use Rattle.controller_law.proofs.port_facts.Keyed.{at_key, at_every, at_put_same}
+use Rattle.controller_law.proofs.port_facts.Steps.{Goes}
+use Rattle.world_model.specs.Controller.{Acted}
+use Rattle.controller_law.specs.controller_facts.Sound.{IsShutLinked}
+use Rattle.controller_law.proofs.controller_facts.Moves.{by_rule, placing, Found, Moves, moves_to, moves_fold, moves_ports, HasPorts, found_setup, found_at_own, begun}
+use Rattle.controller_law.proofs.controller_facts.Performing.{performs_in_estab_goes}
 use Rattle.controller_law.specs.Actions as law
 use Rattle.controller_law.specs.Order.{lends, lends_at, is_lent}
 use Rattle.controller_law.proofs.Lists.{any_at, any_put_leads}

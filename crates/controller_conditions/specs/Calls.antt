@@ -2,32 +2,15 @@
 -- where what the rule leaves has numbers that can be given out
 
 use Rattle.std.specs.Prelude.{◌≡◌, ℕ, true, false, List, fold}
-use Rattle.net_types.specs.declared.node.PortNo.{PortNo}
-use Rattle.net_types.specs.declared.prefix.Addr.{Addr}
-use Rattle.net_types.specs.declared.channel.End.{End}
-use Rattle.net_types.specs.declared.adjacency.Greeting.{Greeting}
-use Rattle.adjacency_table.specs.Greeting.{gsmp_answer, gsmp_received}
-use Rattle.adjacency_table.specs.Side.{is_estab, ticked}
-use Rattle.crossbar_model.specs.Channels.{IsLinkPort}
-use Rattle.gsmp_wire.specs.declared.request.Request.{Request}
-use Rattle.gsmp_wire.specs.declared.request.Request.TheVariants.{DeleteAll}
-use Rattle.ifmp_wire.specs.declared.message.Message.{Message}
-use Rattle.ifmp_wire.specs.Message.{InRange}
-use Rattle.ordered_lists.specs.Ordered.{Every}
-use Rattle.port_model.specs.Desk.{Standing}
-use Rattle.port_model.specs.Hearing.{hears}
-use Rattle.port_model.specs.Counting.{counts}
-use Rattle.port_model.specs.Answers.{done}
-use Rattle.port_model.specs.Ticks as port_ticks
-use Rattle.port_facts.specs.Port.{IsLabelEnd, IsShaped}
+use Rattle.world_model.specs.Words.{PortNo, Addr, End, Greeting, gsmp_answer, gsmp_received, is_estab, ticked, IsLinkPort, Request, InRange, Standing, hears, counts, asks, takes_back, node_resets, node_restarts, Rule, resets_port, at_port, resets_spent, empties, causes_in_estab, ticks_port, ticks_ports}
+use Rattle.world_model.specs.gsmp_wire.declared.request.Request.TheVariants.{DeleteAll}
+use Rattle.world_model.specs.ifmp_wire.declared.message.Message.{Message}
+use Rattle.controller_law.specs.ordered_lists.Ordered.{Every}
+use Rattle.world_model.specs.port_model.Answers.{done}
+use Rattle.world_model.specs.port_model.Ticks as port_ticks
+use Rattle.controller_law.specs.port_facts.Port.{IsLabelEnd, IsShaped}
 use Rattle.world_model.specs.Controller.{Acted, ports_of}
-use Rattle.world_model.specs.Asking.{asks, takes_back}
-use Rattle.world_model.specs.Resets.{node_resets, node_restarts}
-use Rattle.world_model.specs.Performing.{Rule, resets_port, at_port}
-use Rattle.world_model.specs.Joins.{resets_spent}
-use Rattle.world_model.specs.Meeting.{empties, causes_in_estab}
 use Rattle.world_model.specs.Gsmp.{steps}
-use Rattle.world_model.specs.Ticks.{ticks_port, ticks_ports}
 use Rattle.controller_law.specs.Order.{IsDeleting}
 use Rattle.router.specs.Conditions.{CanAsk, CanTakeBack, CanResetNode, CanResetPort, CanWork, EachCanTick, CanFollow, turned_to}
 use Rattle.router.specs.Meeting.{CanResetSpent, EachCanResetSpent, CanEmpty, CanCause}

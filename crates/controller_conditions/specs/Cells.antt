@@ -2,16 +2,11 @@
 -- that it ended acts; all of it still holds in between, and once a packet is sent on, which changes no port
 
 use Rattle.std.specs.Prelude.{◌≡◌, ℕ, true, List, map, Some}
-use Rattle.net_types.specs.declared.channel.Channel.{Channel}
-use Rattle.net_types.specs.declared.number.Mark.{Mark}
-use Rattle.atm_cells.specs.declared.cell.Cell.{Cell}
-use Rattle.link_model.specs.Notes.{Journal}
-use Rattle.frame_model.specs.Reassembly.{Reassembly}
+use Rattle.world_model.specs.Words.{Channel, Mark, Cell, Journal, Reassembly, with_reassembly, taker_of, routes}
 use Rattle.reassembly.specs.Receipt.{Received}
 use Rattle.control_link.specs.Cells.{is_channel}
 use Rattle.world_model.specs.Controller.{Acted}
-use Rattle.world_model.specs.Cells.{Taker, with_reassembly, taker_of, opened_frame, cell_comes}
-use Rattle.world_model.specs.Packets.{routes}
+use Rattle.world_model.specs.Cells.{Taker, opened_frame, cell_comes}
 use Rattle.router.specs.Node.{linked_range}
 use Rattle.router.specs.Cells.{IsFound, channel_of, gathered, receipt}
 use Rattle.controller_conditions.specs.Kept.{IsKept}

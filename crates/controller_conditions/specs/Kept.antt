@@ -1,14 +1,11 @@
 -- What holds of one controller, in the midst of an event and between events, and that numbers are left
 
 use Rattle.std.specs.Prelude.{◌≤◌, ◌<◌, ◌^◌, List, length}
-use Rattle.net_types.specs.Number.{GivenOut}
-use Rattle.crossbar_model.specs.Channels.{IsLinkPort}
-use Rattle.ordered_lists.specs.Ordered.{Every}
-use Rattle.port_model.specs.Setup.{Setup}
-use Rattle.port_facts.specs.Port.{IsRanged}
-use Rattle.world_model.specs.Controller.{Controller}
-use Rattle.controller_facts.specs.Sound.{IsSound}
-use Rattle.controller_facts.specs.Said.{HasFlowingPorts}
+use Rattle.world_model.specs.Words.{GivenOut, IsLinkPort, Setup, Controller}
+use Rattle.controller_law.specs.ordered_lists.Ordered.{Every}
+use Rattle.controller_law.specs.port_facts.Port.{IsRanged}
+use Rattle.controller_law.specs.controller_facts.Sound.{IsSound}
+use Rattle.controller_law.specs.controller_facts.Said.{HasFlowingPorts}
 use Rattle.controller_law.specs.Order.{IsOrderly}
 use Rattle.controller_law.specs.Match.{IsMatched}
 

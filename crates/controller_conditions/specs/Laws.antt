@@ -1,13 +1,11 @@
 -- What holds between events: from the opening on, after every input, and what an input draws
 
 use Rattle.std.specs.Prelude.{◌≡◌, ◌≤◌, true, map, All}
-use Rattle.net_types.specs.Number.{HasNumbersLeft, AreDrawn}
-use Rattle.net_types.specs.Label.{is_label_number}
-use Rattle.crossbar_model.specs.Channels.{ArePorts}
+use Rattle.world_model.specs.Words.{HasNumbersLeft, AreDrawn, is_label_number, ArePorts, Controller}
 use Rattle.world_model.specs.declared.range.PortRange.{PortRange}
-use Rattle.world_model.specs.Controller.{Controller, Acted}
-use Rattle.controller_facts.specs.Inputs.{Input, takes_input}
-use Rattle.controller_facts.specs.Sound.{Opening, IsOwn, opened_by}
+use Rattle.world_model.specs.Controller.{Acted}
+use Rattle.controller_law.specs.controller_facts.Inputs.{Input, takes_input}
+use Rattle.controller_law.specs.controller_facts.Sound.{Opening, IsOwn, opened_by}
 use Rattle.controller_conditions.specs.Kept.{IsHeld, IsKept, AreIn}
 
 -- *An opening*: the linked ports are of links, ascending, each with a range of labels, and grants have a lifetime

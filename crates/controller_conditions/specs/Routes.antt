@@ -1,18 +1,12 @@
 -- The routes that a controller holds, and the changes that wait, lead to ports of links
 
 use Rattle.std.specs.Prelude.{◌≡◌, ℕ, List, Option, None, Some}
-use Rattle.ipv4_forward.specs.Hop.{hop_of}
-use Rattle.ipv4_forward.specs.declared.change.RouteChange.{RouteChange}
-use Rattle.ipv4_forward.specs.declared.outcome.Hop.TheVariants.{On}
-use Rattle.ipv4_forward.specs.declared.table.Next.{Next}
-use Rattle.ipv4_forward.specs.declared.table.Next.TheVariants.{Local, Via}
-use Rattle.ipv4_forward.specs.declared.table.Route.{Route}
-use Rattle.net_types.specs.declared.node.PortNo.{PortNo}
-use Rattle.crossbar_model.specs.Channels.{IsLinkPort}
-use Rattle.ordered_lists.specs.Ordered.{Every}
-use Rattle.world_model.specs.Controller.{Controller, Acted}
-use Rattle.controller_facts.specs.Inputs.{Input, ChangeComes, takes_input}
-use Rattle.controller_facts.specs.Sound.{Opening, opened_by}
+use Rattle.world_model.specs.Words.{hop_of, RouteChange, On, Next, Local, Via, PortNo, IsLinkPort, Controller}
+use Rattle.world_model.specs.ipv4_forward.declared.table.Route.{Route}
+use Rattle.controller_law.specs.ordered_lists.Ordered.{Every}
+use Rattle.world_model.specs.Controller.{Acted}
+use Rattle.controller_law.specs.controller_facts.Inputs.{Input, ChangeComes, takes_input}
+use Rattle.controller_law.specs.controller_facts.Sound.{Opening, opened_by}
 
 abbrev pub LeadsToLink : Next → Type 0
 LeadsToLink Local = Unit {0}

@@ -3,20 +3,13 @@
 use Rattle.std.proofs.Common.{◌≡◌, ◌<◌, Bool, true, false, List, refl, sym, ◌∙◌, subst, arith}
 use Rattle.std.specs.Prelude.{◌&&◌, nat_le, IsTrue}
 use Rattle.std.proofs.lemmas.Bool.Decides.{nat_tests}
-use Rattle.net_types.specs.declared.channel.Channel.{Channel}
-use Rattle.net_types.specs.declared.channel.End.{End}
-use Rattle.net_types.specs.Label.{is_label_channel, is_label_number, label_channel_of}
-use Rattle.gsmp_wire.specs.declared.request.Request.{Request}
-use Rattle.crossbar_model.specs.Channels.{IsLinkPort}
-use Rattle.ordered_lists.specs.Ordered.{Every}
-use Rattle.ordered_lists.proofs.Every.{every_map}
-use Rattle.port_model.specs.Desk.{Standing}
-use Rattle.port_model.specs.Setup.{Setup}
+use Rattle.world_model.specs.Words.{Channel, End, is_label_channel, is_label_number, label_channel_of, Request, IsLinkPort, Standing, Setup, Controller, joins_of}
+use Rattle.port_facts.specs.ordered_lists.Ordered.{Every}
+use Rattle.port_facts.proofs.ordered_lists.Every.{every_map}
 use Rattle.port_facts.specs.Port.{setup_port, IsLabelEnd, IsShaped, asks_ports, empties_control, empties_port, opens_input, opens_output, leads_label, leads_grant, joins_label, parts_label, frees_label}
 use Rattle.port_facts.proofs.Keyed.{at_every}
 use Rattle.port_facts.proofs.Rules.{and_first}
-use Rattle.world_model.specs.Controller.{Controller, Acted}
-use Rattle.world_model.specs.Joins.{joins_of}
+use Rattle.world_model.specs.Controller.{Acted}
 use Rattle.controller_facts.specs.Sound.{IsSound, Always}
 use Rattle.controller_facts.specs.Conditions.{MovesLabels, HasMovingRequests, IsGranted, HasGrantedJoins, HasHome}
 use Rattle.controller_facts.proofs.Moves.{HasPorts}

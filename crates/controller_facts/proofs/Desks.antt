@@ -4,36 +4,20 @@ use Rattle.std.proofs.Common.{◌≡◌, ℕ, ◌≤◌, ◌<◌, ◌+◌, Bool,
 use Rattle.std.specs.Prelude.{not, nat_le, ◌==◌, filter}
 use Rattle.std.specs.Option.{option_map_or}
 use Rattle.std.proofs.lemmas.Bool.Decides.{nat_tests}
-use Rattle.net_types.specs.declared.node.PortNo.{PortNo}
-use Rattle.net_types.specs.declared.channel.Channel.{Channel}
-use Rattle.net_types.specs.declared.channel.End.{End}
-use Rattle.net_types.specs.declared.number.Mark.{Mark}
-use Rattle.net_types.specs.declared.adjacency.Party.{Party}
-use Rattle.net_types.specs.Number.{next_control, with_control}
-use Rattle.adjacency_table.specs.Side as sides
-use Rattle.adjacency_table.specs.Side.{Side, IsSide, is_estab, is_open}
-use Rattle.adjacency_table.specs.Greeting.{same_party, heard_in}
-use Rattle.link_model.specs.declared.record.Record.TheVariants.{Loss}
-use Rattle.link_model.specs.declared.record.Cause.TheVariants.{PoolFull}
-use Rattle.link_model.specs.Notes.{noted}
-use Rattle.frame_model.specs.Sending.{Sent}
-use Rattle.frame_model.specs.Frame.{frame_cells, made}
-use Rattle.gsmp_wire.specs.declared.request.Request.{Request}
-use Rattle.gsmp_wire.specs.declared.request.Request.TheVariants.{AddBranch, MoveBranch, DeleteTree, VerifyTree, DeleteAll, PortManagement, AllPorts}
-use Rattle.crossbar_model.specs.Crossbar.{same_end}
-use Rattle.ordered_lists.specs.Ordered.{Every, InOrder}
-use Rattle.ordered_lists.proofs.Every.{every_join, every_map}
-use Rattle.ordered_lists.proofs.InOrder.{order_join}
-use Rattle.ordered_lists.proofs.Parts.{part_filtered, every_part, order_part}
-use Rattle.port_model.specs.Requests.{input_of, is_on, is_delete_all, withdraws}
-use Rattle.port_model.specs.Desk.{Desk, Standing, asked, last_transaction}
-use Rattle.port_model.specs.DeskAnswers.{Answered, Unknown, Done, Ports, Failed, after_answer}
-use Rattle.port_model.specs.Setup.{Setup}
+use Rattle.world_model.specs.Words.{PortNo, Channel, End, Mark, Party, next_control, with_control, Side, IsSide, is_estab, is_open, same_party, heard_in, Loss, PoolFull, noted, frame_cells, made, Request, AddBranch, MoveBranch, DeleteTree, VerifyTree, PortManagement, same_end, is_on, is_delete_all, withdraws, Desk, Standing, last_transaction, Answered, Unknown, Done, Ports, Failed, after_answer, Setup, Controller, resets_gsmp}
+use Rattle.world_model.specs.adjacency_table.Side as sides
+use Rattle.world_model.specs.frame_model.Sending.{Sent}
+use Rattle.world_model.specs.gsmp_wire.declared.request.Request.TheVariants.{DeleteAll, AllPorts}
+use Rattle.port_facts.specs.ordered_lists.Ordered.{Every, InOrder}
+use Rattle.port_facts.proofs.ordered_lists.Every.{every_join, every_map}
+use Rattle.port_facts.proofs.ordered_lists.InOrder.{order_join}
+use Rattle.port_facts.proofs.ordered_lists.Parts.{part_filtered, every_part, order_part}
+use Rattle.world_model.specs.port_model.Requests.{input_of}
+use Rattle.world_model.specs.port_model.Desk.{asked}
 use Rattle.port_facts.proofs.Keyed.{on_both}
 use Rattle.port_facts.proofs.Turns.{IsTurned, received_turns, ticked_turns}
-use Rattle.world_model.specs.Controller.{Controller, Acted, free_slots}
+use Rattle.world_model.specs.Controller.{Acted, free_slots}
 use Rattle.world_model.specs.Sending.{with_cells, sends}
-use Rattle.world_model.specs.Resets.{resets_gsmp}
 use Rattle.controller_facts.specs.Sound.{IsEarlier, HaveOwnInputs, HaveOwnPorts}
 use Rattle.controller_facts.proofs.Moves.{IsGsmpTurn, hears, ages, Move, noting, taking_notes, sending, sending_control, asking, withdrawing, answering, meeting, ending_meeting, turning, placing, clearing, gathering, chaining, routing, popping}
 

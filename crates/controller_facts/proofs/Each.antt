@@ -2,35 +2,17 @@
 
 use Rattle.std.proofs.Common.{◌≡◌, ℕ, List, Some}
 use Rattle.std.specs.Prelude.{Result}
-use Rattle.net_types.specs.declared.node.PortNo.{PortNo}
-use Rattle.net_types.specs.declared.channel.Channel.{Channel}
-use Rattle.net_types.specs.declared.channel.End.{End}
-use Rattle.net_types.specs.declared.number.Mark.{Mark}
-use Rattle.net_types.specs.declared.adjacency.Party.{Party}
-use Rattle.ipv4_forward.specs.declared.change.RouteChange.{RouteChange}
-use Rattle.atm_cells.specs.declared.cell.Cell.{Cell}
-use Rattle.adjacency_table.specs.Side as sides
-use Rattle.adjacency_table.specs.Side.{is_estab}
-use Rattle.gsmp_wire.specs.declared.fault.Fault.{Fault}
-use Rattle.gsmp_wire.specs.declared.message.Message.{Message}
-use Rattle.gsmp_wire.specs.declared.request.Request.{Request}
-use Rattle.gsmp_wire.specs.declared.request.Request.TheVariants.{MoveBranch}
-use Rattle.port_model.specs.declared.action.Action.{Action}
-use Rattle.port_model.specs.Setup.{Setup, home_of}
-use Rattle.port_model.specs.Port.{Work}
+use Rattle.world_model.specs.Words.{PortNo, Channel, End, Mark, Party, RouteChange, Cell, is_estab, Request, MoveBranch, Action, Setup, home_of, Work, Linked, linked_at, sends_control, asks, takes_back, withdraws_input, begins, node_resets, node_restarts, Rule, resets_port, performs_in_estab, works_as, at_port, routes, releases_input, resets_spent, releases, tries_join, tries_joins, begins_change, takes_changes, change_comes, meets, causes, clears, gsmp_holds, sends_again, ticks_port, ticks_ports}
+use Rattle.world_model.specs.adjacency_table.Side as sides
+use Rattle.world_model.specs.gsmp_wire.declared.fault.Fault.{Fault}
+use Rattle.world_model.specs.gsmp_wire.declared.message.Message.{Message}
 use Rattle.port_facts.specs.Port.{IsLabelEnd, IsShaped, IsAction}
-use Rattle.world_model.specs.Controller.{Acted, Linked, linked_at}
-use Rattle.world_model.specs.Sending.{sends, sends_control}
-use Rattle.world_model.specs.Asking.{asks, takes_back, withdraws_input}
-use Rattle.world_model.specs.Resets.{begins, node_resets, node_restarts}
-use Rattle.world_model.specs.Performing.{Rule, resets_port, performs_in_estab, works_as, at_port}
-use Rattle.world_model.specs.Packets.{routes}
-use Rattle.world_model.specs.Joins.{releases_input, resets_spent, releases, tries_join, tries_joins}
-use Rattle.world_model.specs.Changes.{begins_change, takes_changes, change_comes}
-use Rattle.world_model.specs.Meeting.{meets, causes, clears, done}
-use Rattle.world_model.specs.Gsmp.{steps, gsmp_holds}
+use Rattle.world_model.specs.Controller.{Acted}
+use Rattle.world_model.specs.Sending.{sends}
+use Rattle.world_model.specs.Meeting.{done}
+use Rattle.world_model.specs.Gsmp.{steps}
 use Rattle.world_model.specs.Cells.{cell_comes}
-use Rattle.world_model.specs.Ticks.{sends_again, ticks_port, ticks_ports, ticks}
+use Rattle.world_model.specs.Ticks.{ticks}
 use Rattle.controller_facts.specs.Sound.{IsSound, NeverFall}
 use Rattle.controller_facts.proofs.Moves.{IsGsmpTurn, Worked, Found, sending, sending_control, withdrawing, Moves, moves_to}
 use Rattle.controller_facts.proofs.Performing.{node_resets_goes, node_restarts_goes, asks_goes, takes_back_goes, resets_port_goes, performs_in_estab_goes, works_as_goes, at_port_goes}

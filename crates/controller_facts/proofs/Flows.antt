@@ -2,31 +2,21 @@
 
 use Rattle.std.proofs.Common.{ℕ, ◌<◌, List, [], ◌∷◌, length, None, Some, refl, sym, subst, arith}
 use Rattle.std.specs.Prelude.{◌+◌, ◌^◌, nat_le}
-use Rattle.net_types.specs.declared.channel.Channel.{Channel}
-use Rattle.net_types.specs.declared.number.Mark.{Mark}
-use Rattle.net_types.specs.Number.{next_control, with_control}
-use Rattle.ifmp_wire.specs.declared.message.Message.{Message}
-use Rattle.ifmp_wire.specs.declared.message.Message.TheVariants.{Adjacency, Redirect, Reclaim, ReclaimAck, LabelRange, Error}
-use Rattle.ifmp_wire.specs.Message.{InRange}
-use Rattle.link_model.specs.declared.record.Record.TheVariants.{Loss}
-use Rattle.link_model.specs.declared.record.Cause.TheVariants.{PoolFull}
-use Rattle.link_model.specs.Notes.{noted}
-use Rattle.frame_model.specs.Sending.{Sent}
-use Rattle.frame_model.specs.Frame.{frame_cells, made}
-use Rattle.ordered_lists.specs.Ordered.{Every}
-use Rattle.port_model.specs.Desk.{Desk, empty_desk}
-use Rattle.port_model.specs.Setup.{Setup}
-use Rattle.port_model.specs.Port.{Port, Work, label_at}
-use Rattle.port_model.specs.Resets.{cleared}
+use Rattle.world_model.specs.Words.{Channel, Mark, next_control, with_control, Redirect, Reclaim, ReclaimAck, LabelRange, Error, InRange, Loss, PoolFull, noted, frame_cells, made, Desk, empty_desk, Setup, Work, label_at, Controller, port_key, setup_of, opens_ports}
+use Rattle.world_model.specs.ifmp_wire.declared.message.Message.{Message}
+use Rattle.world_model.specs.ifmp_wire.declared.message.Message.TheVariants.{Adjacency}
+use Rattle.world_model.specs.frame_model.Sending.{Sent}
+use Rattle.port_facts.specs.ordered_lists.Ordered.{Every}
+use Rattle.world_model.specs.port_model.Port.{Port}
+use Rattle.world_model.specs.port_model.Resets.{cleared}
 use Rattle.port_facts.specs.Port.{IsHeard, HasFlows}
 use Rattle.port_facts.proofs.Keyed.{on_both, at_every, put_every}
 use Rattle.port_facts.proofs.Rules.{counts_goes, done_goes}
 use Rattle.port_facts.proofs.Hearings.{hears_goes, ticks_goes}
 use Rattle.port_facts.proofs.Said.{goes_flows, closes_flows_of, resets_flows, parted_flows, lent_flows, given_back_flows, goes_said, given_back_said}
 use Rattle.world_model.specs.declared.range.PortRange.{PortRange}
-use Rattle.world_model.specs.Controller.{Controller, Acted, port_key, free_slots}
+use Rattle.world_model.specs.Controller.{Acted, free_slots}
 use Rattle.world_model.specs.Sending.{with_cells, sends}
-use Rattle.world_model.specs.Opening.{setup_of, opens_ports}
 use Rattle.controller_facts.specs.Inputs.{Input, CellComes, PacketEnters, Ticks, Restarts, ChangeComes, FrameIsForged, CellLeaves, Meanwhile, takes_input, takes_inputs}
 use Rattle.controller_facts.specs.Sound.{IsSound, IsOwn, Always, opened_by, setups_by}
 use Rattle.controller_facts.specs.Said.{HasFlowsAt, HasFlowingPorts, SaysInRange}

@@ -4,32 +4,16 @@ use Rattle.std.proofs.Common.{◌≡◌, ℕ, Bool, true, false, List, [], ◌�
 use Rattle.std.specs.Prelude.{◌+◌, filter, flat_map}
 use Rattle.std.specs.List.{filter_map, cons_option}
 use Rattle.std.specs.Option.{option_map}
-use Rattle.net_types.specs.declared.node.PortNo.{PortNo}
-use Rattle.net_types.specs.declared.channel.End.{End}
-use Rattle.net_types.specs.Label.{number_of_channel}
-use Rattle.ipv4_forward.specs.Change.{changed}
-use Rattle.ipv4_forward.specs.declared.change.RouteChange.{RouteChange}
-use Rattle.gsmp_wire.specs.declared.request.Request.{Request}
-use Rattle.link_model.specs.declared.record.Record.TheVariants.{Part, Routes}
-use Rattle.crossbar_model.specs.Crossbar.{same_end}
-use Rattle.ordered_lists.specs.Ordered.{Every, InOrder}
-use Rattle.ordered_lists.proofs.Every.{every_join, every_map}
-use Rattle.ordered_lists.proofs.InOrder.{order_unmapped}
-use Rattle.keyed_lists.specs.Keyed.{at, put, in_order}
-use Rattle.port_model.specs.Setup.{Setup, label_end, is_in_range}
-use Rattle.port_model.specs.Labels.{Label}
-use Rattle.port_model.specs.Grants.{Grant, grant_label, input_of}
-use Rattle.port_model.specs.Port.{label_at, labels_of}
-use Rattle.port_model.specs.Joins.{joins_label, parted, given_back}
-use Rattle.port_model.specs.Saying.{closes}
+use Rattle.world_model.specs.Words.{PortNo, End, number_of_channel, changed, RouteChange, Request, Part, Routes, same_end, at, put, in_order, Setup, label_end, is_in_range, Label, Grant, grant_label, label_at, labels_of, joins_label, parted, given_back, closes, Linked, port_key, linked_at, begins, works, works_as, join_to, joins_at, end_le, joins_of, join_of, parts, releases_join, releases_input, released_inputs, resets_spent, releases, is_changed, changed_joins, takes_join_back, begins_change, takes_change, may_take, takes_each, takes_changes, change_comes}
+use Rattle.port_facts.specs.ordered_lists.Ordered.{Every, InOrder}
+use Rattle.port_facts.proofs.ordered_lists.Every.{every_join, every_map}
+use Rattle.port_facts.proofs.ordered_lists.InOrder.{order_unmapped}
+use Rattle.world_model.specs.port_model.Grants.{input_of}
 use Rattle.port_facts.specs.Port.{IsLabelEnd, IsGrant, IsPort, parts_label}
 use Rattle.port_facts.proofs.Keyed.{on_both, by_eq, at_key, at_every, at_put_same, at_put_other, entered_every, each_found}
 use Rattle.port_facts.proofs.Found.{find_every}
-use Rattle.world_model.specs.Controller.{Acted, Linked, port_key, linked_at, ports_of, note}
-use Rattle.world_model.specs.Resets.{begins}
-use Rattle.world_model.specs.Performing.{works, works_as}
-use Rattle.world_model.specs.Joins.{Join, join_to, joins_at, end_le, joins_of, join_of, parts, releases_join, releases_input, released_inputs, resets_spent, releases, output_of}
-use Rattle.world_model.specs.Changes.{is_changed, changed_joins, takes_join_back, begins_change, takes_change, may_take, takes_each, takes_changes, change_comes}
+use Rattle.world_model.specs.Controller.{Acted, ports_of, note}
+use Rattle.world_model.specs.Joins.{Join, output_of}
 use Rattle.controller_facts.specs.Sound.{linked_setup, IsLinkedPort, AreApart}
 use Rattle.controller_facts.proofs.Moves.{by_closing, by_parting, by_giving_back, Found, noting, routing, stays, moves_to, further, HasPorts, found_setup, found_at_own, found_port, moves_fold, goes_on}
 use Rattle.controller_facts.proofs.Performing.{To, Any, any_ports, takes_back_goes, at_port_goes}

@@ -3,15 +3,12 @@
 use Rattle.std.proofs.Common.{◌≡◌, ◌≢◌, ℕ, ◌≤◌, List, [], ◌∷◌, Option, None, Some, refl, ap, arith, map, ◌+◌, length, ◌*◌}
 use Rattle.std.proofs.lemmas.List.{length-map}
 use Rattle.std.specs.Prelude.{drop}
-use Rattle.link_model.specs.declared.record.Refusal.{Refusal}
-use Rattle.ordered_lists.specs.Ordered.{Every, InOrder}
-use Rattle.ordered_lists.proofs.InOrder.{order_mapped}
-use Rattle.port_model.specs.Setup.{Setup}
+use Rattle.world_model.specs.Words.{Refusal, Setup, setup_of, opens_ports, inject_refusal, injected}
+use Rattle.port_facts.specs.ordered_lists.Ordered.{Every, InOrder}
+use Rattle.port_facts.proofs.ordered_lists.InOrder.{order_mapped}
 use Rattle.port_facts.proofs.Joins.{begun_kept}
 use Rattle.world_model.specs.declared.range.PortRange.{PortRange}
 use Rattle.world_model.specs.Controller.{Acted}
-use Rattle.world_model.specs.Opening.{setup_of, opens_ports}
-use Rattle.world_model.specs.Packets.{inject_refusal, injected}
 use Rattle.world_model.specs.Sending.{sends}
 use Rattle.controller_facts.specs.Inputs.{Input, CellComes, PacketEnters, Ticks, Restarts, ChangeComes, FrameIsForged, CellLeaves, Meanwhile, enters_unless, takes_input, takes_inputs}
 use Rattle.controller_facts.specs.Sound.{linked_setup, IsLinkedPort, AreApart, IsSound, HasSoundSide, HasSoundPorts, HasShapedRequests, HasSoundDesk, HasShutPorts, IsShutLinked, Always, IsOwn, NumbersNeverFall, DrawsFewInstances, DrawsFewMarks, Opening, opened_by, setups_by}

@@ -4,16 +4,15 @@ use Rattle.std.proofs.Common.{◌≡◌, ℕ, ◌≤◌, ◌<◌, Bool, true, fa
 use Rattle.std.specs.Prelude.{nat_le, nat_lt, not, drop, slice_index, ◌&&◌, ◌==◌, Ok}
 use Rattle.std.specs.Option.{option_or}
 use Rattle.std.proofs.lemmas.Bool.Decides.{nat_tests}
-use Rattle.octet_fields.specs.Fields.{u16_at}
-use Rattle.ifmp_wire.specs.declared.message.Message.{Message}
-use Rattle.ifmp_wire.specs.declared.reader.Fault.{Fault}
-use Rattle.ifmp_wire.specs.declared.reader.Fault.TheVariants.{ZeroLifetime, Reserved, FlowFields}
-use Rattle.ifmp_wire.specs.Tests.{op_at, head_fault, kind_fault, kind_at, lifetime_fault, identifier_fault, flow_fault, body_fault, first_fault}
-use Rattle.ifmp_wire.specs.Fields.{decoded, decoded_by, message_at, flow_in, flow_at}
-use Rattle.ipv4_packet.specs.declared.flow.FlowKind.{FlowKind}
-use Rattle.ipv4_packet.specs.declared.flow.FlowKind.TheVariants.{One as ConnectionKind, Two as HostsKind}
-use Rattle.ipv4_packet.specs.Flow.{IsFlow, has_ports}
-use Rattle.ipv4_packet.specs.Identifier.{has_zeros, has_fields}
+use Rattle.port_facts.specs.octet_fields.Fields.{u16_at}
+use Rattle.world_model.specs.ifmp_wire.declared.message.Message.{Message}
+use Rattle.world_model.specs.ifmp_wire.declared.reader.Fault.{Fault}
+use Rattle.world_model.specs.Words.{ZeroLifetime, FlowFields, op_at, head_fault, kind_fault, kind_at, lifetime_fault, identifier_fault, flow_fault, body_fault, flow_in, flow_at, FlowKind, IsFlow, has_ports, has_fields}
+use Rattle.world_model.specs.ifmp_wire.declared.reader.Fault.TheVariants.{Reserved}
+use Rattle.world_model.specs.ifmp_wire.Tests.{first_fault}
+use Rattle.world_model.specs.ifmp_wire.Fields.{decoded, decoded_by, message_at}
+use Rattle.world_model.specs.ipv4_packet.declared.flow.FlowKind.TheVariants.{One as ConnectionKind, Two as HostsKind}
+use Rattle.world_model.specs.ipv4_packet.Identifier.{has_zeros}
 use Rattle.port_facts.specs.Port.{Lives}
 use Rattle.port_facts.proofs.Keyed.{on_both, on_each}
 use Rattle.port_facts.proofs.Rules.{and_second, and_first}

@@ -5,40 +5,22 @@ use Rattle.std.specs.Prelude.{not, ◌&&◌, ◌||◌, nat_lt, take, filter, fla
 use Rattle.std.specs.List.{filter_map, cons_option, list_any}
 use Rattle.std.proofs.lemmas.List.{length-map}
 use Rattle.std.proofs.lemmas.List.{length-take}
-use Rattle.net_types.specs.declared.node.PortNo.{PortNo}
-use Rattle.net_types.specs.declared.channel.End.{End}
-use Rattle.net_types.specs.Label.{label_channel_of, number_of_channel}
-use Rattle.ipv4_forward.specs.declared.change.RouteChange.{RouteChange}
-use Rattle.gsmp_wire.specs.declared.request.Request.{Request}
-use Rattle.gsmp_wire.specs.declared.request.Request.TheVariants.{AddBranch, MoveBranch, DeleteTree, VerifyTree, DeleteAll, PortManagement, AllPorts}
-use Rattle.adjacency_table.specs.Side.{is_estab}
-use Rattle.link_model.specs.declared.record.Record.TheVariants.{Part}
-use Rattle.port_model.specs.Requests.{leads_home}
-use Rattle.port_model.specs.Messages.{is_up}
-use Rattle.port_model.specs.Setup.{Setup, home_of}
-use Rattle.port_model.specs.Labels.{Label}
-use Rattle.port_model.specs.Grants.{Grant, GrantState, Idle, ByController, ByInput, Leaving, grant_label}
-use Rattle.port_model.specs.Port.{Session, Work, acts, with_session, with_grants, without_grant, label_at}
-use Rattle.port_model.specs.Saying.{Unnumbered, closes, tells, tells_in, reclaim_ack, own_of, peer_of, last_number, spent_number}
-use Rattle.port_model.specs.Answers as port_answers
-use Rattle.port_model.specs.Joins as port_joins
-use Rattle.port_model.specs.Resets.{cleared}
+use Rattle.world_model.specs.Words.{PortNo, End, label_channel_of, number_of_channel, RouteChange, Request, AddBranch, MoveBranch, DeleteTree, VerifyTree, PortManagement, is_estab, Part, leads_home, Setup, home_of, Label, Grant, GrantState, Idle, ByController, ByInput, Leaving, grant_label, Session, Work, with_session, with_grants, without_grant, label_at, Unnumbered, closes, tells, tells_in, reclaim_ack, own_of, last_number, spent_number, Linked, with_linked, default_end, default_home, asks, begins, join_to, joins_at, end_le, joins_of, join_of, parts, gives_back, releases_join, releases_input, released_inputs, resets_spent, releases, joins, is_changed, changed_joins, takes_join_back, begins_change, takes_change, may_take, takes_each, takes_changes, up_ports, default_branches, ends_meeting, has_emptied, port_of_input, tells_port, behind_delete_all, causes_in_estab, causes, may_clear, clears_of, same_end, put, without, entered, in_order, Action, Say}
+use Rattle.world_model.specs.gsmp_wire.declared.request.Request.TheVariants.{DeleteAll, AllPorts}
+use Rattle.world_model.specs.port_model.Messages.{is_up}
+use Rattle.world_model.specs.port_model.Port.{acts}
+use Rattle.world_model.specs.port_model.Saying.{peer_of}
+use Rattle.world_model.specs.port_model.Answers as port_answers
+use Rattle.world_model.specs.port_model.Joins as port_joins
+use Rattle.world_model.specs.port_model.Resets.{cleared}
 use Rattle.port_facts.specs.Port.{IsPort}
 use Rattle.port_facts.proofs.Keyed.{on_both}
 use Rattle.port_facts.proofs.Rules.{done_goes}
-use Rattle.world_model.specs.Controller.{Acted, Linked, ports_of, with_linked, note, default_end, default_home}
-use Rattle.world_model.specs.Asking.{asks}
-use Rattle.world_model.specs.Resets.{begins}
-use Rattle.world_model.specs.Joins.{Join, join_to, joins_at, end_le, joins_of, join_of, parts, gives_back, releases_join, releases_input, released_inputs, resets_spent, releases, output_of, joins}
-use Rattle.world_model.specs.Changes.{is_changed, changed_joins, takes_join_back, begins_change, takes_change, may_take, takes_each, takes_changes}
-use Rattle.world_model.specs.Meeting.{up_ports, default_branches, ends_meeting, has_emptied, port_of_input, tells_port, behind_delete_all, causes_in_estab, causes, may_clear, clears_of}
+use Rattle.world_model.specs.Controller.{Acted, ports_of, note}
+use Rattle.world_model.specs.Joins.{Join, output_of}
 use Rattle.std.specs.Option.{option_map}
-use Rattle.ipv4_forward.specs.declared.table.Route.{Route}
-use Rattle.crossbar_model.specs.Crossbar.{same_end}
-use Rattle.ordered_lists.specs.Ordered.{Every}
-use Rattle.keyed_lists.specs.Keyed.{put, without, entered, in_order}
-use Rattle.port_model.specs.declared.action.Action.{Action}
-use Rattle.port_model.specs.declared.action.Action.TheVariants.{Say}
+use Rattle.world_model.specs.ipv4_forward.declared.table.Route.{Route}
+use Rattle.port_facts.specs.ordered_lists.Ordered.{Every}
 use Rattle.port_facts.proofs.Found.{find_every}
 use Rattle.port_facts.proofs.Weights.{weigh, still, tells_cost, closes_cost, grant_cost, gone_grant_cost, done_cost}
 use Rattle.controller_facts.specs.Sound.{linked_setup, IsLinkedPort}

@@ -2,26 +2,14 @@
 
 use Rattle.std.proofs.Common.{◌≡◌, ℕ, ◌≤◌, ◌+◌, ◌*◌, List, [], ◌∷◌, length, Option, None, Some, refl, ◌∙◌, arith, if◌then◌else◌, fold}
 use Rattle.std.specs.Prelude.{◌==◌}
-use Rattle.net_types.specs.declared.node.PortNo.{PortNo}
-use Rattle.net_types.specs.declared.channel.End.{End}
-use Rattle.adjacency_table.specs.Side.{is_estab}
-use Rattle.gsmp_wire.specs.declared.request.Request.{Request}
-use Rattle.gsmp_wire.specs.declared.request.Request.TheVariants.{MoveBranch}
-use Rattle.ordered_lists.specs.Ordered.{Every}
-use Rattle.port_model.specs.Desk.{is_led_home, last_transaction}
-use Rattle.port_model.specs.declared.action.Action.{Action}
-use Rattle.port_model.specs.declared.action.Action.TheVariants.{Say, Ask, Note, CutChain, TakeBack, Withdraw, Reset}
-use Rattle.port_model.specs.Setup.{Setup, home_of}
-use Rattle.port_model.specs.Port.{Work}
-use Rattle.port_model.specs.Resets.{resets, restarts}
+use Rattle.world_model.specs.Words.{PortNo, End, is_estab, Request, MoveBranch, is_led_home, last_transaction, Action, Say, Ask, Note, CutChain, TakeBack, Withdraw, Setup, home_of, Work, resets, restarts, Linked, linked_at, asks_next, asks, takes_back, cuts_of, cuts_label, begins, with_work, closes_by, port_restarts_of, port_restarts, resets_gsmp, node_resets, does, does_in_estab, resets_of, performs, performs_in_estab, Rule, works_as, works, at_port}
+use Rattle.port_facts.specs.ordered_lists.Ordered.{Every}
+use Rattle.world_model.specs.port_model.declared.action.Action.TheVariants.{Reset}
 use Rattle.port_facts.specs.Port.{IsAction, IsWork}
 use Rattle.port_facts.proofs.Keyed.{on_both}
 use Rattle.port_facts.proofs.Weights.{weight, weigh, Costs}
 use Rattle.port_facts.proofs.Weighed.{resets_weight}
-use Rattle.world_model.specs.Controller.{Acted, Linked, linked_at, ports_of}
-use Rattle.world_model.specs.Asking.{asks_next, asks, takes_back}
-use Rattle.world_model.specs.Resets.{cuts_of, cuts_label, begins, with_work, closes_by, port_restarts_of, port_restarts, resets_gsmp, node_resets}
-use Rattle.world_model.specs.Performing.{does, does_in_estab, resets_of, performs, performs_in_estab, Rule, works_as, works, at_port}
+use Rattle.world_model.specs.Controller.{Acted, ports_of}
 use Rattle.controller_facts.proofs.Moves.{Worked, worked_kept, Found, placing, moves_to, HasPorts, found_setup, found_at_own, found_port, begun, moves_ports}
 use Rattle.controller_facts.proofs.Performing.{To, performs_in_estab_goes}
 

@@ -4,52 +4,23 @@ use Rattle.std.proofs.Common.{◌≡◌, ℕ, suc, Bool, true, false, List, [], 
 use Rattle.std.specs.Prelude.{not, ◌==◌, ◌&&◌, nat_le, filter}
 use Rattle.std.specs.Option.{option_map}
 use Rattle.std.proofs.lemmas.Bool.Decides.{nat_tests}
-use Rattle.net_types.specs.declared.node.PortNo.{PortNo}
-use Rattle.net_types.specs.declared.channel.Channel.{Channel}
-use Rattle.net_types.specs.declared.channel.End.{End}
-use Rattle.net_types.specs.declared.number.Mark.{Mark}
-use Rattle.net_types.specs.declared.adjacency.Greeting.{Greeting}
-use Rattle.net_types.specs.declared.adjacency.Party.{Party}
-use Rattle.ipv4_forward.specs.declared.table.Route.{Route}
-use Rattle.ipv4_forward.specs.declared.change.RouteChange.{RouteChange}
-use Rattle.atm_cells.specs.declared.cell.Cell.{Cell}
-use Rattle.net_types.specs.Number.{next_control, with_control}
-use Rattle.adjacency_table.specs.declared.State.{State}
-use Rattle.adjacency_table.specs.declared.State.TheVariants.{Clearing, SynSent, SynRcvd, Estab}
-use Rattle.adjacency_table.specs.Side as sides
-use Rattle.adjacency_table.specs.Side.{Side, is_estab, ticked}
-use Rattle.adjacency_table.specs.Greeting.{gsmp_received}
-use Rattle.link_model.specs.declared.record.Record.{Record}
-use Rattle.link_model.specs.declared.record.Record.TheVariants.{Loss}
-use Rattle.link_model.specs.declared.record.Cause.TheVariants.{PoolFull}
-use Rattle.link_model.specs.Notes.{Journal, noted}
-use Rattle.frame_model.specs.Sending.{Sent}
-use Rattle.frame_model.specs.Frame.{frame_cells, made}
-use Rattle.frame_model.specs.Reassembly.{Reassembly}
-use Rattle.gsmp_wire.specs.declared.request.Request.{Request}
-use Rattle.ordered_lists.specs.Ordered.{Every}
-use Rattle.keyed_lists.specs.Keyed.{at, put}
-use Rattle.port_model.specs.Messages.{is_up}
-use Rattle.port_model.specs.Requests.{is_on, withdraws}
-use Rattle.port_model.specs.Desk.{Desk, Standing, asked, empty_desk, last_transaction}
-use Rattle.port_model.specs.DeskAnswers.{Answered, Unknown, Done, Ports, Failed, after_answer}
-use Rattle.port_model.specs.Setup.{Setup}
-use Rattle.port_model.specs.Labels.{Label, Offered}
-use Rattle.port_model.specs.Grants.{Grant, ByController, grant_label}
-use Rattle.port_model.specs.Port.{Port, Work, label_at}
-use Rattle.port_model.specs.Saying.{closes}
-use Rattle.port_model.specs.Joins.{joined, parted, lent, given_back}
-use Rattle.port_model.specs.Resets.{resets, restarts, cleared}
+use Rattle.world_model.specs.Words.{PortNo, Channel, End, Mark, Greeting, Party, RouteChange, Cell, next_control, with_control, State, Clearing, SynSent, SynRcvd, Estab, Side, is_estab, ticked, gsmp_received, Record, Loss, PoolFull, Journal, noted, frame_cells, made, Reassembly, Request, at, put, is_on, withdraws, Desk, Standing, empty_desk, last_transaction, Answered, Unknown, Done, Ports, Failed, after_answer, Setup, Label, Offered, Grant, ByController, grant_label, Work, label_at, closes, parted, lent, given_back, resets, restarts, Controller, Linked, port_key, linked_at, with_linked, with_desk, sends_control, withdraws_input, begins, with_work, resets_gsmp, node_resets, may_clear, is_clearing, awaits_nothing}
+use Rattle.world_model.specs.ipv4_forward.declared.table.Route.{Route}
+use Rattle.world_model.specs.adjacency_table.Side as sides
+use Rattle.world_model.specs.frame_model.Sending.{Sent}
+use Rattle.port_facts.specs.ordered_lists.Ordered.{Every}
+use Rattle.world_model.specs.port_model.Messages.{is_up}
+use Rattle.world_model.specs.port_model.Desk.{asked}
+use Rattle.world_model.specs.port_model.Port.{Port}
+use Rattle.world_model.specs.port_model.Joins.{joined}
+use Rattle.world_model.specs.port_model.Resets.{cleared}
 use Rattle.port_facts.specs.Port.{setup_port, IsLabelEnd, IsPort, IsShaped, IsWork}
 use Rattle.port_facts.proofs.Keyed.{on_both, at_key, at_every, at_map, map_put, put_every, every_more}
 use Rattle.port_facts.proofs.Steps.{Goes}
 use Rattle.port_facts.proofs.Kept.{closes_kept, goes_kept}
 use Rattle.port_facts.proofs.Joins.{parted_kept, joined_kept, lent_kept, given_back_kept, resets_kept, restarts_kept, cleared_kept}
-use Rattle.world_model.specs.Controller.{Controller, Acted, Linked, port_key, free_slots, linked_at, with_linked, with_desk, note}
-use Rattle.world_model.specs.Sending.{with_cells, sends, sends_control}
-use Rattle.world_model.specs.Asking.{withdraws_input}
-use Rattle.world_model.specs.Resets.{begins, with_work, resets_gsmp, node_resets}
-use Rattle.world_model.specs.Meeting.{may_clear, is_clearing, awaits_nothing}
+use Rattle.world_model.specs.Controller.{Acted, free_slots, note}
+use Rattle.world_model.specs.Sending.{with_cells, sends}
 use Rattle.controller_facts.specs.Sound.{linked_setup, IsLinkedPort, ArePorts}
 
 -- what a message or a tick makes of the side of the adjacency with the switch

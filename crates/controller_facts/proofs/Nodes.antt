@@ -2,16 +2,11 @@
 
 use Rattle.std.proofs.Common.{◌≡◌, List, length}
 use Rattle.std.specs.Prelude.{nat_le}
-use Rattle.net_types.specs.declared.node.NodeId.{NodeId}
-use Rattle.net_types.specs.Number.{next_control}
-use Rattle.link_model.specs.declared.record.Record.TheVariants.{Loss}
-use Rattle.link_model.specs.declared.record.Cause.TheVariants as causes
-use Rattle.link_model.specs.Notes.{noted}
-use Rattle.frame_model.specs.Frame.{frame_cells, made}
-use Rattle.frame_model.specs.Sending.{Sent}
+use Rattle.world_model.specs.Words.{NodeId, next_control, Loss, noted, frame_cells, made, Setup, Controller}
+use Rattle.world_model.specs.link_model.declared.record.Cause.TheVariants as causes
+use Rattle.world_model.specs.frame_model.Sending.{Sent}
 use Rattle.port_facts.proofs.Keyed.{on_both}
-use Rattle.port_model.specs.Setup.{Setup}
-use Rattle.world_model.specs.Controller.{Controller, Acted}
+use Rattle.world_model.specs.Controller.{Acted}
 use Rattle.world_model.specs.Sending.{with_cells}
 use Rattle.controller_facts.proofs.Moves.{Move, noting, taking_notes, sending, sending_control, asking, withdrawing, answering, meeting, ending_meeting, turning, placing, clearing, gathering, chaining, routing, popping, Moves, moves_keep}
 

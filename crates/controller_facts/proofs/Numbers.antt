@@ -1,12 +1,9 @@
 -- the numbers that a run gives out never fall by what a controller does
 
 use Rattle.std.proofs.Common.{◌≡◌, ℕ, ◌≤◌, ◌+◌, List, refl, arith}
-use Rattle.port_model.specs.Setup.{Setup}
-use Rattle.port_model.specs.Port.{Work}
-use Rattle.port_model.specs.Desk.{Desk}
+use Rattle.world_model.specs.Words.{Setup, Work, Desk, begins, resets_gsmp}
 use Rattle.port_facts.proofs.Instances.{goes_gave, closes_gave, parted_gave, joined_gave, lent_gave, given_back_gave}
 use Rattle.world_model.specs.Controller.{Acted}
-use Rattle.world_model.specs.Resets.{begins, resets_gsmp}
 use Rattle.controller_facts.specs.Sound.{NeverFall}
 use Rattle.controller_facts.proofs.Moves.{Worked, by_rule, by_closing, by_reset, by_restart, by_parting, by_joining, by_lending, by_giving_back, Move, noting, taking_notes, sending, sending_control, asking, withdrawing, answering, meeting, ending_meeting, turning, placing, clearing, gathering, chaining, routing, popping, Moves, moves_keep}
 

@@ -3,12 +3,11 @@
 use Rattle.std.proofs.Common.{◌≡◌, ℕ, zero, suc, ◌-◌, ◌/◌, ◌%◌, ◌<◌, Bool, true, false, not, List, [], ◌∷◌, ◌++◌, length, take, drop, Option, None, Some, refl, arith, slice_index, slice_set, nat_lt, ◌==◌, if◌then◌else◌}
 use Rattle.std.specs.Int.{w16, to_be_bytes}
 use Rattle.std.proofs.lemmas.Bool.Decides.{nat_tests}
-use Rattle.octet_fields.proofs.FieldLemmas.{AreOctets, AreOctets-take, AreOctets-drop}
-use Rattle.ipv4_packet.specs.declared.validate.PacketFault.{PacketFault}
-use Rattle.ipv4_packet.specs.declared.validate.PacketFault.TheVariants.{Short, Version, Options, Length, TooLong, Checksum}
-use Rattle.ipv4_packet.specs.Packet.{ttl_of, total_length_of, header_sum, with_ttl, canonical, canonical_checksum, first_fault, IsPacket}
-use Rattle.ipv4_forward.specs.Hop.{onward}
-use Rattle.flow_encaps.proofs.RebuiltLemmas.{AreOctets-pair}
+use Rattle.port_facts.proofs.octet_fields.FieldLemmas.{AreOctets, AreOctets-take, AreOctets-drop}
+use Rattle.world_model.specs.Words.{PacketFault, Version, Options, TooLong, Checksum, ttl_of, total_length_of, header_sum, with_ttl, canonical, canonical_checksum, IsPacket, onward}
+use Rattle.world_model.specs.ipv4_packet.declared.validate.PacketFault.TheVariants.{Short, Length}
+use Rattle.world_model.specs.ipv4_packet.Packet.{first_fault}
+use Rattle.world_model.proofs.flow_encaps.RebuiltLemmas.{AreOctets-pair}
 
 -- *Octets*, behind a hop
 octets_append : (front back : List ℕ) → AreOctets front → AreOctets back → AreOctets (front ++ back)

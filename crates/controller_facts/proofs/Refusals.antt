@@ -2,10 +2,8 @@
 
 use Rattle.std.proofs.Common.{Bool, ◌∙◌, ap, if◌then◌else◌}
 use Rattle.std.specs.Prelude.{drop}
-use Rattle.ifmp_wire.specs.Fields.{decoded as ifmp_decoded}
-use Rattle.world_model.specs.Gsmp.{gsmp_holds}
-use Rattle.world_model.specs.Packets.{routes}
-use Rattle.world_model.specs.Cells.{label_holds, ifmp_holds, counted_at, packet_holds, default_holds}
+use Rattle.world_model.specs.ifmp_wire.Fields.{decoded as ifmp_decoded}
+use Rattle.world_model.specs.Words.{gsmp_holds, routes, label_holds, ifmp_holds, counted_at, packet_holds, default_holds}
 use Rattle.controller_facts.specs.Refused.{RefusedIsRecorded}
 
 pub refused_is_recorded : RefusedIsRecorded

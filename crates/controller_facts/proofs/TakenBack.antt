@@ -1,34 +1,16 @@
 -- a join that is taken back stays until it is released
 
-use Rattle.port_model.specs.declared.action.Action.TheVariants as actions
+use Rattle.world_model.specs.port_model.declared.action.Action.TheVariants as actions
 use Rattle.std.proofs.Common.{◌≡◌, ℕ, true, false, List, [], ◌∷◌, length, Option, None, Some, refl, ◌∙◌, if◌then◌else◌, fold, ◌⊎◌, inl, inr}
 use Rattle.std.specs.Prelude.{◌==◌, nat_le}
-use Rattle.net_types.specs.declared.node.PortNo.{PortNo}
-use Rattle.ipv4_forward.specs.declared.change.RouteChange.{RouteChange}
-use Rattle.gsmp_wire.specs.declared.request.Request.{Request}
-use Rattle.gsmp_wire.specs.declared.request.Request.TheVariants.{MoveBranch}
-use Rattle.link_model.specs.declared.record.Record.TheVariants.{Loss}
-use Rattle.port_model.specs.Desk.{asked, is_led_home, last_transaction, message_at}
-use Rattle.port_model.specs.Setup.{home_of}
+use Rattle.world_model.specs.Words.{PortNo, RouteChange, Request, MoveBranch, Loss, is_led_home, last_transaction, home_of, Linked, linked_at, Controller, with_desk, default_channel, begins, with_work, cuts_of, closes_by, port_restarts_of, port_restarts, resets_gsmp, node_resets, changed_joins, takes_join_back, begins_change, Channel, Mark, next_control, with_control, is_estab, frame_cells, made, restarts, asks, asks_next, PoolFull, noted, Action, Say, Ask, Note, CutChain, TakeBack, Withdraw}
+use Rattle.world_model.specs.port_model.Desk.{asked, message_at}
 use Rattle.port_facts.proofs.Keyed.{on_both}
-use Rattle.world_model.specs.Controller.{Acted, Linked, linked_at, ports_of, Controller, free_slots, with_desk, default_channel}
-use Rattle.world_model.specs.Resets.{begins, with_work, cuts_of, closes_by, port_restarts_of, port_restarts, resets_gsmp, node_resets}
+use Rattle.world_model.specs.Controller.{Acted, ports_of, free_slots}
 use Rattle.world_model.specs.Joins.{Join, output_of}
-use Rattle.world_model.specs.Changes.{changed_joins, takes_join_back, begins_change}
-use Rattle.net_types.specs.declared.channel.Channel.{Channel}
-use Rattle.net_types.specs.declared.number.Mark.{Mark}
-use Rattle.net_types.specs.Number.{next_control, with_control}
-use Rattle.adjacency_table.specs.Side.{is_estab}
-use Rattle.frame_model.specs.Frame.{frame_cells, made}
-use Rattle.frame_model.specs.Sending.{Sent}
-use Rattle.port_model.specs.Resets.{restarts}
+use Rattle.world_model.specs.frame_model.Sending.{Sent}
 use Rattle.world_model.specs.Sending.{with_cells, sends}
-use Rattle.world_model.specs.Asking.{asks, asks_next}
-use Rattle.gsmp_wire.specs.Layout.{octets_of as gsmp_octets}
-use Rattle.link_model.specs.declared.record.Cause.TheVariants.{PoolFull}
-use Rattle.link_model.specs.Notes.{noted}
-use Rattle.port_model.specs.declared.action.Action.{Action}
-use Rattle.port_model.specs.declared.action.Action.TheVariants.{Say, Ask, Note, CutChain, TakeBack, Withdraw}
+use Rattle.world_model.specs.gsmp_wire.Layout.{octets_of as gsmp_octets}
 
 -- the ports and the table stay, or the switch isn't met any more
 abbrev pub Stays : Acted → Acted → Type 0

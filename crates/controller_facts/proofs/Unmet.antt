@@ -4,34 +4,19 @@ use Rattle.std.proofs.Common.{◌≡◌, ◌≢◌, ℕ, Bool, true, false, List
 use Rattle.std.specs.Prelude.{nat_eq, nat_le, ◌||◌, ◌&&◌, ◌==◌}
 use Rattle.std.specs.List.{list_any}
 use Rattle.std.proofs.lemmas.Bool.Decides.{nat_tests}
-use Rattle.net_types.specs.declared.node.PortNo.{PortNo}
-use Rattle.net_types.specs.declared.channel.Channel.{Channel}
-use Rattle.net_types.specs.declared.number.Mark.{Mark}
-use Rattle.net_types.specs.Number.{next_control, with_control}
-use Rattle.link_model.specs.declared.record.Record.TheVariants.{Loss}
-use Rattle.link_model.specs.declared.record.Cause.TheVariants.{PoolFull}
-use Rattle.link_model.specs.Notes.{noted}
-use Rattle.frame_model.specs.Sending.{Sent}
-use Rattle.frame_model.specs.Frame.{frame_cells, made}
-use Rattle.frame_model.specs.Reassembly.{nothing_taken}
-use Rattle.ordered_lists.specs.Ordered.{Every, InOrder}
-use Rattle.ordered_lists.proofs.Every.{every_map}
-use Rattle.ordered_lists.proofs.InOrder.{order_unmapped}
-use Rattle.keyed_lists.specs.Keyed.{at, put}
-use Rattle.port_model.specs.Desk.{Desk}
-use Rattle.port_model.specs.Messages.{is_up}
-use Rattle.port_model.specs.declared.action.Action.{Action}
-use Rattle.port_model.specs.declared.action.Action.TheVariants.{Say, Ask, Note, CutChain, TakeBack, Withdraw, Reset}
-use Rattle.port_model.specs.Setup.{Setup}
-use Rattle.port_model.specs.Port.{Port, Work}
-use Rattle.port_model.specs.Resets.{restarts}
+use Rattle.world_model.specs.Words.{PortNo, Channel, Mark, next_control, with_control, Loss, PoolFull, noted, frame_cells, made, nothing_taken, at, put, Desk, Action, Say, Ask, Note, CutChain, TakeBack, Withdraw, Setup, Work, restarts, Controller, Linked, port_key, linked_at, chains_with, may_clear, is_clearing, awaits_nothing, cuts_of, begins, with_work, closes_by, port_restarts_of, port_restarts, resets_gsmp, node_resets}
+use Rattle.world_model.specs.frame_model.Sending.{Sent}
+use Rattle.port_facts.specs.ordered_lists.Ordered.{Every, InOrder}
+use Rattle.port_facts.proofs.ordered_lists.Every.{every_map}
+use Rattle.port_facts.proofs.ordered_lists.InOrder.{order_unmapped}
+use Rattle.world_model.specs.port_model.Messages.{is_up}
+use Rattle.world_model.specs.port_model.declared.action.Action.TheVariants.{Reset}
+use Rattle.world_model.specs.port_model.Port.{Port}
 use Rattle.port_facts.specs.Port.{IsShut}
 use Rattle.port_facts.proofs.Keyed.{on_both, by_eq, at_key, at_every, put_every}
 use Rattle.port_facts.proofs.Shut.{goes_shut, closes_shut, resets_shut, restarts_shut, parted_shut, joined_shut, no_grant}
-use Rattle.world_model.specs.Controller.{Controller, Acted, Linked, port_key, free_slots, linked_at, ports_of, chains_with}
+use Rattle.world_model.specs.Controller.{Acted, free_slots, ports_of}
 use Rattle.world_model.specs.Sending.{with_cells, sends}
-use Rattle.world_model.specs.Meeting.{may_clear, is_clearing, awaits_nothing}
-use Rattle.world_model.specs.Resets.{cuts_of, begins, with_work, closes_by, port_restarts_of, port_restarts, resets_gsmp, node_resets}
 use Rattle.controller_facts.specs.Sound.{linked_setup, AreApart, IsShutLinked}
 use Rattle.controller_facts.proofs.Moves.{Worked, by_rule, by_closing, by_reset, by_restart, by_parting, by_joining, by_lending, by_giving_back, Move, noting, taking_notes, sending, sending_control, asking, withdrawing, answering, meeting, ending_meeting, turning, placing, clearing, gathering, chaining, routing, popping, fine_ports, Moves, moves_keep_whole, HasPorts, move_ports, moves_ports, reset_ports}
 use Rattle.controller_facts.proofs.Performing.{node_resets_goes, port_restarts_of_fine}

@@ -1,18 +1,11 @@
 -- What the calls of a controller's parts ask of the requests that stand and of its joins
 
 use Rattle.std.specs.Prelude.{◌≡◌, ◌≤◌, ◌<◌, ◌==◌, false, List, Some, IsTrue}
-use Rattle.net_types.specs.declared.channel.End.{End}
-use Rattle.net_types.specs.Label.{is_label_channel}
-use Rattle.gsmp_wire.specs.declared.request.Request.{Request}
-use Rattle.gsmp_wire.specs.declared.request.Request.TheVariants.{MoveBranch, PortManagement}
-use Rattle.ordered_lists.specs.Ordered.{Every}
-use Rattle.keyed_lists.specs.Keyed.{at}
-use Rattle.port_model.specs.Desk.{Standing}
-use Rattle.port_model.specs.Setup.{Setup}
-use Rattle.port_model.specs.Grants.{grant_label, input_of}
+use Rattle.world_model.specs.Words.{End, is_label_channel, Request, MoveBranch, PortManagement, at, Standing, Setup, grant_label, Controller, Linked, linked_at, joins_of}
+use Rattle.port_facts.specs.ordered_lists.Ordered.{Every}
+use Rattle.world_model.specs.port_model.Grants.{input_of}
 use Rattle.port_facts.specs.Port.{IsLabelEnd}
-use Rattle.world_model.specs.Controller.{Controller, Linked, linked_at}
-use Rattle.world_model.specs.Joins.{Join, joins_of, output_of}
+use Rattle.world_model.specs.Joins.{Join, output_of}
 
 -- *Requests*: none manages a port. A Move Branch moves the branch of a label's channel, and moves it to a
 -- label's channel or to the control link

@@ -1,19 +1,10 @@
 -- What may come to a controller, forged frames among it, and what it makes of a list of that
 
 use Rattle.std.specs.Prelude.{ℕ, List, drop, fold, Option, None, Some}
-use Rattle.net_types.specs.declared.channel.Channel.{Channel}
-use Rattle.net_types.specs.declared.number.Mark.{Mark}
-use Rattle.net_types.specs.Number.{GivenOut}
-use Rattle.atm_cells.specs.declared.cell.Cell.{Cell}
-use Rattle.ipv4_forward.specs.declared.change.RouteChange.{RouteChange}
-use Rattle.link_model.specs.declared.record.Refusal.{Refusal}
-use Rattle.link_model.specs.Notes.{Journal}
+use Rattle.world_model.specs.Words.{Channel, Mark, GivenOut, Cell, RouteChange, Refusal, Journal, inject_refusal, injected, node_restarts, change_comes}
 use Rattle.world_model.specs.Controller.{Acted}
 use Rattle.world_model.specs.Cells.{cell_comes}
-use Rattle.world_model.specs.Packets.{inject_refusal, injected}
 use Rattle.world_model.specs.Ticks.{ticks}
-use Rattle.world_model.specs.Resets.{node_restarts}
-use Rattle.world_model.specs.Changes.{change_comes}
 use Rattle.world_model.specs.Sending.{sends}
 
 -- any cell comes, a packet is to enter, a tick, a restart, a change of routes, a forged frame, a cell leaves for

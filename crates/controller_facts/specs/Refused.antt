@@ -1,22 +1,13 @@
 -- A frame that passed its test and that a decoder refuses: one record, and nothing else
 
 use Rattle.std.specs.Prelude.{◌≡◌, ℕ, true, ◌==◌, List, drop, None, Some, Ok, Err}
-use Rattle.net_types.specs.declared.number.Mark.{Mark}
-use Rattle.ipv4_packet.specs.Packet.{protocol_of, first_fault}
-use Rattle.ipv4_packet.specs.declared.validate.PacketFault.{PacketFault}
-use Rattle.flow_encaps.specs.declared.default.EncapsFault.{EncapsFault}
-use Rattle.flow_encaps.specs.Unwrapped.{default_unwrapped, unwrapped}
-use Rattle.ifmp_wire.specs.declared.reader.Fault.{Fault as IfmpFault}
-use Rattle.ifmp_wire.specs.Fields.{decoded as ifmp_decoded}
-use Rattle.gsmp_wire.specs.declared.fault.Fault.{Fault as GsmpFault}
-use Rattle.gsmp_wire.specs.Fields.{decoded as gsmp_decoded}
-use Rattle.link_model.specs.declared.record.Layer.TheVariants.{Encaps, Packet, Ifmp, Gsmp}
-use Rattle.link_model.specs.declared.record.Record.TheVariants.{Bad}
-use Rattle.refusal_names.specs.Names.{encaps_refusal, packet_refusal, ifmp_refusal, gsmp_refusal}
-use Rattle.port_model.specs.Labels.{Label}
-use Rattle.world_model.specs.Controller.{Acted, Linked, note}
-use Rattle.world_model.specs.Packets.{control_protocol}
-use Rattle.world_model.specs.Cells.{ForGsmp, ForDefault, ForLabel, frame_holds}
+use Rattle.world_model.specs.Words.{Mark, protocol_of, PacketFault, EncapsFault, default_unwrapped, unwrapped, Encaps, Packet, Ifmp, Gsmp, Bad, encaps_refusal, packet_refusal, ifmp_refusal, gsmp_refusal, Label, Linked, control_protocol, ForGsmp, ForDefault, ForLabel, frame_holds}
+use Rattle.world_model.specs.ipv4_packet.Packet.{first_fault}
+use Rattle.world_model.specs.ifmp_wire.declared.reader.Fault.{Fault as IfmpFault}
+use Rattle.world_model.specs.ifmp_wire.Fields.{decoded as ifmp_decoded}
+use Rattle.world_model.specs.gsmp_wire.declared.fault.Fault.{Fault as GsmpFault}
+use Rattle.world_model.specs.gsmp_wire.Fields.{decoded as gsmp_decoded}
+use Rattle.world_model.specs.Controller.{Acted, note}
 
 -- on the GSMP channel; on a default channel by its encapsulation, as a packet, or as a message of IFMP; on a label's
 -- channel by its encapsulation

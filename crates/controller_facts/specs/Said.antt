@@ -1,23 +1,12 @@
 -- What a port says is in the range of IFMP's messages, and its flows are flows that packets can have
 
 use Rattle.std.specs.Prelude.{◌≡◌, ℕ, false, List, Some}
-use Rattle.net_types.specs.declared.prefix.Addr.{Addr}
-use Rattle.gsmp_wire.specs.declared.request.Request.{Request}
-use Rattle.ifmp_wire.specs.declared.message.Message.{Message}
-use Rattle.ifmp_wire.specs.Message.{InRange}
-use Rattle.ordered_lists.specs.Ordered.{Every}
-use Rattle.keyed_lists.specs.Keyed.{at}
-use Rattle.port_model.specs.Desk.{Desk}
-use Rattle.port_model.specs.Setup.{Setup}
-use Rattle.port_model.specs.Grants.{Grant, grant_label}
-use Rattle.port_model.specs.Port.{Work}
-use Rattle.port_model.specs.Hearing.{hears}
-use Rattle.port_model.specs.Ticks.{ticks}
-use Rattle.port_model.specs.Counting.{counts}
-use Rattle.port_model.specs.Answers.{done}
-use Rattle.port_model.specs.Joins.{given_back}
+use Rattle.world_model.specs.Words.{Addr, Request, InRange, at, Desk, Setup, Grant, grant_label, Work, hears, counts, given_back, Controller, Linked}
+use Rattle.world_model.specs.ifmp_wire.declared.message.Message.{Message}
+use Rattle.port_facts.specs.ordered_lists.Ordered.{Every}
+use Rattle.world_model.specs.port_model.Ticks.{ticks}
+use Rattle.world_model.specs.port_model.Answers.{done}
 use Rattle.port_facts.specs.Port.{setup_port, IsWork, HasFlows, IsSayable, IsRanged}
-use Rattle.world_model.specs.Controller.{Controller, Linked}
 
 -- *Flows* of the labels and grants of each port
 abbrev pub HasFlowsAt : Linked → Type 0

@@ -1,23 +1,14 @@
 -- What holds of one controller, whatever cells come
 
 use Rattle.std.specs.Prelude.{◌≡◌, ◌≢◌, ℕ, ◌≤◌, ◌<◌, ◌+◌, true, false, List, [], length, map, Some}
-use Rattle.net_types.specs.declared.channel.End.{End}
-use Rattle.net_types.specs.declared.node.NodeId.{NodeId}
-use Rattle.net_types.specs.declared.node.PortNo.{PortNo}
-use Rattle.net_types.specs.declared.prefix.Addr.{Addr}
-use Rattle.net_types.specs.Number.{GivenOut}
-use Rattle.ipv4_forward.specs.declared.table.Route.{Route}
-use Rattle.link_model.specs.Notes.{Journal}
-use Rattle.adjacency_table.specs.Side.{IsSide, is_estab}
-use Rattle.ordered_lists.specs.Ordered.{Every, InOrder}
-use Rattle.port_model.specs.Requests.{input_of, is_delete_all}
-use Rattle.port_model.specs.Desk.{Standing, last_transaction}
-use Rattle.port_model.specs.declared.timers.Timers.{Timers}
-use Rattle.port_model.specs.Setup.{Setup, Policy}
+use Rattle.world_model.specs.Words.{End, NodeId, PortNo, Addr, GivenOut, Journal, IsSide, is_estab, is_delete_all, Standing, last_transaction, Timers, Setup, Policy, Controller, Linked, setup_of, after_opening}
+use Rattle.world_model.specs.ipv4_forward.declared.table.Route.{Route}
+use Rattle.port_facts.specs.ordered_lists.Ordered.{Every, InOrder}
+use Rattle.world_model.specs.port_model.Requests.{input_of}
 use Rattle.port_facts.specs.Port.{setup_port, IsPort, IsShut, IsShaped}
 use Rattle.world_model.specs.declared.range.PortRange.{PortRange}
-use Rattle.world_model.specs.Controller.{Controller, Linked, Acted}
-use Rattle.world_model.specs.Opening.{setup_of, opened, after_opening}
+use Rattle.world_model.specs.Controller.{Acted}
+use Rattle.world_model.specs.Opening.{opened}
 use Rattle.controller_facts.specs.Inputs.{Input, Meanwhile, takes_input, takes_inputs}
 
 abbrev pub linked_setup : Linked → Setup

@@ -3,31 +3,20 @@
 use Rattle.std.proofs.Common.{◌≡◌, true, false, List, [], ◌∷◌, ◌++◌, Option, None, Some, refl, sym, subst, arith}
 use Rattle.std.specs.Prelude.{◌+◌, nat_lt}
 use Rattle.std.specs.Option.{option_map}
-use Rattle.net_types.specs.Label.{label_channel_of}
-use Rattle.net_types.specs.declared.node.PortNo.{PortNo}
-use Rattle.net_types.specs.declared.channel.End.{End}
-use Rattle.ifmp_wire.specs.declared.message.Message.{Message}
-use Rattle.ifmp_wire.specs.declared.message.Message.TheVariants.{Adjacency, Redirect, Reclaim, ReclaimAck, LabelRange, Error}
-use Rattle.ifmp_wire.specs.Message.{InRange}
-use Rattle.ordered_lists.specs.Ordered.{Every}
-use Rattle.ordered_lists.proofs.Every.{every_all, every_map, every_right}
-use Rattle.keyed_lists.specs.Keyed.{put, without}
-use Rattle.port_model.specs.Desk.{Desk, empty_desk}
-use Rattle.port_model.specs.declared.action.Action.{Action}
-use Rattle.port_model.specs.declared.action.Action.TheVariants as actions
-use Rattle.port_model.specs.declared.action.Action.TheVariants.{Say, Ask, Note, CutChain, TakeBack, Withdraw}
-use Rattle.port_model.specs.Setup.{Setup, is_in_range}
-use Rattle.port_model.specs.Grants.{Grant, GrantState, Idle, ByController, ByInput, Leaving, grant_label}
-use Rattle.port_model.specs.Port.{Session, Work, acts, with_session, with_grants, without_grant, desk_with, labels_of}
-use Rattle.port_model.specs.Joins.{given_back_in}
-use Rattle.port_model.specs.Saying.{Unnumbered, last_number, spent_number, own_of, peer_of, tells_in, tells, reclaim_ack}
-use Rattle.port_model.specs.Resets.{closing, resets, restarts}
-use Rattle.port_facts.specs.Port.{IsAction, IsWork, IsSayable, IsLabelEnd, Lives}
-use Rattle.port_facts.proofs.Keyed.{on_both, every_more}
-use Rattle.port_facts.proofs.Steps.{Goes}
-use Rattle.port_facts.proofs.Rules.{counts_goes, done_goes}
-use Rattle.port_facts.proofs.Hearings.{hears_goes, ticks_goes}
-use Rattle.port_facts.proofs.Joins.{given_back_kept, resets_kept, restarts_kept}
+use Rattle.world_model.specs.Words.{label_channel_of, PortNo, End, Redirect, Reclaim, ReclaimAck, LabelRange, Error, InRange, put, without, Desk, empty_desk, Action, Say, Ask, Note, CutChain, TakeBack, Withdraw, Setup, is_in_range, Grant, GrantState, Idle, ByController, ByInput, Leaving, grant_label, Session, Work, with_session, with_grants, without_grant, desk_with, labels_of, given_back_in, Unnumbered, last_number, spent_number, own_of, tells_in, tells, reclaim_ack, closing, resets, restarts}
+use Rattle.world_model.specs.ifmp_wire.declared.message.Message.{Message}
+use Rattle.world_model.specs.ifmp_wire.declared.message.Message.TheVariants.{Adjacency}
+use Rattle.controller_facts.specs.ordered_lists.Ordered.{Every}
+use Rattle.controller_facts.proofs.ordered_lists.Every.{every_all, every_map, every_right}
+use Rattle.world_model.specs.port_model.declared.action.Action.TheVariants as actions
+use Rattle.world_model.specs.port_model.Port.{acts}
+use Rattle.world_model.specs.port_model.Saying.{peer_of}
+use Rattle.controller_facts.specs.port_facts.Port.{IsAction, IsWork, IsSayable, IsLabelEnd, Lives}
+use Rattle.controller_facts.proofs.port_facts.Keyed.{on_both, every_more}
+use Rattle.controller_facts.proofs.port_facts.Steps.{Goes}
+use Rattle.controller_facts.proofs.port_facts.Rules.{counts_goes, done_goes}
+use Rattle.controller_facts.proofs.port_facts.Hearings.{hears_goes, ticks_goes}
+use Rattle.controller_facts.proofs.port_facts.Joins.{given_back_kept, resets_kept, restarts_kept}
 use Rattle.controller_facts.proofs.Conditions.{label_has_home}
 use Rattle.controller_facts.proofs.Flows.{says_in_range}
 use Rattle.controller_law.specs.Actions.{CanDo, CanAllBeDone, IsFresh, AsksWhatCanBeDone}

@@ -5,36 +5,24 @@ use Rattle.std.specs.Prelude.{◌==◌, ◌||◌, ◌&&◌, not, find, filter, f
 use Rattle.std.specs.List.{list_any}
 use Rattle.std.specs.Option.{option_map_or}
 use Rattle.std.proofs.lemmas.Bool.Decides.{nat_tests}
-use Rattle.net_types.specs.declared.node.PortNo.{PortNo}
-use Rattle.net_types.specs.declared.channel.End.{End}
-use Rattle.net_types.specs.Number.{next_control, with_control}
-use Rattle.gsmp_wire.specs.Layout.{octets_of as gsmp_octets}
-use Rattle.port_model.specs.Resets.{cleared}
-use Rattle.adjacency_table.specs.Side.{is_estab}
-use Rattle.gsmp_wire.specs.declared.request.Request.{Request}
-use Rattle.gsmp_wire.specs.declared.request.Request.TheVariants.{AddBranch, MoveBranch, DeleteTree, VerifyTree, DeleteAll, PortManagement, AllPorts}
-use Rattle.gsmp_wire.specs.declared.message.Message.{Message}
-use Rattle.gsmp_wire.specs.declared.message.Message.TheVariants as messages
-use Rattle.gsmp_wire.specs.declared.rows.PortRow.{PortRow}
-use Rattle.crossbar_model.specs.Crossbar.{same_end}
-use Rattle.ordered_lists.specs.Ordered.{Every}
-use Rattle.ordered_lists.proofs.Every.{every_map, every_join}
-use Rattle.ordered_lists.proofs.Parts.{every_part, part_filtered}
-use Rattle.port_model.specs.Messages.{is_up}
-use Rattle.port_model.specs.Requests.{input_of, is_delete_all, withdraws, leads_home}
-use Rattle.port_model.specs.Desk.{Desk, Standing, asked, all_on, empty_desk, last_transaction, message_at}
-use Rattle.port_model.specs.DeskAnswers.{Head, head_of, is_of_type, Answered, Unknown, Done, Ports, Failed, succeeded, outcome, answered_with, after_answer}
-use Rattle.port_model.specs.Setup.{Setup, home_of}
-use Rattle.port_facts.specs.Port.{MovesNone, IsLabelEnd, IsShaped, IsLinked, IsDefaultEnd, asks_ports, empties_control, empties_port, opens_input, opens_output, frees_label}
-use Rattle.port_facts.proofs.Keyed.{on_both, on_each}
-use Rattle.port_facts.proofs.Found.{find_every, find_passes}
-use Rattle.port_facts.proofs.Rules.{and_second}
-use Rattle.world_model.specs.Controller.{Acted, Linked, linked_at, ports_of, with_linked, with_desk, default_channel, default_end, default_home}
-use Rattle.world_model.specs.Asking.{asks_next, asks}
-use Rattle.world_model.specs.Resets.{node_resets}
-use Rattle.world_model.specs.Joins.{releases}
-use Rattle.world_model.specs.Meeting.{is_clearing, meets, up_ports, empties, default_branches, ends_meeting, is_deleting, has_emptied, port_of_input, behind_delete_all, causes_in_estab, causes, may_clear, clears_of, clears_port, clears, done, takes_answer, answer_comes}
-use Rattle.crossbar_model.specs.Channels.{IsLinkPort}
+use Rattle.world_model.specs.Words.{PortNo, End, next_control, with_control, is_estab, Request, AddBranch, MoveBranch, DeleteTree, VerifyTree, PortManagement, PortRow, same_end, is_delete_all, withdraws, leads_home, Desk, Standing, all_on, empty_desk, last_transaction, Head, head_of, is_of_type, Answered, Unknown, Done, Ports, Failed, succeeded, outcome, answered_with, after_answer, Setup, home_of, Linked, linked_at, with_linked, with_desk, default_channel, default_end, default_home, asks_next, asks, node_resets, releases, is_clearing, meets, up_ports, empties, default_branches, ends_meeting, is_deleting, has_emptied, port_of_input, behind_delete_all, causes_in_estab, causes, may_clear, clears_of, clears_port, clears, takes_answer, answer_comes, IsLinkPort}
+use Rattle.world_model.specs.gsmp_wire.Layout.{octets_of as gsmp_octets}
+use Rattle.world_model.specs.port_model.Resets.{cleared}
+use Rattle.world_model.specs.gsmp_wire.declared.request.Request.TheVariants.{DeleteAll, AllPorts}
+use Rattle.world_model.specs.gsmp_wire.declared.message.Message.{Message}
+use Rattle.world_model.specs.gsmp_wire.declared.message.Message.TheVariants as messages
+use Rattle.controller_facts.specs.ordered_lists.Ordered.{Every}
+use Rattle.controller_facts.proofs.ordered_lists.Every.{every_map, every_join}
+use Rattle.controller_facts.proofs.ordered_lists.Parts.{every_part, part_filtered}
+use Rattle.world_model.specs.port_model.Messages.{is_up}
+use Rattle.world_model.specs.port_model.Requests.{input_of}
+use Rattle.world_model.specs.port_model.Desk.{asked, message_at}
+use Rattle.controller_facts.specs.port_facts.Port.{MovesNone, IsLabelEnd, IsShaped, IsLinked, IsDefaultEnd, asks_ports, empties_control, empties_port, opens_input, opens_output, frees_label}
+use Rattle.controller_facts.proofs.port_facts.Keyed.{on_both, on_each}
+use Rattle.controller_facts.proofs.port_facts.Found.{find_every, find_passes}
+use Rattle.controller_facts.proofs.port_facts.Rules.{and_second}
+use Rattle.world_model.specs.Controller.{Acted, ports_of}
+use Rattle.world_model.specs.Meeting.{done}
 use Rattle.controller_facts.proofs.Moves.{ending_meeting, moves_to, HasPorts, IsShapedStanding, found_at_own}
 use Rattle.controller_facts.proofs.Performing.{ports_linked}
 use Rattle.controller_facts.proofs.Joining.{every_filter}

@@ -5,40 +5,23 @@ use Rattle.std.specs.Prelude.{◌+◌, ◌||◌, nat_lt, ◌⊎◌}
 use Rattle.std.specs.List.{list_any}
 use Rattle.std.specs.Option.{option_map, option_map_or}
 use Rattle.std.proofs.lemmas.Bool.Decides.{nat_tests}
-use Rattle.net_types.specs.declared.node.PortNo.{PortNo}
-use Rattle.net_types.specs.declared.channel.End.{End}
-use Rattle.net_types.specs.declared.adjacency.Peer.{Peer}
-use Rattle.net_types.specs.Label.{number_of_channel}
-use Rattle.adjacency_table.specs.declared.State.TheVariants.{Clearing}
-use Rattle.adjacency_table.specs.Side as sides
-use Rattle.adjacency_table.specs.declared.message.Said.{Said}
-use Rattle.adjacency_table.specs.declared.message.Answer.{Answer}
-use Rattle.adjacency_table.specs.declared.message.Answer.TheVariants.{Quiet, Send, Open, Reset}
-use Rattle.adjacency_table.specs.Side.{Side, IsSide, is_estab, is_open}
-use Rattle.adjacency_table.specs.Hello.{same_peer, hello_of, ifmp_answer, heard_from}
-use Rattle.crossbar_model.specs.Crossbar.{same_end}
-use Rattle.gsmp_wire.specs.declared.request.Request.TheVariants.{AddBranch, DeleteTree, DeleteAll}
-use Rattle.ifmp_wire.specs.declared.message.Message.TheVariants.{Adjacency}
-use Rattle.link_model.specs.declared.record.Record.TheVariants.{Bind, Free, Opened, Join}
-use Rattle.ordered_lists.specs.Ordered.{Every}
-use Rattle.keyed_lists.specs.Keyed.{at, put, without, entered, key_le}
-use Rattle.port_model.specs.Desk.{Desk, most_asked, on_input}
-use Rattle.port_model.specs.declared.action.Action.{Action}
-use Rattle.port_model.specs.declared.action.Action.TheVariants as actions
-use Rattle.port_model.specs.declared.action.Action.TheVariants.{Say, Ask, Note, CutChain, TakeBack, Withdraw}
-use Rattle.port_model.specs.Setup.{Setup, is_in_range, label_end, control_end}
-use Rattle.port_model.specs.Labels.{Label, Wiring, Offered, Wired, label_number}
-use Rattle.port_model.specs.Grants as grants
-use Rattle.port_model.specs.Grants.{Grant, Idle, ByController, grant_label}
-use Rattle.port_model.specs.Port.{Session, Port, Work, acts, halts, with_session, with_label, without_label, with_grants, labels_of, label_at, desk_with, desk_after, has_room}
-use Rattle.port_model.specs.Saying.{Unnumbered, last_number, spent_number, own_of, peer_of, is_spent, tells_in, tells, closes}
-use Rattle.port_model.specs.Adjacency.{first_session, opens, answers}
-use Rattle.port_model.specs.Redirection.{accepts}
-use Rattle.port_facts.specs.Port.{setup_port, IsWork}
-use Rattle.port_facts.proofs.Keyed.{on_both, on_each, at_key, at_every, put_every, without_every, entered_every}
-use Rattle.port_facts.proofs.Steps.{IsTurn, hears, ages, IsJoined, of_label, of_grant, Step, greeting, telling, closing, noting, turning, heard, minding, relabelling, wiring, binding, quitting, unwiring, freeing, accepting, granting, regranting, starting, ending, taking_back, Goes, goes_keeps}
-use Rattle.port_facts.proofs.Turns.{IsTurned, received_turns, ticked_turns}
-use Rattle.port_facts.proofs.Kept.{found_label, session_estab, step_kept}
+use Rattle.world_model.specs.Words.{PortNo, End, Peer, number_of_channel, Clearing, Said, Answer, Quiet, Send, Open, Side, IsSide, is_estab, is_open, same_peer, hello_of, ifmp_answer, heard_from, same_end, AddBranch, DeleteTree, Bind, Free, Opened, at, put, without, entered, key_le, Desk, most_asked, on_input, Action, Say, Ask, Note, CutChain, TakeBack, Withdraw, Setup, is_in_range, label_end, control_end, Label, Wiring, Offered, Wired, label_number, Grant, Idle, ByController, grant_label, Session, Work, halts, with_session, with_label, without_label, with_grants, labels_of, label_at, desk_with, desk_after, has_room, Unnumbered, last_number, spent_number, own_of, is_spent, tells_in, tells, closes, first_session, opens, accepts}
+use Rattle.world_model.specs.adjacency_table.Side as sides
+use Rattle.world_model.specs.adjacency_table.declared.message.Answer.TheVariants.{Reset}
+use Rattle.world_model.specs.gsmp_wire.declared.request.Request.TheVariants.{DeleteAll}
+use Rattle.world_model.specs.ifmp_wire.declared.message.Message.TheVariants.{Adjacency}
+use Rattle.world_model.specs.link_model.declared.record.Record.TheVariants.{Join}
+use Rattle.controller_facts.specs.ordered_lists.Ordered.{Every}
+use Rattle.world_model.specs.port_model.declared.action.Action.TheVariants as actions
+use Rattle.world_model.specs.port_model.Grants as grants
+use Rattle.world_model.specs.port_model.Port.{Port, acts}
+use Rattle.world_model.specs.port_model.Saying.{peer_of}
+use Rattle.world_model.specs.port_model.Adjacency.{answers}
+use Rattle.controller_facts.specs.port_facts.Port.{setup_port, IsWork}
+use Rattle.controller_facts.proofs.port_facts.Keyed.{on_both, on_each, at_key, at_every, put_every, without_every, entered_every}
+use Rattle.controller_facts.proofs.port_facts.Steps.{IsTurn, hears, ages, IsJoined, of_label, of_grant, Step, greeting, telling, closing, noting, turning, heard, minding, relabelling, wiring, binding, quitting, unwiring, freeing, accepting, granting, regranting, starting, ending, taking_back, Goes, goes_keeps}
+use Rattle.controller_facts.proofs.port_facts.Turns.{IsTurned, received_turns, ticked_turns}
+use Rattle.controller_facts.proofs.port_facts.Kept.{found_label, session_estab, step_kept}
 use Rattle.controller_law.specs.Order.{lends}
 use Rattle.controller_law.proofs.Lists.{any_more, any_put, any_without, any_at}
 

@@ -3,31 +3,16 @@
 use Rattle.std.proofs.Common.{◌≡◌, ℕ, Bool, true, false, List, [], ◌∷◌, ◌++◌, length, Option, None, Some, refl, sym, subst, fold}
 use Rattle.std.specs.Prelude.{◌+◌, ◌&&◌, not, is_none, nat_lt, flat_map}
 use Rattle.std.specs.Option.{option_map}
-use Rattle.net_types.specs.declared.node.PortNo.{PortNo}
-use Rattle.net_types.specs.declared.channel.End.{End}
-use Rattle.ipv4_packet.specs.declared.flow.FlowId.{FlowId}
-use Rattle.ipv4_packet.specs.Flow.{next_hop_of}
-use Rattle.ipv4_packet.specs.Parts.{flow_destination, same_flow}
-use Rattle.ipv4_forward.specs.Best.{best}
-use Rattle.ipv4_forward.specs.Change.{changed}
-use Rattle.ipv4_forward.specs.declared.change.RouteChange.{RouteChange}
-use Rattle.ipv4_forward.specs.declared.table.Route.{Route}
-use Rattle.adjacency_table.specs.Side.{is_estab}
-use Rattle.link_model.specs.declared.record.Record.TheVariants.{Routes}
-use Rattle.ordered_lists.specs.Ordered.{Every}
-use Rattle.ordered_lists.proofs.Every.{every_map}
-use Rattle.port_model.specs.Desk.{on_input, most_asked}
-use Rattle.port_model.specs.Setup.{Setup}
-use Rattle.port_model.specs.Labels.{Label, Offered}
-use Rattle.port_model.specs.Grants.{Grant, grant_label, grant_for, is_by_controller}
-use Rattle.port_facts.specs.Port.{IsLabelEnd, IsPort, parts_label}
-use Rattle.port_facts.proofs.Keyed.{on_both, on_each, apart_at}
-use Rattle.port_facts.proofs.Found.{find_passes}
-use Rattle.port_facts.proofs.Rules.{and_first, and_second}
-use Rattle.world_model.specs.Controller.{Acted, Linked, linked_at, note}
-use Rattle.world_model.specs.Joins.{Join, joins_of, output_of, port_by, join_through, join_by, join_for, is_offered, may_join, joins, tries_label, label_on, tries_join, inputs_at, tries_joins}
-use Rattle.world_model.specs.Routes.{route_stays}
-use Rattle.world_model.specs.Changes.{is_changed, changed_joins, takes_join_back, begins_change, takes_change, may_take, takes_each, takes_changes, change_comes}
+use Rattle.world_model.specs.Words.{PortNo, End, FlowId, next_hop_of, flow_destination, same_flow, best, changed, RouteChange, is_estab, Routes, on_input, most_asked, Setup, Label, Offered, Grant, grant_label, grant_for, is_by_controller, Linked, linked_at, joins_of, port_by, join_through, join_by, join_for, is_offered, may_join, joins, tries_label, label_on, tries_join, inputs_at, tries_joins, route_stays, is_changed, changed_joins, takes_join_back, begins_change, takes_change, may_take, takes_each, takes_changes, change_comes}
+use Rattle.world_model.specs.ipv4_forward.declared.table.Route.{Route}
+use Rattle.controller_facts.specs.ordered_lists.Ordered.{Every}
+use Rattle.controller_facts.proofs.ordered_lists.Every.{every_map}
+use Rattle.controller_facts.specs.port_facts.Port.{IsLabelEnd, IsPort, parts_label}
+use Rattle.controller_facts.proofs.port_facts.Keyed.{on_both, on_each, apart_at}
+use Rattle.controller_facts.proofs.port_facts.Found.{find_passes}
+use Rattle.controller_facts.proofs.port_facts.Rules.{and_first, and_second}
+use Rattle.world_model.specs.Controller.{Acted, note}
+use Rattle.world_model.specs.Joins.{Join, output_of}
 use Rattle.controller_facts.proofs.Moves.{Found, routing, moves_to, HasPorts, found_at_own, found_port}
 use Rattle.controller_facts.proofs.Joining.{IsJoin, joins_are, join_input, join_output, every_filter, every_flat_map, each_there}
 use Rattle.controller_facts.proofs.Entering.{is_offered_by, by_controller, inputs_of_port}

@@ -3,49 +3,19 @@
 use Rattle.std.proofs.Common.{◌≡◌, ◌≢◌, ℕ, true, false, List, [], ◌∷◌, length, Option, None, Some, refl, sym, ◌∙◌, ap, subst, if◌then◌else◌, map, fold}
 use Rattle.std.specs.Prelude.{◌==◌, not, nat_le, filter, flat_map, is_some}
 use Rattle.std.specs.Option.{option_map_or}
-use Rattle.net_types.specs.declared.node.PortNo.{PortNo}
-use Rattle.net_types.specs.declared.channel.Channel.{Channel}
-use Rattle.net_types.specs.declared.channel.End.{End}
-use Rattle.net_types.specs.declared.number.Mark.{Mark}
-use Rattle.net_types.specs.Number.{next_control, with_control}
-use Rattle.adjacency_table.specs.declared.State.{State}
-use Rattle.adjacency_table.specs.declared.State.TheVariants.{Clearing, SynSent, SynRcvd, Estab}
-use Rattle.adjacency_table.specs.Side.{is_estab}
-use Rattle.gsmp_wire.specs.Layout.{octets_of as gsmp_octets}
-use Rattle.gsmp_wire.specs.declared.request.Request.{Request}
-use Rattle.gsmp_wire.specs.declared.request.Request.TheVariants.{MoveBranch, DeleteAll}
-use Rattle.ifmp_wire.specs.Message.{octets_of as ifmp_octets}
-use Rattle.ipv4_packet.specs.Packet.{ifmp_packet_of}
-use Rattle.flow_encaps.specs.Default.{default_payload}
-use Rattle.link_model.specs.declared.record.Record.TheVariants.{Loss}
-use Rattle.link_model.specs.declared.record.Cause.TheVariants.{PoolFull}
-use Rattle.link_model.specs.Notes.{noted}
-use Rattle.frame_model.specs.Sending.{Sent}
-use Rattle.frame_model.specs.Frame.{frame_cells, made}
-use Rattle.frame_model.specs.Reassembly.{nothing_taken}
-use Rattle.ordered_lists.specs.Ordered.{Every}
-use Rattle.ordered_lists.proofs.Every.{every_join}
-use Rattle.keyed_lists.specs.Keyed.{at}
-use Rattle.port_model.specs.Requests.{is_on, is_delete_all, withdraws}
-use Rattle.port_model.specs.Desk.{Desk, Standing, asked, all_on, is_led_home, message_at, last_transaction}
-use Rattle.port_model.specs.declared.action.Action.{Action}
-use Rattle.port_model.specs.declared.action.Action.TheVariants as actions
-use Rattle.port_model.specs.declared.action.Action.TheVariants.{Say, Ask, Note, CutChain, TakeBack, Withdraw}
-use Rattle.port_model.specs.Setup.{Setup, home_of}
-use Rattle.port_model.specs.Labels.{Label}
-use Rattle.port_model.specs.Grants.{Grant, GrantState, Idle, ByController, ByInput, Leaving}
-use Rattle.port_model.specs.Port.{Session, Work, halts}
-use Rattle.port_model.specs.Saying.{is_spent, closes}
-use Rattle.port_model.specs.Resets.{closing, withdrawing_in, withdrawing_of, withdrawing, taking_back_in, taking_back, resets}
-use Rattle.port_facts.specs.Port.{IsPort}
-use Rattle.port_facts.proofs.Keyed.{on_both, on_each, by_eq, at_key}
-use Rattle.world_model.specs.Controller.{Controller, Acted, Linked, port_key, linked_at, with_desk, free_slots, chains_with, default_channel, default_home}
+use Rattle.world_model.specs.Words.{PortNo, Channel, End, Mark, next_control, with_control, State, Clearing, SynSent, SynRcvd, Estab, is_estab, Request, MoveBranch, ifmp_packet_of, default_payload, Loss, PoolFull, noted, frame_cells, made, nothing_taken, at, is_on, is_delete_all, withdraws, Desk, Standing, all_on, is_led_home, last_transaction, Action, Say, Ask, Note, CutChain, TakeBack, Withdraw, Setup, home_of, Label, Grant, GrantState, Idle, ByController, ByInput, Leaving, Session, Work, halts, is_spent, closes, closing, withdrawing_in, withdrawing_of, withdrawing, taking_back_in, taking_back, resets, Controller, Linked, port_key, linked_at, with_desk, chains_with, default_channel, default_home, asks_next, asks, takes_back, begins, with_work, cuts_of, node_resets, does, does_in_estab, resets_of, resets_port, works, works_as, resets_spent, is_clearing}
+use Rattle.world_model.specs.gsmp_wire.Layout.{octets_of as gsmp_octets}
+use Rattle.world_model.specs.gsmp_wire.declared.request.Request.TheVariants.{DeleteAll}
+use Rattle.world_model.specs.ifmp_wire.Message.{octets_of as ifmp_octets}
+use Rattle.world_model.specs.frame_model.Sending.{Sent}
+use Rattle.controller_facts.specs.ordered_lists.Ordered.{Every}
+use Rattle.controller_facts.proofs.ordered_lists.Every.{every_join}
+use Rattle.world_model.specs.port_model.Desk.{asked, message_at}
+use Rattle.world_model.specs.port_model.declared.action.Action.TheVariants as actions
+use Rattle.controller_facts.specs.port_facts.Port.{IsPort}
+use Rattle.controller_facts.proofs.port_facts.Keyed.{on_both, on_each, by_eq, at_key}
+use Rattle.world_model.specs.Controller.{Acted, free_slots}
 use Rattle.world_model.specs.Sending.{with_cells, sends}
-use Rattle.world_model.specs.Asking.{asks_next, asks, takes_back}
-use Rattle.world_model.specs.Resets.{begins, with_work, cuts_of, node_resets}
-use Rattle.world_model.specs.Performing.{does, does_in_estab, resets_of, resets_port, works, works_as}
-use Rattle.world_model.specs.Joins.{resets_spent}
-use Rattle.world_model.specs.Meeting.{is_clearing}
 use Rattle.controller_facts.specs.Sound.{IsSound}
 use Rattle.controller_facts.proofs.Moves.{Found, found_at_own, found_port}
 use Rattle.controller_facts.proofs.Laws.{has_ports}

@@ -5,24 +5,14 @@ use Rattle.std.specs.Prelude.{◌+◌, ◌||◌, ◌&&◌, ◌==◌, ◌⊎◌, 
 use Rattle.std.specs.List.{list_any}
 use Rattle.std.specs.Option.{option_map_or}
 use Rattle.std.proofs.lemmas.Bool.Decides.{nat_tests}
-use Rattle.net_types.specs.declared.node.PortNo.{PortNo}
-use Rattle.net_types.specs.declared.channel.End.{End}
-use Rattle.net_types.specs.Label.{is_label_channel}
-use Rattle.gsmp_wire.specs.declared.request.Request.{Request}
-use Rattle.gsmp_wire.specs.declared.request.Request.TheVariants.{AddBranch, MoveBranch, DeleteTree, VerifyTree, DeleteAll, PortManagement, AllPorts}
-use Rattle.crossbar_model.specs.Crossbar.{same_end}
-use Rattle.ordered_lists.specs.Ordered.{Every, InOrder}
-use Rattle.ordered_lists.proofs.Every.{every_all}
-use Rattle.keyed_lists.specs.Keyed.{at}
-use Rattle.port_model.specs.Requests.{input_of, is_on, is_delete_all}
-use Rattle.port_model.specs.Desk.{Standing}
-use Rattle.port_model.specs.Setup.{Setup, home_of}
-use Rattle.port_model.specs.Grants as grants
-use Rattle.port_model.specs.Grants.{Grant, most_grants}
-use Rattle.port_facts.specs.Port.{setup_port, IsDefaultEnd, IsLinked, IsShaped, asks_ports, empties_control, empties_port, opens_input, opens_output, leads_label, leads_grant, joins_label, parts_label, frees_label}
-use Rattle.port_facts.proofs.Keyed.{by_eq}
-use Rattle.world_model.specs.Controller.{Linked, default_end, default_home}
-use Rattle.world_model.specs.Meeting.{is_deleting}
+use Rattle.world_model.specs.Words.{PortNo, End, is_label_channel, Request, AddBranch, MoveBranch, DeleteTree, VerifyTree, PortManagement, same_end, at, is_on, is_delete_all, Standing, Setup, home_of, Grant, most_grants, Linked, default_end, default_home, is_deleting}
+use Rattle.world_model.specs.gsmp_wire.declared.request.Request.TheVariants.{DeleteAll, AllPorts}
+use Rattle.controller_facts.specs.ordered_lists.Ordered.{Every, InOrder}
+use Rattle.controller_facts.proofs.ordered_lists.Every.{every_all}
+use Rattle.world_model.specs.port_model.Requests.{input_of}
+use Rattle.world_model.specs.port_model.Grants as grants
+use Rattle.controller_facts.specs.port_facts.Port.{setup_port, IsDefaultEnd, IsLinked, IsShaped, asks_ports, empties_control, empties_port, opens_input, opens_output, leads_label, leads_grant, joins_label, parts_label, frees_label}
+use Rattle.controller_facts.proofs.port_facts.Keyed.{by_eq}
 use Rattle.controller_facts.specs.Sound.{HaveOwnInputs, HaveOwnPorts}
 use Rattle.controller_facts.proofs.Conditions.{of_label, shaped_moves}
 use Rattle.controller_facts.specs.Conditions.{MovesLabels}

@@ -5,17 +5,13 @@ use Rattle.std.specs.Prelude.{◌==◌, ◌||◌, not, filter}
 use Rattle.std.specs.List.{list_any}
 use Rattle.std.specs.Option.{option_map_or}
 use Rattle.std.proofs.lemmas.Bool.Decides.{nat_tests}
-use Rattle.net_types.specs.declared.node.PortNo.{PortNo}
-use Rattle.net_types.specs.declared.channel.End.{End}
-use Rattle.gsmp_wire.specs.declared.request.Request.{Request}
-use Rattle.gsmp_wire.specs.declared.request.Request.TheVariants.{AddBranch, MoveBranch, DeleteTree, VerifyTree, DeleteAll, PortManagement, AllPorts}
-use Rattle.crossbar_model.specs.Crossbar.{same_end}
-use Rattle.ordered_lists.specs.Ordered.{Every}
-use Rattle.ordered_lists.proofs.Every.{every_join}
-use Rattle.port_model.specs.Requests.{input_of, is_on, is_delete_all, withdraws}
-use Rattle.port_model.specs.Desk.{Desk, Standing, all_on, asked, withdrawn}
-use Rattle.port_facts.specs.Port.{MovesNone}
-use Rattle.world_model.specs.Controller.{Linked}
+use Rattle.world_model.specs.Words.{PortNo, End, Request, AddBranch, MoveBranch, DeleteTree, VerifyTree, PortManagement, same_end, is_on, is_delete_all, withdraws, Desk, Standing, all_on, withdrawn, Linked}
+use Rattle.world_model.specs.gsmp_wire.declared.request.Request.TheVariants.{DeleteAll, AllPorts}
+use Rattle.controller_facts.specs.ordered_lists.Ordered.{Every}
+use Rattle.controller_facts.proofs.ordered_lists.Every.{every_join}
+use Rattle.world_model.specs.port_model.Requests.{input_of}
+use Rattle.world_model.specs.port_model.Desk.{asked}
+use Rattle.controller_facts.specs.port_facts.Port.{MovesNone}
 use Rattle.controller_facts.proofs.Joining.{every_filter}
 use Rattle.controller_law.specs.Match.{MovesJoined, IsOfJoin}
 

@@ -3,40 +3,18 @@
 use Rattle.std.proofs.Common.{◌≡◌, ℕ, Bool, true, false, List, [], length, Option, None, Some, refl, sym, ◌∙◌, ap, subst, if◌then◌else◌}
 use Rattle.std.specs.Prelude.{◌==◌, is_some, nat_le}
 use Rattle.std.specs.Option.{option_map_or, option_and_then}
-use Rattle.net_types.specs.declared.node.PortNo.{PortNo}
-use Rattle.net_types.specs.declared.channel.End.{End}
-use Rattle.net_types.specs.Label.{number_of_channel}
-use Rattle.net_types.proofs.Labels.{label_channel_of-number_of_channel}
-use Rattle.net_types.specs.declared.channel.Channel.{Channel}
-use Rattle.net_types.specs.declared.number.Mark.{Mark}
-use Rattle.net_types.specs.Number.{next_control, with_control}
-use Rattle.gsmp_wire.specs.Layout.{octets_of as gsmp_octets}
-use Rattle.link_model.specs.declared.record.Record.TheVariants.{Loss}
-use Rattle.link_model.specs.declared.record.Cause.TheVariants.{PoolFull}
-use Rattle.link_model.specs.Notes.{noted}
-use Rattle.frame_model.specs.Sending.{Sent}
-use Rattle.frame_model.specs.Frame.{frame_cells, made}
-use Rattle.adjacency_table.specs.Side.{is_estab}
-use Rattle.gsmp_wire.specs.declared.request.Request.{Request}
-use Rattle.gsmp_wire.specs.declared.request.Request.TheVariants.{MoveBranch}
-use Rattle.crossbar_model.specs.Crossbar.{same_end}
-use Rattle.keyed_lists.specs.Keyed.{at, put}
-use Rattle.port_model.specs.Desk.{Desk, all_on, asked, last_transaction, is_led_home, message_at}
-use Rattle.port_model.specs.Setup.{Setup, home_of, label_end}
-use Rattle.port_model.specs.Labels.{Label, Offered, label_number}
-use Rattle.port_model.specs.Grants as grants
-use Rattle.port_model.specs.Grants.{Grant, GrantState, ByController, ByInput, grant_label}
-use Rattle.port_model.specs.Port.{Session, Work, label_at, labels_of}
-use Rattle.port_model.specs.Joins as port_joins
-use Rattle.port_model.specs.Joins.{joins_label}
-use Rattle.port_facts.specs.Port.{IsLabelEnd, joins_label as joins_label_shape}
-use Rattle.port_facts.proofs.Keyed.{on_both, on_each, at_key, put_every, at_put_same}
-use Rattle.world_model.specs.Controller.{Controller, Acted, Linked, port_key, linked_at, with_desk, free_slots, default_channel}
+use Rattle.world_model.specs.Words.{PortNo, End, number_of_channel, Channel, Mark, next_control, with_control, Loss, PoolFull, noted, frame_cells, made, is_estab, Request, MoveBranch, same_end, at, put, Desk, all_on, last_transaction, is_led_home, Setup, home_of, label_end, Label, Offered, label_number, Grant, GrantState, ByController, ByInput, grant_label, Session, Work, label_at, labels_of, joins_label, Controller, Linked, port_key, linked_at, with_desk, default_channel, asks_next, asks, takes_back, begins, node_resets, works, works_as, enters_grant, enters_label, joins, label_on}
+use Rattle.world_model.proofs.net_types.Labels.{label_channel_of-number_of_channel}
+use Rattle.world_model.specs.gsmp_wire.Layout.{octets_of as gsmp_octets}
+use Rattle.world_model.specs.frame_model.Sending.{Sent}
+use Rattle.world_model.specs.port_model.Desk.{asked, message_at}
+use Rattle.world_model.specs.port_model.Grants as grants
+use Rattle.world_model.specs.port_model.Joins as port_joins
+use Rattle.controller_facts.specs.port_facts.Port.{IsLabelEnd, joins_label as joins_label_shape}
+use Rattle.controller_facts.proofs.port_facts.Keyed.{on_both, on_each, at_key, put_every, at_put_same}
+use Rattle.world_model.specs.Controller.{Acted, free_slots}
 use Rattle.world_model.specs.Sending.{with_cells, sends}
-use Rattle.world_model.specs.Asking.{asks_next, asks, takes_back}
-use Rattle.world_model.specs.Resets.{begins, node_resets}
-use Rattle.world_model.specs.Performing.{works, works_as}
-use Rattle.world_model.specs.Joins.{Join, output_of, enters_grant, enters_label, joins, label_on}
+use Rattle.world_model.specs.Joins.{Join, output_of}
 use Rattle.controller_facts.proofs.Moves.{Worked, by_joining, by_lending, Found, HasPorts, found_at_own, found_port}
 use Rattle.controller_facts.proofs.Joining.{IsJoin, image_is}
 use Rattle.controller_facts.proofs.Conditions.{of_label}

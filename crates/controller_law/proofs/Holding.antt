@@ -4,41 +4,18 @@ use Rattle.std.proofs.Common.{◌≡◌, ℕ, Bool, true, false, List, [], ◌�
 use Rattle.std.specs.Prelude.{not, ◌==◌, ◌&&◌, nat_le, ◌⊎◌}
 use Rattle.std.specs.List.{list_any}
 use Rattle.std.specs.Option.{option_map_or}
-use Rattle.net_types.specs.declared.node.PortNo.{PortNo}
-use Rattle.net_types.specs.declared.channel.Channel.{Channel}
-use Rattle.net_types.specs.declared.channel.End.{End}
-use Rattle.net_types.specs.declared.number.Mark.{Mark}
-use Rattle.net_types.specs.Number.{next_control, with_control}
-use Rattle.adjacency_table.specs.declared.State.TheVariants.{Clearing}
-use Rattle.adjacency_table.specs.Side.{is_estab}
-use Rattle.link_model.specs.declared.record.Record.TheVariants.{Loss}
-use Rattle.link_model.specs.declared.record.Cause.TheVariants.{PoolFull}
-use Rattle.link_model.specs.Notes.{Journal, noted}
-use Rattle.frame_model.specs.Sending.{Sent}
-use Rattle.frame_model.specs.Frame.{frame_cells, made}
-use Rattle.gsmp_wire.specs.declared.request.Request.{Request}
-use Rattle.ordered_lists.specs.Ordered.{Every}
-use Rattle.ordered_lists.proofs.Every.{every_all, every_map}
-use Rattle.keyed_lists.specs.Keyed.{at, put}
-use Rattle.port_model.specs.Requests.{is_on, is_delete_all}
-use Rattle.port_model.specs.Desk.{Desk, Standing, asked, empty_desk, last_transaction, all_on}
-use Rattle.port_model.specs.DeskAnswers.{Answered, after_answer}
-use Rattle.port_model.specs.declared.action.Action.{Action}
-use Rattle.port_model.specs.declared.action.Action.TheVariants as actions
-use Rattle.port_model.specs.declared.action.Action.TheVariants.{Say, Ask, Note, CutChain, TakeBack, Withdraw}
-use Rattle.port_model.specs.Setup.{Setup, label_end}
-use Rattle.port_model.specs.Labels.{Label}
-use Rattle.port_model.specs.Port.{Session, Port, Work, labels_of}
-use Rattle.port_model.specs.Resets.{cleared, restarts}
-use Rattle.port_facts.specs.Port.{IsShaped, IsShut}
-use Rattle.port_facts.proofs.Keyed.{on_both, at_every}
-use Rattle.world_model.specs.Controller.{Controller, Acted, Linked, port_key, free_slots, linked_at, ports_of, with_linked, with_desk, chain_of, chains_with}
-use Rattle.frame_model.specs.Reassembly.{cut, nothing_taken}
-use Rattle.port_model.specs.Grants.{Grant}
-use Rattle.world_model.specs.Sending.{with_cells, sends, sends_control}
-use Rattle.world_model.specs.Asking.{withdraws_input}
-use Rattle.world_model.specs.Resets.{begins, with_work, cuts_of, closes_by, port_restarts_of, port_restarts, resets_gsmp, node_resets}
-use Rattle.world_model.specs.Meeting.{awaits_nothing, may_clear}
+use Rattle.world_model.specs.Words.{PortNo, Channel, End, Mark, next_control, with_control, Clearing, is_estab, Loss, PoolFull, Journal, noted, frame_cells, made, Request, at, put, is_on, is_delete_all, Desk, Standing, empty_desk, last_transaction, all_on, Answered, after_answer, Action, Say, Ask, Note, CutChain, TakeBack, Withdraw, Setup, label_end, Label, Session, Work, labels_of, restarts, Controller, Linked, port_key, linked_at, with_linked, with_desk, chain_of, chains_with, cut, nothing_taken, Grant, sends_control, withdraws_input, begins, with_work, cuts_of, closes_by, port_restarts_of, port_restarts, resets_gsmp, node_resets, awaits_nothing, may_clear}
+use Rattle.world_model.specs.frame_model.Sending.{Sent}
+use Rattle.controller_facts.specs.ordered_lists.Ordered.{Every}
+use Rattle.controller_facts.proofs.ordered_lists.Every.{every_all, every_map}
+use Rattle.world_model.specs.port_model.Desk.{asked}
+use Rattle.world_model.specs.port_model.declared.action.Action.TheVariants as actions
+use Rattle.world_model.specs.port_model.Port.{Port}
+use Rattle.world_model.specs.port_model.Resets.{cleared}
+use Rattle.controller_facts.specs.port_facts.Port.{IsShaped, IsShut}
+use Rattle.controller_facts.proofs.port_facts.Keyed.{on_both, at_every}
+use Rattle.world_model.specs.Controller.{Acted, free_slots, ports_of}
+use Rattle.world_model.specs.Sending.{with_cells, sends}
 use Rattle.controller_facts.specs.Sound.{IsSound, IsShutLinked}
 use Rattle.controller_facts.proofs.Moves.{Worked, Found, sending, asking, withdrawing, answering, meeting, placing, clearing, chaining, moves_to}
 use Rattle.controller_facts.proofs.Laws.{moves_sound}

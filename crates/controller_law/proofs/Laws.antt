@@ -3,17 +3,13 @@
 use Rattle.std.proofs.Common.{◌≡◌, ℕ, Bool, true, subst, ◌≤◌, List, [], ◌∷◌, length, inl, inr, refl, ap, arith, Option, None, Some, false, sym, ◌∙◌}
 use Rattle.std.specs.Prelude.{◌+◌}
 use Rattle.std.proofs.lemmas.List.{length-map}
-use Rattle.gsmp_wire.specs.declared.request.Request.{Request}
-use Rattle.gsmp_wire.specs.declared.request.Request.TheVariants.{AddBranch, MoveBranch, DeleteTree, VerifyTree, DeleteAll, PortManagement, AllPorts}
-use Rattle.crossbar_model.specs.Channels.{IsLinkPort}
-use Rattle.port_model.specs.Requests.{input_of, is_delete_all}
-use Rattle.port_model.specs.Desk.{Desk, Standing, all_on}
-use Rattle.ordered_lists.specs.Ordered.{Every}
-use Rattle.ordered_lists.proofs.Every.{every_mapped, every_map}
-use Rattle.port_model.specs.Setup.{Setup}
+use Rattle.world_model.specs.Words.{Request, AddBranch, MoveBranch, DeleteTree, VerifyTree, PortManagement, IsLinkPort, is_delete_all, Desk, Standing, all_on, Setup, Controller, Linked, port_key, linked_at, setup_of, opens_ports, number_of_channel, End, PortNo, at, Label, Grant, label_at, labels_of, is_clearing, joins_of, label_on}
+use Rattle.world_model.specs.gsmp_wire.declared.request.Request.TheVariants.{DeleteAll, AllPorts}
+use Rattle.world_model.specs.port_model.Requests.{input_of}
+use Rattle.controller_facts.specs.ordered_lists.Ordered.{Every}
+use Rattle.controller_facts.proofs.ordered_lists.Every.{every_mapped, every_map}
 use Rattle.world_model.specs.declared.range.PortRange.{PortRange}
-use Rattle.world_model.specs.Controller.{Controller, Acted, Linked, port_key, linked_at}
-use Rattle.world_model.specs.Opening.{setup_of, opens_ports}
+use Rattle.world_model.specs.Controller.{Acted}
 use Rattle.controller_facts.specs.Inputs.{Input, takes_inputs}
 use Rattle.controller_facts.specs.Sound.{linked_setup, IsLinkedPort, Opening, opened_by, setups_by}
 use Rattle.controller_facts.proofs.Moves.{found_setup, found_at_own}
@@ -26,19 +22,11 @@ use Rattle.controller_law.proofs.Whole.{Whole, holds_of, estab_open}
 use Rattle.controller_law.specs.Match.{MovesJoined, IsOfJoin, joined_in, lent_in, lent_at, IsMatched}
 use Rattle.controller_law.proofs.Entering.{IsHeldAt, held_at}
 use Rattle.std.specs.Option.{option_map_or, option_and_then}
-use Rattle.net_types.specs.Label.{number_of_channel}
-use Rattle.net_types.specs.declared.channel.End.{End}
-use Rattle.net_types.specs.declared.node.PortNo.{PortNo}
-use Rattle.keyed_lists.specs.Keyed.{at}
-use Rattle.port_facts.specs.Port.{setup_port}
-use Rattle.port_facts.proofs.Keyed.{by_eq, at_key, at_every}
+use Rattle.controller_facts.specs.port_facts.Port.{setup_port}
+use Rattle.controller_facts.proofs.port_facts.Keyed.{by_eq, at_key, at_every}
 use Rattle.controller_law.proofs.Lists.{each_any}
-use Rattle.port_model.specs.Labels.{Label}
-use Rattle.port_model.specs.Grants as grants
-use Rattle.port_model.specs.Grants.{Grant}
-use Rattle.port_model.specs.Port.{label_at, labels_of}
-use Rattle.world_model.specs.Meeting.{is_clearing}
-use Rattle.world_model.specs.Joins.{Join, joins_of, output_of, label_on}
+use Rattle.world_model.specs.port_model.Grants as grants
+use Rattle.world_model.specs.Joins.{Join, output_of}
 use Rattle.controller_facts.proofs.Joining.{IsJoin, joins_are}
 use Rattle.controller_law.proofs.Ordering.{empty_order}
 use Rattle.controller_law.proofs.Events.{inputs_hold}

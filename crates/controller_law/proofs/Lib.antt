@@ -1,3 +1,7 @@
+pub use Rattle.controller_facts.proofs.octet_fields as octet_fields
+pub use Rattle.controller_facts.proofs.ordered_lists as ordered_lists
+pub use Rattle.controller_facts.proofs.port_facts as port_facts
+pub use Rattle.controller_facts.proofs as controller_facts
 pub mod Lists
 pub mod Asked
 pub mod Resetting

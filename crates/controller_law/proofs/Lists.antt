@@ -3,9 +3,9 @@
 use Rattle.std.proofs.Common.{◌≡◌, ◌≢◌, ℕ, ◌≤◌, Bool, true, false, List, [], ◌∷◌, ◌++◌, length, Some, refl, sym, ◌∙◌, ap, subst, arith, if◌then◌else◌}
 use Rattle.std.specs.Prelude.{◌+◌, not, ◌||◌, filter, find}
 use Rattle.std.specs.List.{list_any}
-use Rattle.ordered_lists.specs.Ordered.{Every, InOrder}
-use Rattle.keyed_lists.specs.Keyed.{at, put, without}
-use Rattle.port_facts.proofs.Keyed.{on_both, by_eq}
+use Rattle.controller_facts.specs.ordered_lists.Ordered.{Every, InOrder}
+use Rattle.world_model.specs.Words.{at, put, without}
+use Rattle.controller_facts.proofs.port_facts.Keyed.{on_both, by_eq}
 use Rattle.controller_law.specs.Order.{one_if, count_of}
 
 -- *Tests*

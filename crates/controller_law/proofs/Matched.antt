@@ -4,23 +4,12 @@ use Rattle.std.proofs.Common.{◌≡◌, ◌≢◌, ℕ, Bool, true, false, List
 use Rattle.std.specs.Prelude.{◌⊎◌}
 use Rattle.std.specs.Option.{option_map_or, option_and_then}
 use Rattle.std.proofs.lemmas.Bool.Decides.{nat_tests}
-use Rattle.net_types.specs.declared.node.PortNo.{PortNo}
-use Rattle.net_types.specs.declared.channel.End.{End}
-use Rattle.net_types.specs.Label.{number_of_channel}
-use Rattle.gsmp_wire.specs.declared.request.Request.{Request}
-use Rattle.gsmp_wire.specs.declared.request.Request.TheVariants.{AddBranch, MoveBranch, DeleteTree, VerifyTree, DeleteAll, PortManagement, AllPorts}
-use Rattle.crossbar_model.specs.Crossbar.{same_end}
-use Rattle.ordered_lists.specs.Ordered.{Every}
-use Rattle.ordered_lists.proofs.Every.{every_map, every_map2}
-use Rattle.keyed_lists.specs.Keyed.{at, put}
-use Rattle.port_model.specs.Requests.{input_of}
-use Rattle.port_model.specs.Desk.{Desk, Standing, all_on}
-use Rattle.port_model.specs.Labels.{Label}
-use Rattle.port_model.specs.Grants.{Grant}
-use Rattle.port_model.specs.Port.{Session, labels_of}
-use Rattle.port_facts.proofs.Keyed.{by_eq, at_every, at_put_same, at_put_other}
-use Rattle.world_model.specs.Controller.{Linked, port_key}
-use Rattle.world_model.specs.Meeting.{is_clearing}
+use Rattle.world_model.specs.Words.{PortNo, End, number_of_channel, Request, AddBranch, MoveBranch, DeleteTree, VerifyTree, PortManagement, same_end, at, put, Desk, Standing, all_on, Label, Grant, Session, labels_of, Linked, port_key, is_clearing}
+use Rattle.world_model.specs.gsmp_wire.declared.request.Request.TheVariants.{DeleteAll, AllPorts}
+use Rattle.controller_facts.specs.ordered_lists.Ordered.{Every}
+use Rattle.controller_facts.proofs.ordered_lists.Every.{every_map, every_map2}
+use Rattle.world_model.specs.port_model.Requests.{input_of}
+use Rattle.controller_facts.proofs.port_facts.Keyed.{by_eq, at_every, at_put_same, at_put_other}
 use Rattle.controller_facts.specs.Sound.{IsShutLinked}
 use Rattle.controller_law.specs.Match.{MovesJoined, IsOfJoin, joined_in, lent_in, joined_at, lent_at, clearing_at, end_at}
 use Rattle.controller_law.proofs.Asked.{same_end_itself}

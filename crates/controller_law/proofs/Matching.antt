@@ -3,46 +3,23 @@
 use Rattle.std.proofs.Common.{◌≡◌, ◌≢◌, ℕ, Bool, true, false, List, [], ◌∷◌, ◌++◌, length, Option, None, Some, refl, sym, ◌∙◌, ap, subst, inl, inr, if◌then◌else◌, fold, append_assoc}
 use Rattle.std.specs.Prelude.{◌⊎◌, ◌==◌, not, nat_le, nat_eq, flat_map}
 use Rattle.std.specs.Option.{option_and_then}
-use Rattle.net_types.specs.declared.node.PortNo.{PortNo}
-use Rattle.net_types.specs.declared.channel.Channel.{Channel}
-use Rattle.net_types.specs.declared.channel.End.{End}
-use Rattle.net_types.specs.declared.number.Mark.{Mark}
-use Rattle.net_types.specs.Number.{next_control, with_control}
-use Rattle.adjacency_table.specs.Side.{is_estab}
-use Rattle.gsmp_wire.specs.Layout.{octets_of as gsmp_octets}
-use Rattle.gsmp_wire.specs.declared.request.Request.{Request}
-use Rattle.gsmp_wire.specs.declared.request.Request.TheVariants.{MoveBranch, DeleteAll}
-use Rattle.ifmp_wire.specs.Message.{octets_of as ifmp_octets}
-use Rattle.ipv4_packet.specs.Packet.{ifmp_packet_of}
-use Rattle.flow_encaps.specs.Default.{default_payload}
-use Rattle.link_model.specs.declared.record.Record.TheVariants.{Loss}
-use Rattle.link_model.specs.declared.record.Cause.TheVariants.{PoolFull}
-use Rattle.link_model.specs.Notes.{noted}
-use Rattle.frame_model.specs.Sending.{Sent}
-use Rattle.frame_model.specs.Frame.{frame_cells, made}
-use Rattle.frame_model.specs.Reassembly.{nothing_taken}
-use Rattle.ordered_lists.specs.Ordered.{Every, InOrder}
-use Rattle.ordered_lists.proofs.Every.{every_left, every_right}
-use Rattle.keyed_lists.specs.Keyed.{at}
-use Rattle.port_model.specs.Requests.{is_on}
-use Rattle.port_model.specs.Desk.{Desk, Standing, asked, all_on, is_led_home, message_at, last_transaction}
-use Rattle.port_model.specs.declared.action.Action.{Action}
-use Rattle.port_model.specs.declared.action.Action.TheVariants as actions
-use Rattle.port_model.specs.declared.action.Action.TheVariants.{Say, Ask, Note, CutChain, TakeBack, Withdraw}
-use Rattle.port_model.specs.Setup.{Setup, home_of}
-use Rattle.port_model.specs.Grants.{input_of, Grant, GrantState, Idle, ByController, ByInput, Leaving, grant_label}
-use Rattle.port_model.specs.Port.{Work}
-use Rattle.port_model.specs.Resets.{closing, withdrawing, taking_back, left_in, left_of, resets}
-use Rattle.port_facts.specs.Port.{IsAction, AnyChannel}
-use Rattle.port_facts.proofs.Keyed.{on_both, on_each, by_eq}
-use Rattle.port_facts.proofs.Steps.{GoesOn, Goes, stays, steps_to, further}
-use Rattle.port_facts.proofs.Said.{any_step}
-use Rattle.port_facts.proofs.Joins.{resets_kept}
-use Rattle.world_model.specs.Controller.{Controller, Acted, Linked, free_slots, linked_at, with_desk, chains_with, default_channel, default_home}
-use Rattle.world_model.specs.Sending.{with_cells, sends, sends_control}
-use Rattle.world_model.specs.Asking.{asks_next, asks, takes_back, withdraws_input}
-use Rattle.world_model.specs.Resets.{begins, with_work, cuts_of, node_resets}
-use Rattle.world_model.specs.Performing.{does, does_in_estab, resets_as, resets_of, resets_port, performs, performs_in_estab, Rule, works_as, works, at_port}
+use Rattle.world_model.specs.Words.{PortNo, Channel, End, Mark, next_control, with_control, is_estab, Request, MoveBranch, ifmp_packet_of, default_payload, Loss, PoolFull, noted, frame_cells, made, nothing_taken, at, is_on, Desk, Standing, all_on, is_led_home, last_transaction, Action, Say, Ask, Note, CutChain, TakeBack, Withdraw, Setup, home_of, Grant, GrantState, Idle, ByController, ByInput, Leaving, grant_label, Work, closing, withdrawing, taking_back, left_in, left_of, resets, Controller, Linked, linked_at, with_desk, chains_with, default_channel, default_home, sends_control, asks_next, asks, takes_back, withdraws_input, begins, with_work, cuts_of, node_resets, does, does_in_estab, resets_as, resets_of, resets_port, performs, performs_in_estab, Rule, works_as, works, at_port}
+use Rattle.world_model.specs.gsmp_wire.Layout.{octets_of as gsmp_octets}
+use Rattle.world_model.specs.gsmp_wire.declared.request.Request.TheVariants.{DeleteAll}
+use Rattle.world_model.specs.ifmp_wire.Message.{octets_of as ifmp_octets}
+use Rattle.world_model.specs.frame_model.Sending.{Sent}
+use Rattle.controller_facts.specs.ordered_lists.Ordered.{Every, InOrder}
+use Rattle.controller_facts.proofs.ordered_lists.Every.{every_left, every_right}
+use Rattle.world_model.specs.port_model.Desk.{asked, message_at}
+use Rattle.world_model.specs.port_model.declared.action.Action.TheVariants as actions
+use Rattle.world_model.specs.port_model.Grants.{input_of}
+use Rattle.controller_facts.specs.port_facts.Port.{IsAction, AnyChannel}
+use Rattle.controller_facts.proofs.port_facts.Keyed.{on_both, on_each, by_eq}
+use Rattle.controller_facts.proofs.port_facts.Steps.{GoesOn, Goes, stays, steps_to, further}
+use Rattle.controller_facts.proofs.port_facts.Said.{any_step}
+use Rattle.controller_facts.proofs.port_facts.Joins.{resets_kept}
+use Rattle.world_model.specs.Controller.{Acted, free_slots}
+use Rattle.world_model.specs.Sending.{with_cells, sends}
 use Rattle.controller_facts.specs.Sound.{IsSound}
 use Rattle.controller_facts.proofs.Moves.{Worked, worked_kept, by_rule, by_reset, Found, placing, moves_to, HasPorts, found_setup, found_at_own, found_port, begun}
 use Rattle.controller_facts.proofs.Performing.{does_in_estab_goes}

@@ -5,31 +5,17 @@ use Rattle.std.specs.Prelude.{◌⊎◌, ◌==◌, ◌&&◌, not, find, filter, 
 use Rattle.std.specs.List.{filter_map}
 use Rattle.std.specs.Option.{option_map_or}
 use Rattle.std.proofs.lemmas.Bool.Decides.{nat_tests}
-use Rattle.net_types.specs.declared.node.PortNo.{PortNo}
-use Rattle.net_types.specs.declared.channel.End.{End}
-use Rattle.gsmp_wire.specs.declared.request.Request.{Request}
-use Rattle.gsmp_wire.specs.declared.request.Request.TheVariants.{AddBranch, MoveBranch, DeleteTree, VerifyTree, DeleteAll, PortManagement, AllPorts}
-use Rattle.crossbar_model.specs.Crossbar.{same_end}
-use Rattle.ordered_lists.specs.Ordered.{Every, InOrder}
-use Rattle.ordered_lists.proofs.Every.{every_map, every_map2}
-use Rattle.ordered_lists.proofs.Parts.{every_part, part_filtered}
-use Rattle.keyed_lists.specs.Keyed.{in_order}
-use Rattle.port_model.specs.Requests.{input_of, is_on, is_delete_all, leads_home}
-use Rattle.port_model.specs.Desk.{Desk, Standing, on_input, all_on}
-use Rattle.port_model.specs.DeskAnswers.{Done, after_answer, without_request}
-use Rattle.port_model.specs.Setup.{Setup, home_of}
-use Rattle.port_model.specs.Grants.{Grant}
-use Rattle.port_model.specs.Port.{Session}
-use Rattle.port_model.specs.Saying.{is_spent, closes}
-use Rattle.port_model.specs.Port.{Work, halts}
-use Rattle.port_facts.specs.Port.{IsLabelEnd}
-use Rattle.port_facts.proofs.Keyed.{at_every}
-use Rattle.port_facts.proofs.Found.{find_every, filter_passes}
-use Rattle.world_model.specs.Controller.{Acted, Linked, port_key, linked_at, ports_of, with_desk}
-use Rattle.world_model.specs.Resets.{begins}
-use Rattle.world_model.specs.Performing.{works, works_as}
-use Rattle.world_model.specs.Joins.{Join, join_to, joins_at, end_le, released_inputs, releases_input, resets_spent, releases}
-use Rattle.crossbar_model.specs.Channels.{IsLinkPort}
+use Rattle.world_model.specs.Words.{PortNo, End, Request, AddBranch, MoveBranch, DeleteTree, VerifyTree, PortManagement, same_end, in_order, is_on, is_delete_all, leads_home, Desk, Standing, on_input, all_on, Done, after_answer, without_request, Setup, home_of, Grant, Session, is_spent, closes, Work, halts, Linked, port_key, linked_at, with_desk, begins, works, works_as, join_to, joins_at, end_le, released_inputs, releases_input, resets_spent, releases, IsLinkPort}
+use Rattle.world_model.specs.gsmp_wire.declared.request.Request.TheVariants.{DeleteAll, AllPorts}
+use Rattle.controller_facts.specs.ordered_lists.Ordered.{Every, InOrder}
+use Rattle.controller_facts.proofs.ordered_lists.Every.{every_map, every_map2}
+use Rattle.controller_facts.proofs.ordered_lists.Parts.{every_part, part_filtered}
+use Rattle.world_model.specs.port_model.Requests.{input_of}
+use Rattle.controller_facts.specs.port_facts.Port.{IsLabelEnd}
+use Rattle.controller_facts.proofs.port_facts.Keyed.{at_every}
+use Rattle.controller_facts.proofs.port_facts.Found.{find_every, filter_passes}
+use Rattle.world_model.specs.Controller.{Acted, ports_of}
+use Rattle.world_model.specs.Joins.{Join}
 use Rattle.controller_facts.specs.Sound.{IsShutLinked, HaveOwnInputs, HaveOwnPorts}
 use Rattle.controller_facts.proofs.Conditions.{label_has_home}
 use Rattle.controller_law.specs.Order.{IsDeleting, IsMeeting, listing, emptying, IsLinkInput, IsApart}

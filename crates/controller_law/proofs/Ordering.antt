@@ -4,25 +4,15 @@ use Rattle.std.proofs.Common.{◌≡◌, ℕ, ◌≤◌, Bool, true, false, List
 use Rattle.std.specs.Prelude.{not, ◌+◌, ◌==◌, ◌||◌, ◌&&◌, nat_lt, filter, ◌⊎◌}
 use Rattle.std.specs.Option.{option_map_or}
 use Rattle.std.proofs.lemmas.Bool.Decides.{nat_tests}
-use Rattle.net_types.specs.declared.node.PortNo.{PortNo}
-use Rattle.net_types.specs.declared.channel.End.{End}
-use Rattle.adjacency_table.specs.declared.State.TheVariants.{Clearing}
-use Rattle.gsmp_wire.specs.declared.request.Request.{Request}
-use Rattle.gsmp_wire.specs.declared.request.Request.TheVariants.{AddBranch, MoveBranch, DeleteTree, VerifyTree, DeleteAll, PortManagement, AllPorts}
-use Rattle.crossbar_model.specs.Crossbar.{same_end}
-use Rattle.ordered_lists.specs.Ordered.{Every}
-use Rattle.ordered_lists.proofs.Every.{every_map, every_map2, every_join}
-use Rattle.ordered_lists.proofs.Parts.{every_part, part_filtered}
-use Rattle.keyed_lists.specs.Keyed.{at, put}
-use Rattle.port_model.specs.Requests.{input_of, is_on, is_delete_all, withdraws}
-use Rattle.port_model.specs.Desk.{Desk, Standing, asked, all_on, on_input, most_asked}
-use Rattle.port_model.specs.DeskAnswers.{Answered, Unknown, Done, Ports, Failed, after_answer}
-use Rattle.port_model.specs.Setup.{label_end}
-use Rattle.port_model.specs.Labels.{Label}
-use Rattle.port_model.specs.Port.{labels_of}
-use Rattle.port_facts.proofs.Keyed.{on_both, by_eq, at_put_same, at_put_other, put_every}
-use Rattle.port_facts.proofs.Found.{filter_passes}
-use Rattle.world_model.specs.Controller.{Linked, port_key}
+use Rattle.world_model.specs.Words.{PortNo, End, Clearing, Request, AddBranch, MoveBranch, DeleteTree, VerifyTree, PortManagement, same_end, at, put, is_on, is_delete_all, withdraws, Desk, Standing, all_on, on_input, most_asked, Answered, Unknown, Done, Ports, Failed, after_answer, label_end, Label, labels_of, Linked, port_key}
+use Rattle.world_model.specs.gsmp_wire.declared.request.Request.TheVariants.{DeleteAll, AllPorts}
+use Rattle.controller_facts.specs.ordered_lists.Ordered.{Every}
+use Rattle.controller_facts.proofs.ordered_lists.Every.{every_map, every_map2, every_join}
+use Rattle.controller_facts.proofs.ordered_lists.Parts.{every_part, part_filtered}
+use Rattle.world_model.specs.port_model.Requests.{input_of}
+use Rattle.world_model.specs.port_model.Desk.{asked}
+use Rattle.controller_facts.proofs.port_facts.Keyed.{on_both, by_eq, at_put_same, at_put_other, put_every}
+use Rattle.controller_facts.proofs.port_facts.Found.{filter_passes}
 use Rattle.controller_law.specs.Order.{is_lent, IsLentTo, HasLentLabels, IsDeleting, IsMeeting, listing, emptying, IsOther, IsClearingAt, IsOfClearing, is_default, IsLinkInput, IsApart, IsLentMove, MovesLent, is_unlent, stands_unlent, is_listing, is_all_ports, count_of, IsOrder}
 use Rattle.controller_law.proofs.Lists.{one_most, one_leads, one_none, count_most, count_filter, length_filter, count_more, count_within, count_replaced, any_more, any_filter, any_each}
 

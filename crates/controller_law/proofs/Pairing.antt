@@ -3,40 +3,22 @@
 use Rattle.std.proofs.Common.{◌≡◌, ◌≢◌, ℕ, Bool, true, false, List, [], ◌∷◌, ◌++◌, Option, None, Some, refl, sym, ◌∙◌, ap, subst, if◌then◌else◌}
 use Rattle.std.specs.Prelude.{not, ◌+◌, ◌||◌, is_some, nat_lt, nat_eq}
 use Rattle.std.specs.Option.{option_map, option_map_or, option_and_then}
-use Rattle.net_types.specs.declared.channel.End.{End}
-use Rattle.net_types.specs.declared.adjacency.Peer.{Peer}
-use Rattle.net_types.specs.Label.{number_of_channel}
-use Rattle.adjacency_table.specs.declared.State.{State}
-use Rattle.adjacency_table.specs.declared.State.TheVariants.{Clearing, SynSent, SynRcvd, Estab}
-use Rattle.adjacency_table.specs.declared.message.Said.{Said}
-use Rattle.adjacency_table.specs.declared.message.Answer.{Answer}
-use Rattle.adjacency_table.specs.declared.message.Answer.TheVariants.{Quiet, Send, Open, Reset}
-use Rattle.adjacency_table.specs.Side as sides
-use Rattle.adjacency_table.specs.Side.{Side, IsSide, is_open}
-use Rattle.adjacency_table.specs.Hello.{same_peer, hello_of, ifmp_answer, heard_from}
-use Rattle.gsmp_wire.specs.declared.request.Request.TheVariants.{AddBranch, DeleteTree}
-use Rattle.ifmp_wire.specs.declared.message.Message.TheVariants.{Adjacency}
-use Rattle.link_model.specs.declared.record.Record.TheVariants.{Bind, Opened, Join}
-use Rattle.keyed_lists.specs.Keyed.{at, put, without, entered, key_le}
-use Rattle.port_model.specs.Desk.{Desk, on_input}
-use Rattle.port_model.specs.declared.action.Action.{Action}
-use Rattle.port_model.specs.declared.action.Action.TheVariants as actions
-use Rattle.port_model.specs.declared.action.Action.TheVariants.{Say, Ask, Note, CutChain, TakeBack}
-use Rattle.port_model.specs.Setup.{Setup, label_end, control_end}
-use Rattle.port_model.specs.Labels.{Label, Wiring, Offered, Wired, label_number, is_spare}
-use Rattle.port_model.specs.Grants as grants
-use Rattle.port_model.specs.Grants.{Grant, Idle, ByController, grant_label}
-use Rattle.port_model.specs.Port.{Session, Port, Work, acts, halts, with_session, with_label, with_new_label, with_grants, labels_of, label_at, desk_after, has_room}
-use Rattle.port_model.specs.Saying.{Unnumbered, last_number, spent_number, own_of, peer_of, is_spent, tells_in, tells, closes}
-use Rattle.port_model.specs.Adjacency.{first_session, opens, answers}
-use Rattle.port_model.specs.Redirection.{accepts}
-use Rattle.port_facts.specs.Port.{setup_port, AnyChannel, IsWork}
-use Rattle.port_facts.proofs.Keyed.{on_both, by_eq, at_put_same, at_put_other}
-use Rattle.port_facts.proofs.Steps.{IsTurn, hears, ages, StepOn, GoesOn, greeting, telling, closing, noting, turning, heard, minding, relabelling, wiring, binding, quitting, unwiring, freeing, accepting, granting, regranting, starting, ending, taking_back, goes_on_keeps}
-use Rattle.port_facts.proofs.Said.{any_step}
-use Rattle.port_facts.proofs.Turns.{IsTurned, received_turns, ticked_turns}
-use Rattle.port_facts.proofs.Kept.{step_kept}
-use Rattle.world_model.specs.Meeting.{is_clearing}
+use Rattle.world_model.specs.Words.{End, Peer, number_of_channel, State, Clearing, SynSent, SynRcvd, Estab, Said, Answer, Quiet, Send, Open, Side, IsSide, is_open, same_peer, hello_of, ifmp_answer, heard_from, AddBranch, DeleteTree, Bind, Opened, at, put, without, entered, key_le, Desk, on_input, Action, Say, Ask, Note, CutChain, TakeBack, Setup, label_end, control_end, Label, Wiring, Offered, Wired, label_number, is_spare, Grant, Idle, ByController, grant_label, Session, Work, halts, with_session, with_label, with_new_label, with_grants, labels_of, label_at, desk_after, has_room, Unnumbered, last_number, spent_number, own_of, is_spent, tells_in, tells, closes, first_session, opens, accepts, is_clearing}
+use Rattle.world_model.specs.adjacency_table.declared.message.Answer.TheVariants.{Reset}
+use Rattle.world_model.specs.adjacency_table.Side as sides
+use Rattle.world_model.specs.ifmp_wire.declared.message.Message.TheVariants.{Adjacency}
+use Rattle.world_model.specs.link_model.declared.record.Record.TheVariants.{Join}
+use Rattle.world_model.specs.port_model.declared.action.Action.TheVariants as actions
+use Rattle.world_model.specs.port_model.Grants as grants
+use Rattle.world_model.specs.port_model.Port.{Port, acts}
+use Rattle.world_model.specs.port_model.Saying.{peer_of}
+use Rattle.world_model.specs.port_model.Adjacency.{answers}
+use Rattle.controller_facts.specs.port_facts.Port.{setup_port, AnyChannel, IsWork}
+use Rattle.controller_facts.proofs.port_facts.Keyed.{on_both, by_eq, at_put_same, at_put_other}
+use Rattle.controller_facts.proofs.port_facts.Steps.{IsTurn, hears, ages, StepOn, GoesOn, greeting, telling, closing, noting, turning, heard, minding, relabelling, wiring, binding, quitting, unwiring, freeing, accepting, granting, regranting, starting, ending, taking_back, goes_on_keeps}
+use Rattle.controller_facts.proofs.port_facts.Said.{any_step}
+use Rattle.controller_facts.proofs.port_facts.Turns.{IsTurned, received_turns, ticked_turns}
+use Rattle.controller_facts.proofs.port_facts.Kept.{step_kept}
 use Rattle.controller_law.specs.Match.{joined_in, lent_in}
 
 -- *Look-ups*: what the one with a key shows

@@ -4,52 +4,27 @@ use Rattle.std.proofs.Common.{◌≡◌, ◌≢◌, ℕ, Bool, true, false, List
 use Rattle.std.specs.Prelude.{◌||◌, nat_le, find, flat_map}
 use Rattle.std.specs.List.{list_any, filter_map, cons_option}
 use Rattle.std.specs.Option.{option_map, option_map_or, option_and_then}
-use Rattle.net_types.specs.declared.node.PortNo.{PortNo}
-use Rattle.net_types.specs.declared.channel.Channel.{Channel}
-use Rattle.net_types.specs.declared.channel.End.{End}
-use Rattle.net_types.specs.Number.{next_control}
-use Rattle.net_types.specs.Label.{number_of_channel, label_channel_of}
-use Rattle.net_types.proofs.Labels.{label_channel_of-number_of_channel}
-use Rattle.adjacency_table.specs.Side.{is_estab}
-use Rattle.ifmp_wire.specs.Message.{octets_of as ifmp_octets}
-use Rattle.ipv4_packet.specs.Packet.{ifmp_packet_of}
-use Rattle.flow_encaps.specs.Default.{default_payload}
-use Rattle.link_model.specs.declared.record.Record.TheVariants.{Loss, Part}
-use Rattle.link_model.specs.declared.record.Cause.TheVariants.{PoolFull}
-use Rattle.link_model.specs.Notes.{noted}
-use Rattle.frame_model.specs.Sending.{Sent}
-use Rattle.frame_model.specs.Frame.{frame_cells, made}
-use Rattle.crossbar_model.specs.Crossbar.{same_end}
-use Rattle.ordered_lists.specs.Ordered.{Every}
-use Rattle.keyed_lists.specs.Keyed.{at, put, without, entered, in_order}
-use Rattle.port_model.specs.Desk.{Desk, on_input}
-use Rattle.port_model.specs.declared.action.Action.{Action}
-use Rattle.port_model.specs.declared.action.Action.TheVariants as actions
-use Rattle.port_model.specs.declared.action.Action.TheVariants.{Say, Ask, Note, CutChain, TakeBack, Withdraw}
-use Rattle.port_model.specs.Setup.{Setup}
-use Rattle.port_model.specs.Labels.{Label, label_number}
-use Rattle.port_model.specs.Grants as grants
-use Rattle.port_model.specs.Grants.{Grant, GrantState, Idle, ByController, ByInput, Leaving, grant_label}
-use Rattle.port_model.specs.Port.{Session, Work, without_grant, label_at, labels_of}
-use Rattle.port_model.specs.Saying.{reclaim_ack}
-use Rattle.port_model.specs.Joins.{joins_label, parted, given_back_in, given_back}
-use Rattle.port_facts.specs.Port.{IsLabelEnd, IsGrant}
-use Rattle.port_facts.proofs.Keyed.{on_both, by_eq, at_key, at_every, at_put_same, at_put_other}
-use Rattle.world_model.specs.Controller.{Controller, Acted, Linked, port_key, linked_at, note, free_slots, default_home}
+use Rattle.world_model.specs.Words.{PortNo, Channel, End, next_control, number_of_channel, label_channel_of, is_estab, ifmp_packet_of, default_payload, Loss, Part, PoolFull, noted, frame_cells, made, same_end, at, put, without, entered, in_order, Desk, on_input, Action, Say, Ask, Note, CutChain, TakeBack, Withdraw, Setup, Label, label_number, Grant, GrantState, Idle, ByController, ByInput, Leaving, grant_label, Session, Work, without_grant, label_at, labels_of, reclaim_ack, joins_label, parted, given_back_in, given_back, Controller, Linked, port_key, linked_at, default_home, begins, with_work, Rule, performs, performs_in_estab, works, works_as, join_to, joins_at, end_le, joins_of, join_of, parts, releases_join, releases_input, is_clearing}
+use Rattle.world_model.proofs.net_types.Labels.{label_channel_of-number_of_channel}
+use Rattle.world_model.specs.ifmp_wire.Message.{octets_of as ifmp_octets}
+use Rattle.world_model.specs.frame_model.Sending.{Sent}
+use Rattle.controller_facts.specs.ordered_lists.Ordered.{Every}
+use Rattle.world_model.specs.port_model.declared.action.Action.TheVariants as actions
+use Rattle.world_model.specs.port_model.Grants as grants
+use Rattle.controller_facts.specs.port_facts.Port.{IsLabelEnd, IsGrant}
+use Rattle.controller_facts.proofs.port_facts.Keyed.{on_both, by_eq, at_key, at_every, at_put_same, at_put_other}
+use Rattle.world_model.specs.Controller.{Acted, note, free_slots}
 use Rattle.world_model.specs.Sending.{with_cells}
-use Rattle.world_model.specs.Resets.{begins, with_work}
-use Rattle.world_model.specs.Performing.{Rule, performs, performs_in_estab, works, works_as}
-use Rattle.world_model.specs.Joins.{Join, join_to, joins_at, end_le, joins_of, join_of, parts, releases_join, releases_input}
+use Rattle.world_model.specs.Joins.{Join}
 use Rattle.controller_facts.specs.Sound.{IsSound, IsLinkedPort}
 use Rattle.controller_facts.proofs.Moves.{Found, HasPorts, found_at_own, found_port}
 use Rattle.controller_facts.proofs.Joining.{IsJoin, joins_are, join_input, parts_grants, parts_goes, granted_there}
 use Rattle.controller_facts.proofs.Conditions.{of_label}
 use Rattle.controller_facts.proofs.Laws.{has_ports, moves_sound}
-use Rattle.port_facts.proofs.Found.{find_every, find_passes}
+use Rattle.controller_facts.proofs.port_facts.Found.{find_every, find_passes}
 use Rattle.controller_law.specs.Match.{joined_in, lent_in, joined_at, lent_at, clearing_at, end_at}
 use Rattle.controller_law.proofs.Asked.{same_end_itself}
 use Rattle.controller_law.proofs.Lists.{either}
-use Rattle.world_model.specs.Meeting.{is_clearing}
 use Rattle.controller_law.proofs.Pairing.{without_other}
 use Rattle.controller_law.proofs.Matched.{But, end_is, one_pair, here_now, there_now, joined_put, lent_put, clearing_put, released_but}
 use Rattle.controller_law.proofs.Releasing.{number_at, IsGivenBack, given_back_parts, free_standing, tells_parts}

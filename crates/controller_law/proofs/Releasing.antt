@@ -5,41 +5,26 @@ use Rattle.std.specs.Prelude.{◌+◌, ◌||◌, nat_lt}
 use Rattle.std.specs.List.{list_any}
 use Rattle.std.specs.Option.{option_map, option_map_or}
 use Rattle.std.proofs.lemmas.Bool.Decides.{nat_tests}
-use Rattle.net_types.specs.declared.node.PortNo.{PortNo}
-use Rattle.net_types.specs.declared.channel.End.{End}
-use Rattle.net_types.specs.Label.{number_of_channel, label_channel_of}
-use Rattle.net_types.proofs.Labels.{number_of_channel-label_channel_of}
-use Rattle.gsmp_wire.specs.declared.request.Request.{Request}
-use Rattle.link_model.specs.declared.record.Record.TheVariants.{Part}
-use Rattle.crossbar_model.specs.Crossbar.{same_end}
-use Rattle.ordered_lists.specs.Ordered.{Every, InOrder}
-use Rattle.ordered_lists.proofs.Every.{every_map, every_map2, every_mapped, every_join}
-use Rattle.keyed_lists.specs.Keyed.{at, put, without}
-use Rattle.port_model.specs.Requests.{input_of, is_on, leads_home}
-use Rattle.port_model.specs.Desk.{Desk, Standing, on_input}
-use Rattle.port_model.specs.declared.action.Action.{Action}
-use Rattle.port_model.specs.declared.action.Action.TheVariants.{Say}
-use Rattle.port_model.specs.Setup.{Setup, home_of, label_end}
-use Rattle.port_model.specs.Labels.{Label, label_number}
-use Rattle.port_model.specs.Grants as grants
-use Rattle.port_model.specs.Grants.{Grant, GrantState, Idle, ByController, ByInput, Leaving, grant_label}
-use Rattle.port_model.specs.Port.{Session, Port, Work, acts, with_session, without_grant, label_at, labels_of}
-use Rattle.port_model.specs.Saying.{Unnumbered, last_number, spent_number, own_of, peer_of, tells_in, tells, reclaim_ack, closes}
-use Rattle.port_model.specs.Joins.{joins_label, parted, given_back_in, given_back}
-use Rattle.port_facts.specs.Port.{IsLabelEnd, IsBefore}
-use Rattle.port_facts.proofs.Keyed.{on_both, by_eq, at_key, at_every, put_every}
-use Rattle.port_facts.proofs.Found.{filter_passes, tells_labels}
-use Rattle.port_facts.proofs.Steps as steps_of
-use Rattle.port_facts.proofs.Steps.{steps_to}
-use Rattle.world_model.specs.Controller.{Acted, Linked, port_key, linked_at, ports_of, note}
-use Rattle.world_model.specs.Resets.{begins, with_work}
-use Rattle.world_model.specs.Performing.{works, works_as}
-use Rattle.world_model.specs.Joins.{Join, joins_of, join_of, parts, releases_join, releases_input, released_inputs, resets_spent, releases}
+use Rattle.world_model.specs.Words.{PortNo, End, number_of_channel, label_channel_of, Request, Part, same_end, at, put, without, is_on, leads_home, Desk, Standing, on_input, Action, Say, Setup, home_of, label_end, Label, label_number, Grant, GrantState, Idle, ByController, ByInput, Leaving, grant_label, Session, Work, with_session, without_grant, label_at, labels_of, Unnumbered, last_number, spent_number, own_of, tells_in, tells, reclaim_ack, closes, joins_label, parted, given_back_in, given_back, Linked, port_key, linked_at, begins, with_work, works, works_as, joins_of, join_of, parts, releases_join, releases_input, released_inputs, resets_spent, releases}
+use Rattle.world_model.proofs.net_types.Labels.{number_of_channel-label_channel_of}
+use Rattle.controller_facts.specs.ordered_lists.Ordered.{Every, InOrder}
+use Rattle.controller_facts.proofs.ordered_lists.Every.{every_map, every_map2, every_mapped, every_join}
+use Rattle.world_model.specs.port_model.Requests.{input_of}
+use Rattle.world_model.specs.port_model.Grants as grants
+use Rattle.world_model.specs.port_model.Port.{Port, acts}
+use Rattle.world_model.specs.port_model.Saying.{peer_of}
+use Rattle.controller_facts.specs.port_facts.Port.{IsLabelEnd, IsBefore}
+use Rattle.controller_facts.proofs.port_facts.Keyed.{on_both, by_eq, at_key, at_every, put_every}
+use Rattle.controller_facts.proofs.port_facts.Found.{filter_passes, tells_labels}
+use Rattle.controller_facts.proofs.port_facts.Steps as steps_of
+use Rattle.controller_facts.proofs.port_facts.Steps.{steps_to}
+use Rattle.world_model.specs.Controller.{Acted, ports_of, note}
+use Rattle.world_model.specs.Joins.{Join}
 use Rattle.controller_facts.proofs.Moves.{Worked, by_parting, by_giving_back, Found, placing, moves_to, HasPorts, found_at_own, found_port}
 use Rattle.controller_facts.proofs.Joining.{IsJoin, joins_are, join_input, parts_grants, granted_there, every_filter}
 use Rattle.controller_facts.proofs.Unmet.{put_each, none_with, ports_apart}
 use Rattle.controller_facts.proofs.Laws.{has_ports, moves_sound}
-use Rattle.port_facts.proofs.Found.{find_every, find_passes}
+use Rattle.controller_facts.proofs.port_facts.Found.{find_every, find_passes}
 use Rattle.controller_law.specs.Order.{lends, lends_at, is_lent, IsLentTo}
 use Rattle.controller_law.proofs.Lists.{any_put_leads, any_gone, any_each, either}
 use Rattle.controller_law.proofs.Asked.{same_end_itself}

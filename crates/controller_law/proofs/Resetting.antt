@@ -4,39 +4,21 @@ use Rattle.std.proofs.Common.{◌≡◌, ℕ, Bool, true, false, List, [], ◌�
 use Rattle.std.specs.Prelude.{◌+◌, ◌||◌, nat_lt, flat_map}
 use Rattle.std.specs.List.{list_any}
 use Rattle.std.specs.Option.{option_map, option_map_or}
-use Rattle.net_types.specs.declared.node.PortNo.{PortNo}
-use Rattle.net_types.specs.declared.channel.End.{End}
-use Rattle.net_types.specs.declared.adjacency.Peer.{Peer}
-use Rattle.net_types.specs.Label.{number_of_channel}
-use Rattle.adjacency_table.specs.declared.message.Said.{Said}
-use Rattle.adjacency_table.specs.declared.message.Answer.{Answer}
-use Rattle.adjacency_table.specs.Side as sides
-use Rattle.adjacency_table.specs.Side.{is_estab}
-use Rattle.adjacency_table.specs.Hello.{ifmp_answer}
-use Rattle.crossbar_model.specs.Crossbar.{same_end}
-use Rattle.gsmp_wire.specs.declared.request.Request.TheVariants.{AddBranch, DeleteTree}
-use Rattle.ifmp_wire.specs.declared.message.Message.TheVariants.{Adjacency}
-use Rattle.link_model.specs.declared.record.Record.TheVariants.{Bind, Free, Join}
-use Rattle.ordered_lists.specs.Ordered.{Every}
-use Rattle.ordered_lists.proofs.Every.{every_join}
-use Rattle.keyed_lists.specs.Keyed.{put, without, entered, key_le}
-use Rattle.port_model.specs.Desk.{Desk, on_input}
-use Rattle.port_model.specs.declared.action.Action.{Action}
-use Rattle.port_model.specs.declared.action.Action.TheVariants.{Say, Ask, Note, CutChain, TakeBack}
-use Rattle.port_model.specs.Setup.{Setup, label_end, control_end}
-use Rattle.port_model.specs.Labels.{Label, Wiring, Offered, Wired, label_number}
-use Rattle.port_model.specs.Grants as grants
-use Rattle.port_model.specs.Grants.{Grant, GrantState, Idle, ByController, ByInput, Leaving, grant_label}
-use Rattle.port_model.specs.Port.{Session, Port, Work, acts, halts, with_session, with_label, with_new_label, without_label, with_grants, desk_with, desk_after, has_room}
-use Rattle.port_model.specs.Saying.{Unnumbered, last_number, spent_number, own_of, peer_of, is_spent, tells_in, tells}
-use Rattle.port_model.specs.Adjacency.{answers, steps}
-use Rattle.port_model.specs.Redirection.{accepts}
-use Rattle.port_model.specs.Resets.{closing, left_in, left_of, taking_back_in, taking_back, withdrawing_in, withdrawing_of, withdrawing, resets}
-use Rattle.port_facts.specs.Port.{IsLabel, IsPort, IsShut, IsSayable}
-use Rattle.port_facts.proofs.Keyed.{on_both}
-use Rattle.port_facts.proofs.Steps as steps_of
-use Rattle.port_facts.proofs.Steps.{Step, greeting, telling, noting, turning, heard, minding, relabelling, wiring, binding, quitting, unwiring, freeing, accepting, granting, regranting, starting, ending, Goes, goes_keeps, steps_to}
-use Rattle.port_facts.proofs.Shut.{IsQuiet, quiet_turn, goes_shut}
+use Rattle.world_model.specs.Words.{PortNo, End, Peer, number_of_channel, Said, Answer, is_estab, ifmp_answer, same_end, AddBranch, DeleteTree, Bind, Free, put, without, entered, key_le, Desk, on_input, Action, Say, Ask, Note, CutChain, TakeBack, Setup, label_end, control_end, Label, Wiring, Offered, Wired, label_number, Grant, GrantState, Idle, ByController, ByInput, Leaving, grant_label, Session, Work, halts, with_session, with_label, with_new_label, without_label, with_grants, desk_with, desk_after, has_room, Unnumbered, last_number, spent_number, own_of, is_spent, tells_in, tells, accepts, closing, left_in, left_of, taking_back_in, taking_back, withdrawing_in, withdrawing_of, withdrawing, resets}
+use Rattle.world_model.specs.adjacency_table.Side as sides
+use Rattle.world_model.specs.ifmp_wire.declared.message.Message.TheVariants.{Adjacency}
+use Rattle.world_model.specs.link_model.declared.record.Record.TheVariants.{Join}
+use Rattle.controller_facts.specs.ordered_lists.Ordered.{Every}
+use Rattle.controller_facts.proofs.ordered_lists.Every.{every_join}
+use Rattle.world_model.specs.port_model.Grants as grants
+use Rattle.world_model.specs.port_model.Port.{Port, acts}
+use Rattle.world_model.specs.port_model.Saying.{peer_of}
+use Rattle.world_model.specs.port_model.Adjacency.{answers, steps}
+use Rattle.controller_facts.specs.port_facts.Port.{IsLabel, IsPort, IsShut, IsSayable}
+use Rattle.controller_facts.proofs.port_facts.Keyed.{on_both}
+use Rattle.controller_facts.proofs.port_facts.Steps as steps_of
+use Rattle.controller_facts.proofs.port_facts.Steps.{Step, greeting, telling, noting, turning, heard, minding, relabelling, wiring, binding, quitting, unwiring, freeing, accepting, granting, regranting, starting, ending, Goes, goes_keeps, steps_to}
+use Rattle.controller_facts.proofs.port_facts.Shut.{IsQuiet, quiet_turn, goes_shut}
 use Rattle.controller_law.specs.Order.{lends}
 use Rattle.controller_law.proofs.Asked.{same_end_itself, MayAct, MayActs, IsNoReset, AsksNoBranch, stays_last}
 

@@ -2,28 +2,14 @@
 
 use Rattle.std.proofs.Common.{◌≡◌, ℕ, List, [], ◌∷◌, length, refl, ◌∙◌, fold}
 use Rattle.std.specs.Prelude.{nat_le}
-use Rattle.net_types.specs.declared.node.PortNo.{PortNo}
-use Rattle.net_types.specs.declared.channel.Channel.{Channel}
-use Rattle.net_types.specs.declared.number.Mark.{Mark}
-use Rattle.net_types.specs.Number.{next_control, with_control}
-use Rattle.ifmp_wire.specs.Message.{octets_of as ifmp_octets}
-use Rattle.ipv4_packet.specs.Packet.{ifmp_packet_of}
-use Rattle.flow_encaps.specs.Default.{default_payload}
-use Rattle.link_model.specs.declared.record.Record.TheVariants.{Loss}
-use Rattle.link_model.specs.declared.record.Cause.TheVariants.{PoolFull}
-use Rattle.link_model.specs.Notes.{noted}
-use Rattle.frame_model.specs.Sending.{Sent}
-use Rattle.frame_model.specs.Frame.{frame_cells, made}
-use Rattle.adjacency_table.specs.Side.{is_estab}
-use Rattle.ordered_lists.specs.Ordered.{Every}
-use Rattle.port_model.specs.declared.action.Action.{Action}
-use Rattle.port_model.specs.declared.action.Action.TheVariants as actions
-use Rattle.port_model.specs.declared.action.Action.TheVariants.{Say, Ask, Note, CutChain, TakeBack, Withdraw}
-use Rattle.port_model.specs.Setup.{Setup}
-use Rattle.port_facts.proofs.Keyed.{on_both}
-use Rattle.world_model.specs.Controller.{Controller, Acted, free_slots, default_home}
+use Rattle.world_model.specs.Words.{PortNo, Channel, Mark, next_control, with_control, ifmp_packet_of, default_payload, Loss, PoolFull, noted, frame_cells, made, is_estab, Action, Say, Ask, Note, CutChain, TakeBack, Withdraw, Setup, Controller, default_home, performs, performs_in_estab}
+use Rattle.world_model.specs.ifmp_wire.Message.{octets_of as ifmp_octets}
+use Rattle.world_model.specs.frame_model.Sending.{Sent}
+use Rattle.controller_facts.specs.ordered_lists.Ordered.{Every}
+use Rattle.world_model.specs.port_model.declared.action.Action.TheVariants as actions
+use Rattle.controller_facts.proofs.port_facts.Keyed.{on_both}
+use Rattle.world_model.specs.Controller.{Acted, free_slots}
 use Rattle.world_model.specs.Sending.{with_cells, sends}
-use Rattle.world_model.specs.Performing.{performs, performs_in_estab}
 use Rattle.controller_law.proofs.Holding.{Holds, sends_control_holds}
 
 -- *Saying* alone

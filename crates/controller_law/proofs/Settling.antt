@@ -5,52 +5,25 @@ use Rattle.std.specs.Prelude.{◌⊎◌, ◌==◌, ◌||◌, not, nat_le, filter
 use Rattle.std.specs.List.{list_any}
 use Rattle.std.specs.Option.{option_map, option_map_or, option_and_then}
 use Rattle.std.proofs.lemmas.Bool.Decides.{nat_tests}
-use Rattle.net_types.specs.declared.node.PortNo.{PortNo}
-use Rattle.net_types.specs.declared.channel.Channel.{Channel}
-use Rattle.net_types.specs.declared.channel.End.{End}
-use Rattle.net_types.specs.declared.number.Mark.{Mark}
-use Rattle.net_types.specs.Number.{next_control, with_control}
-use Rattle.net_types.specs.Label.{number_of_channel}
-use Rattle.adjacency_table.specs.Side.{is_estab}
-use Rattle.gsmp_wire.specs.Layout.{octets_of as gsmp_octets}
-use Rattle.gsmp_wire.specs.declared.request.Request.{Request}
-use Rattle.gsmp_wire.specs.declared.request.Request.TheVariants.{AddBranch, MoveBranch, DeleteTree, VerifyTree, DeleteAll, PortManagement, AllPorts}
-use Rattle.ifmp_wire.specs.Message.{octets_of as ifmp_octets}
-use Rattle.ipv4_packet.specs.Packet.{ifmp_packet_of}
-use Rattle.flow_encaps.specs.Default.{default_payload}
-use Rattle.link_model.specs.declared.record.Record.TheVariants.{Loss, Free}
-use Rattle.link_model.specs.declared.record.Cause.TheVariants.{PoolFull}
-use Rattle.link_model.specs.Notes.{noted}
-use Rattle.frame_model.specs.Sending.{Sent}
-use Rattle.frame_model.specs.Frame.{frame_cells, made}
-use Rattle.frame_model.specs.Reassembly.{nothing_taken}
-use Rattle.crossbar_model.specs.Crossbar.{same_end}
-use Rattle.ordered_lists.specs.Ordered.{Every, InOrder}
-use Rattle.ordered_lists.proofs.Every.{every_map, every_map2, every_mapped}
-use Rattle.keyed_lists.specs.Keyed.{at, put, without}
-use Rattle.port_model.specs.Requests.{is_delete_all, leads_home}
-use Rattle.port_model.specs.Desk.{Desk, Standing, asked, all_on, on_input, is_led_home, message_at, last_transaction}
-use Rattle.port_model.specs.DeskAnswers.{Done, without_request, after_answer}
-use Rattle.port_model.specs.declared.action.Action.{Action}
-use Rattle.port_model.specs.declared.action.Action.TheVariants as actions
-use Rattle.port_model.specs.declared.action.Action.TheVariants.{Say, Ask, Note, CutChain, TakeBack, Withdraw}
-use Rattle.port_model.specs.Setup.{Setup, home_of}
-use Rattle.port_model.specs.Labels.{Label, label_number}
-use Rattle.port_model.specs.Port.{Session, Work, acts, without_label, label_at, labels_of}
-use Rattle.port_model.specs.Saying.{closes}
-use Rattle.port_model.specs.Resets.{resets}
-use Rattle.port_facts.specs.Port.{setup_port, IsLabelEnd, IsAction, AnyChannel}
-use Rattle.port_facts.proofs.Keyed.{on_both, by_eq}
-use Rattle.port_facts.proofs.Found.{filter_passes, find_every}
-use Rattle.port_facts.proofs.Steps as steps_of
-use Rattle.port_facts.proofs.Steps.{GoesOn, steps_to}
-use Rattle.port_facts.proofs.Joins.{resets_kept}
-use Rattle.world_model.specs.Controller.{Controller, Acted, Linked, port_key, linked_at, ports_of, with_desk, free_slots, chains_with, default_channel, default_home}
+use Rattle.world_model.specs.Words.{PortNo, Channel, End, Mark, next_control, with_control, number_of_channel, is_estab, Request, AddBranch, MoveBranch, DeleteTree, VerifyTree, PortManagement, ifmp_packet_of, default_payload, Loss, Free, PoolFull, noted, frame_cells, made, nothing_taken, same_end, at, put, without, is_delete_all, leads_home, Desk, Standing, all_on, on_input, is_led_home, last_transaction, Done, without_request, after_answer, Action, Say, Ask, Note, CutChain, TakeBack, Withdraw, Setup, home_of, Label, label_number, Session, Work, without_label, label_at, labels_of, closes, resets, Controller, Linked, port_key, linked_at, with_desk, chains_with, default_channel, default_home, asks_next, asks, takes_back, begins, with_work, cuts_of, node_resets, does, does_in_estab, resets_of, resets_port, performs, performs_in_estab, works, joins_of, released_inputs, releases_input, resets_spent, releases}
+use Rattle.world_model.specs.gsmp_wire.Layout.{octets_of as gsmp_octets}
+use Rattle.world_model.specs.gsmp_wire.declared.request.Request.TheVariants.{DeleteAll, AllPorts}
+use Rattle.world_model.specs.ifmp_wire.Message.{octets_of as ifmp_octets}
+use Rattle.world_model.specs.frame_model.Sending.{Sent}
+use Rattle.controller_facts.specs.ordered_lists.Ordered.{Every, InOrder}
+use Rattle.controller_facts.proofs.ordered_lists.Every.{every_map, every_map2, every_mapped}
+use Rattle.world_model.specs.port_model.Desk.{asked, message_at}
+use Rattle.world_model.specs.port_model.declared.action.Action.TheVariants as actions
+use Rattle.world_model.specs.port_model.Port.{acts}
+use Rattle.controller_facts.specs.port_facts.Port.{setup_port, IsLabelEnd, IsAction, AnyChannel}
+use Rattle.controller_facts.proofs.port_facts.Keyed.{on_both, by_eq}
+use Rattle.controller_facts.proofs.port_facts.Found.{filter_passes, find_every}
+use Rattle.controller_facts.proofs.port_facts.Steps as steps_of
+use Rattle.controller_facts.proofs.port_facts.Steps.{GoesOn, steps_to}
+use Rattle.controller_facts.proofs.port_facts.Joins.{resets_kept}
+use Rattle.world_model.specs.Controller.{Acted, ports_of, free_slots}
 use Rattle.world_model.specs.Sending.{with_cells, sends}
-use Rattle.world_model.specs.Asking.{asks_next, asks, takes_back}
-use Rattle.world_model.specs.Resets.{begins, with_work, cuts_of, node_resets}
-use Rattle.world_model.specs.Performing.{does, does_in_estab, resets_of, resets_port, performs, performs_in_estab, works}
-use Rattle.world_model.specs.Joins.{Join, joins_of, released_inputs, releases_input, resets_spent, releases}
+use Rattle.world_model.specs.Joins.{Join}
 use Rattle.controller_facts.specs.Sound.{IsSound, IsEarlier}
 use Rattle.controller_facts.proofs.Moves.{Worked, worked_kept, by_rule, by_reset, Found, placing, moves_to, HasPorts, found_setup, found_at_own, found_port, begun}
 use Rattle.controller_facts.proofs.Performing.{does_in_estab_goes}

@@ -4,47 +4,23 @@
 use Rattle.std.proofs.Common.{◌≡◌, ◌≢◌, ℕ, Bool, true, false, List, [], Option, None, Some, refl, sym, ◌∙◌, ap, subst, if◌then◌else◌}
 use Rattle.std.specs.Prelude.{◌&&◌, not}
 use Rattle.std.specs.Option.{option_map, option_map_or, option_and_then}
-use Rattle.net_types.specs.declared.node.PortNo.{PortNo}
-use Rattle.net_types.specs.declared.channel.Channel.{Channel}
-use Rattle.net_types.specs.declared.channel.End.{End}
-use Rattle.net_types.specs.declared.number.Mark.{Mark}
-use Rattle.net_types.specs.Label.{number_of_channel, label_number_of}
-use Rattle.net_types.proofs.Labels.{number_of_channel-label_channel_of}
-use Rattle.adjacency_table.specs.declared.State.{State}
-use Rattle.adjacency_table.specs.declared.State.TheVariants.{Clearing, SynSent, SynRcvd, Estab}
-use Rattle.adjacency_table.specs.Side.{is_estab}
-use Rattle.gsmp_wire.specs.Layout.{octets_of as gsmp_octets}
-use Rattle.gsmp_wire.specs.declared.request.Request.{Request}
-use Rattle.gsmp_wire.specs.declared.request.Request.TheVariants.{MoveBranch, DeleteTree}
-use Rattle.link_model.specs.declared.record.Record.{Record}
-use Rattle.link_model.specs.declared.record.Record.TheVariants.{Free}
-use Rattle.link_model.specs.Notes.{Journal}
-use Rattle.keyed_lists.specs.Keyed.{at, put}
-use Rattle.port_model.specs.Desk.{Desk, Standing, all_on, message_at}
-use Rattle.port_model.specs.declared.action.Action.TheVariants.{Note}
-use Rattle.port_model.specs.Setup.{Setup, home_of}
-use Rattle.port_model.specs.Labels.{Label, LabelState, Wiring, Offered, Recalled, Wired, label_number}
-use Rattle.port_model.specs.Grants as grants
-use Rattle.port_model.specs.Grants.{Grant, ByController, ByInput, grant_label}
-use Rattle.port_model.specs.Port.{Session, Port, label_at, labels_of}
-use Rattle.port_model.specs.Hearing.{label_by}
-use Rattle.port_model.specs.Joins as port_joins
-use Rattle.port_model.specs.Joins.{joins_label}
-use Rattle.port_model.specs.Answers as port_answers
-use Rattle.port_model.specs.Answers.{freed_in, freed}
-use Rattle.port_model.specs.Resets.{cleared}
-use Rattle.port_facts.specs.Port.{IsLabelEnd, IsShaped, AnyChannel}
-use Rattle.port_facts.proofs.Keyed.{on_both, by_eq, at_key, at_put_same, at_put_other}
-use Rattle.port_facts.proofs.Steps.{GoesOn}
-use Rattle.port_facts.proofs.Rules.{IsTree, done_goes}
-use Rattle.port_facts.proofs.Found.{by_number}
-use Rattle.world_model.specs.Controller.{Acted, Linked, port_key, linked_at, with_linked, default_channel}
-use Rattle.world_model.specs.Sending.{sends, sends_control}
-use Rattle.world_model.specs.Asking.{sends_request, asks, takes_back}
-use Rattle.world_model.specs.Resets.{begins, node_resets}
-use Rattle.world_model.specs.Performing.{performs, performs_in_estab, Rule, works, works_as, at_port}
-use Rattle.world_model.specs.Joins.{Join, output_of, enters_grant, enters_label, joins, label_on}
-use Rattle.world_model.specs.Meeting.{is_clearing, awaits_nothing, may_clear, tells_port}
+use Rattle.world_model.specs.Words.{PortNo, Channel, End, Mark, number_of_channel, label_number_of, State, Clearing, SynSent, SynRcvd, Estab, is_estab, Request, MoveBranch, DeleteTree, Record, Free, Journal, at, put, Desk, Standing, all_on, Note, Setup, home_of, Label, LabelState, Wiring, Offered, Recalled, Wired, label_number, Grant, ByController, ByInput, grant_label, Session, label_at, labels_of, label_by, joins_label, freed_in, freed, Linked, port_key, linked_at, with_linked, default_channel, sends_control, sends_request, asks, takes_back, begins, node_resets, performs, performs_in_estab, Rule, works, works_as, at_port, enters_grant, enters_label, joins, label_on, is_clearing, awaits_nothing, may_clear, tells_port}
+use Rattle.world_model.proofs.net_types.Labels.{number_of_channel-label_channel_of}
+use Rattle.world_model.specs.gsmp_wire.Layout.{octets_of as gsmp_octets}
+use Rattle.world_model.specs.port_model.Desk.{message_at}
+use Rattle.world_model.specs.port_model.Grants as grants
+use Rattle.world_model.specs.port_model.Port.{Port}
+use Rattle.world_model.specs.port_model.Joins as port_joins
+use Rattle.world_model.specs.port_model.Answers as port_answers
+use Rattle.world_model.specs.port_model.Resets.{cleared}
+use Rattle.controller_facts.specs.port_facts.Port.{IsLabelEnd, IsShaped, AnyChannel}
+use Rattle.controller_facts.proofs.port_facts.Keyed.{on_both, by_eq, at_key, at_put_same, at_put_other}
+use Rattle.controller_facts.proofs.port_facts.Steps.{GoesOn}
+use Rattle.controller_facts.proofs.port_facts.Rules.{IsTree, done_goes}
+use Rattle.controller_facts.proofs.port_facts.Found.{by_number}
+use Rattle.world_model.specs.Controller.{Acted}
+use Rattle.world_model.specs.Sending.{sends}
+use Rattle.world_model.specs.Joins.{Join, output_of}
 use Rattle.controller_facts.specs.Sound.{IsSound}
 use Rattle.controller_facts.proofs.Moves.{Found, HasPorts, found_at_own}
 use Rattle.controller_facts.proofs.Joining.{image_is}

@@ -1,26 +1,12 @@
 -- What a port asks of its controller can be done
 
 use Rattle.std.specs.Prelude.{◌≡◌, ℕ, true, List, [], Some}
-use Rattle.net_types.specs.declared.prefix.Addr.{Addr}
-use Rattle.crossbar_model.specs.Channels.{IsLinkPort}
-use Rattle.gsmp_wire.specs.declared.request.Request.{Request}
-use Rattle.ifmp_wire.specs.declared.message.Message.{Message}
-use Rattle.ifmp_wire.specs.Message.{InRange}
-use Rattle.ordered_lists.specs.Ordered.{Every}
-use Rattle.keyed_lists.specs.Keyed.{at}
-use Rattle.port_model.specs.Desk.{Desk}
-use Rattle.port_model.specs.declared.action.Action.{Action}
-use Rattle.port_model.specs.declared.action.Action.TheVariants.{Say, Ask, CutChain, TakeBack}
-use Rattle.port_model.specs.Setup.{Setup, is_in_range}
-use Rattle.port_model.specs.Grants.{Grant, grant_label}
-use Rattle.port_model.specs.Port.{Work}
-use Rattle.port_model.specs.Hearing.{hears}
-use Rattle.port_model.specs.Ticks.{ticks}
-use Rattle.port_model.specs.Counting.{counts}
-use Rattle.port_model.specs.Answers.{done}
-use Rattle.port_model.specs.Joins.{given_back}
-use Rattle.port_model.specs.Resets.{resets, restarts}
-use Rattle.port_facts.specs.Port.{IsShaped}
+use Rattle.world_model.specs.Words.{Addr, IsLinkPort, Request, InRange, at, Desk, Action, Say, Ask, CutChain, TakeBack, Setup, is_in_range, Grant, grant_label, Work, hears, counts, given_back, resets, restarts}
+use Rattle.world_model.specs.ifmp_wire.declared.message.Message.{Message}
+use Rattle.controller_facts.specs.ordered_lists.Ordered.{Every}
+use Rattle.world_model.specs.port_model.Ticks.{ticks}
+use Rattle.world_model.specs.port_model.Answers.{done}
+use Rattle.controller_facts.specs.port_facts.Port.{IsShaped}
 use Rattle.controller_facts.specs.Conditions.{HasHome}
 use Rattle.controller_facts.specs.Said.{IsAtWork}
 

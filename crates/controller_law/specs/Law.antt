@@ -1,15 +1,11 @@
 -- What holds of the requests and the joins of a controller after every list of inputs
 
 use Rattle.std.specs.Prelude.{◌≡◌, ◌≤◌, ◌<◌, ◌+◌, true, false, List, length, Some}
-use Rattle.net_types.specs.declared.channel.End.{End}
-use Rattle.crossbar_model.specs.Channels.{IsLinkPort}
-use Rattle.ordered_lists.specs.Ordered.{Every, InOrder}
-use Rattle.port_model.specs.Requests.{input_of}
-use Rattle.port_model.specs.Desk.{Standing, all_on, most_asked}
+use Rattle.world_model.specs.Words.{End, IsLinkPort, Standing, all_on, most_asked, Label, Controller, joins_of, label_on}
+use Rattle.controller_facts.specs.ordered_lists.Ordered.{Every, InOrder}
+use Rattle.world_model.specs.port_model.Requests.{input_of}
 use Rattle.world_model.specs.declared.range.PortRange.{PortRange}
-use Rattle.port_model.specs.Labels.{Label}
-use Rattle.world_model.specs.Controller.{Controller}
-use Rattle.world_model.specs.Joins.{Join, joins_of, output_of, label_on}
+use Rattle.world_model.specs.Joins.{Join, output_of}
 use Rattle.controller_facts.specs.Inputs.{Input, takes_inputs}
 use Rattle.controller_facts.specs.Sound.{Opening, DifferInPort, opened_by}
 use Rattle.controller_law.specs.Match.{IsMatched}

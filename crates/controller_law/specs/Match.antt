@@ -2,20 +2,9 @@
 
 use Rattle.std.specs.Prelude.{◌≡◌, ◌≢◌, ℕ, true, false, Bool, List, Option, Some, ◌⊎◌}
 use Rattle.std.specs.Option.{option_map_or, option_and_then}
-use Rattle.net_types.specs.declared.channel.End.{End}
-use Rattle.net_types.specs.Label.{number_of_channel}
-use Rattle.gsmp_wire.specs.declared.request.Request.{Request}
-use Rattle.gsmp_wire.specs.declared.request.Request.TheVariants.{MoveBranch}
-use Rattle.ordered_lists.specs.Ordered.{Every}
-use Rattle.keyed_lists.specs.Keyed.{at}
-use Rattle.port_model.specs.Desk.{Desk, Standing, all_on}
-use Rattle.port_model.specs.Setup.{label_end, home_of}
-use Rattle.port_model.specs.Labels.{Label, label_number}
-use Rattle.port_model.specs.Grants as grants
-use Rattle.port_model.specs.Grants.{Grant, grant_label}
-use Rattle.port_model.specs.Port.{labels_of}
-use Rattle.world_model.specs.Controller.{Linked, port_key}
-use Rattle.world_model.specs.Meeting.{is_clearing}
+use Rattle.world_model.specs.Words.{End, number_of_channel, Request, MoveBranch, at, Desk, Standing, all_on, label_end, home_of, Label, label_number, Grant, grant_label, labels_of, Linked, port_key, is_clearing}
+use Rattle.controller_facts.specs.ordered_lists.Ordered.{Every}
+use Rattle.world_model.specs.port_model.Grants as grants
 
 -- where a label is joined to, and the input that a grant is lent to, by their numbers
 abbrev pub joined_in : List Label → (number : ℕ) → Option End

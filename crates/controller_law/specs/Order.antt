@@ -3,22 +3,11 @@
 use Rattle.std.specs.Prelude.{◌≡◌, ◌≢◌, ℕ, ◌≤◌, ◌+◌, ◌==◌, ◌&&◌, not, true, false, Bool, List, [], ◌∷◌, Some}
 use Rattle.std.specs.List.{list_any}
 use Rattle.std.specs.Option.{option_map_or}
-use Rattle.net_types.specs.declared.node.PortNo.{PortNo}
-use Rattle.net_types.specs.declared.channel.End.{End}
-use Rattle.gsmp_wire.specs.declared.request.Request.{Request}
-use Rattle.gsmp_wire.specs.declared.request.Request.TheVariants.{MoveBranch, DeleteAll, AllPorts}
-use Rattle.adjacency_table.specs.declared.State.TheVariants.{Clearing}
-use Rattle.crossbar_model.specs.Crossbar.{same_end}
-use Rattle.ordered_lists.specs.Ordered.{Every}
-use Rattle.keyed_lists.specs.Keyed.{at}
-use Rattle.port_model.specs.Requests.{input_of, is_delete_all}
-use Rattle.port_model.specs.Desk.{Desk, Standing, all_on, most_asked}
-use Rattle.port_model.specs.Setup.{label_end}
-use Rattle.port_model.specs.Labels.{Label}
-use Rattle.port_model.specs.Grants as grants
-use Rattle.port_model.specs.Grants.{Grant}
-use Rattle.port_model.specs.Port.{labels_of}
-use Rattle.world_model.specs.Controller.{Controller, Linked, port_key}
+use Rattle.world_model.specs.Words.{PortNo, End, Request, MoveBranch, Clearing, same_end, at, is_delete_all, Desk, Standing, all_on, most_asked, label_end, Label, Grant, labels_of, Controller, Linked, port_key}
+use Rattle.world_model.specs.gsmp_wire.declared.request.Request.TheVariants.{DeleteAll, AllPorts}
+use Rattle.controller_facts.specs.ordered_lists.Ordered.{Every}
+use Rattle.world_model.specs.port_model.Requests.{input_of}
+use Rattle.world_model.specs.port_model.Grants as grants
 
 -- *Joins*: a grant is lent to an input
 abbrev pub lends : End → Grant → Bool

@@ -2,30 +2,16 @@
 
 use Rattle.std.proofs.Common.{◌≡◌, true, List, [], ◌∷◌, ◌++◌, None, Some, refl, map, fold, if◌then◌else◌}
 use Rattle.std.specs.Prelude.{flat_map}
-use Rattle.net_types.specs.declared.node.PortNo.{PortNo}
-use Rattle.net_types.specs.declared.channel.End.{End}
-use Rattle.net_types.specs.declared.adjacency.Party.{Party}
-use Rattle.ipv4_forward.specs.declared.change.RouteChange.{RouteChange}
-use Rattle.adjacency_table.specs.declared.message.Answer.{Answer}
-use Rattle.adjacency_table.specs.declared.message.Answer.TheVariants.{Quiet, Send, Open, Reset}
-use Rattle.net_types.specs.declared.adjacency.Greeting.{Greeting}
-use Rattle.adjacency_table.specs.Side.{Step, is_estab}
-use Rattle.adjacency_table.specs.Greeting.{gsmp_answer}
-use Rattle.gsmp_wire.specs.declared.request.Request.{Request}
-use Rattle.gsmp_wire.specs.declared.request.Request.TheVariants.{AddBranch, DeleteAll, AllPorts}
-use Rattle.gsmp_wire.specs.declared.message.Message.{Message}
-use Rattle.gsmp_wire.specs.declared.message.Message.TheVariants.{Adjacency}
-use Rattle.port_model.specs.Desk.{empty_desk, message_at, sent_again}
-use Rattle.port_facts.proofs.Keyed.{on_both}
-use Rattle.world_model.specs.Controller.{Acted, with_desk, default_end, default_home}
-use Rattle.world_model.specs.Sending.{says_gsmp}
-use Rattle.world_model.specs.Resets.{node_resets}
-use Rattle.world_model.specs.Asking.{sends_request, asks, takes_back}
+use Rattle.world_model.specs.Words.{PortNo, End, Party, RouteChange, Answer, Quiet, Send, Open, Greeting, Step, is_estab, gsmp_answer, Request, AddBranch, empty_desk, sent_again, with_desk, default_end, default_home, says_gsmp, node_resets, sends_request, asks, takes_back, changed_joins, takes_join_back, begins_change, takes_change, may_take, takes_each, takes_changes, change_comes, meets, up_ports, empties, default_branches, ends_meeting, has_emptied, behind_delete_all, sends_again}
+use Rattle.world_model.specs.adjacency_table.declared.message.Answer.TheVariants.{Reset}
+use Rattle.world_model.specs.gsmp_wire.declared.request.Request.TheVariants.{DeleteAll, AllPorts}
+use Rattle.world_model.specs.gsmp_wire.declared.message.Message.{Message}
+use Rattle.world_model.specs.gsmp_wire.declared.message.Message.TheVariants.{Adjacency}
+use Rattle.world_model.specs.port_model.Desk.{message_at}
+use Rattle.label_steps.proofs.port_facts.Keyed.{on_both}
+use Rattle.world_model.specs.Controller.{Acted}
 use Rattle.world_model.specs.Joins.{output_of}
-use Rattle.world_model.specs.Changes.{changed_joins, takes_join_back, begins_change, takes_change, may_take, takes_each, takes_changes, change_comes}
 use Rattle.world_model.specs.Gsmp.{answers, steps}
-use Rattle.world_model.specs.Meeting.{meets, up_ports, empties, default_branches, ends_meeting, has_emptied, behind_delete_all}
-use Rattle.world_model.specs.Ticks.{sends_again}
 
 -- *One controller follows another*: itself, on from one that follows, where nothing changes that bears on ports, frames
 -- or numbers, and by the smallest things that are done

@@ -1,24 +1,14 @@
 -- a controller that is ready stays so where a packet is sent on
 
 use Rattle.std.proofs.Common.{ℕ, List, Option, None, Some, refl}
-use Rattle.net_types.specs.declared.node.PortNo.{PortNo}
-use Rattle.net_types.specs.declared.channel.Channel.{Channel}
-use Rattle.net_types.specs.declared.number.Mark.{Mark}
-use Rattle.ipv4_forward.specs.Hop.{hop_of, onward}
-use Rattle.ipv4_forward.specs.declared.outcome.Hop.{Hop}
-use Rattle.ipv4_forward.specs.declared.outcome.Hop.TheVariants.{Here, On, NoRoute, Expired}
-use Rattle.ipv4_packet.specs.Flow.{kind_of}
-use Rattle.flow_encaps.specs.Default.{default_payload}
-use Rattle.flow_encaps.specs.Labelled.{labelled_payload}
-use Rattle.frame_model.specs.Frame.{next_mark}
-use Rattle.port_facts.proofs.Keyed.{on_both}
-use Rattle.port_model.specs.Setup.{Setup, control_end}
-use Rattle.port_model.specs.Grants.{Grant}
-use Rattle.port_model.specs.Port.{Port}
-use Rattle.world_model.specs.Controller.{Acted, default_home}
-use Rattle.world_model.specs.Sending.{sends, sends_control}
-use Rattle.world_model.specs.Packets.{is_control, sends_next, goes_by, grant_by, forwarded, routes}
-use Rattle.controller_facts.proofs.Events.{routes_goes}
+use Rattle.world_model.specs.Words.{PortNo, Channel, Mark, hop_of, onward, Hop, Here, On, kind_of, default_payload, labelled_payload, next_mark, Setup, control_end, Grant, default_home, sends_control, is_control, sends_next, goes_by, grant_by, routes}
+use Rattle.world_model.specs.ipv4_forward.declared.outcome.Hop.TheVariants.{NoRoute, Expired}
+use Rattle.label_steps.proofs.port_facts.Keyed.{on_both}
+use Rattle.world_model.specs.port_model.Port.{Port}
+use Rattle.world_model.specs.Controller.{Acted}
+use Rattle.world_model.specs.Sending.{sends}
+use Rattle.world_model.specs.Packets.{forwarded}
+use Rattle.arrival_views.proofs.controller_facts.Events.{routes_goes}
 use Rattle.controller_lifts.proofs.Kept.{IsClosed, Goes, same_ports, sends_goes, control_goes}
 use Rattle.controller_lifts.proofs.Unspent.{Unspent, unspent_closed}
 use Rattle.controller_lifts.proofs.Ready.{Fits, fits_closed, Readies, moves_ready}

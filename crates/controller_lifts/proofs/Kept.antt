@@ -2,30 +2,16 @@
 
 use Rattle.std.proofs.Common.{◌≡◌, ℕ, ◌≤◌, ◌<◌, ◌+◌, false, List, [], ◌∷◌, Option, None, Some, refl, sym, subst, arith, fold, if◌then◌else◌}
 use Rattle.std.specs.Prelude.{◌^◌, ◌==◌}
-use Rattle.net_types.specs.declared.node.PortNo.{PortNo}
-use Rattle.net_types.specs.declared.channel.End.{End}
-use Rattle.net_types.specs.declared.channel.Channel.{Channel}
-use Rattle.net_types.specs.declared.number.Mark.{Mark}
-use Rattle.net_types.specs.Number.{next_control, with_control}
-use Rattle.adjacency_table.specs.Side.{is_estab}
-use Rattle.gsmp_wire.specs.declared.request.Request.{Request}
-use Rattle.gsmp_wire.specs.declared.request.Request.TheVariants.{MoveBranch}
-use Rattle.gsmp_wire.specs.Layout.{octets_of as gsmp_octets}
-use Rattle.frame_model.specs.Reassembly.{nothing_taken, cut}
-use Rattle.ordered_lists.specs.Ordered.{Every}
-use Rattle.port_facts.proofs.Keyed.{on_both, at_every, put_every}
-use Rattle.port_model.specs.Desk.{asked, is_led_home, last_transaction, message_at}
-use Rattle.port_model.specs.declared.action.Action.{Action}
-use Rattle.port_model.specs.declared.action.Action.TheVariants.{Say, Ask, Note, CutChain, TakeBack, Withdraw, Reset}
-use Rattle.port_model.specs.Setup.{Setup, home_of}
-use Rattle.port_model.specs.Port.{Port, Work}
-use Rattle.port_model.specs.Resets.{resets, restarts}
-use Rattle.world_model.specs.Controller.{Acted, Linked, port_key, linked_at, ports_of, with_linked, with_desk, note, chain_of, chains_with, default_channel}
-use Rattle.world_model.specs.Sending.{sends, sends_control}
-use Rattle.world_model.specs.Resets.{cuts_of, cuts_label, begins, with_work, closes_by, port_restarts_as, port_restarts_of, port_restarts, resets_gsmp, node_resets}
-use Rattle.world_model.specs.Asking.{asks_next, asks, takes_back, withdraws_input}
-use Rattle.world_model.specs.Performing.{does, does_in_estab, resets_as, resets_of, resets_port, performs, performs_in_estab, Rule, works_as, works, at_port}
-use Rattle.controller_views.proofs.Sends.{sent_cases}
+use Rattle.world_model.specs.Words.{PortNo, End, Channel, Mark, next_control, with_control, is_estab, Request, MoveBranch, nothing_taken, cut, is_led_home, last_transaction, Action, Say, Ask, Note, CutChain, TakeBack, Withdraw, Setup, home_of, Work, resets, restarts, Linked, port_key, linked_at, with_linked, with_desk, chain_of, chains_with, default_channel, sends_control, cuts_of, cuts_label, begins, with_work, closes_by, port_restarts_as, port_restarts_of, port_restarts, resets_gsmp, node_resets, asks_next, asks, takes_back, withdraws_input, does, does_in_estab, resets_as, resets_of, resets_port, performs, performs_in_estab, Rule, works_as, works, at_port}
+use Rattle.world_model.specs.gsmp_wire.Layout.{octets_of as gsmp_octets}
+use Rattle.label_steps.specs.ordered_lists.Ordered.{Every}
+use Rattle.label_steps.proofs.port_facts.Keyed.{on_both, at_every, put_every}
+use Rattle.world_model.specs.port_model.Desk.{asked, message_at}
+use Rattle.world_model.specs.port_model.declared.action.Action.TheVariants.{Reset}
+use Rattle.world_model.specs.port_model.Port.{Port}
+use Rattle.world_model.specs.Controller.{Acted, ports_of, note}
+use Rattle.world_model.specs.Sending.{sends}
+use Rattle.arrival_views.proofs.controller_views.Sends.{sent_cases}
 
 -- *A property of ports*, by what stays the same of them and the port, that a reset and a restart keep, where the next
 -- instance fits

@@ -3,60 +3,44 @@
 use Rattle.std.proofs.Common.{◌≡◌, ℕ, ◌<◌, Bool, true, List, [], ◌∷◌, Option, None, Some, Result, refl, sym, ◌∙◌, ap, subst, arith, if◌then◌else◌}
 use Rattle.std.specs.Prelude.{◌^◌, ◌==◌, drop}
 use Rattle.std.specs.Option.{option_map, option_and_then}
-use Rattle.net_types.specs.declared.node.PortNo.{PortNo}
-use Rattle.net_types.specs.declared.prefix.Addr.{Addr}
-use Rattle.net_types.specs.declared.channel.End.{End}
-use Rattle.ipv4_packet.specs.Packet.{ifmp_packet_of, protocol_of, source_of}
-use Rattle.flow_encaps.specs.declared.default.EncapsFault.{EncapsFault}
-use Rattle.ipv4_packet.specs.declared.flow.FlowId.{FlowId}
-use Rattle.ipv4_packet.specs.Identifier.{FitsFields}
-use Rattle.gsmp_wire.specs.declared.request.Request.{Request}
-use Rattle.ifmp_wire.specs.declared.message.Message.{Message}
-use Rattle.ifmp_wire.specs.declared.message.Message.TheVariants.{Adjacency, Redirect, Reclaim, ReclaimAck, LabelRange, Error}
-use Rattle.ifmp_wire.specs.declared.reader.Fault.{Fault}
-use Rattle.ifmp_wire.specs.Message.{InRange, FitsMessage, octets_of}
-use Rattle.ifmp_wire.specs.Fields.{decoded}
-use Rattle.wire_laws.proofs.Ifmp.{read_back}
-use Rattle.wire_laws.proofs.Packets.{protocol_is, source_is, message_is, unwrapped_again}
-use Rattle.ordered_lists.specs.Ordered.{Every}
-use Rattle.keyed_lists.specs.Keyed.{at, put}
-use Rattle.port_facts.specs.Port.{setup_port, IsPort, IsWork, HasFlows, IsSayable, IsRanged, IsHeard}
-use Rattle.port_facts.proofs.Keyed.{on_both, at_key, at_every}
-use Rattle.port_facts.proofs.Instances.{goes_gave, parted_gave, joined_gave, given_back_gave}
-use Rattle.port_facts.proofs.Rules.{used_goes, counts_goes, done_goes}
-use Rattle.port_facts.proofs.Hearings.{hears_goes, ticks_goes}
-use Rattle.port_facts.specs.Port as facts
-use Rattle.label_line.specs.Cells.{Role}
-use Rattle.port_model.specs.Desk.{empty_desk}
-use Rattle.port_model.specs.declared.action.Action.{Action}
-use Rattle.port_model.specs.declared.action.Action.TheVariants.{Say, Ask, Note, CutChain, TakeBack, Withdraw, Reset}
-use Rattle.port_model.specs.Setup.{Setup}
-use Rattle.port_model.specs.Labels.{Label}
-use Rattle.port_model.specs.Grants.{Grant, ByInput, grant_label}
-use Rattle.port_model.specs.Port.{Session, Work, with_session, label_at}
-use Rattle.port_model.specs.Counting.{counts, packet_flow, used_label, used}
-use Rattle.port_model.specs.Answers.{done}
-use Rattle.port_model.specs.Ticks.{ticks}
-use Rattle.port_model.specs.Joins.{joins_label, joined, parted, lent, given_back}
-use Rattle.world_model.specs.Controller.{Acted, Linked, port_key, linked_at}
-use Rattle.world_model.specs.Resets.{begins}
-use Rattle.controller_facts.specs.Said.{HasFlowsAt, IsAtWork}
-use Rattle.controller_facts.proofs.Moves.{found_setup, begun}
-use Rattle.controller_facts.proofs.Laws.{has_ports}
-use Rattle.controller_facts.proofs.Flows.{says_in_range}
+use Rattle.world_model.specs.Words.{PortNo, Addr, End, ifmp_packet_of, protocol_of, source_of, EncapsFault, FlowId, FitsFields, Request, Redirect, Reclaim, ReclaimAck, LabelRange, Error, InRange, FitsMessage, at, put, empty_desk, Action, Say, Ask, Note, CutChain, TakeBack, Withdraw, Setup, Label, Grant, ByInput, grant_label, Session, Work, with_session, label_at, counts, packet_flow, used_label, used, joins_label, parted, lent, given_back, Linked, port_key, linked_at, begins}
+use Rattle.world_model.specs.ifmp_wire.declared.message.Message.{Message}
+use Rattle.world_model.specs.ifmp_wire.declared.message.Message.TheVariants.{Adjacency}
+use Rattle.world_model.specs.ifmp_wire.declared.reader.Fault.{Fault}
+use Rattle.world_model.specs.ifmp_wire.Message.{octets_of}
+use Rattle.world_model.specs.ifmp_wire.Fields.{decoded}
+use Rattle.arrival_views.proofs.wire_laws.Ifmp.{read_back}
+use Rattle.arrival_views.proofs.wire_laws.Packets.{protocol_is, source_is, message_is, unwrapped_again}
+use Rattle.label_steps.specs.ordered_lists.Ordered.{Every}
+use Rattle.label_steps.specs.port_facts.Port.{setup_port, IsPort, IsWork, HasFlows, IsSayable, IsRanged, IsHeard}
+use Rattle.label_steps.proofs.port_facts.Keyed.{on_both, at_key, at_every}
+use Rattle.label_steps.proofs.port_facts.Instances.{goes_gave, parted_gave, joined_gave, given_back_gave}
+use Rattle.label_steps.proofs.port_facts.Rules.{used_goes, counts_goes, done_goes}
+use Rattle.label_steps.proofs.port_facts.Hearings.{hears_goes, ticks_goes}
+use Rattle.label_steps.specs.port_facts.Port as facts
+use Rattle.label_steps.specs.label_line.Cells.{Role}
+use Rattle.world_model.specs.port_model.declared.action.Action.TheVariants.{Reset}
+use Rattle.world_model.specs.port_model.Answers.{done}
+use Rattle.world_model.specs.port_model.Ticks.{ticks}
+use Rattle.world_model.specs.port_model.Joins.{joined}
+use Rattle.world_model.specs.Controller.{Acted}
+use Rattle.arrival_views.specs.controller_facts.Said.{HasFlowsAt, IsAtWork}
+use Rattle.arrival_views.proofs.controller_facts.Moves.{found_setup, begun}
+use Rattle.arrival_views.proofs.controller_facts.Laws.{has_ports}
+use Rattle.arrival_views.proofs.controller_facts.Flows.{says_in_range}
 use Rattle.world_model.specs.Ways.{told}
-use Rattle.port_views.specs.Link.{LinkLabel}
-use Rattle.port_views.proofs.Refreshing.{ticks_lead}
-use Rattle.port_views.proofs.Answering.{used_leads, joined_leads, parted_leads, done_leads}
+use Rattle.label_steps.specs.port_views.Link.{LinkLabel}
+use Rattle.label_steps.proofs.port_views.Refreshing.{ticks_lead}
+use Rattle.label_steps.proofs.port_views.Answering.{used_leads, joined_leads, parted_leads, done_leads}
 use Rattle.label_steps.proofs.Counting.{counts_follow}
 use Rattle.label_steps.proofs.Joins.{given_back_leads}
-use Rattle.port_widths.specs.Widths.{FitsAction, FitsWork}
-use Rattle.port_widths.proofs.Rules.{hears_fit, counts_fit, used_fit, done_fit, ticks_fit, joined_fit, parted_fit, given_back_fit}
-use Rattle.port_widths.proofs.Keeping.{found_grant}
-use Rattle.shown_cells.specs.Label.{told_in}
-use Rattle.controller_views.specs.Lifted.{IsProper, IsReadable, IsReadableAction, IsLifted}
+use Rattle.arrival_views.specs.port_widths.Widths.{FitsAction, FitsWork}
+use Rattle.arrival_views.proofs.port_widths.Rules.{hears_fit, counts_fit, used_fit, done_fit, ticks_fit, joined_fit, parted_fit, given_back_fit}
+use Rattle.arrival_views.proofs.port_widths.Keeping.{found_grant}
+use Rattle.arrival_views.specs.shown_cells.Label.{told_in}
+use Rattle.arrival_views.specs.controller_views.Lifted.{IsProper, IsReadable, IsReadableAction, IsLifted}
 use Rattle.arrival_views.specs.Cells.{heard_work, CanHear}
-use Rattle.controller_views.specs.Ready.{IsReadyPort, IsReady, FitsLink}
+use Rattle.arrival_views.specs.controller_views.Ready.{IsReadyPort, IsReady, FitsLink}
 
 -- *What is said can be read*
 pub readable : (address : Addr) (message : Message) → address.0 < 2 ^ 32 → InRange message → FitsMessage message → IsReadable address message

@@ -2,35 +2,26 @@
 
 use Rattle.std.proofs.Common.{◌≡◌, ℕ, ◌≤◌, ◌<◌, false, List, [], ◌∷◌, Option, None, Some, refl, arith, fold}
 use Rattle.std.specs.Prelude.{◌^◌}
-use Rattle.net_types.specs.declared.node.PortNo.{PortNo}
-use Rattle.net_types.specs.declared.prefix.Addr.{Addr}
-use Rattle.gsmp_wire.specs.declared.request.Request.{Request}
-use Rattle.ifmp_wire.specs.declared.message.Message.{Message}
-use Rattle.ifmp_wire.specs.Message.{InRange, FitsMessage}
-use Rattle.ordered_lists.specs.Ordered.{Every}
-use Rattle.port_facts.proofs.Instances.{goes_gave}
-use Rattle.port_facts.proofs.Rules.{used_goes, done_goes}
-use Rattle.port_facts.proofs.Hearings.{hears_goes, ticks_goes}
-use Rattle.port_model.specs.Setup.{Setup}
-use Rattle.port_model.specs.Port.{Port, Work}
-use Rattle.port_model.specs.Hearing.{hears}
-use Rattle.port_model.specs.Counting.{used}
-use Rattle.port_model.specs.Answers.{done}
-use Rattle.port_model.specs.Ticks.{ticks}
-use Rattle.port_views.proofs.Refreshing.{room_ticks}
-use Rattle.port_widths.specs.Widths.{FitsPort, FitsWork, FitsSetup}
-use Rattle.port_widths.proofs.Rules.{hears_fit, used_fit, done_fit, ticks_fit, resets_fit, restarts_fit}
+use Rattle.world_model.specs.Words.{PortNo, Addr, Request, InRange, FitsMessage, Setup, Work, hears, used, Linked, linked_at, begins, with_work, Rule, performs_in_estab, works_as, works, at_port, ticks_port, ticks_ports}
+use Rattle.world_model.specs.ifmp_wire.declared.message.Message.{Message}
+use Rattle.label_steps.specs.ordered_lists.Ordered.{Every}
+use Rattle.label_steps.proofs.port_facts.Instances.{goes_gave}
+use Rattle.label_steps.proofs.port_facts.Rules.{used_goes, done_goes}
+use Rattle.label_steps.proofs.port_facts.Hearings.{hears_goes, ticks_goes}
+use Rattle.world_model.specs.port_model.Port.{Port}
+use Rattle.world_model.specs.port_model.Answers.{done}
+use Rattle.world_model.specs.port_model.Ticks.{ticks}
+use Rattle.label_steps.proofs.port_views.Refreshing.{room_ticks}
+use Rattle.arrival_views.specs.port_widths.Widths.{FitsPort, FitsWork, FitsSetup}
+use Rattle.arrival_views.proofs.port_widths.Rules.{hears_fit, used_fit, done_fit, ticks_fit, resets_fit, restarts_fit}
 use Rattle.label_steps.specs.Follows.{IsUnspent}
 use Rattle.label_steps.proofs.Unspent.{hears_unspent, used_unspent, done_unspent}
-use Rattle.world_model.specs.Controller.{Acted, Linked, linked_at, ports_of}
-use Rattle.world_model.specs.Resets.{begins, with_work}
-use Rattle.world_model.specs.Performing.{Rule, performs_in_estab, works_as, works, at_port}
-use Rattle.world_model.specs.Ticks.{ticks_port, ticks_ports}
-use Rattle.controller_facts.proofs.Moves.{Worked, by_rule, HasPorts, Moves, found_at_own}
-use Rattle.controller_facts.proofs.Performing.{works_as_goes}
-use Rattle.controller_facts.proofs.Laws.{has_ports, moves_sound}
-use Rattle.controller_facts.proofs.Flows.{moves_flow}
-use Rattle.controller_views.specs.Ready.{IsReadyPort, IsReady}
+use Rattle.world_model.specs.Controller.{Acted, ports_of}
+use Rattle.arrival_views.proofs.controller_facts.Moves.{Worked, by_rule, HasPorts, Moves, found_at_own}
+use Rattle.arrival_views.proofs.controller_facts.Performing.{works_as_goes}
+use Rattle.arrival_views.proofs.controller_facts.Laws.{has_ports, moves_sound}
+use Rattle.arrival_views.proofs.controller_facts.Flows.{moves_flow}
+use Rattle.arrival_views.specs.controller_views.Ready.{IsReadyPort, IsReady}
 use Rattle.controller_lifts.proofs.Lifts.{ready_port, fits_there, heard_any}
 use Rattle.controller_lifts.proofs.Halted.{HasReset, goes_asked}
 use Rattle.controller_lifts.proofs.Kept.{IsClosed, Of, Goes, goes_on, goes_fold, work_goes, performed_goes}

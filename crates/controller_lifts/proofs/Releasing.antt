@@ -4,41 +4,27 @@ use Rattle.std.proofs.Common.{◌≡◌, ◌≢◌, ℕ, ◌<◌, Bool, true, fa
 use Rattle.std.specs.Prelude.{◌^◌, ◌||◌, nat_eq}
 use Rattle.std.specs.List.{list_any}
 use Rattle.std.proofs.lemmas.Bool.Decides.{nat_tests}
-use Rattle.net_types.specs.declared.node.PortNo.{PortNo}
-use Rattle.net_types.specs.declared.channel.End.{End}
-use Rattle.net_types.specs.Label.{number_of_channel}
-use Rattle.adjacency_table.specs.Side.{is_estab}
-use Rattle.gsmp_wire.specs.declared.request.Request.{Request}
-use Rattle.crossbar_model.specs.Crossbar.{same_end}
-use Rattle.link_model.specs.declared.record.Record.TheVariants.{Part}
-use Rattle.ordered_lists.specs.Ordered.{Every}
-use Rattle.keyed_lists.specs.Keyed.{at}
-use Rattle.port_facts.specs.Port.{setup_port, IsRanged}
-use Rattle.port_facts.proofs.Keyed.{on_each, at_key, at_every, put_every}
-use Rattle.port_facts.proofs.Found.{find_every}
-use Rattle.port_facts.proofs.Instances.{closes_gave, parted_gave, given_back_gave}
-use Rattle.port_model.specs.Setup.{Setup}
-use Rattle.port_model.specs.Grants.{Grant, grant_label}
-use Rattle.port_model.specs.Port.{Port, Work, halts}
-use Rattle.port_model.specs.Saying.{is_spent, closes}
-use Rattle.port_model.specs.Joins.{parted, given_back}
-use Rattle.port_widths.specs.Widths.{FitsWork, FitsSetup}
-use Rattle.port_widths.proofs.Keeping.{found_grant, closes_fit}
-use Rattle.port_widths.proofs.Rules.{parted_fit, given_back_fit}
-use Rattle.world_model.specs.Controller.{Controller, Acted, Linked, port_key, linked_at, ports_of, note}
-use Rattle.world_model.specs.Resets.{begins, with_work}
-use Rattle.world_model.specs.Performing.{resets_as, resets_of, resets_port, does_in_estab, works_as, works, at_port}
-use Rattle.world_model.specs.Joins.{Join, join_of, joins_of, parts, releases_join, releases_input, released_inputs, resets_spent, releases}
-use Rattle.port_model.specs.Resets.{resets}
-use Rattle.controller_facts.specs.Sound.{IsSound}
-use Rattle.controller_facts.specs.Said.{HasFlowsAt, HasFlowingPorts, IsAtWork}
-use Rattle.controller_facts.proofs.Moves.{by_closing, Moves, moves_to, placing, HasPorts, found_setup, found_at_own, begun, moves_ports}
-use Rattle.controller_facts.proofs.Laws.{has_ports, moves_sound}
-use Rattle.controller_facts.proofs.Flows.{moves_flow}
-use Rattle.controller_facts.proofs.Unmet.{put_each, none_with, ports_apart}
-use Rattle.controller_facts.proofs.Joining.{IsJoin, joins_are, granted_there, parts_grants, releases_input_goes, resets_spent_goes, releases_goes}
-use Rattle.controller_views.proofs.Works.{port_is}
-use Rattle.controller_views.specs.Ready.{IsReady}
+use Rattle.world_model.specs.Words.{PortNo, End, number_of_channel, is_estab, Request, same_end, Part, at, Setup, Grant, grant_label, Work, halts, is_spent, closes, parted, given_back, Controller, Linked, port_key, linked_at, begins, with_work, resets_as, resets_of, resets_port, does_in_estab, works_as, works, at_port, join_of, joins_of, parts, releases_join, releases_input, released_inputs, resets_spent, releases, resets}
+use Rattle.label_steps.specs.ordered_lists.Ordered.{Every}
+use Rattle.label_steps.specs.port_facts.Port.{setup_port, IsRanged}
+use Rattle.label_steps.proofs.port_facts.Keyed.{on_each, at_key, at_every, put_every}
+use Rattle.label_steps.proofs.port_facts.Found.{find_every}
+use Rattle.label_steps.proofs.port_facts.Instances.{closes_gave, parted_gave, given_back_gave}
+use Rattle.world_model.specs.port_model.Port.{Port}
+use Rattle.arrival_views.specs.port_widths.Widths.{FitsWork, FitsSetup}
+use Rattle.arrival_views.proofs.port_widths.Keeping.{found_grant, closes_fit}
+use Rattle.arrival_views.proofs.port_widths.Rules.{parted_fit, given_back_fit}
+use Rattle.world_model.specs.Controller.{Acted, ports_of, note}
+use Rattle.world_model.specs.Joins.{Join}
+use Rattle.arrival_views.specs.controller_facts.Sound.{IsSound}
+use Rattle.arrival_views.specs.controller_facts.Said.{HasFlowsAt, HasFlowingPorts, IsAtWork}
+use Rattle.arrival_views.proofs.controller_facts.Moves.{by_closing, Moves, moves_to, placing, HasPorts, found_setup, found_at_own, begun, moves_ports}
+use Rattle.arrival_views.proofs.controller_facts.Laws.{has_ports, moves_sound}
+use Rattle.arrival_views.proofs.controller_facts.Flows.{moves_flow}
+use Rattle.arrival_views.proofs.controller_facts.Unmet.{put_each, none_with, ports_apart}
+use Rattle.arrival_views.proofs.controller_facts.Joining.{IsJoin, joins_are, granted_there, parts_grants, releases_input_goes, resets_spent_goes, releases_goes}
+use Rattle.arrival_views.proofs.controller_views.Works.{port_is}
+use Rattle.arrival_views.specs.controller_views.Ready.{IsReady}
 use Rattle.controller_lifts.proofs.Kept.{IsClosed, Of, Each, Goes, stays, goes_on, goes_fold, same_ports, done_goes, rule_goes}
 use Rattle.controller_lifts.proofs.Unspent.{Unspent, each_more, down_unspent}
 use Rattle.controller_lifts.proofs.Ready.{Fits, fits_closed, split_fits, both_ready, Readies}

@@ -3,55 +3,38 @@
 use Rattle.std.proofs.Common.{◌≡◌, ℕ, ◌≤◌, ◌<◌, List, [], ◌∷◌, Option, None, Some, refl, sym, ◌∙◌, subst, arith, fold}
 use Rattle.std.specs.Prelude.{◌^◌, ◌&&◌, flat_map}
 use Rattle.std.specs.Option.{option_map}
-use Rattle.net_types.specs.declared.node.PortNo.{PortNo}
-use Rattle.net_types.specs.declared.channel.End.{End}
-use Rattle.net_types.specs.declared.adjacency.Party.{Party}
-use Rattle.net_types.specs.Label.{number_of_channel}
-use Rattle.ipv4_forward.specs.Best.{best}
-use Rattle.ipv4_packet.specs.declared.flow.FlowId.{FlowId}
-use Rattle.ipv4_packet.specs.Flow.{next_hop_of}
-use Rattle.ipv4_packet.specs.Parts.{flow_destination, same_flow}
-use Rattle.adjacency_table.specs.declared.message.Answer.{Answer}
-use Rattle.adjacency_table.specs.declared.message.Answer.TheVariants.{Quiet, Send, Open, Reset}
-use Rattle.adjacency_table.specs.declared.message.Said.{Said}
-use Rattle.adjacency_table.specs.Side as sides
-use Rattle.adjacency_table.specs.Side.{ticked}
-use Rattle.gsmp_wire.specs.declared.request.Request.TheVariants.{MoveBranch}
-use Rattle.ordered_lists.specs.Ordered.{Every}
-use Rattle.keyed_lists.specs.Keyed.{at}
-use Rattle.port_facts.specs.Port.{IsLabelEnd, IsPort}
-use Rattle.port_facts.proofs.Keyed.{on_both, apart_at}
-use Rattle.port_facts.proofs.Found.{find_passes}
-use Rattle.port_facts.proofs.Rules.{and_first}
-use Rattle.port_facts.proofs.Instances.{goes_gave, joined_gave, lent_gave}
-use Rattle.port_facts.proofs.Hearings.{ticks_goes}
-use Rattle.label_line.specs.Cells.{Role}
-use Rattle.port_model.specs.Setup.{Setup, home_of}
-use Rattle.port_model.specs.Labels.{Label}
-use Rattle.port_model.specs.Grants.{Grant, grant_label, grant_for, is_by_controller, ByController}
-use Rattle.port_model.specs.Port.{Port, label_at}
-use Rattle.port_model.specs.Joins as port_joins
-use Rattle.port_model.specs.Ticks as port_ticks
-use Rattle.port_views.specs.Link.{LinkLabel}
-use Rattle.port_views.proofs.Answering.{joined_leads, lent_leads}
-use Rattle.world_model.specs.Controller.{Acted, Linked, linked_at, ports_of}
-use Rattle.world_model.specs.Resets.{begins}
-use Rattle.world_model.specs.Performing.{at_port}
-use Rattle.world_model.specs.Joins.{Join, port_by, join_through, join_by, join_for, may_join, enters_grant, output_of, enters_label, joins, tries_label, label_on, tries_join, inputs_at, tries_joins}
+use Rattle.world_model.specs.Words.{PortNo, End, Party, number_of_channel, best, FlowId, next_hop_of, flow_destination, same_flow, Answer, Quiet, Send, Open, Said, ticked, MoveBranch, at, Setup, home_of, Label, Grant, grant_label, grant_for, is_by_controller, ByController, label_at, Linked, linked_at, begins, at_port, port_by, join_through, join_by, join_for, may_join, enters_grant, enters_label, joins, tries_label, label_on, tries_join, inputs_at, tries_joins, sends_again, ticks_port, ticks_ports, ticks_by}
+use Rattle.world_model.specs.adjacency_table.declared.message.Answer.TheVariants.{Reset}
+use Rattle.world_model.specs.adjacency_table.Side as sides
+use Rattle.label_steps.specs.ordered_lists.Ordered.{Every}
+use Rattle.label_steps.specs.port_facts.Port.{IsLabelEnd, IsPort}
+use Rattle.label_steps.proofs.port_facts.Keyed.{on_both, apart_at}
+use Rattle.label_steps.proofs.port_facts.Found.{find_passes}
+use Rattle.label_steps.proofs.port_facts.Rules.{and_first}
+use Rattle.label_steps.proofs.port_facts.Instances.{goes_gave, joined_gave, lent_gave}
+use Rattle.label_steps.proofs.port_facts.Hearings.{ticks_goes}
+use Rattle.label_steps.specs.label_line.Cells.{Role}
+use Rattle.world_model.specs.port_model.Port.{Port}
+use Rattle.world_model.specs.port_model.Joins as port_joins
+use Rattle.world_model.specs.port_model.Ticks as port_ticks
+use Rattle.label_steps.specs.port_views.Link.{LinkLabel}
+use Rattle.label_steps.proofs.port_views.Answering.{joined_leads, lent_leads}
+use Rattle.world_model.specs.Controller.{Acted, ports_of}
+use Rattle.world_model.specs.Joins.{Join, output_of}
 use Rattle.world_model.specs.Gsmp.{steps}
-use Rattle.world_model.specs.Ticks.{sends_again, ticks_port, ticks_ports, ticks_by, ticks}
-use Rattle.controller_facts.proofs.Moves.{ages, Found, HasPorts, found_at_own, found_port, moves_ports, further}
-use Rattle.controller_facts.proofs.Laws.{has_ports}
-use Rattle.controller_facts.proofs.Joining.{every_flat_map, each_there}
-use Rattle.controller_facts.proofs.Entering.{by_controller, tries_join_goes, tries_joins_goes, inputs_of_port}
-use Rattle.controller_facts.proofs.Events.{steps_goes, sends_again_goes, ticks_ports_goes}
-use Rattle.controller_facts.proofs.Numbers.{moves_never_fall}
-use Rattle.controller_views.specs.Ends.{EndLeads}
-use Rattle.controller_views.specs.Lifted.{IsProper, IsLifted, Growing}
-use Rattle.controller_views.proofs.Parts.{end_stays, end_then}
-use Rattle.controller_views.proofs.AtPort.{at_port_leads}
-use Rattle.controller_views.proofs.Growing.{at_port_grow}
-use Rattle.controller_views.specs.Ready.{IsReady, FitsLink}
+use Rattle.world_model.specs.Ticks.{ticks}
+use Rattle.arrival_views.proofs.controller_facts.Moves.{ages, Found, HasPorts, found_at_own, found_port, moves_ports, further}
+use Rattle.arrival_views.proofs.controller_facts.Laws.{has_ports}
+use Rattle.arrival_views.proofs.controller_facts.Joining.{every_flat_map, each_there}
+use Rattle.arrival_views.proofs.controller_facts.Entering.{by_controller, tries_join_goes, tries_joins_goes, inputs_of_port}
+use Rattle.arrival_views.proofs.controller_facts.Events.{steps_goes, sends_again_goes, ticks_ports_goes}
+use Rattle.arrival_views.proofs.controller_facts.Numbers.{moves_never_fall}
+use Rattle.arrival_views.specs.controller_views.Ends.{EndLeads}
+use Rattle.arrival_views.specs.controller_views.Lifted.{IsProper, IsLifted, Growing}
+use Rattle.arrival_views.proofs.controller_views.Parts.{end_stays, end_then}
+use Rattle.arrival_views.proofs.controller_views.AtPort.{at_port_leads}
+use Rattle.arrival_views.proofs.controller_views.Growing.{at_port_grow}
+use Rattle.arrival_views.specs.controller_views.Ready.{IsReady, FitsLink}
 use Rattle.controller_lifts.proofs.Lifts.{joined_says, lent_says, ticks_lifted}
 use Rattle.controller_lifts.proofs.Kept.{IsClosed, Goes}
 use Rattle.controller_lifts.proofs.Unspent.{Unspent, unspent_closed}

@@ -2,26 +2,19 @@
 
 use Rattle.std.proofs.Common.{◌≡◌, ◌≢◌, ◌≤◌, ◌<◌, Bool, true, false, List, [], ◌∷◌, Option, None, Some, refl, sym, ◌∙◌, ap, subst, arith, fold, ◌⊎◌, inl, inr}
 use Rattle.std.specs.Prelude.{◌^◌}
-use Rattle.net_types.specs.declared.node.PortNo.{PortNo}
-use Rattle.adjacency_table.specs.Side.{is_estab}
-use Rattle.ordered_lists.specs.Ordered.{Every}
-use Rattle.port_facts.specs.Port.{IsAction, IsWork}
-use Rattle.port_facts.proofs.Keyed.{on_each, at_key}
-use Rattle.port_facts.proofs.Halting.{resets_among}
-use Rattle.port_model.specs.declared.action.Action.{Action}
-use Rattle.port_model.specs.declared.action.Action.TheVariants.{Say, Ask, Note, CutChain, TakeBack, Withdraw, Reset}
-use Rattle.port_model.specs.Setup.{Setup}
-use Rattle.port_model.specs.Port.{Session, Port, Work}
-use Rattle.port_model.specs.Saying.{is_spent}
-use Rattle.port_model.specs.Resets.{resets}
-use Rattle.world_model.specs.Controller.{Acted, Linked, port_key, linked_at}
-use Rattle.world_model.specs.Resets.{begins, with_work}
-use Rattle.world_model.specs.Performing.{does_in_estab, resets_as, resets_of, resets_port, performs_in_estab, works_as}
-use Rattle.controller_facts.specs.Sound.{IsSound, IsShutLinked}
-use Rattle.controller_facts.proofs.Moves.{Worked, Found, moves_to, placing, found_setup, found_at_own, begun, worked_kept}
-use Rattle.controller_facts.proofs.Laws.{has_ports, moves_sound}
-use Rattle.controller_facts.proofs.Performing.{performs_in_estab_goes}
-use Rattle.controller_facts.proofs.Unmet.{put_each, none_with, ports_apart}
+use Rattle.world_model.specs.Words.{PortNo, is_estab, Action, Say, Ask, Note, CutChain, TakeBack, Withdraw, Setup, Session, Work, is_spent, resets, Linked, port_key, linked_at, begins, with_work, does_in_estab, resets_as, resets_of, resets_port, performs_in_estab, works_as}
+use Rattle.label_steps.specs.ordered_lists.Ordered.{Every}
+use Rattle.label_steps.specs.port_facts.Port.{IsAction, IsWork}
+use Rattle.label_steps.proofs.port_facts.Keyed.{on_each, at_key}
+use Rattle.label_steps.proofs.port_facts.Halting.{resets_among}
+use Rattle.world_model.specs.port_model.declared.action.Action.TheVariants.{Reset}
+use Rattle.world_model.specs.port_model.Port.{Port}
+use Rattle.world_model.specs.Controller.{Acted}
+use Rattle.arrival_views.specs.controller_facts.Sound.{IsSound, IsShutLinked}
+use Rattle.arrival_views.proofs.controller_facts.Moves.{Worked, Found, moves_to, placing, found_setup, found_at_own, begun, worked_kept}
+use Rattle.arrival_views.proofs.controller_facts.Laws.{has_ports, moves_sound}
+use Rattle.arrival_views.proofs.controller_facts.Performing.{performs_in_estab_goes}
+use Rattle.arrival_views.proofs.controller_facts.Unmet.{put_each, none_with, ports_apart}
 use Rattle.label_steps.specs.Follows.{IsUnspent}
 use Rattle.controller_lifts.proofs.Halted.{HasReset}
 use Rattle.controller_lifts.proofs.Kept.{IsClosed, Of, Each, Goes, goes_fold, done_goes, performed_goes}

@@ -3,35 +3,20 @@
 
 use Rattle.std.proofs.Common.{◌≡◌, ℕ, List, [], ◌∷◌, Option, None, Some, refl, ◌∙◌, ap, arith, fold, if◌then◌else◌}
 use Rattle.std.specs.Prelude.{◌==◌}
-use Rattle.net_types.specs.declared.node.PortNo.{PortNo}
-use Rattle.net_types.specs.declared.channel.End.{End}
-use Rattle.net_types.specs.declared.channel.Channel.{Channel}
-use Rattle.net_types.specs.Number.{next_control, with_control}
-use Rattle.adjacency_table.specs.Side.{is_estab}
-use Rattle.gsmp_wire.specs.declared.request.Request.{Request}
-use Rattle.gsmp_wire.specs.declared.request.Request.TheVariants.{MoveBranch}
-use Rattle.port_facts.proofs.Keyed.{on_both}
-use Rattle.port_model.specs.Desk.{asked, is_led_home, last_transaction}
-use Rattle.port_model.specs.declared.action.Action.TheVariants.{Say, Ask, Note, CutChain, TakeBack, Withdraw, Reset}
-use Rattle.port_model.specs.Resets.{resets, restarts}
-use Rattle.world_model.specs.Sending.{sends_control}
-use Rattle.world_model.specs.Resets.{cuts_of, begins, with_work, closes_by, port_restarts_of, port_restarts, resets_gsmp, node_resets}
-use Rattle.world_model.specs.Asking.{asks_next, asks, takes_back}
-use Rattle.world_model.specs.Performing.{does, does_in_estab, resets_of, performs, performs_in_estab, Rule, works, at_port}
-use Rattle.controller_views.proofs.Sends.{sent_cases}
-use Rattle.net_types.specs.Number.{GivenOut}
-use Rattle.keyed_lists.specs.Keyed.{at}
-use Rattle.label_line.specs.Cells.{Role}
-use Rattle.port_model.specs.declared.action.Action.{Action}
-use Rattle.port_model.specs.Setup.{Setup, home_of}
-use Rattle.port_model.specs.Port.{Port}
-use Rattle.world_model.specs.Controller.{Acted, Linked, port_key, linked_at, ports_of, with_desk, default_channel}
-use Rattle.port_views.specs.Link.{LinkLabel}
-use Rattle.controller_views.specs.Ends.{EndLeads}
-use Rattle.controller_views.specs.Lifted.{IsProper, Growing}
-use Rattle.controller_views.proofs.Parts.{end_stays, end_then, quiet_leads}
-use Rattle.controller_views.proofs.Works.{quiet_same, quiet_gsmp, node_resets_leads, asks_leads, takes_back_leads}
-use Rattle.controller_views.proofs.Growing.{grow_self, grow_on, grow_same, sends_grow, node_resets_grow, asks_grow, takes_back_grow}
+use Rattle.world_model.specs.Words.{PortNo, End, Channel, next_control, with_control, is_estab, Request, MoveBranch, is_led_home, last_transaction, Say, Ask, Note, CutChain, TakeBack, Withdraw, resets, restarts, sends_control, cuts_of, begins, with_work, closes_by, port_restarts_of, port_restarts, resets_gsmp, node_resets, asks_next, asks, takes_back, does, does_in_estab, resets_of, performs, performs_in_estab, Rule, works, at_port, GivenOut, at, Action, Setup, home_of, Linked, port_key, linked_at, with_desk, default_channel}
+use Rattle.label_steps.proofs.port_facts.Keyed.{on_both}
+use Rattle.world_model.specs.port_model.Desk.{asked}
+use Rattle.world_model.specs.port_model.declared.action.Action.TheVariants.{Reset}
+use Rattle.arrival_views.proofs.controller_views.Sends.{sent_cases}
+use Rattle.label_steps.specs.label_line.Cells.{Role}
+use Rattle.world_model.specs.port_model.Port.{Port}
+use Rattle.world_model.specs.Controller.{Acted, ports_of}
+use Rattle.label_steps.specs.port_views.Link.{LinkLabel}
+use Rattle.arrival_views.specs.controller_views.Ends.{EndLeads}
+use Rattle.arrival_views.specs.controller_views.Lifted.{IsProper, Growing}
+use Rattle.arrival_views.proofs.controller_views.Parts.{end_stays, end_then, quiet_leads}
+use Rattle.arrival_views.proofs.controller_views.Works.{quiet_same, quiet_gsmp, node_resets_leads, asks_leads, takes_back_leads}
+use Rattle.arrival_views.proofs.controller_views.Growing.{grow_self, grow_on, grow_same, sends_grow, node_resets_grow, asks_grow, takes_back_grow}
 use Rattle.controller_lifts.proofs.Kept.{IsClosed, Goes, stays, goes_on, same_ports, control_goes, node_resets_goes, asks_goes, takes_back_goes}
 use Rattle.controller_lifts.proofs.Follow.{IsFollowed}
 

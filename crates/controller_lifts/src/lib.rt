@@ -6,32 +6,20 @@
 #![tactic(auto)]
 
 ghost use Rattle.std.specs.Prelude.{◌≡◌, ◌<◌, ◌^◌, [], List, Some, ℕ};
-ghost use Rattle.net_types.specs.declared.node.PortNo.{PortNo};
-ghost use Rattle.net_types.specs.declared.prefix.Addr.{Addr};
-ghost use Rattle.net_types.specs.declared.channel.End.{End};
-ghost use Rattle.ipv4_packet.specs.declared.flow.FlowId.{FlowId};
-ghost use Rattle.ipv4_packet.specs.Identifier.{FitsFields};
-ghost use Rattle.gsmp_wire.specs.declared.request.Request.{Request};
-ghost use Rattle.ifmp_wire.specs.declared.message.Message.{Message};
-ghost use Rattle.ifmp_wire.specs.Message.{InRange, FitsMessage};
-ghost use Rattle.keyed_lists.specs.Keyed.{at};
-ghost use Rattle.label_line.specs.Cells.{Role};
-ghost use Rattle.port_model.specs.Setup.{Setup};
-ghost use Rattle.port_model.specs.Grants.{Grant, grant_label};
-ghost use Rattle.port_model.specs.Hearing.{hears};
-ghost use Rattle.port_model.specs.Counting.{counts, packet_flow, used};
-ghost use Rattle.port_model.specs.Answers.{done};
-ghost use Rattle.port_model.specs.Joins as joins;
-ghost use Rattle.port_model.specs.Ticks as port_ticks;
-ghost use Rattle.world_model.specs.Controller.{Acted, Linked, linked_at};
-ghost use Rattle.world_model.specs.Performing.{at_port};
+ghost use Rattle.world_model.specs.Words.{PortNo, Addr, End, FlowId, FitsFields, Request, InRange, FitsMessage, at, Setup, Grant, grant_label, hears, counts, packet_flow, used, Linked, linked_at, at_port};
+ghost use Rattle.world_model.specs.ifmp_wire.declared.message.Message.{Message};
+ghost use Rattle.label_steps.specs.label_line.Cells.{Role};
+ghost use Rattle.world_model.specs.port_model.Answers.{done};
+ghost use Rattle.world_model.specs.port_model.Joins as joins;
+ghost use Rattle.world_model.specs.port_model.Ticks as port_ticks;
+ghost use Rattle.world_model.specs.Controller.{Acted};
 ghost use Rattle.world_model.specs.Ticks.{ticks};
-ghost use Rattle.controller_facts.specs.Sound.{IsSound};
-ghost use Rattle.port_views.specs.Link.{LinkLabel};
-ghost use Rattle.controller_views.specs.Ends.{EndLeads};
-ghost use Rattle.controller_views.specs.Lifted.{IsProper, IsReadable, IsLifted, Growing};
+ghost use Rattle.arrival_views.specs.controller_facts.Sound.{IsSound};
+ghost use Rattle.label_steps.specs.port_views.Link.{LinkLabel};
+ghost use Rattle.arrival_views.specs.controller_views.Ends.{EndLeads};
+ghost use Rattle.arrival_views.specs.controller_views.Lifted.{IsProper, IsReadable, IsLifted, Growing};
 ghost use Rattle.arrival_views.specs.Cells.{CanHear};
-ghost use Rattle.controller_views.specs.Ready.{IsReady, FitsLink, FitsTick};
+ghost use Rattle.arrival_views.specs.controller_views.Ready.{IsReady, FitsLink, FitsTick};
 
 /// What a port says, in range and with its fields' widths, is what its neighbour reads. It does nothing, and its
 /// contract is the statement.

@@ -2,21 +2,16 @@
 -- it asked; a rule of any other port leaves the line
 
 use Rattle.std.proofs.Common.{◌≡◌, ◌≢◌, ℕ, ◌≤◌, false, List, [], Option, None, Some, refl, sym, ◌∙◌, ap, subst}
-use Rattle.net_types.specs.declared.node.PortNo.{PortNo}
-use Rattle.ordered_lists.specs.Ordered.{Every}
-use Rattle.keyed_lists.specs.Keyed.{at}
-use Rattle.port_facts.proofs.Keyed.{by_eq, at_key}
-use Rattle.label_line.specs.Cells as lines
-use Rattle.label_line.specs.Cells.{Role, Downstream, Upstream}
-use Rattle.label_line.specs.Line.{Line}
-use Rattle.port_model.specs.declared.action.Action.{Action}
-use Rattle.port_model.specs.Port.{Work}
-use Rattle.world_model.specs.Controller.{Acted, Linked, port_key, linked_at}
-use Rattle.world_model.specs.Resets.{begins, with_work}
-use Rattle.world_model.specs.Performing.{Rule, works_as, works, at_port}
-use Rattle.port_views.specs.Link.{LinkLabel}
-use Rattle.port_views.specs.Shown.{Part, part_of, ShownAt, Shown}
-use Rattle.port_views.specs.Reaching.{ReachesFrom, Reaches, Leads}
+use Rattle.world_model.specs.Words.{PortNo, at, Action, Work, Linked, port_key, linked_at, begins, with_work, Rule, works_as, works, at_port}
+use Rattle.controller_facts.specs.ordered_lists.Ordered.{Every}
+use Rattle.controller_facts.proofs.port_facts.Keyed.{by_eq, at_key}
+use Rattle.shown_cells.specs.label_line.Cells as lines
+use Rattle.shown_cells.specs.label_line.Cells.{Role, Downstream, Upstream}
+use Rattle.shown_cells.specs.label_line.Line.{Line}
+use Rattle.world_model.specs.Controller.{Acted}
+use Rattle.shown_cells.specs.port_views.Link.{LinkLabel}
+use Rattle.shown_cells.specs.port_views.Shown.{Part, part_of, ShownAt, Shown}
+use Rattle.shown_cells.specs.port_views.Reaching.{ReachesFrom, Reaches, Leads}
 use Rattle.controller_views.specs.Ends.{working, End, EndLeads}
 use Rattle.controller_views.proofs.Parts.{kept_chain, end_stays, end_then, quiet_leads}
 use Rattle.controller_views.specs.Lifted.{IsProper, IsReadableAction, IsLifted}

@@ -1,13 +1,12 @@
 -- the queues between the two controllers: a cell goes on from one queue to the next, or is gone
 
 use Rattle.std.proofs.Common.{◌≡◌, List, [], ◌∷◌, ◌++◌, refl, sym, ◌∙◌, ap, subst, append-nil, remove}
-use Rattle.atm_cells.specs.declared.cell.Cell.{Cell}
-use Rattle.link_model.specs.declared.frames.Frame.{Frame}
-use Rattle.label_line.specs.Cells as lines
-use Rattle.label_line.specs.Cells.{Role, Downstream, Upstream, Way, InOutput, ToController, ToSwitch}
-use Rattle.label_line.specs.Line.{Line}
-use Rattle.label_line.specs.Moves.{Move, Switch, Pass, Lose, run}
-use Rattle.port_views.specs.Link.{LinkLabel, other}
+use Rattle.world_model.specs.Words.{Cell, Frame}
+use Rattle.shown_cells.specs.label_line.Cells as lines
+use Rattle.shown_cells.specs.label_line.Cells.{Role, Downstream, Upstream, Way, InOutput, ToController, ToSwitch}
+use Rattle.shown_cells.specs.label_line.Line.{Line}
+use Rattle.shown_cells.specs.label_line.Moves.{Move, Switch, Pass, Lose, run}
+use Rattle.shown_cells.specs.port_views.Link.{LinkLabel, other}
 use Rattle.shown_cells.specs.Seen.{Nothing, Word}
 use Rattle.shown_cells.specs.Label.{OnLink, OnControl, Where, seen, erased, ShowsCells}
 use Rattle.shown_cells.proofs.Shows.{First, no_word, a_word, first_of, shows_join, one_word, one_hidden, shows_behind}

@@ -1,18 +1,16 @@
 -- what an end shows while the other one moves, and the whole network behind a move of one end
 
 use Rattle.std.proofs.Common.{◌≡◌, ℕ, ◌≤◌, ◌+◌, List, [], ◌++◌, refl, sym, ◌∙◌, ap, subst, arith}
-use Rattle.link_model.specs.declared.frames.Frame.{Frame}
-use Rattle.label_line.specs.Cells as lines
-use Rattle.label_line.specs.Cells.{Role, Downstream, Upstream, Way}
-use Rattle.label_line.specs.Line as states
-use Rattle.label_line.specs.Line.{Line}
-use Rattle.label_line.specs.Moves.{run}
-use Rattle.port_model.specs.declared.action.Action.{Action}
-use Rattle.port_model.specs.Port.{Work}
-use Rattle.world_model.specs.Controller.{Controller, Acted, Linked}
-use Rattle.port_views.specs.Link.{LinkLabel, other}
-use Rattle.port_views.specs.Shown.{Part, part_of, rest_of, ShownAt}
-use Rattle.port_views.proofs.Reach.{run_join}
+use Rattle.world_model.specs.Words.{Frame, Action, Work, Controller, Linked}
+use Rattle.shown_cells.specs.label_line.Cells as lines
+use Rattle.shown_cells.specs.label_line.Cells.{Role, Downstream, Upstream, Way}
+use Rattle.shown_cells.specs.label_line.Line as states
+use Rattle.shown_cells.specs.label_line.Line.{Line}
+use Rattle.shown_cells.specs.label_line.Moves.{run}
+use Rattle.world_model.specs.Controller.{Acted}
+use Rattle.shown_cells.specs.port_views.Link.{LinkLabel, other}
+use Rattle.shown_cells.specs.port_views.Shown.{Part, part_of, rest_of, ShownAt}
+use Rattle.shown_cells.proofs.port_views.Reach.{run_join}
 use Rattle.shown_cells.specs.Seen.{Extends}
 use Rattle.shown_cells.specs.Label.{OnLink, OnControl, ShowsCells}
 use Rattle.shown_cells.proofs.Made.{extends_self, extends_on, shows_more}

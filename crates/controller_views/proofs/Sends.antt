@@ -4,36 +4,21 @@
 use Rattle.std.proofs.Common.{◌≡◌, ◌≢◌, ℕ, ◌<◌, ◌≤◌, ◌+◌, Bool, true, false, List, [], ◌∷◌, ◌++◌, Option, None, Some, refl, sym, ◌∙◌, ap, ap₂, subst, arith, append_assoc, length, replicate, remove, zero, suc, if◌then◌else◌}
 use Rattle.std.specs.Prelude.{nat_le, ◌==◌, ◌&&◌}
 use Rattle.std.proofs.lemmas.Bool.Decides.{nat_tests}
-use Rattle.net_types.specs.declared.node.PortNo.{PortNo}
-use Rattle.net_types.specs.declared.prefix.Addr.{Addr}
-use Rattle.net_types.specs.declared.number.Mark.{Mark}
-use Rattle.net_types.specs.declared.channel.Channel.{Channel}
-use Rattle.net_types.specs.Channel.{channel_on_control}
-use Rattle.net_types.specs.Label.{label_channel_of, is_label_channel}
-use Rattle.net_types.specs.Number.{GivenOut, next_control, with_control}
-use Rattle.atm_cells.specs.declared.cell.Cell.{Cell}
-use Rattle.ifmp_wire.specs.declared.message.Message.{Message}
-use Rattle.link_model.specs.declared.frames.Frame.{Frame}
-use Rattle.link_model.specs.declared.record.Record.TheVariants.{Loss}
-use Rattle.link_model.specs.declared.record.Cause.TheVariants.{PoolFull}
-use Rattle.link_model.specs.Ledger.{payload_of}
-use Rattle.link_model.specs.Notes.{noted}
-use Rattle.frame_model.specs.Frame.{frame_cells, made}
-use Rattle.frame_model.specs.Sending.{Sent}
-use Rattle.ordered_lists.specs.Ordered.{Every}
-use Rattle.port_facts.proofs.Keyed.{on_both}
-use Rattle.label_line.specs.Cells as lines
-use Rattle.label_line.specs.Cells.{Role, Downstream, Upstream, Way, split, preceded, lost, ToSwitch}
-use Rattle.label_line.specs.Line.{Line}
-use Rattle.label_line.specs.Moves.{Move, Split, Lose, step, run}
-use Rattle.port_model.specs.declared.action.Action.{Action}
-use Rattle.port_model.specs.declared.action.Action.TheVariants.{Say, Ask, Note, CutChain, TakeBack, Withdraw, Reset}
-use Rattle.port_model.specs.Port.{Work}
-use Rattle.world_model.specs.Controller.{Controller, Acted, Linked, linked_at, free_slots, default_channel}
-use Rattle.world_model.specs.Sending.{with_cells, sends, sends_control, says_ifmp}
-use Rattle.port_views.specs.Link.{LinkLabel, other}
-use Rattle.port_views.specs.Heard.{heard_by, framed, is_own, IsOwn, asked, asked_all}
-use Rattle.port_views.specs.Shown.{Part, part_of, rest_of, ShownAt}
+use Rattle.world_model.specs.Words.{PortNo, Addr, Mark, Channel, channel_on_control, label_channel_of, is_label_channel, GivenOut, next_control, with_control, Cell, Frame, Loss, PoolFull, payload_of, noted, frame_cells, made, Action, Say, Ask, Note, CutChain, TakeBack, Withdraw, Work, Controller, Linked, linked_at, default_channel, sends_control, says_ifmp}
+use Rattle.world_model.specs.ifmp_wire.declared.message.Message.{Message}
+use Rattle.world_model.specs.frame_model.Sending.{Sent}
+use Rattle.controller_facts.specs.ordered_lists.Ordered.{Every}
+use Rattle.controller_facts.proofs.port_facts.Keyed.{on_both}
+use Rattle.shown_cells.specs.label_line.Cells as lines
+use Rattle.shown_cells.specs.label_line.Cells.{Role, Downstream, Upstream, Way, split, preceded, lost, ToSwitch}
+use Rattle.shown_cells.specs.label_line.Line.{Line}
+use Rattle.shown_cells.specs.label_line.Moves.{Move, Split, Lose, step, run}
+use Rattle.world_model.specs.port_model.declared.action.Action.TheVariants.{Reset}
+use Rattle.world_model.specs.Controller.{Acted, free_slots}
+use Rattle.world_model.specs.Sending.{with_cells, sends}
+use Rattle.shown_cells.specs.port_views.Link.{LinkLabel, other}
+use Rattle.shown_cells.specs.port_views.Heard.{heard_by, framed, is_own, IsOwn, asked, asked_all}
+use Rattle.shown_cells.specs.port_views.Shown.{Part, part_of, rest_of, ShownAt}
 use Rattle.shown_cells.specs.Seen.{Unknown, IsUnmade, Extends}
 use Rattle.shown_cells.specs.Label.{seen_message, seen_told, seen_packet, seen_payload, OnControl, ShowsCells, channel_at}
 use Rattle.shown_cells.proofs.Shows.{shows_join, shows_behind}

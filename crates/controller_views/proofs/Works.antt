@@ -2,45 +2,26 @@
 
 use Rattle.std.proofs.Common.{◌≡◌, ◌≢◌, ℕ, ◌≤◌, Bool, false, List, [], ◌∷◌, ◌++◌, Option, None, Some, refl, sym, ◌∙◌, ap, subst, arith, append-nil, fold, if◌then◌else◌}
 use Rattle.std.specs.Prelude.{◌==◌}
-use Rattle.net_types.specs.declared.node.PortNo.{PortNo}
-use Rattle.net_types.specs.declared.channel.End.{End as ChannelEnd}
-use Rattle.net_types.specs.Number.{next_control}
-use Rattle.adjacency_table.specs.Side.{is_estab}
-use Rattle.gsmp_wire.specs.declared.request.Request.{Request}
-use Rattle.gsmp_wire.specs.declared.request.Request.TheVariants.{MoveBranch}
-use Rattle.gsmp_wire.specs.declared.message.Message.{Message as GsmpMessage}
-use Rattle.gsmp_wire.specs.Layout.{octets_of as gsmp_octets}
-use Rattle.ifmp_wire.specs.declared.message.Message.{Message}
-use Rattle.atm_cells.specs.declared.cell.Cell.{Cell}
-use Rattle.link_model.specs.declared.frames.Frame.{Frame}
-use Rattle.link_model.specs.declared.record.Record.{Record}
-use Rattle.link_model.specs.Ledger.{payload_of}
-use Rattle.link_model.specs.Notes.{Journal}
-use Rattle.frame_model.specs.Reassembly.{Reassembly, nothing_taken, cut}
-use Rattle.ordered_lists.specs.Ordered.{Every}
-use Rattle.ordered_lists.proofs.Every.{every_left}
-use Rattle.keyed_lists.specs.Keyed.{at, put}
-use Rattle.port_facts.proofs.Keyed.{by_eq, on_both, at_key, at_put_same, at_put_other}
-use Rattle.label_line.specs.Cells as lines
-use Rattle.label_line.specs.Cells.{Role, Downstream, Upstream}
-use Rattle.label_line.specs.Line.{Line}
-use Rattle.port_model.specs.Desk.{Desk, asked as desk_asked, withdrawn, is_led_home, last_transaction, message_at}
-use Rattle.port_model.specs.declared.action.Action.{Action}
-use Rattle.port_model.specs.declared.action.Action.TheVariants.{Say, Ask, Note, CutChain, TakeBack, Withdraw, Reset}
-use Rattle.port_model.specs.Setup.{Setup, home_of}
-use Rattle.port_model.specs.Port.{Port, Work}
-use Rattle.port_model.specs.Resets.{resets, restarts, closing}
-use Rattle.port_views.proofs.Resets.{resetting}
-use Rattle.world_model.specs.Controller.{Acted, Linked, port_key, linked_at, ports_of, with_linked, with_desk, note, chain_of, chains_with, default_channel, default_home}
-use Rattle.world_model.specs.Sending.{says_gsmp, says_ifmp}
-use Rattle.world_model.specs.Resets.{cuts_of, cuts_label, begins, with_work, closes_by, port_restarts_as, port_restarts_of, port_restarts, resets_gsmp, node_resets}
-use Rattle.world_model.specs.Asking.{asks_next, asks, takes_back, withdraws_input}
-use Rattle.world_model.specs.Performing.{does, does_in_estab, resets_as, resets_of, resets_port, performs, performs_in_estab}
-use Rattle.port_views.specs.Link.{LinkLabel, other}
-use Rattle.port_views.specs.Heard.{IsOwn, asked_all}
-use Rattle.port_views.specs.Shown.{Part, part_of, rest_of, ShownAt, Shown}
-use Rattle.port_views.specs.Reaching.{Reaches}
-use Rattle.port_views.proofs.Resets.{IsUnsaid, unsaid_all, asked_join, closing_unsaid, resetting_unsaid, resets_reach, restarts_reach}
+use Rattle.world_model.specs.Words.{PortNo, End as ChannelEnd, next_control, is_estab, Request, MoveBranch, Cell, Frame, Record, payload_of, Journal, Reassembly, nothing_taken, cut, at, put, Desk, withdrawn, is_led_home, last_transaction, Action, Say, Ask, Note, CutChain, TakeBack, Withdraw, Setup, home_of, Work, resets, restarts, closing, Linked, port_key, linked_at, with_linked, with_desk, chain_of, chains_with, default_channel, default_home, says_gsmp, says_ifmp, cuts_of, cuts_label, begins, with_work, closes_by, port_restarts_as, port_restarts_of, port_restarts, resets_gsmp, node_resets, asks_next, asks, takes_back, withdraws_input, does, does_in_estab, resets_as, resets_of, resets_port, performs, performs_in_estab}
+use Rattle.world_model.specs.gsmp_wire.declared.message.Message.{Message as GsmpMessage}
+use Rattle.world_model.specs.gsmp_wire.Layout.{octets_of as gsmp_octets}
+use Rattle.world_model.specs.ifmp_wire.declared.message.Message.{Message}
+use Rattle.controller_facts.specs.ordered_lists.Ordered.{Every}
+use Rattle.controller_facts.proofs.ordered_lists.Every.{every_left}
+use Rattle.controller_facts.proofs.port_facts.Keyed.{by_eq, on_both, at_key, at_put_same, at_put_other}
+use Rattle.shown_cells.specs.label_line.Cells as lines
+use Rattle.shown_cells.specs.label_line.Cells.{Role, Downstream, Upstream}
+use Rattle.shown_cells.specs.label_line.Line.{Line}
+use Rattle.world_model.specs.port_model.Desk.{asked as desk_asked, message_at}
+use Rattle.world_model.specs.port_model.declared.action.Action.TheVariants.{Reset}
+use Rattle.world_model.specs.port_model.Port.{Port}
+use Rattle.shown_cells.proofs.port_views.Resets.{resetting}
+use Rattle.world_model.specs.Controller.{Acted, ports_of, note}
+use Rattle.shown_cells.specs.port_views.Link.{LinkLabel, other}
+use Rattle.shown_cells.specs.port_views.Heard.{IsOwn, asked_all}
+use Rattle.shown_cells.specs.port_views.Shown.{Part, part_of, rest_of, ShownAt, Shown}
+use Rattle.shown_cells.specs.port_views.Reaching.{Reaches}
+use Rattle.shown_cells.proofs.port_views.Resets.{IsUnsaid, unsaid_all, asked_join, closing_unsaid, resetting_unsaid, resets_reach, restarts_reach}
 use Rattle.shown_cells.specs.Seen.{IsUnmade, Extends}
 use Rattle.shown_cells.specs.Label.{OnControl, ShowsCells}
 use Rattle.shown_cells.proofs.Frames.{frame_elsewhere}

@@ -2,18 +2,14 @@
 -- and the queues between them
 
 use Rattle.std.specs.Prelude.{◌≡◌, ℕ, ◌≤◌, false, List, [], Some}
-use Rattle.net_types.specs.Number.{GivenOut}
-use Rattle.atm_cells.specs.declared.cell.Cell.{Cell}
-use Rattle.link_model.specs.declared.frames.Frame.{Frame}
-use Rattle.label_line.specs.Cells as lines
-use Rattle.label_line.specs.Cells.{Role, Downstream, Upstream, Way}
-use Rattle.label_line.specs.Line.{Line}
-use Rattle.label_line.specs.Moves.{Move, run}
-use Rattle.port_model.specs.declared.action.Action.{Action}
-use Rattle.port_model.specs.Port.{Work}
-use Rattle.world_model.specs.Controller.{Controller, Acted, Linked, linked_at}
-use Rattle.port_views.specs.Link.{LinkLabel, other}
-use Rattle.port_views.specs.Shown.{Part, part_of, ShownAt, rest_of}
+use Rattle.world_model.specs.Words.{GivenOut, Cell, Frame, Action, Work, Controller, Linked, linked_at}
+use Rattle.shown_cells.specs.label_line.Cells as lines
+use Rattle.shown_cells.specs.label_line.Cells.{Role, Downstream, Upstream, Way}
+use Rattle.shown_cells.specs.label_line.Line.{Line}
+use Rattle.shown_cells.specs.label_line.Moves.{Move, run}
+use Rattle.world_model.specs.Controller.{Acted}
+use Rattle.shown_cells.specs.port_views.Link.{LinkLabel, other}
+use Rattle.shown_cells.specs.port_views.Shown.{Part, part_of, ShownAt, rest_of}
 use Rattle.shown_cells.specs.Seen.{IsUnmade, Extends}
 use Rattle.shown_cells.specs.Label.{OnLink, OnControl, ShowsCells}
 

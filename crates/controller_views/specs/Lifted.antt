@@ -1,23 +1,15 @@
 -- What a rule of a port has to be for its controller to lead the line: the lift from a port to its controller
 
 use Rattle.std.specs.Prelude.{◌≡◌, ℕ, ◌<◌, ◌≤◌, true, List, Some}
-use Rattle.net_types.specs.declared.node.PortNo.{PortNo}
-use Rattle.net_types.specs.declared.prefix.Addr.{Addr}
-use Rattle.net_types.specs.Label.{is_label_number}
-use Rattle.ipv4_packet.specs.Packet.{ifmp_packet_of}
-use Rattle.flow_encaps.specs.Default.{default_payload}
-use Rattle.ifmp_wire.specs.declared.message.Message.{Message}
-use Rattle.ifmp_wire.specs.Message.{octets_of as ifmp_octets}
-use Rattle.ordered_lists.specs.Ordered.{Every}
-use Rattle.label_line.specs.Cells as lines
-use Rattle.label_line.specs.Cells.{Role}
-use Rattle.port_model.specs.declared.action.Action.{Action}
-use Rattle.port_model.specs.declared.action.Action.TheVariants.{Say}
-use Rattle.world_model.specs.Controller.{Acted, Linked, linked_at}
-use Rattle.world_model.specs.Resets.{begins}
-use Rattle.world_model.specs.Performing.{Rule}
-use Rattle.port_views.specs.Link.{LinkLabel}
-use Rattle.port_views.specs.Reaching.{Leads}
+use Rattle.world_model.specs.Words.{PortNo, Addr, is_label_number, ifmp_packet_of, default_payload, Action, Say, Linked, linked_at, begins, Rule}
+use Rattle.world_model.specs.ifmp_wire.declared.message.Message.{Message}
+use Rattle.world_model.specs.ifmp_wire.Message.{octets_of as ifmp_octets}
+use Rattle.controller_facts.specs.ordered_lists.Ordered.{Every}
+use Rattle.shown_cells.specs.label_line.Cells as lines
+use Rattle.shown_cells.specs.label_line.Cells.{Role}
+use Rattle.world_model.specs.Controller.{Acted}
+use Rattle.shown_cells.specs.port_views.Link.{LinkLabel}
+use Rattle.shown_cells.specs.port_views.Reaching.{Leads}
 use Rattle.shown_cells.specs.Seen.{IsUnmade}
 use Rattle.shown_cells.specs.Label.{told_of}
 use Rattle.controller_views.specs.Ends.{Grows}

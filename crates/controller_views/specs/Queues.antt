@@ -1,9 +1,9 @@
 -- What a switch does with the first cell of a queue between the two controllers, as the line sees it
 
 use Rattle.std.specs.Prelude.{◌≡◌, List, [], ◌∷◌, ◌++◌}
-use Rattle.atm_cells.specs.declared.cell.Cell.{Cell}
-use Rattle.label_line.specs.Cells.{Role}
-use Rattle.port_views.specs.Link.{LinkLabel, other}
+use Rattle.world_model.specs.Words.{Cell}
+use Rattle.shown_cells.specs.label_line.Cells.{Role}
+use Rattle.shown_cells.specs.port_views.Link.{LinkLabel, other}
 use Rattle.shown_cells.specs.Label.{OnLink, OnControl, seen}
 use Rattle.controller_views.specs.Ends.{Pieces, put_at}
 

@@ -1,19 +1,15 @@
 -- What is so of a controller so that the rules of its ports lead the lines of labels
 
 use Rattle.std.specs.Prelude.{◌≡◌, ◌<◌, ◌^◌, false, List}
-use Rattle.ordered_lists.specs.Ordered.{Every}
-use Rattle.label_line.specs.Cells.{Role}
-use Rattle.port_model.specs.Setup.{Setup}
-use Rattle.port_model.specs.Saying.{is_spent}
-use Rattle.port_facts.specs.Port.{IsRanged}
-use Rattle.adjacency_table.specs.Side.{ticked}
-use Rattle.world_model.specs.Controller.{Controller, Acted, Linked}
+use Rattle.controller_facts.specs.ordered_lists.Ordered.{Every}
+use Rattle.shown_cells.specs.label_line.Cells.{Role}
+use Rattle.world_model.specs.Words.{Setup, is_spent, ticked, Controller, Linked, tries_joins, sends_again, ticks_ports}
+use Rattle.controller_facts.specs.port_facts.Port.{IsRanged}
+use Rattle.world_model.specs.Controller.{Acted}
 use Rattle.world_model.specs.Gsmp.{steps}
-use Rattle.world_model.specs.Joins.{tries_joins}
-use Rattle.world_model.specs.Ticks.{sends_again, ticks_ports}
 use Rattle.controller_facts.specs.Sound.{IsSound}
 use Rattle.controller_facts.specs.Said.{HasFlowingPorts}
-use Rattle.port_views.specs.Link.{LinkLabel}
+use Rattle.shown_cells.specs.port_views.Link.{LinkLabel}
 use Rattle.port_widths.specs.Widths.{FitsPort, FitsSetup}
 
 -- a port has numbers left, and none of them is wider than its field

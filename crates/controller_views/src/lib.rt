@@ -8,17 +8,11 @@
 #![tactic(auto)]
 
 ghost use Rattle.std.specs.Prelude.{◌≡◌, [], ◌∷◌, ◌≤◌, List, Some, ℕ};
-ghost use Rattle.net_types.specs.declared.node.PortNo.{PortNo};
-ghost use Rattle.atm_cells.specs.declared.cell.Cell.{Cell};
-ghost use Rattle.label_line.specs.Cells.{Role};
-ghost use Rattle.label_line.specs.Line.{Line};
-ghost use Rattle.gsmp_wire.specs.declared.request.Request.{Request};
-ghost use Rattle.port_model.specs.declared.action.Action.{Action};
-ghost use Rattle.world_model.specs.Controller.{Acted, Linked, linked_at};
-ghost use Rattle.world_model.specs.Resets.{begins, node_resets};
-ghost use Rattle.world_model.specs.Asking.{asks};
-ghost use Rattle.world_model.specs.Performing.{Rule, at_port, resets_port};
-ghost use Rattle.port_views.specs.Link.{LinkLabel};
+ghost use Rattle.world_model.specs.Words.{PortNo, Cell, Request, Action, Linked, linked_at, begins, node_resets, asks, Rule, at_port, resets_port};
+ghost use Rattle.shown_cells.specs.label_line.Cells.{Role};
+ghost use Rattle.shown_cells.specs.label_line.Line.{Line};
+ghost use Rattle.world_model.specs.Controller.{Acted};
+ghost use Rattle.shown_cells.specs.port_views.Link.{LinkLabel};
 ghost use Rattle.controller_views.specs.Ends.{EndLeads, Quietly, Net, Goes, Pieces, asking, idle, placed};
 ghost use Rattle.controller_views.specs.Lifted.{IsProper, IsLifted, Growing};
 ghost use Rattle.controller_views.specs.Queues.{carried, crossed, awaited, Outcome, Passage};

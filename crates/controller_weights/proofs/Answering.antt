@@ -7,55 +7,31 @@ use Rattle.std.specs.Option.{option_map}
 use Rattle.std.proofs.lemmas.Bool.Decides.{nat_tests}
 use Rattle.std.proofs.lemmas.List.{length-map}
 use Rattle.std.proofs.Common.{length-append}
-use Rattle.net_types.specs.declared.node.NodeId.{NodeId}
-use Rattle.net_types.specs.declared.node.PortNo.{PortNo}
-use Rattle.net_types.specs.declared.number.Mark.{Mark}
-use Rattle.net_types.specs.declared.channel.End.{End}
-use Rattle.net_types.specs.declared.channel.Channel.{Channel}
-use Rattle.net_types.specs.Number.{next_control, with_control}
-use Rattle.gsmp_wire.specs.Layout.{octets_of as gsmp_octets}
-use Rattle.link_model.specs.declared.record.Cause.TheVariants.{PoolFull}
-use Rattle.link_model.specs.Notes.{noted}
-use Rattle.frame_model.specs.Frame.{frame_cells, made}
-use Rattle.frame_model.specs.Sending.{Sent}
-use Rattle.net_types.specs.Label.{number_of_channel}
-use Rattle.adjacency_table.specs.Side.{is_estab}
-use Rattle.ipv4_forward.specs.declared.change.RouteChange.{RouteChange}
-use Rattle.gsmp_wire.specs.declared.message.Message.{Message}
-use Rattle.gsmp_wire.specs.declared.message.Message.TheVariants as messages
-use Rattle.gsmp_wire.specs.declared.request.Request.{Request}
-use Rattle.gsmp_wire.specs.declared.request.Request.TheVariants.{AddBranch, MoveBranch, DeleteTree, VerifyTree, DeleteAll, PortManagement, AllPorts}
-use Rattle.gsmp_wire.specs.declared.rows.PortRow.{PortRow}
-use Rattle.link_model.specs.declared.frames.Frame.{Frame}
-use Rattle.link_model.specs.declared.record.Record.TheVariants.{Part, Loss}
-use Rattle.link_model.specs.Ledger.{payload_of}
-use Rattle.keyed_lists.specs.Keyed.{entered, in_order}
-use Rattle.port_model.specs.Setup.{Setup, home_of}
-use Rattle.port_model.specs.Messages.{is_up}
-use Rattle.crossbar_model.specs.Crossbar.{same_end}
-use Rattle.port_model.specs.Desk.{Standing, empty_desk, asked, is_led_home, last_transaction, message_at}
-use Rattle.port_model.specs.DeskAnswers.{Head, head_of, is_of_type, Answered, Unknown, Done, Ports, Failed, succeeded, outcome, answered_with, without_request, after_answer}
-use Rattle.port_model.specs.Grants.{Grant, GrantState, Idle, ByController, ByInput, Leaving, input_of}
-use Rattle.port_model.specs.Joins as port_joins
-use Rattle.port_model.specs.Answers as port_answers
-use Rattle.port_model.specs.Resets as port_resets
-use Rattle.controller_facts.proofs.Moves.{HasPorts, moves_ports, moves_to, answering}
-use Rattle.controller_facts.proofs.Joining.{IsJoin, joins_are, parts_grants, granted_there, releases_input_goes}
-use Rattle.port_facts.proofs.Found.{find_every}
-use Rattle.world_model.specs.Controller.{Controller, Acted, Linked, free_slots, default_channel, linked_at, ports_of, with_linked, with_desk, note, default_end, default_home}
-use Rattle.world_model.specs.Asking.{asks_next, asks}
+use Rattle.world_model.specs.Words.{NodeId, PortNo, Mark, End, Channel, next_control, with_control, PoolFull, noted, frame_cells, made, number_of_channel, is_estab, RouteChange, Request, AddBranch, MoveBranch, DeleteTree, VerifyTree, PortManagement, PortRow, Frame, Part, Loss, payload_of, entered, in_order, Setup, home_of, same_end, Standing, empty_desk, is_led_home, last_transaction, Head, head_of, is_of_type, Answered, Unknown, Done, Ports, Failed, succeeded, outcome, answered_with, without_request, after_answer, Grant, GrantState, Idle, ByController, ByInput, Leaving, Controller, Linked, default_channel, linked_at, with_linked, with_desk, default_end, default_home, asks_next, asks, begins, node_resets, join_to, joins_at, end_le, joins_of, join_of, parts, releases_join, releases_input, released_inputs, resets_spent, releases, is_changed, changed_joins, takes_join_back, begins_change, takes_change, may_take, takes_each, takes_changes, meets, up_ports, empties, default_branches, ends_meeting, has_emptied, port_of_input, tells_port, behind_delete_all, causes_in_estab, causes, may_clear, clears_of, clears_port, clears, takes_answer, answer_comes, Topology}
+use Rattle.world_model.specs.gsmp_wire.Layout.{octets_of as gsmp_octets}
+use Rattle.world_model.specs.frame_model.Sending.{Sent}
+use Rattle.world_model.specs.gsmp_wire.declared.message.Message.{Message}
+use Rattle.world_model.specs.gsmp_wire.declared.message.Message.TheVariants as messages
+use Rattle.world_model.specs.gsmp_wire.declared.request.Request.TheVariants.{DeleteAll, AllPorts}
+use Rattle.world_model.specs.port_model.Messages.{is_up}
+use Rattle.world_model.specs.port_model.Desk.{asked, message_at}
+use Rattle.world_model.specs.port_model.Grants.{input_of}
+use Rattle.world_model.specs.port_model.Joins as port_joins
+use Rattle.world_model.specs.port_model.Answers as port_answers
+use Rattle.world_model.specs.port_model.Resets as port_resets
+use Rattle.run_facts.proofs.controller_facts.Moves.{HasPorts, moves_ports, moves_to, answering}
+use Rattle.run_facts.proofs.controller_facts.Joining.{IsJoin, joins_are, parts_grants, granted_there, releases_input_goes}
+use Rattle.run_facts.proofs.port_facts.Found.{find_every}
+use Rattle.world_model.specs.Controller.{Acted, free_slots, ports_of, note}
 use Rattle.world_model.specs.Sending.{with_cells, sends}
-use Rattle.world_model.specs.Resets.{begins, node_resets}
-use Rattle.world_model.specs.Joins.{Join, join_to, joins_at, end_le, joins_of, join_of, parts, releases_join, releases_input, released_inputs, resets_spent, releases, output_of}
-use Rattle.world_model.specs.Changes.{is_changed, changed_joins, takes_join_back, begins_change, takes_change, may_take, takes_each, takes_changes}
-use Rattle.world_model.specs.Meeting.{meets, up_ports, empties, default_branches, ends_meeting, has_emptied, port_of_input, tells_port, behind_delete_all, causes_in_estab, causes, may_clear, clears_of, clears_port, clears, done, takes_answer, answer_comes}
-use Rattle.world_model.specs.Topology.{Topology}
-use Rattle.quiet_model.specs.Costs.{total, request_weight, reset_weight, deleting_weight, listing_weight, meeting_weight}
-use Rattle.quiet_model.specs.Weights.{Bound, standing_cost, desk_weight, state_cost, changes_left}
-use Rattle.port_facts.proofs.Keyed.{on_both, on_each}
-use Rattle.port_weights.proofs.Sums.{total_found, total_mono}
-use Rattle.port_weights.proofs.Works.{cost_of_grant}
-use Rattle.port_weights.proofs.Answered.{done_free, parted_free, given_back_free}
+use Rattle.world_model.specs.Joins.{Join, output_of}
+use Rattle.world_model.specs.Meeting.{done}
+use Rattle.action_weights.specs.quiet_model.Costs.{total, request_weight, reset_weight, deleting_weight, listing_weight, meeting_weight}
+use Rattle.action_weights.specs.quiet_model.Weights.{Bound, standing_cost, desk_weight, state_cost, changes_left}
+use Rattle.run_facts.proofs.port_facts.Keyed.{on_both, on_each}
+use Rattle.action_weights.proofs.port_weights.Sums.{total_found, total_mono}
+use Rattle.action_weights.proofs.port_weights.Works.{cost_of_grant}
+use Rattle.action_weights.proofs.port_weights.Answered.{done_free, parted_free, given_back_free}
 use Rattle.action_weights.proofs.Judging.{linked_weight, IsFine, Weighs, W, weighs_then, more, none_then, then_none, still, itself, weighs_fold, costs_fold, placed}
 use Rattle.action_weights.proofs.Resets.{found_own, node_cost, node_waits}
 use Rattle.action_weights.proofs.Acting.{given_fine, asks_cost, takes_back_cost, at_port_cost, resets_spent_cost}

@@ -3,77 +3,42 @@
 use Rattle.std.proofs.Common.{◌≡◌, ℕ, ◌≤◌, ◌+◌, Bool, true, false, List, [], ◌∷◌, length, drop, Option, None, Some, Result, Ok, Err, refl, sym, ◌∙◌, ap, subst, arith, if◌then◌else◌}
 use Rattle.std.specs.Prelude.{◌==◌, ◌&&◌, nat_lt}
 use Rattle.std.specs.Option.{option_map_or, option_and_then}
-use Rattle.net_types.specs.declared.node.NodeId.{NodeId}
-use Rattle.net_types.specs.declared.node.PortNo.{PortNo}
-use Rattle.net_types.specs.declared.node.Place.TheVariants.{Up}
-use Rattle.net_types.specs.declared.number.Mark.{Mark}
-use Rattle.net_types.specs.declared.channel.Channel.{Channel}
-use Rattle.net_types.specs.declared.adjacency.HelloKind.{HelloKind}
-use Rattle.net_types.specs.declared.adjacency.Party.{Party}
-use Rattle.net_types.specs.Label.{label_number_of, number_of_channel, is_label_channel}
-use Rattle.ipv4_packet.specs.Packet.{protocol_of, source_of, first_fault, ttl_of}
-use Rattle.ipv4_packet.specs.Flow.{flow_ttl}
-use Rattle.ipv4_packet.specs.declared.validate.PacketFault.{PacketFault}
-use Rattle.ipv4_forward.specs.Hop.{hop_of}
-use Rattle.ipv4_forward.specs.declared.outcome.Hop.TheVariants.{On}
-use Rattle.atm_cells.specs.declared.cell.Cell.{Cell}
-use Rattle.adjacency_table.specs.declared.message.Answer.{Answer}
-use Rattle.adjacency_table.specs.declared.message.Answer.TheVariants as answers_of
-use Rattle.adjacency_table.specs.declared.message.Said.{Said}
-use Rattle.adjacency_table.specs.Greeting.{same_party, heard_in, greeting_of, gsmp_answer, gsmp_received}
-use Rattle.adjacency_table.specs.Side.{Step}
-use Rattle.flow_encaps.specs.declared.default.EncapsFault.{EncapsFault}
-use Rattle.flow_encaps.specs.Unwrapped.{default_unwrapped, unwrapped}
-use Rattle.ifmp_wire.specs.declared.message.Message.{Message as IfmpMessage}
-use Rattle.ifmp_wire.specs.declared.reader.Fault.{Fault as IfmpFault}
-use Rattle.ifmp_wire.specs.Fields.{decoded as ifmp_decoded}
-use Rattle.gsmp_wire.specs.declared.message.Message.{Message}
-use Rattle.gsmp_wire.specs.declared.message.Message.TheVariants as messages
-use Rattle.gsmp_wire.specs.declared.fault.Fault.{Fault as GsmpFault}
-use Rattle.gsmp_wire.specs.Fields.{decoded as gsmp_decoded}
-use Rattle.link_model.specs.declared.frames.Frame.{Frame}
-use Rattle.link_model.specs.declared.record.Record.{Record}
-use Rattle.link_model.specs.declared.record.Record.TheVariants.{Bad, Loss}
-use Rattle.link_model.specs.declared.record.Layer.TheVariants as layers
-use Rattle.link_model.specs.declared.record.Cause.TheVariants.{Unbound}
-use Rattle.link_model.specs.Ledger.{payload_of}
-use Rattle.refusal_names.specs.Names.{encaps_refusal, packet_refusal, ifmp_refusal, gsmp_refusal}
-use Rattle.frame_model.specs.Frame.{Tested, tested_by, last_mark, octets_of, payload_in, next_mark}
-use Rattle.frame_model.specs.Reassembly.{Reassembly, Taken, taken}
-use Rattle.ordered_lists.specs.Ordered.{Every, InOrder}
-use Rattle.keyed_lists.specs.Keyed.{at}
-use Rattle.port_model.specs.Labels.{Label, label_number, serves, is_bound}
-use Rattle.port_model.specs.Port.{Session, Port, label_at, labels_of}
-use Rattle.port_model.specs.Counting.{counts, used}
-use Rattle.port_model.specs.Hearing.{hears}
-use Rattle.ipv4_packet.specs.Parts.{same_flow}
-use Rattle.port_facts.specs.Port.{IsBefore}
-use Rattle.port_facts.proofs.Keyed.{at_key, put_every, find_at}
-use Rattle.controller_facts.proofs.Moves.{HasPorts, Found, found_port, moves_ports}
-use Rattle.controller_facts.proofs.Events.{IsTaker, routes_goes, kept_ports}
-use Rattle.actor_pace.proofs.Cells.{ended_last}
+use Rattle.world_model.specs.Words.{NodeId, PortNo, Up, Mark, Channel, HelloKind, Party, label_number_of, number_of_channel, is_label_channel, protocol_of, source_of, ttl_of, flow_ttl, PacketFault, hop_of, On, Cell, Answer, Said, same_party, heard_in, greeting_of, gsmp_answer, gsmp_received, Step, EncapsFault, default_unwrapped, unwrapped, Frame, Record, Bad, Loss, Unbound, payload_of, encaps_refusal, packet_refusal, ifmp_refusal, gsmp_refusal, Tested, tested_by, last_mark, payload_in, next_mark, Reassembly, at, Label, label_number, serves, is_bound, Session, label_at, labels_of, counts, used, hears, same_flow, Setup, Linked, port_key, linked_at, with_linked, chains_with, default_channel, says_gsmp, begins, node_resets, meets, gsmp_holds, routes, control_protocol, ForGsmp, ForDefault, ForLabel, same_channel, port_on, on_link, label_taker, taker_at, taker_of, reassembly_of, with_reassembly, label_holds, ifmp_holds, counted_at, packet_holds, default_holds, frame_holds, takes_cell, Topology}
+use Rattle.world_model.specs.ipv4_packet.Packet.{first_fault}
+use Rattle.world_model.specs.adjacency_table.declared.message.Answer.TheVariants as answers_of
+use Rattle.world_model.specs.ifmp_wire.declared.message.Message.{Message as IfmpMessage}
+use Rattle.world_model.specs.ifmp_wire.declared.reader.Fault.{Fault as IfmpFault}
+use Rattle.world_model.specs.ifmp_wire.Fields.{decoded as ifmp_decoded}
+use Rattle.world_model.specs.gsmp_wire.declared.message.Message.{Message}
+use Rattle.world_model.specs.gsmp_wire.declared.message.Message.TheVariants as messages
+use Rattle.world_model.specs.gsmp_wire.declared.fault.Fault.{Fault as GsmpFault}
+use Rattle.world_model.specs.gsmp_wire.Fields.{decoded as gsmp_decoded}
+use Rattle.world_model.specs.link_model.declared.record.Layer.TheVariants as layers
+use Rattle.world_model.specs.frame_model.Frame.{octets_of}
+use Rattle.world_model.specs.frame_model.Reassembly.{Taken, taken}
+use Rattle.run_facts.specs.ordered_lists.Ordered.{Every, InOrder}
+use Rattle.world_model.specs.port_model.Port.{Port}
+use Rattle.run_facts.specs.port_facts.Port.{IsBefore}
+use Rattle.run_facts.proofs.port_facts.Keyed.{at_key, put_every, find_at}
+use Rattle.run_facts.proofs.controller_facts.Moves.{HasPorts, Found, found_port, moves_ports}
+use Rattle.run_facts.proofs.controller_facts.Events.{IsTaker, routes_goes, kept_ports}
+use Rattle.run_facts.proofs.actor_pace.Cells.{ended_last}
 use Rattle.run_facts.proofs.Taking.{taken_frames, ended_by_last}
 use Rattle.run_facts.proofs.Takers.{OfTaker, taker_at_port}
-use Rattle.shown_cells.proofs.Tested.{tested_frames as tests_frames}
-use Rattle.ordered_lists.proofs.Every.{every_map}
-use Rattle.controller_facts.proofs.Joining.{each_there, every_both}
-use Rattle.port_facts.specs.Port.{IsPort}
-use Rattle.port_model.specs.Setup.{Setup}
-use Rattle.world_model.specs.Controller.{Acted, Linked, port_key, linked_at, free_slots, with_linked, note, chains_with, default_channel}
-use Rattle.world_model.specs.Sending.{says_gsmp}
-use Rattle.world_model.specs.Resets.{begins, node_resets}
-use Rattle.world_model.specs.Meeting.{meets}
-use Rattle.world_model.specs.Gsmp.{answers, steps, told, gsmp_holds}
-use Rattle.world_model.specs.Packets.{routes, control_protocol}
-use Rattle.world_model.specs.Cells.{Taker, ForGsmp, ForDefault, ForLabel, same_channel, port_on, on_link, label_taker, taker_at, taker_of, reassembly_of, with_reassembly, label_holds, ifmp_holds, counted_at, packet_holds, default_holds, frame_holds, after_test, ends_frame, after_cell, takes_cell, cell_comes}
-use Rattle.world_model.specs.Topology.{Topology}
-use Rattle.shown_cells.proofs.Made.{extends_on}
-use Rattle.quiet_model.specs.Costs.{frame_weight, meeting_weight, greeting_weight, answering_cost, if_said, message_cost, if_told, offer_weight, forwarding, packet_cost, if_unwrapped, controller_cost, default_cost}
-use Rattle.quiet_model.specs.Weights.{Bearing, ToController, Plain, Labelled, Bound, bearing_of, bearing_on, cost_of, port_weight, changes_left}
-use Rattle.port_weights.proofs.Below.{IsBelow, received_below}
-use Rattle.port_weights.proofs.Rules.{hears_cost, used_free}
-use Rattle.port_weights.specs.Law.{ServesOnce}
-use Rattle.port_weights.proofs.Answered.{counts_cost}
+use Rattle.run_facts.proofs.shown_cells.Tested.{tested_frames as tests_frames}
+use Rattle.run_facts.proofs.ordered_lists.Every.{every_map}
+use Rattle.run_facts.proofs.controller_facts.Joining.{each_there, every_both}
+use Rattle.run_facts.specs.port_facts.Port.{IsPort}
+use Rattle.world_model.specs.Controller.{Acted, free_slots, note}
+use Rattle.world_model.specs.Gsmp.{answers, steps, told}
+use Rattle.world_model.specs.Cells.{Taker, after_test, ends_frame, after_cell, cell_comes}
+use Rattle.run_facts.proofs.shown_cells.Made.{extends_on}
+use Rattle.action_weights.specs.quiet_model.Costs.{frame_weight, meeting_weight, greeting_weight, answering_cost, if_said, message_cost, if_told, offer_weight, forwarding, packet_cost, if_unwrapped, controller_cost, default_cost}
+use Rattle.action_weights.specs.quiet_model.Weights.{Bearing, ToController, Plain, Labelled, Bound, bearing_of, bearing_on, cost_of, port_weight, changes_left}
+use Rattle.action_weights.proofs.port_weights.Below.{IsBelow, received_below}
+use Rattle.action_weights.proofs.port_weights.Rules.{hears_cost, used_free}
+use Rattle.action_weights.specs.port_weights.Law.{ServesOnce}
+use Rattle.action_weights.proofs.port_weights.Answered.{counts_cost}
 use Rattle.controller_weights.specs.Coming.{IsToldGrant, HasToldGrants, Brings, coming_cost}
 use Rattle.action_weights.proofs.Judging.{Weighs, weighs_then, more, none_then, then_none, still, itself, placed, gsmp_cost}
 use Rattle.action_weights.proofs.Resets.{node_cost}

@@ -4,47 +4,24 @@ use Rattle.std.proofs.Common.{◌≡◌, ◌≢◌, ℕ, zero, suc, ◌≤◌, �
 use Rattle.std.specs.Prelude.{◌==◌, ◌&&◌, ◌/◌, ◌%◌, nat_le, nat_lt, not}
 use Rattle.std.specs.Option.{option_or, option_map_or, option_and_then}
 use Rattle.std.proofs.lemmas.Bool.Decides.{nat_tests}
-use Rattle.net_types.specs.declared.node.NodeId.{NodeId}
-use Rattle.net_types.specs.declared.node.PortNo.{PortNo}
-use Rattle.net_types.specs.declared.node.Place.TheVariants.{Down}
-use Rattle.net_types.specs.declared.number.Mark.{Mark}
-use Rattle.net_types.specs.declared.channel.Channel.{Channel}
-use Rattle.net_types.specs.Label.{label_channel_of, number_of_channel, is_label_number}
-use Rattle.octet_fields.specs.Fields.{u16_at}
-use Rattle.ipv4_packet.specs.Packet.{ttl_of, destination_of, tos_of, protocol_of, source_of}
-use Rattle.ipv4_packet.specs.Flow.{flow_of, flow_ttl, kind_of, shows_ports}
-use Rattle.ipv4_packet.specs.Parts.{same_flow}
-use Rattle.ipv4_packet.specs.declared.flow.FlowId.{FlowId}
-use Rattle.ipv4_packet.specs.declared.flow.FlowId.TheVariants as flows
-use Rattle.ipv4_packet.specs.declared.flow.FlowKind.{FlowKind}
-use Rattle.ipv4_packet.specs.declared.flow.FlowKind.TheVariants as kinds
-use Rattle.ipv4_forward.specs.Best.{best}
-use Rattle.ipv4_forward.specs.Hop.{hop_by, hop_of, onward}
-use Rattle.ipv4_forward.specs.declared.outcome.Hop.{Hop}
-use Rattle.ipv4_forward.specs.declared.outcome.Hop.TheVariants.{Here, On, NoRoute, Expired}
-use Rattle.ipv4_forward.specs.declared.table.Next.{Next}
-use Rattle.ipv4_forward.specs.declared.table.Next.TheVariants.{Local, Via}
-use Rattle.flow_encaps.specs.Default.{default_payload}
-use Rattle.flow_encaps.specs.Labelled.{labelled_payload}
-use Rattle.link_model.specs.declared.frames.Frame.{Frame}
-use Rattle.link_model.specs.Ledger.{payload_of}
-use Rattle.frame_model.specs.Frame.{next_mark}
-use Rattle.ordered_lists.specs.Ordered.{Every}
-use Rattle.port_model.specs.Setup.{control_end}
-use Rattle.port_model.specs.Grants.{Grant, is_by_controller, grant_for, grant_of_kind, grant_matching}
-use Rattle.port_facts.proofs.Keyed.{at_key, at_every, on_each}
-use Rattle.port_facts.proofs.Found.{find_every}
-use Rattle.world_model.specs.Controller.{Acted, Linked, port_key, linked_at, default_home}
-use Rattle.world_model.specs.Cells.{on_link, port_on}
-use Rattle.world_model.specs.Sending.{sends, sends_control}
-use Rattle.world_model.specs.Packets.{is_control, sends_next, goes_by, grant_by, goes_on, forwarded, routes}
-use Rattle.world_model.specs.Topology.{Topology, peer_of}
-use Rattle.shown_cells.proofs.Made.{made_elsewhere}
-use Rattle.quiet_model.specs.Costs.{forwarding}
-use Rattle.quiet_model.specs.Weights.{Bearing, ToSwitch, Plain, Labelled, Bound, bearing_of, bearing_on, hops_at}
+use Rattle.world_model.specs.Words.{NodeId, PortNo, Down, Mark, Channel, label_channel_of, number_of_channel, is_label_number, ttl_of, destination_of, tos_of, protocol_of, source_of, flow_of, flow_ttl, kind_of, shows_ports, same_flow, FlowId, FlowKind, best, hop_by, hop_of, onward, Hop, Here, On, Next, Local, Via, default_payload, labelled_payload, Frame, payload_of, next_mark, control_end, Grant, is_by_controller, grant_for, grant_of_kind, grant_matching, Linked, port_key, linked_at, default_home, on_link, port_on, sends_control, is_control, sends_next, goes_by, grant_by, goes_on, routes, Topology}
+use Rattle.run_facts.specs.octet_fields.Fields.{u16_at}
+use Rattle.world_model.specs.ipv4_packet.declared.flow.FlowId.TheVariants as flows
+use Rattle.world_model.specs.ipv4_packet.declared.flow.FlowKind.TheVariants as kinds
+use Rattle.world_model.specs.ipv4_forward.declared.outcome.Hop.TheVariants.{NoRoute, Expired}
+use Rattle.run_facts.specs.ordered_lists.Ordered.{Every}
+use Rattle.run_facts.proofs.port_facts.Keyed.{at_key, at_every, on_each}
+use Rattle.run_facts.proofs.port_facts.Found.{find_every}
+use Rattle.world_model.specs.Controller.{Acted}
+use Rattle.world_model.specs.Sending.{sends}
+use Rattle.world_model.specs.Packets.{forwarded}
+use Rattle.world_model.specs.Topology.{peer_of}
+use Rattle.run_facts.proofs.shown_cells.Made.{made_elsewhere}
+use Rattle.action_weights.specs.quiet_model.Costs.{forwarding}
+use Rattle.action_weights.specs.quiet_model.Weights.{Bearing, ToSwitch, Plain, Labelled, Bound, bearing_of, bearing_on, hops_at}
 use Rattle.controller_weights.specs.Coming.{IsToldGrant, HasToldGrants}
 use Rattle.action_weights.proofs.Judging.{Weighs, more, still, frame_cost, sent_cost, control_cost, bearing_home}
-use Rattle.frame_weights.proofs.Readings.{packet_reads}
+use Rattle.action_weights.proofs.frame_weights.Readings.{packet_reads}
 use Rattle.controller_weights.proofs.Answering.{find_passes}
 
 -- *A packet that goes on* has one less to live

@@ -1,6 +1,6 @@
 -- the law of a controller
 
-use Rattle.controller_facts.proofs.Laws.{has_ports}
+use Rattle.run_facts.proofs.controller_facts.Laws.{has_ports}
 use Rattle.controller_weights.specs.Coming.{CellsArePaid}
 use Rattle.controller_weights.proofs.Cells.{cell_cost}
 

@@ -1,32 +1,17 @@
 -- A cell that comes to a controller in a run, as the measure sees it
 
 use Rattle.std.specs.Prelude.{◌≡◌, ◌≢◌, ℕ, ◌≤◌, ◌<◌, ◌+◌, true, nat_lt, List, ◌∷◌, length, None, Some, Ok, if◌then◌else◌}
-use Rattle.net_types.specs.declared.node.NodeId.{NodeId}
-use Rattle.net_types.specs.declared.node.PortNo.{PortNo}
-use Rattle.net_types.specs.declared.node.Place.TheVariants.{Up, Down}
-use Rattle.net_types.specs.declared.number.Mark.{Mark}
-use Rattle.net_types.specs.Label.{is_label_number}
-use Rattle.ipv4_packet.specs.Packet.{ttl_of}
-use Rattle.ipv4_packet.specs.Flow.{flow_ttl}
-use Rattle.ipv4_forward.specs.Hop.{hop_of}
-use Rattle.ipv4_forward.specs.declared.outcome.Hop.TheVariants.{On}
-use Rattle.flow_encaps.specs.Unwrapped.{unwrapped}
-use Rattle.atm_cells.specs.declared.cell.Cell.{Cell}
-use Rattle.link_model.specs.declared.frames.Frame.{Frame}
-use Rattle.link_model.specs.Ledger.{payload_of}
-use Rattle.frame_model.specs.Frame.{octets_of, payload_in, next_mark}
-use Rattle.frame_model.specs.Reassembly.{taken}
-use Rattle.ordered_lists.specs.Ordered.{Every}
-use Rattle.shown_cells.specs.Seen.{Extends}
-use Rattle.controller_facts.specs.Sound.{IsSound}
-use Rattle.port_model.specs.Setup.{Setup}
-use Rattle.port_model.specs.Labels.{Label}
-use Rattle.port_model.specs.Grants.{Grant}
-use Rattle.world_model.specs.Controller.{Acted, Linked, free_slots}
-use Rattle.world_model.specs.Cells.{Taker, ForLabel, taker_of, reassembly_of, cell_comes}
-use Rattle.world_model.specs.Topology.{Topology, peer_of}
-use Rattle.quiet_model.specs.Weights.{Bound, hops_at, bearing_of, cost_of, cell_weight, controller_weight}
-use Rattle.quiet_model.specs.Costs.{total}
+use Rattle.world_model.specs.Words.{NodeId, PortNo, Up, Down, Mark, is_label_number, ttl_of, flow_ttl, hop_of, On, unwrapped, Cell, Frame, payload_of, payload_in, next_mark, Setup, Label, Grant, Linked, ForLabel, taker_of, reassembly_of, Topology}
+use Rattle.world_model.specs.frame_model.Frame.{octets_of}
+use Rattle.world_model.specs.frame_model.Reassembly.{taken}
+use Rattle.run_facts.specs.ordered_lists.Ordered.{Every}
+use Rattle.run_facts.specs.shown_cells.Seen.{Extends}
+use Rattle.run_facts.specs.controller_facts.Sound.{IsSound}
+use Rattle.world_model.specs.Controller.{Acted, free_slots}
+use Rattle.world_model.specs.Cells.{Taker, cell_comes}
+use Rattle.world_model.specs.Topology.{peer_of}
+use Rattle.action_weights.specs.quiet_model.Weights.{Bound, hops_at, bearing_of, cost_of, cell_weight, controller_weight}
+use Rattle.action_weights.specs.quiet_model.Costs.{total}
 use Rattle.action_weights.specs.Fine.{IsFine}
 
 -- the grants of a port are of labels, whose cells have the hops that their flows' packets have

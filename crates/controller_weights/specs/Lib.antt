@@ -1,1 +1,3 @@
+pub use Rattle.action_weights.specs.quiet_model as quiet_model
+pub use Rattle.action_weights.specs as action_weights
 pub mod Coming

@@ -2,27 +2,19 @@
 
 use Rattle.std.proofs.Common.{◌≡◌, ℕ, zero, suc, ◌<◌, List, [], ◌∷◌, length, Option, None, Some, refl, sym, ◌∙◌, ap, subst, arith, slice_index_or}
 use Rattle.std.specs.Option.{option_and_then}
-use Rattle.net_types.specs.declared.channel.End.{End}
-use Rattle.net_types.specs.Label.{number_of_channel}
-use Rattle.gsmp_wire.specs.declared.request.Request.{Request}
-use Rattle.ordered_lists.specs.Ordered.{Every}
-use Rattle.keyed_lists.specs.Keyed.{at}
-use Rattle.port_model.specs.Desk.{Standing}
-use Rattle.port_model.specs.Setup.{Setup, home_of}
-use Rattle.port_model.specs.Grants.{Grant, grant_label, input_of}
-use Rattle.port_facts.specs.Port.{IsShaped, asks_ports, empties_control, empties_port, opens_input, opens_output, leads_label, leads_grant, joins_label, parts_label, frees_label}
-use Rattle.port_facts.proofs.Keyed.{at_every}
-use Rattle.world_model.specs.Controller.{Controller, Linked, linked_at}
-use Rattle.controller_facts.specs.Sound.{setups_by}
-use Rattle.controller_facts.proofs.Laws.{always_sound}
-use Rattle.controller_law.specs.Match.{lent_in, lent_at, MovesJoined, IsOfJoin}
-use Rattle.controller_law.proofs.Laws.{always_matched}
-use Rattle.lifetimes.proofs.Opened.{IsFed, opening_fed}
-use Rattle.lifetimes.proofs.Runs.{run_fed}
-use Rattle.world_model.specs.Users.{leads}
-use Rattle.world_model.specs.World.{World, site_key, opened}
-use Rattle.world_model.specs.Run.{world_after}
-use Rattle.world_views.specs.Pairs.{IsJoin}
+use Rattle.world_model.specs.Words.{End, number_of_channel, Request, at, Standing, Setup, home_of, Grant, grant_label, Controller, Linked, linked_at, leads, World, site_key, world_after}
+use Rattle.branch_shapes.specs.ordered_lists.Ordered.{Every}
+use Rattle.world_model.specs.port_model.Grants.{input_of}
+use Rattle.branch_shapes.specs.port_facts.Port.{IsShaped, asks_ports, empties_control, empties_port, opens_input, opens_output, leads_label, leads_grant, joins_label, parts_label, frees_label}
+use Rattle.branch_shapes.proofs.port_facts.Keyed.{at_every}
+use Rattle.branch_shapes.specs.controller_facts.Sound.{setups_by}
+use Rattle.branch_shapes.proofs.controller_facts.Laws.{always_sound}
+use Rattle.branch_shapes.specs.controller_law.Match.{lent_in, lent_at, MovesJoined, IsOfJoin}
+use Rattle.branch_shapes.proofs.controller_law.Laws.{always_matched}
+use Rattle.branch_shapes.proofs.lifetimes.Opened.{IsFed, opening_fed}
+use Rattle.branch_shapes.proofs.lifetimes.Runs.{run_fed}
+use Rattle.world_model.specs.World.{opened}
+use Rattle.branch_shapes.specs.world_views.Pairs.{IsJoin}
 use Rattle.fed_worlds.specs.Feeding.{AskedAreJoined}
 
 every_at_place : {A : Type 0} (P : A → Type 0) (xs : List A) (x : A) → Every P xs → (k : ℕ) → k < length xs → slice_index_or xs k x ≡ x → P x

@@ -3,28 +3,19 @@
 use Rattle.std.proofs.Common.{◌≡◌, List, [], ◌∷◌, ◌++◌, Option, None, Some, refl, sym, ◌∙◌, ap, subst, append_assoc}
 use Rattle.std.specs.Option.{option_and_then}
 use Rattle.std.specs.FinMap.{get}
-use Rattle.net_types.specs.declared.node.Place.TheVariants.{Down}
-use Rattle.net_types.specs.declared.channel.End.{End}
-use Rattle.crossbar_model.specs.declared.branch.Branch.{Branch}
-use Rattle.crossbar_model.specs.Channels.{IsLinkPort}
-use Rattle.ordered_lists.proofs.Every.{every_mapped}
-use Rattle.port_model.specs.Setup.{Setup}
-use Rattle.port_facts.proofs.Keyed.{at_every}
-use Rattle.world_model.specs.Controller.{Controller}
-use Rattle.world_model.specs.Opening.{setup_of}
-use Rattle.controller_facts.proofs.Laws.{always_sound}
+use Rattle.world_model.specs.Words.{Down, End, IsLinkPort, Setup, Controller, setup_of, Topology, World, Site, site_key, site_at, queue_at, next, worlds_from, world_after, records_of, IsTame}
+use Rattle.world_model.specs.crossbar_model.declared.branch.Branch.{Branch}
+use Rattle.branch_shapes.proofs.ordered_lists.Every.{every_mapped}
+use Rattle.branch_shapes.proofs.port_facts.Keyed.{at_every}
+use Rattle.branch_shapes.proofs.controller_facts.Laws.{always_sound}
 use Rattle.world_model.specs.declared.event.Event.{Event}
-use Rattle.world_model.specs.Topology.{Topology}
-use Rattle.world_model.specs.World.{World, Site, site_key, site_at, opened}
-use Rattle.world_model.specs.Places.{queue_at}
-use Rattle.world_model.specs.Run.{next, worlds_from, world_after, records_of}
-use Rattle.world_model.specs.Headline.{IsTame}
-use Rattle.lifetimes.proofs.Opened.{IsFed, opening_fed}
-use Rattle.lifetimes.proofs.Runs.{run_fed}
-use Rattle.world_views.specs.Between.{setups_of}
-use Rattle.causes.specs.Feeding.{IsLed, branch_at}
-use Rattle.causes.specs.Law.{BreaksHaveCauses}
-use Rattle.causes.proofs.Runs.{records_then, first_tame}
+use Rattle.world_model.specs.World.{opened}
+use Rattle.branch_shapes.proofs.lifetimes.Opened.{IsFed, opening_fed}
+use Rattle.branch_shapes.proofs.lifetimes.Runs.{run_fed}
+use Rattle.branch_shapes.specs.world_views.Between.{setups_of}
+use Rattle.branch_shapes.specs.causes.Feeding.{IsLed, branch_at}
+use Rattle.branch_shapes.specs.causes.Law.{BreaksHaveCauses}
+use Rattle.branch_shapes.proofs.causes.Runs.{records_then, first_tame}
 use Rattle.branch_shapes.proofs.Runs.{runs_keep}
 use Rattle.fed_worlds.specs.Feeding.{FedInRuns, CausesInRuns}
 use Rattle.fed_worlds.proofs.Led.{AreLinks, node_led}

@@ -4,29 +4,17 @@ use Rattle.std.proofs.Common.{◌≡◌, ◌≢◌, ℕ, ◌≤◌, ◌<◌, ◌
 use Rattle.std.specs.Prelude.{is_some}
 use Rattle.std.specs.FinMap.{get}
 use Rattle.std.specs.Option.{option_map, option_and_then}
-use Rattle.net_types.specs.declared.node.NodeId.{NodeId}
-use Rattle.net_types.specs.declared.node.PortNo.{PortNo}
-use Rattle.net_types.specs.declared.node.Place.TheVariants.{Down}
-use Rattle.net_types.specs.declared.channel.Channel.{Channel}
-use Rattle.net_types.specs.declared.channel.End.{End}
-use Rattle.net_types.specs.Label.{number_of_channel}
-use Rattle.crossbar_model.specs.declared.branch.Branch.{Branch}
-use Rattle.crossbar_model.specs.Channels.{IsLinkPort}
-use Rattle.ordered_lists.specs.Ordered.{Every}
-use Rattle.keyed_lists.specs.Keyed.{at}
-use Rattle.port_model.specs.Setup.{Setup, home_of}
-use Rattle.port_model.specs.Grants.{Grant, grant_label, input_of}
-use Rattle.port_facts.specs.Port.{setup_port, IsLinked}
-use Rattle.port_facts.proofs.Keyed.{by_eq, at_key, at_every}
-use Rattle.controller_facts.specs.Conditions.{HasHome}
-use Rattle.controller_facts.proofs.Conditions.{label_has_home}
-use Rattle.world_model.specs.Controller.{Controller, Linked, default_end}
-use Rattle.world_model.specs.World.{World, Site, site_at}
-use Rattle.world_model.specs.Places.{queue_at}
-use Rattle.world_model.specs.Ways.{output_at}
-use Rattle.world_views.specs.Pairs.{by_branch, IsJoin}
-use Rattle.world_views.specs.Between.{IsPortEnd, IsShapedBranch, default, label, home, out, joined, HasShapes, setups_of}
-use Rattle.causes.specs.Feeding.{IsLed, branch_at}
+use Rattle.world_model.specs.Words.{NodeId, PortNo, Down, Channel, End, number_of_channel, IsLinkPort, at, Setup, home_of, Grant, grant_label, Controller, Linked, default_end, World, Site, site_at, queue_at, output_at}
+use Rattle.world_model.specs.crossbar_model.declared.branch.Branch.{Branch}
+use Rattle.branch_shapes.specs.ordered_lists.Ordered.{Every}
+use Rattle.world_model.specs.port_model.Grants.{input_of}
+use Rattle.branch_shapes.specs.port_facts.Port.{setup_port, IsLinked}
+use Rattle.branch_shapes.proofs.port_facts.Keyed.{by_eq, at_key, at_every}
+use Rattle.branch_shapes.specs.controller_facts.Conditions.{HasHome}
+use Rattle.branch_shapes.proofs.controller_facts.Conditions.{label_has_home}
+use Rattle.branch_shapes.specs.world_views.Pairs.{by_branch, IsJoin}
+use Rattle.branch_shapes.specs.world_views.Between.{IsPortEnd, IsShapedBranch, default, label, home, out, joined, HasShapes, setups_of}
+use Rattle.branch_shapes.specs.causes.Feeding.{IsLed, branch_at}
 use Rattle.fed_worlds.specs.Feeding.{HasOneFeeder, JoinsLeadOnce}
 
 abbrev pub AreLinks : List Setup → Type 0

@@ -2,25 +2,14 @@
 -- switch that one list of cells leads to a label at most
 
 use Rattle.std.specs.Prelude.{◌≡◌, ◌<◌, true, List, [], ◌++◌, Contains, Some}
-use Rattle.net_types.specs.declared.node.NodeId.{NodeId}
-use Rattle.net_types.specs.declared.node.Place.TheVariants.{Down}
-use Rattle.net_types.specs.declared.channel.End.{End}
-use Rattle.port_model.specs.Desk.{Standing}
-use Rattle.port_model.specs.Setup.{Policy, home_of}
+use Rattle.world_model.specs.Words.{NodeId, Down, End, Standing, Policy, home_of, Topology, World, Site, queue_at, run, world_after, records_of, on_channel, output_at, HasCauses, IsTame, IsRun, leads}
 use Rattle.world_model.specs.declared.event.Event.{Event}
-use Rattle.world_model.specs.Topology.{Topology}
-use Rattle.world_model.specs.World.{World, Site, opened}
-use Rattle.world_model.specs.Places.{queue_at}
-use Rattle.world_model.specs.Run.{run, world_after, records_of}
-use Rattle.world_model.specs.Ways.{on_channel, output_at}
-use Rattle.world_model.specs.Causes.{HasCauses}
-use Rattle.world_model.specs.Headline.{IsTame, IsRun}
-use Rattle.world_model.specs.Users.{leads}
-use Rattle.world_views.specs.Pairs.{IsJoin}
-use Rattle.world_views.specs.Between.{EachSite, HasShapes}
-use Rattle.world_views.specs.Tied.{HasJoins}
+use Rattle.world_model.specs.World.{opened}
+use Rattle.branch_shapes.specs.world_views.Pairs.{IsJoin}
+use Rattle.branch_shapes.specs.world_views.Between.{EachSite, HasShapes}
+use Rattle.branch_shapes.specs.world_views.Tied.{HasJoins}
 use Rattle.branch_shapes.specs.Events.{CopiesAreShaped}
-use Rattle.causes.specs.Feeding.{IsFedOnce}
+use Rattle.branch_shapes.specs.causes.Feeding.{IsFedOnce}
 
 -- *One feeder*: no two inputs of links lead to one label; and where one leads to a label, no cell that the controller sent
 -- to that label waits for the switch

@@ -5,23 +5,15 @@ use Rattle.std.specs.Prelude.{◌==◌, nat_lt, slice_index}
 use Rattle.std.specs.Str.{bytes_eq}
 use Rattle.std.proofs.lemmas.List.{take-append-drop}
 use Rattle.std.proofs.lemmas.Slice.Eq.{bytes_eq-Decides}
-use Rattle.ipv4_packet.specs.Packet.{total_length_of}
-use Rattle.ipv4_packet.proofs.HeaderLemmas.{on_header}
-use Rattle.ipv4_packet.specs.declared.flow.FlowId.{FlowId}
-use Rattle.ipv4_packet.specs.declared.flow.FlowKind.{FlowKind}
-use Rattle.ipv4_packet.specs.declared.flow.FlowKind.TheVariants.{One as ConnectionKind, Two as HostsKind}
-use Rattle.ipv4_packet.specs.Flow.{kind_of}
-use Rattle.flow_encaps.specs.declared.default.EncapsFault.{EncapsFault}
-use Rattle.flow_encaps.specs.declared.default.EncapsFault.TheVariants.{Short, BadSnap}
-use Rattle.flow_encaps.specs.Default.{llc_snap, default_payload}
-use Rattle.flow_encaps.specs.Labelled.{labelled_payload, Carries}
-use Rattle.flow_encaps.specs.Unwrapped.{default_unwrapped}
-use Rattle.gsmp_wire.specs.declared.fault.Fault.{Fault}
-use Rattle.gsmp_wire.specs.declared.fault.Fault.TheVariants as faults
-use Rattle.gsmp_wire.specs.declared.message.Message.{Message}
-use Rattle.gsmp_wire.specs.Layout.{snap_header, octets_of}
-use Rattle.gsmp_wire.specs.Refusal.{refusal, refusal_by, type_of}
-use Rattle.gsmp_wire.specs.Fields.{decoded_by, decoded}
+use Rattle.world_model.specs.Words.{total_length_of, FlowId, FlowKind, kind_of, EncapsFault, BadSnap, llc_snap, default_payload, labelled_payload, Carries, default_unwrapped, snap_header, refusal, refusal_by, type_of}
+use Rattle.world_model.proofs.ipv4_packet.HeaderLemmas.{on_header}
+use Rattle.world_model.specs.ipv4_packet.declared.flow.FlowKind.TheVariants.{One as ConnectionKind, Two as HostsKind}
+use Rattle.world_model.specs.flow_encaps.declared.default.EncapsFault.TheVariants.{Short}
+use Rattle.world_model.specs.gsmp_wire.declared.fault.Fault.{Fault}
+use Rattle.world_model.specs.gsmp_wire.declared.fault.Fault.TheVariants as faults
+use Rattle.world_model.specs.gsmp_wire.declared.message.Message.{Message}
+use Rattle.world_model.specs.gsmp_wire.Layout.{octets_of}
+use Rattle.world_model.specs.gsmp_wire.Fields.{decoded_by, decoded}
 
 -- *The default encapsulation*: what unwraps is the payload of that packet
 pub default_is : (payload packet : List ℕ) → default_unwrapped payload ≡ Ok packet → payload ≡ default_payload packet

@@ -3,24 +3,18 @@
 use Rattle.std.proofs.Common.{◌≡◌, ℕ, ◌/◌, ◌%◌, ◌≤◌, Bool, true, false, not, List, length, Option, None, Some, refl, ◌∙◌, ap, arith, if◌then◌else◌}
 use Rattle.std.specs.Prelude.{◌==◌, nat_lt, slice_index}
 use Rattle.std.proofs.lemmas.Bool.Decides.{nat_tests}
-use Rattle.net_types.specs.declared.number.Mark.{Mark}
-use Rattle.ipv4_packet.specs.declared.validate.PacketFault.{PacketFault}
-use Rattle.ipv4_packet.specs.declared.validate.PacketFault.TheVariants.{Short, Version, Options, Length, TooLong, Checksum}
-use Rattle.ipv4_packet.specs.Packet.{protocol_of, total_length_of, header_sum, first_fault, ifmp_packet_of, IsPacket}
-use Rattle.ipv4_packet.proofs.MessageLemmas.{IsPacket-ifmp_packet_of}
-use Rattle.ipv4_packet.specs.declared.flow.FlowId.{FlowId}
-use Rattle.ipv4_packet.specs.declared.flow.FlowId.TheVariants.{One, Two}
-use Rattle.ipv4_packet.specs.Identifier.{identifier}
-use Rattle.ifmp_wire.specs.declared.message.Message.{Message}
-use Rattle.ifmp_wire.specs.declared.message.Message.TheVariants.{Adjacency, Redirect, Reclaim, ReclaimAck, LabelRange, Error}
-use Rattle.ifmp_wire.specs.Message.{octets_of}
-use Rattle.ifmp_wire.specs.Fields.{decoded}
-use Rattle.link_model.specs.declared.record.Refusal.{Refusal}
-use Rattle.link_model.specs.declared.record.Refusal.TheVariants.{ControlProtocol}
-use Rattle.wire_laws.proofs.Ifmp.{read_back}
-use Rattle.wire_laws.proofs.Packets.{protocol_is, source_is, message_is}
-use Rattle.world_model.specs.Packets.{control_protocol, refused_by}
-use Rattle.shown_cells.specs.Label.{Told}
+use Rattle.world_model.specs.Words.{Mark, PacketFault, Version, Options, TooLong, Checksum, protocol_of, total_length_of, header_sum, ifmp_packet_of, IsPacket, FlowId, identifier, Redirect, Reclaim, ReclaimAck, LabelRange, Error, Refusal, ControlProtocol, control_protocol, refused_by}
+use Rattle.world_model.specs.ipv4_packet.declared.validate.PacketFault.TheVariants.{Short, Length}
+use Rattle.world_model.specs.ipv4_packet.Packet.{first_fault}
+use Rattle.world_model.proofs.ipv4_packet.MessageLemmas.{IsPacket-ifmp_packet_of}
+use Rattle.world_model.specs.ipv4_packet.declared.flow.FlowId.TheVariants.{One, Two}
+use Rattle.world_model.specs.ifmp_wire.declared.message.Message.{Message}
+use Rattle.world_model.specs.ifmp_wire.declared.message.Message.TheVariants.{Adjacency}
+use Rattle.world_model.specs.ifmp_wire.Message.{octets_of}
+use Rattle.world_model.specs.ifmp_wire.Fields.{decoded}
+use Rattle.controller_lifts.proofs.wire_laws.Ifmp.{read_back}
+use Rattle.controller_lifts.proofs.wire_laws.Packets.{protocol_is, source_is, message_is}
+use Rattle.controller_lifts.specs.shown_cells.Label.{Told}
 use Rattle.world_views.specs.Made.{IsFit}
 use Rattle.frame_readings.specs.Reading.{IsToldAs, IsForwarded, IsHeardAs}
 

@@ -2,27 +2,18 @@
 
 use Rattle.std.proofs.Common.{◌≡◌, ◌≢◌, ℕ, Bool, List, [], ◌∷◌, take, drop, Option, None, Some, Result, Ok, Err, refl, sym, ◌∙◌, ap, subst, if◌then◌else◌}
 use Rattle.std.specs.Option.{option_map, option_and_then}
-use Rattle.net_types.specs.declared.number.Mark.{Mark}
-use Rattle.ipv4_packet.specs.Packet.{source_of, ifmp_packet_of}
-use Rattle.ipv4_packet.specs.declared.flow.FlowId.{FlowId}
-use Rattle.flow_encaps.specs.declared.default.EncapsFault.{EncapsFault}
-use Rattle.flow_encaps.specs.Default.{default_payload}
-use Rattle.flow_encaps.specs.Labelled.{Carries}
-use Rattle.flow_encaps.specs.Unwrapped.{default_unwrapped, unwrapped_by, unwrapped}
-use Rattle.flow_encaps.proofs.CarryLemmas.{packet-carried, unwrap_fault-carried}
-use Rattle.ifmp_wire.specs.declared.message.Message.{Message as IfmpMessage}
-use Rattle.ifmp_wire.specs.Message.{octets_of as ifmp_octets}
-use Rattle.ifmp_wire.specs.Fields.{decoded as ifmp_decoded}
-use Rattle.gsmp_wire.specs.declared.fault.Fault.{Fault}
-use Rattle.gsmp_wire.specs.declared.message.Message.{Message as GsmpMessage}
-use Rattle.gsmp_wire.specs.Fields.{decoded as gsmp_decoded}
-use Rattle.gsmp_reading.proofs.Read.{message_is_read}
-use Rattle.port_model.specs.Desk.{Standing}
-use Rattle.link_model.specs.declared.frames.Frame.{Frame}
-use Rattle.link_model.specs.Ledger.{payload_of}
+use Rattle.world_model.specs.Words.{Mark, source_of, ifmp_packet_of, FlowId, EncapsFault, default_payload, Carries, default_unwrapped, unwrapped_by, unwrapped, Standing, Frame, payload_of, ifmp_in, ifmp_of, gsmp_of, ifmp_under, gsmp_under, copy_of, copy_under}
+use Rattle.world_model.proofs.flow_encaps.CarryLemmas.{packet-carried, unwrap_fault-carried}
+use Rattle.world_model.specs.ifmp_wire.declared.message.Message.{Message as IfmpMessage}
+use Rattle.world_model.specs.ifmp_wire.Message.{octets_of as ifmp_octets}
+use Rattle.world_model.specs.ifmp_wire.Fields.{decoded as ifmp_decoded}
+use Rattle.world_model.specs.gsmp_wire.declared.fault.Fault.{Fault}
+use Rattle.world_model.specs.gsmp_wire.declared.message.Message.{Message as GsmpMessage}
+use Rattle.world_model.specs.gsmp_wire.Fields.{decoded as gsmp_decoded}
+use Rattle.world_views.proofs.gsmp_reading.Read.{message_is_read}
 use Rattle.controller_lifts.proofs.Lifts.{readable}
-use Rattle.world_model.specs.Ways.{told, ifmp_in, ifmp_of, gsmp_of, ifmp_under, gsmp_under, copy_of, copy_under}
-use Rattle.shown_cells.specs.Label.{Told, told_in, told_of}
+use Rattle.world_model.specs.Ways.{told}
+use Rattle.controller_lifts.specs.shown_cells.Label.{Told, told_in, told_of}
 use Rattle.world_views.specs.Made.{IsFit, IsMadeAs, plain, labelled, told as told_as, said as said_as, AreMade}
 use Rattle.frame_readings.specs.Reading.{IsToldAs, IsSaidAs, Holds, sent, told as holds_told, HasTold, HasSaid}
 use Rattle.frame_readings.proofs.Apart.{default_is, not_default, gsmp_head, snaps_apart, labelled_apart}

@@ -1,27 +1,17 @@
 -- What a receiver reads in a frame that was made in a network: what its maker wrote, and nothing else
 
 use Rattle.std.specs.Prelude.{◌≡◌, ◌≢◌, ℕ, ◌<◌, ◌^◌, ◌==◌, true, false, List, drop, None, Some, Ok}
-use Rattle.net_types.specs.declared.number.Mark.{Mark}
-use Rattle.ipv4_packet.specs.Packet.{protocol_of, source_of, first_fault, ifmp_packet_of}
-use Rattle.ipv4_packet.specs.declared.flow.FlowId.{FlowId}
-use Rattle.flow_encaps.specs.Default.{default_payload}
-use Rattle.flow_encaps.specs.Labelled.{Carries}
-use Rattle.flow_encaps.specs.Unwrapped.{default_unwrapped, unwrapped}
-use Rattle.ifmp_wire.specs.declared.message.Message.{Message as IfmpMessage}
-use Rattle.ifmp_wire.specs.Message.{InRange, FitsMessage, octets_of as ifmp_octets}
-use Rattle.ifmp_wire.specs.Fields.{decoded as ifmp_decoded}
-use Rattle.gsmp_wire.specs.declared.message.Message.{Message as GsmpMessage}
-use Rattle.gsmp_wire.specs.Layout.{octets_of as gsmp_octets}
-use Rattle.gsmp_wire.specs.Range.{Fits}
-use Rattle.gsmp_wire.specs.Fields.{decoded as gsmp_decoded}
-use Rattle.gsmp_reading.specs.Said.{IsSaid}
-use Rattle.port_model.specs.Desk.{Standing}
-use Rattle.link_model.specs.declared.frames.Frame.{Frame}
-use Rattle.link_model.specs.Ledger.{payload_of}
-use Rattle.world_model.specs.Packets.{control_protocol}
-use Rattle.controller_views.specs.Lifted.{payload_by}
-use Rattle.world_model.specs.Ways.{ifmp_under, gsmp_under, copy_of, copy_under}
-use Rattle.shown_cells.specs.Label.{Told, told_of}
+use Rattle.world_model.specs.Words.{Mark, protocol_of, source_of, ifmp_packet_of, FlowId, default_payload, Carries, default_unwrapped, unwrapped, InRange, FitsMessage, Fits, Standing, Frame, payload_of, control_protocol, ifmp_under, gsmp_under, copy_of, copy_under}
+use Rattle.world_model.specs.ipv4_packet.Packet.{first_fault}
+use Rattle.world_model.specs.ifmp_wire.declared.message.Message.{Message as IfmpMessage}
+use Rattle.world_model.specs.ifmp_wire.Message.{octets_of as ifmp_octets}
+use Rattle.world_model.specs.ifmp_wire.Fields.{decoded as ifmp_decoded}
+use Rattle.world_model.specs.gsmp_wire.declared.message.Message.{Message as GsmpMessage}
+use Rattle.world_model.specs.gsmp_wire.Layout.{octets_of as gsmp_octets}
+use Rattle.world_model.specs.gsmp_wire.Fields.{decoded as gsmp_decoded}
+use Rattle.world_views.specs.gsmp_reading.Said.{IsSaid}
+use Rattle.controller_lifts.specs.controller_views.Lifted.{payload_by}
+use Rattle.controller_lifts.specs.shown_cells.Label.{Told, told_of}
 use Rattle.world_views.specs.Made.{IsFit, IsMadeAs, AreMade}
 
 -- *A message of IFMP*, as it was told, under a control mark

@@ -5,13 +5,10 @@ use Rattle.std.specs.Prelude.{◌==◌}
 use Rattle.std.specs.List.{range_with_len}
 use Rattle.std.proofs.lemmas.List.FromFn.{map-range_with_len_more}
 use Rattle.std.proofs.lemmas.Bool.Decides.{nat_tests}
-use Rattle.net_types.specs.declared.channel.Channel.{Channel}
-use Rattle.net_types.specs.declared.number.Mark.{Mark}
-use Rattle.atm_cells.specs.declared.cell.Cell.{Cell}
+use Rattle.world_model.specs.Words.{Channel, Mark, Cell, frame_cells}
 use Rattle.aal5_frames.specs.Frame.{cell_of, cells_for, pdu_of}
 use Rattle.aal5_frames.proofs.Cells.{cells_all, length-pdu_of}
-use Rattle.frame_model.specs.Frame.{frame_cells}
-use Rattle.quiet_model.specs.Costs.{total}
+use Rattle.port_weights.specs.quiet_model.Costs.{total}
 use Rattle.port_weights.proofs.Sums.{total_more}
 
 module _ (weigh : Cell → ℕ) (each cost : ℕ) (channel : Channel) (mark : Mark) where

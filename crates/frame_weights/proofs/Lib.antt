@@ -1,2 +1,3 @@
+pub use Rattle.port_weights.proofs as port_weights
 pub mod Frames
 pub mod Readings

@@ -2,22 +2,16 @@
 
 use Rattle.std.proofs.Common.{◌≡◌, ℕ, Bool, List, [], ◌∷◌, ◌++◌, Option, None, Some, refl}
 use Rattle.std.specs.Prelude.{nat_lt}
-use Rattle.net_types.specs.declared.node.NodeId.{NodeId}
-use Rattle.net_types.specs.declared.prefix.Addr.{Addr}
-use Rattle.net_types.specs.declared.channel.Channel.{Channel}
-use Rattle.atm_cells.specs.declared.cell.Cell.{Cell}
-use Rattle.link_model.specs.declared.record.Record.TheVariants.{Loss}
-use Rattle.link_model.specs.declared.record.Cause.TheVariants.{PoolFull, Unbound}
-use Rattle.link_model.specs.Notes.{Journal, noted}
-use Rattle.frame_model.specs.Reassembly.{Reassembly, Taken, taken, marks_of}
-use Rattle.frame_model.specs.Frame.{tested, tested_by, last_mark, octets_of, payload_in}
-use Rattle.ordered_lists.proofs.Every.{every_all}
-use Rattle.port_facts.proofs.Keyed.{at_every, put_every}
-use Rattle.world_model.specs.Controller.{Acted, Linked, port_key, free_slots, chains_with}
-use Rattle.world_model.specs.Cells.{Taker, ForGsmp, ForDefault, ForLabel, port_on, taker_of, reassembly_of, with_reassembly, ends_frame, takes_cell, cell_comes}
-use Rattle.controller_bindings.proofs.Lasts.{Grows, taken_grows, tested_grows}
-use Rattle.lifetimes.proofs.Events.{Belongs, taker_belongs}
-use Rattle.shown_cells.proofs.Tested.{broken_frames, passed_frames}
+use Rattle.world_model.specs.Words.{NodeId, Addr, Channel, Cell, Loss, PoolFull, Unbound, Journal, noted, Reassembly, marks_of, tested, tested_by, last_mark, payload_in, Linked, port_key, chains_with, ForGsmp, ForDefault, ForLabel, port_on, taker_of, reassembly_of, with_reassembly, takes_cell}
+use Rattle.world_model.specs.frame_model.Reassembly.{Taken, taken}
+use Rattle.world_model.specs.frame_model.Frame.{octets_of}
+use Rattle.run_facts.proofs.ordered_lists.Every.{every_all}
+use Rattle.run_facts.proofs.port_facts.Keyed.{at_every, put_every}
+use Rattle.world_model.specs.Controller.{Acted, free_slots}
+use Rattle.world_model.specs.Cells.{Taker, ends_frame, cell_comes}
+use Rattle.run_facts.proofs.controller_bindings.Lasts.{Grows, taken_grows, tested_grows}
+use Rattle.run_facts.proofs.lifetimes.Events.{Belongs, taker_belongs}
+use Rattle.run_facts.proofs.shown_cells.Tested.{broken_frames, passed_frames}
 use Rattle.way_words.proofs.Switching.{taken_cases}
 use Rattle.port_words.specs.Words.{Terms, IsSteadyAt, IsSteadily}
 use Rattle.port_words.proofs.Sending.{note_h, grows_h, put_h, found_h}

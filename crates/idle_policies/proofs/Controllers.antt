@@ -2,58 +2,28 @@
 
 use Rattle.std.proofs.Common.{◌≡◌, ℕ, List, Option, None, Some, Result, Ok, Err}
 use Rattle.std.specs.Prelude.{◌==◌, drop}
-use Rattle.net_types.specs.declared.node.NodeId.{NodeId}
-use Rattle.net_types.specs.declared.node.PortNo.{PortNo}
-use Rattle.net_types.specs.declared.prefix.Addr.{Addr}
-use Rattle.net_types.specs.declared.channel.Channel.{Channel}
-use Rattle.net_types.specs.declared.number.Mark.{Mark}
-use Rattle.net_types.specs.Number.{next_control, with_control}
-use Rattle.adjacency_table.specs.Side.{is_estab}
-use Rattle.adjacency_table.specs.Greeting.{gsmp_received}
-use Rattle.ipv4_packet.specs.Packet.{protocol_of, source_of, first_fault}
-use Rattle.ipv4_packet.specs.Flow.{kind_of}
-use Rattle.ipv4_packet.specs.declared.validate.PacketFault.{PacketFault}
-use Rattle.ipv4_forward.specs.Hop.{hop_of, onward}
-use Rattle.ipv4_forward.specs.declared.outcome.Hop.{Hop}
-use Rattle.ipv4_forward.specs.declared.outcome.Hop.TheVariants.{Here, On, NoRoute, Expired}
-use Rattle.flow_encaps.specs.Default.{default_payload}
-use Rattle.flow_encaps.specs.Labelled.{labelled_payload}
-use Rattle.flow_encaps.specs.declared.default.EncapsFault.{EncapsFault}
-use Rattle.flow_encaps.specs.Unwrapped.{default_unwrapped, unwrapped}
-use Rattle.ifmp_wire.specs.declared.message.Message.{Message as IfmpMessage}
-use Rattle.ifmp_wire.specs.declared.reader.Fault.{Fault as IfmpFault}
-use Rattle.ifmp_wire.specs.Fields.{decoded as ifmp_decoded}
-use Rattle.gsmp_wire.specs.declared.fault.Fault.{Fault as GsmpFault}
-use Rattle.gsmp_wire.specs.declared.message.Message.{Message}
-use Rattle.gsmp_wire.specs.declared.message.Message.TheVariants as messages
-use Rattle.gsmp_wire.specs.declared.request.Request.{Request}
-use Rattle.gsmp_wire.specs.declared.request.Request.TheVariants.{AddBranch, MoveBranch, DeleteTree, VerifyTree, DeleteAll, PortManagement, AllPorts}
-use Rattle.gsmp_wire.specs.Fields.{decoded as gsmp_decoded}
-use Rattle.link_model.specs.declared.record.Record.{Record}
-use Rattle.link_model.specs.declared.record.Record.TheVariants.{Loss}
-use Rattle.link_model.specs.declared.record.Cause.TheVariants.{PoolFull}
-use Rattle.link_model.specs.Notes.{noted}
-use Rattle.frame_model.specs.Frame.{frame_cells, made, next_mark}
-use Rattle.ordered_lists.specs.Ordered.{Every}
-use Rattle.ordered_lists.proofs.Every.{every_all}
-use Rattle.port_model.specs.Answers as port_answers
-use Rattle.port_model.specs.Counting.{counts, used}
-use Rattle.port_model.specs.DeskAnswers.{Answered, Unknown, Done, Ports, Failed, answered, after_answer}
-use Rattle.port_model.specs.Grants.{Grant}
-use Rattle.port_model.specs.Hearing.{hears}
-use Rattle.port_model.specs.Labels.{Label}
-use Rattle.port_model.specs.Setup.{control_end}
-use Rattle.port_facts.proofs.Keyed.{on_both, at_every, every_more}
-use Rattle.world_model.specs.Controller.{Acted, Linked, port_key, ports_of, with_desk, note, default_home}
-use Rattle.world_model.specs.Sending.{with_cells, sends, sends_control}
-use Rattle.world_model.specs.Resets.{begins}
-use Rattle.world_model.specs.Packets.{is_control, sends_next, goes_by, grant_by, forwarded, routes, control_protocol}
-use Rattle.world_model.specs.Joins.{releases}
-use Rattle.world_model.specs.Meeting.{port_of_input, causes_in_estab, causes, clears, done, answers_desk, answer_comes}
-use Rattle.world_model.specs.Gsmp.{told, gsmp_holds}
-use Rattle.world_model.specs.Cells.{Taker, ForGsmp, ForDefault, ForLabel, label_holds, ifmp_holds, counted_at, packet_holds, default_holds, frame_holds, opened_frame}
-use Rattle.world_model.specs.Headline.{OffersNothing}
-use Rattle.controller_views.proofs.Sends.{sent_cases}
+use Rattle.world_model.specs.Words.{NodeId, PortNo, Addr, Channel, Mark, next_control, with_control, is_estab, gsmp_received, protocol_of, source_of, kind_of, PacketFault, hop_of, onward, Hop, Here, On, default_payload, labelled_payload, EncapsFault, default_unwrapped, unwrapped, Request, AddBranch, MoveBranch, DeleteTree, VerifyTree, PortManagement, Record, Loss, PoolFull, noted, frame_cells, made, next_mark, counts, used, Answered, Unknown, Done, Ports, Failed, answered, after_answer, Grant, hears, Label, control_end, Linked, port_key, with_desk, default_home, sends_control, begins, is_control, sends_next, goes_by, grant_by, routes, control_protocol, releases, port_of_input, causes_in_estab, causes, clears, answers_desk, answer_comes, gsmp_holds, ForGsmp, ForDefault, ForLabel, label_holds, ifmp_holds, counted_at, packet_holds, default_holds, frame_holds, OffersNothing}
+use Rattle.world_model.specs.ipv4_packet.Packet.{first_fault}
+use Rattle.world_model.specs.ipv4_forward.declared.outcome.Hop.TheVariants.{NoRoute, Expired}
+use Rattle.world_model.specs.ifmp_wire.declared.message.Message.{Message as IfmpMessage}
+use Rattle.world_model.specs.ifmp_wire.declared.reader.Fault.{Fault as IfmpFault}
+use Rattle.world_model.specs.ifmp_wire.Fields.{decoded as ifmp_decoded}
+use Rattle.world_model.specs.gsmp_wire.declared.fault.Fault.{Fault as GsmpFault}
+use Rattle.world_model.specs.gsmp_wire.declared.message.Message.{Message}
+use Rattle.world_model.specs.gsmp_wire.declared.message.Message.TheVariants as messages
+use Rattle.world_model.specs.gsmp_wire.declared.request.Request.TheVariants.{DeleteAll, AllPorts}
+use Rattle.world_model.specs.gsmp_wire.Fields.{decoded as gsmp_decoded}
+use Rattle.run_facts.specs.ordered_lists.Ordered.{Every}
+use Rattle.run_facts.proofs.ordered_lists.Every.{every_all}
+use Rattle.world_model.specs.port_model.Answers as port_answers
+use Rattle.run_facts.proofs.port_facts.Keyed.{on_both, at_every, every_more}
+use Rattle.world_model.specs.Controller.{Acted, ports_of, note}
+use Rattle.world_model.specs.Sending.{with_cells, sends}
+use Rattle.world_model.specs.Packets.{forwarded}
+use Rattle.world_model.specs.Meeting.{done}
+use Rattle.world_model.specs.Gsmp.{told}
+use Rattle.world_model.specs.Cells.{Taker, opened_frame}
+use Rattle.run_facts.proofs.controller_views.Sends.{sent_cases}
 use Rattle.port_words.specs.Words.{Terms, IsSent, waited, IsNoted, IsSteadyAt, IsSteadily, IsMade, was_made}
 use Rattle.port_words.proofs.Rules.{used_v}
 use Rattle.port_words.proofs.Hearing.{hears_v}

@@ -3,26 +3,13 @@
 use Rattle.std.proofs.Common.{◌≡◌, ℕ, Bool, true, false, List, [], Option, None, Some, refl, sym, ◌∙◌, subst, if◌then◌else◌, inr}
 use Rattle.std.specs.Prelude.{◌==◌, ◌&&◌}
 use Rattle.std.specs.Option.{option_map_or}
-use Rattle.net_types.specs.declared.node.NodeId.{NodeId}
-use Rattle.net_types.specs.declared.prefix.Addr.{Addr}
-use Rattle.net_types.specs.declared.channel.End.{End}
-use Rattle.net_types.specs.Label.{label_number_of}
-use Rattle.ipv4_packet.specs.declared.flow.FlowId.{FlowId}
-use Rattle.gsmp_wire.specs.declared.request.Request.TheVariants.{AddBranch}
-use Rattle.ifmp_wire.specs.declared.message.Message.{Message}
-use Rattle.ifmp_wire.specs.declared.message.Message.TheVariants.{Adjacency, Redirect, Reclaim, ReclaimAck, LabelRange, Error}
-use Rattle.ordered_lists.specs.Ordered.{Every}
-use Rattle.port_model.specs.Desk.{Desk}
-use Rattle.port_model.specs.Setup.{Setup}
-use Rattle.port_model.specs.Labels.{Label, LabelState, Wiring, Offered, Recalled, Wired, label_for, lowest_spare}
-use Rattle.port_model.specs.Grants.{grant_on}
-use Rattle.port_model.specs.Counts.{counted_once, packets_in}
-use Rattle.port_model.specs.Port.{Session, Port, Work, with_session, label_at, has_room}
-use Rattle.port_model.specs.Hearing.{label_by}
-use Rattle.port_model.specs.Counting.{packet_flow, wires, counts_flow, counts_by, counts}
-use Rattle.port_model.specs.Answers.{started, bound, done}
-use Rattle.port_facts.proofs.Found.{find_every}
-use Rattle.world_model.specs.Headline.{OffersNothing}
+use Rattle.world_model.specs.Words.{NodeId, Addr, End, label_number_of, FlowId, AddBranch, Redirect, Reclaim, ReclaimAck, LabelRange, Error, Desk, Setup, Label, LabelState, Wiring, Offered, Recalled, Wired, label_for, lowest_spare, grant_on, counted_once, packets_in, Session, Work, with_session, label_at, has_room, label_by, packet_flow, wires, counts_flow, counts_by, counts, started, bound, OffersNothing}
+use Rattle.world_model.specs.ifmp_wire.declared.message.Message.{Message}
+use Rattle.world_model.specs.ifmp_wire.declared.message.Message.TheVariants.{Adjacency}
+use Rattle.run_facts.specs.ordered_lists.Ordered.{Every}
+use Rattle.world_model.specs.port_model.Port.{Port}
+use Rattle.world_model.specs.port_model.Answers.{done}
+use Rattle.run_facts.proofs.port_facts.Found.{find_every}
 use Rattle.port_words.specs.Words.{Terms, StandsAs, Stands}
 use Rattle.port_words.proofs.Voices.{Voiced, session_v, found_v}
 use Rattle.port_words.proofs.Hearing.{Agrees, done_v}

@@ -3,28 +3,17 @@
 use Rattle.std.proofs.Common.{◌≡◌, ℕ, suc, false, List, [], ◌∷◌, ◌++◌, Some, refl, sym, ◌∙◌, ap, subst, append-nil, append_assoc}
 use Rattle.std.specs.Prelude.{◌+◌, ◌||◌}
 use Rattle.std.specs.List.{list_any}
-use Rattle.net_types.specs.declared.node.NodeId.{NodeId}
-use Rattle.net_types.specs.declared.prefix.Addr.{Addr}
-use Rattle.link_model.specs.declared.record.Record.{Record}
-use Rattle.link_model.specs.declared.record.Record.TheVariants.{Bind}
-use Rattle.ordered_lists.specs.Ordered.{Every}
-use Rattle.ordered_lists.proofs.Every.{every_all, every_join, every_mapped, every_unmapped}
-use Rattle.port_model.specs.Setup.{Policy, Setup}
-use Rattle.port_facts.proofs.Keyed.{every_more}
+use Rattle.world_model.specs.Words.{NodeId, Addr, Record, Bind, Policy, Setup, Controller, setup_of, opens_ports, Topology, Node, ranges_of, timers_of, World, Site, site_at, opened_site, with_opened, opens_each, empty_world, IsTopology, next, world_after, past_of, OffersNothing, is_bind}
+use Rattle.run_facts.specs.ordered_lists.Ordered.{Every}
+use Rattle.run_facts.proofs.ordered_lists.Every.{every_all, every_join, every_mapped, every_unmapped}
+use Rattle.run_facts.proofs.port_facts.Keyed.{every_more}
 use Rattle.world_model.specs.declared.range.PortRange.{PortRange}
-use Rattle.world_model.specs.Controller.{Controller}
-use Rattle.world_model.specs.Opening.{setup_of, opens_ports}
 use Rattle.world_model.specs.declared.event.Event.{Event}
-use Rattle.world_model.specs.Topology.{Topology, Node, ranges_of, timers_of}
-use Rattle.world_model.specs.World.{World, Site, site_at, opened_site, with_opened, opens_each, empty_world, opened}
-use Rattle.world_model.specs.Conditions.{IsTopology}
-use Rattle.world_model.specs.Run.{next, world_after}
-use Rattle.world_model.specs.Past.{past_of}
-use Rattle.world_model.specs.Headline.{OffersNothing, is_bind}
-use Rattle.controller_facts.specs.Inputs.{takes_inputs}
-use Rattle.controller_facts.specs.Sound.{Opening, linked_setup, opened_by}
-use Rattle.controller_facts.proofs.Laws.{always_ports}
-use Rattle.lifetimes.proofs.Opened.{opening_of, is_opening}
+use Rattle.world_model.specs.World.{opened}
+use Rattle.run_facts.specs.controller_facts.Inputs.{takes_inputs}
+use Rattle.run_facts.specs.controller_facts.Sound.{Opening, linked_setup, opened_by}
+use Rattle.run_facts.proofs.controller_facts.Laws.{always_ports}
+use Rattle.run_facts.proofs.lifetimes.Opened.{opening_of, is_opening}
 use Rattle.run_facts.proofs.Bound.{FedBy, run_fed_by}
 use Rattle.run_facts.proofs.Steps.{after_one, events_are_steps}
 use Rattle.way_words.proofs.Switching.{BindsNone}

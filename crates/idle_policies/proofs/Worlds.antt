@@ -2,45 +2,25 @@
 
 use Rattle.std.proofs.Common.{◌≡◌, ℕ, List, [], ◌∷◌, length, Option, None, Some, refl, sym, ◌∙◌, subst, inl}
 use Rattle.std.specs.Prelude.{◌+◌, nat_le}
-use Rattle.net_types.specs.declared.node.NodeId.{NodeId}
-use Rattle.net_types.specs.declared.node.PortNo.{PortNo}
-use Rattle.net_types.specs.declared.node.Place.{Place}
-use Rattle.net_types.specs.declared.node.Place.TheVariants.{Down, Up, Out}
-use Rattle.net_types.specs.declared.prefix.Addr.{Addr}
-use Rattle.net_types.specs.declared.channel.Channel.{Channel}
-use Rattle.net_types.specs.declared.number.Mark.{Mark}
-use Rattle.net_types.specs.Number.{next_control, with_control}
-use Rattle.atm_cells.specs.declared.cell.Cell.{Cell}
-use Rattle.link_model.specs.declared.record.Record.{Record}
-use Rattle.link_model.specs.declared.record.Record.TheVariants.{Bind, Loss, Forged}
-use Rattle.link_model.specs.declared.record.Cause.TheVariants.{PoolFull, Lost}
-use Rattle.link_model.specs.declared.record.Refusal.{Refusal}
-use Rattle.link_model.specs.Notes.{noted}
-use Rattle.frame_model.specs.Frame.{frame_cells, made}
-use Rattle.frame_model.specs.Sending.{Sent}
-use Rattle.ordered_lists.specs.Ordered.{Every}
-use Rattle.ordered_lists.proofs.Every.{every_map}
-use Rattle.keyed_lists.specs.Keyed.{at, put}
-use Rattle.port_facts.proofs.Keyed.{on_both, at_key, at_every, at_put_same, put_every, every_more}
+use Rattle.world_model.specs.Words.{NodeId, PortNo, Place, Down, Up, Out, Addr, Channel, Mark, next_control, with_control, Cell, Record, Bind, Loss, Forged, PoolFull, Lost, Refusal, noted, frame_cells, made, at, put, Switch, control_port, Controller, inject_refusal, injected, node_restarts, change_comes, Topology, World, Site, site_key, site_at, controller_acts, switch_acts, place_node, queue_at, with_queue_in, with_queue_of, with_queue, injects_by, arrives_at, carries_head, loses_head, forges_at, forges, put_away, next}
+use Rattle.world_model.specs.frame_model.Sending.{Sent}
+use Rattle.run_facts.specs.ordered_lists.Ordered.{Every}
+use Rattle.run_facts.proofs.ordered_lists.Every.{every_map}
+use Rattle.run_facts.proofs.port_facts.Keyed.{on_both, at_key, at_every, at_put_same, put_every, every_more}
 use Rattle.world_model.specs.Switch as switches
-use Rattle.world_model.specs.Switch.{Switch, control_port, free_slots}
+use Rattle.world_model.specs.Switch.{free_slots}
 use Rattle.world_model.specs.Conduct as switch
 use Rattle.world_model.specs.Conduct.{with_cells}
-use Rattle.world_model.specs.Controller.{Controller, Acted}
+use Rattle.world_model.specs.Controller.{Acted}
 use Rattle.world_model.specs.Sending.{sends}
-use Rattle.world_model.specs.Packets.{inject_refusal, injected}
 use Rattle.world_model.specs.Cells.{cell_comes}
 use Rattle.world_model.specs.Ticks.{ticks}
-use Rattle.world_model.specs.Resets.{node_restarts}
-use Rattle.world_model.specs.Changes.{change_comes}
 use Rattle.world_model.specs.declared.event.Event.{Event}
 use Rattle.world_model.specs.declared.event.Event.TheVariants.{Inject, Carry, Lose, Tick, TickSwitch, Restart, RestartSwitch, Forge, Route}
 use Rattle.world_model.specs.declared.link.LinkEnd.{LinkEnd}
-use Rattle.world_model.specs.Topology.{Topology, peer_of}
-use Rattle.world_model.specs.World.{World, Site, site_key, site_at, controller_acts, at_controller, switch_acts, at_switch}
-use Rattle.world_model.specs.Places.{place_node, queue_at, with_queue_in, with_queue_of, with_queue}
-use Rattle.world_model.specs.Step.{injects_by, arrives_at, carries_head, loses_head, forges_at, forges, acts}
-use Rattle.world_model.specs.Run.{put_away, next}
+use Rattle.world_model.specs.Topology.{peer_of}
+use Rattle.world_model.specs.World.{at_controller, at_switch}
+use Rattle.world_model.specs.Step.{acts}
 use Rattle.way_words.proofs.Switching.{BindsNone, Waits, waits_kept, comes, tick_kept, restarted_kept}
 use Rattle.port_words.specs.Words.{Terms, IsNoted, IsSteadyAt, IsSteadily}
 use Rattle.port_words.proofs.Events.{ticks_h}

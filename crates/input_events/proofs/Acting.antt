@@ -3,69 +3,47 @@
 use Rattle.std.proofs.Common.{◌≡◌, ℕ, ◌+◌, ◌<◌, ◌≤◌, ◌^◌, Bool, true, false, List, [], ◌∷◌, ◌++◌, length, Option, None, Some, refl, sym, ◌∙◌, subst, arith, if◌then◌else◌}
 use Rattle.std.specs.Prelude.{nat_le}
 use Rattle.std.specs.FinMap.{get, keys}
-use Rattle.net_types.specs.declared.channel.End.{End}
-use Rattle.net_types.specs.declared.node.NodeId.{NodeId}
-use Rattle.net_types.specs.declared.node.PortNo.{PortNo}
-use Rattle.net_types.specs.declared.adjacency.Greeting.{Greeting}
-use Rattle.net_types.specs.declared.adjacency.Party.{Party}
-use Rattle.net_types.specs.Number.{next_control, with_control}
-use Rattle.adjacency_table.specs.declared.message.Answer.{Answer}
-use Rattle.adjacency_table.specs.declared.message.Answer.TheVariants.{Quiet, Send, Open, Reset}
-use Rattle.adjacency_table.specs.Greeting.{gsmp_answer}
-use Rattle.adjacency_table.specs.Side as sides
-use Rattle.adjacency_table.specs.Side.{ticked}
-use Rattle.atm_cells.specs.declared.cell.Cell.{Cell}
-use Rattle.crossbar_model.specs.Channels.{IsLinkPort}
-use Rattle.crossbar_model.specs.declared.routed.Routed.{Routed}
-use Rattle.crossbar_model.specs.declared.routed.Routed.TheVariants as routes_of
-use Rattle.crossbar_model.specs.Crossbar.{input_of, routed}
-use Rattle.gsmp_wire.specs.Layout.{octets_of}
-use Rattle.gsmp_wire.specs.declared.message.Message as gsmp
-use Rattle.gsmp_wire.specs.declared.message.Message.TheVariants.{Adjacency}
-use Rattle.link_model.specs.declared.record.Record.TheVariants.{Loss}
-use Rattle.link_model.specs.declared.record.Cause.TheVariants as causes
-use Rattle.link_model.specs.Ledger.{payload_of}
-use Rattle.link_model.specs.Notes.{noted}
-use Rattle.frame_model.specs.Frame.{frame_cells, made}
-use Rattle.frame_model.specs.Sending.{Sent}
-use Rattle.ordered_lists.specs.Ordered.{Every}
-use Rattle.port_model.specs.Setup.{Setup}
-use Rattle.port_facts.specs.Port.{IsLabelEnd}
-use Rattle.port_facts.proofs.Keyed.{on_both}
+use Rattle.world_model.specs.Words.{End, NodeId, PortNo, Greeting, Party, next_control, with_control, Answer, Quiet, Send, Open, gsmp_answer, ticked, Cell, IsLinkPort, Routed, routed, Loss, payload_of, noted, frame_cells, made, Setup, control_port, gsmp_channel, all_ended, Controller, default_channel, same_channel, inject_refusal, injected, Refusal, node_restarts, change_comes, Site, World, site_at, with_site, controller_acts, switch_acts}
+use Rattle.world_model.specs.adjacency_table.declared.message.Answer.TheVariants.{Reset}
+use Rattle.world_model.specs.adjacency_table.Side as sides
+use Rattle.world_model.specs.crossbar_model.declared.routed.Routed.TheVariants as routes_of
+use Rattle.world_model.specs.crossbar_model.Crossbar.{input_of}
+use Rattle.world_model.specs.gsmp_wire.Layout.{octets_of}
+use Rattle.world_model.specs.gsmp_wire.declared.message.Message as gsmp
+use Rattle.world_model.specs.gsmp_wire.declared.message.Message.TheVariants.{Adjacency}
+use Rattle.world_model.specs.link_model.declared.record.Cause.TheVariants as causes
+use Rattle.world_model.specs.frame_model.Sending.{Sent}
+use Rattle.input_premises.specs.ordered_lists.Ordered.{Every}
+use Rattle.input_premises.specs.port_facts.Port.{IsLabelEnd}
+use Rattle.input_premises.proofs.port_facts.Keyed.{on_both}
 use Rattle.world_model.specs.Switch as switches
-use Rattle.world_model.specs.Switch.{control_port, gsmp_channel}
-use Rattle.world_model.specs.Requests.{all_ended}
 use Rattle.world_model.specs.Conduct as conduct
-use Rattle.world_model.specs.Controller.{Controller, Acted, default_channel}
-use Rattle.world_model.specs.Cells.{same_channel, cell_comes}
-use Rattle.world_model.specs.Packets.{inject_refusal, injected}
-use Rattle.link_model.specs.declared.record.Refusal.{Refusal}
-use Rattle.world_model.specs.Resets.{node_restarts}
-use Rattle.world_model.specs.Changes.{change_comes}
+use Rattle.world_model.specs.Controller.{Acted}
+use Rattle.world_model.specs.Cells.{cell_comes}
 use Rattle.world_model.specs.Ticks.{ticks}
-use Rattle.controller_facts.specs.Inputs.{Input, CellComes, PacketEnters, Ticks, Restarts, ChangeComes, enters_unless, takes_input}
-use Rattle.controller_facts.specs.Sound.{IsOwn}
-use Rattle.controller_facts.proofs.Conditions.{label_has_home}
-use Rattle.controller_facts.proofs.Laws.{input_goes}
-use Rattle.controller_facts.proofs.Nodes.{moves_node}
-use Rattle.controller_law.proofs.Whole.{Whole, holds_of}
-use Rattle.controller_law.proofs.Events.{input_holds}
-use Rattle.world_model.specs.World.{Site, World, site_at, with_site, controller_acts, at_controller, switch_acts, at_switch}
-use Rattle.shown_cells.specs.Seen.{IsUnmade, Extends}
-use Rattle.shown_cells.proofs.Made.{extends_self, extends_made}
-use Rattle.controller_views.specs.Ends.{Grows}
-use Rattle.controller_views.specs.Lifted.{Growing}
-use Rattle.input_steps.specs.Part.{part_of, part_at, part_beside, IsNumbered, Reaches, AnyLine, Leads}
-use Rattle.input_steps.specs.Hearing.{HasQueue, LeadsAway}
-use Rattle.input_steps.proofs.Reach.{leads_self, leads_then}
-use Rattle.input_steps.proofs.Acts.{at_port_leads}
-use Rattle.input_steps.proofs.Done.{changes_leads}
-use Rattle.input_steps.proofs.Handled.{all_ended_frames}
-use Rattle.input_steps.proofs.Resets.{still_leads, node_restarts_leads}
-use Rattle.input_steps.proofs.SwitchCells.{switch_restarts_leads}
-use Rattle.input_steps.proofs.Switched.{switched_leads}
-use Rattle.input_steps.proofs.Switching.{switch_ticks_leads}
-use Rattle.input_steps.proofs.Ticks.{ticks_leads}
+use Rattle.input_premises.specs.controller_facts.Inputs.{Input, CellComes, PacketEnters, Ticks, Restarts, ChangeComes, enters_unless, takes_input}
+use Rattle.input_premises.specs.controller_facts.Sound.{IsOwn}
+use Rattle.input_premises.proofs.controller_facts.Conditions.{label_has_home}
+use Rattle.input_premises.proofs.controller_facts.Laws.{input_goes}
+use Rattle.input_premises.proofs.controller_facts.Nodes.{moves_node}
+use Rattle.input_premises.proofs.controller_law.Whole.{Whole, holds_of}
+use Rattle.input_premises.proofs.controller_law.Events.{input_holds}
+use Rattle.world_model.specs.World.{at_controller, at_switch}
+use Rattle.input_premises.specs.shown_cells.Seen.{IsUnmade, Extends}
+use Rattle.input_premises.proofs.shown_cells.Made.{extends_self, extends_made}
+use Rattle.world_views.specs.controller_views.Ends.{Grows}
+use Rattle.world_views.specs.controller_views.Lifted.{Growing}
+use Rattle.input_premises.specs.input_steps.Part.{part_of, part_at, part_beside, IsNumbered, Reaches, AnyLine, Leads}
+use Rattle.input_premises.specs.input_steps.Hearing.{HasQueue, LeadsAway}
+use Rattle.input_premises.proofs.input_steps.Reach.{leads_self, leads_then}
+use Rattle.input_premises.proofs.input_steps.Acts.{at_port_leads}
+use Rattle.input_premises.proofs.input_steps.Done.{changes_leads}
+use Rattle.input_premises.proofs.input_steps.Handled.{all_ended_frames}
+use Rattle.input_premises.proofs.input_steps.Resets.{still_leads, node_restarts_leads}
+use Rattle.input_premises.proofs.input_steps.SwitchCells.{switch_restarts_leads}
+use Rattle.input_premises.proofs.input_steps.Switched.{switched_leads}
+use Rattle.input_premises.proofs.input_steps.Switching.{switch_ticks_leads}
+use Rattle.input_premises.proofs.input_steps.Ticks.{ticks_leads}
 use Rattle.input_premises.specs.Steady.{IsSteady}
 use Rattle.input_premises.proofs.Reading.{are_read}
 use Rattle.input_premises.proofs.Steady.{steady_whole, steady_read}
@@ -74,7 +52,7 @@ use Rattle.input_premises.proofs.Changing.{can_take_each, waiting_holds}
 use Rattle.input_premises.proofs.Ticking.{can_tick}
 use Rattle.world_views.specs.Between.{IsInput}
 use Rattle.world_views.specs.Shown.{acting}
-use Rattle.shown_cells.proofs.Tested.{cut_frames}
+use Rattle.input_premises.proofs.shown_cells.Tested.{cut_frames}
 use Rattle.input_events.specs.Coming.{IsNext, GoesByLinks, HasLines}
 use Rattle.input_events.proofs.Packets.{routes_leads}
 use Rattle.input_events.proofs.Cells.{IsKept, other_cell_leads}

@@ -3,28 +3,17 @@
 use Rattle.std.proofs.Common.{◌≡◌, ℕ, ◌<◌, ◌≤◌, ◌^◌, Bool, true, List, [], ◌∷◌, length, Option, None, Some, refl, ◌∙◌, ap, arith, if◌then◌else◌}
 use Rattle.std.specs.Prelude.{◌==◌, map}
 use Rattle.std.proofs.lemmas.Bool.Decides.{nat_tests}
-use Rattle.net_types.specs.declared.channel.Channel.{Channel}
-use Rattle.net_types.specs.declared.channel.End.{End}
-use Rattle.gsmp_wire.specs.Range.{FitsRows, Fits}
-use Rattle.gsmp_wire.specs.declared.message.BranchKind.{BranchKind}
-use Rattle.gsmp_wire.specs.declared.message.BranchKind.TheVariants.{Add, Delete, Verify, DeleteAll}
-use Rattle.gsmp_wire.specs.declared.message.Message.{Message}
-use Rattle.gsmp_wire.specs.declared.message.Message.TheVariants.{Adjacency, Branch, Move, Port, AllPorts}
-use Rattle.gsmp_wire.specs.declared.request.Request.{Request}
-use Rattle.gsmp_wire.specs.declared.request.Request.TheVariants as requests
-use Rattle.gsmp_reading.specs.Said.{HasResult, succeeds, fails, HasBranches, no_branch, one_branch, NamesEnds, HasRows, all_told, all_failed, IsSaid}
-use Rattle.link_model.specs.Notes.{Journal}
-use Rattle.port_model.specs.Desk.{Standing}
-use Rattle.port_model.specs.DeskAnswers.{head_of}
+use Rattle.world_model.specs.Words.{Channel, End, FitsRows, Fits, BranchKind, Add, Delete, Verify, Move, Request, Journal, Standing, head_of, Switch, asked_in, is_request, end_at, failure_of, failure_code, count_of, handled, handled_by, copy_of, copy_by}
+use Rattle.world_model.specs.gsmp_wire.declared.message.BranchKind.TheVariants.{DeleteAll}
+use Rattle.world_model.specs.gsmp_wire.declared.message.Message.{Message}
+use Rattle.world_model.specs.gsmp_wire.declared.message.Message.TheVariants.{Adjacency, Branch, Port, AllPorts}
+use Rattle.world_model.specs.gsmp_wire.declared.request.Request.TheVariants as requests
+use Rattle.input_premises.specs.gsmp_reading.Said.{HasResult, succeeds, fails, HasBranches, no_branch, one_branch, NamesEnds, HasRows, all_told, all_failed, IsSaid}
 use Rattle.world_model.specs.declared.port.PortState.{PortState}
 use Rattle.world_model.specs.declared.request.Failure.{Failure}
 use Rattle.world_model.specs.declared.request.Failure.TheVariants.{NoPort, BadSession, PortDown, OutOfRange, Busy, NoConnection, SessionsSpent}
-use Rattle.world_model.specs.Switch.{Switch}
-use Rattle.world_model.specs.Requests.{asked_in, is_request, end_at}
-use Rattle.world_model.specs.Failures.{failure_of}
-use Rattle.world_model.specs.Answers.{failure_code, row_of, count_of, handled, handled_by}
-use Rattle.world_model.specs.Ways.{copy_of, copy_by}
-use Rattle.input_steps.specs.Asking.{IsReadable, IsAsked}
+use Rattle.world_model.specs.Answers.{row_of}
+use Rattle.input_premises.specs.input_steps.Asking.{IsReadable, IsAsked}
 use Rattle.input_premises.proofs.Written.{IsWritten, written}
 use Rattle.input_premises.proofs.Reading.{readable}
 use Rattle.input_events.specs.Coming.{TellsPorts}

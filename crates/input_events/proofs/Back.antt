@@ -4,73 +4,51 @@ use Rattle.std.proofs.Common.{◌≡◌, ℕ, ◌+◌, ◌<◌, ◌≤◌, ◌^�
 use Rattle.std.specs.Prelude.{◌==◌, ◌&&◌, nat_lt}
 use Rattle.std.specs.Option.{option_and_then}
 use Rattle.std.proofs.lemmas.Bool.Decides.{nat_tests}
-use Rattle.net_types.specs.declared.adjacency.Greeting.{Greeting}
-use Rattle.net_types.specs.declared.adjacency.HelloKind.{HelloKind}
-use Rattle.net_types.specs.declared.adjacency.Party.{Party}
-use Rattle.net_types.specs.declared.channel.End.{End}
-use Rattle.net_types.specs.declared.node.NodeId.{NodeId}
-use Rattle.adjacency_table.specs.Ends.{side_of, step_by}
-use Rattle.adjacency_table.specs.Greeting.{gsmp_answer, gsmp_received}
-use Rattle.adjacency_table.specs.Instances.{SideByInstances, row_for}
-use Rattle.adjacency_table.specs.Side.{Side, Step, is_estab}
-use Rattle.adjacency_table.proofs.EndsLemmas.{gsmp_received_by_instances}
-use Rattle.atm_cells.specs.declared.cell.Cell.{Cell}
-use Rattle.crossbar_model.specs.Channels.{IsLinkPort}
-use Rattle.crossbar_model.specs.Crossbar.{queue_of, popped}
-use Rattle.gsmp_wire.specs.Fields.{decoded}
-use Rattle.gsmp_wire.specs.declared.fault.Fault.{Fault}
-use Rattle.gsmp_wire.specs.declared.message.BranchKind.TheVariants as kinds
-use Rattle.gsmp_wire.specs.declared.message.Message.{Message}
-use Rattle.gsmp_wire.specs.declared.message.Message.TheVariants as messages
-use Rattle.gsmp_wire.specs.declared.message.Message.TheVariants.{Adjacency}
-use Rattle.gsmp_wire.specs.declared.request.Request.{Request}
-use Rattle.gsmp_wire.specs.declared.request.Request.TheVariants.{AddBranch, MoveBranch, DeleteTree, VerifyTree, DeleteAll, PortManagement, AllPorts}
-use Rattle.gsmp_wire.specs.Range.{FitsRows}
-use Rattle.gsmp_wire.specs.declared.rows.PortRow.{PortRow}
-use Rattle.port_model.specs.Messages.{is_up}
-use Rattle.net_types.specs.declared.node.PortNo.{PortNo}
-use Rattle.port_facts.specs.Port.{IsLabelEnd}
-use Rattle.link_model.specs.Ledger.{payload_of}
-use Rattle.frame_model.specs.Frame.{octets_of as cell_octets, last_mark, payload_in}
-use Rattle.ordered_lists.specs.Ordered.{Every}
-use Rattle.ordered_lists.proofs.Every.{every_right}
-use Rattle.port_model.specs.Desk.{Standing}
-use Rattle.port_model.specs.DeskAnswers.{Head, head_of, is_of_type, Answered, Unknown, Done, Ports, Failed, succeeded, outcome, answered_with, answered, without_request}
-use Rattle.port_model.specs.Setup.{Setup}
-use Rattle.port_facts.proofs.Found.{find_every, find_passes}
-use Rattle.port_facts.proofs.Rules.{and_second}
-use Rattle.branch_line.specs.Words as lines
-use Rattle.branch_line.specs.Words.{ToController, SwitchGreets, Answer, Outcome, Success, Failure}
-use Rattle.branch_line.specs.Line.{Line}
-use Rattle.branch_line.specs.Law.{RepeatsDrawn, HasDrawn, IsReached}
-use Rattle.world_model.specs.Controller.{Acted, ports_of, with_desk, default_channel, free_slots}
-use Rattle.world_model.specs.Cells.{same_channel}
-use Rattle.world_model.specs.Meeting.{done, takes_answer, answer_comes}
-use Rattle.controller_facts.proofs.Laws.{moves_sound}
-use Rattle.controller_facts.proofs.Moves.{gathering, moves_to}
-use Rattle.controller_law.specs.Order.{IsOther, IsDeleting, IsMeeting, listing, emptying}
-use Rattle.controller_law.proofs.Whole.{Whole}
+use Rattle.world_model.specs.Words.{Greeting, HelloKind, Party, End, NodeId, side_of, step_by, gsmp_answer, gsmp_received, SideByInstances, row_for, Side, Step, is_estab, Cell, IsLinkPort, queue_of, popped, Request, AddBranch, MoveBranch, DeleteTree, VerifyTree, PortManagement, FitsRows, PortRow, PortNo, payload_of, last_mark, payload_in, Standing, Head, head_of, is_of_type, Answered, Unknown, Done, Ports, Failed, succeeded, outcome, answered_with, answered, without_request, Setup, with_desk, default_channel, same_channel, takes_answer, answer_comes, asked_in, Switch, control_port, numbers_of, gsmp_of, gsmp_under, copy_by}
+use Rattle.world_model.proofs.adjacency_table.EndsLemmas.{gsmp_received_by_instances}
+use Rattle.world_model.specs.gsmp_wire.Fields.{decoded}
+use Rattle.world_model.specs.gsmp_wire.declared.fault.Fault.{Fault}
+use Rattle.world_model.specs.gsmp_wire.declared.message.BranchKind.TheVariants as kinds
+use Rattle.world_model.specs.gsmp_wire.declared.message.Message.{Message}
+use Rattle.world_model.specs.gsmp_wire.declared.message.Message.TheVariants as messages
+use Rattle.world_model.specs.gsmp_wire.declared.message.Message.TheVariants.{Adjacency}
+use Rattle.world_model.specs.gsmp_wire.declared.request.Request.TheVariants.{DeleteAll, AllPorts}
+use Rattle.world_model.specs.port_model.Messages.{is_up}
+use Rattle.input_premises.specs.port_facts.Port.{IsLabelEnd}
+use Rattle.world_model.specs.frame_model.Frame.{octets_of as cell_octets}
+use Rattle.input_premises.specs.ordered_lists.Ordered.{Every}
+use Rattle.input_premises.proofs.ordered_lists.Every.{every_right}
+use Rattle.input_premises.proofs.port_facts.Found.{find_every, find_passes}
+use Rattle.input_premises.proofs.port_facts.Rules.{and_second}
+use Rattle.input_premises.specs.branch_line.Words as lines
+use Rattle.input_premises.specs.branch_line.Words.{ToController, SwitchGreets, Answer, Outcome, Success, Failure}
+use Rattle.input_premises.specs.branch_line.Line.{Line}
+use Rattle.input_premises.specs.branch_line.Law.{RepeatsDrawn, HasDrawn, IsReached}
+use Rattle.world_model.specs.Controller.{Acted, ports_of, free_slots}
+use Rattle.world_model.specs.Meeting.{done}
+use Rattle.input_premises.proofs.controller_facts.Laws.{moves_sound}
+use Rattle.input_premises.proofs.controller_facts.Moves.{gathering, moves_to}
+use Rattle.input_premises.specs.controller_law.Order.{IsOther, IsDeleting, IsMeeting, listing, emptying}
+use Rattle.input_premises.proofs.controller_law.Whole.{Whole}
 use Rattle.world_model.specs.declared.request.Asked.{Asked}
-use Rattle.world_model.specs.Requests.{asked_in}
-use Rattle.world_model.specs.Switch.{Switch, control_port, numbers_of}
-use Rattle.world_model.specs.Ways.{gsmp_of, gsmp_under, copy_by, told}
-use Rattle.shown_cells.specs.Seen.{Seen, Nothing, Word, Unknown}
-use Rattle.shown_cells.proofs.Shows.{First, no_word, a_word, first_of}
-use Rattle.input_views.specs.Words.{word_of, is_own_greeting, seen_answer, seen_answer_to, seen_outcome, seen_on_gsmp, seen_cell, erased_back}
-use Rattle.input_views.specs.Shown.{controller_of, switch_of, ShowsAnswers, IsAllPorts}
-use Rattle.input_steps.specs.Hearing.{IsEnded, Reads, MayHold, ComesBack, PassesTrue}
-use Rattle.input_steps.specs.Meeting.{in_desk, met_after, AfterAnswer, answered_part}
-use Rattle.input_steps.specs.Part.{Part, part_at, Stands, Reaches, AnyLine}
-use Rattle.input_steps.proofs.Done.{comes_line}
-use Rattle.input_steps.proofs.Held.{is_held, greets_back}
-use Rattle.input_steps.proofs.Reach.{reaches_then}
-use Rattle.input_steps.proofs.Taken.{done_line as answered_line, ports_line}
-use Rattle.input_steps.proofs.Lists.{filter_skips}
-use Rattle.input_steps.proofs.Parties.{greeting_is}
+use Rattle.world_model.specs.Ways.{told}
+use Rattle.input_premises.specs.shown_cells.Seen.{Seen, Nothing, Word, Unknown}
+use Rattle.input_premises.proofs.shown_cells.Shows.{First, no_word, a_word, first_of}
+use Rattle.input_premises.specs.input_views.Words.{word_of, is_own_greeting, seen_answer, seen_answer_to, seen_outcome, seen_on_gsmp, seen_cell, erased_back}
+use Rattle.input_premises.specs.input_views.Shown.{controller_of, switch_of, ShowsAnswers, IsAllPorts}
+use Rattle.input_premises.specs.input_steps.Hearing.{IsEnded, Reads, MayHold, ComesBack, PassesTrue}
+use Rattle.input_premises.specs.input_steps.Meeting.{in_desk, met_after, AfterAnswer, answered_part}
+use Rattle.input_premises.specs.input_steps.Part.{Part, part_at, Stands, Reaches, AnyLine}
+use Rattle.input_premises.proofs.input_steps.Done.{comes_line}
+use Rattle.input_premises.proofs.input_steps.Held.{is_held, greets_back}
+use Rattle.input_premises.proofs.input_steps.Reach.{reaches_then}
+use Rattle.input_premises.proofs.input_steps.Taken.{done_line as answered_line, ports_line}
+use Rattle.input_premises.proofs.input_steps.Lists.{filter_skips}
+use Rattle.input_premises.proofs.input_steps.Parties.{greeting_is}
 use Rattle.input_premises.specs.Read.{AreRead}
 use Rattle.input_premises.proofs.Finishing.{can_finish}
 use Rattle.input_premises.proofs.Reading.{controller_fits, switch_fits, ports_read}
-use Rattle.shown_cells.proofs.Tested.{frame_is, last_is}
+use Rattle.input_premises.proofs.shown_cells.Tested.{frame_is, last_is}
 use Rattle.input_events.specs.Coming.{TellsPorts, IsFromSwitch}
 use Rattle.input_events.proofs.Ending.{estab, unmet_leads}
 use Rattle.input_events.proofs.Heard.{step_reads}

@@ -3,39 +3,26 @@
 use Rattle.std.proofs.Common.{◌≡◌, ℕ, ◌≤◌, Bool, true, false, not, List, [], ◌∷◌, ◌++◌, length, Option, None, Some, Result, Ok, Err, refl, sym, ◌∙◌, subst, arith, if◌then◌else◌}
 use Rattle.std.specs.Prelude.{◌==◌, ◌&&◌, nat_le, nat_lt}
 use Rattle.std.specs.FinMap as finite
-use Rattle.net_types.specs.declared.channel.End.{End}
-use Rattle.net_types.specs.declared.node.NodeId.{NodeId}
-use Rattle.net_types.specs.Number.{GivenOut}
-use Rattle.adjacency_table.specs.Side.{is_estab}
-use Rattle.adjacency_table.specs.Greeting.{gsmp_received}
-use Rattle.atm_cells.specs.declared.cell.Cell.{Cell}
-use Rattle.frame_model.specs.Frame.{octets_of, last_mark, payload_in, passed, tested_by}
-use Rattle.frame_model.specs.Reassembly.{Reassembly, Taken, marks_of, most_cells, passed_over, without_slot, too_long, joined}
-use Rattle.gsmp_wire.specs.Fields.{decoded}
-use Rattle.gsmp_wire.specs.declared.fault.Fault.{Fault}
-use Rattle.gsmp_wire.specs.declared.message.Message.{Message}
-use Rattle.gsmp_wire.specs.declared.message.Message.TheVariants.{Adjacency, Branch, Move, Port, AllPorts}
-use Rattle.gsmp_wire.specs.declared.request.Request.{Request}
-use Rattle.gsmp_wire.specs.declared.request.Request.TheVariants as requests
-use Rattle.link_model.specs.declared.record.Record.TheVariants.{Loss}
-use Rattle.link_model.specs.declared.record.Cause.TheVariants.{PoolFull}
-use Rattle.link_model.specs.declared.frames.Frame.{Frame}
-use Rattle.link_model.specs.Notes.{Journal, noted}
-use Rattle.port_facts.proofs.Keyed.{on_each, on_both}
+use Rattle.world_model.specs.Words.{End, NodeId, GivenOut, is_estab, gsmp_received, Cell, last_mark, payload_in, tested_by, Reassembly, marks_of, most_cells, passed_over, without_slot, too_long, Move, Request, Loss, PoolFull, Frame, Journal, noted, Changed, branches_after, inputs_on, asked_in, is_request, failure_of, Handled, handled, handled_asked, handled_by, Site, World, site_at, with_site}
+use Rattle.world_model.specs.frame_model.Frame.{octets_of, passed}
+use Rattle.world_model.specs.frame_model.Reassembly.{Taken, joined}
+use Rattle.world_model.specs.gsmp_wire.Fields.{decoded}
+use Rattle.world_model.specs.gsmp_wire.declared.fault.Fault.{Fault}
+use Rattle.world_model.specs.gsmp_wire.declared.message.Message.{Message}
+use Rattle.world_model.specs.gsmp_wire.declared.message.Message.TheVariants.{Adjacency, Branch, Port, AllPorts}
+use Rattle.world_model.specs.gsmp_wire.declared.request.Request.TheVariants as requests
+use Rattle.input_premises.proofs.port_facts.Keyed.{on_each, on_both}
 use Rattle.world_model.specs.declared.request.Asked.{Asked}
 use Rattle.world_model.specs.declared.request.Failure.{Failure}
 use Rattle.world_model.specs.Switch as switches
 use Rattle.world_model.specs.Switch.{free_slots}
-use Rattle.world_model.specs.Requests.{Changed, branches_after, cleared, inputs_on, asked_in, is_request}
-use Rattle.world_model.specs.Failures.{failure_of}
-use Rattle.world_model.specs.Answers.{Handled, handled, handled_asked, handled_by}
+use Rattle.world_model.specs.Requests.{cleared}
 use Rattle.world_model.specs.Conduct as conduct
-use Rattle.world_model.specs.World.{Site, World, site_at, with_site}
-use Rattle.shown_cells.specs.Seen.{IsUnmade, Extends}
-use Rattle.input_steps.specs.Part.{part_of, IsNumbered}
-use Rattle.input_steps.proofs.Handled.{all_ended_frames, moved_frames, ended_frames}
+use Rattle.input_premises.specs.shown_cells.Seen.{IsUnmade, Extends}
+use Rattle.input_premises.specs.input_steps.Part.{part_of, IsNumbered}
+use Rattle.input_premises.proofs.input_steps.Handled.{all_ended_frames, moved_frames, ended_frames}
 use Rattle.world_views.specs.Between.{IsInput}
-use Rattle.shown_cells.proofs.Tested.{broken_frames, passed_frames}
+use Rattle.input_premises.proofs.shown_cells.Tested.{broken_frames, passed_frames}
 use Rattle.input_events.specs.Coming.{HasLines}
 use Rattle.input_events.proofs.Sites.{ReachesOn, reached_by, lines_on, put_at}
 use Rattle.input_events.proofs.Acting.{SwitchGrows, same_frames, says_grows, steps_grow}

@@ -3,48 +3,29 @@
 use Rattle.std.proofs.Common.{◌≡◌, ℕ, Bool, true, false, not, List, [], ◌∷◌, ◌++◌, length, drop, Option, None, Some, Result, Ok, Err, refl, sym, subst, arith, if◌then◌else◌}
 use Rattle.std.specs.Prelude.{◌==◌, nat_le, nat_lt}
 use Rattle.std.specs.Option.{option_and_then}
-use Rattle.net_types.specs.declared.node.PortNo.{PortNo}
-use Rattle.net_types.specs.declared.number.Mark.{Mark}
-use Rattle.net_types.specs.Label.{label_number_of}
-use Rattle.ipv4_packet.specs.Packet.{protocol_of, source_of, first_fault}
-use Rattle.ipv4_packet.specs.declared.validate.PacketFault.{PacketFault}
-use Rattle.atm_cells.specs.declared.cell.Cell.{Cell}
-use Rattle.crossbar_model.specs.Channels.{IsLinkPort}
-use Rattle.flow_encaps.specs.declared.default.EncapsFault.{EncapsFault}
-use Rattle.flow_encaps.specs.Unwrapped.{default_unwrapped, unwrapped}
-use Rattle.ifmp_wire.specs.declared.message.Message.{Message}
-use Rattle.ifmp_wire.specs.declared.reader.Fault.{Fault}
-use Rattle.ifmp_wire.specs.Fields.{decoded as ifmp_decoded}
-use Rattle.link_model.specs.declared.record.Cause.TheVariants.{Unbound}
-use Rattle.link_model.specs.declared.record.Layer.TheVariants as layers
-use Rattle.link_model.specs.declared.record.Record.TheVariants.{Bad, Loss}
-use Rattle.link_model.specs.Notes.{Journal}
-use Rattle.refusal_names.specs.Names.{encaps_refusal, packet_refusal, ifmp_refusal}
-use Rattle.frame_model.specs.Frame.{octets_of, last_mark, payload_in, Tested, tested}
-use Rattle.frame_model.specs.Reassembly.{Reassembly, Taken, taken, most_cells, passed_over, without_slot, too_long, joined}
-use Rattle.ordered_lists.specs.Ordered.{Every}
-use Rattle.port_model.specs.Setup.{Setup}
-use Rattle.port_model.specs.Labels.{Label, is_bound}
-use Rattle.port_model.specs.Port.{label_at}
-use Rattle.port_model.specs.Counting.{counts, used}
-use Rattle.port_model.specs.Hearing.{hears}
-use Rattle.port_facts.specs.Port.{Lives}
-use Rattle.port_facts.proofs.Hearings.{hears_goes}
-use Rattle.port_facts.proofs.Keyed.{on_both, on_each}
-use Rattle.port_facts.proofs.Steps.{Goes}
-use Rattle.port_facts.proofs.Rules.{counts_goes, used_goes}
-use Rattle.world_model.specs.Controller.{Acted, Linked, free_slots, linked_at, chains_with, default_channel}
-use Rattle.world_model.specs.Resets.{begins}
-use Rattle.world_model.specs.Packets.{routes, control_protocol}
-use Rattle.world_model.specs.Performing.{Rule, at_port}
-use Rattle.world_model.specs.Cells.{Taker, ForGsmp, ForDefault, ForLabel, port_on, on_link, same_channel, label_taker, taker_at, reassembly_of, with_reassembly, label_holds, ifmp_holds, counted_at, packet_holds, default_holds, frame_holds, opened_frame, ends_frame, takes_cell, cell_comes}
-use Rattle.controller_facts.proofs.Lifetimes.{decoded_lives}
-use Rattle.controller_facts.proofs.Moves.{Found, found_at_own, found_port}
-use Rattle.controller_facts.proofs.Laws.{has_ports}
-use Rattle.controller_law.proofs.Whole.{Whole, numbered_whole, chained_whole}
-use Rattle.controller_law.proofs.Events.{routes_holds}
-use Rattle.shown_cells.proofs.Tested.{last_is, taken_frames, tested_frames}
-use Rattle.input_steps.proofs.Resets.{IsStill, note_still}
+use Rattle.world_model.specs.Words.{PortNo, Mark, label_number_of, protocol_of, source_of, PacketFault, Cell, IsLinkPort, EncapsFault, default_unwrapped, unwrapped, Unbound, Bad, Loss, Journal, encaps_refusal, packet_refusal, ifmp_refusal, last_mark, payload_in, Tested, tested, Reassembly, most_cells, passed_over, without_slot, too_long, Setup, Label, is_bound, label_at, counts, used, hears, Linked, linked_at, chains_with, default_channel, begins, routes, control_protocol, Rule, at_port, ForGsmp, ForDefault, ForLabel, port_on, on_link, same_channel, label_taker, taker_at, reassembly_of, with_reassembly, label_holds, ifmp_holds, counted_at, packet_holds, default_holds, frame_holds, takes_cell}
+use Rattle.world_model.specs.ipv4_packet.Packet.{first_fault}
+use Rattle.world_model.specs.ifmp_wire.declared.message.Message.{Message}
+use Rattle.world_model.specs.ifmp_wire.declared.reader.Fault.{Fault}
+use Rattle.world_model.specs.ifmp_wire.Fields.{decoded as ifmp_decoded}
+use Rattle.world_model.specs.link_model.declared.record.Layer.TheVariants as layers
+use Rattle.world_model.specs.frame_model.Frame.{octets_of}
+use Rattle.world_model.specs.frame_model.Reassembly.{Taken, taken, joined}
+use Rattle.input_premises.specs.ordered_lists.Ordered.{Every}
+use Rattle.input_premises.specs.port_facts.Port.{Lives}
+use Rattle.input_premises.proofs.port_facts.Hearings.{hears_goes}
+use Rattle.input_premises.proofs.port_facts.Keyed.{on_both, on_each}
+use Rattle.input_premises.proofs.port_facts.Steps.{Goes}
+use Rattle.input_premises.proofs.port_facts.Rules.{counts_goes, used_goes}
+use Rattle.world_model.specs.Controller.{Acted, free_slots}
+use Rattle.world_model.specs.Cells.{Taker, opened_frame, ends_frame, cell_comes}
+use Rattle.input_premises.proofs.controller_facts.Lifetimes.{decoded_lives}
+use Rattle.input_premises.proofs.controller_facts.Moves.{Found, found_at_own, found_port}
+use Rattle.input_premises.proofs.controller_facts.Laws.{has_ports}
+use Rattle.input_premises.proofs.controller_law.Whole.{Whole, numbered_whole, chained_whole}
+use Rattle.input_premises.proofs.controller_law.Events.{routes_holds}
+use Rattle.input_premises.proofs.shown_cells.Tested.{last_is, taken_frames, tested_frames}
+use Rattle.input_premises.proofs.input_steps.Resets.{IsStill, note_still}
 use Rattle.input_premises.specs.Read.{AreRead}
 use Rattle.input_premises.proofs.Releasing.{read_on}
 use Rattle.input_events.specs.Coming.{IsNext, GoesByLinks}

@@ -3,60 +3,43 @@
 use Rattle.std.proofs.Common.{◌≡◌, ◌≤◌, Bool, true, false, not, ◌||◌, List, [], ◌∷◌, ◌++◌, fold, flat_map, map, filter, find, Option, None, Some, refl, sym, ◌∙◌, ap, subst, arith, inr, if◌then◌else◌}
 use Rattle.std.specs.Prelude.{◌==◌, filter_map}
 use Rattle.std.specs.List.{list_any}
-use Rattle.net_types.specs.declared.channel.End.{End}
-use Rattle.net_types.specs.declared.node.NodeId.{NodeId}
-use Rattle.net_types.specs.declared.node.PortNo.{PortNo}
-use Rattle.net_types.specs.Number.{with_control, next_control}
-use Rattle.adjacency_table.specs.Side.{Side, is_estab}
-use Rattle.crossbar_model.specs.Channels.{IsLinkPort}
-use Rattle.gsmp_wire.specs.Layout.{octets_of as gsmp_octets}
-use Rattle.gsmp_wire.specs.declared.request.Request.{Request}
-use Rattle.gsmp_wire.specs.declared.request.Request.TheVariants.{AddBranch, MoveBranch, DeleteTree, VerifyTree, DeleteAll, PortManagement, AllPorts}
-use Rattle.ordered_lists.specs.Ordered.{Every}
-use Rattle.ordered_lists.proofs.Every.{every_join, every_map}
-use Rattle.ordered_lists.proofs.Parts.{every_part, part_filtered}
-use Rattle.port_model.specs.Desk.{Desk, Standing, asked, last_transaction, message_at}
-use Rattle.port_model.specs.Messages.{is_up}
-use Rattle.port_model.specs.Requests.{input_of, withdraws, is_delete_all, leads_home}
-use Rattle.port_model.specs.DeskAnswers.{Done, without_request, after_answer}
-use Rattle.keyed_lists.specs.Keyed.{in_order}
-use Rattle.port_model.specs.Setup.{Setup, home_of}
-use Rattle.port_model.specs.Grants.{Grant}
-use Rattle.port_model.specs.Port.{Session, Work, halts}
-use Rattle.port_model.specs.Saying.{is_spent, closes}
-use Rattle.port_facts.specs.Port.{IsLinked, IsShaped, IsDefaultEnd, opens_input, opens_output}
-use Rattle.port_facts.proofs.Keyed.{at_every, on_both, on_each}
-use Rattle.world_model.specs.Controller.{Acted, Linked, port_key, linked_at, ports_of, with_desk, default_channel, default_end, default_home}
-use Rattle.world_model.specs.Asking.{asks, asks_next}
-use Rattle.world_model.specs.Resets.{begins, node_resets}
-use Rattle.world_model.specs.Performing.{works, works_as}
-use Rattle.world_model.specs.Joins.{Join, end_le, join_to, joins_at, released_inputs, releases_input, resets_spent, releases}
-use Rattle.world_model.specs.Meeting.{is_deleting, has_emptied, up_ports, default_branches, ends_meeting, causes_in_estab, causes, clears, done}
-use Rattle.world_model.specs.Changes.{takes_changes}
-use Rattle.controller_facts.specs.Sound.{IsShutLinked}
-use Rattle.controller_facts.proofs.Laws.{has_ports, moves_sound}
-use Rattle.controller_facts.proofs.Performing.{ports_linked}
-use Rattle.controller_facts.proofs.Joining.{every_filter}
-use Rattle.controller_facts.proofs.Moves.{ending_meeting, moves_to}
-use Rattle.controller_law.specs.Match.{MovesJoined, IsOfJoin}
-use Rattle.controller_law.specs.Order.{IsDeleting, IsLentMove, is_default}
-use Rattle.controller_law.proofs.Entering.{both_not}
-use Rattle.controller_law.proofs.Holding.{Holds, answered_holds, node_closed}
-use Rattle.controller_law.proofs.Lists.{each_any}
-use Rattle.controller_law.proofs.Meeting.{left_deleting, freed_by}
-use Rattle.controller_law.proofs.Ordering.{of_input, for_default, empty_order, of_input_deletes}
-use Rattle.controller_law.proofs.Releasing.{IsFree, releases_holds, spent_holds}
-use Rattle.controller_law.proofs.Settling.{answered_fits, releases_fits}
-use Rattle.controller_law.proofs.Saying.{sent_desk}
-use Rattle.controller_law.proofs.Steady.{Steady, asks_steady}
-use Rattle.controller_law.proofs.Whole.{Whole, holds_of, whole_of, asks_whole}
-use Rattle.world_model.specs.Switch.{Switch}
-use Rattle.input_steps.specs.Asking.{CanEach, MayAsk}
-use Rattle.input_steps.specs.Meeting.{is_none_left, met_after, answered_part}
-use Rattle.input_steps.specs.Part.{Part, part_at, Leads}
-use Rattle.input_steps.proofs.Done.{changes_leads, ends_leads, clears_still}
-use Rattle.input_steps.proofs.Reach.{leads_then}
-use Rattle.input_steps.proofs.Resets.{IsStill, still_self, still_then, still_leads}
+use Rattle.world_model.specs.Words.{End, NodeId, PortNo, with_control, next_control, Side, is_estab, IsLinkPort, Request, AddBranch, MoveBranch, DeleteTree, VerifyTree, PortManagement, Desk, Standing, last_transaction, withdraws, is_delete_all, leads_home, Done, without_request, after_answer, in_order, Setup, home_of, Grant, Session, Work, halts, is_spent, closes, Linked, port_key, linked_at, with_desk, default_channel, default_end, default_home, asks, asks_next, begins, node_resets, works, works_as, end_le, join_to, joins_at, released_inputs, releases_input, resets_spent, releases, is_deleting, has_emptied, up_ports, default_branches, ends_meeting, causes_in_estab, causes, clears, takes_changes, Switch}
+use Rattle.world_model.specs.gsmp_wire.Layout.{octets_of as gsmp_octets}
+use Rattle.world_model.specs.gsmp_wire.declared.request.Request.TheVariants.{DeleteAll, AllPorts}
+use Rattle.input_premises.specs.ordered_lists.Ordered.{Every}
+use Rattle.input_premises.proofs.ordered_lists.Every.{every_join, every_map}
+use Rattle.input_premises.proofs.ordered_lists.Parts.{every_part, part_filtered}
+use Rattle.world_model.specs.port_model.Desk.{asked, message_at}
+use Rattle.world_model.specs.port_model.Messages.{is_up}
+use Rattle.world_model.specs.port_model.Requests.{input_of}
+use Rattle.input_premises.specs.port_facts.Port.{IsLinked, IsShaped, IsDefaultEnd, opens_input, opens_output}
+use Rattle.input_premises.proofs.port_facts.Keyed.{at_every, on_both, on_each}
+use Rattle.world_model.specs.Controller.{Acted, ports_of}
+use Rattle.world_model.specs.Joins.{Join}
+use Rattle.world_model.specs.Meeting.{done}
+use Rattle.input_premises.specs.controller_facts.Sound.{IsShutLinked}
+use Rattle.input_premises.proofs.controller_facts.Laws.{has_ports, moves_sound}
+use Rattle.input_premises.proofs.controller_facts.Performing.{ports_linked}
+use Rattle.input_premises.proofs.controller_facts.Joining.{every_filter}
+use Rattle.input_premises.proofs.controller_facts.Moves.{ending_meeting, moves_to}
+use Rattle.input_premises.specs.controller_law.Match.{MovesJoined, IsOfJoin}
+use Rattle.input_premises.specs.controller_law.Order.{IsDeleting, IsLentMove, is_default}
+use Rattle.input_premises.proofs.controller_law.Entering.{both_not}
+use Rattle.input_premises.proofs.controller_law.Holding.{Holds, answered_holds, node_closed}
+use Rattle.input_premises.proofs.controller_law.Lists.{each_any}
+use Rattle.input_premises.proofs.controller_law.Meeting.{left_deleting, freed_by}
+use Rattle.input_premises.proofs.controller_law.Ordering.{of_input, for_default, empty_order, of_input_deletes}
+use Rattle.input_premises.proofs.controller_law.Releasing.{IsFree, releases_holds, spent_holds}
+use Rattle.input_premises.proofs.controller_law.Settling.{answered_fits, releases_fits}
+use Rattle.input_premises.proofs.controller_law.Saying.{sent_desk}
+use Rattle.input_premises.proofs.controller_law.Steady.{Steady, asks_steady}
+use Rattle.input_premises.proofs.controller_law.Whole.{Whole, holds_of, whole_of, asks_whole}
+use Rattle.input_premises.specs.input_steps.Asking.{CanEach, MayAsk}
+use Rattle.input_premises.specs.input_steps.Meeting.{is_none_left, met_after, answered_part}
+use Rattle.input_premises.specs.input_steps.Part.{Part, part_at, Leads}
+use Rattle.input_premises.proofs.input_steps.Done.{changes_leads, ends_leads, clears_still}
+use Rattle.input_premises.proofs.input_steps.Reach.{leads_then}
+use Rattle.input_premises.proofs.input_steps.Resets.{IsStill, still_self, still_then, still_leads}
 use Rattle.input_premises.specs.Read.{AreRead}
 use Rattle.input_premises.proofs.Asking.{asks_can}
 use Rattle.input_premises.proofs.Changing.{can_take_each}

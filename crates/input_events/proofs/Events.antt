@@ -5,64 +5,49 @@ use Rattle.std.specs.Prelude.{nat_lt}
 use Rattle.std.specs.FinMap.{get}
 use Rattle.std.specs.Option.{option_map_or}
 use Rattle.std.proofs.lemmas.Bool.Decides.{nat_tests}
-use Rattle.net_types.specs.declared.channel.Channel.{Channel}
-use Rattle.net_types.specs.declared.channel.End.{End}
-use Rattle.net_types.specs.declared.node.NodeId.{NodeId}
-use Rattle.net_types.specs.declared.node.PortNo.{PortNo}
-use Rattle.net_types.specs.declared.node.Place.{Place}
-use Rattle.net_types.specs.declared.node.Place.TheVariants.{Down, Up, Out}
-use Rattle.atm_cells.specs.declared.cell.Cell.{Cell}
-use Rattle.crossbar_model.specs.Crossbar.{input_of, queue_of}
-use Rattle.link_model.specs.declared.record.Refusal.{Refusal}
-use Rattle.ordered_lists.proofs.Parts.{IsPart, left, part_whole}
-use Rattle.port_facts.proofs.Keyed.{by_eq}
+use Rattle.world_model.specs.Words.{Channel, End, NodeId, PortNo, Place, Down, Up, Out, Cell, queue_of, Refusal, Switch, control_port, default_channel, same_channel, inject_refusal, injected, node_restarts, change_comes, Topology, Site, World, site_at, with_site, controller_acts, switch_acts, place_node, queue_in, queue_at, with_queue_in, with_queue_of, with_queue, injects_by, arrives_at, carries_head, loses_head, step, gsmp_under, IsLinkPort, Setup}
+use Rattle.world_model.specs.crossbar_model.Crossbar.{input_of}
+use Rattle.input_premises.proofs.ordered_lists.Parts.{IsPart, left, part_whole}
+use Rattle.input_premises.proofs.port_facts.Keyed.{by_eq}
 use Rattle.world_model.specs.Switch as switches
-use Rattle.world_model.specs.Switch.{Switch, control_port}
 use Rattle.world_model.specs.Conduct as conduct
-use Rattle.world_model.specs.Controller.{default_channel, free_slots}
-use Rattle.world_model.specs.Cells.{same_channel, cell_comes}
-use Rattle.world_model.specs.Packets.{inject_refusal, injected}
-use Rattle.world_model.specs.Resets.{node_restarts}
-use Rattle.world_model.specs.Changes.{change_comes}
+use Rattle.world_model.specs.Controller.{free_slots}
+use Rattle.world_model.specs.Cells.{cell_comes}
 use Rattle.world_model.specs.Ticks.{ticks}
 use Rattle.world_model.specs.declared.event.Event.{Event}
 use Rattle.world_model.specs.declared.event.Event.TheVariants.{Inject, Carry, Lose, Tick, TickSwitch, Restart, RestartSwitch, Forge, Route}
 use Rattle.world_model.specs.declared.link.LinkEnd.{LinkEnd}
-use Rattle.world_model.specs.Topology.{Topology, peer_of}
-use Rattle.world_model.specs.World.{Site, World, site_at, with_site, controller_acts, at_controller, switch_acts, at_switch}
-use Rattle.world_model.specs.Places.{place_node, queue_in, queue_at, with_queue_in, with_queue_of, with_queue}
-use Rattle.world_model.specs.Step.{injects_by, arrives_at, carries_head, loses_head, acts, step}
-use Rattle.shown_cells.specs.Seen.{IsUnmade}
-use Rattle.shown_cells.proofs.Made.{extends_self}
-use Rattle.gsmp_wire.specs.declared.message.Message.{Message}
-use Rattle.world_model.specs.Ways.{gsmp_under}
-use Rattle.input_steps.specs.Part.{Part, part_of, part_at, part_beside, IsNumbered, Reaches, AnyLine}
-use Rattle.input_steps.specs.Hearing.{IsEnded, LeadsAway, PassesTrue}
-use Rattle.input_steps.proofs.SwitchCells.{gsmp_cell_comes}
-use Rattle.input_steps.proofs.ControllerCells.{cell_comes_back}
-use Rattle.input_steps.proofs.Queues.{queue_loses, back_loses}
-use Rattle.input_steps.proofs.Reach.{reaches_self}
-use Rattle.input_steps.proofs.Switching.{set_first}
+use Rattle.world_model.specs.Topology.{peer_of}
+use Rattle.world_model.specs.World.{at_controller, at_switch}
+use Rattle.world_model.specs.Step.{acts}
+use Rattle.input_premises.specs.shown_cells.Seen.{IsUnmade}
+use Rattle.input_premises.proofs.shown_cells.Made.{extends_self}
+use Rattle.world_model.specs.gsmp_wire.declared.message.Message.{Message}
+use Rattle.input_premises.specs.input_steps.Part.{Part, part_of, part_at, part_beside, IsNumbered, Reaches, AnyLine}
+use Rattle.input_premises.specs.input_steps.Hearing.{IsEnded, LeadsAway, PassesTrue}
+use Rattle.input_premises.proofs.input_steps.SwitchCells.{gsmp_cell_comes}
+use Rattle.input_premises.proofs.input_steps.ControllerCells.{cell_comes_back}
+use Rattle.input_premises.proofs.input_steps.Queues.{queue_loses, back_loses}
+use Rattle.input_premises.proofs.input_steps.Reach.{reaches_self}
+use Rattle.input_premises.proofs.input_steps.Switching.{set_first}
 use Rattle.world_views.specs.Between.{setups_of, IsInput}
 use Rattle.input_events.specs.Coming.{IsSteadySite, IsToSwitch, IsFromSwitch, IsRunning, HasLines, IsFar, CanCarry, CanLose, IsOrdinary}
 use Rattle.input_events.proofs.Heard.{comes}
 use Rattle.input_events.proofs.Back.{comes_back}
 use Rattle.input_events.proofs.Returning.{gsmp_cell_grows as gsmp_back_grows}
 use Rattle.input_events.proofs.Carrying.{gsmp_cell_grows, mid_there, then_lines}
-use Rattle.ordered_lists.specs.Ordered.{Every}
-use Rattle.crossbar_model.specs.Channels.{IsLinkPort}
-use Rattle.port_model.specs.Setup.{Setup}
-use Rattle.port_facts.specs.Port.{IsLabelEnd}
+use Rattle.input_premises.specs.ordered_lists.Ordered.{Every}
+use Rattle.input_premises.specs.port_facts.Port.{IsLabelEnd}
 use Rattle.world_model.specs.Controller.{Acted}
-use Rattle.controller_facts.specs.Inputs.{CellComes}
-use Rattle.controller_facts.proofs.Laws.{input_goes}
-use Rattle.controller_law.proofs.Whole.{Whole}
-use Rattle.controller_law.proofs.Events.{input_holds}
-use Rattle.controller_views.specs.Ends.{Grows}
+use Rattle.input_premises.specs.controller_facts.Inputs.{CellComes}
+use Rattle.input_premises.proofs.controller_facts.Laws.{input_goes}
+use Rattle.input_premises.proofs.controller_law.Whole.{Whole}
+use Rattle.input_premises.proofs.controller_law.Events.{input_holds}
+use Rattle.world_views.specs.controller_views.Ends.{Grows}
 use Rattle.world_views.specs.Shown.{acting}
 use Rattle.input_premises.proofs.Steady.{steady_whole, steady_read}
 use Rattle.input_events.proofs.Sites.{ReachesOn, reached_by, lines_on, put_at}
-use Rattle.controller_facts.proofs.Nodes.{moves_node}
+use Rattle.input_premises.proofs.controller_facts.Nodes.{moves_node}
 use Rattle.input_events.proofs.Acting.{same_inputs, above_of, beside, SwitchGrows, numbered_of, ticks_lines, restart_lines, change_lines, packet_lines, cell_lines, switch_tick_lines, switch_restart_lines, switched_lines}
 
 -- *Queues*

@@ -2,68 +2,36 @@
 
 use Rattle.std.proofs.Common.{◌≡◌, ◌≢◌, ℕ, ◌≤◌, true, List, [], ◌∷◌, ◌++◌, length, Option, None, Some, refl, sym, subst, arith, fold, flat_map}
 use Rattle.std.specs.Prelude.{nat_le}
-use Rattle.net_types.specs.declared.channel.Channel.{Channel}
-use Rattle.net_types.specs.declared.channel.End.{End}
-use Rattle.net_types.specs.declared.node.PortNo.{PortNo}
-use Rattle.net_types.specs.declared.number.Mark.{Mark}
-use Rattle.net_types.specs.declared.adjacency.Greeting.{Greeting}
-use Rattle.net_types.specs.declared.adjacency.Party.{Party}
-use Rattle.net_types.specs.Label.{number_of_channel}
-use Rattle.net_types.specs.Number.{GivenOut}
-use Rattle.adjacency_table.specs.declared.message.Answer.{Answer}
-use Rattle.adjacency_table.specs.declared.message.Answer.TheVariants.{Quiet, Send, Open, Reset}
-use Rattle.adjacency_table.specs.declared.message.Said.{Said}
-use Rattle.adjacency_table.specs.Greeting.{gsmp_answer}
-use Rattle.adjacency_table.specs.Side as sides
-use Rattle.adjacency_table.specs.Side.{is_estab, ticked}
-use Rattle.ipv4_forward.specs.Hop.{hop_of, onward}
-use Rattle.ipv4_forward.specs.declared.change.RouteChange.{RouteChange}
-use Rattle.ipv4_forward.specs.declared.outcome.Hop.{Hop}
-use Rattle.ipv4_forward.specs.declared.outcome.Hop.TheVariants.{Here, On, NoRoute, Expired}
-use Rattle.ipv4_packet.specs.Flow.{kind_of}
-use Rattle.flow_encaps.specs.Default.{default_payload}
-use Rattle.flow_encaps.specs.Labelled.{labelled_payload}
-use Rattle.gsmp_wire.specs.Layout.{octets_of as gsmp_octets}
-use Rattle.gsmp_wire.specs.declared.message.Message.TheVariants as messages
-use Rattle.gsmp_wire.specs.declared.request.Request.TheVariants.{MoveBranch, AllPorts}
-use Rattle.link_model.specs.declared.frames.Frame.{Frame}
-use Rattle.link_model.specs.declared.record.Record.TheVariants.{Loss}
-use Rattle.link_model.specs.declared.record.Cause.TheVariants.{PoolFull}
-use Rattle.link_model.specs.Ledger.{payload_of}
-use Rattle.link_model.specs.Notes.{noted}
-use Rattle.frame_model.specs.Frame.{frame_cells, made, next_mark}
-use Rattle.frame_model.specs.Sending.{Sent}
-use Rattle.port_model.specs.Desk.{empty_desk, message_at, sent_again}
-use Rattle.port_model.specs.Setup.{Setup, home_of, control_end}
-use Rattle.port_model.specs.Labels.{Label}
-use Rattle.port_model.specs.Grants.{Grant}
-use Rattle.port_model.specs.Port.{Work}
-use Rattle.port_model.specs.Joins as port_joins
-use Rattle.port_model.specs.Ticks as port_ticks
-use Rattle.port_facts.proofs.Hearings.{ticks_goes}
-use Rattle.port_facts.proofs.Instances.{joined_gave, lent_gave}
-use Rattle.port_facts.proofs.Keyed.{on_both, on_each}
-use Rattle.port_facts.proofs.Steps.{Goes}
-use Rattle.world_model.specs.Controller.{Controller, Acted, Linked, free_slots, linked_at, ports_of, with_desk, default_channel, default_home}
-use Rattle.world_model.specs.Sending.{with_cells, sends, sends_control, says_gsmp}
-use Rattle.world_model.specs.Asking.{sends_request}
-use Rattle.world_model.specs.Resets.{begins, cuts_default_of, cuts_default, cuts_gsmp, node_resets, node_restarts}
-use Rattle.world_model.specs.Performing.{Rule, at_port}
-use Rattle.world_model.specs.Packets.{is_control, sends_next, goes_by, grant_by, forwarded, routes}
-use Rattle.world_model.specs.Joins.{Join, output_of, join_for, may_join, enters_grant, enters_label, joins, tries_label, label_on, tries_join, inputs_at, tries_joins}
-use Rattle.world_model.specs.Meeting.{meets}
+use Rattle.world_model.specs.Words.{Channel, End, PortNo, Mark, Greeting, Party, number_of_channel, GivenOut, Answer, Quiet, Send, Open, Said, gsmp_answer, is_estab, ticked, hop_of, onward, RouteChange, Hop, Here, On, kind_of, default_payload, labelled_payload, MoveBranch, Frame, Loss, PoolFull, payload_of, noted, frame_cells, made, next_mark, empty_desk, sent_again, Setup, home_of, control_end, Label, Grant, Work, Controller, Linked, linked_at, with_desk, default_channel, default_home, sends_control, says_gsmp, sends_request, begins, cuts_default_of, cuts_default, cuts_gsmp, node_resets, node_restarts, Rule, at_port, is_control, sends_next, goes_by, grant_by, routes, join_for, may_join, enters_grant, enters_label, joins, tries_label, label_on, tries_join, inputs_at, tries_joins, meets, changed_joins, takes_join_back, begins_change, takes_change, may_take, takes_each, takes_changes, change_comes, sends_again, ticks_port, ticks_ports, ticks_by}
+use Rattle.world_model.specs.adjacency_table.declared.message.Answer.TheVariants.{Reset}
+use Rattle.world_model.specs.adjacency_table.Side as sides
+use Rattle.world_model.specs.ipv4_forward.declared.outcome.Hop.TheVariants.{NoRoute, Expired}
+use Rattle.world_model.specs.gsmp_wire.Layout.{octets_of as gsmp_octets}
+use Rattle.world_model.specs.gsmp_wire.declared.message.Message.TheVariants as messages
+use Rattle.world_model.specs.gsmp_wire.declared.request.Request.TheVariants.{AllPorts}
+use Rattle.world_model.specs.frame_model.Sending.{Sent}
+use Rattle.world_model.specs.port_model.Desk.{message_at}
+use Rattle.world_model.specs.port_model.Joins as port_joins
+use Rattle.world_model.specs.port_model.Ticks as port_ticks
+use Rattle.input_premises.proofs.port_facts.Hearings.{ticks_goes}
+use Rattle.input_premises.proofs.port_facts.Instances.{joined_gave, lent_gave}
+use Rattle.input_premises.proofs.port_facts.Keyed.{on_both, on_each}
+use Rattle.input_premises.proofs.port_facts.Steps.{Goes}
+use Rattle.world_model.specs.Controller.{Acted, free_slots, ports_of}
+use Rattle.world_model.specs.Sending.{with_cells, sends}
+use Rattle.world_model.specs.Packets.{forwarded}
+use Rattle.world_model.specs.Joins.{Join, output_of}
 use Rattle.world_model.specs.Gsmp.{answers, steps}
-use Rattle.world_model.specs.Changes.{changed_joins, takes_join_back, begins_change, takes_change, may_take, takes_each, takes_changes, change_comes}
-use Rattle.world_model.specs.Ticks.{sends_again, ticks_port, ticks_ports, ticks_by, ticks}
-use Rattle.controller_facts.proofs.Moves.{by_rule}
-use Rattle.controller_facts.proofs.Numbers.{worked_draws}
-use Rattle.shown_cells.specs.Seen.{IsUnmade, Extends}
-use Rattle.shown_cells.proofs.Made.{extends_self, extends_made, unmade_packet}
-use Rattle.controller_views.specs.Ends.{Grows}
-use Rattle.controller_views.specs.Lifted.{Growing}
-use Rattle.controller_views.proofs.Growing.{grow_self, grow_on, grow_fold, sends_grow, node_resets_grow, asks_grow, at_port_grow, takes_back_grow}
-use Rattle.input_steps.proofs.Resets.{IsStill, note_still}
-use Rattle.shown_cells.proofs.Tested.{cut_frames}
+use Rattle.world_model.specs.Ticks.{ticks}
+use Rattle.input_premises.proofs.controller_facts.Moves.{by_rule}
+use Rattle.input_premises.proofs.controller_facts.Numbers.{worked_draws}
+use Rattle.input_premises.specs.shown_cells.Seen.{IsUnmade, Extends}
+use Rattle.input_premises.proofs.shown_cells.Made.{extends_self, extends_made, unmade_packet}
+use Rattle.world_views.specs.controller_views.Ends.{Grows}
+use Rattle.world_views.specs.controller_views.Lifted.{Growing}
+use Rattle.world_views.proofs.controller_views.Growing.{grow_self, grow_on, grow_fold, sends_grow, node_resets_grow, asks_grow, at_port_grow, takes_back_grow}
+use Rattle.input_premises.proofs.input_steps.Resets.{IsStill, note_still}
+use Rattle.input_premises.proofs.shown_cells.Tested.{cut_frames}
 use Rattle.input_events.specs.Coming.{IsNext}
 use Rattle.input_events.proofs.Cells.{IsKept}
 

@@ -3,47 +3,32 @@
 use Rattle.std.proofs.Common.{◌≡◌, ℕ, ◌+◌, ◌<◌, ◌^◌, Bool, true, false, List, [], ◌∷◌, ◌++◌, Option, None, Some, Result, Ok, Err, refl, sym, ◌∙◌, ap, subst, if◌then◌else◌}
 use Rattle.std.specs.Prelude.{nat_lt}
 use Rattle.std.specs.Option.{option_and_then}
-use Rattle.net_types.specs.declared.adjacency.Greeting.{Greeting}
-use Rattle.net_types.specs.declared.adjacency.HelloKind.{HelloKind}
-use Rattle.net_types.specs.declared.adjacency.Party.{Party}
-use Rattle.net_types.specs.declared.channel.End.{End}
-use Rattle.net_types.specs.declared.node.NodeId.{NodeId}
-use Rattle.adjacency_table.specs.Ends.{side_of, step_by}
-use Rattle.adjacency_table.specs.Greeting.{gsmp_answer, gsmp_received}
-use Rattle.adjacency_table.specs.Instances.{SideByInstances, row_for, enters, after_row}
-use Rattle.adjacency_table.specs.Side.{Side, Step}
-use Rattle.adjacency_table.specs.Table.{Row, Reply, Silent, Says, Resets}
-use Rattle.adjacency_table.proofs.EndsLemmas.{gsmp_received_by_instances}
-use Rattle.atm_cells.specs.declared.cell.Cell.{Cell}
-use Rattle.gsmp_wire.specs.Fields.{decoded}
-use Rattle.gsmp_wire.specs.Range.{FitsParty}
-use Rattle.gsmp_wire.specs.declared.fault.Fault.{Fault}
-use Rattle.gsmp_wire.specs.declared.message.Message.{Message}
-use Rattle.gsmp_wire.specs.declared.message.Message.TheVariants.{Adjacency}
-use Rattle.link_model.specs.Ledger.{payload_of}
-use Rattle.frame_model.specs.Frame.{octets_of as cell_octets, last_mark, payload_in}
-use Rattle.ordered_lists.specs.Ordered.{Every}
-use Rattle.ordered_lists.proofs.Every.{every_right}
-use Rattle.port_model.specs.Setup.{Setup}
-use Rattle.branch_line.specs.Words.{ToSwitch, ControllerGreets}
-use Rattle.branch_line.specs.Line.{Line}
-use Rattle.branch_line.specs.Law.{IsDrawn, NamesDrawn, HasDrawn, IsReached}
-use Rattle.branch_line.proofs.Drawn.{row_drawn}
-use Rattle.world_model.specs.Controller.{Controller, default_channel}
-use Rattle.world_model.specs.Cells.{same_channel}
+use Rattle.world_model.specs.Words.{Greeting, HelloKind, Party, End, NodeId, side_of, step_by, gsmp_answer, gsmp_received, SideByInstances, row_for, enters, after_row, Side, Step, Row, Reply, Silent, Says, Resets, Cell, FitsParty, payload_of, last_mark, payload_in, Setup, Controller, default_channel, same_channel, gsmp_of, gsmp_under}
+use Rattle.world_model.proofs.adjacency_table.EndsLemmas.{gsmp_received_by_instances}
+use Rattle.world_model.specs.gsmp_wire.Fields.{decoded}
+use Rattle.world_model.specs.gsmp_wire.declared.fault.Fault.{Fault}
+use Rattle.world_model.specs.gsmp_wire.declared.message.Message.{Message}
+use Rattle.world_model.specs.gsmp_wire.declared.message.Message.TheVariants.{Adjacency}
+use Rattle.world_model.specs.frame_model.Frame.{octets_of as cell_octets}
+use Rattle.input_premises.specs.ordered_lists.Ordered.{Every}
+use Rattle.input_premises.proofs.ordered_lists.Every.{every_right}
+use Rattle.input_premises.specs.branch_line.Words.{ToSwitch, ControllerGreets}
+use Rattle.input_premises.specs.branch_line.Line.{Line}
+use Rattle.input_premises.specs.branch_line.Law.{IsDrawn, NamesDrawn, HasDrawn, IsReached}
+use Rattle.input_premises.proofs.branch_line.Drawn.{row_drawn}
 use Rattle.world_model.specs.Switch as switches
-use Rattle.world_model.specs.Ways.{gsmp_of, gsmp_under, told}
-use Rattle.shown_cells.specs.Seen.{Seen, Nothing, Word, Unknown}
-use Rattle.shown_cells.proofs.Shows.{First, no_word, a_word, first_of}
-use Rattle.input_views.specs.Words.{is_own_greeting, seen_request, seen_on_gsmp, seen_cell, erased}
-use Rattle.input_views.specs.Shown.{controller_of, switch_of, ShowsRequests}
-use Rattle.input_steps.specs.Hearing.{HasQueue, IsEnded, Reads, Comes, PassesTrue}
-use Rattle.input_steps.specs.Part.{Part, part_beside, Stands}
-use Rattle.input_steps.proofs.Handled.{greets_is}
-use Rattle.input_steps.proofs.Parties.{answer_at, greeting_is}
+use Rattle.world_model.specs.Ways.{told}
+use Rattle.input_premises.specs.shown_cells.Seen.{Seen, Nothing, Word, Unknown}
+use Rattle.input_premises.proofs.shown_cells.Shows.{First, no_word, a_word, first_of}
+use Rattle.input_premises.specs.input_views.Words.{is_own_greeting, seen_request, seen_on_gsmp, seen_cell, erased}
+use Rattle.input_premises.specs.input_views.Shown.{controller_of, switch_of, ShowsRequests}
+use Rattle.input_premises.specs.input_steps.Hearing.{HasQueue, IsEnded, Reads, Comes, PassesTrue}
+use Rattle.input_premises.specs.input_steps.Part.{Part, part_beside, Stands}
+use Rattle.input_premises.proofs.input_steps.Handled.{greets_is}
+use Rattle.input_premises.proofs.input_steps.Parties.{answer_at, greeting_is}
 use Rattle.input_premises.proofs.Asking.{shaped_asked}
 use Rattle.input_premises.proofs.Reading.{controller_fits, switch_fits, greeting_read}
-use Rattle.shown_cells.proofs.Tested.{frame_is, last_is}
+use Rattle.input_premises.proofs.shown_cells.Tested.{frame_is, last_is}
 use Rattle.input_events.specs.Coming.{TellsPorts, IsToSwitch}
 use Rattle.input_events.proofs.Answering.{answer_reads}
 use Rattle.input_events.proofs.Spoken.{drawn, fits}

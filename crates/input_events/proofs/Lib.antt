@@ -1,3 +1,6 @@
+pub use Rattle.input_premises.proofs.controller_law as controller_law
+pub use Rattle.input_premises.proofs.input_steps as input_steps
+pub use Rattle.input_premises.proofs as input_premises
 pub mod Packets
 pub mod Cells
 pub mod Growing

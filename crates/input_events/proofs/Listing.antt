@@ -4,43 +4,29 @@ use Rattle.std.proofs.Common.{◌≡◌, ℕ, ◌+◌, ◌<◌, ◌≤◌, suc, 
 use Rattle.std.specs.Prelude.{◌==◌, nat_lt, nat_eq}
 use Rattle.std.proofs.lemmas.Bool.Decides.{nat_tests}
 use Rattle.std.proofs.lemmas.List.{length-map}
-use Rattle.net_types.specs.declared.channel.End.{End}
-use Rattle.net_types.specs.declared.node.NodeId.{NodeId}
-use Rattle.net_types.specs.declared.node.PortNo.{PortNo}
-use Rattle.adjacency_table.specs.declared.State.{State}
-use Rattle.adjacency_table.specs.declared.State.TheVariants.{Clearing, SynSent, SynRcvd, Estab}
-use Rattle.adjacency_table.specs.Side.{Side, is_estab}
-use Rattle.crossbar_model.specs.Channels.{IsLinkPort}
-use Rattle.gsmp_wire.specs.Range.{FitsRows}
-use Rattle.gsmp_wire.specs.declared.request.Request.TheVariants.{AllPorts, DeleteAll}
-use Rattle.gsmp_wire.specs.declared.rows.PortRow.{PortRow}
-use Rattle.ordered_lists.specs.Ordered.{Every, InOrder}
-use Rattle.ordered_lists.proofs.Every.{every_all, every_map}
-use Rattle.keyed_lists.specs.Keyed.{at}
-use Rattle.port_model.specs.Desk.{Standing, last_transaction}
-use Rattle.port_model.specs.Messages.{is_up, message_of}
-use Rattle.port_model.specs.DeskAnswers.{without_request}
-use Rattle.port_model.specs.Setup.{Setup}
-use Rattle.port_facts.specs.Port.{setup_port, IsLinked, IsLabelEnd, empties_control, empties_port}
-use Rattle.branch_line.specs.Line.{Line}
-use Rattle.branch_line.specs.Law.{AsksFirst, IsReached}
-use Rattle.branch_line.proofs.First.{always_first}
-use Rattle.branch_line.proofs.Reached.{holds_reached}
-use Rattle.world_model.specs.Controller.{Acted, Linked, ports_of, with_desk}
-use Rattle.world_model.specs.Meeting.{up_ports}
-use Rattle.controller_facts.specs.Sound.{linked_setup}
-use Rattle.controller_facts.proofs.Laws.{has_ports}
-use Rattle.controller_facts.proofs.Performing.{ports_linked}
-use Rattle.controller_law.proofs.Whole.{Whole}
+use Rattle.world_model.specs.Words.{End, NodeId, PortNo, State, Clearing, SynSent, SynRcvd, Estab, Side, is_estab, IsLinkPort, FitsRows, PortRow, at, Standing, last_transaction, message_of, without_request, Setup, Linked, with_desk, up_ports, Switch, control_port, numbers_of}
+use Rattle.world_model.specs.gsmp_wire.declared.request.Request.TheVariants.{AllPorts, DeleteAll}
+use Rattle.input_premises.specs.ordered_lists.Ordered.{Every, InOrder}
+use Rattle.input_premises.proofs.ordered_lists.Every.{every_all, every_map}
+use Rattle.world_model.specs.port_model.Messages.{is_up}
+use Rattle.input_premises.specs.port_facts.Port.{setup_port, IsLinked, IsLabelEnd, empties_control, empties_port}
+use Rattle.input_premises.specs.branch_line.Line.{Line}
+use Rattle.input_premises.specs.branch_line.Law.{AsksFirst, IsReached}
+use Rattle.input_premises.proofs.branch_line.First.{always_first}
+use Rattle.input_premises.proofs.branch_line.Reached.{holds_reached}
+use Rattle.world_model.specs.Controller.{Acted, ports_of}
+use Rattle.input_premises.specs.controller_facts.Sound.{linked_setup}
+use Rattle.input_premises.proofs.controller_facts.Laws.{has_ports}
+use Rattle.input_premises.proofs.controller_facts.Performing.{ports_linked}
+use Rattle.input_premises.proofs.controller_law.Whole.{Whole}
 use Rattle.world_model.specs.declared.port.PortState.{PortState}
 use Rattle.world_model.specs.Answers.{row_of}
-use Rattle.world_model.specs.Switch.{Switch, control_port, numbers_of}
-use Rattle.input_views.specs.Shown.{before_of, behind_of, PhaseShows}
-use Rattle.input_steps.specs.Asking.{IsReadable}
-use Rattle.input_steps.specs.Meeting.{AreDistinct, Untouched, MayEmpty, IsAround}
-use Rattle.input_steps.specs.Part.{Part, part_at, Stands}
-use Rattle.input_steps.proofs.Lists.{filter_skips, filter_front}
-use Rattle.input_steps.proofs.Taken.{listing}
+use Rattle.input_premises.specs.input_views.Shown.{before_of, behind_of, PhaseShows}
+use Rattle.input_premises.specs.input_steps.Asking.{IsReadable}
+use Rattle.input_premises.specs.input_steps.Meeting.{AreDistinct, Untouched, MayEmpty, IsAround}
+use Rattle.input_premises.specs.input_steps.Part.{Part, part_at, Stands}
+use Rattle.input_premises.proofs.input_steps.Lists.{filter_skips, filter_front}
+use Rattle.input_premises.proofs.input_steps.Taken.{listing}
 use Rattle.input_premises.proofs.Reading.{are_read}
 use Rattle.input_events.specs.Coming.{IsBelow, TellsPorts}
 

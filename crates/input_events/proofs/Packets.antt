@@ -2,42 +2,24 @@
 
 use Rattle.std.proofs.Common.{◌≡◌, ◌≢◌, ℕ, ◌≤◌, List, [], ◌∷◌, ◌++◌, length, Option, None, Some, refl, ap, arith}
 use Rattle.std.specs.Prelude.{nat_le}
-use Rattle.net_types.specs.declared.channel.Channel.{Channel}
-use Rattle.net_types.specs.declared.channel.End.{End}
-use Rattle.net_types.specs.declared.node.NodeId.{NodeId}
-use Rattle.net_types.specs.declared.node.PortNo.{PortNo}
-use Rattle.net_types.specs.declared.number.Mark.{Mark}
-use Rattle.ipv4_forward.specs.Hop.{hop_of, onward}
-use Rattle.ipv4_forward.specs.declared.outcome.Hop.{Hop}
-use Rattle.ipv4_forward.specs.declared.outcome.Hop.TheVariants.{Here, On, NoRoute, Expired}
-use Rattle.ipv4_packet.specs.Flow.{kind_of}
-use Rattle.flow_encaps.specs.Default.{default_payload}
-use Rattle.flow_encaps.specs.Labelled.{labelled_payload}
-use Rattle.link_model.specs.declared.record.DropCause.TheVariants.{NoRoute as NoRouteCause, Expired as ExpiredCause}
-use Rattle.link_model.specs.declared.record.Record.TheVariants.{Delivered, Dropped, Loss}
-use Rattle.link_model.specs.declared.record.Cause.TheVariants.{PoolFull}
-use Rattle.link_model.specs.declared.frames.Frame.{Frame}
-use Rattle.link_model.specs.Ledger.{payload_of}
-use Rattle.link_model.specs.Notes.{noted}
-use Rattle.frame_model.specs.Frame.{frame_cells, made, next_mark}
-use Rattle.frame_model.specs.Sending.{Sent}
-use Rattle.port_model.specs.Setup.{control_end}
-use Rattle.port_model.specs.Grants.{Grant}
-use Rattle.port_facts.proofs.Keyed.{on_both, on_each}
-use Rattle.branch_line.specs.Line.{Line}
-use Rattle.world_model.specs.Switch.{Switch}
-use Rattle.world_model.specs.Controller.{Controller, Acted, free_slots, default_channel, default_home}
-use Rattle.world_model.specs.Sending.{with_cells, sends, sends_control}
-use Rattle.world_model.specs.Packets.{is_control, sends_next, goes_by, grant_by, forwarded, routes}
-use Rattle.shown_cells.proofs.Shows.{shows_behind}
-use Rattle.shown_cells.proofs.Made.{extends_made, unmade_packet}
-use Rattle.input_views.specs.Words.{erased, seen_request}
-use Rattle.input_views.specs.Shown.{controller_of, switch_of}
-use Rattle.input_views.proofs.Cells.{frame_elsewhere}
-use Rattle.input_steps.specs.Part.{Part, part_at, Stands, Reaches, AnyLine, Leads}
-use Rattle.input_steps.proofs.Reach.{reaches_self, stands_later}
-use Rattle.input_steps.proofs.Resets.{note_still, still_leads}
-use Rattle.input_steps.proofs.Sent.{control_sent, sent_elsewhere}
+use Rattle.world_model.specs.Words.{Channel, End, NodeId, PortNo, Mark, hop_of, onward, Hop, Here, On, kind_of, default_payload, labelled_payload, Delivered, Dropped, Loss, PoolFull, Frame, payload_of, noted, frame_cells, made, next_mark, control_end, Grant, Switch, Controller, default_channel, default_home, sends_control, is_control, sends_next, goes_by, grant_by, routes}
+use Rattle.world_model.specs.ipv4_forward.declared.outcome.Hop.TheVariants.{NoRoute, Expired}
+use Rattle.world_model.specs.link_model.declared.record.DropCause.TheVariants.{NoRoute as NoRouteCause, Expired as ExpiredCause}
+use Rattle.world_model.specs.frame_model.Sending.{Sent}
+use Rattle.input_premises.proofs.port_facts.Keyed.{on_both, on_each}
+use Rattle.input_premises.specs.branch_line.Line.{Line}
+use Rattle.world_model.specs.Controller.{Acted, free_slots}
+use Rattle.world_model.specs.Sending.{with_cells, sends}
+use Rattle.world_model.specs.Packets.{forwarded}
+use Rattle.input_premises.proofs.shown_cells.Shows.{shows_behind}
+use Rattle.input_premises.proofs.shown_cells.Made.{extends_made, unmade_packet}
+use Rattle.input_premises.specs.input_views.Words.{erased, seen_request}
+use Rattle.input_premises.specs.input_views.Shown.{controller_of, switch_of}
+use Rattle.input_premises.proofs.input_views.Cells.{frame_elsewhere}
+use Rattle.input_premises.specs.input_steps.Part.{Part, part_at, Stands, Reaches, AnyLine, Leads}
+use Rattle.input_premises.proofs.input_steps.Reach.{reaches_self, stands_later}
+use Rattle.input_premises.proofs.input_steps.Resets.{note_still, still_leads}
+use Rattle.input_premises.proofs.input_steps.Sent.{control_sent, sent_elsewhere}
 use Rattle.input_premises.proofs.Rows.{KeepsRows, sends_rows, sends_control_rows}
 use Rattle.input_events.specs.Coming.{IsNext, GoesByLinks}
 

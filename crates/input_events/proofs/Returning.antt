@@ -2,44 +2,31 @@
 
 use Rattle.std.proofs.Common.{◌≡◌, ℕ, ◌≤◌, Bool, true, List, [], ◌∷◌, fold, flat_map, map, Option, None, Some, Result, Ok, Err, refl, sym, subst, arith, if◌then◌else◌}
 use Rattle.std.specs.Prelude.{nat_lt}
-use Rattle.net_types.specs.declared.node.PortNo.{PortNo}
-use Rattle.net_types.specs.Label.{number_of_channel}
-use Rattle.adjacency_table.specs.Greeting.{gsmp_received}
-use Rattle.adjacency_table.specs.Side.{is_estab}
-use Rattle.atm_cells.specs.declared.cell.Cell.{Cell}
-use Rattle.gsmp_wire.specs.Fields.{decoded}
-use Rattle.gsmp_wire.specs.declared.fault.Fault.{Fault}
-use Rattle.gsmp_wire.specs.declared.message.Message.{Message}
-use Rattle.gsmp_wire.specs.declared.message.Message.TheVariants as messages
-use Rattle.gsmp_wire.specs.declared.request.Request.{Request}
-use Rattle.gsmp_wire.specs.declared.request.Request.TheVariants.{AddBranch, MoveBranch, DeleteTree, VerifyTree, DeleteAll, PortManagement, AllPorts}
-use Rattle.link_model.specs.declared.record.Record.TheVariants.{Part, Bad}
-use Rattle.link_model.specs.declared.record.Layer.TheVariants.{Gsmp}
-use Rattle.refusal_names.specs.Names.{gsmp_refusal}
-use Rattle.frame_model.specs.Frame.{octets_of, payload_in, last_mark, tested_by}
-use Rattle.frame_model.specs.Reassembly.{Taken, taken}
-use Rattle.port_model.specs.DeskAnswers.{Answered, Unknown, Done, Ports, Failed, answered, after_answer}
-use Rattle.port_model.specs.Setup.{Setup}
-use Rattle.port_model.specs.Saying.{closes}
-use Rattle.port_model.specs.Joins as port_joins
-use Rattle.port_model.specs.Answers as port_answers
-use Rattle.port_model.specs.Resets.{cleared}
-use Rattle.port_facts.proofs.Instances.{parted_gave, given_back_gave}
-use Rattle.port_facts.proofs.Keyed.{on_both}
-use Rattle.port_facts.proofs.Rules.{done_goes}
-use Rattle.port_facts.proofs.Steps.{steps_to}
-use Rattle.port_facts.proofs.Steps as steps_of
-use Rattle.world_model.specs.Controller.{Acted, Linked, free_slots, linked_at, ports_of, note, with_linked, with_desk, default_channel, default_end, default_home}
-use Rattle.world_model.specs.Asking.{asks}
-use Rattle.world_model.specs.Cells.{same_channel, ForGsmp, after_test, ends_frame, after_cell, takes_cell, taker_at, port_on, on_link, cell_comes}
-use Rattle.world_model.specs.Gsmp.{told, gsmp_holds}
-use Rattle.world_model.specs.Joins.{Join, join_of, parts, releases_join, releases_input, released_inputs, resets_spent, releases}
-use Rattle.world_model.specs.Meeting.{up_ports, default_branches, ends_meeting, has_emptied, port_of, tells_port, causes_in_estab, causes, may_clear, clears_of, clears_port, clears, done, answers_desk, answer_comes}
-use Rattle.world_model.specs.Resets.{begins}
-use Rattle.controller_views.specs.Lifted.{Growing}
-use Rattle.controller_views.proofs.Growing.{grow_self, grow_on, grow_fold, node_resets_grow, asks_grow, at_port_grow}
-use Rattle.input_steps.proofs.Resets.{note_still}
-use Rattle.shown_cells.proofs.Tested.{taken_frames, tested_frames}
+use Rattle.world_model.specs.Words.{PortNo, number_of_channel, gsmp_received, is_estab, Cell, Request, AddBranch, MoveBranch, DeleteTree, VerifyTree, PortManagement, Part, Bad, Gsmp, gsmp_refusal, payload_in, last_mark, tested_by, Answered, Unknown, Done, Ports, Failed, answered, after_answer, Setup, closes, Linked, linked_at, with_linked, with_desk, default_channel, default_end, default_home, asks, same_channel, ForGsmp, takes_cell, taker_at, port_on, on_link, gsmp_holds, join_of, parts, releases_join, releases_input, released_inputs, resets_spent, releases, up_ports, default_branches, ends_meeting, has_emptied, tells_port, causes_in_estab, causes, may_clear, clears_of, clears_port, clears, answers_desk, answer_comes, begins}
+use Rattle.world_model.specs.gsmp_wire.Fields.{decoded}
+use Rattle.world_model.specs.gsmp_wire.declared.fault.Fault.{Fault}
+use Rattle.world_model.specs.gsmp_wire.declared.message.Message.{Message}
+use Rattle.world_model.specs.gsmp_wire.declared.message.Message.TheVariants as messages
+use Rattle.world_model.specs.gsmp_wire.declared.request.Request.TheVariants.{DeleteAll, AllPorts}
+use Rattle.world_model.specs.frame_model.Frame.{octets_of}
+use Rattle.world_model.specs.frame_model.Reassembly.{Taken, taken}
+use Rattle.world_model.specs.port_model.Joins as port_joins
+use Rattle.world_model.specs.port_model.Answers as port_answers
+use Rattle.world_model.specs.port_model.Resets.{cleared}
+use Rattle.input_premises.proofs.port_facts.Instances.{parted_gave, given_back_gave}
+use Rattle.input_premises.proofs.port_facts.Keyed.{on_both}
+use Rattle.input_premises.proofs.port_facts.Rules.{done_goes}
+use Rattle.input_premises.proofs.port_facts.Steps.{steps_to}
+use Rattle.input_premises.proofs.port_facts.Steps as steps_of
+use Rattle.world_model.specs.Controller.{Acted, free_slots, ports_of, note}
+use Rattle.world_model.specs.Cells.{after_test, ends_frame, after_cell, cell_comes}
+use Rattle.world_model.specs.Gsmp.{told}
+use Rattle.world_model.specs.Joins.{Join}
+use Rattle.world_model.specs.Meeting.{port_of, done}
+use Rattle.world_views.specs.controller_views.Lifted.{Growing}
+use Rattle.world_views.proofs.controller_views.Growing.{grow_self, grow_on, grow_fold, node_resets_grow, asks_grow, at_port_grow}
+use Rattle.input_premises.proofs.input_steps.Resets.{note_still}
+use Rattle.input_premises.proofs.shown_cells.Tested.{taken_frames, tested_frames}
 use Rattle.input_events.proofs.Growing.{still_grows, changed, rule_grows, steps_grow, takes_changes_grow}
 
 same_number : (m n : ℕ) → n ≡ m → m ≤ n

@@ -1,22 +1,17 @@
 -- a network whose site at one node changes: lines of its inputs follow, and those of other nodes stay
 
 use Rattle.std.proofs.Common.{◌≡◌, ◌≢◌, ℕ, ◌≤◌, List, Some, refl, sym, ◌∙◌, ap, subst}
-use Rattle.net_types.specs.declared.channel.End.{End}
-use Rattle.net_types.specs.declared.node.NodeId.{NodeId}
-use Rattle.net_types.specs.Number.{GivenOut}
-use Rattle.link_model.specs.declared.frames.Frame.{Frame}
-use Rattle.keyed_lists.specs.Keyed.{at, put}
-use Rattle.port_facts.proofs.Keyed.{at_key, at_put_same, at_put_other, by_eq}
-use Rattle.branch_line.specs.Line.{Line}
-use Rattle.branch_line.specs.Law.{IsReached}
-use Rattle.branch_line.proofs.Reached.{run_reached}
-use Rattle.world_model.specs.World.{Site, World, site_key, site_at, with_site}
-use Rattle.shown_cells.specs.Seen.{IsUnmade, Extends}
-use Rattle.input_views.specs.Reaching.{ReachedAs, Anything}
-use Rattle.input_views.proofs.Cells.{requests_more, answers_more}
-use Rattle.input_views.proofs.Quiet.{quiet_input}
-use Rattle.input_steps.specs.Part.{Part, part_of, IsNumbered, Stands, Reaches, AnyLine}
-use Rattle.input_steps.proofs.Reach.{stands_of, shows_of}
+use Rattle.world_model.specs.Words.{End, NodeId, GivenOut, Frame, at, put, Site, World, site_key, site_at, with_site}
+use Rattle.input_premises.proofs.port_facts.Keyed.{at_key, at_put_same, at_put_other, by_eq}
+use Rattle.input_premises.specs.branch_line.Line.{Line}
+use Rattle.input_premises.specs.branch_line.Law.{IsReached}
+use Rattle.input_premises.proofs.branch_line.Reached.{run_reached}
+use Rattle.input_premises.specs.shown_cells.Seen.{IsUnmade, Extends}
+use Rattle.input_premises.specs.input_views.Reaching.{ReachedAs, Anything}
+use Rattle.input_premises.proofs.input_views.Cells.{requests_more, answers_more}
+use Rattle.input_premises.proofs.input_views.Quiet.{quiet_input}
+use Rattle.input_premises.specs.input_steps.Part.{Part, part_of, IsNumbered, Stands, Reaches, AnyLine}
+use Rattle.input_premises.proofs.input_steps.Reach.{stands_of, shows_of}
 use Rattle.world_views.specs.Between.{IsInput, HasInputLine}
 use Rattle.input_events.specs.Coming.{HasLines}
 

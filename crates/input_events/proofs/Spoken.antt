@@ -1,23 +1,16 @@
 -- what both ends of a control link say at a tick is read as it was said, since instances are drawn in order
 
 use Rattle.std.proofs.Common.{◌≡◌, ℕ, ◌+◌, ◌<◌, ◌≤◌, ◌^◌, sym, subst, arith}
-use Rattle.net_types.specs.declared.channel.End.{End}
-use Rattle.net_types.specs.declared.node.NodeId.{NodeId}
-use Rattle.net_types.specs.declared.adjacency.Party.{Party}
-use Rattle.adjacency_table.specs.Table.{Reply, Silent, Says, Resets, tick_reply}
-use Rattle.adjacency_table.specs.Side.{Side, Step, counted, ticked}
-use Rattle.adjacency_table.specs.Greeting.{gsmp_answer}
-use Rattle.adjacency_table.specs.Instances.{SideByInstances}
-use Rattle.adjacency_table.specs.Ends.{side_of, tick_by}
-use Rattle.adjacency_table.proofs.EndsLemmas.{ticked_by_instances}
-use Rattle.gsmp_wire.specs.Range.{FitsParty}
-use Rattle.branch_line.specs.Line.{Line}
-use Rattle.branch_line.specs.Law.{HasDrawn, IsReached}
-use Rattle.branch_line.proofs.Drawn.{always_drawn}
-use Rattle.branch_line.proofs.Reached.{holds_reached}
-use Rattle.input_views.specs.Shown.{controller_of, switch_of}
-use Rattle.input_steps.specs.Hearing.{Reads}
-use Rattle.input_steps.specs.Part.{Part, Stands}
+use Rattle.world_model.specs.Words.{End, NodeId, Party, Reply, Silent, Says, Resets, tick_reply, Side, Step, ticked, gsmp_answer, SideByInstances, side_of, tick_by, FitsParty}
+use Rattle.world_model.specs.adjacency_table.Side.{counted}
+use Rattle.world_model.proofs.adjacency_table.EndsLemmas.{ticked_by_instances}
+use Rattle.input_premises.specs.branch_line.Line.{Line}
+use Rattle.input_premises.specs.branch_line.Law.{HasDrawn, IsReached}
+use Rattle.input_premises.proofs.branch_line.Drawn.{always_drawn}
+use Rattle.input_premises.proofs.branch_line.Reached.{holds_reached}
+use Rattle.input_premises.specs.input_views.Shown.{controller_of, switch_of}
+use Rattle.input_premises.specs.input_steps.Hearing.{Reads}
+use Rattle.input_premises.specs.input_steps.Part.{Part, Stands}
 use Rattle.input_premises.proofs.Reading.{controller_fits, switch_fits, greeting_read}
 
 module _ (own far : ℕ → Party) (owns : (n : ℕ) → n < 2 ^ 32 → FitsParty (own n)) (fars : (n : ℕ) → n < 2 ^ 32 → FitsParty (far n)) where

@@ -2,44 +2,22 @@
 
 use Rattle.std.specs.Prelude.{◌≡◌, ◌≢◌, ℕ, ◌≤◌, ◌<◌, true, false, nat_lt, List, [], ◌∷◌, ◌++◌, length, map, Contains, Option, None, Some}
 use Rattle.std.specs.FinMap.{get}
-use Rattle.net_types.specs.declared.channel.End.{End}
-use Rattle.net_types.specs.declared.node.NodeId.{NodeId}
-use Rattle.net_types.specs.declared.node.PortNo.{PortNo}
-use Rattle.net_types.specs.declared.number.Mark.{Mark}
-use Rattle.net_types.specs.Number.{HasNumbersLeft}
-use Rattle.atm_cells.specs.declared.cell.Cell.{Cell}
-use Rattle.ipv4_forward.specs.Hop.{hop_of}
-use Rattle.ipv4_forward.specs.declared.outcome.Hop.TheVariants.{On}
-use Rattle.gsmp_wire.specs.Range.{Fits, FitsRows}
-use Rattle.gsmp_wire.specs.declared.message.Message.{Message}
-use Rattle.gsmp_wire.specs.declared.message.Message.TheVariants.{AllPorts}
-use Rattle.ordered_lists.specs.Ordered.{Every, InOrder}
-use Rattle.crossbar_model.specs.Crossbar.{queue_of}
-use Rattle.world_model.specs.Switch.{control_port, numbers_of}
-use Rattle.gsmp_reading.specs.Said.{IsSaid}
-use Rattle.port_model.specs.Desk.{Standing}
-use Rattle.port_model.specs.Messages.{is_up}
-use Rattle.port_model.specs.Setup.{Setup}
-use Rattle.port_facts.specs.Port.{IsShaped}
+use Rattle.world_model.specs.Words.{End, NodeId, PortNo, Mark, HasNumbersLeft, Cell, hop_of, On, Fits, FitsRows, queue_of, control_port, numbers_of, Standing, Setup, Frame, payload_of, next_mark, Controller, default_channel, same_channel, is_control, Place, Down, Up, Out, Topology, Site, World, site_at, queue_at, gsmp_under, copy_of}
+use Rattle.world_model.specs.gsmp_wire.declared.message.Message.{Message}
+use Rattle.world_model.specs.gsmp_wire.declared.message.Message.TheVariants.{AllPorts}
+use Rattle.input_premises.specs.ordered_lists.Ordered.{Every, InOrder}
+use Rattle.input_premises.specs.gsmp_reading.Said.{IsSaid}
+use Rattle.world_model.specs.port_model.Messages.{is_up}
+use Rattle.input_premises.specs.port_facts.Port.{IsShaped}
 use Rattle.world_model.specs.declared.port.PortState.{PortState}
 use Rattle.world_model.specs.Answers.{row_of}
-use Rattle.link_model.specs.declared.frames.Frame.{Frame}
-use Rattle.link_model.specs.Ledger.{payload_of}
-use Rattle.frame_model.specs.Frame.{next_mark}
-use Rattle.world_model.specs.Controller.{Controller, ports_of, default_channel}
-use Rattle.world_model.specs.Cells.{same_channel}
-use Rattle.world_model.specs.Packets.{is_control}
-use Rattle.net_types.specs.declared.node.Place.{Place}
-use Rattle.net_types.specs.declared.node.Place.TheVariants.{Down, Up, Out}
+use Rattle.world_model.specs.Controller.{ports_of}
 use Rattle.world_model.specs.declared.event.Event.{Event}
 use Rattle.world_model.specs.declared.event.Event.TheVariants.{Carry, Lose, Forge}
 use Rattle.world_model.specs.declared.link.LinkEnd.{LinkEnd}
-use Rattle.world_model.specs.Topology.{Topology, peer_of}
-use Rattle.world_model.specs.World.{Site, World, site_at}
-use Rattle.world_model.specs.Places.{queue_at}
-use Rattle.world_model.specs.Ways.{gsmp_under, copy_of}
-use Rattle.shown_cells.specs.Seen.{IsUnmade}
-use Rattle.input_steps.specs.Hearing.{IsEnded, LeadsAway, PassesTrue}
+use Rattle.world_model.specs.Topology.{peer_of}
+use Rattle.input_premises.specs.shown_cells.Seen.{IsUnmade}
+use Rattle.input_premises.specs.input_steps.Hearing.{IsEnded, LeadsAway, PassesTrue}
 use Rattle.world_model.specs.Switch as switches
 use Rattle.world_model.specs.Controller as controllers
 use Rattle.input_premises.specs.Steady.{IsSteady}

@@ -5,9 +5,7 @@
 #![tactic(auto)]
 
 ghost use Rattle.world_model.specs.declared.event.Event.{Event};
-ghost use Rattle.world_model.specs.Topology.{Topology};
-ghost use Rattle.world_model.specs.World.{World};
-ghost use Rattle.world_model.specs.Step.{step};
+ghost use Rattle.world_model.specs.Words.{Topology, World, step};
 ghost use Rattle.input_events.specs.Coming.{HasLines, IsOrdinary, IsRunning};
 
 /// From a network between events that shows a line of each input, each such event leads each line by moves

@@ -2,23 +2,17 @@
 
 use Rattle.std.proofs.Common.{◌≡◌, ℕ, ◌≤◌, Bool, true, false, List, [], ◌∷◌, sym, subst, fold}
 use Rattle.std.specs.Prelude.{◌+◌}
-use Rattle.net_types.specs.declared.channel.End.{End}
-use Rattle.ipv4_forward.specs.Change.{changed}
-use Rattle.ipv4_forward.specs.declared.change.RouteChange.{RouteChange}
-use Rattle.ipv4_forward.specs.declared.table.Route.{Route}
-use Rattle.adjacency_table.specs.Side.{is_estab}
-use Rattle.link_model.specs.declared.record.Record.TheVariants.{Routes}
-use Rattle.ordered_lists.specs.Ordered.{Every}
-use Rattle.ordered_lists.proofs.Every.{every_map}
-use Rattle.port_model.specs.Setup.{Setup}
-use Rattle.port_facts.specs.Port.{IsLabelEnd, parts_label}
-use Rattle.port_facts.proofs.Keyed.{on_both}
-use Rattle.world_model.specs.Controller.{Acted, Linked, note}
-use Rattle.world_model.specs.Joins.{Join, joins_of, output_of}
-use Rattle.world_model.specs.Changes.{is_changed, changed_joins, takes_join_back, begins_change, takes_change}
-use Rattle.controller_facts.proofs.Moves.{routing, moves_to, HasPorts}
-use Rattle.controller_facts.proofs.Joining.{IsJoin, joins_are, join_input, join_output, every_filter}
-use Rattle.controller_facts.proofs.Laws.{has_ports, moves_sound}
+use Rattle.world_model.specs.Words.{End, changed, RouteChange, is_estab, Routes, Setup, Linked, joins_of, is_changed, changed_joins, takes_join_back, begins_change, takes_change}
+use Rattle.world_model.specs.ipv4_forward.declared.table.Route.{Route}
+use Rattle.controller_law.specs.ordered_lists.Ordered.{Every}
+use Rattle.controller_law.proofs.ordered_lists.Every.{every_map}
+use Rattle.controller_law.specs.port_facts.Port.{IsLabelEnd, parts_label}
+use Rattle.controller_law.proofs.port_facts.Keyed.{on_both}
+use Rattle.world_model.specs.Controller.{Acted, note}
+use Rattle.world_model.specs.Joins.{Join, output_of}
+use Rattle.controller_law.proofs.controller_facts.Moves.{routing, moves_to, HasPorts}
+use Rattle.controller_law.proofs.controller_facts.Joining.{IsJoin, joins_are, join_input, join_output, every_filter}
+use Rattle.controller_law.proofs.controller_facts.Laws.{has_ports, moves_sound}
 use Rattle.controller_law.specs.Order.{is_lent}
 use Rattle.controller_law.proofs.Performing.{takes_back_holds}
 use Rattle.controller_law.proofs.Holding.{Holds, numbered_holds, lent_met}

@@ -4,29 +4,18 @@ use Rattle.std.proofs.Common.{◌≡◌, ◌≤◌, ℕ, Bool, true, false, List
 use Rattle.std.specs.Prelude.{◌==◌, find}
 use Rattle.std.specs.Option.{option_map_or}
 use Rattle.std.proofs.lemmas.Bool.Decides.{nat_tests}
-use Rattle.net_types.specs.declared.node.PortNo.{PortNo}
-use Rattle.net_types.specs.declared.channel.End.{End}
-use Rattle.adjacency_table.specs.Side.{is_estab}
-use Rattle.crossbar_model.specs.Channels.{IsLinkPort}
-use Rattle.gsmp_wire.specs.declared.request.Request.{Request}
-use Rattle.gsmp_wire.specs.declared.request.Request.TheVariants.{AddBranch, MoveBranch, DeleteTree, VerifyTree, DeleteAll, PortManagement, AllPorts}
-use Rattle.ordered_lists.specs.Ordered.{Every}
-use Rattle.port_model.specs.Requests.{is_delete_all}
-use Rattle.port_model.specs.Desk.{Standing, all_on}
-use Rattle.port_model.specs.DeskAnswers.{Done, after_answer}
-use Rattle.port_model.specs.Setup.{Setup}
-use Rattle.port_model.specs.Answers as port_answers
-use Rattle.port_model.specs.Resets.{cleared}
-use Rattle.port_facts.specs.Port.{IsDefaultEnd, IsShaped, empties_control, empties_port, opens_input}
-use Rattle.port_facts.proofs.Found.{find_every}
-use Rattle.port_facts.proofs.Keyed.{on_each}
-use Rattle.port_facts.proofs.Rules.{done_goes}
-use Rattle.world_model.specs.Controller.{Acted, Linked, linked_at, ports_of, with_linked, with_desk, default_end, default_home}
-use Rattle.world_model.specs.Asking.{asks}
-use Rattle.world_model.specs.Resets.{begins}
-use Rattle.world_model.specs.Joins.{releases}
-use Rattle.world_model.specs.Meeting.{ends_meeting, has_emptied, is_clearing, port_of, tells_port, causes_in_estab, causes, may_clear, clears_of, clears_port, clears}
-use Rattle.controller_facts.proofs.Moves.{IsShapedStanding, found_at_own}
+use Rattle.world_model.specs.Words.{PortNo, End, is_estab, IsLinkPort, Request, AddBranch, MoveBranch, DeleteTree, VerifyTree, PortManagement, is_delete_all, Standing, all_on, Done, after_answer, Setup, Linked, linked_at, with_linked, with_desk, default_end, default_home, asks, begins, releases, ends_meeting, has_emptied, is_clearing, tells_port, causes_in_estab, causes, may_clear, clears_of, clears_port, clears}
+use Rattle.world_model.specs.gsmp_wire.declared.request.Request.TheVariants.{DeleteAll, AllPorts}
+use Rattle.controller_law.specs.ordered_lists.Ordered.{Every}
+use Rattle.world_model.specs.port_model.Answers as port_answers
+use Rattle.world_model.specs.port_model.Resets.{cleared}
+use Rattle.controller_law.specs.port_facts.Port.{IsDefaultEnd, IsShaped, empties_control, empties_port, opens_input}
+use Rattle.controller_law.proofs.port_facts.Found.{find_every}
+use Rattle.controller_law.proofs.port_facts.Keyed.{on_each}
+use Rattle.controller_law.proofs.port_facts.Rules.{done_goes}
+use Rattle.world_model.specs.Controller.{Acted, ports_of}
+use Rattle.world_model.specs.Meeting.{port_of}
+use Rattle.controller_law.proofs.controller_facts.Moves.{IsShapedStanding, found_at_own}
 use Rattle.controller_law.specs.Order.{IsClearingAt, IsOfClearing}
 use Rattle.controller_law.proofs.Ordering.{of_input, for_default}
 use Rattle.controller_law.proofs.Holding.{Holds, answered_holds, cleared_holds}

@@ -3,27 +3,15 @@
 
 use Rattle.std.proofs.Common.{ℕ, ◌<◌, ◌^◌, zero, suc, List, [], ◌∷◌, refl, ap, arith}
 use Rattle.std.specs.Prelude.{All}
-use Rattle.net_types.specs.declared.node.NodeId.{NodeId}
-use Rattle.net_types.specs.declared.adjacency.HelloKind.{HelloKind}
-use Rattle.net_types.specs.declared.adjacency.HelloKind.TheVariants.{Syn, Synack, Rstack, Ack}
-use Rattle.net_types.specs.declared.adjacency.Party.{Party}
-use Rattle.adjacency_table.specs.Greeting.{greeting_of, nobody}
-use Rattle.adjacency_table.specs.Instances.{SideByInstances, greeting}
-use Rattle.adjacency_table.specs.Ends.{said_by}
-use Rattle.crossbar_model.specs.Channels.{IsLinkPort}
-use Rattle.gsmp_wire.specs.Range.{Bits, FitsParty, FitsRows, Fits}
-use Rattle.gsmp_wire.specs.declared.message.Message.{Message}
-use Rattle.gsmp_wire.specs.declared.message.Message.TheVariants.{Adjacency}
-use Rattle.gsmp_wire.specs.declared.request.Request.TheVariants.{AllPorts}
-use Rattle.gsmp_wire.specs.declared.rows.PortRow.{PortRow}
+use Rattle.world_model.specs.Words.{NodeId, HelloKind, Syn, Synack, Rstack, Ack, Party, greeting_of, nobody, SideByInstances, greeting, said_by, IsLinkPort, Bits, FitsParty, FitsRows, Fits, PortRow, last_transaction, message_of, Setup}
+use Rattle.world_model.specs.gsmp_wire.declared.message.Message.{Message}
+use Rattle.world_model.specs.gsmp_wire.declared.message.Message.TheVariants.{Adjacency}
+use Rattle.world_model.specs.gsmp_wire.declared.request.Request.TheVariants.{AllPorts}
 use Rattle.gsmp_reading.specs.Said.{IsSaid}
 use Rattle.gsmp_reading.proofs.Read.{message_is_read}
-use Rattle.ordered_lists.specs.Ordered.{Every}
-use Rattle.port_model.specs.Desk.{last_transaction}
-use Rattle.port_model.specs.Messages.{message_of}
-use Rattle.port_model.specs.Setup.{Setup}
+use Rattle.controller_law.specs.ordered_lists.Ordered.{Every}
 use Rattle.world_model.specs.Ways.{told}
-use Rattle.input_views.specs.Shown.{controller_of, switch_of}
+use Rattle.input_steps.specs.input_views.Shown.{controller_of, switch_of}
 use Rattle.input_steps.specs.Asking.{IsReadable}
 use Rattle.input_premises.specs.Read.{AreRead}
 use Rattle.input_premises.proofs.Written.{ports_written, are_written}

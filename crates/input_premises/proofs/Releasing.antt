@@ -2,40 +2,22 @@
 
 use Rattle.std.proofs.Common.{◌≡◌, ◌≤◌, ℕ, true, false, List, [], ◌∷◌, Option, None, Some, refl, sym, ◌∙◌, ap, subst, arith, map, fold}
 use Rattle.std.specs.Option.{option_map}
-use Rattle.net_types.specs.declared.node.PortNo.{PortNo}
-use Rattle.net_types.specs.declared.channel.End.{End}
-use Rattle.net_types.specs.Label.{number_of_channel}
-use Rattle.crossbar_model.specs.Channels.{IsLinkPort}
-use Rattle.gsmp_wire.specs.declared.request.Request.{Request}
-use Rattle.link_model.specs.declared.record.Record.TheVariants.{Part}
-use Rattle.ordered_lists.specs.Ordered.{Every}
-use Rattle.ordered_lists.proofs.Every.{every_map, every_map2, every_mapped}
-use Rattle.port_model.specs.Requests.{leads_home}
-use Rattle.port_model.specs.Desk.{Desk, on_input}
-use Rattle.port_model.specs.declared.action.Action.{Action}
-use Rattle.port_model.specs.declared.action.Action.TheVariants as actions
-use Rattle.port_model.specs.declared.action.Action.TheVariants.{Say, Ask, Note, CutChain, TakeBack, Withdraw}
-use Rattle.port_model.specs.Setup.{Setup, home_of}
-use Rattle.port_model.specs.Labels.{Label, label_number}
-use Rattle.port_model.specs.Grants.{Grant, GrantState, Idle, ByController, ByInput, Leaving, grant_label}
-use Rattle.port_model.specs.Port.{Session, Work, label_at, with_grants, without_grant}
-use Rattle.port_model.specs.Saying.{closes, reclaim_ack}
-use Rattle.port_model.specs.Joins as port_joins
-use Rattle.net_types.specs.Label.{label_channel_of}
-use Rattle.port_facts.specs.Port.{IsLabelEnd}
-use Rattle.keyed_lists.specs.Keyed.{put, without}
-use Rattle.port_facts.proofs.Keyed.{on_both}
-use Rattle.port_facts.proofs.Found.{filter_passes}
-use Rattle.port_facts.proofs.Instances.{parted_gave, given_back_gave}
-use Rattle.port_facts.proofs.Steps as steps_of
-use Rattle.port_facts.proofs.Steps.{steps_to}
-use Rattle.world_model.specs.Controller.{Acted, Linked, linked_at, ports_of, note}
-use Rattle.world_model.specs.Resets.{begins, with_work}
-use Rattle.world_model.specs.Performing.{performs_in_estab}
-use Rattle.world_model.specs.Joins.{Join, joins_of, join_of, parts, releases_input, released_inputs, resets_spent}
-use Rattle.controller_facts.proofs.Moves.{HasPorts, found_setup, found_at_own}
-use Rattle.controller_facts.proofs.Joining.{IsJoin, joins_are, join_input, every_filter}
-use Rattle.controller_facts.proofs.Laws.{has_ports}
+use Rattle.world_model.specs.Words.{PortNo, End, number_of_channel, IsLinkPort, Request, Part, leads_home, Desk, on_input, Action, Say, Ask, Note, CutChain, TakeBack, Withdraw, Setup, home_of, Label, label_number, Grant, GrantState, Idle, ByController, ByInput, Leaving, grant_label, Session, Work, label_at, with_grants, without_grant, closes, reclaim_ack, label_channel_of, put, without, Linked, linked_at, begins, with_work, performs_in_estab, joins_of, join_of, parts, releases_input, released_inputs, resets_spent}
+use Rattle.controller_law.specs.ordered_lists.Ordered.{Every}
+use Rattle.controller_law.proofs.ordered_lists.Every.{every_map, every_map2, every_mapped}
+use Rattle.world_model.specs.port_model.declared.action.Action.TheVariants as actions
+use Rattle.world_model.specs.port_model.Joins as port_joins
+use Rattle.controller_law.specs.port_facts.Port.{IsLabelEnd}
+use Rattle.controller_law.proofs.port_facts.Keyed.{on_both}
+use Rattle.controller_law.proofs.port_facts.Found.{filter_passes}
+use Rattle.controller_law.proofs.port_facts.Instances.{parted_gave, given_back_gave}
+use Rattle.controller_law.proofs.port_facts.Steps as steps_of
+use Rattle.controller_law.proofs.port_facts.Steps.{steps_to}
+use Rattle.world_model.specs.Controller.{Acted, ports_of, note}
+use Rattle.world_model.specs.Joins.{Join}
+use Rattle.controller_law.proofs.controller_facts.Moves.{HasPorts, found_setup, found_at_own}
+use Rattle.controller_law.proofs.controller_facts.Joining.{IsJoin, joins_are, join_input, every_filter}
+use Rattle.controller_law.proofs.controller_facts.Laws.{has_ports}
 use Rattle.controller_law.proofs.Holding.{Holds}
 use Rattle.controller_law.proofs.Saying.{IsSay}
 use Rattle.controller_law.proofs.Releasing.{IsFree, parts_holds, tells_parts, releases_input_holds, spent_holds}

@@ -3,33 +3,17 @@
 use Rattle.std.proofs.Common.{◌≡◌, ℕ, ◌≤◌, Bool, true, false, List, [], ◌∷◌, ◌++◌, Option, None, Some, refl, sym, ◌∙◌, subst, arith, fold, flat_map, map, if◌then◌else◌, inl, inr}
 use Rattle.std.specs.Prelude.{◌⊎◌}
 use Rattle.std.proofs.lemmas.Bool.Decides.{nat_tests}
-use Rattle.net_types.specs.declared.node.PortNo.{PortNo}
-use Rattle.net_types.specs.declared.channel.End.{End}
-use Rattle.adjacency_table.specs.declared.State.TheVariants.{Clearing}
-use Rattle.adjacency_table.specs.Side.{is_estab}
-use Rattle.gsmp_wire.specs.declared.request.Request.TheVariants.{DeleteAll}
-use Rattle.crossbar_model.specs.Crossbar.{same_end}
-use Rattle.crossbar_model.specs.Channels.{IsLinkPort}
-use Rattle.ordered_lists.specs.Ordered.{Every}
-use Rattle.ordered_lists.proofs.Every.{every_map, every_map2}
-use Rattle.keyed_lists.specs.Keyed.{at}
-use Rattle.port_model.specs.Desk.{all_on}
-use Rattle.port_model.specs.declared.action.Action.{Action}
-use Rattle.port_model.specs.declared.action.Action.TheVariants as actions
-use Rattle.port_model.specs.declared.action.Action.TheVariants.{Say, Ask, Note, CutChain, TakeBack, Withdraw}
-use Rattle.port_model.specs.Setup.{Setup}
-use Rattle.port_model.specs.Labels.{Label}
-use Rattle.port_model.specs.Grants.{Grant, GrantState, Idle, ByController, ByInput, Leaving}
-use Rattle.port_model.specs.Port.{Session, Work}
-use Rattle.port_model.specs.Resets.{closing, withdrawing_in, withdrawing_of, withdrawing, taking_back_in, taking_back, resets}
-use Rattle.port_facts.specs.Port.{setup_port, IsAction, parts_label}
-use Rattle.port_facts.proofs.Keyed.{at_key, at_every, at_put_same, every_more}
-use Rattle.port_facts.proofs.Joins.{resets_kept}
-use Rattle.world_model.specs.Controller.{Acted, Linked, port_key, linked_at}
-use Rattle.world_model.specs.Resets.{begins, with_work}
-use Rattle.world_model.specs.Performing.{does, does_in_estab}
-use Rattle.controller_facts.proofs.Moves.{by_reset, Found, HasPorts, found_setup, found_at_own, found_port, begun}
-use Rattle.controller_facts.proofs.Laws.{has_ports}
+use Rattle.world_model.specs.Words.{PortNo, End, Clearing, is_estab, same_end, IsLinkPort, at, all_on, Action, Say, Ask, Note, CutChain, TakeBack, Withdraw, Setup, Label, Grant, GrantState, Idle, ByController, ByInput, Leaving, Session, Work, closing, withdrawing_in, withdrawing_of, withdrawing, taking_back_in, taking_back, resets, Linked, port_key, linked_at, begins, with_work, does, does_in_estab}
+use Rattle.world_model.specs.gsmp_wire.declared.request.Request.TheVariants.{DeleteAll}
+use Rattle.controller_law.specs.ordered_lists.Ordered.{Every}
+use Rattle.controller_law.proofs.ordered_lists.Every.{every_map, every_map2}
+use Rattle.world_model.specs.port_model.declared.action.Action.TheVariants as actions
+use Rattle.controller_law.specs.port_facts.Port.{setup_port, IsAction, parts_label}
+use Rattle.controller_law.proofs.port_facts.Keyed.{at_key, at_every, at_put_same, every_more}
+use Rattle.controller_law.proofs.port_facts.Joins.{resets_kept}
+use Rattle.world_model.specs.Controller.{Acted}
+use Rattle.controller_law.proofs.controller_facts.Moves.{by_reset, Found, HasPorts, found_setup, found_at_own, found_port, begun}
+use Rattle.controller_law.proofs.controller_facts.Laws.{has_ports}
 use Rattle.controller_law.specs.Order.{lends_at, is_lent}
 use Rattle.controller_law.proofs.Lists.{any_at, any_put_leads}
 use Rattle.controller_law.proofs.Asked.{IsNoReset}

@@ -2,47 +2,22 @@
 
 use Rattle.std.proofs.Common.{◌≡◌, true, ℕ, List, [], ◌∷◌, length, Option, None, Some, refl, ◌∙◌, ap, if◌then◌else◌, fold, flat_map}
 use Rattle.std.specs.Prelude.{◌==◌, nat_le}
-use Rattle.net_types.specs.declared.node.PortNo.{PortNo}
-use Rattle.net_types.specs.declared.channel.Channel.{Channel}
-use Rattle.net_types.specs.declared.channel.End.{End}
-use Rattle.net_types.specs.declared.number.Mark.{Mark}
-use Rattle.net_types.specs.Number.{next_control, with_control}
-use Rattle.net_types.specs.Label.{number_of_channel}
-use Rattle.adjacency_table.specs.Side.{is_estab}
-use Rattle.gsmp_wire.specs.declared.request.Request.{Request}
-use Rattle.gsmp_wire.specs.declared.request.Request.TheVariants.{AddBranch, MoveBranch, DeleteTree, VerifyTree, DeleteAll, PortManagement, AllPorts}
-use Rattle.gsmp_wire.specs.Layout.{octets_of as gsmp_octets}
-use Rattle.ifmp_wire.specs.Message.{octets_of as ifmp_octets}
-use Rattle.ipv4_packet.specs.Packet.{ifmp_packet_of}
-use Rattle.ipv4_forward.specs.declared.change.RouteChange.{RouteChange}
-use Rattle.flow_encaps.specs.Default.{default_payload}
-use Rattle.link_model.specs.declared.record.Record.TheVariants.{Loss, Part}
-use Rattle.link_model.specs.declared.record.Cause.TheVariants.{PoolFull}
-use Rattle.link_model.specs.Notes.{noted}
-use Rattle.frame_model.specs.Sending.{Sent}
-use Rattle.frame_model.specs.Frame.{frame_cells, made}
-use Rattle.port_model.specs.Desk.{Desk, asked, is_led_home, message_at, last_transaction, sent_again}
-use Rattle.port_model.specs.declared.action.Action.{Action}
-use Rattle.port_model.specs.declared.action.Action.TheVariants as actions
-use Rattle.port_model.specs.declared.action.Action.TheVariants.{Say, Ask, Note, CutChain, TakeBack, Withdraw}
-use Rattle.port_model.specs.Setup.{home_of}
-use Rattle.port_model.specs.Port.{Work}
-use Rattle.port_model.specs.Resets.{resets, cleared}
-use Rattle.port_model.specs.Joins as port_joins
-use Rattle.port_model.specs.Saying.{closes}
-use Rattle.port_model.specs.Answers as port_answers
-use Rattle.port_facts.proofs.Keyed.{on_both}
-use Rattle.world_model.specs.Controller.{Controller, Acted, Linked, linked_at, ports_of, with_linked, with_desk, note, free_slots, default_channel, default_end, default_home}
-use Rattle.world_model.specs.Sending.{with_cells, sends, sends_control}
-use Rattle.world_model.specs.Asking.{sends_request, asks_next, asks, takes_back}
-use Rattle.world_model.specs.Resets.{begins, with_work, cuts_of, resets_gsmp, port_restarts, node_resets}
-use Rattle.world_model.specs.Performing.{does, does_in_estab, resets_of, performs, performs_in_estab, Rule, works, at_port}
-use Rattle.world_model.specs.Joins.{Join, join_of, output_of, join_for, may_join, parts, releases_join, releases_input, released_inputs, resets_spent, releases, enters_grant, enters_label, joins, tries_label, label_on, tries_join}
-use Rattle.world_model.specs.Meeting.{port_of, tells_port, up_ports, default_branches, ends_meeting, has_emptied, behind_delete_all, causes_in_estab, causes, may_clear, clears_of, clears_port, clears}
-use Rattle.world_model.specs.Changes.{changed_joins, takes_join_back, begins_change}
-use Rattle.world_model.specs.Ticks.{sends_again, ticks_port}
-use Rattle.port_model.specs.Labels.{Label}
-use Rattle.port_model.specs.Ticks as port_ticks
+use Rattle.world_model.specs.Words.{PortNo, Channel, End, Mark, next_control, with_control, number_of_channel, is_estab, Request, AddBranch, MoveBranch, DeleteTree, VerifyTree, PortManagement, ifmp_packet_of, RouteChange, default_payload, Loss, Part, PoolFull, noted, frame_cells, made, Desk, is_led_home, last_transaction, sent_again, Action, Say, Ask, Note, CutChain, TakeBack, Withdraw, home_of, Work, resets, closes, Controller, Linked, linked_at, with_linked, with_desk, default_channel, default_end, default_home, sends_control, sends_request, asks_next, asks, takes_back, begins, with_work, cuts_of, resets_gsmp, port_restarts, node_resets, does, does_in_estab, resets_of, performs, performs_in_estab, Rule, works, at_port, join_of, join_for, may_join, parts, releases_join, releases_input, released_inputs, resets_spent, releases, enters_grant, enters_label, joins, tries_label, label_on, tries_join, tells_port, up_ports, default_branches, ends_meeting, has_emptied, behind_delete_all, causes_in_estab, causes, may_clear, clears_of, clears_port, clears, changed_joins, takes_join_back, begins_change, sends_again, ticks_port, Label}
+use Rattle.world_model.specs.gsmp_wire.declared.request.Request.TheVariants.{DeleteAll, AllPorts}
+use Rattle.world_model.specs.gsmp_wire.Layout.{octets_of as gsmp_octets}
+use Rattle.world_model.specs.ifmp_wire.Message.{octets_of as ifmp_octets}
+use Rattle.world_model.specs.frame_model.Sending.{Sent}
+use Rattle.world_model.specs.port_model.Desk.{asked, message_at}
+use Rattle.world_model.specs.port_model.declared.action.Action.TheVariants as actions
+use Rattle.world_model.specs.port_model.Resets.{cleared}
+use Rattle.world_model.specs.port_model.Joins as port_joins
+use Rattle.world_model.specs.port_model.Answers as port_answers
+use Rattle.controller_law.proofs.port_facts.Keyed.{on_both}
+use Rattle.world_model.specs.Controller.{Acted, ports_of, note, free_slots}
+use Rattle.world_model.specs.Sending.{with_cells, sends}
+use Rattle.world_model.specs.Joins.{Join, output_of}
+use Rattle.world_model.specs.Meeting.{port_of}
+use Rattle.world_model.specs.port_model.Ticks as port_ticks
 use Rattle.input_steps.proofs.Resets.{still_fold, restarts_still}
 
 abbrev pub KeepsRows : Acted → Acted → Type 0

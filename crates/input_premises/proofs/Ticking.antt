@@ -1,38 +1,23 @@
 -- a tick of a controller may be done: what stands is sent again, each port ticks, and joins are tried
 
 use Rattle.std.proofs.Common.{◌≡◌, ◌≤◌, ◌<◌, ℕ, suc, zero, List, [], ◌∷◌, ◌++◌, take, None, Some, refl, sym, ◌∙◌, subst, arith, fold, flat_map, append_assoc}
-use Rattle.net_types.specs.declared.node.PortNo.{PortNo}
-use Rattle.net_types.specs.declared.channel.End.{End}
-use Rattle.net_types.specs.declared.adjacency.Greeting.{Greeting}
-use Rattle.net_types.specs.declared.adjacency.Party.{Party}
-use Rattle.adjacency_table.specs.declared.message.Answer.{Answer}
-use Rattle.adjacency_table.specs.declared.message.Answer.TheVariants.{Quiet, Send, Open, Reset}
-use Rattle.adjacency_table.specs.Greeting.{gsmp_answer}
-use Rattle.adjacency_table.specs.Side as sides
-use Rattle.adjacency_table.specs.Side.{ticked}
-use Rattle.crossbar_model.specs.Channels.{IsLinkPort}
-use Rattle.gsmp_wire.specs.Layout.{octets_of as gsmp_octets}
-use Rattle.gsmp_wire.specs.declared.message.Message.{Message}
-use Rattle.gsmp_wire.specs.declared.message.Message.TheVariants.{Adjacency}
-use Rattle.gsmp_wire.specs.declared.request.Request.TheVariants.{AllPorts}
-use Rattle.gsmp_wire.specs.declared.rows.PortRow.{PortRow}
-use Rattle.ordered_lists.specs.Ordered.{Every}
-use Rattle.port_model.specs.Desk.{Desk, Standing, empty_desk, last_transaction, sent_again}
-use Rattle.port_model.specs.Setup.{Setup}
-use Rattle.port_model.specs.Ticks as port_ticks
-use Rattle.port_facts.specs.Port.{IsLabelEnd, IsPort, IsShaped}
-use Rattle.port_facts.proofs.Hearings.{ticks_goes}
-use Rattle.world_model.specs.Controller.{Acted, Linked, ports_of, with_desk, default_channel}
-use Rattle.world_model.specs.Sending.{says_gsmp}
-use Rattle.world_model.specs.Resets.{begins}
-use Rattle.world_model.specs.Joins.{inputs_at}
-use Rattle.world_model.specs.Meeting.{meets}
+use Rattle.world_model.specs.Words.{PortNo, End, Greeting, Party, Answer, Quiet, Send, Open, gsmp_answer, ticked, IsLinkPort, PortRow, Desk, Standing, empty_desk, last_transaction, sent_again, Setup, Linked, with_desk, default_channel, says_gsmp, begins, inputs_at, meets, ticks_port}
+use Rattle.world_model.specs.adjacency_table.declared.message.Answer.TheVariants.{Reset}
+use Rattle.world_model.specs.adjacency_table.Side as sides
+use Rattle.world_model.specs.gsmp_wire.Layout.{octets_of as gsmp_octets}
+use Rattle.world_model.specs.gsmp_wire.declared.message.Message.{Message}
+use Rattle.world_model.specs.gsmp_wire.declared.message.Message.TheVariants.{Adjacency}
+use Rattle.world_model.specs.gsmp_wire.declared.request.Request.TheVariants.{AllPorts}
+use Rattle.controller_law.specs.ordered_lists.Ordered.{Every}
+use Rattle.world_model.specs.port_model.Ticks as port_ticks
+use Rattle.controller_law.specs.port_facts.Port.{IsLabelEnd, IsPort, IsShaped}
+use Rattle.controller_law.proofs.port_facts.Hearings.{ticks_goes}
+use Rattle.world_model.specs.Controller.{Acted, ports_of}
 use Rattle.world_model.specs.Gsmp.{answers, steps}
-use Rattle.world_model.specs.Ticks.{ticks_port}
-use Rattle.controller_facts.proofs.Moves.{ages, Found, HasPorts}
-use Rattle.controller_facts.proofs.Joining.{every_flat_map, each_there}
-use Rattle.controller_facts.proofs.Entering.{inputs_of_port}
-use Rattle.controller_facts.proofs.Laws.{has_ports}
+use Rattle.controller_law.proofs.controller_facts.Moves.{ages, Found, HasPorts}
+use Rattle.controller_law.proofs.controller_facts.Joining.{every_flat_map, each_there}
+use Rattle.controller_law.proofs.controller_facts.Entering.{inputs_of_port}
+use Rattle.controller_law.proofs.controller_facts.Laws.{has_ports}
 use Rattle.controller_law.proofs.Holding.{Holds}
 use Rattle.controller_law.proofs.Performing.{at_port_holds}
 use Rattle.controller_law.proofs.Whole.{Whole, holds_of}

@@ -2,31 +2,19 @@
 
 use Rattle.std.proofs.Common.{◌≡◌, ◌≤◌, ℕ, true, List, [], ◌∷◌, length, Option, None, Some, refl, sym, ◌∙◌, ap, subst, arith}
 use Rattle.std.specs.Prelude.{◌&&◌, not, is_none, nat_lt}
-use Rattle.net_types.specs.declared.channel.End.{End}
-use Rattle.net_types.specs.Label.{number_of_channel}
-use Rattle.ipv4_packet.specs.Parts.{flow_destination}
-use Rattle.gsmp_wire.specs.declared.request.Request.TheVariants.{MoveBranch}
-use Rattle.ordered_lists.specs.Ordered.{Every}
-use Rattle.keyed_lists.specs.Keyed.{at}
-use Rattle.port_model.specs.Desk.{on_input, most_asked}
-use Rattle.port_model.specs.Setup.{Setup, home_of}
-use Rattle.port_model.specs.Labels.{Label, Offered, label_number}
-use Rattle.port_model.specs.Grants.{Grant, ByController, grant_label}
-use Rattle.port_model.specs.Port.{Work, label_at, labels_of}
-use Rattle.port_model.specs.Joins as port_joins
-use Rattle.port_facts.specs.Port.{IsLabelEnd, joins_label}
-use Rattle.port_facts.proofs.Keyed.{on_each}
-use Rattle.port_facts.proofs.Instances.{joined_gave, lent_gave}
-use Rattle.port_facts.proofs.Rules.{and_first}
-use Rattle.world_model.specs.Controller.{Acted, Linked, linked_at}
-use Rattle.world_model.specs.Resets.{begins, with_work}
-use Rattle.world_model.specs.Performing.{performs_in_estab}
-use Rattle.world_model.specs.Joins.{Join, output_of, join_for, is_offered, may_join, enters_grant, enters_label, joins, tries_label, label_on, tries_join}
-use Rattle.world_model.specs.Routes.{route_stays}
-use Rattle.controller_facts.proofs.Moves.{Found, HasPorts}
-use Rattle.controller_facts.proofs.Joining.{image_is}
-use Rattle.controller_facts.proofs.Entering.{granted_end, is_offered_by, OnPort, on_port, lends_labels, IsFor, found_for}
-use Rattle.controller_facts.proofs.Laws.{has_ports}
+use Rattle.world_model.specs.Words.{End, number_of_channel, flow_destination, MoveBranch, at, on_input, most_asked, Setup, home_of, Label, Offered, label_number, Grant, ByController, grant_label, Work, label_at, labels_of, Linked, linked_at, begins, with_work, performs_in_estab, join_for, is_offered, may_join, enters_grant, enters_label, joins, tries_label, label_on, tries_join, route_stays}
+use Rattle.controller_law.specs.ordered_lists.Ordered.{Every}
+use Rattle.world_model.specs.port_model.Joins as port_joins
+use Rattle.controller_law.specs.port_facts.Port.{IsLabelEnd, joins_label}
+use Rattle.controller_law.proofs.port_facts.Keyed.{on_each}
+use Rattle.controller_law.proofs.port_facts.Instances.{joined_gave, lent_gave}
+use Rattle.controller_law.proofs.port_facts.Rules.{and_first}
+use Rattle.world_model.specs.Controller.{Acted}
+use Rattle.world_model.specs.Joins.{Join, output_of}
+use Rattle.controller_law.proofs.controller_facts.Moves.{Found, HasPorts}
+use Rattle.controller_law.proofs.controller_facts.Joining.{image_is}
+use Rattle.controller_law.proofs.controller_facts.Entering.{granted_end, is_offered_by, OnPort, on_port, lends_labels, IsFor, found_for}
+use Rattle.controller_law.proofs.controller_facts.Laws.{has_ports}
 use Rattle.controller_law.proofs.Holding.{Holds, lent_met}
 use Rattle.controller_law.proofs.Entering.{IsLentNow, lent_at_port, enters_label_lent, joins_holds}
 use Rattle.input_steps.specs.Asking.{CanEach, CanPerformInEstab, CanApply}

@@ -3,41 +3,24 @@
 use Rattle.std.proofs.Common.{◌≡◌, ℕ, Bool, true, false, List, [], ◌∷◌, ◌++◌, Option, None, Some, refl, sym, ◌∙◌, ap, subst, if◌then◌else◌, is_some}
 use Rattle.std.specs.Prelude.{◌+◌, ◌||◌, nat_lt}
 use Rattle.std.specs.Option.{option_map, option_map_or}
-use Rattle.net_types.specs.declared.adjacency.Peer.{Peer}
-use Rattle.net_types.specs.declared.channel.End.{End}
-use Rattle.net_types.specs.Label.{number_of_channel}
-use Rattle.adjacency_table.specs.declared.State.{State}
-use Rattle.adjacency_table.specs.declared.State.TheVariants.{Clearing}
-use Rattle.adjacency_table.specs.declared.message.Said.{Said}
-use Rattle.adjacency_table.specs.declared.message.Answer.{Answer}
-use Rattle.adjacency_table.specs.declared.message.Answer.TheVariants.{Quiet, Send, Open, Reset}
-use Rattle.adjacency_table.specs.Side as sides
-use Rattle.adjacency_table.specs.Side.{Side, IsSide, is_estab}
-use Rattle.adjacency_table.specs.Hello.{ifmp_answer, hello_of, heard_from, same_peer}
-use Rattle.gsmp_wire.specs.declared.request.Request.TheVariants.{AddBranch, DeleteTree}
-use Rattle.ifmp_wire.specs.declared.message.Message.TheVariants.{Adjacency}
-use Rattle.link_model.specs.declared.record.Record.TheVariants.{Bind, Free, Join, Opened}
-use Rattle.ordered_lists.specs.Ordered.{Every}
-use Rattle.ordered_lists.proofs.Every.{every_join}
-use Rattle.keyed_lists.specs.Keyed.{at, put, without, entered, key_le}
-use Rattle.port_model.specs.Desk.{Desk, on_input}
-use Rattle.port_model.specs.declared.action.Action.{Action}
-use Rattle.port_model.specs.declared.action.Action.TheVariants as actions
-use Rattle.port_model.specs.declared.action.Action.TheVariants.{Say, Ask, Note, CutChain, TakeBack, Withdraw}
-use Rattle.port_model.specs.Setup.{Setup, label_end, control_end}
-use Rattle.port_model.specs.Labels.{Label, Wiring, Offered, Wired, label_number}
-use Rattle.port_model.specs.Grants.{Grant, Idle, ByController, grant_label}
-use Rattle.port_model.specs.Port.{Session, Work, acts, halts, with_session, with_label, with_new_label, without_label, with_grants, desk_after, has_room}
-use Rattle.port_model.specs.Saying.{Unnumbered, last_number, spent_number, own_of, peer_of, is_spent, tells_in, tells, closes}
-use Rattle.port_model.specs.Adjacency.{first_session, opens, answers}
-use Rattle.port_model.specs.Redirection.{accepts}
-use Rattle.port_facts.specs.Port.{setup_port, IsPort, IsWork}
-use Rattle.port_facts.proofs.Keyed.{on_both}
-use Rattle.port_facts.proofs.Kept.{step_kept}
-use Rattle.port_facts.proofs.Steps as steps_of
-use Rattle.port_facts.proofs.Steps.{IsTurn, hears, ages, Step, greeting, telling, closing, noting, turning, heard, minding, relabelling, wiring, binding, quitting, unwiring, freeing, accepting, granting, regranting, starting, ending, Goes, goes_keeps}
-use Rattle.port_facts.proofs.Shut.{quiet_turn}
-use Rattle.port_facts.proofs.Turns.{IsTurned, received_turns, ticked_turns}
+use Rattle.world_model.specs.Words.{Peer, End, number_of_channel, State, Clearing, Said, Answer, Quiet, Send, Open, Side, IsSide, is_estab, ifmp_answer, hello_of, heard_from, same_peer, AddBranch, DeleteTree, Bind, Free, Opened, at, put, without, entered, key_le, Desk, on_input, Action, Say, Ask, Note, CutChain, TakeBack, Withdraw, Setup, label_end, control_end, Label, Wiring, Offered, Wired, label_number, Grant, Idle, ByController, grant_label, Session, Work, halts, with_session, with_label, with_new_label, without_label, with_grants, desk_after, has_room, Unnumbered, last_number, spent_number, own_of, is_spent, tells_in, tells, closes, first_session, opens, accepts}
+use Rattle.world_model.specs.adjacency_table.declared.message.Answer.TheVariants.{Reset}
+use Rattle.world_model.specs.adjacency_table.Side as sides
+use Rattle.world_model.specs.ifmp_wire.declared.message.Message.TheVariants.{Adjacency}
+use Rattle.world_model.specs.link_model.declared.record.Record.TheVariants.{Join}
+use Rattle.controller_law.specs.ordered_lists.Ordered.{Every}
+use Rattle.controller_law.proofs.ordered_lists.Every.{every_join}
+use Rattle.world_model.specs.port_model.declared.action.Action.TheVariants as actions
+use Rattle.world_model.specs.port_model.Port.{acts}
+use Rattle.world_model.specs.port_model.Saying.{peer_of}
+use Rattle.world_model.specs.port_model.Adjacency.{answers}
+use Rattle.controller_law.specs.port_facts.Port.{setup_port, IsPort, IsWork}
+use Rattle.controller_law.proofs.port_facts.Keyed.{on_both}
+use Rattle.controller_law.proofs.port_facts.Kept.{step_kept}
+use Rattle.controller_law.proofs.port_facts.Steps as steps_of
+use Rattle.controller_law.proofs.port_facts.Steps.{IsTurn, hears, ages, Step, greeting, telling, closing, noting, turning, heard, minding, relabelling, wiring, binding, quitting, unwiring, freeing, accepting, granting, regranting, starting, ending, Goes, goes_keeps}
+use Rattle.controller_law.proofs.port_facts.Shut.{quiet_turn}
+use Rattle.controller_law.proofs.port_facts.Turns.{IsTurned, received_turns, ticked_turns}
 
 -- *No withdrawal*
 abbrev pub WithdrawsNone : Action → Type 0

@@ -3,33 +3,19 @@
 use Rattle.std.proofs.Common.{◌≡◌, ◌≤◌, Bool, true, false, List, [], ◌∷◌, ◌++◌, Option, None, Some, refl, sym, ◌∙◌, ap, subst, fold, if◌then◌else◌, inl, inr}
 use Rattle.std.specs.Prelude.{◌⊎◌}
 use Rattle.std.specs.List.{list_any}
-use Rattle.net_types.specs.declared.node.PortNo.{PortNo}
-use Rattle.net_types.specs.declared.channel.End.{End}
-use Rattle.adjacency_table.specs.declared.State.TheVariants.{Clearing}
-use Rattle.adjacency_table.specs.Side.{is_estab}
-use Rattle.gsmp_wire.specs.declared.request.Request.{Request}
-use Rattle.gsmp_wire.specs.declared.request.Request.TheVariants.{AddBranch, MoveBranch, DeleteTree, VerifyTree, DeleteAll, PortManagement, AllPorts}
-use Rattle.crossbar_model.specs.Channels.{IsLinkPort}
-use Rattle.ordered_lists.specs.Ordered.{Every}
-use Rattle.ordered_lists.proofs.Every.{every_map}
-use Rattle.keyed_lists.specs.Keyed.{at, put}
-use Rattle.port_model.specs.Requests.{is_delete_all}
-use Rattle.port_model.specs.Desk.{Desk, Standing, all_on}
-use Rattle.port_model.specs.declared.action.Action.{Action}
-use Rattle.port_model.specs.declared.action.Action.TheVariants as actions
-use Rattle.port_model.specs.declared.action.Action.TheVariants.{Say, Ask, Note, CutChain, TakeBack, Withdraw}
-use Rattle.port_model.specs.Setup.{Setup}
-use Rattle.port_model.specs.Port.{Work, desk_with}
-use Rattle.port_facts.specs.Port.{setup_port, IsAction, parts_label}
-use Rattle.port_facts.proofs.Keyed.{at_every, at_put_same, every_more}
-use Rattle.port_facts.proofs.Steps.{Goes}
-use Rattle.world_model.specs.Controller.{Acted, Linked, port_key, linked_at}
-use Rattle.world_model.specs.Resets.{begins, with_work}
-use Rattle.world_model.specs.Performing.{does, does_in_estab, performs, performs_in_estab, Rule}
-use Rattle.controller_facts.specs.Sound.{IsShutLinked}
-use Rattle.controller_facts.proofs.Moves.{by_rule, Found, HasPorts, found_setup, found_at_own, begun}
-use Rattle.controller_facts.proofs.Numbers.{worked_draws}
-use Rattle.controller_facts.proofs.Laws.{has_ports}
+use Rattle.world_model.specs.Words.{PortNo, End, Clearing, is_estab, Request, AddBranch, MoveBranch, DeleteTree, VerifyTree, PortManagement, IsLinkPort, at, put, is_delete_all, Desk, Standing, all_on, Action, Say, Ask, Note, CutChain, TakeBack, Withdraw, Setup, Work, desk_with, Linked, port_key, linked_at, begins, with_work, does, does_in_estab, performs, performs_in_estab, Rule}
+use Rattle.world_model.specs.gsmp_wire.declared.request.Request.TheVariants.{DeleteAll, AllPorts}
+use Rattle.controller_law.specs.ordered_lists.Ordered.{Every}
+use Rattle.controller_law.proofs.ordered_lists.Every.{every_map}
+use Rattle.world_model.specs.port_model.declared.action.Action.TheVariants as actions
+use Rattle.controller_law.specs.port_facts.Port.{setup_port, IsAction, parts_label}
+use Rattle.controller_law.proofs.port_facts.Keyed.{at_every, at_put_same, every_more}
+use Rattle.controller_law.proofs.port_facts.Steps.{Goes}
+use Rattle.world_model.specs.Controller.{Acted}
+use Rattle.controller_law.specs.controller_facts.Sound.{IsShutLinked}
+use Rattle.controller_law.proofs.controller_facts.Moves.{by_rule, Found, HasPorts, found_setup, found_at_own, begun}
+use Rattle.controller_law.proofs.controller_facts.Numbers.{worked_draws}
+use Rattle.controller_law.proofs.controller_facts.Laws.{has_ports}
 use Rattle.controller_law.specs.Order.{lends, lends_at, is_lent, IsClearingAt, IsOfClearing}
 use Rattle.controller_law.proofs.Lists.{any_at, any_put_leads, each_any}
 use Rattle.controller_law.proofs.Asked.{MayAct, MayActs, IsLast, IsNoReset, AsksNoBranch, may_more, Both, goes_asks}

@@ -4,24 +4,15 @@ use Rattle.std.proofs.Common.{◌≡◌, ℕ, ◌<◌, ◌≤◌, ◌^◌, Bool,
 use Rattle.std.specs.Prelude.{◌==◌}
 use Rattle.std.specs.Option.{option_map_or}
 use Rattle.std.proofs.lemmas.Bool.Decides.{nat_tests}
-use Rattle.net_types.specs.declared.channel.Channel.{Channel}
-use Rattle.net_types.specs.declared.channel.End.{End}
-use Rattle.net_types.specs.declared.node.PortNo.{PortNo}
-use Rattle.net_types.specs.Label.{is_label_channel}
-use Rattle.crossbar_model.specs.Channels.{IsLinkPort}
-use Rattle.gsmp_wire.specs.Range.{FitsChannel, FitsRows, Fits}
-use Rattle.gsmp_wire.specs.declared.message.Message.{Message}
-use Rattle.gsmp_wire.specs.declared.request.Request.{Request}
-use Rattle.gsmp_wire.specs.declared.request.Request.TheVariants.{AddBranch, MoveBranch, DeleteTree, DeleteAll, AllPorts}
-use Rattle.gsmp_wire.specs.declared.rows.PortRow.{PortRow}
+use Rattle.world_model.specs.Words.{Channel, End, PortNo, is_label_channel, IsLinkPort, FitsChannel, FitsRows, Fits, Request, AddBranch, MoveBranch, DeleteTree, PortRow, at, session_of, message_of, Setup, home_of}
+use Rattle.world_model.specs.gsmp_wire.declared.message.Message.{Message}
+use Rattle.world_model.specs.gsmp_wire.declared.request.Request.TheVariants.{DeleteAll, AllPorts}
 use Rattle.gsmp_reading.specs.Said.{asks, no_branch, all_asked, IsSaid}
-use Rattle.ordered_lists.specs.Ordered.{Every}
-use Rattle.keyed_lists.specs.Keyed.{at}
-use Rattle.port_model.specs.Messages.{row_of, session_of, message_of}
-use Rattle.port_model.specs.Setup.{Setup, home_of}
-use Rattle.port_facts.specs.Port.{setup_port, IsLabelEnd, IsLinked, IsDefaultEnd, IsShaped, asks_ports, empties_control, empties_port, opens_input, opens_output, leads_label, leads_grant, joins_label, parts_label, frees_label}
-use Rattle.port_facts.proofs.Keyed.{at_key, at_every}
-use Rattle.controller_facts.proofs.Conditions.{of_label, label_has_home}
+use Rattle.controller_law.specs.ordered_lists.Ordered.{Every}
+use Rattle.world_model.specs.port_model.Messages.{row_of}
+use Rattle.controller_law.specs.port_facts.Port.{setup_port, IsLabelEnd, IsLinked, IsDefaultEnd, IsShaped, asks_ports, empties_control, empties_port, opens_input, opens_output, leads_label, leads_grant, joins_label, parts_label, frees_label}
+use Rattle.controller_law.proofs.port_facts.Keyed.{at_key, at_every}
+use Rattle.controller_law.proofs.controller_facts.Conditions.{of_label, label_has_home}
 use Rattle.controller_law.proofs.Ordering.{same_number}
 
 -- *As it is said*: the numbers have their fields' widths, and what it has no use for is 0

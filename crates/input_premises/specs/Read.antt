@@ -1,12 +1,8 @@
 -- What a controller asks is read by its switch as it was said, by the records that the controller keeps of the ports
 
 use Rattle.std.specs.Prelude.{ℕ, ◌<◌, List}
-use Rattle.gsmp_wire.specs.declared.request.Request.{Request}
-use Rattle.gsmp_wire.specs.declared.rows.PortRow.{PortRow}
-use Rattle.port_model.specs.Desk.{last_transaction}
-use Rattle.port_model.specs.Messages.{message_of}
-use Rattle.port_model.specs.Setup.{Setup}
-use Rattle.port_facts.specs.Port.{IsShaped}
+use Rattle.world_model.specs.Words.{Request, PortRow, last_transaction, message_of, Setup}
+use Rattle.controller_law.specs.port_facts.Port.{IsShaped}
 use Rattle.input_steps.specs.Asking.{IsReadable}
 
 -- under each transaction number that it uses

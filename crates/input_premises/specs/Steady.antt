@@ -1,12 +1,9 @@
 -- What is so of a controller between events, as far as the lines of its inputs need it
 
-use Rattle.crossbar_model.specs.Channels.{IsLinkPort}
-use Rattle.gsmp_wire.specs.Range.{FitsRows}
-use Rattle.ordered_lists.specs.Ordered.{Every}
-use Rattle.port_model.specs.Setup.{Setup}
+use Rattle.world_model.specs.Words.{IsLinkPort, FitsRows, Setup, Controller}
+use Rattle.controller_law.specs.ordered_lists.Ordered.{Every}
 use Rattle.std.specs.Prelude.{List}
-use Rattle.world_model.specs.Controller.{Controller}
-use Rattle.controller_facts.specs.Sound.{IsSound}
+use Rattle.controller_law.specs.controller_facts.Sound.{IsSound}
 use Rattle.controller_law.specs.Order.{IsOrderly}
 use Rattle.controller_law.specs.Match.{IsMatched}
 

@@ -9,23 +9,12 @@
 #![tactic(auto)]
 
 ghost use Rattle.std.specs.Prelude.{◌≡◌, ◌≤◌, ◌<◌, ◌^◌, ℕ, Bool, Option, Some, find, true};
-ghost use Rattle.net_types.specs.declared.channel.End.{End};
-ghost use Rattle.net_types.specs.declared.node.NodeId.{NodeId};
-ghost use Rattle.net_types.specs.declared.node.PortNo.{PortNo};
-ghost use Rattle.net_types.specs.declared.prefix.Addr.{Addr};
-ghost use Rattle.adjacency_table.specs.Side.{ticked};
-ghost use Rattle.adjacency_table.specs.Greeting.{gsmp_answer, greeting_of};
-ghost use Rattle.adjacency_table.specs.Ends.{said_by};
-ghost use Rattle.adjacency_table.specs.Instances.{SideByInstances, greeting};
-ghost use Rattle.net_types.specs.declared.adjacency.HelloKind.{HelloKind};
-ghost use Rattle.gsmp_wire.specs.declared.message.Message.TheVariants.{Adjacency};
-ghost use Rattle.ifmp_wire.specs.declared.message.Message.{Message};
-ghost use Rattle.port_model.specs.Desk.{Standing};
-ghost use Rattle.port_model.specs.DeskAnswers.{without_request};
-ghost use Rattle.port_model.specs.Hearing.{hears};
-ghost use Rattle.port_facts.specs.Port.{Lives};
-ghost use Rattle.world_model.specs.Controller.{Acted, linked_at, with_desk};
-ghost use Rattle.input_views.specs.Shown.{controller_of, switch_of};
+ghost use Rattle.world_model.specs.Words.{End, NodeId, PortNo, Addr, ticked, gsmp_answer, greeting_of, said_by, SideByInstances, greeting, HelloKind, Standing, without_request, hears, linked_at, with_desk};
+ghost use Rattle.world_model.specs.gsmp_wire.declared.message.Message.TheVariants.{Adjacency};
+ghost use Rattle.world_model.specs.ifmp_wire.declared.message.Message.{Message};
+ghost use Rattle.controller_law.specs.port_facts.Port.{Lives};
+ghost use Rattle.world_model.specs.Controller.{Acted};
+ghost use Rattle.input_steps.specs.input_views.Shown.{controller_of, switch_of};
 ghost use Rattle.input_steps.specs.Asking.{CanApply, IsReadable};
 ghost use Rattle.input_steps.specs.Hearing.{Reads};
 ghost use Rattle.input_steps.specs.Ticks.{CanTick};

@@ -2,33 +2,17 @@
 
 use Rattle.std.proofs.Common.{◌≡◌, ◌≢◌, ◌≤◌, Bool, true, false, not, List, [], ◌∷◌, Option, Some, None, refl, sym, ◌∙◌, ap, subst, filter, fold, arith, if◌then◌else◌}
 use Rattle.std.specs.Prelude.{◌==◌}
-use Rattle.net_types.specs.declared.channel.Channel.{Channel}
-use Rattle.net_types.specs.declared.channel.End.{End}
-use Rattle.net_types.specs.declared.node.NodeId.{NodeId}
-use Rattle.net_types.specs.declared.node.PortNo.{PortNo}
-use Rattle.adjacency_table.specs.Side.{is_estab}
-use Rattle.gsmp_wire.specs.declared.request.Request.{Request}
-use Rattle.gsmp_wire.specs.declared.request.Request.TheVariants.{AddBranch, MoveBranch, DeleteTree, VerifyTree, DeleteAll, PortManagement, AllPorts}
-use Rattle.gsmp_wire.specs.Layout.{octets_of}
-use Rattle.ordered_lists.specs.Ordered.{Every, InOrder}
-use Rattle.ordered_lists.proofs.Every.{every_map}
-use Rattle.ordered_lists.proofs.Parts.{IsPart, part_mapped}
-use Rattle.crossbar_model.specs.Crossbar.{same_end}
-use Rattle.port_model.specs.Requests.{is_on}
-use Rattle.port_model.specs.Desk.{Standing, asked, is_led_home, last_transaction}
-use Rattle.port_model.specs.Messages.{message_of}
-use Rattle.port_model.specs.declared.action.Action.{Action}
-use Rattle.port_model.specs.declared.action.Action.TheVariants.{Say, Ask, Note, CutChain, TakeBack, Withdraw, Reset}
-use Rattle.port_model.specs.Setup.{home_of}
-use Rattle.port_model.specs.Port.{Work}
-use Rattle.port_model.specs.Resets.{resets}
-use Rattle.branch_line.specs.Line.{Other, Meeting, Listing, Emptying, Met, MetAndAsked, Line}
-use Rattle.branch_line.specs.Asking.{has_met}
-use Rattle.world_model.specs.Switch.{Switch}
-use Rattle.world_model.specs.Controller.{Acted, Linked, linked_at, with_desk, default_channel, default_home}
-use Rattle.world_model.specs.Asking.{asks_next, asks, takes_back, withdraws_input}
-use Rattle.world_model.specs.Resets.{begins, with_work, node_resets}
-use Rattle.world_model.specs.Performing.{does, does_in_estab, resets_as, resets_of, performs, performs_in_estab, Rule, works_as, works, at_port}
+use Rattle.world_model.specs.Words.{Channel, End, NodeId, PortNo, is_estab, Request, AddBranch, MoveBranch, DeleteTree, VerifyTree, PortManagement, same_end, is_on, Standing, is_led_home, last_transaction, message_of, Action, Say, Ask, Note, CutChain, TakeBack, Withdraw, home_of, Work, resets, Switch, Linked, linked_at, with_desk, default_channel, default_home, asks_next, asks, takes_back, withdraws_input, begins, with_work, node_resets, does, does_in_estab, resets_as, resets_of, performs, performs_in_estab, Rule, works_as, works, at_port}
+use Rattle.world_model.specs.gsmp_wire.declared.request.Request.TheVariants.{DeleteAll, AllPorts}
+use Rattle.world_model.specs.gsmp_wire.Layout.{octets_of}
+use Rattle.input_views.specs.ordered_lists.Ordered.{Every, InOrder}
+use Rattle.input_views.proofs.ordered_lists.Every.{every_map}
+use Rattle.input_views.proofs.ordered_lists.Parts.{IsPart, part_mapped}
+use Rattle.world_model.specs.port_model.Desk.{asked}
+use Rattle.world_model.specs.port_model.declared.action.Action.TheVariants.{Reset}
+use Rattle.input_views.specs.branch_line.Line.{Other, Meeting, Listing, Emptying, Met, MetAndAsked, Line}
+use Rattle.input_views.specs.branch_line.Asking.{has_met}
+use Rattle.world_model.specs.Controller.{Acted}
 use Rattle.input_views.specs.Words.{is_own, own_of, other_of, others_of}
 use Rattle.input_views.specs.Shown.{AskedShows, IsAllPorts, IsDeleteAll, PhaseShows}
 use Rattle.input_steps.specs.Part.{Part, part_at, Stands, Reaches, AnyLine, Leads}

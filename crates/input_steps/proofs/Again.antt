@@ -1,22 +1,15 @@
 -- requests that stand are sent again
 
 use Rattle.std.proofs.Common.{◌≡◌, ℕ, Bool, true, false, not, List, [], ◌∷◌, ◌++◌, Some, refl, sym, ◌∙◌, ap, subst, filter, map, fold, replicate, append_assoc, if◌then◌else◌, arith}
-use Rattle.net_types.specs.declared.channel.End.{End}
-use Rattle.net_types.specs.declared.node.NodeId.{NodeId}
-use Rattle.net_types.specs.Number.{next_control, with_control}
-use Rattle.adjacency_table.specs.Side.{is_estab}
-use Rattle.gsmp_wire.specs.Layout.{octets_of}
-use Rattle.frame_model.specs.Frame.{frame_cells}
-use Rattle.ordered_lists.specs.Ordered.{Every, InOrder}
-use Rattle.port_model.specs.Desk.{Desk, Standing, message_at, sent_again}
-use Rattle.branch_line.specs.Words.{ToSwitch, Copy, OnInput, Elsewhere}
-use Rattle.branch_line.specs.Line.{Asked, Apart, Unasked, Stands as Standing_at, Answered, Line}
-use Rattle.branch_line.specs.Asking.{ask_again}
-use Rattle.branch_line.specs.Moves.{Move, AskAgain, AskOtherAgain, step}
-use Rattle.world_model.specs.Switch.{Switch}
-use Rattle.world_model.specs.Controller.{Acted, default_channel}
-use Rattle.world_model.specs.Asking.{sends_request}
-use Rattle.world_model.specs.Ticks.{sends_again}
+use Rattle.world_model.specs.Words.{End, NodeId, next_control, with_control, is_estab, frame_cells, Desk, Standing, sent_again, Switch, default_channel, sends_request, sends_again}
+use Rattle.world_model.specs.gsmp_wire.Layout.{octets_of}
+use Rattle.input_views.specs.ordered_lists.Ordered.{Every, InOrder}
+use Rattle.world_model.specs.port_model.Desk.{message_at}
+use Rattle.input_views.specs.branch_line.Words.{ToSwitch, Copy, OnInput, Elsewhere}
+use Rattle.input_views.specs.branch_line.Line.{Asked, Apart, Unasked, Stands as Standing_at, Answered, Line}
+use Rattle.input_views.specs.branch_line.Asking.{ask_again}
+use Rattle.input_views.specs.branch_line.Moves.{Move, AskAgain, AskOtherAgain, step}
+use Rattle.world_model.specs.Controller.{Acted}
 use Rattle.input_views.specs.Words.{own_request, type_of, is_own, own_of, other_of, others_of}
 use Rattle.input_views.specs.Shown.{AskedShows, ShowsRequests}
 use Rattle.input_steps.specs.Part.{Part, part_at, Stands, Reaches, AnyLine, Leads}

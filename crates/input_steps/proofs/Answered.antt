@@ -4,26 +4,20 @@ use Rattle.std.proofs.Common.{◌≡◌, ℕ, ◌<◌, Bool, true, false, not, L
 use Rattle.std.specs.List.{list_any}
 use Rattle.std.specs.Prelude.{◌&&◌, ◌==◌}
 use Rattle.std.proofs.lemmas.Bool.Decides.{nat_tests}
-use Rattle.net_types.specs.declared.channel.End.{End}
-use Rattle.net_types.specs.declared.node.NodeId.{NodeId}
-use Rattle.adjacency_table.specs.Side.{is_estab}
-use Rattle.gsmp_wire.specs.declared.message.BranchKind.TheVariants as kinds
-use Rattle.gsmp_wire.specs.declared.message.Message.{Message}
-use Rattle.gsmp_wire.specs.declared.message.Message.TheVariants as messages
-use Rattle.gsmp_wire.specs.declared.request.Request.{Request}
-use Rattle.gsmp_wire.specs.declared.request.Request.TheVariants.{AddBranch, MoveBranch, DeleteTree, VerifyTree, DeleteAll, PortManagement, AllPorts}
-use Rattle.ordered_lists.specs.Ordered.{Every, InOrder}
-use Rattle.ordered_lists.proofs.Every.{every_map, every_left, every_right, every_join, every_mapped}
-use Rattle.ordered_lists.proofs.InOrder.{order_right, order_across}
-use Rattle.crossbar_model.specs.Crossbar.{same_end}
-use Rattle.port_model.specs.Desk.{Desk, Standing}
-use Rattle.port_model.specs.DeskAnswers.{is_of_type, without_request}
-use Rattle.branch_line.specs.Words as lines
-use Rattle.branch_line.specs.Words.{Request as LineRequest, OnInput, Elsewhere, message_type, Success, ToController, Answer}
-use Rattle.branch_line.specs.Line.{Asked, Apart, Unasked, Stands as Standing_at, Answered, Other, Meeting, Listing, Emptying, Met, MetAndAsked, Line, Controller}
-use Rattle.branch_line.specs.Asking.{has_met}
-use Rattle.branch_line.specs.Controller.{meeting_after, answers_asked, answers_other, answered as asked_answered, input_answered, other_answered, hear_answer}
-use Rattle.branch_line.specs.Moves.{ControllerTakes}
+use Rattle.world_model.specs.Words.{End, NodeId, is_estab, Request, AddBranch, MoveBranch, DeleteTree, VerifyTree, PortManagement, same_end, Desk, Standing, is_of_type, without_request}
+use Rattle.world_model.specs.gsmp_wire.declared.message.BranchKind.TheVariants as kinds
+use Rattle.world_model.specs.gsmp_wire.declared.message.Message.{Message}
+use Rattle.world_model.specs.gsmp_wire.declared.message.Message.TheVariants as messages
+use Rattle.world_model.specs.gsmp_wire.declared.request.Request.TheVariants.{DeleteAll, AllPorts}
+use Rattle.input_views.specs.ordered_lists.Ordered.{Every, InOrder}
+use Rattle.input_views.proofs.ordered_lists.Every.{every_map, every_left, every_right, every_join, every_mapped}
+use Rattle.input_views.proofs.ordered_lists.InOrder.{order_right, order_across}
+use Rattle.input_views.specs.branch_line.Words as lines
+use Rattle.input_views.specs.branch_line.Words.{Request as LineRequest, OnInput, Elsewhere, message_type, Success, ToController, Answer}
+use Rattle.input_views.specs.branch_line.Line.{Asked, Apart, Unasked, Stands as Standing_at, Answered, Other, Meeting, Listing, Emptying, Met, MetAndAsked, Line, Controller}
+use Rattle.input_views.specs.branch_line.Asking.{has_met}
+use Rattle.input_views.specs.branch_line.Controller.{meeting_after, answers_asked, answers_other, answered as asked_answered, input_answered, other_answered, hear_answer}
+use Rattle.input_views.specs.branch_line.Moves.{ControllerTakes}
 use Rattle.input_views.specs.Words.{own_request, type_of, word_by, word_of, is_own, own_of, other_of, others_of}
 use Rattle.input_views.specs.Shown.{StandsAs, AskedShows, IsAllPorts, IsDeleteAll, PhaseShows}
 use Rattle.input_steps.specs.Part.{Part, IsEarlier, IsNumbered, OwnShows, Stands, Reaches}

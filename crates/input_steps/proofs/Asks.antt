@@ -2,34 +2,21 @@
 
 use Rattle.std.proofs.Common.{◌≡◌, ℕ, ◌+◌, ◌<◌, Bool, true, false, not, List, [], ◌∷◌, ◌++◌, Option, Some, None, refl, sym, ◌∙◌, ap, subst, filter, map, replicate, append_assoc, append-nil, if◌then◌else◌, arith}
 use Rattle.std.specs.Prelude.{◌&&◌}
-use Rattle.net_types.specs.declared.channel.End.{End}
-use Rattle.net_types.specs.declared.node.NodeId.{NodeId}
-use Rattle.net_types.specs.declared.adjacency.Party.{Party}
-use Rattle.net_types.specs.Number.{next_control, with_control}
-use Rattle.adjacency_table.specs.Side.{Side, is_estab}
-use Rattle.atm_cells.specs.declared.cell.Cell.{Cell}
-use Rattle.gsmp_wire.specs.declared.message.Message.{Message}
-use Rattle.gsmp_wire.specs.declared.request.Request.{Request}
-use Rattle.gsmp_wire.specs.declared.request.Request.TheVariants.{AddBranch, MoveBranch, DeleteTree, VerifyTree, DeleteAll, PortManagement, AllPorts}
-use Rattle.gsmp_wire.specs.declared.rows.PortRow.{PortRow}
-use Rattle.gsmp_wire.specs.Layout.{octets_of}
-use Rattle.link_model.specs.declared.frames.Frame.{Frame}
-use Rattle.link_model.specs.Ledger.{payload_of}
-use Rattle.frame_model.specs.Frame.{frame_cells}
-use Rattle.ordered_lists.specs.Ordered.{Every, InOrder}
-use Rattle.ordered_lists.proofs.Every.{every_map, every_join}
-use Rattle.ordered_lists.proofs.InOrder.{order_join, order_mapped}
-use Rattle.ordered_lists.proofs.Parts.{IsPart, part_filtered, every_part, order_part}
-use Rattle.crossbar_model.specs.Crossbar.{same_end}
-use Rattle.port_model.specs.Desk.{Desk, Standing, asked, message_at}
-use Rattle.port_model.specs.Messages.{message_of}
-use Rattle.branch_line.specs.Words as lines
-use Rattle.branch_line.specs.Words.{ToSwitch, Copy, OnInput, Elsewhere}
-use Rattle.branch_line.specs.Line.{Asked, Apart, Unasked, Stands as Standing_at, Answered, Other, Meeting, Listing, Emptying, Met, MetAndAsked, Controller, Line}
-use Rattle.branch_line.specs.Asking.{has_met, deletes_all, ask}
-use Rattle.branch_line.specs.Moves.{Ask, AskAgain, AskOtherAgain, step}
-use Rattle.world_model.specs.Controller.{default_channel}
-use Rattle.shown_cells.specs.Seen.{Seen, Word}
+use Rattle.world_model.specs.Words.{End, NodeId, Party, next_control, with_control, Side, is_estab, Cell, Request, AddBranch, MoveBranch, DeleteTree, VerifyTree, PortManagement, PortRow, Frame, payload_of, frame_cells, same_end, Desk, Standing, message_of, default_channel}
+use Rattle.world_model.specs.gsmp_wire.declared.message.Message.{Message}
+use Rattle.world_model.specs.gsmp_wire.declared.request.Request.TheVariants.{DeleteAll, AllPorts}
+use Rattle.world_model.specs.gsmp_wire.Layout.{octets_of}
+use Rattle.input_views.specs.ordered_lists.Ordered.{Every, InOrder}
+use Rattle.input_views.proofs.ordered_lists.Every.{every_map, every_join}
+use Rattle.input_views.proofs.ordered_lists.InOrder.{order_join, order_mapped}
+use Rattle.input_views.proofs.ordered_lists.Parts.{IsPart, part_filtered, every_part, order_part}
+use Rattle.world_model.specs.port_model.Desk.{asked, message_at}
+use Rattle.input_views.specs.branch_line.Words as lines
+use Rattle.input_views.specs.branch_line.Words.{ToSwitch, Copy, OnInput, Elsewhere}
+use Rattle.input_views.specs.branch_line.Line.{Asked, Apart, Unasked, Stands as Standing_at, Answered, Other, Meeting, Listing, Emptying, Met, MetAndAsked, Controller, Line}
+use Rattle.input_views.specs.branch_line.Asking.{has_met, deletes_all, ask}
+use Rattle.input_views.specs.branch_line.Moves.{Ask, AskAgain, AskOtherAgain, step}
+use Rattle.input_views.specs.shown_cells.Seen.{Seen, Word}
 use Rattle.input_views.specs.Words.{own_request, type_of, word_of, is_own, own_of, other_of, others_of, seen_request, seen_on_gsmp, erased}
 use Rattle.input_views.specs.Shown.{controller_of, switch_of, AskedShows, PhaseShows, ShowsRequests}
 use Rattle.input_views.proofs.Cells.{frame_of_copies}

@@ -12,18 +12,14 @@ use Rattle.std.specs.FinMap as finite
 use Rattle.std.specs.FinMap.{IsAntisymmetric, nat_cmp-IsAntisymmetric}
 use Rattle.std.specs.Option.{option_map, option_map_or}
 use Rattle.std.proofs.lemmas.Cmp.{tied_itself}
-use Rattle.net_types.specs.declared.channel.End.{End}
-use Rattle.net_types.specs.declared.node.PortNo.{PortNo}
-use Rattle.ordered_lists.specs.Ordered.{Every}
-use Rattle.crossbar_model.specs.declared.branch.Branch.{Branch}
-use Rattle.crossbar_model.specs.Channels.{end_cmp}
-use Rattle.crossbar_model.specs.Crossbar.{Branches, output_of, new_branch, same_end}
-use Rattle.gsmp_wire.specs.declared.request.Request.{Request}
-use Rattle.gsmp_wire.specs.declared.request.Request.TheVariants.{AddBranch, MoveBranch, DeleteTree, VerifyTree, DeleteAll, PortManagement, AllPorts}
-use Rattle.world_model.specs.Requests.{Changed, added_by, moved_by, ended_by, ended, all_ended, inputs_on, cleared, branches_after}
-use Rattle.world_model.specs.Failures.{is_busy, lacks_branch}
-use Rattle.branch_line.specs.Words as lines
-use Rattle.branch_line.specs.Switch.{branch_after}
+use Rattle.world_model.specs.Words.{End, PortNo, end_cmp, Branches, new_branch, same_end, Request, AddBranch, MoveBranch, DeleteTree, VerifyTree, PortManagement, Changed, added_by, moved_by, ended_by, all_ended, inputs_on, branches_after, is_busy, lacks_branch}
+use Rattle.input_views.specs.ordered_lists.Ordered.{Every}
+use Rattle.world_model.specs.crossbar_model.declared.branch.Branch.{Branch}
+use Rattle.world_model.specs.crossbar_model.Crossbar.{output_of}
+use Rattle.world_model.specs.gsmp_wire.declared.request.Request.TheVariants.{DeleteAll, AllPorts}
+use Rattle.world_model.specs.Requests.{ended, cleared}
+use Rattle.input_views.specs.branch_line.Words as lines
+use Rattle.input_views.specs.branch_line.Switch.{branch_after}
 use Rattle.input_views.specs.Words.{word_of}
 use Rattle.input_steps.proofs.Ends.{same_is, same_self, IsAsked, concerns, on_input, word_on, word_away}
 

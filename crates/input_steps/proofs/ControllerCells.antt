@@ -2,36 +2,24 @@
 
 use Rattle.std.proofs.Common.{◌≡◌, ℕ, Bool, true, false, not, List, [], ◌∷◌, ◌++◌, Option, Some, None, refl, sym, ◌∙◌, ap, subst, length, drop, slice_set, slice_index_or, if◌then◌else◌}
 use Rattle.std.specs.Prelude.{nat_le, nat_lt}
-use Rattle.net_types.specs.declared.channel.End.{End}
-use Rattle.net_types.specs.declared.node.NodeId.{NodeId}
-use Rattle.atm_cells.specs.declared.cell.Cell.{Cell}
-use Rattle.gsmp_wire.specs.declared.message.Message.{Message}
-use Rattle.gsmp_wire.specs.declared.message.Message.TheVariants as messages
-use Rattle.gsmp_wire.specs.Fields.{decoded}
-use Rattle.link_model.specs.declared.frames.Frame.{Frame}
-use Rattle.link_model.specs.declared.record.Record.TheVariants.{Loss, Chance}
-use Rattle.link_model.specs.declared.record.Cause.TheVariants.{PoolFull}
-use Rattle.link_model.specs.Ledger.{payload_of, is_frame}
-use Rattle.link_model.specs.Notes.{Journal, noted}
-use Rattle.frame_model.specs.Frame.{octets_of, last_mark, payload_in, passed, tested, tested_by}
-use Rattle.frame_model.specs.Reassembly.{Reassembly, Taken, taken, marks_of, most_cells, passed_over, without_slot, too_long, joined}
-use Rattle.ordered_lists.proofs.Parts.{IsPart, left, part_whole, part_none}
-use Rattle.port_facts.proofs.Keyed.{on_each}
-use Rattle.crossbar_model.specs.Crossbar.{queue_of, popped}
-use Rattle.branch_line.specs.Words.{ToController}
-use Rattle.branch_line.specs.Line.{Line}
-use Rattle.branch_line.specs.Moves.{CarryToController, carry_to_controller}
-use Rattle.world_model.specs.Switch.{Switch, control_port}
-use Rattle.world_model.specs.Controller.{Acted, default_channel, free_slots}
-use Rattle.world_model.specs.Cells.{same_channel, ForGsmp, after_test, ends_frame, after_cell, takes_cell, cell_comes, taker_at, port_on, on_link}
-use Rattle.world_model.specs.Gsmp.{gsmp_holds}
-use Rattle.world_model.specs.Controller.{linked_at}
-use Rattle.world_model.specs.Ways.{gsmp_of}
-use Rattle.shown_cells.specs.Seen.{Seen, Nothing, Word, nothing}
-use Rattle.shown_cells.proofs.Shows.{First, no_word, a_word, first_of, one_hidden, shows_behind}
+use Rattle.world_model.specs.Words.{End, NodeId, Cell, Frame, Loss, Chance, PoolFull, payload_of, is_frame, Journal, noted, last_mark, payload_in, tested, tested_by, Reassembly, marks_of, most_cells, passed_over, without_slot, too_long, queue_of, popped, Switch, control_port, default_channel, same_channel, ForGsmp, takes_cell, taker_at, port_on, on_link, gsmp_holds, linked_at, gsmp_of}
+use Rattle.world_model.specs.gsmp_wire.declared.message.Message.{Message}
+use Rattle.world_model.specs.gsmp_wire.declared.message.Message.TheVariants as messages
+use Rattle.world_model.specs.gsmp_wire.Fields.{decoded}
+use Rattle.world_model.specs.frame_model.Frame.{octets_of, passed}
+use Rattle.world_model.specs.frame_model.Reassembly.{Taken, taken, joined}
+use Rattle.input_views.proofs.ordered_lists.Parts.{IsPart, left, part_whole, part_none}
+use Rattle.input_views.proofs.port_facts.Keyed.{on_each}
+use Rattle.input_views.specs.branch_line.Words.{ToController}
+use Rattle.input_views.specs.branch_line.Line.{Line}
+use Rattle.input_views.specs.branch_line.Moves.{CarryToController, carry_to_controller}
+use Rattle.world_model.specs.Controller.{Acted, free_slots}
+use Rattle.world_model.specs.Cells.{after_test, ends_frame, after_cell, cell_comes}
+use Rattle.input_views.specs.shown_cells.Seen.{Seen, Nothing, Word, nothing}
+use Rattle.input_views.proofs.shown_cells.Shows.{First, no_word, a_word, first_of, one_hidden, shows_behind}
 use Rattle.input_views.specs.Words.{erased_back, seen_answer, seen_on_gsmp, seen_cell}
 use Rattle.input_views.specs.Shown.{controller_of, switch_of, ShowsAnswers}
-use Rattle.shown_cells.proofs.Tested.{broken_frames, frame_is, last_is}
+use Rattle.input_views.proofs.shown_cells.Tested.{broken_frames, frame_is, last_is}
 use Rattle.input_steps.specs.Part.{Part, part_at, Stands, Reaches, AnyLine, Leads}
 use Rattle.input_steps.specs.Hearing.{IsEnded, IsHeld, ComesBack}
 use Rattle.input_steps.proofs.Goes.{stays, goes_to, by_move}

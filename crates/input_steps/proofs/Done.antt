@@ -1,32 +1,18 @@
 -- what the controller does at a success, once the switch is met: releases, what the answer causes, clearings, changes of routes
 
 use Rattle.std.proofs.Common.{◌≡◌, ℕ, Bool, true, false, List, [], ◌∷◌, fold, flat_map, Option, None, Some, refl, sym, ◌∙◌, ap, subst, arith, if◌then◌else◌}
-use Rattle.net_types.specs.declared.channel.End.{End}
-use Rattle.net_types.specs.declared.node.NodeId.{NodeId}
-use Rattle.net_types.specs.declared.node.PortNo.{PortNo}
-use Rattle.net_types.specs.Label.{number_of_channel}
-use Rattle.ipv4_forward.specs.declared.change.RouteChange.{RouteChange}
-use Rattle.adjacency_table.specs.Side.{is_estab}
-use Rattle.gsmp_wire.specs.declared.request.Request.{Request}
-use Rattle.gsmp_wire.specs.declared.request.Request.TheVariants.{AddBranch, MoveBranch, DeleteTree, VerifyTree, DeleteAll, PortManagement, AllPorts}
-use Rattle.link_model.specs.declared.record.Record.TheVariants.{Part as Parted}
-use Rattle.port_model.specs.Saying.{closes}
-use Rattle.port_model.specs.Joins as port_joins
-use Rattle.port_model.specs.Answers as port_answers
-use Rattle.port_model.specs.Resets.{cleared}
-use Rattle.world_model.specs.Switch.{Switch}
-use Rattle.world_model.specs.Controller.{Acted, Linked, linked_at, ports_of, note, with_linked, with_desk, default_end, default_home}
-use Rattle.world_model.specs.Joins.{Join, join_of, output_of, parts, releases_join, releases_input, released_inputs, resets_spent, releases}
-use Rattle.world_model.specs.Meeting.{port_of, tells_port, has_emptied, ends_meeting, behind_delete_all, causes_in_estab, causes, may_clear, clears_of, clears_port, clears, done, default_branches, up_ports, takes_answer, answer_comes}
-use Rattle.world_model.specs.Asking.{asks}
-use Rattle.world_model.specs.Changes.{changed_joins, takes_join_back, begins_change, takes_change, may_take, takes_each, takes_changes}
-use Rattle.gsmp_wire.specs.declared.message.Message.{Message}
-use Rattle.port_model.specs.Desk.{Standing}
-use Rattle.port_model.specs.DeskAnswers.{Head, Answered, Done, answered, without_request}
-use Rattle.branch_line.specs.Words.{Answer, Success}
-use Rattle.branch_line.specs.Line.{Line}
+use Rattle.world_model.specs.Words.{End, NodeId, PortNo, number_of_channel, RouteChange, is_estab, Request, AddBranch, MoveBranch, DeleteTree, VerifyTree, PortManagement, Part as Parted, closes, Switch, Linked, linked_at, with_linked, with_desk, default_end, default_home, join_of, parts, releases_join, releases_input, released_inputs, resets_spent, releases, tells_port, has_emptied, ends_meeting, behind_delete_all, causes_in_estab, causes, may_clear, clears_of, clears_port, clears, default_branches, up_ports, takes_answer, answer_comes, asks, changed_joins, takes_join_back, begins_change, takes_change, may_take, takes_each, takes_changes, Standing, Head, Answered, Done, answered, without_request, asked_in}
+use Rattle.world_model.specs.gsmp_wire.declared.request.Request.TheVariants.{DeleteAll, AllPorts}
+use Rattle.world_model.specs.port_model.Joins as port_joins
+use Rattle.world_model.specs.port_model.Answers as port_answers
+use Rattle.world_model.specs.port_model.Resets.{cleared}
+use Rattle.world_model.specs.Controller.{Acted, ports_of, note}
+use Rattle.world_model.specs.Joins.{Join, output_of}
+use Rattle.world_model.specs.Meeting.{port_of, done}
+use Rattle.world_model.specs.gsmp_wire.declared.message.Message.{Message}
+use Rattle.input_views.specs.branch_line.Words.{Answer, Success}
+use Rattle.input_views.specs.branch_line.Line.{Line}
 use Rattle.world_model.specs.declared.request.Asked.{Asked}
-use Rattle.world_model.specs.Requests.{asked_in}
 use Rattle.input_views.specs.Words.{word_of}
 use Rattle.input_views.specs.Shown.{IsAllPorts}
 use Rattle.input_steps.specs.Asking.{CanEach, MayAsk}

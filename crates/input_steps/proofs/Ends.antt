@@ -3,16 +3,11 @@
 use Rattle.std.proofs.Common.{◌≡◌, ℕ, Bool, true, false, not, List, [], ◌∷◌, Option, Some, None, refl, sym, ◌∙◌, ap, subst, filter, is_some, if◌then◌else◌, arith}
 use Rattle.std.specs.Prelude.{nat_eq, ◌&&◌, ◌||◌, ◌==◌}
 use Rattle.std.proofs.lemmas.Bool.Decides.{nat_tests}
-use Rattle.net_types.specs.declared.channel.End.{End}
-use Rattle.net_types.specs.declared.node.PortNo.{PortNo}
-use Rattle.gsmp_wire.specs.declared.request.Request.{Request}
-use Rattle.gsmp_wire.specs.declared.request.Request.TheVariants.{AddBranch, MoveBranch, DeleteTree, VerifyTree, DeleteAll, PortManagement, AllPorts}
-use Rattle.ordered_lists.specs.Ordered.{Every}
-use Rattle.ordered_lists.proofs.Parts.{IsPart, part_mapped}
-use Rattle.crossbar_model.specs.Crossbar.{same_end}
-use Rattle.port_model.specs.Requests.{is_on, is_on_port, is_delete_all, withdraws}
-use Rattle.port_model.specs.Desk.{Standing}
-use Rattle.branch_line.specs.Words as lines
+use Rattle.world_model.specs.Words.{End, PortNo, Request, AddBranch, MoveBranch, DeleteTree, VerifyTree, PortManagement, same_end, is_on, is_on_port, is_delete_all, withdraws, Standing}
+use Rattle.world_model.specs.gsmp_wire.declared.request.Request.TheVariants.{DeleteAll, AllPorts}
+use Rattle.input_views.specs.ordered_lists.Ordered.{Every}
+use Rattle.input_views.proofs.ordered_lists.Parts.{IsPart, part_mapped}
+use Rattle.input_views.specs.branch_line.Words as lines
 use Rattle.input_views.specs.Words.{own_request, type_of, word_by, word_of, is_own, own_of, other_of, others_of}
 pub use Rattle.input_steps.specs.Asking.{IsAsked, concerns, on_input, deletes_port, NoDeleteAll}
 use Rattle.input_steps.proofs.Lists.{filter_within, filter_part, filter_none}

@@ -3,14 +3,14 @@
 use Rattle.std.proofs.Common.{◌≡◌, ℕ, suc, ◌-◌, ◌<◌, ◌≤◌, Bool, true, false, not, List, [], ◌∷◌, ◌++◌, Some, refl, sym, ◌∙◌, ap, subst, remove, replicate, append_assoc, append-nil, filter, if◌then◌else◌, arith}
 use Rattle.std.specs.Prelude.{find, ◌==◌}
 use Rattle.std.proofs.lemmas.Bool.Decides.{nat_tests}
-use Rattle.ordered_lists.specs.Ordered.{Every, InOrder}
-use Rattle.ordered_lists.proofs.Every.{every_map}
-use Rattle.ordered_lists.proofs.InOrder.{order_right, order_across}
-use Rattle.ordered_lists.proofs.Parts.{IsPart, none, kept, left, order_part, part_join, part_whole, part_none}
-use Rattle.branch_line.specs.Words.{ToSwitch, Copy, Elsewhere, ToController}
-use Rattle.branch_line.specs.Line.{Line, Other}
-use Rattle.branch_line.specs.Asking.{has_met, ask_other_again, is_numbered, say}
-use Rattle.branch_line.specs.Moves.{Move, DrawElsewhere, LoseToSwitch, LoseAtSwitch, LoseToController, WithdrawOther, AskOtherAgain, step, run}
+use Rattle.input_views.specs.ordered_lists.Ordered.{Every, InOrder}
+use Rattle.input_views.proofs.ordered_lists.Every.{every_map}
+use Rattle.input_views.proofs.ordered_lists.InOrder.{order_right, order_across}
+use Rattle.input_views.proofs.ordered_lists.Parts.{IsPart, none, kept, left, order_part, part_join, part_whole, part_none}
+use Rattle.input_views.specs.branch_line.Words.{ToSwitch, Copy, Elsewhere, ToController}
+use Rattle.input_views.specs.branch_line.Line.{Line, Other}
+use Rattle.input_views.specs.branch_line.Asking.{has_met, ask_other_again, is_numbered, say}
+use Rattle.input_views.specs.branch_line.Moves.{Move, DrawElsewhere, LoseToSwitch, LoseAtSwitch, LoseToController, WithdrawOther, AskOtherAgain, step, run}
 use Rattle.input_views.proofs.Follow.{run_join, drawn}
 
 pub record Goes (line after : Line) : Type 0 where

@@ -2,42 +2,23 @@
 
 use Rattle.std.proofs.Common.{◌≡◌, ℕ, Bool, true, false, not, List, [], ◌∷◌, ◌++◌, refl, sym, ◌∙◌, ap, subst, replicate, append_assoc, append-nil, arith, if◌then◌else◌}
 use Rattle.std.specs.Prelude.{◌&&◌}
-use Rattle.net_types.specs.declared.channel.End.{End}
-use Rattle.net_types.specs.declared.node.NodeId.{NodeId}
-use Rattle.net_types.specs.declared.adjacency.Greeting.{Greeting}
-use Rattle.net_types.specs.declared.adjacency.HelloKind.{HelloKind}
-use Rattle.net_types.specs.declared.adjacency.HelloKind.TheVariants.{Syn, Synack, Rstack, Ack}
-use Rattle.net_types.specs.declared.adjacency.Party.{Party}
-use Rattle.net_types.specs.Number.{next_control, with_control}
-use Rattle.adjacency_table.specs.declared.State.{State}
-use Rattle.adjacency_table.specs.declared.State.TheVariants.{Clearing, SynSent, SynRcvd, Estab}
-use Rattle.adjacency_table.specs.Side.{Side, Step, is_estab, counted, ticked}
-use Rattle.adjacency_table.specs.Table.{Reply, Silent, Says, Resets, Row, row, tick_reply}
-use Rattle.adjacency_table.specs.Instances.{SideByInstances, row_for, after_row, enters, is_reset, greeting}
-use Rattle.adjacency_table.specs.Ends.{side_of, said_by, step_by, tick_by}
-use Rattle.adjacency_table.specs.Greeting.{greeting_of, gsmp_answer, gsmp_received}
-use Rattle.adjacency_table.proofs.EndsLemmas.{gsmp_received_by_instances, ticked_by_instances}
-use Rattle.gsmp_wire.specs.declared.message.Message.{Message}
-use Rattle.gsmp_wire.specs.declared.message.Message.TheVariants.{Adjacency}
-use Rattle.gsmp_wire.specs.declared.request.Request.TheVariants.{AllPorts}
-use Rattle.gsmp_wire.specs.Layout.{octets_of}
-use Rattle.frame_model.specs.Frame.{frame_cells}
-use Rattle.ordered_lists.proofs.Parts.{IsPart, part_whole, part_none, part_join}
-use Rattle.port_model.specs.Desk.{empty_desk, asked}
-use Rattle.port_model.specs.Messages.{message_of}
-use Rattle.branch_line.specs.Words.{ToSwitch, ControllerGreets, Copy, Elsewhere, ToController, SwitchGreets}
-use Rattle.branch_line.specs.Line.{Line, Controller as LineController, spoken, Unasked, Listing}
-use Rattle.branch_line.specs.Asking.{say}
-use Rattle.branch_line.specs.Controller.{reset_node, meet, meet_on_entering, tick_controller}
-use Rattle.branch_line.specs.Moves.{ControllerTakes, ControllerTicks, LoseAtController, AskOtherAgain}
-use Rattle.world_model.specs.Switch.{Switch}
-use Rattle.world_model.specs.Controller.{Acted, default_channel, with_desk}
-use Rattle.world_model.specs.Sending.{says_gsmp}
-use Rattle.world_model.specs.Asking.{asks_next}
-use Rattle.world_model.specs.Resets.{node_resets}
-use Rattle.world_model.specs.Meeting.{meets}
+use Rattle.world_model.specs.Words.{End, NodeId, Greeting, HelloKind, Syn, Synack, Rstack, Ack, Party, next_control, with_control, State, Clearing, SynSent, SynRcvd, Estab, Side, Step, is_estab, ticked, Reply, Silent, Says, Resets, Row, row, tick_reply, SideByInstances, row_for, after_row, enters, is_reset, greeting, side_of, said_by, step_by, tick_by, greeting_of, gsmp_answer, gsmp_received, frame_cells, empty_desk, message_of, Switch, default_channel, with_desk, says_gsmp, asks_next, node_resets, meets}
+use Rattle.world_model.specs.adjacency_table.Side.{counted}
+use Rattle.world_model.proofs.adjacency_table.EndsLemmas.{gsmp_received_by_instances, ticked_by_instances}
+use Rattle.world_model.specs.gsmp_wire.declared.message.Message.{Message}
+use Rattle.world_model.specs.gsmp_wire.declared.message.Message.TheVariants.{Adjacency}
+use Rattle.world_model.specs.gsmp_wire.declared.request.Request.TheVariants.{AllPorts}
+use Rattle.world_model.specs.gsmp_wire.Layout.{octets_of}
+use Rattle.input_views.proofs.ordered_lists.Parts.{IsPart, part_whole, part_none, part_join}
+use Rattle.world_model.specs.port_model.Desk.{asked}
+use Rattle.input_views.specs.branch_line.Words.{ToSwitch, ControllerGreets, Copy, Elsewhere, ToController, SwitchGreets}
+use Rattle.input_views.specs.branch_line.Line.{Line, Controller as LineController, spoken, Unasked, Listing}
+use Rattle.input_views.specs.branch_line.Asking.{say}
+use Rattle.input_views.specs.branch_line.Controller.{reset_node, meet, meet_on_entering, tick_controller}
+use Rattle.input_views.specs.branch_line.Moves.{ControllerTakes, ControllerTicks, LoseAtController, AskOtherAgain}
+use Rattle.world_model.specs.Controller.{Acted}
 use Rattle.world_model.specs.Gsmp.{answers, steps}
-use Rattle.shown_cells.specs.Seen.{Word}
+use Rattle.input_views.specs.shown_cells.Seen.{Word}
 use Rattle.input_views.specs.Words.{own_of, is_own_greeting, seen_on_gsmp, erased}
 use Rattle.input_views.specs.Shown.{controller_of, switch_of, AskedShows}
 use Rattle.input_views.proofs.Cells.{frame_of_answer}

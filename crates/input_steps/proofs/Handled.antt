@@ -2,40 +2,28 @@
 
 use Rattle.std.proofs.Common.{◌≡◌, ℕ, Bool, true, false, List, [], ◌∷◌, Option, Some, None, refl, sym, ◌∙◌, ap, subst, if◌then◌else◌}
 use Rattle.std.specs.Prelude.{◌&&◌}
-use Rattle.net_types.specs.declared.channel.End.{End}
-use Rattle.net_types.specs.declared.node.NodeId.{NodeId}
-use Rattle.net_types.specs.declared.number.Mark.{Mark}
-use Rattle.net_types.specs.declared.adjacency.HelloKind.{HelloKind}
-use Rattle.adjacency_table.specs.Side.{Side, is_estab}
-use Rattle.gsmp_wire.specs.declared.message.Message.{Message}
-use Rattle.gsmp_wire.specs.declared.message.Message.TheVariants.{Adjacency, Branch, Move, Port, AllPorts}
-use Rattle.gsmp_wire.specs.declared.message.BranchKind.TheVariants as kinds
-use Rattle.gsmp_wire.specs.declared.request.Request.{Request}
-use Rattle.gsmp_wire.specs.declared.request.Request.TheVariants as requests
-use Rattle.link_model.specs.declared.frames.Frame.{Frame}
-use Rattle.link_model.specs.Notes.{Journal}
-use Rattle.ordered_lists.specs.Ordered.{Every}
-use Rattle.crossbar_model.specs.declared.branch.Branch.{Branch as Led}
-use Rattle.crossbar_model.specs.Crossbar.{Branches, output_of, cut_by_move}
+use Rattle.world_model.specs.Words.{End, NodeId, Mark, HelloKind, Side, is_estab, Move, Request, Frame, Journal, Branches, cut_by_move, Head, head_of, Controller, numbers_of, Changed, asked_in, is_request, noted_cut, moved_by, ended_by, all_ended, inputs_on, branches_after, ports_after, applies, failure_of, is_busy, lacks_branch, Handled, handled, handled_asked, handled_by, refused, carried_out, failure_answer, success_answer, replied, requested, copy_of, copy_by}
+use Rattle.world_model.specs.gsmp_wire.declared.message.Message.{Message}
+use Rattle.world_model.specs.gsmp_wire.declared.message.Message.TheVariants.{Adjacency, Branch, Port, AllPorts}
+use Rattle.world_model.specs.gsmp_wire.declared.message.BranchKind.TheVariants as kinds
+use Rattle.world_model.specs.gsmp_wire.declared.request.Request.TheVariants as requests
+use Rattle.input_views.specs.ordered_lists.Ordered.{Every}
+use Rattle.world_model.specs.crossbar_model.declared.branch.Branch.{Branch as Led}
+use Rattle.world_model.specs.crossbar_model.Crossbar.{output_of}
 use Rattle.std.specs.FinMap as finite
-use Rattle.port_model.specs.DeskAnswers.{Head, head_of}
-use Rattle.branch_line.specs.Words as lines
-use Rattle.branch_line.specs.Words.{ToSwitch, ControllerGreets, Copy, ToController, Answer, Success, Failure}
-use Rattle.branch_line.specs.Line.{Line}
-use Rattle.branch_line.specs.Switch.{reply, takes_requests, branch_after, handle}
-use Rattle.branch_line.specs.Moves.{SwitchTakes, LoseAtSwitch}
-use Rattle.world_model.specs.Controller.{Controller}
+use Rattle.input_views.specs.branch_line.Words as lines
+use Rattle.input_views.specs.branch_line.Words.{ToSwitch, ControllerGreets, Copy, ToController, Answer, Success, Failure}
+use Rattle.input_views.specs.branch_line.Line.{Line}
+use Rattle.input_views.specs.branch_line.Switch.{reply, takes_requests, branch_after, handle}
+use Rattle.input_views.specs.branch_line.Moves.{SwitchTakes, LoseAtSwitch}
 use Rattle.world_model.specs.declared.port.PortState.{PortState}
 use Rattle.world_model.specs.declared.request.Asked.{Asked}
 use Rattle.world_model.specs.declared.request.Failure.{Failure as Cause}
 use Rattle.world_model.specs.declared.request.Failure.TheVariants.{NoPort, BadSession, PortDown, OutOfRange, Busy, NoConnection, SessionsSpent}
-use Rattle.world_model.specs.Switch.{Acted, numbers_of}
-use Rattle.world_model.specs.Requests.{Changed, asked_in, is_request, noted_cut, moved_by, ended_by, ended, all_ended, inputs_on, branches_after, ports_after}
-use Rattle.world_model.specs.Failures.{applies, failure_of, is_busy, lacks_branch}
-use Rattle.world_model.specs.Answers.{Handled, handled, handled_asked, handled_by, refused, carried_out, failure_answer, success_answer}
-use Rattle.world_model.specs.Conduct.{greeted, replied, requested, told}
-use Rattle.world_model.specs.Ways.{copy_of, copy_by}
-use Rattle.shown_cells.specs.Seen.{Seen, Nothing, Word, Unknown}
+use Rattle.world_model.specs.Switch.{Acted}
+use Rattle.world_model.specs.Requests.{ended}
+use Rattle.world_model.specs.Conduct.{greeted, told}
+use Rattle.input_views.specs.shown_cells.Seen.{Seen, Nothing, Word, Unknown}
 use Rattle.input_views.specs.Words.{is_own_greeting, seen_copy, word_of, erased}
 use Rattle.input_views.specs.Shown.{controller_of, switch_of}
 use Rattle.input_steps.specs.Part.{Part, part_beside, Stands, Reaches, AnyLine}

@@ -2,28 +2,19 @@
 
 use Rattle.std.proofs.Common.{◌≡◌, ℕ, Bool, true, false, List, [], ◌∷◌, Option, Some, None, Result, Ok, Err, refl, sym, ◌∙◌, ap, subst, find, if◌then◌else◌}
 use Rattle.std.specs.Prelude.{◌==◌, ◌&&◌}
-use Rattle.net_types.specs.declared.channel.End.{End}
-use Rattle.net_types.specs.declared.node.NodeId.{NodeId}
-use Rattle.net_types.specs.declared.adjacency.HelloKind.{HelloKind}
-use Rattle.adjacency_table.specs.Greeting.{gsmp_received}
-use Rattle.gsmp_wire.specs.declared.fault.Fault.{Fault}
-use Rattle.gsmp_wire.specs.declared.message.Message.{Message}
-use Rattle.gsmp_wire.specs.declared.message.Message.TheVariants as messages
-use Rattle.gsmp_wire.specs.Fields.{decoded}
-use Rattle.port_model.specs.Desk.{Standing}
-use Rattle.port_model.specs.DeskAnswers as answers
-use Rattle.port_model.specs.DeskAnswers.{Head, head_of, is_of_type}
-use Rattle.branch_line.specs.Words as lines
-use Rattle.branch_line.specs.Words.{ToController, SwitchGreets, Answer}
-use Rattle.branch_line.specs.Line.{Line}
+use Rattle.world_model.specs.Words.{End, NodeId, HelloKind, gsmp_received, Standing, Head, head_of, is_of_type, asked_in, Switch, gsmp_holds, answer_comes, takes_answer, gsmp_of, copy_by}
+use Rattle.world_model.specs.gsmp_wire.declared.fault.Fault.{Fault}
+use Rattle.world_model.specs.gsmp_wire.declared.message.Message.{Message}
+use Rattle.world_model.specs.gsmp_wire.declared.message.Message.TheVariants as messages
+use Rattle.world_model.specs.gsmp_wire.Fields.{decoded}
+use Rattle.world_model.specs.port_model.DeskAnswers as answers
+use Rattle.input_views.specs.branch_line.Words as lines
+use Rattle.input_views.specs.branch_line.Words.{ToController, SwitchGreets, Answer}
+use Rattle.input_views.specs.branch_line.Line.{Line}
 use Rattle.world_model.specs.declared.request.Asked.{Asked}
-use Rattle.world_model.specs.Requests.{asked_in}
-use Rattle.world_model.specs.Switch.{Switch}
 use Rattle.world_model.specs.Controller.{Acted}
-use Rattle.world_model.specs.Gsmp.{gsmp_holds, told, steps}
-use Rattle.world_model.specs.Meeting.{answer_comes, takes_answer}
-use Rattle.world_model.specs.Ways.{gsmp_of, copy_by}
-use Rattle.shown_cells.specs.Seen.{Seen, Nothing, Word, Unknown}
+use Rattle.world_model.specs.Gsmp.{told, steps}
+use Rattle.input_views.specs.shown_cells.Seen.{Seen, Nothing, Word, Unknown}
 use Rattle.input_views.specs.Words.{is_own_greeting, seen_answer, seen_answer_to, seen_outcome, outcome_of, erased_back}
 use Rattle.input_views.specs.Shown.{controller_of, switch_of}
 use Rattle.input_steps.specs.Part.{part_at, Stands, Reaches, AnyLine}

@@ -1,3 +1,6 @@
+pub use Rattle.input_views.proofs.branch_line as branch_line
+pub use Rattle.input_views.proofs.shown_cells as shown_cells
+pub use Rattle.input_views.proofs as input_views
 pub mod Goes
 pub mod Lists
 pub mod Ends

@@ -4,32 +4,20 @@
 use Rattle.std.proofs.Common.{◌≡◌, ℕ, ◌+◌, ◌<◌, ◌≤◌, Bool, true, false, not, List, [], ◌∷◌, ◌++◌, refl, sym, ◌∙◌, ap, subst, filter, map, fold, length, replicate, zero, suc, append-nil, if◌then◌else◌, arith}
 use Rattle.std.specs.Prelude.{◌==◌}
 use Rattle.std.proofs.lemmas.Bool.Decides.{nat_tests}
-use Rattle.net_types.specs.declared.channel.End.{End}
-use Rattle.net_types.specs.declared.node.NodeId.{NodeId}
-use Rattle.net_types.specs.declared.node.PortNo.{PortNo}
-use Rattle.net_types.specs.Number.{next_control}
-use Rattle.adjacency_table.specs.Side.{is_estab}
-use Rattle.atm_cells.specs.declared.cell.Cell.{Cell}
-use Rattle.gsmp_wire.specs.declared.request.Request.{Request}
-use Rattle.gsmp_wire.specs.declared.request.Request.TheVariants.{AddBranch, MoveBranch, DeleteTree, VerifyTree, DeleteAll, PortManagement, AllPorts}
-use Rattle.gsmp_wire.specs.Layout.{octets_of}
-use Rattle.frame_model.specs.Frame.{frame_cells}
-use Rattle.ordered_lists.specs.Ordered.{Every}
-use Rattle.ordered_lists.proofs.Every.{every_map, every_join}
-use Rattle.ordered_lists.proofs.Parts.{IsPart, part_whole, part_none, part_join}
-use Rattle.port_model.specs.Requests.{withdraws}
-use Rattle.port_model.specs.Desk.{Standing, asked, last_transaction}
-use Rattle.port_model.specs.Messages.{message_of}
-use Rattle.branch_line.specs.Words as lines
-use Rattle.branch_line.specs.Words.{Request as LineRequest, OnInput, Elsewhere, delete_all, ToSwitch, Copy, message_type, Success, ToController, Answer}
-use Rattle.branch_line.specs.Line.{Stands as Standing_at, Meeting, Emptying, Line, Controller}
-use Rattle.branch_line.specs.Asking.{ask, ask_each, number_taken}
-use Rattle.branch_line.specs.Controller.{deletes, empty_ports}
-use Rattle.world_model.specs.Switch.{Switch}
-use Rattle.world_model.specs.Controller.{Acted, default_channel, with_desk}
-use Rattle.world_model.specs.Asking.{asks, asks_next}
-use Rattle.world_model.specs.Resets.{node_resets}
-use Rattle.shown_cells.specs.Seen.{Seen, Shows, nothing, hidden, word}
+use Rattle.world_model.specs.Words.{End, NodeId, PortNo, next_control, is_estab, Cell, Request, AddBranch, MoveBranch, DeleteTree, VerifyTree, PortManagement, frame_cells, withdraws, Standing, last_transaction, message_of, Switch, default_channel, with_desk, asks, asks_next, node_resets}
+use Rattle.world_model.specs.gsmp_wire.declared.request.Request.TheVariants.{DeleteAll, AllPorts}
+use Rattle.world_model.specs.gsmp_wire.Layout.{octets_of}
+use Rattle.input_views.specs.ordered_lists.Ordered.{Every}
+use Rattle.input_views.proofs.ordered_lists.Every.{every_map, every_join}
+use Rattle.input_views.proofs.ordered_lists.Parts.{IsPart, part_whole, part_none, part_join}
+use Rattle.world_model.specs.port_model.Desk.{asked}
+use Rattle.input_views.specs.branch_line.Words as lines
+use Rattle.input_views.specs.branch_line.Words.{Request as LineRequest, OnInput, Elsewhere, delete_all, ToSwitch, Copy, message_type, Success, ToController, Answer}
+use Rattle.input_views.specs.branch_line.Line.{Stands as Standing_at, Meeting, Emptying, Line, Controller}
+use Rattle.input_views.specs.branch_line.Asking.{ask, ask_each, number_taken}
+use Rattle.input_views.specs.branch_line.Controller.{deletes, empty_ports}
+use Rattle.world_model.specs.Controller.{Acted}
+use Rattle.input_views.specs.shown_cells.Seen.{Seen, Shows, nothing, hidden, word}
 use Rattle.input_views.specs.Words.{word_of, is_own, own_of, other_of}
 use Rattle.input_views.specs.Shown.{AskedShows, IsDeleteAll, PhaseShows}
 use Rattle.input_steps.specs.Part.{Part, part_at, OwnShows, Stands, Reaches, AnyLine}

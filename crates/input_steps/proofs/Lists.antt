@@ -2,8 +2,8 @@
 
 use Rattle.std.proofs.Common.{◌≡◌, ℕ, Bool, true, false, ◌||◌, List, [], ◌∷◌, ◌++◌, refl, ◌∙◌, ap, filter, map, replicate, zero, suc, if◌then◌else◌}
 use Rattle.std.specs.List.{list_any}
-use Rattle.ordered_lists.specs.Ordered.{Every}
-use Rattle.ordered_lists.proofs.Parts.{IsPart, none, kept, left}
+use Rattle.input_views.specs.ordered_lists.Ordered.{Every}
+use Rattle.input_views.proofs.ordered_lists.Parts.{IsPart, none, kept, left}
 
 module _ {A : Type 0} (first second : A → Bool) where
   -- a filter that keeps all that another one keeps makes no difference to it

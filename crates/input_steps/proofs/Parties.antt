@@ -5,17 +5,9 @@ use Rattle.std.specs.Prelude.{◌&&◌, ◌==◌}
 use Rattle.std.specs.Str.{bytes_eq}
 use Rattle.std.proofs.lemmas.Bool.Decides.{nat_tests}
 use Rattle.std.proofs.lemmas.Slice.Eq.{bytes_eq-Decides}
-use Rattle.net_types.specs.declared.adjacency.Greeting.{Greeting}
-use Rattle.net_types.specs.declared.adjacency.Party.{Party}
-use Rattle.net_types.specs.declared.adjacency.HelloKind.{HelloKind}
-use Rattle.net_types.specs.declared.adjacency.HelloKind.TheVariants.{Syn, Synack, Rstack, Ack}
-use Rattle.adjacency_table.specs.declared.message.Answer.{Answer}
-use Rattle.adjacency_table.specs.Table.{Reply}
-use Rattle.adjacency_table.specs.Side.{answer_of, opened}
-use Rattle.adjacency_table.specs.Instances.{SideByInstances, greeting}
-use Rattle.adjacency_table.specs.Ends.{said_by}
-use Rattle.adjacency_table.specs.Greeting.{same_party, nobody, greeting_of, gsmp_answer}
-use Rattle.shown_cells.specs.Seen.{Word, Unknown}
+use Rattle.world_model.specs.Words.{Greeting, Party, HelloKind, Syn, Synack, Rstack, Ack, Answer, Reply, answer_of, SideByInstances, greeting, said_by, same_party, nobody, greeting_of, gsmp_answer}
+use Rattle.world_model.specs.adjacency_table.Side.{opened}
+use Rattle.input_views.specs.shown_cells.Seen.{Word, Unknown}
 use Rattle.input_views.specs.Words.{is_party, names_far, is_own_greeting, seen_greeting}
 pub use Rattle.input_steps.specs.Hearing.{Reads}
 

@@ -1,15 +1,13 @@
 -- cells leave the queues and the chains of the control link: they are lost, or go on
 
 use Rattle.std.proofs.Common.{◌≡◌, List, [], ◌∷◌, ◌++◌, refl, sym, ap, subst}
-use Rattle.net_types.specs.declared.channel.End.{End}
-use Rattle.net_types.specs.declared.node.NodeId.{NodeId}
-use Rattle.atm_cells.specs.declared.cell.Cell.{Cell}
-use Rattle.ordered_lists.proofs.Parts.{IsPart, none, kept, left}
-use Rattle.branch_line.specs.Words.{ToSwitch}
-use Rattle.branch_line.specs.Line.{Line}
-use Rattle.branch_line.specs.Moves.{CarryToSwitch, carry_to_switch}
-use Rattle.shown_cells.specs.Seen.{Seen, Shows, nothing, hidden, word}
-use Rattle.shown_cells.proofs.Shows.{First, no_word, a_word, first_of, shows_join, one_word, one_hidden, shows_behind}
+use Rattle.world_model.specs.Words.{End, NodeId, Cell}
+use Rattle.input_views.proofs.ordered_lists.Parts.{IsPart, none, kept, left}
+use Rattle.input_views.specs.branch_line.Words.{ToSwitch}
+use Rattle.input_views.specs.branch_line.Line.{Line}
+use Rattle.input_views.specs.branch_line.Moves.{CarryToSwitch, carry_to_switch}
+use Rattle.input_views.specs.shown_cells.Seen.{Seen, Shows, nothing, hidden, word}
+use Rattle.input_views.proofs.shown_cells.Shows.{First, no_word, a_word, first_of, shows_join, one_word, one_hidden, shows_behind}
 use Rattle.input_views.specs.Words.{erased, erased_back, seen_request, seen_answer, seen_cell}
 use Rattle.input_views.specs.Shown.{controller_of, switch_of, ShowsRequests, ShowsAnswers}
 use Rattle.input_steps.specs.Part.{Part, Stands, Reaches, AnyLine, Leads}

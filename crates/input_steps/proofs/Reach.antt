@@ -1,14 +1,10 @@
 -- what a site shows, taken apart and put together; moves lead on
 
 use Rattle.std.proofs.Common.{◌≤◌, List, [], ◌++◌, refl, ◌∙◌, ap, arith}
-use Rattle.net_types.specs.declared.channel.End.{End}
-use Rattle.net_types.specs.declared.node.NodeId.{NodeId}
-use Rattle.net_types.specs.Number.{GivenOut}
-use Rattle.link_model.specs.declared.frames.Frame.{Frame}
-use Rattle.branch_line.specs.Line.{Line}
-use Rattle.branch_line.specs.Moves.{run}
-use Rattle.world_model.specs.World.{Site}
-use Rattle.shown_cells.specs.Seen.{IsUnmade, Extends}
+use Rattle.world_model.specs.Words.{End, NodeId, GivenOut, Frame, Site}
+use Rattle.input_views.specs.branch_line.Line.{Line}
+use Rattle.input_views.specs.branch_line.Moves.{run}
+use Rattle.input_views.specs.shown_cells.Seen.{IsUnmade, Extends}
 use Rattle.input_views.specs.Shown.{InputShows}
 use Rattle.input_views.specs.Reaching.{Follows, Anything}
 use Rattle.input_views.proofs.Follow.{run_join}

@@ -1,31 +1,16 @@
 -- the node of a controller is reset or restarts
 
 use Rattle.std.proofs.Common.{◌≡◌, ℕ, ◌+◌, ◌≤◌, false, List, [], ◌∷◌, Option, Some, None, refl, sym, ◌∙◌, ap, subst, fold, arith}
-use Rattle.net_types.specs.declared.channel.End.{End}
-use Rattle.net_types.specs.declared.node.NodeId.{NodeId}
-use Rattle.net_types.specs.declared.node.PortNo.{PortNo}
-use Rattle.net_types.specs.declared.adjacency.Party.{Party}
-use Rattle.net_types.specs.Number.{next_instance, with_instance}
-use Rattle.adjacency_table.specs.declared.State.TheVariants.{SynSent}
-use Rattle.adjacency_table.specs.Side.{Side, fresh}
-use Rattle.link_model.specs.declared.frames.Frame.{Frame}
-use Rattle.link_model.specs.declared.record.Record.{Record}
-use Rattle.link_model.specs.Notes.{noted}
-use Rattle.ordered_lists.proofs.Parts.{part_none}
-use Rattle.port_model.specs.Desk.{Desk, emptied}
-use Rattle.port_model.specs.declared.action.Action.{Action}
-use Rattle.port_model.specs.declared.action.Action.TheVariants.{Say, Ask, Note, CutChain, TakeBack, Withdraw, Reset}
-use Rattle.port_model.specs.Port.{Work}
-use Rattle.port_model.specs.Resets.{restarts}
-use Rattle.branch_line.specs.Line.{Line}
-use Rattle.branch_line.specs.Controller.{reset_node}
-use Rattle.branch_line.specs.Moves.{ControllerResets}
-use Rattle.world_model.specs.Switch.{Switch}
-use Rattle.world_model.specs.Controller.{Acted, Linked, linked_at, ports_of, chain_of}
-use Rattle.world_model.specs.Resets.{cuts_of, cuts_default_of, cuts_default, cuts_gsmp, begins, with_work, closes_by, port_restarts_as, port_restarts_of, port_restarts, resets_gsmp, node_resets, node_restarts}
-use Rattle.shown_cells.specs.Seen.{IsUnmade}
-use Rattle.shown_cells.proofs.Made.{extends_self}
-use Rattle.shown_cells.proofs.Tested.{cut_frames}
+use Rattle.world_model.specs.Words.{End, NodeId, PortNo, Party, next_instance, with_instance, SynSent, Side, fresh, Frame, Record, noted, Desk, emptied, Action, Say, Ask, Note, CutChain, TakeBack, Withdraw, Work, restarts, Switch, Linked, linked_at, chain_of, cuts_of, cuts_default_of, cuts_default, cuts_gsmp, begins, with_work, closes_by, port_restarts_as, port_restarts_of, port_restarts, resets_gsmp, node_resets, node_restarts}
+use Rattle.input_views.proofs.ordered_lists.Parts.{part_none}
+use Rattle.world_model.specs.port_model.declared.action.Action.TheVariants.{Reset}
+use Rattle.input_views.specs.branch_line.Line.{Line}
+use Rattle.input_views.specs.branch_line.Controller.{reset_node}
+use Rattle.input_views.specs.branch_line.Moves.{ControllerResets}
+use Rattle.world_model.specs.Controller.{Acted, ports_of}
+use Rattle.input_views.specs.shown_cells.Seen.{IsUnmade}
+use Rattle.input_views.proofs.shown_cells.Made.{extends_self}
+use Rattle.input_views.proofs.shown_cells.Tested.{cut_frames}
 use Rattle.input_steps.specs.Part.{Part, part_at, Stands, Reaches, AnyLine, Leads}
 use Rattle.input_steps.proofs.Goes.{goes_next, by_move, draw_to}
 use Rattle.input_steps.proofs.Reach.{reaches_by, reaches_self, reaches_then, leads_then, stands_later}

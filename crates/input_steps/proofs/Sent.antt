@@ -2,29 +2,18 @@
 
 use Rattle.std.proofs.Common.{◌≡◌, ◌≢◌, ℕ, ◌+◌, Bool, true, false, List, [], ◌∷◌, ◌++◌, Some, sym, ap, append-nil, append_assoc, arith, length, replicate, zero, suc}
 use Rattle.std.specs.Prelude.{nat_le}
-use Rattle.net_types.specs.declared.channel.Channel.{Channel}
-use Rattle.net_types.specs.declared.channel.End.{End}
-use Rattle.net_types.specs.declared.node.NodeId.{NodeId}
-use Rattle.net_types.specs.declared.number.Mark.{Mark}
-use Rattle.net_types.specs.Number.{next_control, with_control}
-use Rattle.atm_cells.specs.declared.cell.Cell.{Cell}
-use Rattle.link_model.specs.declared.record.Record.TheVariants.{Loss}
-use Rattle.link_model.specs.declared.record.Cause.TheVariants.{PoolFull}
-use Rattle.link_model.specs.Ledger.{payload_of}
-use Rattle.link_model.specs.Notes.{noted}
-use Rattle.frame_model.specs.Frame.{frame_cells, made}
-use Rattle.frame_model.specs.Sending.{Sent}
-use Rattle.ordered_lists.proofs.Parts.{IsPart, part_whole}
-use Rattle.port_facts.proofs.Keyed.{on_both}
-use Rattle.branch_line.specs.Words.{ToSwitch}
-use Rattle.branch_line.specs.Line.{Line}
-use Rattle.branch_line.specs.Moves.{Move, step}
-use Rattle.world_model.specs.Switch.{Switch}
-use Rattle.world_model.specs.Controller.{Controller, Acted, free_slots, default_channel}
-use Rattle.world_model.specs.Sending.{with_cells, sends, sends_control}
-use Rattle.shown_cells.specs.Seen.{Seen, Shows, Extends, IsUnmade}
-use Rattle.shown_cells.proofs.Shows.{shows_join, shows_behind}
-use Rattle.shown_cells.proofs.Made.{extends_made, made_is, unmade_next}
+use Rattle.world_model.specs.Words.{Channel, End, NodeId, Mark, next_control, with_control, Cell, Loss, PoolFull, payload_of, noted, frame_cells, made, Switch, Controller, default_channel, sends_control}
+use Rattle.world_model.specs.frame_model.Sending.{Sent}
+use Rattle.input_views.proofs.ordered_lists.Parts.{IsPart, part_whole}
+use Rattle.input_views.proofs.port_facts.Keyed.{on_both}
+use Rattle.input_views.specs.branch_line.Words.{ToSwitch}
+use Rattle.input_views.specs.branch_line.Line.{Line}
+use Rattle.input_views.specs.branch_line.Moves.{Move, step}
+use Rattle.world_model.specs.Controller.{Acted, free_slots}
+use Rattle.world_model.specs.Sending.{with_cells, sends}
+use Rattle.input_views.specs.shown_cells.Seen.{Seen, Shows, Extends, IsUnmade}
+use Rattle.input_views.proofs.shown_cells.Shows.{shows_join, shows_behind}
+use Rattle.input_views.proofs.shown_cells.Made.{extends_made, made_is, unmade_next}
 use Rattle.input_views.specs.Words.{erased, seen_request}
 use Rattle.input_views.specs.Shown.{controller_of, switch_of}
 use Rattle.input_views.proofs.Cells.{frame_elsewhere}

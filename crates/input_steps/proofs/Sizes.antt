@@ -1,17 +1,11 @@
 -- a Delete All has one cell
 
 use Rattle.std.proofs.Common.{◌≡◌, ℕ, ◌*◌, List, length, refl, ap, arith}
-use Rattle.net_types.specs.declared.channel.Channel.{Channel}
-use Rattle.net_types.specs.declared.number.Mark.{Mark}
-use Rattle.net_types.specs.declared.node.PortNo.{PortNo}
-use Rattle.gsmp_wire.specs.declared.request.Request.TheVariants.{DeleteAll}
-use Rattle.gsmp_wire.specs.declared.rows.PortRow.{PortRow}
-use Rattle.gsmp_wire.specs.Layout.{octets_of}
-use Rattle.atm_cells.specs.declared.cell.Cell.{Cell}
-use Rattle.aal5_frames.specs.Frame.{pdu_of}
-use Rattle.aal5_frames.proofs.Cells.{cells_all, length-pdu_of}
-use Rattle.frame_model.specs.Frame.{frame_cells}
-use Rattle.port_model.specs.Messages.{message_of}
+use Rattle.world_model.specs.Words.{Channel, Mark, PortNo, PortRow, Cell, frame_cells, message_of}
+use Rattle.world_model.specs.gsmp_wire.declared.request.Request.TheVariants.{DeleteAll}
+use Rattle.world_model.specs.gsmp_wire.Layout.{octets_of}
+use Rattle.input_views.specs.aal5_frames.Frame.{pdu_of}
+use Rattle.input_views.proofs.aal5_frames.Cells.{cells_all, length-pdu_of}
 
 pub delete_octets : (rows : List PortRow) (n : ℕ) (p : PortNo) → length (octets_of (message_of rows n (DeleteAll p))) ≡ 40
 delete_octets rows n p = refl

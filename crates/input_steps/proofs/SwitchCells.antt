@@ -3,41 +3,25 @@
 use Rattle.std.proofs.Common.{◌≡◌, ℕ, ◌+◌, Bool, true, false, not, List, [], ◌∷◌, ◌++◌, Option, Some, None, Result, Ok, Err, refl, sym, ◌∙◌, ap, subst, length, map, arith, if◌then◌else◌}
 use Rattle.std.specs.Prelude.{nat_le, nat_lt}
 use Rattle.std.specs.FinMap as finite
-use Rattle.net_types.specs.declared.channel.End.{End}
-use Rattle.net_types.specs.declared.node.NodeId.{NodeId}
-use Rattle.net_types.specs.declared.number.Instance.{Instance}
-use Rattle.net_types.specs.declared.adjacency.Party.{Party}
-use Rattle.net_types.specs.Number.{next_instance, with_instance}
-use Rattle.adjacency_table.specs.declared.State.TheVariants.{SynSent}
-use Rattle.adjacency_table.specs.Side.{Side, fresh}
-use Rattle.atm_cells.specs.declared.cell.Cell.{Cell}
-use Rattle.gsmp_wire.specs.declared.fault.Fault.{Fault}
-use Rattle.gsmp_wire.specs.declared.message.Message.{Message}
-use Rattle.gsmp_wire.specs.Fields.{decoded}
-use Rattle.link_model.specs.declared.frames.Frame.{Frame}
-use Rattle.link_model.specs.declared.record.Record.TheVariants.{Loss, Chance}
-use Rattle.link_model.specs.declared.record.Cause.TheVariants.{PoolFull}
-use Rattle.link_model.specs.Ledger.{payload_of, is_frame}
-use Rattle.link_model.specs.Notes.{Journal, noted}
-use Rattle.frame_model.specs.Frame.{octets_of, last_mark, payload_in, passed, tested, tested_by}
-use Rattle.frame_model.specs.Reassembly.{Reassembly, Taken, marks_of, most_cells, passed_over, without_slot, too_long, joined}
-use Rattle.ordered_lists.proofs.Parts.{IsPart, left, part_whole, part_none}
-use Rattle.port_facts.proofs.Keyed.{on_each}
-use Rattle.branch_line.specs.Words.{ToSwitch}
-use Rattle.branch_line.specs.Line.{Line}
-use Rattle.branch_line.specs.Switch.{restart_switch}
-use Rattle.branch_line.specs.Moves.{CarryToSwitch, SwitchRestarts, carry_to_switch}
-use Rattle.world_model.specs.Controller.{Controller, default_channel}
-use Rattle.world_model.specs.Cells.{same_channel}
+use Rattle.world_model.specs.Words.{End, NodeId, Instance, Party, next_instance, with_instance, SynSent, Side, fresh, Cell, Frame, Loss, Chance, PoolFull, payload_of, is_frame, Journal, noted, last_mark, payload_in, tested, tested_by, Reassembly, marks_of, most_cells, passed_over, without_slot, too_long, Controller, default_channel, same_channel, numbers_of, Changed, all_ended, read, gsmp_cell, restarted, gsmp_of}
+use Rattle.world_model.specs.gsmp_wire.declared.fault.Fault.{Fault}
+use Rattle.world_model.specs.gsmp_wire.declared.message.Message.{Message}
+use Rattle.world_model.specs.gsmp_wire.Fields.{decoded}
+use Rattle.world_model.specs.frame_model.Frame.{octets_of, passed}
+use Rattle.world_model.specs.frame_model.Reassembly.{Taken, joined}
+use Rattle.input_views.proofs.ordered_lists.Parts.{IsPart, left, part_whole, part_none}
+use Rattle.input_views.proofs.port_facts.Keyed.{on_each}
+use Rattle.input_views.specs.branch_line.Words.{ToSwitch}
+use Rattle.input_views.specs.branch_line.Line.{Line}
+use Rattle.input_views.specs.branch_line.Switch.{restart_switch}
+use Rattle.input_views.specs.branch_line.Moves.{CarryToSwitch, SwitchRestarts, carry_to_switch}
 use Rattle.world_model.specs.declared.port.PortState.{PortState}
-use Rattle.world_model.specs.Switch.{Acted, numbers_of, begun, free_slots}
-use Rattle.world_model.specs.Requests.{Changed, all_ended}
-use Rattle.world_model.specs.Conduct.{read, after_test, ends_frame, after_cell, gsmp_cell, restarted}
-use Rattle.world_model.specs.Ways.{gsmp_of}
-use Rattle.shown_cells.specs.Seen.{Nothing, Word, nothing}
-pub use Rattle.shown_cells.proofs.Tested.{frame_is}
-use Rattle.shown_cells.proofs.Tested.{broken_frames, last_is, cut_frames}
-use Rattle.shown_cells.proofs.Shows.{First, no_word, a_word, first_of}
+use Rattle.world_model.specs.Switch.{Acted, begun, free_slots}
+use Rattle.world_model.specs.Conduct.{after_test, ends_frame, after_cell}
+use Rattle.input_views.specs.shown_cells.Seen.{Nothing, Word, nothing}
+pub use Rattle.input_views.proofs.shown_cells.Tested.{frame_is}
+use Rattle.input_views.proofs.shown_cells.Tested.{broken_frames, last_is, cut_frames}
+use Rattle.input_views.proofs.shown_cells.Shows.{First, no_word, a_word, first_of}
 use Rattle.input_views.specs.Words.{erased, seen_request, seen_on_gsmp, seen_cell}
 use Rattle.input_views.specs.Shown.{controller_of, switch_of, ShowsRequests}
 use Rattle.input_steps.specs.Part.{Part, part_beside, Stands, Reaches, AnyLine, Leads}

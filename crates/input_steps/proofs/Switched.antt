@@ -1,22 +1,15 @@
 -- the switch puts a cell of another channel out: the branches lead where they led, and the cell is nothing to the line
 
 use Rattle.std.proofs.Common.{◌≡◌, ◌≢◌, ℕ, zero, suc, ◌≤◌, Bool, true, false, List, [], ◌∷◌, ◌++◌, Option, None, Some, refl, sym, ap, subst, length, slice_set, slice_index_or, arith, if◌then◌else◌}
-use Rattle.net_types.specs.declared.channel.End.{End}
-use Rattle.net_types.specs.declared.node.NodeId.{NodeId}
-use Rattle.net_types.specs.declared.node.PortNo.{PortNo}
-use Rattle.atm_cells.specs.declared.cell.Cell.{Cell}
+use Rattle.world_model.specs.Words.{End, NodeId, PortNo, Cell, Loss, Unconnected, PoolFull, noted, queue_of, on_channel_of, unfinished_after, switched_on, route_on, Controller, default_channel, switched_cell}
 use Rattle.std.specs.FinMap as finite
-use Rattle.shown_cells.proofs.Shows.{one_hidden, shows_behind}
+use Rattle.input_views.proofs.shown_cells.Shows.{one_hidden, shows_behind}
 use Rattle.std.specs.Prelude.{◌==◌}
 use Rattle.std.proofs.lemmas.Bool.Decides.{nat_tests}
-use Rattle.link_model.specs.declared.record.Record.TheVariants.{Loss}
-use Rattle.link_model.specs.declared.record.Cause.TheVariants.{Unconnected, PoolFull}
-use Rattle.link_model.specs.Notes.{noted}
-use Rattle.crossbar_model.specs.declared.branch.Branch.{Branch}
-use Rattle.crossbar_model.specs.Crossbar.{queue_of, on_channel_of, input_of, unfinished_after, forwarded, switched_on, route_on}
-use Rattle.world_model.specs.Controller.{Controller, default_channel}
+use Rattle.world_model.specs.crossbar_model.declared.branch.Branch.{Branch}
+use Rattle.world_model.specs.crossbar_model.Crossbar.{input_of, forwarded}
 use Rattle.world_model.specs.Switch.{Acted, free_slots}
-use Rattle.world_model.specs.Conduct.{counted, passed, switched_cell}
+use Rattle.world_model.specs.Conduct.{counted, passed}
 use Rattle.input_views.specs.Words.{seen_answer}
 use Rattle.input_views.specs.Shown.{controller_of, switch_of, ShowsAnswers}
 use Rattle.input_views.proofs.Cells.{cell_elsewhere}

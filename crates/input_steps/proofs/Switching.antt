@@ -2,42 +2,22 @@
 
 use Rattle.std.proofs.Common.{◌≡◌, ℕ, ◌+◌, ◌≤◌, Bool, true, false, List, [], ◌∷◌, ◌++◌, Option, Some, refl, sym, ◌∙◌, ap, subst, length, append-nil, arith, slice_set, slice_index_or, if◌then◌else◌}
 use Rattle.std.specs.Prelude.{nat_le}
-use Rattle.net_types.specs.declared.channel.End.{End}
-use Rattle.net_types.specs.declared.node.NodeId.{NodeId}
-use Rattle.net_types.specs.declared.number.Mark.{Mark}
-use Rattle.net_types.specs.declared.adjacency.Greeting.{Greeting}
-use Rattle.net_types.specs.declared.adjacency.HelloKind.{HelloKind}
-use Rattle.net_types.specs.declared.adjacency.HelloKind.TheVariants.{Syn, Synack, Rstack, Ack}
-use Rattle.net_types.specs.declared.adjacency.Party.{Party}
-use Rattle.net_types.specs.Number.{next_control, with_control, next_instance, with_instance}
-use Rattle.adjacency_table.specs.declared.State.TheVariants.{SynSent}
-use Rattle.adjacency_table.specs.Side.{Side, Step, fresh, counted, ticked}
-use Rattle.adjacency_table.specs.Table.{Reply, Silent, Says, Resets, Row, tick_reply}
-use Rattle.adjacency_table.specs.Instances.{SideByInstances, row_for, after_row, enters, is_reset, greeting}
-use Rattle.adjacency_table.specs.Ends.{side_of, said_by, step_by, tick_by}
-use Rattle.adjacency_table.specs.Greeting.{greeting_of, gsmp_answer, gsmp_received}
-use Rattle.adjacency_table.proofs.EndsLemmas.{gsmp_received_by_instances, ticked_by_instances}
-use Rattle.atm_cells.specs.declared.cell.Cell.{Cell}
-use Rattle.gsmp_wire.specs.declared.message.Message.{Message}
-use Rattle.gsmp_wire.specs.declared.message.Message.TheVariants.{Adjacency}
-use Rattle.gsmp_wire.specs.Layout.{octets_of}
-use Rattle.link_model.specs.declared.record.Record.TheVariants.{Loss}
-use Rattle.link_model.specs.declared.record.Cause.TheVariants.{PoolFull}
-use Rattle.link_model.specs.Ledger.{payload_of}
-use Rattle.link_model.specs.Notes.{noted}
-use Rattle.frame_model.specs.Frame.{frame_cells, made}
-use Rattle.frame_model.specs.Sending.{Sent}
-use Rattle.port_facts.proofs.Keyed.{on_both}
-use Rattle.crossbar_model.specs.Crossbar.{Crossbar, queue_of, sent}
-use Rattle.branch_line.specs.Words.{ToController, SwitchGreets, ControllerGreets}
-use Rattle.branch_line.specs.Line.{Line, spoken}
-use Rattle.branch_line.specs.Switch.{reply, reset_switch, tick_switch}
-use Rattle.branch_line.specs.Moves.{SwitchTakes, SwitchTicks, SwitchResets, LoseAtSwitch}
-use Rattle.branch_line.specs.Words as lines
-use Rattle.world_model.specs.Controller.{Controller, default_channel}
-use Rattle.world_model.specs.Switch.{Switch, Acted, control_port, gsmp_channel, free_slots}
-use Rattle.world_model.specs.Conduct.{with_cells, sends, says, reset, answers, steps, greeted, tick_comes}
-use Rattle.shown_cells.specs.Seen.{Seen, Nothing, Word}
+use Rattle.world_model.specs.Words.{End, NodeId, Mark, Greeting, HelloKind, Syn, Synack, Rstack, Ack, Party, next_control, with_control, next_instance, with_instance, SynSent, Side, Step, fresh, ticked, Reply, Silent, Says, Resets, Row, tick_reply, SideByInstances, row_for, after_row, enters, is_reset, greeting, side_of, said_by, step_by, tick_by, greeting_of, gsmp_answer, gsmp_received, Cell, Loss, PoolFull, payload_of, noted, frame_cells, made, Crossbar, queue_of, sent, Controller, default_channel, Switch, control_port, gsmp_channel, reset, tick_comes}
+use Rattle.world_model.specs.adjacency_table.Side.{counted}
+use Rattle.world_model.proofs.adjacency_table.EndsLemmas.{gsmp_received_by_instances, ticked_by_instances}
+use Rattle.world_model.specs.gsmp_wire.declared.message.Message.{Message}
+use Rattle.world_model.specs.gsmp_wire.declared.message.Message.TheVariants.{Adjacency}
+use Rattle.world_model.specs.gsmp_wire.Layout.{octets_of}
+use Rattle.world_model.specs.frame_model.Sending.{Sent}
+use Rattle.input_views.proofs.port_facts.Keyed.{on_both}
+use Rattle.input_views.specs.branch_line.Words.{ToController, SwitchGreets, ControllerGreets}
+use Rattle.input_views.specs.branch_line.Line.{Line, spoken}
+use Rattle.input_views.specs.branch_line.Switch.{reply, reset_switch, tick_switch}
+use Rattle.input_views.specs.branch_line.Moves.{SwitchTakes, SwitchTicks, SwitchResets, LoseAtSwitch}
+use Rattle.input_views.specs.branch_line.Words as lines
+use Rattle.world_model.specs.Switch.{Acted, free_slots}
+use Rattle.world_model.specs.Conduct.{with_cells, sends, says, answers, steps, greeted}
+use Rattle.input_views.specs.shown_cells.Seen.{Seen, Nothing, Word}
 use Rattle.input_views.specs.Words.{is_own_greeting, seen_answer, seen_on_gsmp, erased_back}
 use Rattle.input_views.specs.Shown.{controller_of, switch_of, ShowsAnswers}
 use Rattle.input_views.proofs.Cells.{frame_of_answer}

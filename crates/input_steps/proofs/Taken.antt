@@ -4,31 +4,20 @@ use Rattle.std.proofs.Common.{◌≡◌, ℕ, ◌<◌, Bool, true, false, not, �
 use Rattle.std.specs.List.{list_any}
 use Rattle.std.specs.Prelude.{◌==◌}
 use Rattle.std.proofs.lemmas.Bool.Decides.{nat_tests}
-use Rattle.net_types.specs.declared.channel.End.{End}
-use Rattle.net_types.specs.declared.node.NodeId.{NodeId}
-use Rattle.net_types.specs.declared.node.PortNo.{PortNo}
-use Rattle.adjacency_table.specs.Side.{is_estab}
-use Rattle.gsmp_wire.specs.declared.message.BranchKind.TheVariants as kinds
-use Rattle.gsmp_wire.specs.declared.message.Message.{Message}
-use Rattle.gsmp_wire.specs.declared.message.Message.TheVariants as messages
-use Rattle.gsmp_wire.specs.declared.request.Request.TheVariants.{AllPorts}
-use Rattle.gsmp_wire.specs.declared.rows.PortRow.{PortRow}
-use Rattle.ordered_lists.specs.Ordered.{Every, InOrder}
-use Rattle.port_model.specs.Desk.{Standing}
-use Rattle.port_model.specs.DeskAnswers.{Head, without_request}
-use Rattle.port_model.specs.DeskAnswers as answers
-use Rattle.branch_line.specs.Words.{Request as LineRequest, message_type, Success, ToController, Answer}
-use Rattle.branch_line.specs.Line.{Other, Meeting, Listing, Emptying, Met, MetAndAsked, Line}
-use Rattle.branch_line.specs.Asking.{has_met}
-use Rattle.branch_line.specs.Controller.{answers_asked, answers_other, input_answered, other_answered, hear_answer, empty_ports}
-use Rattle.branch_line.specs.Moves.{ControllerTakes, LoseAtController}
+use Rattle.world_model.specs.Words.{End, NodeId, PortNo, is_estab, PortRow, Standing, Head, without_request, Switch, asked_in, with_desk, asks, node_resets, empties, up_ports, takes_answer, answer_comes}
+use Rattle.world_model.specs.gsmp_wire.declared.message.BranchKind.TheVariants as kinds
+use Rattle.world_model.specs.gsmp_wire.declared.message.Message.{Message}
+use Rattle.world_model.specs.gsmp_wire.declared.message.Message.TheVariants as messages
+use Rattle.world_model.specs.gsmp_wire.declared.request.Request.TheVariants.{AllPorts}
+use Rattle.input_views.specs.ordered_lists.Ordered.{Every, InOrder}
+use Rattle.world_model.specs.port_model.DeskAnswers as answers
+use Rattle.input_views.specs.branch_line.Words.{Request as LineRequest, message_type, Success, ToController, Answer}
+use Rattle.input_views.specs.branch_line.Line.{Other, Meeting, Listing, Emptying, Met, MetAndAsked, Line}
+use Rattle.input_views.specs.branch_line.Asking.{has_met}
+use Rattle.input_views.specs.branch_line.Controller.{answers_asked, answers_other, input_answered, other_answered, hear_answer, empty_ports}
+use Rattle.input_views.specs.branch_line.Moves.{ControllerTakes, LoseAtController}
 use Rattle.world_model.specs.declared.request.Asked.{Asked}
-use Rattle.world_model.specs.Switch.{Switch}
-use Rattle.world_model.specs.Requests.{asked_in}
-use Rattle.world_model.specs.Controller.{Acted, with_desk}
-use Rattle.world_model.specs.Asking.{asks}
-use Rattle.world_model.specs.Resets.{node_resets}
-use Rattle.world_model.specs.Meeting.{empties, up_ports, takes_answer, answer_comes}
+use Rattle.world_model.specs.Controller.{Acted}
 use Rattle.input_views.specs.Words.{type_of, word_of, is_own, own_of, other_of, others_of}
 use Rattle.input_views.specs.Shown.{AskedShows, IsAllPorts, IsDeleteAll, PhaseShows}
 use Rattle.input_steps.specs.Part.{Part, part_at, IsEarlier, Stands, Reaches, AnyLine}

@@ -1,23 +1,13 @@
 -- a tick of a controller, whole: the adjacency with its switch, the requests that stand, each port, joins
 
 use Rattle.std.proofs.Common.{◌≡◌, Bool, true, false, flat_map, Option, None, Some, refl, if◌then◌else◌}
-use Rattle.net_types.specs.declared.channel.End.{End}
-use Rattle.net_types.specs.declared.node.NodeId.{NodeId}
-use Rattle.net_types.specs.declared.adjacency.Party.{Party}
-use Rattle.net_types.specs.Label.{number_of_channel}
-use Rattle.adjacency_table.specs.declared.message.Answer.{Answer}
-use Rattle.adjacency_table.specs.declared.message.Answer.TheVariants.{Quiet, Send, Open, Reset}
-use Rattle.adjacency_table.specs.declared.message.Said.{Said}
-use Rattle.adjacency_table.specs.Side.{ticked}
-use Rattle.gsmp_wire.specs.declared.request.Request.TheVariants.{MoveBranch}
-use Rattle.port_model.specs.Setup.{home_of}
-use Rattle.port_model.specs.Labels.{Label}
-use Rattle.port_model.specs.Joins as port_joins
-use Rattle.port_model.specs.Ticks as port_ticks
-use Rattle.world_model.specs.Switch.{Switch}
+use Rattle.world_model.specs.Words.{End, NodeId, Party, number_of_channel, Answer, Quiet, Send, Open, Said, ticked, MoveBranch, home_of, Label, Switch, join_for, may_join, enters_grant, enters_label, joins, tries_label, label_on, tries_join, inputs_at, tries_joins, ticks_port, ticks_by}
+use Rattle.world_model.specs.adjacency_table.declared.message.Answer.TheVariants.{Reset}
+use Rattle.world_model.specs.port_model.Joins as port_joins
+use Rattle.world_model.specs.port_model.Ticks as port_ticks
 use Rattle.world_model.specs.Controller.{Acted, ports_of}
-use Rattle.world_model.specs.Joins.{Join, join_for, may_join, output_of, enters_grant, enters_label, joins, tries_label, label_on, tries_join, inputs_at, tries_joins}
-use Rattle.world_model.specs.Ticks.{ticks_port, ticks_by, ticks}
+use Rattle.world_model.specs.Joins.{Join, output_of}
+use Rattle.world_model.specs.Ticks.{ticks}
 use Rattle.input_steps.specs.Part.{part_at, Leads}
 use Rattle.input_steps.specs.Ticks.{CanTickPort, CanJoin, CanJoinLabel, CanTryJoin, after_steps, after_again, after_ports, CanTick}
 use Rattle.input_steps.proofs.Reach.{leads_self, leads_then}

@@ -1,23 +1,13 @@
 -- When all that a controller does at a success may be done, once the switch is met, as the line of an input tells
 
 use Rattle.std.specs.Prelude.{◌≡◌, true, false, List, [], ◌∷◌, fold, Option, None, Some}
-use Rattle.net_types.specs.declared.channel.End.{End}
-use Rattle.net_types.specs.declared.node.PortNo.{PortNo}
-use Rattle.net_types.specs.Label.{number_of_channel}
-use Rattle.ipv4_forward.specs.declared.change.RouteChange.{RouteChange}
-use Rattle.adjacency_table.specs.Side.{is_estab}
-use Rattle.gsmp_wire.specs.declared.request.Request.{Request}
-use Rattle.gsmp_wire.specs.declared.request.Request.TheVariants.{AddBranch, MoveBranch, DeleteTree, VerifyTree, DeleteAll, PortManagement, AllPorts}
-use Rattle.link_model.specs.declared.record.Record.TheVariants.{Part as Parted}
-use Rattle.port_model.specs.Desk.{is_led_home}
-use Rattle.port_model.specs.Setup.{home_of}
-use Rattle.port_model.specs.Saying.{closes}
-use Rattle.port_model.specs.Joins as port_joins
-use Rattle.port_model.specs.Answers as port_answers
-use Rattle.world_model.specs.Controller.{Acted, linked_at, ports_of, note, default_end, default_home}
-use Rattle.world_model.specs.Joins.{Join, join_of, output_of, parts, releases_input, released_inputs, resets_spent, releases}
-use Rattle.world_model.specs.Meeting.{port_of, causes, clears}
-use Rattle.world_model.specs.Changes.{changed_joins, takes_join_back, begins_change, takes_change, may_take}
+use Rattle.world_model.specs.Words.{End, PortNo, number_of_channel, RouteChange, is_estab, Request, AddBranch, MoveBranch, DeleteTree, VerifyTree, PortManagement, Part as Parted, is_led_home, home_of, closes, linked_at, default_end, default_home, join_of, parts, releases_input, released_inputs, resets_spent, releases, causes, clears, changed_joins, takes_join_back, begins_change, takes_change, may_take}
+use Rattle.world_model.specs.gsmp_wire.declared.request.Request.TheVariants.{DeleteAll, AllPorts}
+use Rattle.world_model.specs.port_model.Joins as port_joins
+use Rattle.world_model.specs.port_model.Answers as port_answers
+use Rattle.world_model.specs.Controller.{Acted, ports_of, note}
+use Rattle.world_model.specs.Joins.{Join, output_of}
+use Rattle.world_model.specs.Meeting.{port_of}
 use Rattle.input_steps.specs.Asking.{CanEach, MayAsk, CanApply}
 
 -- *A release*: the label isn't joined any more, and the grant is given back

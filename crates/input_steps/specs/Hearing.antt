@@ -2,43 +2,19 @@
 -- it is written
 
 use Rattle.std.specs.Prelude.{◌≡◌, ◌≢◌, ◌==◌, ℕ, ◌≤◌, Bool, true, false, not, nat_le, nat_lt, List, [], ◌∷◌, ◌++◌, length, None, Some, Ok, Option}
-use Rattle.net_types.specs.declared.adjacency.Greeting.{Greeting}
-use Rattle.net_types.specs.declared.adjacency.Party.{Party}
-use Rattle.adjacency_table.specs.declared.message.Answer.{Answer}
-use Rattle.adjacency_table.specs.declared.message.Answer.TheVariants.{Quiet, Send, Open, Reset}
-use Rattle.adjacency_table.specs.Greeting.{gsmp_answer, gsmp_received}
-use Rattle.atm_cells.specs.declared.cell.Cell.{Cell}
-use Rattle.gsmp_wire.specs.declared.message.Message.{Message}
-use Rattle.gsmp_wire.specs.declared.message.Message.TheVariants.{Adjacency}
-use Rattle.gsmp_wire.specs.Fields.{decoded}
-use Rattle.link_model.specs.declared.frames.Frame.{Frame}
-use Rattle.link_model.specs.Ledger.{is_frame}
-use Rattle.frame_model.specs.Frame.{octets_of as cell_octets, last_mark, payload_in}
-use Rattle.port_model.specs.Desk.{Standing}
-use Rattle.world_model.specs.Controller.{Controller, default_channel}
-use Rattle.world_model.specs.Cells.{same_channel}
-use Rattle.frame_model.specs.Reassembly.{Reassembly, most_cells}
-use Rattle.world_model.specs.Switch.{Switch, Acted, free_slots}
-use Rattle.world_model.specs.Requests.{is_request}
-use Rattle.world_model.specs.Answers.{handled}
-use Rattle.world_model.specs.Ways.{copy_of}
-use Rattle.net_types.specs.declared.channel.End.{End}
-use Rattle.net_types.specs.declared.node.NodeId.{NodeId}
-use Rattle.crossbar_model.specs.declared.branch.Branch.{Branch}
-use Rattle.crossbar_model.specs.Crossbar.{queue_of, popped}
-use Rattle.branch_line.specs.Words.{ToController}
-use Rattle.branch_line.specs.Line.{Line}
+use Rattle.world_model.specs.Words.{Greeting, Party, Answer, Quiet, Send, Open, gsmp_answer, gsmp_received, Cell, Frame, is_frame, last_mark, payload_in, Standing, Controller, default_channel, same_channel, Reassembly, most_cells, Switch, is_request, handled, copy_of, End, NodeId, queue_of, popped, gsmp_holds, answer_comes, is_estab, PortRow, message_of, answered, Done, Ports, control_port, gsmp_of}
+use Rattle.world_model.specs.adjacency_table.declared.message.Answer.TheVariants.{Reset}
+use Rattle.world_model.specs.gsmp_wire.declared.message.Message.{Message}
+use Rattle.world_model.specs.gsmp_wire.declared.message.Message.TheVariants.{Adjacency}
+use Rattle.world_model.specs.gsmp_wire.Fields.{decoded}
+use Rattle.world_model.specs.frame_model.Frame.{octets_of as cell_octets}
+use Rattle.world_model.specs.Switch.{Acted, free_slots}
+use Rattle.world_model.specs.crossbar_model.declared.branch.Branch.{Branch}
+use Rattle.input_views.specs.branch_line.Words.{ToController}
+use Rattle.input_views.specs.branch_line.Line.{Line}
 use Rattle.world_model.specs.Controller as controllers
-use Rattle.world_model.specs.Gsmp.{gsmp_holds}
-use Rattle.world_model.specs.Meeting.{answer_comes}
-use Rattle.adjacency_table.specs.Side.{is_estab}
-use Rattle.gsmp_wire.specs.declared.request.Request.TheVariants.{AllPorts}
-use Rattle.gsmp_wire.specs.declared.rows.PortRow.{PortRow}
-use Rattle.port_model.specs.Messages.{message_of}
-use Rattle.port_model.specs.DeskAnswers.{answered, Done, Ports}
-use Rattle.world_model.specs.Switch.{control_port}
-use Rattle.world_model.specs.Ways.{gsmp_of}
-use Rattle.shown_cells.specs.Seen.{Nothing, Word}
+use Rattle.world_model.specs.gsmp_wire.declared.request.Request.TheVariants.{AllPorts}
+use Rattle.input_views.specs.shown_cells.Seen.{Nothing, Word}
 use Rattle.input_views.specs.Words.{erased_back, seen_answer}
 use Rattle.input_views.specs.Shown.{controller_of, switch_of}
 use Rattle.input_steps.specs.Part.{part_at, Stands, Reaches, AnyLine}

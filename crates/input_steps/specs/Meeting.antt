@@ -1,17 +1,11 @@
 -- What an answer leaves of the desk, and when all ports may be asked to be emptied
 
 use Rattle.std.specs.Prelude.{◌≡◌, ℕ, ◌+◌, ◌<◌, ◌≤◌, Bool, true, false, ◌==◌, ◌&&◌, List, [], ◌∷◌, ◌++◌, length, find, Option}
-use Rattle.net_types.specs.declared.channel.End.{End}
-use Rattle.net_types.specs.declared.node.PortNo.{PortNo}
-use Rattle.adjacency_table.specs.Side.{is_estab}
-use Rattle.gsmp_wire.specs.declared.message.Message.{Message}
-use Rattle.gsmp_wire.specs.declared.request.Request.TheVariants.{DeleteAll}
-use Rattle.ordered_lists.specs.Ordered.{Every, InOrder}
-use Rattle.port_model.specs.Requests.{withdraws}
-use Rattle.port_model.specs.Desk.{Desk, Standing, last_transaction}
-use Rattle.port_model.specs.Messages.{message_of}
-use Rattle.port_model.specs.DeskAnswers.{Head, is_of_type, without_request}
-use Rattle.branch_line.specs.Line.{Answered, Met, Line}
+use Rattle.world_model.specs.Words.{End, PortNo, is_estab, withdraws, Desk, Standing, last_transaction, message_of, Head, is_of_type, without_request}
+use Rattle.world_model.specs.gsmp_wire.declared.message.Message.{Message}
+use Rattle.world_model.specs.gsmp_wire.declared.request.Request.TheVariants.{DeleteAll}
+use Rattle.input_views.specs.ordered_lists.Ordered.{Every, InOrder}
+use Rattle.input_views.specs.branch_line.Line.{Answered, Met, Line}
 use Rattle.input_steps.specs.Part.{Part}
 use Rattle.input_steps.specs.Asking.{IsReadable, concerns, on_input}
 

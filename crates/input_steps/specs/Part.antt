@@ -1,29 +1,16 @@
 -- What a site shows of the line of one input, part by part, and that moves lead from one site to the next
 
 use Rattle.std.specs.Prelude.{◌≡◌, ◌+◌, ◌<◌, ◌≤◌, Bool, true, List, [], Option}
-use Rattle.net_types.specs.declared.channel.End.{End}
-use Rattle.net_types.specs.declared.node.NodeId.{NodeId}
-use Rattle.net_types.specs.declared.node.PortNo.{PortNo}
-use Rattle.net_types.specs.declared.adjacency.Party.{Party}
-use Rattle.net_types.specs.Number.{GivenOut}
-use Rattle.adjacency_table.specs.Side.{Side, is_estab}
-use Rattle.adjacency_table.specs.Ends.{side_of}
-use Rattle.atm_cells.specs.declared.cell.Cell.{Cell}
-use Rattle.link_model.specs.declared.frames.Frame.{Frame}
-use Rattle.ordered_lists.specs.Ordered.{Every, InOrder}
-use Rattle.crossbar_model.specs.Crossbar.{output_of, queue_of}
-use Rattle.port_model.specs.Desk.{Desk, Standing}
-use Rattle.branch_line.specs.Line as lines
-use Rattle.branch_line.specs.Line.{Line}
-use Rattle.branch_line.specs.Asking.{has_met}
-use Rattle.branch_line.specs.Moves.{Move, run}
-use Rattle.world_model.specs.Switch.{control_port, numbers_of}
+use Rattle.world_model.specs.Words.{End, NodeId, PortNo, Party, GivenOut, Side, is_estab, side_of, Cell, Frame, queue_of, Desk, Standing, control_port, numbers_of, Switch, Controller, Site}
+use Rattle.input_views.specs.ordered_lists.Ordered.{Every, InOrder}
+use Rattle.world_model.specs.crossbar_model.Crossbar.{output_of}
+use Rattle.input_views.specs.branch_line.Line as lines
+use Rattle.input_views.specs.branch_line.Line.{Line}
+use Rattle.input_views.specs.branch_line.Asking.{has_met}
+use Rattle.input_views.specs.branch_line.Moves.{Move, run}
 use Rattle.world_model.specs.Switch as switches
-use Rattle.world_model.specs.Switch.{Switch}
 use Rattle.world_model.specs.Controller as controllers
-use Rattle.world_model.specs.Controller.{Controller}
-use Rattle.world_model.specs.World.{Site}
-use Rattle.shown_cells.specs.Seen.{IsUnmade}
+use Rattle.input_views.specs.shown_cells.Seen.{IsUnmade}
 use Rattle.input_views.specs.Words.{own_of, others_of}
 use Rattle.input_views.specs.Shown.{controller_of, switch_of, AskedShows, PhaseShows, before_of, behind_of, ShowsRequests, ShowsAnswers}
 

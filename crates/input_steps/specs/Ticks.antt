@@ -1,22 +1,13 @@
 -- When all that a tick of a controller does may be done, as the line of an input tells
 
 use Rattle.std.specs.Prelude.{◌≡◌, true, flat_map, Option, None, Some}
-use Rattle.net_types.specs.declared.channel.End.{End}
-use Rattle.net_types.specs.declared.node.PortNo.{PortNo}
-use Rattle.net_types.specs.Label.{number_of_channel}
-use Rattle.adjacency_table.specs.Side.{ticked}
-use Rattle.adjacency_table.specs.Greeting.{gsmp_answer}
-use Rattle.gsmp_wire.specs.declared.request.Request.TheVariants.{MoveBranch}
-use Rattle.ordered_lists.specs.Ordered.{Every}
-use Rattle.port_model.specs.Desk.{sent_again}
-use Rattle.port_model.specs.Setup.{home_of}
-use Rattle.port_model.specs.Labels.{Label}
-use Rattle.port_model.specs.Joins as port_joins
-use Rattle.port_model.specs.Ticks as port_ticks
-use Rattle.world_model.specs.Controller.{Acted, linked_at, ports_of}
+use Rattle.world_model.specs.Words.{End, PortNo, number_of_channel, ticked, gsmp_answer, MoveBranch, sent_again, home_of, Label, linked_at, join_for, may_join, enters_grant, enters_label, label_on, tries_join, inputs_at, sends_again, ticks_port, ticks_ports}
+use Rattle.input_views.specs.ordered_lists.Ordered.{Every}
+use Rattle.world_model.specs.port_model.Joins as port_joins
+use Rattle.world_model.specs.port_model.Ticks as port_ticks
+use Rattle.world_model.specs.Controller.{Acted, ports_of}
 use Rattle.world_model.specs.Gsmp.{steps}
-use Rattle.world_model.specs.Joins.{Join, join_for, may_join, output_of, enters_grant, enters_label, label_on, tries_join, inputs_at}
-use Rattle.world_model.specs.Ticks.{sends_again, ticks_port, ticks_ports}
+use Rattle.world_model.specs.Joins.{Join, output_of}
 use Rattle.input_steps.specs.Asking.{CanEach, MayAsk, CanApply, IsReady}
 use Rattle.input_steps.specs.Hearing.{Reads}
 

@@ -1,19 +1,10 @@
 -- cells of the control link, as an input's line sees them
 
 use Rattle.std.proofs.Common.{◌≡◌, ◌≢◌, ℕ, Bool, true, false, List, [], ◌∷◌, ◌++◌, Option, None, Some, refl, sym, ◌∙◌, ap, subst, length, replicate, if◌then◌else◌}
-use Rattle.net_types.specs.declared.channel.Channel.{Channel}
-use Rattle.net_types.specs.declared.channel.End.{End}
-use Rattle.net_types.specs.declared.node.NodeId.{NodeId}
-use Rattle.net_types.specs.declared.number.Mark.{Mark}
-use Rattle.atm_cells.specs.declared.cell.Cell.{Cell}
-use Rattle.gsmp_wire.specs.declared.message.Message.{Message}
-use Rattle.link_model.specs.declared.frames.Frame.{Frame}
-use Rattle.link_model.specs.Ledger.{payload_of}
-use Rattle.frame_model.specs.Frame.{frame_cells}
-use Rattle.ordered_lists.specs.Ordered.{Every}
+use Rattle.world_model.specs.Words.{Channel, End, NodeId, Mark, Cell, Frame, payload_of, frame_cells, default_channel, same_channel}
+use Rattle.world_model.specs.gsmp_wire.declared.message.Message.{Message}
+use Rattle.shown_cells.specs.ordered_lists.Ordered.{Every}
 use Rattle.branch_line.specs.Words as lines
-use Rattle.world_model.specs.Controller.{default_channel}
-use Rattle.world_model.specs.Cells.{same_channel}
 use Rattle.shown_cells.specs.Seen.{Seen, Nothing, Word, Unknown, Shows, nothing, hidden, word, Extends}
 use Rattle.shown_cells.proofs.Shows.{shows_map, shows_join, shows_hidden}
 use Rattle.shown_cells.proofs.Frames.{IsOf, IsCut, frame_is_cut, same_self, differ}

@@ -1,14 +1,11 @@
 -- moves of an input's line lead on, from one site to the next; instances are drawn elsewhere
 
 use Rattle.std.proofs.Common.{◌≡◌, ℕ, zero, suc, ◌+◌, List, [], ◌∷◌, ◌++◌, refl, ◌∙◌, ap, subst, replicate, arith}
-use Rattle.net_types.specs.declared.channel.End.{End}
-use Rattle.net_types.specs.declared.node.NodeId.{NodeId}
-use Rattle.link_model.specs.declared.frames.Frame.{Frame}
+use Rattle.world_model.specs.Words.{End, NodeId, Frame, Site}
 use Rattle.branch_line.specs.Line.{Line}
 use Rattle.branch_line.specs.Moves.{Move, DrawElsewhere, step, run}
 use Rattle.branch_line.specs.Law.{IsReached}
 use Rattle.branch_line.proofs.Reached.{run_reached}
-use Rattle.world_model.specs.World.{Site}
 use Rattle.input_views.specs.Shown.{InputShows}
 use Rattle.input_views.specs.Reaching.{Follows, ReachedAs}
 

@@ -1,18 +1,9 @@
 -- what a site does elsewhere leaves the line of an input
 
 use Rattle.std.proofs.Common.{◌≡◌, ℕ, List, [], sym, ◌∙◌, ap, subst, arith}
-use Rattle.net_types.specs.declared.channel.End.{End}
-use Rattle.net_types.specs.declared.node.NodeId.{NodeId}
-use Rattle.net_types.specs.declared.adjacency.Party.{Party}
-use Rattle.adjacency_table.specs.Side.{Side, is_estab}
-use Rattle.adjacency_table.specs.Ends.{side_of}
-use Rattle.link_model.specs.declared.frames.Frame.{Frame}
-use Rattle.frame_model.specs.Reassembly.{Reassembly}
-use Rattle.port_model.specs.Desk.{Desk}
+use Rattle.world_model.specs.Words.{End, NodeId, Party, Side, is_estab, side_of, Frame, Reassembly, Desk, numbers_of, Site}
 use Rattle.branch_line.specs.Line.{Line}
 use Rattle.world_model.specs.declared.port.PortState.{PortState}
-use Rattle.world_model.specs.Switch.{numbers_of}
-use Rattle.world_model.specs.World.{Site}
 use Rattle.input_views.specs.Words.{own_of, others_of}
 use Rattle.input_views.specs.Shown.{controller_of, switch_of, AskedShows, PhaseShows, before_of, behind_of, ShowsRequests, ShowsAnswers, InputShows}
 use Rattle.input_views.specs.Quiet.{IsQuietAt}

@@ -1,13 +1,9 @@
 -- What is nothing to the line of an input: what a site does elsewhere
 
 use Rattle.std.specs.Prelude.{◌≡◌, ℕ, ◌≤◌, List}
-use Rattle.net_types.specs.declared.channel.End.{End}
-use Rattle.net_types.specs.declared.node.NodeId.{NodeId}
-use Rattle.link_model.specs.declared.frames.Frame.{Frame}
-use Rattle.crossbar_model.specs.Crossbar.{output_of, queue_of}
+use Rattle.world_model.specs.Words.{End, NodeId, Frame, queue_of, control_port, Site}
+use Rattle.world_model.specs.crossbar_model.Crossbar.{output_of}
 use Rattle.branch_line.specs.Words as lines
-use Rattle.world_model.specs.Switch.{control_port}
-use Rattle.world_model.specs.World.{Site}
 use Rattle.shown_cells.specs.Seen.{Extends}
 use Rattle.input_views.specs.Shown.{ShowsRequests, ShowsAnswers}
 

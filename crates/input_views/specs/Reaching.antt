@@ -1,13 +1,10 @@
 -- That moves of an input's line lead from what a site shows to what it shows next
 
 use Rattle.std.specs.Prelude.{◌≡◌, ℕ, List}
-use Rattle.net_types.specs.declared.channel.End.{End}
-use Rattle.net_types.specs.declared.node.NodeId.{NodeId}
-use Rattle.link_model.specs.declared.frames.Frame.{Frame}
+use Rattle.world_model.specs.Words.{End, NodeId, Frame, Site}
 use Rattle.branch_line.specs.Line.{Line}
 use Rattle.branch_line.specs.Moves.{Move, run}
 use Rattle.branch_line.specs.Law.{IsReached}
-use Rattle.world_model.specs.World.{Site}
 use Rattle.input_views.specs.Shown.{InputShows}
 
 -- some moves lead from a line to one that shows, and of which P is so: P keeps for a moment what the relation forgets

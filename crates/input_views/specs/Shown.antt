@@ -2,24 +2,13 @@
 -- more than they do
 
 use Rattle.std.specs.Prelude.{◌≡◌, ℕ, ◌+◌, ◌≤◌, Bool, true, false, nat_lt, List, [], ◌∷◌, filter, length, Some}
-use Rattle.net_types.specs.declared.channel.End.{End}
-use Rattle.net_types.specs.declared.node.NodeId.{NodeId}
-use Rattle.net_types.specs.declared.node.PortNo.{PortNo}
-use Rattle.net_types.specs.declared.adjacency.Party.{Party}
-use Rattle.adjacency_table.specs.Side.{is_estab}
-use Rattle.adjacency_table.specs.Ends.{side_of}
-use Rattle.atm_cells.specs.declared.cell.Cell.{Cell}
-use Rattle.gsmp_wire.specs.declared.request.Request.{Request}
-use Rattle.gsmp_wire.specs.declared.request.Request.TheVariants.{AllPorts, DeleteAll}
-use Rattle.link_model.specs.declared.frames.Frame.{Frame}
-use Rattle.ordered_lists.specs.Ordered.{Every}
-use Rattle.crossbar_model.specs.Crossbar.{output_of, queue_of}
-use Rattle.port_model.specs.Desk.{Standing}
+use Rattle.world_model.specs.Words.{End, NodeId, PortNo, Party, is_estab, side_of, Cell, Request, Frame, queue_of, Standing, control_port, numbers_of, controller_party, switch_party, Site}
+use Rattle.world_model.specs.gsmp_wire.declared.request.Request.TheVariants.{AllPorts, DeleteAll}
+use Rattle.shown_cells.specs.ordered_lists.Ordered.{Every}
+use Rattle.world_model.specs.crossbar_model.Crossbar.{output_of}
 use Rattle.branch_line.specs.Words as lines
 use Rattle.branch_line.specs.Line.{Asked, Apart, Unasked, Stands, Answered, Meeting, Listing, Emptying, Met, MetAndAsked, Line}
 use Rattle.branch_line.specs.Asking.{has_met}
-use Rattle.world_model.specs.Switch.{control_port, numbers_of, controller_party, switch_party}
-use Rattle.world_model.specs.World.{Site}
 use Rattle.shown_cells.specs.Seen.{Shows}
 use Rattle.input_views.specs.Words.{own_request, own_of, others_of, seen_request, seen_answer, seen_cell, erased, erased_back}
 

@@ -1,28 +1,12 @@
 -- What the messages of GSMP (RFC 1987) between a controller and its switch are to the line of one input
 
 use Rattle.std.specs.Prelude.{ℕ, Bool, not, ◌&&◌, ◌==◌, List, map, filter, is_some, Option, None, Some, if◌then◌else◌}
-use Rattle.net_types.specs.declared.channel.End.{End}
-use Rattle.net_types.specs.declared.adjacency.Greeting.{Greeting}
-use Rattle.net_types.specs.declared.adjacency.Party.{Party}
-use Rattle.net_types.specs.declared.adjacency.HelloKind.{HelloKind}
-use Rattle.net_types.specs.declared.adjacency.HelloKind.TheVariants.{Syn}
-use Rattle.adjacency_table.specs.Greeting.{same_party, nobody}
-use Rattle.atm_cells.specs.declared.cell.Cell.{Cell}
-use Rattle.gsmp_wire.specs.declared.message.Message.{Message}
-use Rattle.gsmp_wire.specs.declared.message.Message.TheVariants.{Adjacency}
-use Rattle.gsmp_wire.specs.declared.request.Request.{Request}
-use Rattle.gsmp_wire.specs.declared.request.Request.TheVariants.{AddBranch, MoveBranch, DeleteTree, VerifyTree, DeleteAll, PortManagement, AllPorts}
-use Rattle.crossbar_model.specs.Crossbar.{same_end}
-use Rattle.link_model.specs.declared.frames.Frame.{Frame}
-use Rattle.link_model.specs.Ledger.{payload_of}
-use Rattle.port_model.specs.Desk.{Standing}
-use Rattle.port_model.specs.DeskAnswers.{Head, head_of}
+use Rattle.world_model.specs.Words.{End, Greeting, Party, HelloKind, Syn, same_party, nobody, Cell, Request, AddBranch, MoveBranch, DeleteTree, VerifyTree, PortManagement, same_end, Frame, payload_of, Standing, Head, head_of, asked_in, default_channel, same_channel, gsmp_of, copy_of, copy_by}
+use Rattle.world_model.specs.gsmp_wire.declared.message.Message.{Message}
+use Rattle.world_model.specs.gsmp_wire.declared.message.Message.TheVariants.{Adjacency}
+use Rattle.world_model.specs.gsmp_wire.declared.request.Request.TheVariants.{DeleteAll, AllPorts}
 use Rattle.branch_line.specs.Words as lines
 use Rattle.branch_line.specs.Line.{Other}
-use Rattle.world_model.specs.Requests.{asked_in}
-use Rattle.world_model.specs.Controller.{default_channel}
-use Rattle.world_model.specs.Cells.{same_channel}
-use Rattle.world_model.specs.Ways.{gsmp_of, copy_of, copy_by}
 use Rattle.shown_cells.specs.Seen.{Seen, Nothing, Word, Unknown}
 
 -- *Requests*: one that is on the input, or is Delete All of its port. Verify Tree and Port Management are never asked

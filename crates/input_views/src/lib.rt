@@ -8,12 +8,9 @@
 #![tactic(auto)]
 
 ghost use Rattle.std.specs.Prelude.{◌≡◌, ◌+◌, List, replicate, ℕ};
-ghost use Rattle.net_types.specs.declared.channel.End.{End};
-ghost use Rattle.net_types.specs.declared.node.NodeId.{NodeId};
-ghost use Rattle.link_model.specs.declared.frames.Frame.{Frame};
+ghost use Rattle.world_model.specs.Words.{End, NodeId, Frame, Site};
 ghost use Rattle.branch_line.specs.Line.{Line};
 ghost use Rattle.branch_line.specs.Moves.{DrawElsewhere, run};
-ghost use Rattle.world_model.specs.World.{Site};
 ghost use Rattle.input_views.specs.Shown.{InputShows};
 ghost use Rattle.input_views.specs.Reaching.{Follows, ReachedAs, Anything};
 ghost use Rattle.input_views.specs.Quiet.{IsQuietAt};

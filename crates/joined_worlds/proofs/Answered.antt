@@ -2,41 +2,27 @@
 
 use Rattle.std.proofs.Common.{◌≡◌, ℕ, Bool, true, false, List, [], ◌∷◌, ◌++◌, Option, None, Some, refl, sym, ◌∙◌, ap, subst, if◌then◌else◌}
 use Rattle.std.specs.Prelude.{◌==◌, ◌&&◌, find}
-use Rattle.net_types.specs.declared.channel.End.{End}
-use Rattle.net_types.specs.declared.node.NodeId.{NodeId}
-use Rattle.net_types.specs.Number.{GivenOut}
-use Rattle.atm_cells.specs.declared.cell.Cell.{Cell}
-use Rattle.adjacency_table.specs.Side.{is_estab}
-use Rattle.gsmp_wire.specs.declared.message.Message.{Message}
-use Rattle.gsmp_wire.specs.declared.message.Message.TheVariants as messages
-use Rattle.link_model.specs.declared.frames.Frame.{Frame}
-use Rattle.link_model.specs.Ledger.{payload_of}
-use Rattle.crossbar_model.specs.Crossbar.{queue_of}
-use Rattle.port_model.specs.Desk.{Standing}
-use Rattle.port_model.specs.DeskAnswers.{Head, head_of, is_of_type, Unknown, Done, Failed, succeeded, outcome, answered_with, answered, without_request}
+use Rattle.world_model.specs.Words.{End, NodeId, GivenOut, Cell, is_estab, Frame, payload_of, queue_of, Standing, Head, head_of, is_of_type, Unknown, Done, Failed, succeeded, outcome, answered_with, answered, without_request, control_port, asked_in, default_channel, same_channel, Site, gsmp_of, copy_by}
+use Rattle.world_model.specs.gsmp_wire.declared.message.Message.{Message}
+use Rattle.world_model.specs.gsmp_wire.declared.message.Message.TheVariants as messages
 use Rattle.world_model.specs.declared.request.Asked.{Asked}
-use Rattle.world_model.specs.Switch.{control_port}
-use Rattle.world_model.specs.Requests.{asked_in}
-use Rattle.world_model.specs.Controller.{Acted, default_channel}
-use Rattle.world_model.specs.Cells.{same_channel}
-use Rattle.branch_line.specs.Words.{ToController, SwitchGreets, Answer, Success}
-use Rattle.branch_line.specs.Words as words
-use Rattle.branch_line.specs.Line.{Line}
-use Rattle.branch_line.specs.Law.{IsReached}
-use Rattle.branch_line.proofs.Reached.{run_reached, next_reached}
-use Rattle.branch_line.specs.Moves.{CarryToController, carry_to_controller, step}
-use Rattle.world_model.specs.World.{Site}
-use Rattle.world_model.specs.Ways.{gsmp_of, copy_by}
-use Rattle.shown_cells.specs.Seen.{IsUnmade, Seen, Nothing, Word, nothing}
-use Rattle.shown_cells.proofs.Shows.{First, no_word, a_word, first_of}
-use Rattle.input_views.specs.Words.{erased_back, seen_answer, seen_answer_to, seen_outcome, seen_on_gsmp, seen_cell, word_of}
-use Rattle.input_views.specs.Shown.{controller_of, switch_of, IsAllPorts, ShowsAnswers}
-use Rattle.input_views.specs.Reaching.{ReachedAs, Anything}
-use Rattle.input_steps.specs.Part.{Part, part_of, part_at, IsNumbered, Stands, Reaches}
-use Rattle.input_steps.specs.Meeting.{met_after, AfterAnswer, answered_part}
-use Rattle.input_steps.proofs.ControllerCells.{popped_part, without_first}
-use Rattle.input_steps.proofs.Reach.{stands_of}
-use Rattle.input_steps.proofs.Taken.{done_line}
+use Rattle.world_model.specs.Controller.{Acted}
+use Rattle.frame_readings.specs.branch_line.Words.{ToController, SwitchGreets, Answer, Success}
+use Rattle.frame_readings.specs.branch_line.Words as words
+use Rattle.frame_readings.specs.branch_line.Line.{Line}
+use Rattle.frame_readings.specs.branch_line.Law.{IsReached}
+use Rattle.frame_readings.proofs.branch_line.Reached.{run_reached, next_reached}
+use Rattle.frame_readings.specs.branch_line.Moves.{CarryToController, carry_to_controller, step}
+use Rattle.frame_readings.specs.shown_cells.Seen.{IsUnmade, Seen, Nothing, Word, nothing}
+use Rattle.frame_readings.proofs.shown_cells.Shows.{First, no_word, a_word, first_of}
+use Rattle.frame_readings.specs.input_views.Words.{erased_back, seen_answer, seen_answer_to, seen_outcome, seen_on_gsmp, seen_cell, word_of}
+use Rattle.frame_readings.specs.input_views.Shown.{controller_of, switch_of, IsAllPorts, ShowsAnswers}
+use Rattle.frame_readings.specs.input_views.Reaching.{ReachedAs, Anything}
+use Rattle.running_worlds.specs.input_steps.Part.{Part, part_of, part_at, IsNumbered, Stands, Reaches}
+use Rattle.running_worlds.specs.input_steps.Meeting.{met_after, AfterAnswer, answered_part}
+use Rattle.running_worlds.proofs.input_steps.ControllerCells.{popped_part, without_first}
+use Rattle.running_worlds.proofs.input_steps.Reach.{stands_of}
+use Rattle.running_worlds.proofs.input_steps.Taken.{done_line}
 
 -- *What a success is to*: its number, and what it was asked
 pub record IsSuccess (c_standing : List Standing) (m : Message) (s : Standing) : Type 0 where

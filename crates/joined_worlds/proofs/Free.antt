@@ -3,45 +3,27 @@
 use Rattle.std.proofs.Common.{◌≡◌, ℕ, zero, suc, ◌<◌, Bool, true, false, List, [], ◌∷◌, ◌++◌, Option, None, Some, refl, sym, ◌∙◌, ap, subst, arith, Contains, ◌⊎◌, inl, inr, if◌then◌else◌}
 use Rattle.std.specs.Prelude.{◌==◌, not, filter, is_some}
 use Rattle.std.specs.Option.{option_and_then}
-use Rattle.net_types.specs.declared.channel.End.{End}
-use Rattle.net_types.specs.declared.node.NodeId.{NodeId}
-use Rattle.net_types.specs.Number.{GivenOut}
-use Rattle.atm_cells.specs.declared.cell.Cell.{Cell}
-use Rattle.adjacency_table.specs.declared.State.{State}
-use Rattle.adjacency_table.specs.declared.State.TheVariants.{Clearing, SynSent, SynRcvd, Estab}
-use Rattle.adjacency_table.specs.Side.{is_estab}
-use Rattle.gsmp_wire.specs.declared.message.Message.{Message}
-use Rattle.gsmp_wire.specs.declared.message.Message.TheVariants as messages
-use Rattle.gsmp_wire.specs.declared.request.Request.{Request}
-use Rattle.gsmp_wire.specs.declared.request.Request.TheVariants.{AddBranch, MoveBranch, DeleteTree, VerifyTree, DeleteAll, PortManagement, AllPorts}
-use Rattle.crossbar_model.specs.Crossbar.{same_end, output_of}
-use Rattle.link_model.specs.declared.frames.Frame.{Frame}
-use Rattle.link_model.specs.Ledger.{payload_of}
-use Rattle.ordered_lists.specs.Ordered.{Every}
-use Rattle.ordered_lists.proofs.Every.{every_right}
-use Rattle.port_model.specs.Desk.{Standing}
-use Rattle.port_model.specs.Requests.{leads_home}
-use Rattle.port_model.specs.DeskAnswers.{without_request}
-use Rattle.port_model.specs.Setup.{home_of}
-use Rattle.world_model.specs.Controller.{default_channel}
-use Rattle.world_model.specs.Cells.{same_channel}
-use Rattle.controller_law.proofs.Asked.{same_end_itself}
-use Rattle.controller_law.proofs.Matched.{end_is}
-use Rattle.branch_line.specs.Words as lines
-use Rattle.branch_line.specs.Words.{OnInput, Elsewhere, Copy, ControllerGreets, asked_branch, ToSwitch}
-use Rattle.branch_line.specs.Line.{Asked, Apart, Unasked, Stands as StandsAsked, Answered, way_to_switch}
-use Rattle.branch_line.specs.Law.{IsSettled, IsSettledInEstab, IsOfTheLast, IsAskedFor}
-use Rattle.branch_line.proofs.Reached.{holds_reached}
-use Rattle.branch_line.proofs.Runs.{always_lem, settled_lem}
-use Rattle.world_model.specs.World.{Site}
-use Rattle.world_model.specs.Ways.{gsmp_of, copy_of, copy_under}
-use Rattle.world_model.specs.Users.{leads}
-use Rattle.shown_cells.specs.Seen.{Seen, Nothing, Word, Shows, nothing, hidden, word}
-use Rattle.input_views.specs.Words.{erased, seen_request, seen_copy, seen_on_gsmp, seen_cell, own_request, word_by, type_of, own_of, is_own}
-use Rattle.input_views.specs.Shown.{controller_of, switch_of, AskedShows}
-use Rattle.input_steps.specs.Asking.{concerns, on_input}
+use Rattle.world_model.specs.Words.{End, NodeId, GivenOut, Cell, State, Clearing, SynSent, SynRcvd, Estab, is_estab, Request, AddBranch, MoveBranch, DeleteTree, VerifyTree, PortManagement, same_end, Frame, payload_of, Standing, leads_home, without_request, home_of, default_channel, same_channel, Site, gsmp_of, copy_of, copy_under, leads}
+use Rattle.world_model.specs.gsmp_wire.declared.message.Message.{Message}
+use Rattle.world_model.specs.gsmp_wire.declared.message.Message.TheVariants as messages
+use Rattle.world_model.specs.gsmp_wire.declared.request.Request.TheVariants.{DeleteAll, AllPorts}
+use Rattle.world_model.specs.crossbar_model.Crossbar.{output_of}
+use Rattle.frame_readings.specs.ordered_lists.Ordered.{Every}
+use Rattle.frame_readings.proofs.ordered_lists.Every.{every_right}
+use Rattle.fed_worlds.proofs.controller_law.Asked.{same_end_itself}
+use Rattle.fed_worlds.proofs.controller_law.Matched.{end_is}
+use Rattle.frame_readings.specs.branch_line.Words as lines
+use Rattle.frame_readings.specs.branch_line.Words.{OnInput, Elsewhere, Copy, ControllerGreets, asked_branch, ToSwitch}
+use Rattle.frame_readings.specs.branch_line.Line.{Asked, Apart, Unasked, Stands as StandsAsked, Answered, way_to_switch}
+use Rattle.frame_readings.specs.branch_line.Law.{IsSettled, IsSettledInEstab, IsOfTheLast, IsAskedFor}
+use Rattle.frame_readings.proofs.branch_line.Reached.{holds_reached}
+use Rattle.frame_readings.proofs.branch_line.Runs.{always_lem, settled_lem}
+use Rattle.frame_readings.specs.shown_cells.Seen.{Seen, Nothing, Word, Shows, nothing, hidden, word}
+use Rattle.frame_readings.specs.input_views.Words.{erased, seen_request, seen_copy, seen_on_gsmp, seen_cell, own_request, word_by, type_of, own_of, is_own}
+use Rattle.frame_readings.specs.input_views.Shown.{controller_of, switch_of, AskedShows}
+use Rattle.running_worlds.specs.input_steps.Asking.{concerns, on_input}
 use Rattle.joined_worlds.proofs.Answered.{IsBehind}
-use Rattle.port_facts.proofs.Rules.{and_second, and_first}
+use Rattle.frame_readings.proofs.port_facts.Rules.{and_second, and_first}
 
 -- *A request that leads home*, as its input's line has it
 abbrev pub IsHomely : lines.InputRequest → Type 0

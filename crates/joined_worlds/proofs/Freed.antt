@@ -5,60 +5,39 @@ use Rattle.std.specs.Prelude.{◌==◌, ◌&&◌, ◌||◌, not, filter, find}
 use Rattle.std.specs.List.{list_any}
 use Rattle.std.specs.Option.{option_and_then}
 use Rattle.std.proofs.lemmas.Bool.Decides.{nat_tests}
-use Rattle.net_types.specs.declared.channel.End.{End}
-use Rattle.net_types.specs.declared.node.NodeId.{NodeId}
-use Rattle.net_types.specs.declared.node.Place.TheVariants.{Down}
-use Rattle.net_types.specs.Label.{number_of_channel}
-use Rattle.atm_cells.specs.declared.cell.Cell.{Cell}
-use Rattle.adjacency_table.specs.Side.{is_estab}
-use Rattle.gsmp_wire.specs.declared.message.Message.{Message}
-use Rattle.gsmp_wire.specs.declared.message.Message.TheVariants as messages
-use Rattle.gsmp_wire.specs.declared.message.BranchKind.TheVariants as kinds
-use Rattle.gsmp_wire.specs.declared.request.Request.{Request}
-use Rattle.gsmp_wire.specs.declared.request.Request.TheVariants.{AddBranch, MoveBranch, DeleteTree, VerifyTree, DeleteAll, PortManagement, AllPorts}
-use Rattle.ordered_lists.specs.Ordered.{Every, InOrder}
-use Rattle.link_model.specs.Ledger.{payload_of}
-use Rattle.crossbar_model.specs.Crossbar.{queue_of}
-use Rattle.port_model.specs.Desk.{Standing}
-use Rattle.port_model.specs.Requests.{leads_home}
-use Rattle.port_model.specs.DeskAnswers.{head_of, is_of_type, Done, Unknown, Ports, Failed, outcome, answered_with, answered, after_answer, without_request}
-use Rattle.world_model.specs.Switch.{control_port}
-use Rattle.port_model.specs.Setup.{Setup, home_of}
-use Rattle.port_model.specs.Grants.{Grant, input_of}
-use Rattle.port_facts.specs.Port.{IsLabelEnd, IsShaped, asks_ports, empties_control, empties_port, opens_input, opens_output, leads_label, leads_grant, joins_label, parts_label, frees_label}
-use Rattle.port_facts.proofs.Found.{find_passes}
-use Rattle.port_facts.proofs.Rules.{and_second}
-use Rattle.world_model.specs.Controller.{Linked, default_channel}
-use Rattle.world_model.specs.Cells.{same_channel}
-use Rattle.world_model.specs.Meeting.{is_deleting, has_emptied}
-use Rattle.controller_facts.specs.Sound.{IsSound, IsEarlier}
-use Rattle.controller_facts.proofs.Laws.{has_ports}
-use Rattle.controller_law.specs.Match.{lent_in, lent_at}
-use Rattle.controller_law.specs.Order.{IsOrderly, IsMeeting, listing, emptying, IsDeleting}
-use Rattle.controller_law.proofs.Parting.{lent_proper}
-use Rattle.branch_line.specs.Words as lines
-use Rattle.branch_line.specs.Line.{Asked, Apart, Unasked, Stands as StandsAsked, Answered}
-use Rattle.branch_line.specs.Law.{IsEmptied, IsEmptyWhenMet}
-use Rattle.branch_line.proofs.Reached.{holds_reached}
-use Rattle.branch_line.proofs.Runs.{always_lem, emptied_lem}
-use Rattle.world_model.specs.World.{World, Site, site_at}
-use Rattle.world_model.specs.Ways.{gsmp_of, gsmp_to_switch, requests_chain_at, answers_chain_at, on_channel}
-use Rattle.world_model.specs.Places.{queue_at}
-use Rattle.world_model.specs.Past.{Past}
-use Rattle.world_model.specs.Users.{leads}
+use Rattle.world_model.specs.Words.{End, NodeId, Down, number_of_channel, Cell, is_estab, Request, AddBranch, MoveBranch, DeleteTree, VerifyTree, PortManagement, payload_of, queue_of, Standing, leads_home, head_of, is_of_type, Done, Unknown, Ports, Failed, outcome, answered_with, answered, after_answer, without_request, control_port, Setup, home_of, Grant, Linked, default_channel, same_channel, is_deleting, has_emptied, World, Site, site_at, gsmp_of, gsmp_to_switch, requests_chain_at, answers_chain_at, on_channel, queue_at, Past, leads}
+use Rattle.world_model.specs.gsmp_wire.declared.message.Message.{Message}
+use Rattle.world_model.specs.gsmp_wire.declared.message.Message.TheVariants as messages
+use Rattle.world_model.specs.gsmp_wire.declared.message.BranchKind.TheVariants as kinds
+use Rattle.world_model.specs.gsmp_wire.declared.request.Request.TheVariants.{DeleteAll, AllPorts}
+use Rattle.frame_readings.specs.ordered_lists.Ordered.{Every, InOrder}
+use Rattle.world_model.specs.port_model.Grants.{input_of}
+use Rattle.frame_readings.specs.port_facts.Port.{IsLabelEnd, IsShaped, asks_ports, empties_control, empties_port, opens_input, opens_output, leads_label, leads_grant, joins_label, parts_label, frees_label}
+use Rattle.frame_readings.proofs.port_facts.Found.{find_passes}
+use Rattle.frame_readings.proofs.port_facts.Rules.{and_second}
+use Rattle.frame_readings.specs.controller_facts.Sound.{IsSound, IsEarlier}
+use Rattle.frame_readings.proofs.controller_facts.Laws.{has_ports}
+use Rattle.fed_worlds.specs.controller_law.Match.{lent_in, lent_at}
+use Rattle.fed_worlds.specs.controller_law.Order.{IsOrderly, IsMeeting, listing, emptying, IsDeleting}
+use Rattle.fed_worlds.proofs.controller_law.Parting.{lent_proper}
+use Rattle.frame_readings.specs.branch_line.Words as lines
+use Rattle.frame_readings.specs.branch_line.Line.{Asked, Apart, Unasked, Stands as StandsAsked, Answered}
+use Rattle.frame_readings.specs.branch_line.Law.{IsEmptied, IsEmptyWhenMet}
+use Rattle.frame_readings.proofs.branch_line.Reached.{holds_reached}
+use Rattle.frame_readings.proofs.branch_line.Runs.{always_lem, emptied_lem}
 use Rattle.run_facts.specs.Chains.{HasOwnChains}
-use Rattle.input_views.specs.Shown.{IsAllPorts}
-use Rattle.input_steps.specs.Part.{IsNumbered}
-use Rattle.input_steps.specs.Asking.{on_input}
-use Rattle.input_steps.specs.Meeting.{met_after, is_none_left}
-use Rattle.world_views.specs.Shown.{acting}
-use Rattle.world_views.specs.Pairs.{Pairs, IsJoin}
-use Rattle.world_views.specs.Between.{IsWorld, IsShapedBranch, home, out, joined, setups_of}
+use Rattle.frame_readings.specs.input_views.Shown.{IsAllPorts}
+use Rattle.running_worlds.specs.input_steps.Part.{IsNumbered}
+use Rattle.running_worlds.specs.input_steps.Asking.{on_input}
+use Rattle.running_worlds.specs.input_steps.Meeting.{met_after, is_none_left}
+use Rattle.frame_readings.specs.world_views.Shown.{acting}
+use Rattle.frame_readings.specs.world_views.Pairs.{Pairs, IsJoin}
+use Rattle.frame_readings.specs.world_views.Between.{IsWorld, IsShapedBranch, home, out, joined, setups_of}
 use Rattle.pairs.proofs.Opening.{none_in}
 use Rattle.pairs.proofs.SitePairs.{SitePairs, branch, desk, chain, queue, of_pairs, by_first, in_left, in_right, in_filter, gathered_by, waiting_by}
 use Rattle.joined_worlds.proofs.Answered.{IsSuccess, success_of, IsBehind, answer_line}
 use Rattle.joined_worlds.proofs.Free.{IsHomely, home_request, no_branch, no_chain, no_queue, no_other}
-use Rattle.quiet_controllers.proofs.Beginning.{in_tail}
+use Rattle.lasting_joins.proofs.quiet_controllers.Beginning.{in_tail}
 
 pub every_in : {A : Type 0} (P : A → Type 0) (xs : List A) (x : A) → Every P xs → Contains xs x → P x
 every_in P [] x all h = absurd (omega (arith, h.1))

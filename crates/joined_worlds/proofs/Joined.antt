@@ -5,54 +5,35 @@ use Rattle.std.proofs.Common.{◌≡◌, ℕ, ◌<◌, Bool, true, false, List, 
 use Rattle.std.specs.Prelude.{◌==◌, nat_lt, flat_map}
 use Rattle.std.specs.Option.{option_and_then}
 use Rattle.std.proofs.lemmas.Bool.Decides.{nat_tests}
-use Rattle.net_types.specs.declared.channel.End.{End}
-use Rattle.net_types.specs.declared.node.NodeId.{NodeId}
-use Rattle.net_types.specs.declared.node.Place.TheVariants.{Up}
-use Rattle.net_types.specs.Label.{number_of_channel}
-use Rattle.atm_cells.specs.declared.cell.Cell.{Cell}
-use Rattle.adjacency_table.specs.declared.message.Answer.{Answer}
-use Rattle.adjacency_table.specs.declared.message.Answer.TheVariants.{Quiet, Send, Open, Reset}
-use Rattle.adjacency_table.specs.declared.message.Said.{Said}
-use Rattle.adjacency_table.specs.Side.{ticked}
-use Rattle.net_types.specs.declared.adjacency.Party.{Party}
-use Rattle.gsmp_wire.specs.declared.message.Message.{Message}
-use Rattle.gsmp_wire.specs.Fields.{decoded}
-use Rattle.frame_model.specs.Frame.{octets_of, payload_in}
-use Rattle.frame_model.specs.Reassembly.{taken}
-use Rattle.link_model.specs.declared.record.Refusal.{Refusal}
-use Rattle.port_model.specs.Desk.{Standing}
-use Rattle.port_model.specs.Requests.{leads_home}
-use Rattle.port_model.specs.DeskAnswers.{Done, answered}
-use Rattle.port_model.specs.Setup.{Policy, Setup, home_of}
-use Rattle.port_model.specs.Grants.{Grant, input_of}
-use Rattle.world_model.specs.Controller.{Controller, Acted, Linked, default_channel, free_slots}
-use Rattle.world_model.specs.Joins.{inputs_at, tries_joins}
+use Rattle.world_model.specs.Words.{End, NodeId, Up, number_of_channel, Cell, Answer, Quiet, Send, Open, Said, ticked, Party, payload_in, Refusal, Standing, leads_home, Done, answered, Policy, Setup, home_of, Grant, Controller, Linked, default_channel, inputs_at, tries_joins, inject_refusal, same_channel, sends_again, ticks_ports, ticks_by, Topology, World, Site, site_at, put_away, Past, past_of}
+use Rattle.world_model.specs.adjacency_table.declared.message.Answer.TheVariants.{Reset}
+use Rattle.world_model.specs.gsmp_wire.declared.message.Message.{Message}
+use Rattle.world_model.specs.gsmp_wire.Fields.{decoded}
+use Rattle.world_model.specs.frame_model.Frame.{octets_of}
+use Rattle.world_model.specs.frame_model.Reassembly.{taken}
+use Rattle.world_model.specs.port_model.Grants.{input_of}
+use Rattle.world_model.specs.Controller.{Acted, free_slots}
 use Rattle.world_model.specs.Gsmp.{steps}
-use Rattle.world_model.specs.Packets.{inject_refusal}
-use Rattle.world_model.specs.Cells.{same_channel, cell_comes}
-use Rattle.world_model.specs.Ticks.{sends_again, ticks_ports, ticks_by, ticks}
-use Rattle.controller_facts.specs.Inputs.{Input, CellComes, PacketEnters, Ticks, Restarts, ChangeComes, FrameIsForged, CellLeaves, Meanwhile, takes_input, enters_unless}
-use Rattle.controller_facts.specs.Sound.{IsSound}
-use Rattle.controller_facts.proofs.Laws.{has_ports, moves_sound}
-use Rattle.controller_facts.proofs.Moves.{HasPorts, ages}
-use Rattle.controller_facts.proofs.Events.{steps_goes, sends_again_goes, ticks_ports_goes}
-use Rattle.controller_law.specs.Match.{lent_in, lent_at}
+use Rattle.world_model.specs.Cells.{cell_comes}
+use Rattle.world_model.specs.Ticks.{ticks}
+use Rattle.frame_readings.specs.controller_facts.Inputs.{Input, CellComes, PacketEnters, Ticks, Restarts, ChangeComes, FrameIsForged, CellLeaves, Meanwhile, takes_input, enters_unless}
+use Rattle.frame_readings.specs.controller_facts.Sound.{IsSound}
+use Rattle.frame_readings.proofs.controller_facts.Laws.{has_ports, moves_sound}
+use Rattle.frame_readings.proofs.controller_facts.Moves.{HasPorts, ages}
+use Rattle.frame_readings.proofs.controller_facts.Events.{steps_goes, sends_again_goes, ticks_ports_goes}
+use Rattle.fed_worlds.specs.controller_law.Match.{lent_in, lent_at}
 use Rattle.world_model.specs.declared.event.Event.{Event}
 use Rattle.world_model.specs.declared.event.Event.TheVariants.{Inject, Carry, Lose, Tick, TickSwitch, Restart, RestartSwitch, Forge, Route}
-use Rattle.world_model.specs.Topology.{Topology}
-use Rattle.world_model.specs.World.{World, Site, site_at}
-use Rattle.world_model.specs.Run.{put_away}
 use Rattle.world_model.specs.Ways.{told}
-use Rattle.world_model.specs.Past.{Past, past_of}
-use Rattle.lifetimes.specs.Run.{if_at, comes_to}
-use Rattle.lifetimes.proofs.Feeding.{after_of}
-use Rattle.input_events.specs.Coming.{CanCarry, IsOrdinary}
+use Rattle.fed_worlds.specs.lifetimes.Run.{if_at, comes_to}
+use Rattle.fed_worlds.proofs.lifetimes.Feeding.{after_of}
+use Rattle.running_worlds.specs.input_events.Coming.{CanCarry, IsOrdinary}
 use Rattle.run_facts.specs.Nodes.{IsNodeOfRun}
 use Rattle.run_facts.proofs.Nodes.{runs_have_nodes}
 use Rattle.run_facts.proofs.Chains.{runs_have_own_chains}
 use Rattle.run_facts.proofs.Steps.{runs_have_fronts}
 use Rattle.running_worlds.specs.Running.{EventsAreOrdinary}
-use Rattle.quiet_controllers.specs.Law.{TickEnters, before_joins}
+use Rattle.lasting_joins.specs.quiet_controllers.Law.{TickEnters, before_joins}
 use Rattle.pairs.specs.Events.{IsEntered, EntersAt}
 use Rattle.pairs.proofs.SitePairs.{of_pairs}
 use Rattle.pairs.specs.Past.{RunsMakeNoPairs}
@@ -62,12 +43,12 @@ use Rattle.lasting_joins.proofs.Lasting.{Lasts, lasts_self, same_lasts, sends_la
 use Rattle.lasting_joins.proofs.Tries.{tries_ends, mid_ports, mid_lasts, ticks_last, cell_lasts, restarts_last}
 use Rattle.lasting_joins.proofs.Ending.{IsMeetingsEnd, cell_ends}
 use Rattle.lasting_joins.proofs.Entered.{enters_met, lent_enters, enters_once, enters_lent}
-use Rattle.world_views.specs.Shown.{acting}
-use Rattle.world_views.specs.Pairs.{Pairs, IsJoin}
-use Rattle.world_views.specs.Between.{IsWorld, HasAllJoins, HasAllLedOnce, setups_of}
-use Rattle.world_views.specs.Kept.{Comes, Keeps, behind}
+use Rattle.frame_readings.specs.world_views.Shown.{acting}
+use Rattle.frame_readings.specs.world_views.Pairs.{Pairs, IsJoin}
+use Rattle.frame_readings.specs.world_views.Between.{IsWorld, HasAllJoins, HasAllLedOnce, setups_of}
+use Rattle.frame_readings.specs.world_views.Kept.{Comes, Keeps, behind}
 use Rattle.joined_worlds.proofs.Stepped.{after_is, IsFirstUp, cell_came, front_up, IsTrueFrame, true_frame}
-use Rattle.controller_bindings.proofs.Lasts.{some_same}
+use Rattle.fed_worlds.proofs.controller_bindings.Lasts.{some_same}
 use Rattle.fed_worlds.proofs.Asked.{join_found}
 
 -- *A grant that is lent* is found by its output, and by its number

@@ -4,48 +4,35 @@ use Rattle.std.proofs.Common.{◌≡◌, ◌≢◌, ℕ, ◌≤◌, Bool, true, 
 use Rattle.std.specs.Prelude.{◌==◌, nat_lt}
 use Rattle.std.specs.Option.{option_map_or, option_and_then}
 use Rattle.std.proofs.lemmas.Bool.Decides.{nat_tests}
-use Rattle.net_types.specs.declared.node.NodeId.{NodeId}
-use Rattle.net_types.specs.declared.node.Place.{Place}
-use Rattle.net_types.specs.declared.node.Place.TheVariants.{Down, Up, Out}
-use Rattle.atm_cells.specs.declared.cell.Cell.{Cell}
-use Rattle.gsmp_wire.specs.declared.message.Message.{Message}
-use Rattle.gsmp_wire.specs.declared.message.Message.TheVariants as messages
-use Rattle.link_model.specs.Ledger.{payload_of}
-use Rattle.frame_model.specs.Frame.{octets_of, last_mark, payload_in}
-use Rattle.frame_model.specs.Reassembly.{Reassembly, taken}
-use Rattle.crossbar_model.specs.Crossbar.{queue_of}
+use Rattle.world_model.specs.Words.{NodeId, Place, Down, Up, Out, Cell, payload_of, last_mark, payload_in, Reassembly, queue_of, control_port, Policy, Linked, default_channel, ForGsmp, ForDefault, ForLabel, same_channel, taker_of, reassembly_of, taker_at, label_taker, port_on, on_link, is_control, Topology, World, Site, site_at, queue_in, queue_at, put_away, next, Past, past_of, gsmp_of}
+use Rattle.world_model.specs.gsmp_wire.declared.message.Message.{Message}
+use Rattle.world_model.specs.gsmp_wire.declared.message.Message.TheVariants as messages
+use Rattle.world_model.specs.frame_model.Frame.{octets_of}
+use Rattle.world_model.specs.frame_model.Reassembly.{taken}
 use Rattle.world_model.specs.Switch as switches
-use Rattle.world_model.specs.Switch.{control_port}
-use Rattle.port_model.specs.Setup.{Policy}
-use Rattle.world_model.specs.Controller.{Linked, default_channel}
 use Rattle.world_model.specs.Controller as controllers
-use Rattle.world_model.specs.Cells.{Taker, ForGsmp, ForDefault, ForLabel, same_channel, taker_of, reassembly_of, taker_at, label_taker, port_on, on_link}
-use Rattle.world_model.specs.Packets.{is_control}
+use Rattle.world_model.specs.Cells.{Taker}
 use Rattle.world_model.specs.declared.event.Event.{Event}
 use Rattle.world_model.specs.declared.event.Event.TheVariants.{Inject, Carry, Lose, Tick, TickSwitch, Restart, RestartSwitch, Forge, Route}
 use Rattle.world_model.specs.declared.link.LinkEnd.{LinkEnd}
-use Rattle.world_model.specs.Topology.{Topology, peer_of}
-use Rattle.world_model.specs.World.{World, Site, site_at}
-use Rattle.world_model.specs.Places.{queue_in, queue_at}
-use Rattle.world_model.specs.Run.{put_away, next}
-use Rattle.world_model.specs.Past.{Past, past_of}
-use Rattle.world_model.specs.Ways.{told, gsmp_of}
-use Rattle.input_steps.specs.Hearing.{PassesTrue}
-use Rattle.input_premises.proofs.Reading.{are_read}
-use Rattle.input_events.specs.Coming.{IsRunning, IsOrdinary, IsFar, IsFromSwitch, CanCarry}
+use Rattle.world_model.specs.Topology.{peer_of}
+use Rattle.world_model.specs.Ways.{told}
+use Rattle.running_worlds.specs.input_steps.Hearing.{PassesTrue}
+use Rattle.running_worlds.proofs.input_premises.Reading.{are_read}
+use Rattle.running_worlds.specs.input_events.Coming.{IsRunning, IsOrdinary, IsFar, IsFromSwitch, CanCarry}
 use Rattle.frame_readings.specs.Reading.{MarksAreRead}
 use Rattle.run_facts.specs.Nodes.{RunsHaveNodes, IsNodeOfRun}
 use Rattle.run_facts.specs.Steps.{EventsAreSteps, RunsHaveFronts}
 use Rattle.running_worlds.specs.Running.{EventsAreOrdinary}
 use Rattle.running_worlds.proofs.Sites.{goes_by_links}
-use Rattle.world_views.specs.Made.{AreMade}
-use Rattle.world_views.specs.Between.{EachSite, IsWorld, HasAllMade, setups_of}
-use Rattle.world_views.specs.Kept.{Comes, Keeps, behind}
-use Rattle.quiet_controllers.specs.Heard.{RowsAreRead, IsHeard}
+use Rattle.frame_readings.specs.world_views.Made.{AreMade}
+use Rattle.frame_readings.specs.world_views.Between.{EachSite, IsWorld, HasAllMade, setups_of}
+use Rattle.frame_readings.specs.world_views.Kept.{Comes, Keeps, behind}
+use Rattle.lasting_joins.specs.quiet_controllers.Heard.{RowsAreRead, IsHeard}
 use Rattle.pairs.specs.Events.{IsAtDesk, IsHonest, CarriesHonestly, PacketsAskNothing, HasOldPairs, EventsMakeNoPairs}
 use Rattle.pairs.specs.Past.{RunsMakeNoPairs}
 use Rattle.running_worlds.proofs.MadeTame.{IsWhole, whole_chain}
-use Rattle.shown_cells.proofs.Tested.{frame_is, last_is}
+use Rattle.frame_readings.proofs.shown_cells.Tested.{frame_is, last_is}
 
 -- *A chain that passes* is the frame of the cell's mark
 true_payload : (frames : _) (r : Reassembly) (cell : Cell) (ended : List Cell) (payload : List ℕ) → ended ≡ r.chain ++ cell ∷ [] → PassesTrue frames (r.chain ++ cell ∷ []) → payload_in (octets_of ended) ≡ Some payload → payload_of frames cell.mark ≡ Some payload

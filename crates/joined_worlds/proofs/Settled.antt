@@ -2,40 +2,21 @@
 
 use Rattle.std.proofs.Common.{◌≡◌, ℕ, ◌<◌, Bool, true, false, List, ◌∷◌, Option, None, Some, refl, sym, ap, subst, arith, inl, inr, if◌then◌else◌}
 use Rattle.std.specs.Option.{option_and_then}
-use Rattle.net_types.specs.declared.channel.Channel.{Channel}
-use Rattle.net_types.specs.declared.node.NodeId.{NodeId}
-use Rattle.net_types.specs.declared.node.Place.TheVariants.{Up}
-use Rattle.atm_cells.specs.declared.cell.Cell.{Cell}
-use Rattle.gsmp_wire.specs.declared.message.Message.{Message}
-use Rattle.link_model.specs.declared.frames.Frame.{Frame}
-use Rattle.link_model.specs.Ledger.{payload_of}
-use Rattle.crossbar_model.specs.Crossbar.{queue_of}
-use Rattle.port_model.specs.Desk.{Standing}
-use Rattle.port_model.specs.Requests.{leads_home}
-use Rattle.port_model.specs.DeskAnswers.{Done, answered, after_answer}
-use Rattle.world_model.specs.Switch.{control_port}
-use Rattle.port_model.specs.Setup.{Policy, home_of, label_end}
-use Rattle.port_model.specs.Port.{label_at}
-use Rattle.world_model.specs.Controller.{Controller, Linked, linked_at, default_channel}
-use Rattle.world_model.specs.Cells.{ForGsmp, ForDefault, ForLabel, same_channel, taker_of, taker_at, label_taker, port_on, on_link}
-use Rattle.world_model.specs.Meeting.{is_deleting, has_emptied}
-use Rattle.label_line.specs.Cells.{Downstream, Upstream}
-use Rattle.port_views.specs.Link.{LinkLabel}
+use Rattle.world_model.specs.Words.{Channel, NodeId, Up, Cell, Frame, payload_of, queue_of, Standing, leads_home, Done, answered, after_answer, control_port, Policy, home_of, label_end, label_at, Controller, Linked, linked_at, default_channel, ForGsmp, ForDefault, ForLabel, same_channel, taker_of, taker_at, label_taker, port_on, on_link, is_deleting, has_emptied, Topology, Site, site_at, gsmp_of, gsmp_under, Past, past_of}
+use Rattle.world_model.specs.gsmp_wire.declared.message.Message.{Message}
+use Rattle.frame_readings.specs.label_line.Cells.{Downstream, Upstream}
+use Rattle.frame_readings.specs.port_views.Link.{LinkLabel}
 use Rattle.world_model.specs.declared.event.Event.{Event}
 use Rattle.world_model.specs.declared.event.Event.TheVariants.{Carry}
-use Rattle.world_model.specs.Topology.{Topology}
-use Rattle.world_model.specs.World.{Site, site_at}
-use Rattle.world_model.specs.Ways.{gsmp_of, gsmp_under}
-use Rattle.world_model.specs.Past.{Past, past_of}
-use Rattle.causes.proofs.Shown.{peer_back}
+use Rattle.fed_worlds.proofs.causes.Shown.{peer_back}
 use Rattle.run_facts.specs.Nodes.{RunsHaveNodes, IsNodeOfRun}
 use Rattle.run_facts.specs.Steps.{RunsHaveFronts}
 use Rattle.run_facts.specs.Chains.{RunsHaveOwnChains}
 use Rattle.pairs.specs.Past.{RunsMakeNoPairs}
-use Rattle.world_views.specs.Shown.{end_of}
-use Rattle.world_views.specs.Pairs.{Pairs, IsLike}
-use Rattle.world_views.specs.Between.{IsWorld, IsLinkLabel}
-use Rattle.world_views.specs.Kept.{Comes, behind}
+use Rattle.frame_readings.specs.world_views.Shown.{end_of}
+use Rattle.frame_readings.specs.world_views.Pairs.{Pairs, IsLike}
+use Rattle.frame_readings.specs.world_views.Between.{IsWorld, IsLinkLabel}
+use Rattle.frame_readings.specs.world_views.Kept.{Comes, behind}
 use Rattle.pairs.specs.Settles.{StaysJoined}
 use Rattle.pairs.specs.Asked.{AnswersSettle}
 use Rattle.joined_worlds.proofs.Freed.{led_home, meeting_ends}

@@ -4,38 +4,26 @@ use Rattle.std.proofs.Common.{◌≡◌, ℕ, ◌+◌, Bool, true, false, List, 
 use Rattle.std.specs.Prelude.{◌==◌, nat_lt, option_map}
 use Rattle.std.specs.Option.{option_map_or}
 use Rattle.std.proofs.lemmas.Bool.Decides.{nat_tests}
-use Rattle.net_types.specs.declared.node.NodeId.{NodeId}
-use Rattle.net_types.specs.declared.node.Place.TheVariants.{Down, Up, Out}
-use Rattle.atm_cells.specs.declared.cell.Cell.{Cell}
-use Rattle.link_model.specs.declared.frames.Frame.{Frame}
-use Rattle.link_model.specs.Ledger.{payload_of}
-use Rattle.frame_model.specs.Frame.{octets_of, last_mark, payload_in}
-use Rattle.frame_model.specs.Reassembly.{taken}
-use Rattle.crossbar_model.specs.Crossbar.{queue_of}
-use Rattle.world_model.specs.Switch.{control_port}
-use Rattle.port_model.specs.Setup.{Policy}
-use Rattle.world_model.specs.Controller.{default_channel, free_slots}
-use Rattle.world_model.specs.Cells.{same_channel}
-use Rattle.controller_facts.specs.Inputs.{Input, CellComes, PacketEnters, Ticks, Restarts, ChangeComes, FrameIsForged}
+use Rattle.world_model.specs.Words.{NodeId, Down, Up, Out, Cell, Frame, payload_of, last_mark, payload_in, queue_of, control_port, Policy, default_channel, same_channel, Topology, World, Site, site_at, controller_at, queue_in, queue_at, put_away, past_of}
+use Rattle.world_model.specs.frame_model.Frame.{octets_of}
+use Rattle.world_model.specs.frame_model.Reassembly.{taken}
+use Rattle.world_model.specs.Controller.{free_slots}
+use Rattle.frame_readings.specs.controller_facts.Inputs.{Input, CellComes, PacketEnters, Ticks, Restarts, ChangeComes, FrameIsForged}
 use Rattle.world_model.specs.declared.event.Event.{Event}
 use Rattle.world_model.specs.declared.event.Event.TheVariants.{Inject, Carry, Lose, Tick, TickSwitch, Restart, RestartSwitch, Forge, Route}
-use Rattle.world_model.specs.Topology.{Topology}
-use Rattle.world_model.specs.World.{World, Site, site_at, controller_at, opened}
-use Rattle.world_model.specs.Places.{queue_in, queue_at}
-use Rattle.world_model.specs.Run.{put_away}
-use Rattle.world_model.specs.Past.{past_of}
-use Rattle.lifetimes.specs.Run.{if_at, head_comes, head_leaves, comes_to}
-use Rattle.lifetimes.proofs.Opened.{opening_fed}
-use Rattle.lifetimes.proofs.Feeding.{after_of}
-use Rattle.lifetimes.proofs.Runs.{run_fed, next_there}
-use Rattle.input_steps.specs.Hearing.{PassesTrue}
-use Rattle.input_events.specs.Coming.{CanCarry}
+use Rattle.world_model.specs.World.{opened}
+use Rattle.fed_worlds.specs.lifetimes.Run.{if_at, head_comes, head_leaves, comes_to}
+use Rattle.fed_worlds.proofs.lifetimes.Opened.{opening_fed}
+use Rattle.fed_worlds.proofs.lifetimes.Feeding.{after_of}
+use Rattle.fed_worlds.proofs.lifetimes.Runs.{run_fed, next_there}
+use Rattle.running_worlds.specs.input_steps.Hearing.{PassesTrue}
+use Rattle.running_worlds.specs.input_events.Coming.{CanCarry}
 use Rattle.run_facts.proofs.Steps.{events_are_steps}
-use Rattle.world_views.specs.Kept.{behind}
-use Rattle.shown_cells.proofs.Tested.{frame_is, last_is}
+use Rattle.frame_readings.specs.world_views.Kept.{behind}
+use Rattle.frame_readings.proofs.shown_cells.Tested.{frame_is, last_is}
 use Rattle.running_worlds.proofs.MadeTame.{IsWhole, whole_chain}
 use Rattle.joined_worlds.proofs.Settled.{node_is}
-use Rattle.controller_bindings.proofs.Lasts.{some_same}
+use Rattle.fed_worlds.proofs.controller_bindings.Lasts.{some_same}
 
 -- *What the controller is* behind the event
 module _ (policy : Policy) (topology : Topology) (before : List Event) (event : Event) where

@@ -12,8 +12,8 @@
 
 ghost use Rattle.run_facts.specs.Nodes.{RunsHaveNodes, RunsHaveRoom};
 ghost use Rattle.run_facts.specs.Steps.{EventsAreSteps, RunsHaveFronts};
-ghost use Rattle.world_views.specs.Between.{HasAllJoins, HasAllLedOnce, HasAllMade};
-ghost use Rattle.world_views.specs.Kept.{Begins, Keeps};
+ghost use Rattle.frame_readings.specs.world_views.Between.{HasAllJoins, HasAllLedOnce, HasAllMade};
+ghost use Rattle.frame_readings.specs.world_views.Kept.{Begins, Keeps};
 ghost use Rattle.pairs.specs.Past.{RunsMakeNoPairs};
 ghost use Rattle.pairs.specs.Asked.{AnswersSettle};
 

@@ -5,44 +5,34 @@ use Rattle.std.proofs.Common.{◌≡◌, ℕ, Bool, true, false, List, Option, N
 use Rattle.std.specs.Prelude.{◌==◌, ◌&&◌, not, filter, find}
 use Rattle.std.specs.Option.{option_map_or}
 use Rattle.std.proofs.lemmas.Bool.Decides.{nat_tests}
-use Rattle.net_types.specs.declared.node.PortNo.{PortNo}
-use Rattle.adjacency_table.specs.Greeting.{gsmp_received}
-use Rattle.adjacency_table.specs.Side.{is_estab}
-use Rattle.gsmp_wire.specs.declared.message.Message.{Message}
-use Rattle.gsmp_wire.specs.declared.message.Message.TheVariants as messages
-use Rattle.gsmp_wire.specs.declared.request.Request.{Request}
-use Rattle.gsmp_wire.specs.declared.request.Request.TheVariants.{AddBranch, MoveBranch, DeleteTree, VerifyTree, DeleteAll, PortManagement, AllPorts}
-use Rattle.gsmp_wire.specs.declared.rows.PortRow.{PortRow}
-use Rattle.ordered_lists.specs.Ordered.{Every}
-use Rattle.port_model.specs.Requests.{is_delete_all}
-use Rattle.port_model.specs.Desk.{Desk, Standing}
-use Rattle.port_model.specs.DeskAnswers.{Head, head_of, is_of_type, Answered, Unknown, Done, Ports, Failed, succeeded, outcome, answered_with, answered, after_answer}
-use Rattle.port_model.specs.Setup.{Setup}
-use Rattle.port_model.specs.Answers as port_answers
-use Rattle.port_facts.specs.Port.{IsShaped}
-use Rattle.port_facts.proofs.Found.{find_every, find_passes}
-use Rattle.port_facts.proofs.Keyed.{on_both}
-use Rattle.port_facts.proofs.Rules.{and_second, done_goes}
-use Rattle.world_model.specs.Controller.{Acted, Linked, with_desk}
-use Rattle.world_model.specs.Resets.{begins}
-use Rattle.world_model.specs.Joins.{releases}
-use Rattle.world_model.specs.Meeting.{is_clearing, causes, causes_in_estab, clears, done, takes_answer, answer_comes}
+use Rattle.world_model.specs.Words.{PortNo, gsmp_received, is_estab, Request, AddBranch, MoveBranch, DeleteTree, VerifyTree, PortManagement, PortRow, is_delete_all, Desk, Standing, Head, head_of, is_of_type, Answered, Unknown, Done, Ports, Failed, succeeded, outcome, answered_with, answered, after_answer, Setup, Linked, with_desk, begins, releases, is_clearing, causes, causes_in_estab, clears, takes_answer, answer_comes}
+use Rattle.world_model.specs.gsmp_wire.declared.message.Message.{Message}
+use Rattle.world_model.specs.gsmp_wire.declared.message.Message.TheVariants as messages
+use Rattle.world_model.specs.gsmp_wire.declared.request.Request.TheVariants.{DeleteAll, AllPorts}
+use Rattle.controller_conditions.specs.ordered_lists.Ordered.{Every}
+use Rattle.world_model.specs.port_model.Answers as port_answers
+use Rattle.controller_conditions.specs.port_facts.Port.{IsShaped}
+use Rattle.controller_conditions.proofs.port_facts.Found.{find_every, find_passes}
+use Rattle.controller_conditions.proofs.port_facts.Keyed.{on_both}
+use Rattle.controller_conditions.proofs.port_facts.Rules.{and_second, done_goes}
+use Rattle.world_model.specs.Controller.{Acted}
+use Rattle.world_model.specs.Meeting.{done}
 use Rattle.world_model.specs.Gsmp.{told}
-use Rattle.controller_facts.specs.Conditions.{MovesLabels}
-use Rattle.controller_facts.specs.Said.{HasFlowsAt}
-use Rattle.controller_facts.proofs.Conditions.{shaped_moves}
-use Rattle.controller_facts.proofs.Moves.{IsShapedStanding, answering, hears, moves_to, further, found_setup}
-use Rattle.controller_facts.proofs.Events.{causes_goes, clears_goes}
-use Rattle.controller_facts.proofs.Joining.{releases_goes, takes_changes_goes}
-use Rattle.controller_law.specs.Order.{IsDeleting, IsOther, IsClearingAt, IsOfClearing}
-use Rattle.controller_law.proofs.Holding.{Holds, answered_holds}
-use Rattle.controller_law.proofs.Meeting.{answered_none, left_deleting, freed_by, releases_unmoved}
-use Rattle.controller_law.proofs.Releasing.{IsFree, spent_holds, releases_holds}
-use Rattle.controller_law.proofs.Clearing.{IsEmptied}
-use Rattle.controller_law.proofs.Settling.{answered_fits, IsSettled, releases_fits}
-use Rattle.controller_law.proofs.Steady.{Steady, releases_steady}
-use Rattle.controller_law.proofs.Whole.{Whole, holds_of}
-use Rattle.router.specs.Engine.{CanBeDone}
+use Rattle.controller_conditions.specs.controller_facts.Conditions.{MovesLabels}
+use Rattle.controller_conditions.specs.controller_facts.Said.{HasFlowsAt}
+use Rattle.controller_conditions.proofs.controller_facts.Conditions.{shaped_moves}
+use Rattle.controller_conditions.proofs.controller_facts.Moves.{IsShapedStanding, answering, hears, moves_to, further, found_setup}
+use Rattle.controller_conditions.proofs.controller_facts.Events.{causes_goes, clears_goes}
+use Rattle.controller_conditions.proofs.controller_facts.Joining.{releases_goes, takes_changes_goes}
+use Rattle.controller_conditions.specs.controller_law.Order.{IsDeleting, IsOther, IsClearingAt, IsOfClearing}
+use Rattle.controller_conditions.proofs.controller_law.Holding.{Holds, answered_holds}
+use Rattle.controller_conditions.proofs.controller_law.Meeting.{answered_none, left_deleting, freed_by, releases_unmoved}
+use Rattle.controller_conditions.proofs.controller_law.Releasing.{IsFree, spent_holds, releases_holds}
+use Rattle.controller_conditions.proofs.controller_law.Clearing.{IsEmptied}
+use Rattle.controller_conditions.proofs.controller_law.Settling.{answered_fits, IsSettled, releases_fits}
+use Rattle.controller_conditions.proofs.controller_law.Steady.{Steady, releases_steady}
+use Rattle.controller_conditions.proofs.controller_law.Whole.{Whole, holds_of}
+use Rattle.controller_conditions.specs.router.Engine.{CanBeDone}
 use Rattle.joining_router.specs.Answers.{CanFinish, CanTakeAnswer, CanBeTold}
 use Rattle.controller_conditions.specs.Kept.{AreLinks, AreIn}
 use Rattle.controller_conditions.proofs.Ready.{in_before, Ready, ready_by, ready_ports}

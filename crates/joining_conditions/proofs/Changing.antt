@@ -2,28 +2,23 @@
 
 use Rattle.std.proofs.Common.{◌≡◌, ℕ, Bool, true, false, List, [], ◌∷◌, sym, subst, if◌then◌else◌, fold}
 use Rattle.std.specs.Prelude.{◌+◌}
-use Rattle.ipv4_forward.specs.Change.{changed}
-use Rattle.ipv4_forward.specs.declared.change.RouteChange.{RouteChange}
-use Rattle.ipv4_forward.specs.declared.table.Route.{Route}
-use Rattle.adjacency_table.specs.Side.{is_estab}
-use Rattle.link_model.specs.declared.record.Record.TheVariants.{Routes}
-use Rattle.ordered_lists.specs.Ordered.{Every}
-use Rattle.ordered_lists.proofs.Every.{every_map}
-use Rattle.port_model.specs.Setup.{Setup}
-use Rattle.port_facts.specs.Port.{IsLabelEnd, parts_label}
-use Rattle.port_facts.proofs.Keyed.{on_both}
-use Rattle.world_model.specs.Controller.{Acted, Linked, note}
-use Rattle.world_model.specs.Joins.{Join, joins_of, output_of}
-use Rattle.world_model.specs.Changes.{is_changed, changed_joins, takes_join_back, begins_change, takes_change, may_take, takes_each, takes_changes}
-use Rattle.controller_facts.proofs.Moves.{routing, Moves, moves_to, stays, further, moves_ports, HasPorts}
-use Rattle.controller_facts.proofs.Performing.{takes_back_goes}
-use Rattle.controller_facts.proofs.Joining.{IsJoin, joins_are, join_input, join_output, begins_change_goes, takes_change_goes, every_filter}
-use Rattle.controller_facts.proofs.Laws.{moves_sound}
-use Rattle.controller_law.specs.Order.{is_lent}
-use Rattle.controller_law.proofs.Performing.{takes_back_holds}
-use Rattle.controller_law.proofs.Holding.{numbered_holds}
-use Rattle.controller_law.proofs.Entering.{Keeps, takes_back_keeps, join_lent}
-use Rattle.router.specs.Meeting.{with_begun}
+use Rattle.world_model.specs.Words.{changed, RouteChange, is_estab, Routes, Setup, Linked, joins_of, is_changed, changed_joins, takes_join_back, begins_change, takes_change, may_take, takes_each, takes_changes}
+use Rattle.world_model.specs.ipv4_forward.declared.table.Route.{Route}
+use Rattle.controller_conditions.specs.ordered_lists.Ordered.{Every}
+use Rattle.controller_conditions.proofs.ordered_lists.Every.{every_map}
+use Rattle.controller_conditions.specs.port_facts.Port.{IsLabelEnd, parts_label}
+use Rattle.controller_conditions.proofs.port_facts.Keyed.{on_both}
+use Rattle.world_model.specs.Controller.{Acted, note}
+use Rattle.world_model.specs.Joins.{Join, output_of}
+use Rattle.controller_conditions.proofs.controller_facts.Moves.{routing, Moves, moves_to, stays, further, moves_ports, HasPorts}
+use Rattle.controller_conditions.proofs.controller_facts.Performing.{takes_back_goes}
+use Rattle.controller_conditions.proofs.controller_facts.Joining.{IsJoin, joins_are, join_input, join_output, begins_change_goes, takes_change_goes, every_filter}
+use Rattle.controller_conditions.proofs.controller_facts.Laws.{moves_sound}
+use Rattle.controller_conditions.specs.controller_law.Order.{is_lent}
+use Rattle.controller_conditions.proofs.controller_law.Performing.{takes_back_holds}
+use Rattle.controller_conditions.proofs.controller_law.Holding.{numbered_holds}
+use Rattle.controller_conditions.proofs.controller_law.Entering.{Keeps, takes_back_keeps, join_lent}
+use Rattle.controller_conditions.specs.router.Meeting.{with_begun}
 use Rattle.joining_router.specs.Conditions.{EachCanBeTakenBack, CanBeginChange, EachCanBeTaken, CanTakeChanges}
 use Rattle.controller_conditions.specs.Kept.{AreLinks, AreIn}
 use Rattle.controller_conditions.proofs.Ready.{in_before, Ready, ready_by, ready_ports}

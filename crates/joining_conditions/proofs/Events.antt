@@ -1,12 +1,12 @@
 -- the conditions of each event, of what is kept
 
 use Rattle.std.proofs.Common.{refl, subst}
-use Rattle.port_facts.proofs.Rules.{counts_goes}
-use Rattle.port_facts.proofs.Hearings.{hears_goes}
-use Rattle.world_model.specs.Resets.{begins}
-use Rattle.controller_facts.specs.Inputs.{Ticks, Restarts, ChangeComes}
-use Rattle.controller_facts.proofs.Moves.{found_port}
-use Rattle.router.specs.Meeting.{with_change}
+use Rattle.controller_conditions.proofs.port_facts.Rules.{counts_goes}
+use Rattle.controller_conditions.proofs.port_facts.Hearings.{hears_goes}
+use Rattle.world_model.specs.Words.{begins}
+use Rattle.controller_conditions.specs.controller_facts.Inputs.{Ticks, Restarts, ChangeComes}
+use Rattle.controller_conditions.proofs.controller_facts.Moves.{found_port}
+use Rattle.controller_conditions.specs.router.Meeting.{with_change}
 use Rattle.controller_conditions.specs.Kept.{AreIn}
 use Rattle.controller_conditions.specs.Calls.{hearing, counting}
 use Rattle.controller_conditions.proofs.Ready.{ready_of, ready_ports}
@@ -19,7 +19,7 @@ use Rattle.joining_conditions.proofs.Keeping.{keeps_joins}
 use Rattle.joining_conditions.proofs.Changing.{can_take_changes, ready_changed}
 use Rattle.joining_conditions.proofs.Answering.{can_be_told}
 use Rattle.joining_conditions.proofs.Ticking.{can_tick_all}
-use Rattle.controller_law.proofs.Actions.{heard_anyway}
+use Rattle.controller_conditions.proofs.controller_law.Actions.{heard_anyway}
 
 pub ticks_can_go_by : TicksCanGoBy
 ticks_can_go_by a h left = can_tick_all h.setups h.links a (whole_kept a h) h.flows left (numbers_suffice a Ticks tt h left)

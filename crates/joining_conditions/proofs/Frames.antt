@@ -2,26 +2,17 @@
 
 use Rattle.std.proofs.Common.{◌≡◌, ℕ, ◌<◌, Bool, List, Option, None, Result, refl, ap, subst, arith, if◌then◌else◌, drop}
 use Rattle.std.specs.Prelude.{◌+◌}
-use Rattle.net_types.specs.declared.node.PortNo.{PortNo}
-use Rattle.net_types.specs.declared.number.Mark.{Mark}
-use Rattle.net_types.specs.Number.{GivenOut}
-use Rattle.ipv4_packet.specs.Packet.{source_of}
-use Rattle.ipv4_packet.specs.declared.validate.PacketFault.{PacketFault}
-use Rattle.flow_encaps.specs.declared.default.EncapsFault.{EncapsFault}
-use Rattle.gsmp_wire.specs.declared.message.Message.{Message}
-use Rattle.gsmp_wire.specs.declared.fault.Fault.{Fault as GsmpFault}
-use Rattle.ifmp_wire.specs.declared.message.Message.{Message as IfmpMessage}
-use Rattle.ifmp_wire.specs.declared.reader.Fault.{Fault as IfmpFault}
-use Rattle.ifmp_wire.specs.Fields.{decoded as ifmp_decoded}
-use Rattle.link_model.specs.Notes.{Journal}
-use Rattle.frame_model.specs.Reassembly.{Reassembly}
+use Rattle.world_model.specs.Words.{PortNo, Mark, GivenOut, source_of, PacketFault, EncapsFault, Journal, Reassembly, routes, gsmp_holds, ForGsmp, ForDefault, ForLabel, with_reassembly, ifmp_holds, counted_at, packet_holds, default_holds, frame_holds}
+use Rattle.world_model.specs.gsmp_wire.declared.message.Message.{Message}
+use Rattle.world_model.specs.gsmp_wire.declared.fault.Fault.{Fault as GsmpFault}
+use Rattle.world_model.specs.ifmp_wire.declared.message.Message.{Message as IfmpMessage}
+use Rattle.world_model.specs.ifmp_wire.declared.reader.Fault.{Fault as IfmpFault}
+use Rattle.world_model.specs.ifmp_wire.Fields.{decoded as ifmp_decoded}
 use Rattle.world_model.specs.Controller.{Acted}
-use Rattle.world_model.specs.Packets.{routes}
-use Rattle.world_model.specs.Gsmp.{gsmp_holds}
-use Rattle.world_model.specs.Cells.{Taker, ForGsmp, ForDefault, ForLabel, with_reassembly, ifmp_holds, counted_at, packet_holds, default_holds, frame_holds, opened_frame}
-use Rattle.controller_facts.specs.Inputs.{CellComes}
+use Rattle.world_model.specs.Cells.{Taker, opened_frame}
+use Rattle.controller_conditions.specs.controller_facts.Inputs.{CellComes}
 use Rattle.controller_conditions.specs.Kept.{IsKept, AreIn}
-use Rattle.router.specs.Cells.{gathered, receipt}
+use Rattle.controller_conditions.specs.router.Cells.{gathered, receipt}
 use Rattle.controller_conditions.proofs.Kept.{kept_held, numbers_suffice}
 use Rattle.controller_conditions.proofs.Cells.{routes_kept, cells_can_come}
 use Rattle.controller_conditions.proofs.Receiving.{cell_acts}

@@ -1,18 +1,16 @@
 -- the grant of a join is the one of its label at its port
 
 use Rattle.std.proofs.Common.{◌≡◌, Bool, List, [], ◌∷◌, None, Some, refl, sym, ◌∙◌, ap, if◌then◌else◌}
-use Rattle.ordered_lists.specs.Ordered.{Every, InOrder}
-use Rattle.ordered_lists.proofs.Every.{every_map}
-use Rattle.keyed_lists.specs.Keyed.{at}
+use Rattle.controller_conditions.specs.ordered_lists.Ordered.{Every, InOrder}
+use Rattle.controller_conditions.proofs.ordered_lists.Every.{every_map}
+use Rattle.world_model.specs.Words.{at, Setup, Grant, grant_label, Linked, linked_at, joins_of}
 use Rattle.grant_table.specs.Table.{AreApart}
-use Rattle.port_model.specs.Setup.{Setup}
-use Rattle.port_model.specs.Grants.{Grant, grant_label}
-use Rattle.port_facts.specs.Port.{IsApart}
-use Rattle.port_facts.proofs.Keyed.{by_eq}
-use Rattle.world_model.specs.Controller.{Acted, Linked, linked_at}
-use Rattle.world_model.specs.Joins.{Join, joins_of}
-use Rattle.controller_facts.proofs.Moves.{HasPorts, found_port}
-use Rattle.controller_facts.proofs.Joining.{IsJoin, joins_are}
+use Rattle.controller_conditions.specs.port_facts.Port.{IsApart}
+use Rattle.controller_conditions.proofs.port_facts.Keyed.{by_eq}
+use Rattle.world_model.specs.Controller.{Acted}
+use Rattle.world_model.specs.Joins.{Join}
+use Rattle.controller_conditions.proofs.controller_facts.Moves.{HasPorts, found_port}
+use Rattle.controller_conditions.proofs.controller_facts.Joining.{IsJoin, joins_are}
 use Rattle.joining_router.specs.Conditions.{IsGrantOf, HasGrants}
 
 none_of : (grant : Grant) (gs : List Grant) → Every (IsApart grant) gs → at grant_label grant.label gs ≡ None

@@ -4,41 +4,23 @@ use Rattle.std.proofs.Common.{◌≡◌, ◌≢◌, ℕ, Bool, true, false, List
 use Rattle.std.specs.Prelude.{◌||◌, nat_eq}
 use Rattle.std.specs.List.{filter_map, cons_option}
 use Rattle.std.specs.Option.{option_map, option_map_or}
-use Rattle.net_types.specs.declared.node.PortNo.{PortNo}
-use Rattle.net_types.specs.declared.channel.End.{End}
-use Rattle.net_types.specs.declared.adjacency.Peer.{Peer}
-use Rattle.net_types.specs.Label.{number_of_channel}
-use Rattle.adjacency_table.specs.declared.message.Said.{Said}
-use Rattle.adjacency_table.specs.declared.message.Answer.{Answer}
-use Rattle.adjacency_table.specs.declared.message.Answer.TheVariants.{Quiet, Send, Open, Reset}
-use Rattle.adjacency_table.specs.Hello.{hello_of, ifmp_answer}
-use Rattle.gsmp_wire.specs.declared.request.Request.TheVariants.{AddBranch, DeleteTree}
-use Rattle.ifmp_wire.specs.declared.message.Message.TheVariants.{Adjacency}
-use Rattle.link_model.specs.declared.record.Record.TheVariants.{Bind, Free, Opened, Join as JoinRecord}
-use Rattle.ordered_lists.specs.Ordered.{Every, InOrder}
-use Rattle.keyed_lists.specs.Keyed.{at, put, without, entered, key_le}
-use Rattle.port_model.specs.Desk.{Desk, on_input}
-use Rattle.port_model.specs.declared.action.Action.{Action}
-use Rattle.port_model.specs.declared.action.Action.TheVariants as actions
-use Rattle.port_model.specs.declared.action.Action.TheVariants.{Say, Ask, Note, CutChain, TakeBack}
-use Rattle.port_model.specs.Setup.{Setup, label_end, control_end}
-use Rattle.port_model.specs.Labels.{Label, Wiring, Offered, Wired, label_number}
-use Rattle.port_model.specs.Grants as grants
-use Rattle.port_model.specs.Grants.{Grant, Idle, ByController, grant_label}
-use Rattle.port_model.specs.Port.{Session, Work, acts, halts, with_session, with_label, with_new_label, without_label, with_grants, desk_after, has_room}
-use Rattle.port_model.specs.Saying.{is_spent}
-use Rattle.port_model.specs.Adjacency.{first_session, answers}
-use Rattle.port_model.specs.Redirection.{accepts}
-use Rattle.port_facts.specs.Port.{setup_port, IsWork}
-use Rattle.port_facts.proofs.Keyed.{on_both, by_eq, at_key}
-use Rattle.port_facts.proofs.Steps.{Step, Goes, greeting, telling, closing, noting, turning, heard, minding, relabelling, wiring, binding, quitting, unwiring, freeing, accepting, granting, regranting, starting, ending, taking_back, goes_keeps}
-use Rattle.port_facts.proofs.Kept.{step_kept}
-use Rattle.world_model.specs.Controller.{Acted, Linked, linked_at}
-use Rattle.world_model.specs.Resets.{begins}
-use Rattle.world_model.specs.Performing.{Rule}
-use Rattle.world_model.specs.Joins.{Join, join_to}
-use Rattle.controller_facts.proofs.Moves.{found_setup, found_at_own, begun}
-use Rattle.controller_law.proofs.Releasing.{tells_parts}
+use Rattle.world_model.specs.Words.{PortNo, End, Peer, number_of_channel, Said, Answer, Quiet, Send, Open, hello_of, ifmp_answer, AddBranch, DeleteTree, Bind, Free, Opened, at, put, without, entered, key_le, Desk, on_input, Action, Say, Ask, Note, CutChain, TakeBack, Setup, label_end, control_end, Label, Wiring, Offered, Wired, label_number, Grant, Idle, ByController, grant_label, Session, Work, halts, with_session, with_label, with_new_label, without_label, with_grants, desk_after, has_room, is_spent, first_session, accepts, Linked, linked_at, begins, Rule, join_to}
+use Rattle.world_model.specs.adjacency_table.declared.message.Answer.TheVariants.{Reset}
+use Rattle.world_model.specs.ifmp_wire.declared.message.Message.TheVariants.{Adjacency}
+use Rattle.world_model.specs.link_model.declared.record.Record.TheVariants.{Join as JoinRecord}
+use Rattle.controller_conditions.specs.ordered_lists.Ordered.{Every, InOrder}
+use Rattle.world_model.specs.port_model.declared.action.Action.TheVariants as actions
+use Rattle.world_model.specs.port_model.Grants as grants
+use Rattle.world_model.specs.port_model.Port.{acts}
+use Rattle.world_model.specs.port_model.Adjacency.{answers}
+use Rattle.controller_conditions.specs.port_facts.Port.{setup_port, IsWork}
+use Rattle.controller_conditions.proofs.port_facts.Keyed.{on_both, by_eq, at_key}
+use Rattle.controller_conditions.proofs.port_facts.Steps.{Step, Goes, greeting, telling, closing, noting, turning, heard, minding, relabelling, wiring, binding, quitting, unwiring, freeing, accepting, granting, regranting, starting, ending, taking_back, goes_keeps}
+use Rattle.controller_conditions.proofs.port_facts.Kept.{step_kept}
+use Rattle.world_model.specs.Controller.{Acted}
+use Rattle.world_model.specs.Joins.{Join}
+use Rattle.controller_conditions.proofs.controller_facts.Moves.{found_setup, found_at_own, begun}
+use Rattle.controller_conditions.proofs.controller_law.Releasing.{tells_parts}
 use Rattle.controller_conditions.proofs.Ready.{Ready, ready_ports}
 use Rattle.join_list.specs.Joined.{joined_of}
 use Rattle.join_list.specs.declared.places.Joined.{Joined}

@@ -3,40 +3,26 @@
 use Rattle.std.proofs.Common.{◌≡◌, Bool, true, false, List, [], ◌∷◌, Option, None, Some, refl, sym, ◌∙◌, ap, subst, if◌then◌else◌, map, fold, arith}
 use Rattle.std.specs.Option.{option_map}
 use Rattle.std.proofs.lemmas.Bool.Decides.{nat_tests}
-use Rattle.net_types.specs.declared.node.PortNo.{PortNo}
-use Rattle.net_types.specs.declared.channel.End.{End}
-use Rattle.crossbar_model.specs.Crossbar.{same_end}
-use Rattle.gsmp_wire.specs.declared.request.Request.{Request}
-use Rattle.ordered_lists.specs.Ordered.{Every}
-use Rattle.ordered_lists.proofs.Every.{every_map, every_map2, every_mapped}
-use Rattle.keyed_lists.specs.Keyed.{at}
-use Rattle.port_model.specs.Requests.{leads_home}
-use Rattle.port_model.specs.Desk.{Desk, on_input}
-use Rattle.port_model.specs.declared.action.Action.{Action}
-use Rattle.port_model.specs.declared.action.Action.TheVariants as actions
-use Rattle.port_model.specs.declared.action.Action.TheVariants.{Say, Ask, Note, CutChain, TakeBack, Withdraw}
-use Rattle.port_model.specs.Setup.{Setup, home_of}
-use Rattle.port_model.specs.Grants as grants
-use Rattle.port_model.specs.Grants.{grant_label}
-use Rattle.port_model.specs.Port.{Work}
-use Rattle.port_model.specs.Joins.{given_back}
-use Rattle.port_facts.specs.Port.{setup_port, IsLabelEnd, IsAction}
-use Rattle.port_facts.proofs.Found.{filter_passes, find_every}
-use Rattle.port_facts.proofs.Keyed.{at_key}
-use Rattle.world_model.specs.Controller.{Acted, Linked, port_key, linked_at, ports_of}
-use Rattle.world_model.specs.Resets.{begins, with_work}
-use Rattle.world_model.specs.Performing.{performs, performs_in_estab, works}
-use Rattle.world_model.specs.Joins.{Join, joins_of, join_of, parts, gives_back, releases_join, releases_input, released_inputs, releases}
-use Rattle.controller_facts.proofs.Moves.{by_giving_back, Found, placing, Moves, moves_to, stays, further, moves_fold, moves_ports, HasPorts, found_setup, found_at_own, found_port}
-use Rattle.controller_facts.proofs.Performing.{performs_in_estab_goes}
-use Rattle.controller_facts.proofs.Conditions.{of_label}
-use Rattle.controller_facts.proofs.Joining.{IsJoin, joins_are, join_input, parts_goes, parts_grants, granted_there, releases_input_goes, every_filter}
-use Rattle.controller_law.specs.Actions as law
-use Rattle.controller_law.proofs.Actions.{asks_what_can_be_done}
-use Rattle.controller_law.proofs.Ordering.{same_number}
-use Rattle.controller_law.proofs.Saying.{IsSay}
-use Rattle.controller_law.proofs.Releasing.{IsFree, given_back_parts, parts_holds, releases_input_holds}
-use Rattle.router.specs.Conditions.{CanPerform, EachCanBePerformed}
+use Rattle.world_model.specs.Words.{PortNo, End, same_end, Request, at, leads_home, Desk, on_input, Action, Say, Ask, Note, CutChain, TakeBack, Withdraw, Setup, home_of, grant_label, Work, given_back, Linked, port_key, linked_at, begins, with_work, performs, performs_in_estab, works, joins_of, join_of, parts, gives_back, releases_join, releases_input, released_inputs, releases}
+use Rattle.controller_conditions.specs.ordered_lists.Ordered.{Every}
+use Rattle.controller_conditions.proofs.ordered_lists.Every.{every_map, every_map2, every_mapped}
+use Rattle.world_model.specs.port_model.declared.action.Action.TheVariants as actions
+use Rattle.world_model.specs.port_model.Grants as grants
+use Rattle.controller_conditions.specs.port_facts.Port.{setup_port, IsLabelEnd, IsAction}
+use Rattle.controller_conditions.proofs.port_facts.Found.{filter_passes, find_every}
+use Rattle.controller_conditions.proofs.port_facts.Keyed.{at_key}
+use Rattle.world_model.specs.Controller.{Acted, ports_of}
+use Rattle.world_model.specs.Joins.{Join}
+use Rattle.controller_conditions.proofs.controller_facts.Moves.{by_giving_back, Found, placing, Moves, moves_to, stays, further, moves_fold, moves_ports, HasPorts, found_setup, found_at_own, found_port}
+use Rattle.controller_conditions.proofs.controller_facts.Performing.{performs_in_estab_goes}
+use Rattle.controller_conditions.proofs.controller_facts.Conditions.{of_label}
+use Rattle.controller_conditions.proofs.controller_facts.Joining.{IsJoin, joins_are, join_input, parts_goes, parts_grants, granted_there, releases_input_goes, every_filter}
+use Rattle.controller_conditions.specs.controller_law.Actions as law
+use Rattle.controller_conditions.proofs.controller_law.Actions.{asks_what_can_be_done}
+use Rattle.controller_conditions.proofs.controller_law.Ordering.{same_number}
+use Rattle.controller_conditions.proofs.controller_law.Saying.{IsSay}
+use Rattle.controller_conditions.proofs.controller_law.Releasing.{IsFree, given_back_parts, parts_holds, releases_input_holds}
+use Rattle.controller_conditions.specs.router.Conditions.{CanPerform, EachCanBePerformed}
 use Rattle.joining_router.specs.Conditions.{IsGrantOf, CanReleaseInput, EachCanBeReleased, released, CanRelease}
 use Rattle.controller_conditions.specs.Kept.{AreLinks, AreIn}
 use Rattle.controller_conditions.proofs.Ready.{in_before, Ready, ready_by, ready_ports, fresh_port}

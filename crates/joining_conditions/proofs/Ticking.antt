@@ -2,40 +2,28 @@
 
 use Rattle.std.proofs.Common.{ℕ, ◌≤◌, ◌<◌, List, [], ◌∷◌, None, Some, refl, arith, fold}
 use Rattle.std.specs.Prelude.{◌+◌}
-use Rattle.net_types.specs.declared.node.PortNo.{PortNo}
-use Rattle.net_types.specs.declared.adjacency.Party.{Party}
-use Rattle.net_types.specs.Number.{HasNumbersLeft}
-use Rattle.adjacency_table.specs.declared.message.Answer.{Answer}
-use Rattle.adjacency_table.specs.declared.message.Answer.TheVariants.{Quiet, Send, Open, Reset}
-use Rattle.adjacency_table.specs.declared.message.Said.{Said}
-use Rattle.adjacency_table.specs.Greeting.{greeting_of, gsmp_answer}
-use Rattle.adjacency_table.specs.Side as sides
-use Rattle.adjacency_table.specs.Side.{ticked}
-use Rattle.gsmp_wire.specs.declared.message.Message.{Message}
-use Rattle.gsmp_wire.specs.declared.message.Message.TheVariants as messages
-use Rattle.gsmp_wire.specs.declared.request.Request.TheVariants.{AllPorts}
-use Rattle.ordered_lists.specs.Ordered.{Every}
-use Rattle.port_model.specs.Desk.{empty_desk}
-use Rattle.port_model.specs.Setup.{Setup}
-use Rattle.port_model.specs.Ticks as port_ticks
-use Rattle.port_facts.proofs.Hearings.{ticks_goes}
-use Rattle.world_model.specs.Controller.{Acted, ports_of, with_desk}
-use Rattle.world_model.specs.Sending.{says_gsmp}
-use Rattle.world_model.specs.Resets.{begins, node_resets}
-use Rattle.world_model.specs.Meeting.{meets}
+use Rattle.world_model.specs.Words.{PortNo, Party, HasNumbersLeft, Answer, Quiet, Send, Open, Said, greeting_of, gsmp_answer, ticked, empty_desk, Setup, with_desk, says_gsmp, begins, node_resets, meets, tries_joins, sends_again, ticks_port, ticks_ports, ticks_by}
+use Rattle.world_model.specs.adjacency_table.declared.message.Answer.TheVariants.{Reset}
+use Rattle.world_model.specs.adjacency_table.Side as sides
+use Rattle.world_model.specs.gsmp_wire.declared.message.Message.{Message}
+use Rattle.world_model.specs.gsmp_wire.declared.message.Message.TheVariants as messages
+use Rattle.world_model.specs.gsmp_wire.declared.request.Request.TheVariants.{AllPorts}
+use Rattle.controller_conditions.specs.ordered_lists.Ordered.{Every}
+use Rattle.world_model.specs.port_model.Ticks as port_ticks
+use Rattle.controller_conditions.proofs.port_facts.Hearings.{ticks_goes}
+use Rattle.world_model.specs.Controller.{Acted, ports_of}
 use Rattle.world_model.specs.Gsmp.{answers, steps}
-use Rattle.world_model.specs.Joins.{tries_joins}
-use Rattle.world_model.specs.Ticks.{sends_again, ticks_port, ticks_ports, ticks_by, ticks}
-use Rattle.controller_facts.specs.Said.{HasFlowsAt}
-use Rattle.controller_facts.proofs.Moves.{IsGsmpTurn, ages, Moves, further}
-use Rattle.controller_facts.proofs.Entering.{tries_joins_goes}
-use Rattle.controller_facts.proofs.Events.{steps_goes, sends_again_goes, ticks_ports_goes}
-use Rattle.controller_facts.proofs.Flows.{moves_flow}
-use Rattle.controller_facts.proofs.Laws.{has_ports}
-use Rattle.controller_facts.proofs.Marks.{Marks, no_marks, mark_more, marks_then, node_resets_marks, asks_marks}
-use Rattle.controller_law.proofs.Whole.{Whole, holds_of}
-use Rattle.controller_law.proofs.Events.{steps_holds, sends_again_holds, ticks_port_holds}
-use Rattle.router.specs.Conditions.{turned_to}
+use Rattle.world_model.specs.Ticks.{ticks}
+use Rattle.controller_conditions.specs.controller_facts.Said.{HasFlowsAt}
+use Rattle.controller_conditions.proofs.controller_facts.Moves.{IsGsmpTurn, ages, Moves, further}
+use Rattle.controller_conditions.proofs.controller_facts.Entering.{tries_joins_goes}
+use Rattle.controller_conditions.proofs.controller_facts.Events.{steps_goes, sends_again_goes, ticks_ports_goes}
+use Rattle.controller_conditions.proofs.controller_facts.Flows.{moves_flow}
+use Rattle.controller_conditions.proofs.controller_facts.Laws.{has_ports}
+use Rattle.controller_conditions.proofs.controller_facts.Marks.{Marks, no_marks, mark_more, marks_then, node_resets_marks, asks_marks}
+use Rattle.controller_conditions.proofs.controller_law.Whole.{Whole, holds_of}
+use Rattle.controller_conditions.proofs.controller_law.Events.{steps_holds, sends_again_holds, ticks_port_holds}
+use Rattle.controller_conditions.specs.router.Conditions.{turned_to}
 use Rattle.joining_router.specs.Conditions.{EachCanTickOn, CanSendAgain, CanTickOn, CanTickWith, CanTick}
 use Rattle.controller_conditions.specs.Kept.{AreLinks, AreIn}
 use Rattle.controller_conditions.proofs.Ready.{in_before, Ready, ready_ports}

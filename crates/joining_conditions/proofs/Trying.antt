@@ -6,44 +6,33 @@ use Rattle.std.specs.List.{list_any}
 use Rattle.std.specs.Option.{option_map_or}
 use Rattle.std.proofs.lemmas.Bool.Decides.{nat_tests}
 use Rattle.std.proofs.lemmas.List.{length-map}
-use Rattle.net_types.specs.declared.channel.End.{End}
-use Rattle.net_types.specs.Label.{number_of_channel}
-use Rattle.ipv4_packet.specs.Parts.{flow_destination}
-use Rattle.crossbar_model.specs.Crossbar.{same_end}
-use Rattle.gsmp_wire.specs.declared.request.Request.TheVariants.{MoveBranch}
-use Rattle.ordered_lists.specs.Ordered.{Every}
-use Rattle.ordered_lists.proofs.Every.{every_map}
-use Rattle.keyed_lists.specs.Keyed.{at}
-use Rattle.port_model.specs.Desk.{on_input, most_asked}
-use Rattle.port_model.specs.Setup.{Setup, home_of, label_end}
-use Rattle.port_model.specs.Labels.{Label, Offered, label_number}
-use Rattle.port_model.specs.Grants.{Grant, ByController, grant_label}
-use Rattle.port_model.specs.Port.{label_at, labels_of}
-use Rattle.port_model.specs.Joins as port_joins
-use Rattle.port_facts.specs.Port.{IsLabelEnd, IsPort, joins_label}
-use Rattle.port_facts.proofs.Keyed.{on_each}
-use Rattle.port_facts.proofs.Rules.{and_first, and_second}
-use Rattle.port_facts.proofs.Weighed.{labels_count}
-use Rattle.world_model.specs.Controller.{Acted, Linked, linked_at}
-use Rattle.world_model.specs.Joins.{Join, joins_of, output_of, join_for, is_offered, may_join, enters_grant, joins, tries_label, label_on, tries_join, inputs_at, tries_joins}
-use Rattle.world_model.specs.Routes.{route_stays}
-use Rattle.controller_facts.proofs.Moves.{by_lending, by_joining, Found, Moves, stays, further, moves_ports, HasPorts, found_setup, found_at_own, found_port}
-use Rattle.controller_facts.proofs.Performing.{at_port_goes}
-use Rattle.controller_facts.proofs.Joining.{image_is, every_flat_map, each_there}
-use Rattle.controller_facts.proofs.Entering.{granted_end, is_offered_by, OnPort, on_port, lends_labels, inputs_of_port, tries_join_goes, IsFor, found_for}
-use Rattle.controller_facts.proofs.Laws.{has_ports}
-use Rattle.controller_law.proofs.Lists.{each_any}
-use Rattle.controller_law.proofs.Holding.{Holds}
-use Rattle.controller_law.proofs.Entering.{IsLentNow, lent_at_port, enters_label_lent}
-use Rattle.controller_law.proofs.Whole.{Whole, holds_of, joins_whole}
-use Rattle.controller_law.proofs.Laws.{held_joins}
+use Rattle.world_model.specs.Words.{End, number_of_channel, flow_destination, same_end, MoveBranch, at, on_input, most_asked, Setup, home_of, label_end, Label, Offered, label_number, Grant, ByController, grant_label, label_at, labels_of, Linked, linked_at, joins_of, join_for, is_offered, may_join, enters_grant, joins, tries_label, label_on, tries_join, inputs_at, tries_joins, route_stays}
+use Rattle.controller_conditions.specs.ordered_lists.Ordered.{Every}
+use Rattle.controller_conditions.proofs.ordered_lists.Every.{every_map}
+use Rattle.world_model.specs.port_model.Joins as port_joins
+use Rattle.controller_conditions.specs.port_facts.Port.{IsLabelEnd, IsPort, joins_label}
+use Rattle.controller_conditions.proofs.port_facts.Keyed.{on_each}
+use Rattle.controller_conditions.proofs.port_facts.Rules.{and_first, and_second}
+use Rattle.controller_conditions.proofs.port_facts.Weighed.{labels_count}
+use Rattle.world_model.specs.Controller.{Acted}
+use Rattle.world_model.specs.Joins.{Join, output_of}
+use Rattle.controller_conditions.proofs.controller_facts.Moves.{by_lending, by_joining, Found, Moves, stays, further, moves_ports, HasPorts, found_setup, found_at_own, found_port}
+use Rattle.controller_conditions.proofs.controller_facts.Performing.{at_port_goes}
+use Rattle.controller_conditions.proofs.controller_facts.Joining.{image_is, every_flat_map, each_there}
+use Rattle.controller_conditions.proofs.controller_facts.Entering.{granted_end, is_offered_by, OnPort, on_port, lends_labels, inputs_of_port, tries_join_goes, IsFor, found_for}
+use Rattle.controller_conditions.proofs.controller_facts.Laws.{has_ports}
+use Rattle.controller_conditions.proofs.controller_law.Lists.{each_any}
+use Rattle.controller_conditions.proofs.controller_law.Holding.{Holds}
+use Rattle.controller_conditions.proofs.controller_law.Entering.{IsLentNow, lent_at_port, enters_label_lent}
+use Rattle.controller_conditions.proofs.controller_law.Whole.{Whole, holds_of, joins_whole}
+use Rattle.controller_conditions.proofs.controller_law.Laws.{held_joins}
 use Rattle.joining_router.specs.Conditions.{entered, CanJoin, CanTryJoin, EachCanBeTried, HoldFew, CanTryJoins}
 use Rattle.controller_conditions.specs.Kept.{AreLinks, AreIn}
 use Rattle.controller_conditions.proofs.Ready.{in_before}
 use Rattle.controller_conditions.proofs.Asking.{can_ask}
 use Rattle.joining_conditions.proofs.Granting.{grant_of}
-use Rattle.controller_facts.specs.Said.{HasFlowsAt}
-use Rattle.controller_facts.proofs.Flows.{moves_flow}
+use Rattle.controller_conditions.specs.controller_facts.Said.{HasFlowsAt}
+use Rattle.controller_conditions.proofs.controller_facts.Flows.{moves_flow}
 
 none_of : (o : Option End) → is_none o ≡ true → o ≡ None
 none_of None e = refl

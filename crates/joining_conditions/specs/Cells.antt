@@ -1,22 +1,16 @@
 -- What the calls ask where a cell ends a frame that passes its test: between events, with numbers left
 
 use Rattle.std.specs.Prelude.{◌≡◌, ℕ, ◌==◌, true, false, List, drop, None, Some, Ok}
-use Rattle.net_types.specs.declared.node.PortNo.{PortNo}
-use Rattle.net_types.specs.declared.number.Mark.{Mark}
-use Rattle.net_types.specs.Number.{HasNumbersLeft}
-use Rattle.ipv4_packet.specs.Packet.{protocol_of, source_of, first_fault}
-use Rattle.atm_cells.specs.declared.cell.Cell.{Cell}
-use Rattle.flow_encaps.specs.Unwrapped.{default_unwrapped}
-use Rattle.gsmp_wire.specs.declared.message.Message.{Message}
-use Rattle.gsmp_wire.specs.Fields.{decoded as gsmp_decoded}
-use Rattle.ifmp_wire.specs.declared.message.Message.{Message as IfmpMessage}
-use Rattle.ifmp_wire.specs.Message.{InRange}
-use Rattle.ifmp_wire.specs.Fields.{decoded as ifmp_decoded}
+use Rattle.world_model.specs.Words.{PortNo, Mark, HasNumbersLeft, protocol_of, source_of, Cell, default_unwrapped, InRange, routes, control_protocol, ForGsmp, ForDefault, ForLabel, taker_of}
+use Rattle.world_model.specs.ipv4_packet.Packet.{first_fault}
+use Rattle.world_model.specs.gsmp_wire.declared.message.Message.{Message}
+use Rattle.world_model.specs.gsmp_wire.Fields.{decoded as gsmp_decoded}
+use Rattle.world_model.specs.ifmp_wire.declared.message.Message.{Message as IfmpMessage}
+use Rattle.world_model.specs.ifmp_wire.Fields.{decoded as ifmp_decoded}
 use Rattle.world_model.specs.Controller.{Acted}
-use Rattle.world_model.specs.Packets.{routes, control_protocol}
-use Rattle.world_model.specs.Cells.{Taker, ForGsmp, ForDefault, ForLabel, taker_of}
-use Rattle.router.specs.Conditions.{HasMark}
-use Rattle.router.specs.Cells.{gathered, receipt}
+use Rattle.world_model.specs.Cells.{Taker}
+use Rattle.controller_conditions.specs.router.Conditions.{HasMark}
+use Rattle.controller_conditions.specs.router.Cells.{gathered, receipt}
 use Rattle.joining_router.specs.Conditions.{CanWorkOn}
 use Rattle.joining_router.specs.Answers.{CanBeTold}
 use Rattle.controller_conditions.specs.Kept.{IsKept}

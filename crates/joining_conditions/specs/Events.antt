@@ -1,18 +1,13 @@
 -- What a router's calls ask of the controller that it is, where an event comes to it: between events, with numbers left
 
 use Rattle.std.specs.Prelude.{ℕ, List}
-use Rattle.net_types.specs.declared.node.PortNo.{PortNo}
-use Rattle.net_types.specs.declared.prefix.Addr.{Addr}
-use Rattle.net_types.specs.Number.{HasNumbersLeft}
-use Rattle.ipv4_forward.specs.declared.change.RouteChange.{RouteChange}
-use Rattle.gsmp_wire.specs.declared.message.Message.{Message}
-use Rattle.ifmp_wire.specs.declared.message.Message.{Message as IfmpMessage}
-use Rattle.ifmp_wire.specs.Message.{InRange}
+use Rattle.world_model.specs.Words.{PortNo, Addr, HasNumbersLeft, RouteChange, InRange, at_port}
+use Rattle.world_model.specs.gsmp_wire.declared.message.Message.{Message}
+use Rattle.world_model.specs.ifmp_wire.declared.message.Message.{Message as IfmpMessage}
 use Rattle.world_model.specs.Controller.{Acted}
-use Rattle.world_model.specs.Performing.{at_port}
 use Rattle.world_model.specs.Gsmp.{told}
-use Rattle.router.specs.Conditions.{CanResetNode}
-use Rattle.router.specs.Meeting.{with_change}
+use Rattle.controller_conditions.specs.router.Conditions.{CanResetNode}
+use Rattle.controller_conditions.specs.router.Meeting.{with_change}
 use Rattle.joining_router.specs.Conditions.{CanTick, CanTakeChanges, CanWorkOn}
 use Rattle.joining_router.specs.Answers.{CanBeTold}
 use Rattle.controller_conditions.specs.Kept.{IsHeld, IsKept, AreIn}

@@ -3,33 +3,18 @@
 use Rattle.std.proofs.Common.{◌≡◌, ◌≢◌, ℕ, zero, suc, ◌<◌, true, List, [], ◌∷◌, Option, None, Some, refl, sym, ◌∙◌, ap, ap₂, subst, arith}
 use Rattle.std.specs.Option.{option_map, option_map_or, option_and_then}
 use Rattle.std.specs.FinMap.{get}
-use Rattle.net_types.specs.declared.channel.End.{End}
-use Rattle.net_types.specs.declared.node.NodeId.{NodeId}
-use Rattle.net_types.specs.declared.node.PortNo.{PortNo}
-use Rattle.net_types.specs.declared.node.Place.TheVariants.{Out}
-use Rattle.net_types.specs.Number.{GivenOut}
-use Rattle.net_types.specs.Channel.{channel_on_control}
-use Rattle.net_types.specs.Label.{label_channel_of, is_label_number}
-use Rattle.atm_cells.specs.declared.cell.Cell.{Cell}
-use Rattle.link_model.specs.declared.frames.Frame.{Frame}
-use Rattle.link_model.specs.Ledger.{payload_of}
-use Rattle.keyed_lists.specs.Keyed.{at}
-use Rattle.port_facts.proofs.Keyed.{by_eq, on_both, at_put_other, at_key}
-use Rattle.crossbar_model.specs.declared.branch.Branch.{Branch}
-use Rattle.crossbar_model.specs.Crossbar.{Crossbar, queue_of, on_channel_of, route_on, input_of, output_of, switched_on, sent}
-use Rattle.label_line.specs.Cells.{Role, Downstream, Upstream}
-use Rattle.label_line.specs.Line.{Line}
-use Rattle.world_model.specs.Switch.{Acted, control_port, free_slots}
-use Rattle.world_model.specs.Conduct.{gsmp_cell, passed, switched_cell, is_gsmp, cell_comes}
-use Rattle.port_model.specs.Setup.{label_end}
+use Rattle.world_model.specs.Words.{End, NodeId, PortNo, Out, GivenOut, channel_on_control, label_channel_of, is_label_number, Cell, Frame, payload_of, at, Crossbar, queue_of, on_channel_of, route_on, switched_on, sent, control_port, gsmp_cell, switched_cell, is_gsmp, label_end, World, Site, site_key, site_at, with_site, switch_acts, queue_at, with_queue_in, with_queue_of, Topology, carries_head, arrives_at, output_at}
+use Rattle.controller_lifts.proofs.port_facts.Keyed.{by_eq, on_both, at_put_other, at_key}
+use Rattle.world_model.specs.crossbar_model.declared.branch.Branch.{Branch}
+use Rattle.world_model.specs.crossbar_model.Crossbar.{input_of, output_of}
+use Rattle.controller_lifts.specs.label_line.Cells.{Role, Downstream, Upstream}
+use Rattle.controller_lifts.specs.label_line.Line.{Line}
+use Rattle.world_model.specs.Switch.{Acted, free_slots}
+use Rattle.world_model.specs.Conduct.{passed, cell_comes}
 use Rattle.world_model.specs.declared.link.LinkEnd.{LinkEnd}
-use Rattle.world_model.specs.World.{World, Site, site_key, site_at, with_site, switch_acts}
-use Rattle.world_model.specs.Places.{queue_at, with_queue_in, with_queue_of}
-use Rattle.world_model.specs.Topology.{Topology, peer_of}
-use Rattle.world_model.specs.Step.{carries_head, arrives_at}
-use Rattle.world_model.specs.Ways.{output_at}
-use Rattle.port_views.specs.Link.{LinkLabel, other}
-use Rattle.controller_views.specs.Lifted.{IsProper}
+use Rattle.world_model.specs.Topology.{peer_of}
+use Rattle.controller_lifts.specs.port_views.Link.{LinkLabel, other}
+use Rattle.controller_lifts.specs.controller_views.Lifted.{IsProper}
 use Rattle.world_views.specs.Shown.{end_of, WorldShows, WorldGoes, AreApart}
 use Rattle.world_views.proofs.Sites.{goes_self, goes_then, site_same}
 use Rattle.label_events.specs.Queues.{HasQueues, HasLowPorts, LeadsOn, home, joined, LeadsFromLinks, IsAcross}

@@ -1,19 +1,15 @@
 -- a controller ticks, and a change of routes comes to it
 
 use Rattle.std.proofs.Common.{◌≡◌, [], Some}
-use Rattle.net_types.specs.declared.node.NodeId.{NodeId}
-use Rattle.ipv4_forward.specs.declared.change.RouteChange.{RouteChange}
-use Rattle.label_line.specs.Line.{Line}
-use Rattle.world_model.specs.Changes.{change_comes}
+use Rattle.world_model.specs.Words.{NodeId, RouteChange, change_comes, World, Site, site_at, tallied, put_away}
+use Rattle.controller_lifts.specs.label_line.Line.{Line}
 use Rattle.world_model.specs.Ticks.{ticks}
-use Rattle.controller_facts.proofs.Laws.{has_ports}
-use Rattle.world_model.specs.World.{World, Site, site_at, at_controller}
-use Rattle.world_model.specs.Step.{tallied}
-use Rattle.world_model.specs.Run.{put_away}
-use Rattle.port_views.specs.Link.{LinkLabel}
-use Rattle.controller_views.specs.Ends.{EndLeads}
-use Rattle.controller_views.specs.Lifted.{IsProper, Growing}
-use Rattle.controller_views.specs.Ready.{FitsLink}
+use Rattle.controller_lifts.proofs.controller_facts.Laws.{has_ports}
+use Rattle.world_model.specs.World.{at_controller}
+use Rattle.controller_lifts.specs.port_views.Link.{LinkLabel}
+use Rattle.controller_lifts.specs.controller_views.Ends.{EndLeads}
+use Rattle.controller_lifts.specs.controller_views.Lifted.{IsProper, Growing}
+use Rattle.controller_lifts.specs.controller_views.Ready.{FitsLink}
 use Rattle.controller_lifts.proofs.Follow.{change_follows}
 use Rattle.controller_lifts.proofs.Ways.{leads_followed, growing_followed, SameNode, node_followed}
 use Rattle.controller_lifts.proofs.Ticking.{ticks_lead, ticks_grow, ticks_node}

@@ -2,30 +2,22 @@
 
 use Rattle.std.proofs.Common.{◌≡◌, ◌≢◌, ℕ, ◌<◌, ◌+◌, List, [], ◌∷◌, length, Option, None, Some, refl, sym, ap, subst, arith}
 use Rattle.std.specs.Option.{option_map_or}
-use Rattle.net_types.specs.declared.node.NodeId.{NodeId}
-use Rattle.net_types.specs.declared.node.Place.TheVariants.{Up}
-use Rattle.atm_cells.specs.declared.cell.Cell.{Cell}
-use Rattle.keyed_lists.specs.Keyed.{at, put}
-use Rattle.port_facts.proofs.Keyed.{at_key, at_put_same}
-use Rattle.label_line.specs.Cells.{Role, Downstream, Upstream}
-use Rattle.label_line.specs.Line.{Line}
-use Rattle.crossbar_model.specs.Crossbar.{queue_of}
-use Rattle.world_model.specs.Switch.{control_port}
+use Rattle.world_model.specs.Words.{NodeId, Up, Cell, at, put, queue_of, control_port, World, Site, site_key, site_at, with_site, controller_acts, queue_at, with_queue_in, with_queue_of, Topology, carries_head}
+use Rattle.controller_lifts.proofs.port_facts.Keyed.{at_key, at_put_same}
+use Rattle.controller_lifts.specs.label_line.Cells.{Role, Downstream, Upstream}
+use Rattle.controller_lifts.specs.label_line.Line.{Line}
 use Rattle.world_model.specs.Controller.{Acted}
 use Rattle.world_model.specs.Cells.{cell_comes}
 use Rattle.actor_pace.proofs.Paces.{Follows}
 use Rattle.actor_pace.proofs.Controllers.{cell_follows}
-use Rattle.world_model.specs.World.{World, Site, site_key, site_at, with_site, controller_acts, at_controller}
-use Rattle.world_model.specs.Places.{queue_at, with_queue_in, with_queue_of}
-use Rattle.world_model.specs.Topology.{Topology}
-use Rattle.world_model.specs.Step.{carries_head}
-use Rattle.port_views.specs.Link.{LinkLabel}
-use Rattle.controller_views.specs.Ends.{put_at, placed}
-use Rattle.controller_views.specs.Lifted.{IsProper, Growing}
-use Rattle.controller_views.specs.Queues.{awaited}
-use Rattle.controller_views.proofs.Parts.{both}
-use Rattle.arrival_views.specs.Cells.{CanArrive}
-use Rattle.arrival_views.proofs.Others.{cell_net, idle_goes}
+use Rattle.world_model.specs.World.{at_controller}
+use Rattle.controller_lifts.specs.port_views.Link.{LinkLabel}
+use Rattle.controller_lifts.specs.controller_views.Ends.{put_at, placed}
+use Rattle.controller_lifts.specs.controller_views.Lifted.{IsProper, Growing}
+use Rattle.controller_lifts.specs.controller_views.Queues.{awaited}
+use Rattle.controller_lifts.proofs.controller_views.Parts.{both}
+use Rattle.controller_lifts.specs.arrival_views.Cells.{CanArrive}
+use Rattle.controller_lifts.proofs.arrival_views.Others.{cell_net, idle_goes}
 use Rattle.world_views.specs.Shown.{pieces_of, WorldShows, WorldGoes, AreApart, acting}
 use Rattle.world_views.proofs.Sites.{acted, goes_self, goes_then, enters, acts_away}
 use Rattle.label_events.specs.Queues.{HasQueues}

@@ -4,43 +4,28 @@ use Rattle.std.proofs.Common.{◌≡◌, ◌≢◌, ℕ, zero, suc, ◌<◌, Boo
 use Rattle.std.specs.Option.{option_map_or}
 use Rattle.std.specs.FinMap.{get}
 use Rattle.std.proofs.lemmas.Bool.Decides.{nat_tests}
-use Rattle.net_types.specs.declared.node.NodeId.{NodeId}
-use Rattle.net_types.specs.declared.node.PortNo.{PortNo}
-use Rattle.net_types.specs.declared.node.Place.TheVariants.{Down}
-use Rattle.net_types.specs.declared.channel.Channel.{Channel}
-use Rattle.net_types.specs.Number.{GivenOut}
-use Rattle.net_types.specs.Channel.{channel_on_control}
-use Rattle.net_types.specs.Label.{label_channel_of}
-use Rattle.atm_cells.specs.declared.cell.Cell.{Cell}
-use Rattle.link_model.specs.declared.frames.Frame.{Frame}
-use Rattle.link_model.specs.Ledger.{payload_of}
-use Rattle.keyed_lists.specs.Keyed.{at, put}
-use Rattle.port_facts.proofs.Keyed.{by_eq, on_both, at_put_same, at_key}
-use Rattle.crossbar_model.specs.declared.branch.Branch.{Branch}
-use Rattle.crossbar_model.specs.Crossbar.{Crossbar, queue_of, on_channel_of, route_on, input_of, switched_on, sent}
-use Rattle.label_line.specs.Cells.{Role, Downstream, Upstream}
-use Rattle.label_line.specs.Line.{Line}
-use Rattle.world_model.specs.Switch.{Acted, control_port, free_slots}
-use Rattle.world_model.specs.Conduct.{gsmp_cell, passed, switched_cell, is_gsmp, cell_comes}
-use Rattle.world_model.specs.Controller.{default_channel}
-use Rattle.world_model.specs.Cells.{same_channel}
-use Rattle.world_model.specs.World.{World, Site, site_key, site_at, with_site, switch_acts, at_switch}
-use Rattle.world_model.specs.Places.{queue_at, with_queue_of}
-use Rattle.world_model.specs.Topology.{Topology}
-use Rattle.world_model.specs.Step.{carries_head}
+use Rattle.world_model.specs.Words.{NodeId, PortNo, Down, Channel, GivenOut, channel_on_control, label_channel_of, Cell, Frame, payload_of, at, put, Crossbar, queue_of, on_channel_of, route_on, switched_on, sent, control_port, gsmp_cell, switched_cell, is_gsmp, default_channel, same_channel, World, Site, site_key, site_at, with_site, switch_acts, queue_at, with_queue_of, Topology, carries_head}
+use Rattle.controller_lifts.proofs.port_facts.Keyed.{by_eq, on_both, at_put_same, at_key}
+use Rattle.world_model.specs.crossbar_model.declared.branch.Branch.{Branch}
+use Rattle.world_model.specs.crossbar_model.Crossbar.{input_of}
+use Rattle.controller_lifts.specs.label_line.Cells.{Role, Downstream, Upstream}
+use Rattle.controller_lifts.specs.label_line.Line.{Line}
+use Rattle.world_model.specs.Switch.{Acted, free_slots}
+use Rattle.world_model.specs.Conduct.{passed, cell_comes}
+use Rattle.world_model.specs.World.{at_switch}
 use Rattle.world_model.proofs.Lists.{index_set, index_here, length_set}
-use Rattle.port_views.specs.Link.{LinkLabel}
-use Rattle.shown_cells.specs.Seen.{Nothing}
-use Rattle.shown_cells.specs.Label.{OnLink, OnControl, channel_at, seen, seen_payload, on_label}
-use Rattle.shown_cells.proofs.Made.{extends_self}
-use Rattle.controller_views.specs.Ends.{Goes, idle, put_at}
-use Rattle.controller_views.specs.Lifted.{IsProper}
-use Rattle.controller_views.specs.Queues.{carried, put_out, gone}
-use Rattle.controller_views.proofs.Carried.{carried_net}
-use Rattle.controller_views.proofs.Parts.{both}
+use Rattle.controller_lifts.specs.port_views.Link.{LinkLabel}
+use Rattle.controller_lifts.specs.shown_cells.Seen.{Nothing}
+use Rattle.controller_lifts.specs.shown_cells.Label.{OnLink, OnControl, channel_at, seen, seen_payload, on_label}
+use Rattle.controller_lifts.proofs.shown_cells.Made.{extends_self}
+use Rattle.controller_lifts.specs.controller_views.Ends.{Goes, idle, put_at}
+use Rattle.controller_lifts.specs.controller_views.Lifted.{IsProper}
+use Rattle.controller_lifts.specs.controller_views.Queues.{carried, put_out, gone}
+use Rattle.controller_lifts.proofs.controller_views.Carried.{carried_net}
+use Rattle.controller_lifts.proofs.controller_views.Parts.{both}
 use Rattle.world_views.specs.Shown.{pieces_of, WorldShows, WorldGoes, AreApart}
 use Rattle.world_views.proofs.Sites.{goes_self, goes_then}
-use Rattle.arrival_views.proofs.Chains.{Came}
+use Rattle.controller_lifts.proofs.arrival_views.Chains.{Came}
 use Rattle.label_events.specs.Queues.{HasQueues, HasLowPorts, LeadsOut}
 use Rattle.label_events.proofs.Nets.{Alike, alike_goes, site_goes, site_goes_twice, away_goes, goes_still, by_node}
 use Rattle.label_events.proofs.Switches.{IsQuiet, IsMore, quiet_more, quiet_then, same, gsmp_quiet}

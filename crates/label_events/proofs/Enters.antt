@@ -3,42 +3,26 @@
 use Rattle.std.proofs.Common.{◌≡◌, ◌≢◌, ℕ, ◌≤◌, ◌+◌, Bool, true, false, List, length, Option, None, Some, refl, sym, ◌∙◌, ap, subst, arith, if◌then◌else◌}
 use Rattle.std.specs.Prelude.{◌==◌, nat_lt}
 use Rattle.std.proofs.lemmas.Bool.Decides.{nat_tests}
-use Rattle.net_types.specs.declared.node.NodeId.{NodeId}
-use Rattle.net_types.specs.declared.node.PortNo.{PortNo}
-use Rattle.net_types.specs.declared.number.Mark.{Mark}
-use Rattle.net_types.specs.declared.channel.Channel.{Channel}
-use Rattle.net_types.specs.Number.{next_control, with_control}
-use Rattle.ipv4_packet.specs.Packet.{protocol_of, first_fault}
-use Rattle.ipv4_packet.specs.declared.validate.PacketFault.{PacketFault}
-use Rattle.ipv4_packet.specs.declared.validate.PacketFault.TheVariants.{Short}
-use Rattle.ipv4_forward.specs.Hop.{onward, hop_of}
-use Rattle.ipv4_forward.specs.declared.outcome.Hop.{Hop}
-use Rattle.ipv4_forward.specs.declared.outcome.Hop.TheVariants.{Here, On, NoRoute, Expired}
-use Rattle.flow_encaps.specs.Default.{default_payload}
-use Rattle.link_model.specs.declared.record.Refusal.{Refusal}
-use Rattle.link_model.specs.declared.record.Refusal.TheVariants.{ControlProtocol}
-use Rattle.link_model.specs.declared.record.Record.TheVariants.{Refused}
-use Rattle.link_model.specs.Notes.{Journal}
-use Rattle.link_model.specs.Ledger.{payload_of}
-use Rattle.frame_model.specs.Frame.{next_mark}
-use Rattle.port_facts.proofs.Keyed.{on_both}
-use Rattle.label_line.specs.Line.{Line}
-use Rattle.port_model.specs.Grants.{Grant}
-use Rattle.world_model.specs.Controller.{Acted, default_home}
-use Rattle.world_model.specs.Sending.{sends, sends_control}
-use Rattle.world_model.specs.Packets.{is_control, sends_next, goes_by, grant_by, forwarded, routes, control_protocol, refused_by, inject_refusal, injected}
-use Rattle.world_model.specs.World.{World, Site, site_at}
-use Rattle.world_model.specs.Step.{note, injects_by, injects}
-use Rattle.port_views.specs.Link.{LinkLabel}
-use Rattle.shown_cells.proofs.Made.{extends_made, unmade_packet}
-use Rattle.controller_views.specs.Lifted.{IsProper, Growing}
-use Rattle.controller_views.proofs.Growing.{grow_same, sends_grow}
-use Rattle.controller_views.proofs.Sends.{sent_cases}
+use Rattle.world_model.specs.Words.{NodeId, PortNo, Mark, Channel, next_control, with_control, protocol_of, PacketFault, onward, hop_of, Hop, Here, On, default_payload, Refusal, ControlProtocol, Refused, Journal, payload_of, next_mark, Grant, default_home, sends_control, is_control, sends_next, goes_by, grant_by, routes, control_protocol, refused_by, inject_refusal, injected, World, Site, site_at, injects_by, injects}
+use Rattle.world_model.specs.ipv4_packet.Packet.{first_fault}
+use Rattle.world_model.specs.ipv4_packet.declared.validate.PacketFault.TheVariants.{Short}
+use Rattle.world_model.specs.ipv4_forward.declared.outcome.Hop.TheVariants.{NoRoute, Expired}
+use Rattle.controller_lifts.proofs.port_facts.Keyed.{on_both}
+use Rattle.controller_lifts.specs.label_line.Line.{Line}
+use Rattle.world_model.specs.Controller.{Acted}
+use Rattle.world_model.specs.Sending.{sends}
+use Rattle.world_model.specs.Packets.{forwarded}
+use Rattle.world_model.specs.Step.{note}
+use Rattle.controller_lifts.specs.port_views.Link.{LinkLabel}
+use Rattle.controller_lifts.proofs.shown_cells.Made.{extends_made, unmade_packet}
+use Rattle.controller_lifts.specs.controller_views.Lifted.{IsProper, Growing}
+use Rattle.controller_lifts.proofs.controller_views.Growing.{grow_same, sends_grow}
+use Rattle.controller_lifts.proofs.controller_views.Sends.{sent_cases}
 use Rattle.controller_lifts.proofs.Ways.{SameNode}
 use Rattle.world_views.specs.Shown.{WorldShows, WorldGoes, AreApart, acting}
 use Rattle.world_views.proofs.Sites.{goes_self, controller_goes}
-use Rattle.arrival_views.specs.Packets.{IsFree, of_control, of_packet, IsPlain, HasLabelGrants}
-use Rattle.arrival_views.proofs.Routes.{routes_lead}
+use Rattle.controller_lifts.specs.arrival_views.Packets.{IsFree, of_control, of_packet, IsPlain, HasLabelGrants}
+use Rattle.controller_lifts.proofs.arrival_views.Routes.{routes_lead}
 
 -- *Forwarding* makes frames, and leaves the node
 same_next : (a : Acted) (came : Mark) (channel : Channel) (payload : List ℕ) → SameNode a (sends_next a came channel payload)

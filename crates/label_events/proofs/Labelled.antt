@@ -2,29 +2,23 @@
 -- lent
 
 use Rattle.std.proofs.Common.{◌≡◌, ◌≢◌, ℕ, Bool, true, false, List, [], ◌∷◌, ◌++◌, refl, sym, ◌∙◌, ap, if◌then◌else◌}
-use Rattle.net_types.specs.declared.channel.Channel.{Channel}
-use Rattle.net_types.specs.Label.{label_channel_of, number_of_channel, is_label_number}
-use Rattle.net_types.proofs.Labels.{number_of_channel-label_channel_of}
-use Rattle.atm_cells.specs.declared.cell.Cell.{Cell}
-use Rattle.link_model.specs.declared.frames.Frame.{Frame}
-use Rattle.link_model.specs.Ledger.{payload_of}
-use Rattle.label_line.specs.Cells as lines
-use Rattle.label_line.specs.Cells.{Role, Downstream, Upstream}
-use Rattle.label_line.specs.Line.{Line, Grant, NoGrant, Idle, ByController, ByInput, Leaving}
-use Rattle.label_line.specs.Upstream.{joins, switches_labelled}
-use Rattle.label_line.specs.Moves.{SwitchLabelled}
-use Rattle.world_model.specs.Controller.{default_channel}
-use Rattle.world_model.specs.Cells.{same_channel}
-use Rattle.port_views.specs.Link.{LinkLabel, other}
-use Rattle.port_views.specs.Shown.{IsLent}
-use Rattle.shown_cells.specs.Seen.{Nothing, Word}
-use Rattle.shown_cells.specs.Label.{OnLink, seen, seen_payload, on_label}
-use Rattle.shown_cells.proofs.Shows.{shows_join, shows_behind, one_word, one_hidden}
-use Rattle.shown_cells.proofs.Frames.{same_self, differ, seen_elsewhere}
-use Rattle.controller_views.specs.Ends.{Pieces, Net, Goes, idle}
-use Rattle.controller_views.specs.Queues.{crossed}
-use Rattle.controller_views.proofs.Parts.{both}
-use Rattle.controller_views.proofs.Sends.{label_vci}
+use Rattle.world_model.specs.Words.{Channel, label_channel_of, number_of_channel, is_label_number, Cell, Frame, payload_of, default_channel, same_channel}
+use Rattle.world_model.proofs.net_types.Labels.{number_of_channel-label_channel_of}
+use Rattle.controller_lifts.specs.label_line.Cells as lines
+use Rattle.controller_lifts.specs.label_line.Cells.{Role, Downstream, Upstream}
+use Rattle.controller_lifts.specs.label_line.Line.{Line, Grant, NoGrant, Idle, ByController, ByInput, Leaving}
+use Rattle.controller_lifts.specs.label_line.Upstream.{joins, switches_labelled}
+use Rattle.controller_lifts.specs.label_line.Moves.{SwitchLabelled}
+use Rattle.controller_lifts.specs.port_views.Link.{LinkLabel, other}
+use Rattle.controller_lifts.specs.port_views.Shown.{IsLent}
+use Rattle.controller_lifts.specs.shown_cells.Seen.{Nothing, Word}
+use Rattle.controller_lifts.specs.shown_cells.Label.{OnLink, seen, seen_payload, on_label}
+use Rattle.controller_lifts.proofs.shown_cells.Shows.{shows_join, shows_behind, one_word, one_hidden}
+use Rattle.controller_lifts.proofs.shown_cells.Frames.{same_self, differ, seen_elsewhere}
+use Rattle.controller_lifts.specs.controller_views.Ends.{Pieces, Net, Goes, idle}
+use Rattle.controller_lifts.specs.controller_views.Queues.{crossed}
+use Rattle.controller_lifts.proofs.controller_views.Parts.{both}
+use Rattle.controller_lifts.proofs.controller_views.Sends.{label_vci}
 
 -- *Channels of labels*
 pub label_channels : (n m : ℕ) → n ≢ m → label_channel_of n ≢ label_channel_of m

@@ -1,36 +1,26 @@
 -- a cell is carried over a link to the switch at its other end: on to its controller, out under a label, or nowhere
 
 use Rattle.std.proofs.Common.{◌≡◌, ◌≢◌, ℕ, ◌<◌, true, List, [], ◌∷◌, ◌++◌, refl, sym, ◌∙◌, ap, subst, arith}
-use Rattle.net_types.specs.declared.node.NodeId.{NodeId}
-use Rattle.net_types.specs.declared.node.PortNo.{PortNo}
-use Rattle.net_types.specs.declared.node.Place.TheVariants.{Out}
-use Rattle.net_types.specs.Number.{GivenOut}
-use Rattle.net_types.specs.Channel.{channel_on_control}
-use Rattle.net_types.specs.Label.{label_channel_of, is_label_number}
-use Rattle.atm_cells.specs.declared.cell.Cell.{Cell}
-use Rattle.link_model.specs.declared.frames.Frame.{Frame}
-use Rattle.port_facts.proofs.Keyed.{by_eq, at_key}
-use Rattle.crossbar_model.specs.Crossbar.{queue_of, sent}
-use Rattle.label_line.specs.Cells.{Role, Downstream, Upstream}
-use Rattle.label_line.specs.Line.{Line}
-use Rattle.world_model.specs.Switch.{Acted, control_port}
-use Rattle.world_model.specs.World.{World, Site, site_key, with_site}
-use Rattle.world_model.specs.Places.{with_queue_in}
+use Rattle.world_model.specs.Words.{NodeId, PortNo, Out, GivenOut, channel_on_control, label_channel_of, is_label_number, Cell, Frame, queue_of, sent, control_port, World, Site, site_key, with_site, with_queue_in}
+use Rattle.controller_lifts.proofs.port_facts.Keyed.{by_eq, at_key}
+use Rattle.controller_lifts.specs.label_line.Cells.{Role, Downstream, Upstream}
+use Rattle.controller_lifts.specs.label_line.Line.{Line}
+use Rattle.world_model.specs.Switch.{Acted}
 use Rattle.world_model.proofs.Lists.{index_set, index_here, length_set}
-use Rattle.port_views.specs.Link.{LinkLabel, other}
-use Rattle.shown_cells.specs.Label.{OnLink, OnControl, seen}
-use Rattle.shown_cells.proofs.Shows.{shows_behind, one_hidden}
-use Rattle.shown_cells.proofs.Made.{extends_self}
-use Rattle.shown_cells.proofs.Frames.{seen_elsewhere}
-use Rattle.controller_views.specs.Ends.{Goes, idle, put_at}
-use Rattle.controller_views.specs.Lifted.{IsProper}
-use Rattle.controller_views.specs.Queues.{crossed, passed as goes_up}
-use Rattle.controller_views.proofs.Carried.{crossed_net}
-use Rattle.controller_views.proofs.Parts.{both}
-use Rattle.controller_views.proofs.Sends.{port_default, port_label}
+use Rattle.controller_lifts.specs.port_views.Link.{LinkLabel, other}
+use Rattle.controller_lifts.specs.shown_cells.Label.{OnLink, OnControl, seen}
+use Rattle.controller_lifts.proofs.shown_cells.Shows.{shows_behind, one_hidden}
+use Rattle.controller_lifts.proofs.shown_cells.Made.{extends_self}
+use Rattle.controller_lifts.proofs.shown_cells.Frames.{seen_elsewhere}
+use Rattle.controller_lifts.specs.controller_views.Ends.{Goes, idle, put_at}
+use Rattle.controller_lifts.specs.controller_views.Lifted.{IsProper}
+use Rattle.controller_lifts.specs.controller_views.Queues.{crossed, passed as goes_up}
+use Rattle.controller_lifts.proofs.controller_views.Carried.{crossed_net}
+use Rattle.controller_lifts.proofs.controller_views.Parts.{both}
+use Rattle.controller_lifts.proofs.controller_views.Sends.{port_default, port_label}
 use Rattle.world_views.specs.Shown.{pieces_of, WorldShows, WorldGoes, AreApart}
 use Rattle.world_views.proofs.Sites.{found_after}
-use Rattle.arrival_views.proofs.Chains.{Came}
+use Rattle.controller_lifts.proofs.arrival_views.Chains.{Came}
 use Rattle.label_events.specs.Queues.{HasQueues, HasLowPorts}
 use Rattle.label_events.proofs.Nets.{Alike, alike_goes, site_goes}
 use Rattle.label_events.proofs.Losses.{set_here, set_there}

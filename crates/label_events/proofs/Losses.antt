@@ -2,28 +2,18 @@
 
 use Rattle.std.proofs.Common.{◌≡◌, ◌≢◌, ℕ, ◌<◌, ◌≤◌, List, [], ◌∷◌, length, Option, None, Some, refl, sym, ◌∙◌, ap, subst, arith}
 use Rattle.std.specs.Option.{option_map_or}
-use Rattle.net_types.specs.declared.node.NodeId.{NodeId}
-use Rattle.net_types.specs.declared.node.PortNo.{PortNo}
-use Rattle.net_types.specs.declared.node.Place.{Place}
-use Rattle.net_types.specs.declared.node.Place.TheVariants.{Down, Up, Out}
-use Rattle.atm_cells.specs.declared.cell.Cell.{Cell}
-use Rattle.link_model.specs.declared.record.Record.TheVariants.{Loss}
-use Rattle.link_model.specs.declared.record.Cause.TheVariants.{Lost}
-use Rattle.port_facts.proofs.Keyed.{by_eq}
-use Rattle.label_line.specs.Cells.{Role, Downstream, Upstream}
-use Rattle.label_line.specs.Line.{Line}
-use Rattle.crossbar_model.specs.Crossbar.{Crossbar, queue_of}
-use Rattle.world_model.specs.Switch.{control_port}
-use Rattle.world_model.specs.World.{World, Site, site_key, site_at, with_site}
-use Rattle.world_model.specs.Places.{place_node, queue_in, queue_at, with_port_queue, with_queue_in, with_queue_of}
-use Rattle.world_model.specs.Step.{note, loses_head}
+use Rattle.world_model.specs.Words.{NodeId, PortNo, Place, Down, Up, Out, Cell, Loss, Lost, Crossbar, queue_of, control_port, World, Site, site_key, site_at, with_site, place_node, queue_in, queue_at, with_port_queue, with_queue_in, with_queue_of, loses_head}
+use Rattle.controller_lifts.proofs.port_facts.Keyed.{by_eq}
+use Rattle.controller_lifts.specs.label_line.Cells.{Role, Downstream, Upstream}
+use Rattle.controller_lifts.specs.label_line.Line.{Line}
+use Rattle.world_model.specs.Step.{note}
 use Rattle.world_model.proofs.Lists.{index_set, index_here}
-use Rattle.port_views.specs.Link.{LinkLabel, other}
-use Rattle.controller_views.specs.Ends.{Pieces, Goes, idle, put_at}
-use Rattle.controller_views.specs.Lifted.{IsProper}
-use Rattle.controller_views.specs.Queues.{carried, crossed, awaited, gone, lost}
-use Rattle.controller_views.proofs.Carried.{carried_net, crossed_net, lost_net}
-use Rattle.controller_views.proofs.Parts.{both}
+use Rattle.controller_lifts.specs.port_views.Link.{LinkLabel, other}
+use Rattle.controller_lifts.specs.controller_views.Ends.{Pieces, Goes, idle, put_at}
+use Rattle.controller_lifts.specs.controller_views.Lifted.{IsProper}
+use Rattle.controller_lifts.specs.controller_views.Queues.{carried, crossed, awaited, gone, lost}
+use Rattle.controller_lifts.proofs.controller_views.Carried.{carried_net, crossed_net, lost_net}
+use Rattle.controller_lifts.proofs.controller_views.Parts.{both}
 use Rattle.world_views.specs.Shown.{pieces_of, WorldShows, WorldGoes, AreApart}
 use Rattle.world_views.proofs.Sites.{goes_self}
 use Rattle.label_events.specs.Queues.{HasQueues, IsLinkPlace}

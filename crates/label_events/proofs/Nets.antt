@@ -1,21 +1,15 @@
 -- the network as its pieces at a link are: another network that has the same pieces shows the same line
 
 use Rattle.std.proofs.Common.{◌≡◌, ◌≢◌, List, [], Some, refl, sym, ◌∙◌, ap, subst}
-use Rattle.net_types.specs.declared.node.NodeId.{NodeId}
-use Rattle.net_types.specs.Number.{GivenOut}
-use Rattle.atm_cells.specs.declared.cell.Cell.{Cell}
-use Rattle.link_model.specs.declared.frames.Frame.{Frame}
-use Rattle.keyed_lists.specs.Keyed.{at, put}
-use Rattle.port_facts.proofs.Keyed.{by_eq, at_key}
-use Rattle.label_line.specs.Cells.{Role, Downstream, Upstream}
-use Rattle.label_line.specs.Line.{Line}
-use Rattle.world_model.specs.Controller.{Controller}
-use Rattle.world_model.specs.World.{World, Site, site_key, site_at, with_site}
-use Rattle.port_views.specs.Link.{LinkLabel, other}
-use Rattle.shown_cells.specs.Seen.{IsUnmade}
-use Rattle.shown_cells.specs.Label.{OnLink, OnControl, ShowsCells}
-use Rattle.controller_views.specs.Ends.{way_to, End, Pieces, Net, Goes, idle, put_at}
-use Rattle.controller_views.proofs.Parts.{both}
+use Rattle.world_model.specs.Words.{NodeId, GivenOut, Cell, Frame, at, put, Controller, World, Site, site_key, site_at, with_site}
+use Rattle.controller_lifts.proofs.port_facts.Keyed.{by_eq, at_key}
+use Rattle.controller_lifts.specs.label_line.Cells.{Role, Downstream, Upstream}
+use Rattle.controller_lifts.specs.label_line.Line.{Line}
+use Rattle.controller_lifts.specs.port_views.Link.{LinkLabel, other}
+use Rattle.controller_lifts.specs.shown_cells.Seen.{IsUnmade}
+use Rattle.controller_lifts.specs.shown_cells.Label.{OnLink, OnControl, ShowsCells}
+use Rattle.controller_lifts.specs.controller_views.Ends.{way_to, End, Pieces, Net, Goes, idle, put_at}
+use Rattle.controller_lifts.proofs.controller_views.Parts.{both}
 use Rattle.world_views.specs.Shown.{pieces_of, WorldShows, WorldGoes, AreApart}
 use Rattle.world_views.proofs.Sites.{found_after, found_away, site_same}
 

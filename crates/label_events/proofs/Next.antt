@@ -1,34 +1,18 @@
 -- the network behind an event: the line of each label of each link follows
 
 use Rattle.std.proofs.Common.{◌≡◌, ℕ, ◌<◌, ◌+◌, List, ◌∷◌, None, Some}
-use Rattle.net_types.specs.declared.channel.End.{End}
-use Rattle.net_types.specs.declared.node.NodeId.{NodeId}
-use Rattle.net_types.specs.declared.node.Place.{Place}
-use Rattle.net_types.specs.declared.node.Place.TheVariants.{Down, Up, Out}
-use Rattle.atm_cells.specs.declared.cell.Cell.{Cell}
-use Rattle.link_model.specs.Ledger.{payload_of}
-use Rattle.crossbar_model.specs.Crossbar.{queue_of}
-use Rattle.world_model.specs.Switch.{control_port}
-use Rattle.world_model.specs.Conduct.{tick_comes, restarted}
-use Rattle.ipv4_forward.specs.declared.change.RouteChange.{RouteChange}
-use Rattle.label_line.specs.Cells.{Upstream}
-use Rattle.label_line.specs.Line.{Line}
-use Rattle.port_model.specs.Setup.{label_end}
-use Rattle.world_model.specs.Changes.{change_comes}
-use Rattle.world_model.specs.Resets.{node_restarts}
+use Rattle.world_model.specs.Words.{End, NodeId, Place, Down, Up, Out, Cell, payload_of, queue_of, control_port, tick_comes, restarted, RouteChange, label_end, change_comes, node_restarts, Topology, World, Site, site_at, place_node, queue_at, next, put_away, injects, carries_head, loses_head, output_at}
+use Rattle.controller_lifts.specs.label_line.Cells.{Upstream}
+use Rattle.controller_lifts.specs.label_line.Line.{Line}
 use Rattle.world_model.specs.Ticks.{ticks}
 use Rattle.world_model.specs.declared.event.Event.TheVariants.{Inject, Carry, Lose, Tick, TickSwitch, Restart, RestartSwitch, Route}
 use Rattle.world_model.specs.declared.link.LinkEnd.{LinkEnd}
-use Rattle.world_model.specs.Topology.{Topology, peer_of}
-use Rattle.world_model.specs.World.{World, Site, site_at, at_controller, at_switch}
-use Rattle.world_model.specs.Places.{place_node, queue_at}
-use Rattle.world_model.specs.Run.{next, put_away}
-use Rattle.world_model.specs.Step.{injects, carries_head, loses_head}
-use Rattle.world_model.specs.Ways.{output_at}
-use Rattle.port_views.specs.Link.{LinkLabel}
-use Rattle.controller_views.specs.Lifted.{IsProper}
-use Rattle.arrival_views.specs.Packets.{HasLabelGrants}
-use Rattle.controller_views.specs.Ready.{FitsLink}
+use Rattle.world_model.specs.Topology.{peer_of}
+use Rattle.world_model.specs.World.{at_controller, at_switch}
+use Rattle.controller_lifts.specs.port_views.Link.{LinkLabel}
+use Rattle.controller_lifts.specs.controller_views.Lifted.{IsProper}
+use Rattle.controller_lifts.specs.arrival_views.Packets.{HasLabelGrants}
+use Rattle.controller_lifts.specs.controller_views.Ready.{FitsLink}
 use Rattle.world_views.specs.Shown.{WorldShows, WorldGoes, AreApart}
 use Rattle.label_events.specs.Queues.{HasQueues, HasLowPorts, IsLinkPlace, LeadsOut, LeadsFromLinks, IsAcross}
 use Rattle.label_events.specs.Acts.{CanTick, Arrives}

@@ -1,33 +1,28 @@
 -- a controller restarts: its node is reset, and the chains of all default channels are cut
 
 use Rattle.std.proofs.Common.{◌≡◌, List, [], ◌∷◌, Option, None, Some, refl, sym, ◌∙◌, subst, arith, fold}
-use Rattle.net_types.specs.declared.node.PortNo.{PortNo}
-use Rattle.net_types.specs.declared.node.NodeId.{NodeId}
-use Rattle.atm_cells.specs.declared.cell.Cell.{Cell}
-use Rattle.link_model.specs.Notes.{Journal}
-use Rattle.frame_model.specs.Reassembly.{nothing_taken, cut}
-use Rattle.port_facts.proofs.Keyed.{by_eq, at_key}
-use Rattle.label_line.specs.Cells.{Role, Downstream, Upstream}
-use Rattle.label_line.specs.Line.{Line}
-use Rattle.world_model.specs.Controller.{Acted, Linked, port_key, linked_at, ports_of, with_linked}
-use Rattle.world_model.specs.Resets.{cuts_default_of, cuts_default, cuts_gsmp, node_resets, node_restarts}
-use Rattle.world_model.specs.World.{World, at_controller}
-use Rattle.port_views.specs.Link.{LinkLabel, other}
-use Rattle.shown_cells.specs.Seen.{nothing}
-use Rattle.shown_cells.specs.Label.{OnControl, ShowsCells}
-use Rattle.controller_views.specs.Ends.{way_to, Pieces, Net, Goes, EndLeads, asking, placed}
-use Rattle.controller_views.specs.Lifted.{IsProper, Growing}
-use Rattle.controller_views.specs.Queues.{awaited}
-use Rattle.controller_views.proofs.Carried.{Moved}
-use Rattle.controller_views.proofs.Parts.{net_goes, goes_on, goes_same, quiet_leads}
-use Rattle.controller_views.proofs.Works.{port_is, quiet_same, quiet_put, node_resets_leads}
-use Rattle.controller_views.proofs.Growing.{grow_self, grow_on, grow_fold, grow_same, node_resets_grow}
-use Rattle.arrival_views.proofs.Chains.{with_taken, moved_then, empties_all, retaken, noted_net, goes_here}
+use Rattle.world_model.specs.Words.{PortNo, NodeId, Cell, Journal, nothing_taken, cut, Linked, port_key, linked_at, with_linked, cuts_default_of, cuts_default, cuts_gsmp, node_resets, node_restarts, World}
+use Rattle.controller_lifts.proofs.port_facts.Keyed.{by_eq, at_key}
+use Rattle.controller_lifts.specs.label_line.Cells.{Role, Downstream, Upstream}
+use Rattle.controller_lifts.specs.label_line.Line.{Line}
+use Rattle.world_model.specs.Controller.{Acted, ports_of}
+use Rattle.world_model.specs.World.{at_controller}
+use Rattle.controller_lifts.specs.port_views.Link.{LinkLabel, other}
+use Rattle.controller_lifts.specs.shown_cells.Seen.{nothing}
+use Rattle.controller_lifts.specs.shown_cells.Label.{OnControl, ShowsCells}
+use Rattle.controller_lifts.specs.controller_views.Ends.{way_to, Pieces, Net, Goes, EndLeads, asking, placed}
+use Rattle.controller_lifts.specs.controller_views.Lifted.{IsProper, Growing}
+use Rattle.controller_lifts.specs.controller_views.Queues.{awaited}
+use Rattle.controller_lifts.proofs.controller_views.Carried.{Moved}
+use Rattle.controller_lifts.proofs.controller_views.Parts.{net_goes, goes_on, goes_same, quiet_leads}
+use Rattle.controller_lifts.proofs.controller_views.Works.{port_is, quiet_same, quiet_put, node_resets_leads}
+use Rattle.controller_lifts.proofs.controller_views.Growing.{grow_self, grow_on, grow_fold, grow_same, node_resets_grow}
+use Rattle.controller_lifts.proofs.arrival_views.Chains.{with_taken, moved_then, empties_all, retaken, noted_net, goes_here}
 use Rattle.controller_lifts.proofs.Follow.{on_fold}
 use Rattle.controller_lifts.proofs.Ways.{SameNode, node_followed}
 use Rattle.world_views.specs.Shown.{WorldShows, WorldGoes, AreApart, acting}
 use Rattle.world_views.proofs.Sites.{controller_goes_by}
-use Rattle.shown_cells.proofs.Tested.{cut_frames}
+use Rattle.controller_lifts.proofs.shown_cells.Tested.{cut_frames}
 
 -- the chain of a line's way is as it is
 taken_self : (role : Role) (line : Line) → Moved line (with_taken role (way_to role line).chain (way_to role line).to_controller line)

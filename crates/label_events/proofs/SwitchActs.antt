@@ -2,23 +2,21 @@
 
 use Rattle.std.proofs.Common.{◌≡◌, ◌<◌, Option, None, Some, refl, sym, ◌∙◌, subst, arith, length}
 use Rattle.std.specs.FinMap.{keys}
-use Rattle.net_types.specs.declared.node.NodeId.{NodeId}
-use Rattle.label_line.specs.Cells.{Role, Downstream, Upstream}
-use Rattle.label_line.specs.Line.{Line}
+use Rattle.world_model.specs.Words.{NodeId, Changed, all_ended, tick_comes, restarted, World, Site, site_at, with_site, switch_acts}
+use Rattle.controller_lifts.specs.label_line.Cells.{Role, Downstream, Upstream}
+use Rattle.controller_lifts.specs.label_line.Line.{Line}
 use Rattle.world_model.specs.Switch.{Acted}
-use Rattle.world_model.specs.Requests.{Changed, all_ended}
-use Rattle.world_model.specs.Conduct.{tick_comes, restarted}
-use Rattle.world_model.specs.World.{World, Site, site_at, with_site, switch_acts, at_switch}
-use Rattle.port_views.specs.Link.{LinkLabel, other}
-use Rattle.shown_cells.specs.Seen.{IsUnmade, Extends}
-use Rattle.shown_cells.specs.Label.{OnLink, OnControl, ShowsCells}
-use Rattle.shown_cells.proofs.Made.{shows_more}
-use Rattle.controller_views.specs.Ends.{way_to, Net, idle, put_at}
-use Rattle.controller_views.specs.Lifted.{IsProper}
-use Rattle.controller_views.proofs.Parts.{both, end_later}
+use Rattle.world_model.specs.World.{at_switch}
+use Rattle.controller_lifts.specs.port_views.Link.{LinkLabel, other}
+use Rattle.controller_lifts.specs.shown_cells.Seen.{IsUnmade, Extends}
+use Rattle.controller_lifts.specs.shown_cells.Label.{OnLink, OnControl, ShowsCells}
+use Rattle.controller_lifts.proofs.shown_cells.Made.{shows_more}
+use Rattle.controller_lifts.specs.controller_views.Ends.{way_to, Net, idle, put_at}
+use Rattle.controller_lifts.specs.controller_views.Lifted.{IsProper}
+use Rattle.controller_lifts.proofs.controller_views.Parts.{both, end_later}
 use Rattle.world_views.specs.Shown.{pieces_of, WorldShows, WorldGoes, AreApart}
 use Rattle.world_views.proofs.Sites.{goes_self}
-use Rattle.shown_cells.proofs.Tested.{cut_frames}
+use Rattle.controller_lifts.proofs.shown_cells.Tested.{cut_frames}
 use Rattle.label_events.specs.Queues.{HasQueues}
 use Rattle.label_events.proofs.Nets.{site_goes, away_goes, goes_still, by_node}
 use Rattle.label_events.proofs.Switches.{IsQuiet, IsMore, quiet_more, same, tick_quiet, all_frames}

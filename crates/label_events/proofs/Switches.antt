@@ -3,53 +3,37 @@
 
 use Rattle.std.proofs.Common.{◌≡◌, ℕ, ◌≤◌, ◌<◌, ◌+◌, List, [], ◌∷◌, ◌++◌, length, Option, None, Some, Result, Ok, Err, refl, sym, ◌∙◌, ap, subst, arith}
 use Rattle.std.specs.Prelude.{◌==◌, ◌&&◌, nat_le, nat_lt}
-use Rattle.net_types.specs.declared.channel.End.{End}
-use Rattle.net_types.specs.declared.number.Mark.{Mark}
-use Rattle.net_types.specs.declared.adjacency.Greeting.{Greeting}
-use Rattle.net_types.specs.declared.adjacency.Party.{Party}
-use Rattle.net_types.specs.Number.{next_control, with_control}
-use Rattle.adjacency_table.specs.declared.message.Answer.{Answer}
-use Rattle.adjacency_table.specs.declared.message.Answer.TheVariants.{Quiet, Send, Open, Reset}
-use Rattle.adjacency_table.specs.Side.{Step, is_estab, ticked}
-use Rattle.adjacency_table.specs.Greeting.{gsmp_answer, gsmp_received}
-use Rattle.atm_cells.specs.declared.cell.Cell.{Cell}
-use Rattle.gsmp_wire.specs.declared.fault.Fault.{Fault}
-use Rattle.gsmp_wire.specs.declared.message.Message.{Message}
-use Rattle.gsmp_wire.specs.declared.message.Message.TheVariants as messages
-use Rattle.gsmp_wire.specs.declared.request.Request.{Request}
-use Rattle.gsmp_wire.specs.declared.request.Request.TheVariants.{AddBranch, MoveBranch, DeleteTree, VerifyTree, DeleteAll, PortManagement, AllPorts}
-use Rattle.gsmp_wire.specs.Layout.{octets_of}
-use Rattle.gsmp_wire.specs.Fields.{decoded}
-use Rattle.link_model.specs.declared.frames.Frame.{Frame}
-use Rattle.link_model.specs.declared.record.Record.TheVariants.{Loss}
-use Rattle.link_model.specs.declared.record.Cause.TheVariants.{PoolFull}
-use Rattle.link_model.specs.Notes.{Journal, noted}
-use Rattle.frame_model.specs.Reassembly.{Taken, taken}
-use Rattle.frame_model.specs.Frame.{Tested, frame_cells, made, octets_of as cell_octets, payload_in, tested}
-use Rattle.frame_model.specs.Sending.{Sent}
-use Rattle.crossbar_model.specs.declared.branch.Branch.{Branch}
-use Rattle.crossbar_model.specs.Crossbar.{queue_of, cut_by_move}
-use Rattle.port_facts.proofs.Keyed.{on_both}
-use Rattle.label_line.specs.Cells as lines
-use Rattle.label_line.specs.Cells.{Role}
+use Rattle.world_model.specs.Words.{End, Mark, Greeting, Party, next_control, with_control, Answer, Quiet, Send, Open, Step, is_estab, ticked, gsmp_answer, gsmp_received, Cell, Request, AddBranch, MoveBranch, DeleteTree, VerifyTree, PortManagement, Frame, Loss, PoolFull, Journal, noted, Tested, frame_cells, made, payload_in, tested, queue_of, cut_by_move, Switch, control_port, gsmp_channel, Changed, asked_in, is_request, noted_cut, moved_by, ended_by, all_ended, inputs_on, branches_after, failure_of, Handled, handled_by, handled_asked, handled, reset, replied, requested, read, gsmp_cell, tick_comes}
+use Rattle.world_model.specs.adjacency_table.declared.message.Answer.TheVariants.{Reset}
+use Rattle.world_model.specs.gsmp_wire.declared.fault.Fault.{Fault}
+use Rattle.world_model.specs.gsmp_wire.declared.message.Message.{Message}
+use Rattle.world_model.specs.gsmp_wire.declared.message.Message.TheVariants as messages
+use Rattle.world_model.specs.gsmp_wire.declared.request.Request.TheVariants.{DeleteAll, AllPorts}
+use Rattle.world_model.specs.gsmp_wire.Layout.{octets_of}
+use Rattle.world_model.specs.gsmp_wire.Fields.{decoded}
+use Rattle.world_model.specs.frame_model.Reassembly.{Taken, taken}
+use Rattle.world_model.specs.frame_model.Frame.{octets_of as cell_octets}
+use Rattle.world_model.specs.frame_model.Sending.{Sent}
+use Rattle.world_model.specs.crossbar_model.declared.branch.Branch.{Branch}
+use Rattle.controller_lifts.proofs.port_facts.Keyed.{on_both}
+use Rattle.controller_lifts.specs.label_line.Cells as lines
+use Rattle.controller_lifts.specs.label_line.Cells.{Role}
 use Rattle.world_model.specs.declared.request.Asked.{Asked}
 use Rattle.world_model.specs.declared.request.Failure.{Failure}
-use Rattle.world_model.specs.Switch.{Switch, Acted, control_port, gsmp_channel, free_slots}
-use Rattle.world_model.specs.Requests.{Changed, asked_in, is_request, noted_cut, moved_by, ended_by, ended, all_ended, inputs_on, cleared, branches_after}
-use Rattle.world_model.specs.Failures.{failure_of}
-use Rattle.world_model.specs.Answers.{Handled, handled_by, handled_asked, handled}
-use Rattle.world_model.specs.Conduct.{with_cells, says, reset, answers, steps, replied, requested, told, read, opened_frame, ends_frame, gsmp_cell, tick_comes}
-use Rattle.port_views.specs.Link.{LinkLabel, other}
-use Rattle.shown_cells.specs.Seen.{IsUnmade, Extends}
-use Rattle.shown_cells.specs.Label.{OnControl}
-use Rattle.shown_cells.proofs.Shows.{shows_behind}
-use Rattle.shown_cells.proofs.Made.{extends_self, extends_on, extends_made, unmade_next, shows_more}
-use Rattle.shown_cells.proofs.Frames.{frame_elsewhere}
-use Rattle.shown_cells.proofs.Tested.{taken_frames, tested_frames}
-use Rattle.controller_views.specs.Lifted.{IsProper}
-use Rattle.controller_views.proofs.Sends.{gsmp_default, gsmp_label}
-use Rattle.controller_views.proofs.Works.{same_extends, same_unmade}
-use Rattle.arrival_views.proofs.Chains.{Came}
+use Rattle.world_model.specs.Switch.{Acted, free_slots}
+use Rattle.world_model.specs.Requests.{ended, cleared}
+use Rattle.world_model.specs.Conduct.{with_cells, says, answers, steps, told, opened_frame, ends_frame}
+use Rattle.controller_lifts.specs.port_views.Link.{LinkLabel, other}
+use Rattle.controller_lifts.specs.shown_cells.Seen.{IsUnmade, Extends}
+use Rattle.controller_lifts.specs.shown_cells.Label.{OnControl}
+use Rattle.controller_lifts.proofs.shown_cells.Shows.{shows_behind}
+use Rattle.controller_lifts.proofs.shown_cells.Made.{extends_self, extends_on, extends_made, unmade_next, shows_more}
+use Rattle.controller_lifts.proofs.shown_cells.Frames.{frame_elsewhere}
+use Rattle.controller_lifts.proofs.shown_cells.Tested.{taken_frames, tested_frames}
+use Rattle.controller_lifts.specs.controller_views.Lifted.{IsProper}
+use Rattle.controller_lifts.proofs.controller_views.Sends.{gsmp_default, gsmp_label}
+use Rattle.controller_lifts.proofs.controller_views.Works.{same_extends, same_unmade}
+use Rattle.controller_lifts.proofs.arrival_views.Chains.{Came}
 use Rattle.world_model.proofs.Lists.{index_set, index_here, length_set}
 
 -- *The notes* keep the frames that were made

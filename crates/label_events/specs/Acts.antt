@@ -2,16 +2,13 @@
 -- link follows it
 
 use Rattle.std.specs.Prelude.{◌≡◌, List}
-use Rattle.net_types.specs.declared.node.NodeId.{NodeId}
-use Rattle.atm_cells.specs.declared.cell.Cell.{Cell}
-use Rattle.label_line.specs.Cells.{Role}
-use Rattle.port_model.specs.Setup.{Setup}
+use Rattle.world_model.specs.Words.{NodeId, Cell, Setup, World, Site}
+use Rattle.controller_lifts.specs.label_line.Cells.{Role}
 use Rattle.world_model.specs.Cells.{cell_comes}
-use Rattle.port_views.specs.Link.{LinkLabel}
-use Rattle.controller_views.specs.Lifted.{Growing}
-use Rattle.arrival_views.specs.Cells.{CanArrive}
-use Rattle.controller_views.specs.Ready.{IsReady, FitsTick}
-use Rattle.world_model.specs.World.{World, Site}
+use Rattle.controller_lifts.specs.port_views.Link.{LinkLabel}
+use Rattle.controller_lifts.specs.controller_views.Lifted.{Growing}
+use Rattle.controller_lifts.specs.arrival_views.Cells.{CanArrive}
+use Rattle.controller_lifts.specs.controller_views.Ready.{IsReady, FitsTick}
 use Rattle.world_views.specs.Shown.{acting}
 
 -- *A tick*: the controller is ready, and the instances that the tick draws fit

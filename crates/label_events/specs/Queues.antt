@@ -2,21 +2,12 @@
 
 use Rattle.std.specs.Prelude.{◌≡◌, ◌≢◌, ℕ, ◌<◌, ◌≤◌, true, length, Some}
 use Rattle.std.specs.FinMap.{get}
-use Rattle.net_types.specs.declared.channel.End.{End}
-use Rattle.net_types.specs.declared.node.PortNo.{PortNo}
-use Rattle.net_types.specs.declared.node.Place.{Place}
-use Rattle.net_types.specs.declared.node.Place.TheVariants.{Down, Up, Out}
-use Rattle.net_types.specs.Channel.{channel_on_control}
-use Rattle.net_types.specs.Label.{is_label_number}
-use Rattle.atm_cells.specs.declared.cell.Cell.{Cell}
-use Rattle.crossbar_model.specs.declared.branch.Branch.{Branch}
-use Rattle.crossbar_model.specs.Crossbar.{input_of, output_of}
-use Rattle.world_model.specs.Switch.{control_port}
-use Rattle.port_model.specs.Setup.{home_of, label_end}
-use Rattle.label_line.specs.Cells.{Role}
+use Rattle.world_model.specs.Words.{End, PortNo, Place, Down, Up, Out, channel_on_control, is_label_number, Cell, control_port, home_of, label_end, Site}
+use Rattle.world_model.specs.crossbar_model.declared.branch.Branch.{Branch}
+use Rattle.world_model.specs.crossbar_model.Crossbar.{input_of, output_of}
+use Rattle.controller_lifts.specs.label_line.Cells.{Role}
 use Rattle.world_model.specs.declared.link.LinkEnd.{LinkEnd}
-use Rattle.world_model.specs.World.{Site}
-use Rattle.port_views.specs.Link.{LinkLabel, other}
+use Rattle.controller_lifts.specs.port_views.Link.{LinkLabel, other}
 use Rattle.world_views.specs.Shown.{end_of}
 
 -- a switch has a queue at each of the ports 0 to 8

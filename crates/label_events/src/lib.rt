@@ -6,29 +6,16 @@
 #![tactic(auto)]
 
 ghost use Rattle.std.specs.Prelude.{◌≡◌, ◌<◌, ◌∷◌, ◌+◌, ℕ, List, None, Some};
-ghost use Rattle.net_types.specs.declared.channel.End.{End};
-ghost use Rattle.net_types.specs.declared.node.NodeId.{NodeId};
-ghost use Rattle.net_types.specs.declared.node.Place.{Place};
-ghost use Rattle.net_types.specs.declared.node.Place.TheVariants.{Down, Up, Out};
-ghost use Rattle.atm_cells.specs.declared.cell.Cell.{Cell};
-ghost use Rattle.link_model.specs.Ledger.{payload_of};
-ghost use Rattle.crossbar_model.specs.Crossbar.{queue_of};
-ghost use Rattle.world_model.specs.Switch.{control_port};
-ghost use Rattle.ipv4_forward.specs.declared.change.RouteChange.{RouteChange};
-ghost use Rattle.label_line.specs.Cells.{Upstream};
-ghost use Rattle.label_line.specs.Line.{Line};
-ghost use Rattle.port_model.specs.Setup.{label_end};
+ghost use Rattle.world_model.specs.Words.{End, NodeId, Place, Down, Up, Out, Cell, payload_of, queue_of, control_port, RouteChange, label_end, Topology, World, Site, site_at, place_node, next, put_away, output_at};
+ghost use Rattle.controller_lifts.specs.label_line.Cells.{Upstream};
+ghost use Rattle.controller_lifts.specs.label_line.Line.{Line};
 ghost use Rattle.world_model.specs.declared.link.LinkEnd.{LinkEnd};
 ghost use Rattle.world_model.specs.declared.event.Event.TheVariants.{Inject, Carry, Lose, Tick, TickSwitch, Restart, RestartSwitch, Route};
-ghost use Rattle.world_model.specs.Topology.{Topology, peer_of};
-ghost use Rattle.world_model.specs.World.{World, Site, site_at};
-ghost use Rattle.world_model.specs.Places.{place_node};
-ghost use Rattle.world_model.specs.Run.{next, put_away};
-ghost use Rattle.world_model.specs.Ways.{output_at};
-ghost use Rattle.port_views.specs.Link.{LinkLabel};
-ghost use Rattle.controller_views.specs.Lifted.{IsProper};
-ghost use Rattle.arrival_views.specs.Packets.{HasLabelGrants};
-ghost use Rattle.controller_views.specs.Ready.{FitsLink};
+ghost use Rattle.world_model.specs.Topology.{peer_of};
+ghost use Rattle.controller_lifts.specs.port_views.Link.{LinkLabel};
+ghost use Rattle.controller_lifts.specs.controller_views.Lifted.{IsProper};
+ghost use Rattle.controller_lifts.specs.arrival_views.Packets.{HasLabelGrants};
+ghost use Rattle.controller_lifts.specs.controller_views.Ready.{FitsLink};
 ghost use Rattle.world_views.specs.Shown.{WorldShows, WorldGoes, AreApart};
 ghost use Rattle.label_events.specs.Queues.{HasQueues, HasLowPorts, IsLinkPlace, LeadsOut, LeadsFromLinks, IsAcross};
 ghost use Rattle.label_events.specs.Acts.{CanTick, Arrives};

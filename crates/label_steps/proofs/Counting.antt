@@ -3,33 +3,20 @@
 use Rattle.std.proofs.Common.{◌≡◌, ℕ, Bool, true, false, List, [], Option, None, Some, refl, sym, ◌∙◌, ap, subst, if◌then◌else◌}
 use Rattle.std.specs.Prelude.{◌&&◌, is_some, not}
 use Rattle.std.specs.Option.{option_map, option_map_or}
-use Rattle.net_types.specs.declared.channel.Channel.{Channel}
-use Rattle.net_types.specs.Label.{label_channel_of}
-use Rattle.adjacency_table.specs.declared.State.{State}
-use Rattle.adjacency_table.specs.declared.State.TheVariants.{Estab}
-use Rattle.adjacency_table.specs.Side.{is_estab}
-use Rattle.ipv4_packet.specs.declared.flow.FlowId.{FlowId}
-use Rattle.ipv4_packet.specs.Parts.{same_flow}
-use Rattle.gsmp_wire.specs.declared.request.Request.TheVariants.{AddBranch}
-use Rattle.ordered_lists.specs.Ordered.{InOrder}
-use Rattle.keyed_lists.specs.Keyed.{at}
-use Rattle.port_model.specs.Desk.{Desk}
-use Rattle.label_line.specs.Cells.{Role, Downstream, Upstream, Cell}
-use Rattle.label_line.specs.Line as lines
-use Rattle.label_line.specs.Line.{Line}
-use Rattle.label_line.specs.Downstream.{wire}
-use Rattle.label_line.specs.Moves.{Wire}
+use Rattle.port_model.specs.Words.{Channel, label_channel_of, State, Estab, is_estab, FlowId, same_flow, AddBranch, at, Desk, Setup, is_between, label_numbers, label_end, control_end, Label, Wiring, label_number, serves, is_spare, lowest_spare, label_for, counted_once, Session, Work, with_session, with_new_label, label_at, labels_of, packet_flow, wires, counts_in, used_label, counts_flow, counts_by, counts}
+use Rattle.port_views.specs.ordered_lists.Ordered.{InOrder}
+use Rattle.port_views.specs.label_line.Cells.{Role, Downstream, Upstream, Cell}
+use Rattle.port_views.specs.label_line.Line as lines
+use Rattle.port_views.specs.label_line.Line.{Line}
+use Rattle.port_views.specs.label_line.Downstream.{wire}
+use Rattle.port_views.specs.label_line.Moves.{Wire}
 use Rattle.port_model.specs.declared.action.Action.{Action}
 use Rattle.port_model.specs.declared.action.Action.TheVariants.{Ask}
-use Rattle.port_model.specs.Setup.{Setup, is_between, label_numbers, label_end, control_end}
-use Rattle.port_model.specs.Labels.{Label, Wiring, label_number, serves, is_spare, lowest_spare, label_for}
-use Rattle.port_model.specs.Counts.{counted_once}
-use Rattle.port_model.specs.Port.{Session, Work, acts, with_session, with_new_label, label_at, labels_of}
-use Rattle.port_model.specs.Counting.{packet_flow, wires, counts_in, used_label, counts_flow, counts_by, counts}
-use Rattle.port_facts.specs.Port.{IsBefore}
-use Rattle.port_facts.proofs.Keyed.{by_eq, find_at}
-use Rattle.port_facts.proofs.Found.{find_passes}
-use Rattle.port_facts.proofs.Rules.{and_second}
+use Rattle.port_model.specs.Port.{acts}
+use Rattle.port_views.specs.port_facts.Port.{IsBefore}
+use Rattle.port_views.proofs.port_facts.Keyed.{by_eq, find_at}
+use Rattle.port_views.proofs.port_facts.Found.{find_passes}
+use Rattle.port_views.proofs.port_facts.Rules.{and_second}
 use Rattle.port_views.specs.Link.{LinkLabel}
 use Rattle.port_views.specs.Flows.{flow_number}
 use Rattle.port_views.specs.Shown.{label_of}

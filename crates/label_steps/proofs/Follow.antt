@@ -3,12 +3,10 @@
 use Rattle.std.proofs.Common.{◌≡◌, ℕ, Bool, true, false, List, Option, None, Some, refl, sym, ◌∙◌, ap, subst, if◌then◌else◌}
 use Rattle.std.specs.Prelude.{nat_lt}
 use Rattle.std.specs.Option.{option_map}
-use Rattle.port_facts.proofs.Keyed.{on_both, on_each}
-use Rattle.label_line.specs.Cells.{Role, Cell}
-use Rattle.label_line.specs.Line.{Line}
-use Rattle.port_model.specs.Labels.{Label}
-use Rattle.port_model.specs.Port.{Session, Work, halts, with_session, with_label}
-use Rattle.port_model.specs.Saying.{closes, is_spent, last_number}
+use Rattle.port_views.proofs.port_facts.Keyed.{on_both, on_each}
+use Rattle.port_views.specs.label_line.Cells.{Role, Cell}
+use Rattle.port_views.specs.label_line.Line.{Line}
+use Rattle.port_model.specs.Words.{Label, Session, Work, halts, with_session, with_label, closes, is_spent, last_number}
 use Rattle.port_views.specs.Link.{LinkLabel}
 use Rattle.port_views.specs.Shown.{Shown}
 use Rattle.port_views.specs.Reaching.{Leads}

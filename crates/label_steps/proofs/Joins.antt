@@ -3,25 +3,19 @@
 use Rattle.std.proofs.Common.{◌≡◌, ◌≢◌, ℕ, ◌≤◌, Bool, true, false, List, Option, None, Some, refl, sym, ◌∙◌, ap, subst, arith, if◌then◌else◌}
 use Rattle.std.specs.Prelude.{◌+◌, nat_lt, nat_le}
 use Rattle.std.proofs.lemmas.Bool.Decides.{nat_tests}
-use Rattle.net_types.specs.declared.number.Instance.{Instance}
-use Rattle.net_types.specs.declared.channel.End.{End}
-use Rattle.net_types.specs.Label.{label_channel_of, is_label_number}
-use Rattle.adjacency_table.specs.declared.State.TheVariants.{Estab}
-use Rattle.port_facts.proofs.Keyed.{on_each, by_eq}
-use Rattle.keyed_lists.specs.Keyed.{at, put, without}
-use Rattle.label_line.specs.Cells as lines
-use Rattle.label_line.specs.Cells.{Role, Downstream, Upstream, Cell, frame}
-use Rattle.label_line.specs.Line as states
-use Rattle.label_line.specs.Line.{Line}
-use Rattle.label_line.specs.Downstream.{sends_numbered}
-use Rattle.label_line.specs.Upstream as up
-use Rattle.label_line.specs.Moves.{SendOther, Lend, Release}
+use Rattle.port_model.specs.Words.{Instance, End, label_channel_of, is_label_number, Estab, at, put, without, Label, Grant, GrantState, Idle, ByController, ByInput, Leaving, grant_label, Session, Work, with_grant, without_grant, label_at, Unnumbered, last_number, spent_number, own_of, tells_in, tells, closes, reclaim_ack, joins_label, parted, lent, given_back_in, given_back}
+use Rattle.port_views.proofs.port_facts.Keyed.{on_each, by_eq}
+use Rattle.port_views.specs.label_line.Cells as lines
+use Rattle.port_views.specs.label_line.Cells.{Role, Downstream, Upstream, Cell, frame}
+use Rattle.port_views.specs.label_line.Line as states
+use Rattle.port_views.specs.label_line.Line.{Line}
+use Rattle.port_views.specs.label_line.Downstream.{sends_numbered}
+use Rattle.port_views.specs.label_line.Upstream as up
+use Rattle.port_views.specs.label_line.Moves.{SendOther, Lend, Release}
 use Rattle.port_model.specs.declared.action.Action.TheVariants.{Say}
-use Rattle.port_model.specs.Labels.{Label}
-use Rattle.port_model.specs.Grants.{Grant, GrantState, Idle, ByController, ByInput, Leaving, grant_label}
-use Rattle.port_model.specs.Port.{Session, Work, acts, with_grant, without_grant, label_at}
-use Rattle.port_model.specs.Saying.{Unnumbered, last_number, spent_number, own_of, peer_of, numbered, tells_in, tells, closes, reclaim_ack}
-use Rattle.port_model.specs.Joins.{joins_label, joined, parted, lent, ended, given_back_in, given_back}
+use Rattle.port_model.specs.Port.{acts}
+use Rattle.port_model.specs.Saying.{peer_of, numbered}
+use Rattle.port_model.specs.Joins.{joined, ended}
 use Rattle.port_views.specs.Link.{LinkLabel}
 use Rattle.port_views.specs.Flows.{flow_number}
 use Rattle.port_views.specs.Heard.{heard_by, IsSaid}

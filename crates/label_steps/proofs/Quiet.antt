@@ -3,12 +3,10 @@
 use Rattle.std.proofs.Common.{◌≡◌, List, [], Option, None, Some, refl, sym, ◌∙◌, ap}
 use Rattle.std.specs.Prelude.{is_some}
 use Rattle.std.specs.Option.{option_map, option_map_or}
-use Rattle.port_facts.proofs.Keyed.{on_both}
-use Rattle.keyed_lists.specs.Keyed.{at}
-use Rattle.label_line.specs.Cells.{Role, Downstream, Upstream, Cell}
-use Rattle.label_line.specs.Line.{Line}
-use Rattle.port_model.specs.Labels.{label_number}
-use Rattle.port_model.specs.Port.{Session, Work, with_session, label_at}
+use Rattle.port_views.proofs.port_facts.Keyed.{on_both}
+use Rattle.port_model.specs.Words.{at, label_number, Session, Work, with_session, label_at}
+use Rattle.port_views.specs.label_line.Cells.{Role, Downstream, Upstream, Cell}
+use Rattle.port_views.specs.label_line.Line.{Line}
 use Rattle.port_views.specs.Link.{LinkLabel}
 use Rattle.port_views.specs.Shown.{label_of, flow_of, Shown}
 use Rattle.label_steps.specs.Follows.{Follows}

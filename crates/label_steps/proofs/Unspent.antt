@@ -3,34 +3,19 @@
 
 use Rattle.std.proofs.Common.{ℕ, true, false, List, [], ◌∷◌, ◌++◌, Option, None, Some, refl, map}
 use Rattle.std.specs.Prelude.{max, nat_lt, ◌==◌}
-use Rattle.net_types.specs.declared.prefix.Addr.{Addr}
-use Rattle.net_types.specs.declared.adjacency.Hello.{Hello}
-use Rattle.net_types.specs.declared.channel.Channel.{Channel}
-use Rattle.net_types.specs.Label.{label_number_of, number_of_channel}
-use Rattle.adjacency_table.specs.Hello.{ifmp_received, heard_from}
-use Rattle.ipv4_packet.specs.declared.flow.FlowId.{FlowId}
-use Rattle.ipv4_packet.specs.Parts.{same_flow}
-use Rattle.gsmp_wire.specs.declared.request.Request.{Request}
-use Rattle.gsmp_wire.specs.declared.request.Request.TheVariants.{AddBranch, MoveBranch, DeleteTree, VerifyTree, DeleteAll, PortManagement, AllPorts}
-use Rattle.link_model.specs.declared.record.Record.TheVariants.{Bind, Free, Join}
-use Rattle.ifmp_wire.specs.declared.message.Message.{Message}
-use Rattle.ifmp_wire.specs.declared.message.Message.TheVariants.{Adjacency, Redirect, Reclaim, ReclaimAck, LabelRange, Error}
-use Rattle.port_model.specs.Desk.{Desk}
-use Rattle.keyed_lists.specs.Keyed.{put}
-use Rattle.port_facts.proofs.Keyed.{on_both}
+use Rattle.port_model.specs.Words.{Addr, Hello, Channel, label_number_of, number_of_channel, ifmp_received, heard_from, FlowId, same_flow, Request, AddBranch, MoveBranch, DeleteTree, VerifyTree, PortManagement, Bind, Free, Redirect, Reclaim, ReclaimAck, LabelRange, Error, Desk, put, Setup, label_end, Label, LabelState, Wiring, Offered, Recalled, Wired, label_number, Grant, GrantState, Idle, ByController, ByInput, Leaving, Acceptance, New, Refreshed, IsLeaving, GrantsFull, acceptance, grant_on, grant_label, Work, with_session, with_label, without_label, with_grants, with_grant, without_grant, label_at, labels_of, known_of, has_room, redirect, reclaim_ack, label_range, error, quits_label, quits_in, quits_found, quits, is_good, learns, takes, expects, accepts, grants_label, recalls_offered, reclaimed_in, reclaimed, acknowledged_in, acknowledged, narrowed, recalls_outside, ranged, error_comes, label_by, hears, used_label, used, bound_in, bound, freed_in, freed, started_in, started, resets, restarts}
+use Rattle.port_model.specs.gsmp_wire.declared.request.Request.TheVariants.{DeleteAll, AllPorts}
+use Rattle.port_model.specs.link_model.declared.record.Record.TheVariants.{Join}
+use Rattle.port_model.specs.ifmp_wire.declared.message.Message.{Message}
+use Rattle.port_model.specs.ifmp_wire.declared.message.Message.TheVariants.{Adjacency}
+use Rattle.port_views.proofs.port_facts.Keyed.{on_both}
 use Rattle.port_model.specs.declared.action.Action.TheVariants.{CutChain, Note, TakeBack}
-use Rattle.port_model.specs.Setup.{Setup, label_end}
-use Rattle.port_model.specs.Labels.{Label, LabelState, Wiring, Offered, Recalled, Wired, label_number}
-use Rattle.port_model.specs.Grants.{Grant, GrantState, Idle, ByController, ByInput, Leaving, Acceptance, New, Refreshed, OutOfRange, Taken, IsLeaving, GrantsFull, acceptance, grant_on, grant_label}
-use Rattle.port_model.specs.Port.{Work, acts, with_session, with_label, without_label, with_grants, with_grant, without_grant, label_at, labels_of, known_of, has_room}
-use Rattle.port_model.specs.Saying.{says, redirect, reclaim_ack, label_range, error}
-use Rattle.port_model.specs.Adjacency.{steps, quits_label, quits_in, quits_found, quits, is_good, learns, greeted}
-use Rattle.port_model.specs.Redirection.{takes, expects, accepts, grants_label, redirected}
-use Rattle.port_model.specs.Reclaiming.{recalls_offered, reclaimed_in, reclaimed, acknowledged_in, acknowledged, narrowed, recalls_outside, ranged, error_comes}
-use Rattle.port_model.specs.Hearing.{label_by, hears}
-use Rattle.port_model.specs.Counting.{used_label, used}
-use Rattle.port_model.specs.Answers.{bound_in, bound, freed_in, freed, started_in, started, done}
-use Rattle.port_model.specs.Resets.{resets, restarts}
+use Rattle.port_model.specs.Grants.{OutOfRange, Taken}
+use Rattle.port_model.specs.Port.{acts}
+use Rattle.port_model.specs.Saying.{says}
+use Rattle.port_model.specs.Adjacency.{steps, greeted}
+use Rattle.port_model.specs.Redirection.{redirected}
+use Rattle.port_model.specs.Answers.{done}
 use Rattle.port_views.proofs.Recalling.{room_acts, room_session, room_grants, room_says, room_expects}
 use Rattle.port_views.proofs.Recalls.{room_recalls, room_outside}
 use Rattle.port_views.proofs.Ticking.{room_steps}

@@ -1,9 +1,8 @@
 -- That a rule of a port is moves of a label's line, and leaves the numbers of the port unspent
 
 use Rattle.std.specs.Prelude.{◌≡◌, false, List}
-use Rattle.label_line.specs.Cells.{Role, Cell}
-use Rattle.port_model.specs.Port.{Work}
-use Rattle.port_model.specs.Saying.{is_spent}
+use Rattle.port_views.specs.label_line.Cells.{Role, Cell}
+use Rattle.port_model.specs.Words.{Work, is_spent}
 use Rattle.port_views.specs.Link.{LinkLabel}
 use Rattle.port_views.specs.Reaching.{Leads}
 

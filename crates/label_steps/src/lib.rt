@@ -7,27 +7,15 @@
 #![tactic(auto)]
 
 ghost use Rattle.std.specs.Prelude.{◌≡◌, List, Some, false, true, ℕ};
-ghost use Rattle.net_types.specs.declared.channel.End.{End};
-ghost use Rattle.net_types.specs.declared.prefix.Addr.{Addr};
-ghost use Rattle.ifmp_wire.specs.declared.message.Message.{Message};
-ghost use Rattle.net_types.specs.Label.{is_label_number};
-ghost use Rattle.gsmp_wire.specs.declared.request.Request.{Request};
-ghost use Rattle.ordered_lists.specs.Ordered.{InOrder};
-ghost use Rattle.keyed_lists.specs.Keyed.{at};
-ghost use Rattle.port_model.specs.Desk.{Desk};
-ghost use Rattle.port_model.specs.Setup.{Setup};
-ghost use Rattle.port_model.specs.Grants.{Grant, ByController, grant_label};
-ghost use Rattle.port_model.specs.Port.{Work, labels_of};
-ghost use Rattle.port_model.specs.Counting.{counts, used};
+ghost use Rattle.port_model.specs.Words.{End, Addr, is_label_number, Request, at, Desk, Setup, Grant, ByController, grant_label, Work, labels_of, counts, used, parted, lent, given_back, closes, hears, resets, restarts};
+ghost use Rattle.port_model.specs.ifmp_wire.declared.message.Message.{Message};
+ghost use Rattle.port_views.specs.ordered_lists.Ordered.{InOrder};
 ghost use Rattle.port_model.specs.Answers.{done};
 ghost use Rattle.port_model.specs.Ticks.{ticks};
-ghost use Rattle.port_model.specs.Joins.{joined, parted, lent, given_back};
-ghost use Rattle.port_model.specs.Saying.{closes};
-ghost use Rattle.port_model.specs.Hearing.{hears};
-ghost use Rattle.port_model.specs.Resets.{resets, restarts};
-ghost use Rattle.port_facts.specs.Port.{IsBefore};
-ghost use Rattle.label_line.specs.Cells.{Role, Upstream, Cell};
-ghost use Rattle.label_line.specs.Line.{Line};
+ghost use Rattle.port_model.specs.Joins.{joined};
+ghost use Rattle.port_views.specs.port_facts.Port.{IsBefore};
+ghost use Rattle.port_views.specs.label_line.Cells.{Role, Upstream, Cell};
+ghost use Rattle.port_views.specs.label_line.Line.{Line};
 ghost use Rattle.port_views.specs.Link.{LinkLabel};
 ghost use Rattle.port_views.specs.Shown.{Shown};
 ghost use Rattle.port_views.specs.Reaching.{Reaches, Leads};

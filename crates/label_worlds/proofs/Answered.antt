@@ -5,55 +5,39 @@ use Rattle.std.proofs.Common.{◌≡◌, ℕ, suc, ◌≤◌, ◌<◌, ◌+◌, 
 use Rattle.std.specs.Prelude.{◌^◌, ◌==◌, ◌&&◌}
 use Rattle.std.specs.Option.{option_and_then}
 use Rattle.std.proofs.lemmas.Bool.Decides.{nat_tests}
-use Rattle.net_types.specs.declared.node.PortNo.{PortNo}
-use Rattle.net_types.specs.declared.channel.End.{End}
-use Rattle.adjacency_table.specs.declared.State.TheVariants.{Clearing}
-use Rattle.adjacency_table.specs.Side.{is_estab}
-use Rattle.adjacency_table.specs.Greeting.{gsmp_received}
-use Rattle.gsmp_wire.specs.declared.fault.Fault.{Fault}
-use Rattle.gsmp_wire.specs.declared.message.Message.{Message}
-use Rattle.gsmp_wire.specs.declared.message.Message.TheVariants as messages
-use Rattle.gsmp_wire.specs.declared.request.Request.{Request}
-use Rattle.gsmp_wire.specs.declared.request.Request.TheVariants.{AddBranch, MoveBranch, DeleteTree, VerifyTree, DeleteAll, PortManagement, AllPorts}
-use Rattle.link_model.specs.declared.record.Record.TheVariants.{Bad}
-use Rattle.link_model.specs.declared.record.Layer.TheVariants.{Gsmp}
-use Rattle.refusal_names.specs.Names.{gsmp_refusal}
-use Rattle.keyed_lists.specs.Keyed.{at}
-use Rattle.port_model.specs.Messages.{is_up}
-use Rattle.port_model.specs.Desk.{Desk, Standing}
-use Rattle.port_model.specs.DeskAnswers.{Answered, Unknown, Done, Ports, Failed, answered, after_answer}
-use Rattle.port_facts.proofs.Keyed.{on_both, on_each, by_eq, at_key}
-use Rattle.port_facts.proofs.Rules.{and_first, and_second}
-use Rattle.label_line.specs.Cells.{Role}
-use Rattle.port_views.specs.Link.{LinkLabel}
-use Rattle.port_views.specs.Reaching.{Reaches}
-use Rattle.port_views.proofs.Resets.{clears_reach}
-use Rattle.port_model.specs.Setup.{Setup}
-use Rattle.port_model.specs.Grants.{Grant}
-use Rattle.port_model.specs.Answers as port_answers
-use Rattle.port_model.specs.Resets.{cleared}
-use Rattle.world_model.specs.Controller.{Controller, Acted, Linked, port_key, linked_at, ports_of, with_linked, with_desk, default_end, default_home}
-use Rattle.world_model.specs.Resets.{begins, node_resets}
-use Rattle.world_model.specs.Asking.{asks}
-use Rattle.world_model.specs.Meeting.{ends_meeting, is_deleting, has_emptied, port_of_input, tells_port, behind_delete_all, causes_in_estab, causes, is_clearing, awaits_nothing, may_clear, clears_of, clears_port, clears, done, takes_answer, answer_comes}
-use Rattle.world_model.specs.Joins.{releases}
-use Rattle.world_model.specs.Gsmp.{told, gsmp_holds}
-use Rattle.controller_facts.proofs.Moves.{HasPorts, moves_to, answering}
-use Rattle.controller_facts.proofs.Laws.{has_ports}
-use Rattle.controller_law.specs.Match.{lent_in, lent_at}
-use Rattle.controller_law.proofs.Pairing.{clearing_of}
-use Rattle.controller_views.specs.Ends.{EndGoes}
-use Rattle.controller_views.specs.Lifted.{IsProper}
-use Rattle.controller_views.proofs.Parts.{kept_chain, end_stays, end_then, quiet_leads}
-use Rattle.controller_views.proofs.Works.{linked_is, own_put, own_grows, quiet_put, quiet_same, quiet_note, node_resets_leads}
-use Rattle.controller_views.proofs.AtPort.{at_port_leads}
-use Rattle.controller_views.specs.Ready.{IsReady, FitsLink}
-use Rattle.controller_lifts.proofs.Lifts.{done_lifted}
-use Rattle.controller_lifts.proofs.Kept.{same_ports}
-use Rattle.controller_lifts.proofs.Unspent.{Unspent, unspent_closed}
-use Rattle.controller_lifts.proofs.Ready.{Fits, fits_closed, Readies, moves_ready}
-use Rattle.controller_lifts.proofs.Follow.{steps_follow, empties_follow, behind_follow, changes_follow}
-use Rattle.controller_lifts.proofs.Ways.{leads_followed}
+use Rattle.world_model.specs.Words.{PortNo, End, Clearing, is_estab, gsmp_received, Request, AddBranch, MoveBranch, DeleteTree, VerifyTree, PortManagement, Bad, Gsmp, gsmp_refusal, at, Desk, Standing, Answered, Unknown, Done, Ports, Failed, answered, after_answer, Setup, Grant, Controller, Linked, port_key, linked_at, with_linked, with_desk, default_end, default_home, begins, node_resets, asks, ends_meeting, is_deleting, has_emptied, port_of_input, tells_port, behind_delete_all, causes_in_estab, causes, is_clearing, awaits_nothing, may_clear, clears_of, clears_port, clears, takes_answer, answer_comes, releases, gsmp_holds}
+use Rattle.world_model.specs.gsmp_wire.declared.fault.Fault.{Fault}
+use Rattle.world_model.specs.gsmp_wire.declared.message.Message.{Message}
+use Rattle.world_model.specs.gsmp_wire.declared.message.Message.TheVariants as messages
+use Rattle.world_model.specs.gsmp_wire.declared.request.Request.TheVariants.{DeleteAll, AllPorts}
+use Rattle.world_model.specs.port_model.Messages.{is_up}
+use Rattle.label_events.proofs.port_facts.Keyed.{on_both, on_each, by_eq, at_key}
+use Rattle.label_events.proofs.port_facts.Rules.{and_first, and_second}
+use Rattle.label_events.specs.label_line.Cells.{Role}
+use Rattle.label_events.specs.port_views.Link.{LinkLabel}
+use Rattle.label_events.specs.port_views.Reaching.{Reaches}
+use Rattle.label_events.proofs.port_views.Resets.{clears_reach}
+use Rattle.world_model.specs.port_model.Answers as port_answers
+use Rattle.world_model.specs.port_model.Resets.{cleared}
+use Rattle.world_model.specs.Controller.{Acted, ports_of}
+use Rattle.world_model.specs.Meeting.{done}
+use Rattle.world_model.specs.Gsmp.{told}
+use Rattle.label_events.proofs.controller_facts.Moves.{HasPorts, moves_to, answering}
+use Rattle.label_events.proofs.controller_facts.Laws.{has_ports}
+use Rattle.run_facts.specs.controller_law.Match.{lent_in, lent_at}
+use Rattle.run_facts.proofs.controller_law.Pairing.{clearing_of}
+use Rattle.label_events.specs.controller_views.Ends.{EndGoes}
+use Rattle.label_events.specs.controller_views.Lifted.{IsProper}
+use Rattle.label_events.proofs.controller_views.Parts.{kept_chain, end_stays, end_then, quiet_leads}
+use Rattle.label_events.proofs.controller_views.Works.{linked_is, own_put, own_grows, quiet_put, quiet_same, quiet_note, node_resets_leads}
+use Rattle.label_events.proofs.controller_views.AtPort.{at_port_leads}
+use Rattle.label_events.specs.controller_views.Ready.{IsReady, FitsLink}
+use Rattle.label_events.proofs.controller_lifts.Lifts.{done_lifted}
+use Rattle.label_events.proofs.controller_lifts.Kept.{same_ports}
+use Rattle.label_events.proofs.controller_lifts.Unspent.{Unspent, unspent_closed}
+use Rattle.label_events.proofs.controller_lifts.Ready.{Fits, fits_closed, Readies, moves_ready}
+use Rattle.label_events.proofs.controller_lifts.Follow.{steps_follow, empties_follow, behind_follow, changes_follow}
+use Rattle.label_events.proofs.controller_lifts.Ways.{leads_followed}
 use Rattle.lasting_joins.proofs.Lent.{Keeps, asks_keep, tells_keep, clears_keep}
 use Rattle.lasting_joins.proofs.Unmet.{unmet_desk}
 use Rattle.label_worlds.proofs.Released.{To, Unled, Lends, Tied, tied_on, Kept, AreReleased, releases_lead}

@@ -5,92 +5,59 @@ use Rattle.std.specs.Prelude.{◌^◌, ◌==◌, drop}
 use Rattle.std.proofs.lemmas.Bool.Decides.{nat_tests}
 use Rattle.std.specs.Option.{option_and_then}
 use Rattle.std.proofs.lemmas.List.{length-map}
-use Rattle.net_types.specs.declared.node.NodeId.{NodeId}
-use Rattle.net_types.specs.declared.node.PortNo.{PortNo}
-use Rattle.net_types.specs.declared.node.Place.TheVariants.{Up}
-use Rattle.net_types.specs.declared.channel.Channel.{Channel}
-use Rattle.net_types.specs.declared.number.Mark.{Mark}
-use Rattle.net_types.specs.declared.prefix.Addr.{Addr}
-use Rattle.net_types.specs.Label.{label_number_of, is_label_number}
-use Rattle.net_types.proofs.Labels.{number_of_channel-label_channel_of}
-use Rattle.atm_cells.specs.declared.cell.Cell.{Cell}
-use Rattle.ipv4_packet.specs.Packet.{protocol_of, source_of, first_fault}
-use Rattle.ipv4_packet.specs.declared.validate.PacketFault.{PacketFault}
-use Rattle.flow_encaps.specs.declared.default.EncapsFault.{EncapsFault}
-use Rattle.flow_encaps.specs.Unwrapped.{default_unwrapped, unwrapped}
-use Rattle.ifmp_wire.specs.declared.message.Message.{Message as IfmpMessage}
-use Rattle.ifmp_wire.specs.declared.reader.Fault.{Fault as IfmpFault}
-use Rattle.ifmp_wire.specs.Fields.{decoded as ifmp_decoded}
-use Rattle.gsmp_wire.specs.declared.fault.Fault.{Fault as GsmpFault}
-use Rattle.gsmp_wire.specs.declared.message.Message.{Message as GsmpMessage}
-use Rattle.gsmp_wire.specs.Fields.{decoded as gsmp_decoded}
-use Rattle.link_model.specs.declared.frames.Frame.{Frame}
-use Rattle.link_model.specs.declared.record.Record.{Record}
-use Rattle.link_model.specs.declared.record.Record.TheVariants.{Bad}
-use Rattle.link_model.specs.declared.record.Layer.TheVariants.{Encaps, Packet, Ifmp}
-use Rattle.refusal_names.specs.Names.{encaps_refusal, packet_refusal, ifmp_refusal}
-use Rattle.link_model.specs.Ledger.{payload_of}
-use Rattle.ordered_lists.specs.Ordered.{Every}
-use Rattle.keyed_lists.specs.Keyed.{at, put}
-use Rattle.port_model.specs.Desk.{Standing}
-use Rattle.crossbar_model.specs.Crossbar.{queue_of}
-use Rattle.world_model.specs.Switch.{control_port}
-use Rattle.port_facts.specs.Port.{IsPort, IsGrant}
-use Rattle.port_facts.proofs.Keyed.{on_each, at_key, at_every, at_put_same}
-use Rattle.port_facts.proofs.Rules.{and_first}
-use Rattle.port_facts.proofs.Hearings.{hears_goes}
-use Rattle.port_facts.proofs.Instances.{goes_gave}
-use Rattle.label_line.specs.Cells.{Role, Downstream, Upstream}
-use Rattle.label_line.specs.Line.{Line}
-use Rattle.port_model.specs.Setup.{Setup}
-use Rattle.port_model.specs.Labels.{Label}
-use Rattle.port_model.specs.Port.{label_at}
-use Rattle.port_model.specs.Grants as grants
-use Rattle.port_model.specs.Grants.{Grant}
-use Rattle.port_model.specs.Counting.{counts, used}
-use Rattle.port_model.specs.Hearing.{hears}
-use Rattle.world_model.specs.Controller.{Controller, Acted, Linked, port_key, linked_at, with_linked, note, chains_with, default_channel}
-use Rattle.world_model.specs.Resets.{begins}
-use Rattle.world_model.specs.Packets.{routes, control_protocol}
-use Rattle.world_model.specs.Gsmp.{gsmp_holds}
-use Rattle.world_model.specs.Cells.{Taker, ForGsmp, ForDefault, ForLabel, port_on, on_link, same_channel, label_taker, taker_at, taker_of, reassembly_of, label_holds, ifmp_holds, counted_at, packet_holds, default_holds, frame_holds, cell_comes}
-use Rattle.controller_facts.specs.Sound.{IsSound, linked_setup}
-use Rattle.controller_facts.proofs.Moves.{gathering, chaining, moves_to, found_at_own}
-use Rattle.controller_facts.proofs.Laws.{has_ports}
-use Rattle.controller_facts.proofs.Lifetimes.{decoded_lives}
-use Rattle.controller_facts.proofs.Drawn.{routes_calm}
-use Rattle.controller_bindings.specs.Bindings.{HasBoundLabels}
-use Rattle.controller_law.specs.Match.{lent_in, lent_at}
-use Rattle.port_views.specs.Link.{LinkLabel}
-use Rattle.shown_cells.specs.Label.{OnControl, channel_at}
-use Rattle.shown_cells.proofs.Frames.{same_is}
-use Rattle.controller_views.specs.Ends as views
-use Rattle.controller_views.specs.Ends.{EndGoes, EndLeads}
-use Rattle.controller_views.specs.Lifted.{IsProper, IsLifted, Growing}
-use Rattle.controller_views.proofs.Parts.{end_then, quiet_leads}
-use Rattle.controller_views.proofs.Works.{port_is, quiet_note}
-use Rattle.controller_views.proofs.AtPort.{at_port_leads}
-use Rattle.arrival_views.specs.Packets.{IsFree, of_control, of_packet, IsPlain, HasLabelGrants}
-use Rattle.arrival_views.specs.Cells.{PassesByRight, EndsFrame, IsDefault, unchained, ended_at, CanCome, ended_by}
-use Rattle.arrival_views.proofs.Routes.{routes_lead}
-use Rattle.arrival_views.proofs.Others.{default_on_link, port_of_default}
-use Rattle.controller_views.specs.Ready.{IsReady, FitsLink}
-use Rattle.controller_lifts.proofs.Lifts.{can_hear, counts_lifted, used_lifted}
-use Rattle.controller_lifts.proofs.Kept.{same_ports, put_goes}
-use Rattle.controller_lifts.proofs.Unspent.{Unspent, unspent_closed}
-use Rattle.controller_lifts.proofs.Ready.{Fits, fits_closed, Readies, moves_ready}
-use Rattle.controller_lifts.proofs.Holding.{routes_ready}
-use Rattle.world_model.specs.Conditions.{IsPlace}
-use Rattle.world_model.specs.World.{Site, site_at}
-use Rattle.world_model.specs.Ways.{gsmp_of, gsmp_under, told}
-use Rattle.world_model.specs.Past.{Past}
-use Rattle.world_model.specs.Run.{put_away}
-use Rattle.world_views.specs.Made.{IsFit}
-use Rattle.world_views.specs.Ready.{setups_of}
-use Rattle.world_views.specs.Shown.{acting}
-use Rattle.world_views.specs.Between.{IsWorld}
-use Rattle.frame_readings.proofs.Packets.{is_forwarded}
-use Rattle.frame_readings.specs.Reading.{IsForwarded}
+use Rattle.world_model.specs.Words.{NodeId, PortNo, Up, Channel, Mark, Addr, label_number_of, is_label_number, Cell, protocol_of, source_of, PacketFault, EncapsFault, default_unwrapped, unwrapped, Frame, Record, Bad, Encaps, Packet, Ifmp, encaps_refusal, packet_refusal, ifmp_refusal, payload_of, at, put, Standing, queue_of, control_port, Setup, Label, label_at, Grant, counts, used, hears, Controller, Linked, port_key, linked_at, with_linked, chains_with, default_channel, begins, routes, control_protocol, gsmp_holds, ForGsmp, ForDefault, ForLabel, port_on, on_link, same_channel, label_taker, taker_at, taker_of, reassembly_of, label_holds, ifmp_holds, counted_at, packet_holds, default_holds, frame_holds, IsPlace, Site, site_at, gsmp_of, gsmp_under, Past, put_away}
+use Rattle.world_model.proofs.net_types.Labels.{number_of_channel-label_channel_of}
+use Rattle.world_model.specs.ipv4_packet.Packet.{first_fault}
+use Rattle.world_model.specs.ifmp_wire.declared.message.Message.{Message as IfmpMessage}
+use Rattle.world_model.specs.ifmp_wire.declared.reader.Fault.{Fault as IfmpFault}
+use Rattle.world_model.specs.ifmp_wire.Fields.{decoded as ifmp_decoded}
+use Rattle.world_model.specs.gsmp_wire.declared.fault.Fault.{Fault as GsmpFault}
+use Rattle.world_model.specs.gsmp_wire.declared.message.Message.{Message as GsmpMessage}
+use Rattle.world_model.specs.gsmp_wire.Fields.{decoded as gsmp_decoded}
+use Rattle.label_events.specs.ordered_lists.Ordered.{Every}
+use Rattle.label_events.specs.port_facts.Port.{IsPort, IsGrant}
+use Rattle.label_events.proofs.port_facts.Keyed.{on_each, at_key, at_every, at_put_same}
+use Rattle.label_events.proofs.port_facts.Rules.{and_first}
+use Rattle.label_events.proofs.port_facts.Hearings.{hears_goes}
+use Rattle.label_events.proofs.port_facts.Instances.{goes_gave}
+use Rattle.label_events.specs.label_line.Cells.{Role, Downstream, Upstream}
+use Rattle.label_events.specs.label_line.Line.{Line}
+use Rattle.world_model.specs.port_model.Grants as grants
+use Rattle.world_model.specs.Controller.{Acted, note}
+use Rattle.world_model.specs.Cells.{Taker, cell_comes}
+use Rattle.label_events.specs.controller_facts.Sound.{IsSound, linked_setup}
+use Rattle.label_events.proofs.controller_facts.Moves.{gathering, chaining, moves_to, found_at_own}
+use Rattle.label_events.proofs.controller_facts.Laws.{has_ports}
+use Rattle.label_events.proofs.controller_facts.Lifetimes.{decoded_lives}
+use Rattle.label_events.proofs.controller_facts.Drawn.{routes_calm}
+use Rattle.run_facts.specs.controller_bindings.Bindings.{HasBoundLabels}
+use Rattle.run_facts.specs.controller_law.Match.{lent_in, lent_at}
+use Rattle.label_events.specs.port_views.Link.{LinkLabel}
+use Rattle.label_events.specs.shown_cells.Label.{OnControl, channel_at}
+use Rattle.label_events.proofs.shown_cells.Frames.{same_is}
+use Rattle.label_events.specs.controller_views.Ends as views
+use Rattle.label_events.specs.controller_views.Ends.{EndGoes, EndLeads}
+use Rattle.label_events.specs.controller_views.Lifted.{IsProper, IsLifted, Growing}
+use Rattle.label_events.proofs.controller_views.Parts.{end_then, quiet_leads}
+use Rattle.label_events.proofs.controller_views.Works.{port_is, quiet_note}
+use Rattle.label_events.proofs.controller_views.AtPort.{at_port_leads}
+use Rattle.label_events.specs.arrival_views.Packets.{IsFree, of_control, of_packet, IsPlain, HasLabelGrants}
+use Rattle.label_events.specs.arrival_views.Cells.{PassesByRight, EndsFrame, IsDefault, unchained, ended_at, CanCome, ended_by}
+use Rattle.label_events.proofs.arrival_views.Routes.{routes_lead}
+use Rattle.label_events.proofs.arrival_views.Others.{default_on_link, port_of_default}
+use Rattle.label_events.specs.controller_views.Ready.{IsReady, FitsLink}
+use Rattle.label_events.proofs.controller_lifts.Lifts.{can_hear, counts_lifted, used_lifted}
+use Rattle.label_events.proofs.controller_lifts.Kept.{same_ports, put_goes}
+use Rattle.label_events.proofs.controller_lifts.Unspent.{Unspent, unspent_closed}
+use Rattle.label_events.proofs.controller_lifts.Ready.{Fits, fits_closed, Readies, moves_ready}
+use Rattle.label_events.proofs.controller_lifts.Holding.{routes_ready}
+use Rattle.world_model.specs.Ways.{told}
+use Rattle.label_events.specs.world_views.Made.{IsFit}
+use Rattle.label_events.specs.world_views.Ready.{setups_of}
+use Rattle.label_events.specs.world_views.Shown.{acting}
+use Rattle.label_events.specs.world_views.Between.{IsWorld}
+use Rattle.running_worlds.proofs.frame_readings.Packets.{is_forwarded}
+use Rattle.running_worlds.specs.frame_readings.Reading.{IsForwarded}
 use Rattle.label_events.specs.Acts.{Arrives}
 use Rattle.pairs.specs.Settles.{StaysJoined, Settles, SettlesAt}
 use Rattle.label_worlds.proofs.Answered.{Settled, gsmp_leads}

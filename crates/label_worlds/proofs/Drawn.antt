@@ -2,19 +2,12 @@
 
 use Rattle.std.proofs.Common.{◌≡◌, ℕ, ◌≤◌, ◌<◌, ◌+◌, true, false, List, [], ◌∷◌, length, Option, None, Some, refl, arith, fold}
 use Rattle.std.specs.Prelude.{◌^◌, Bool}
-use Rattle.net_types.specs.declared.node.PortNo.{PortNo}
-use Rattle.net_types.specs.Label.{number_of_channel}
-use Rattle.adjacency_table.specs.Side.{is_estab}
-use Rattle.gsmp_wire.specs.declared.request.Request.{Request}
-use Rattle.link_model.specs.declared.record.Record.TheVariants.{Part}
-use Rattle.port_facts.proofs.Halting.{closes_once, parted_none, given_back_none}
-use Rattle.port_facts.proofs.Instances.{closes_gave, parted_gave, given_back_gave}
-use Rattle.port_model.specs.Saying.{closes}
-use Rattle.port_model.specs.Joins.{parted, given_back}
+use Rattle.world_model.specs.Words.{PortNo, number_of_channel, is_estab, Request, Part, closes, parted, given_back, begins, join_of, parts, gives_back, releases_join, releases_input, released_inputs, resets_spent, releases}
+use Rattle.label_events.proofs.port_facts.Halting.{closes_once, parted_none, given_back_none}
+use Rattle.label_events.proofs.port_facts.Instances.{closes_gave, parted_gave, given_back_gave}
 use Rattle.world_model.specs.Controller.{Acted, ports_of, note}
-use Rattle.world_model.specs.Resets.{begins}
-use Rattle.world_model.specs.Joins.{Join, join_of, parts, gives_back, releases_join, releases_input, released_inputs, resets_spent, releases}
-use Rattle.controller_facts.proofs.Draws.{left_by, Draws, calm, itself, more, draws_then, then_none, none_then, none_fold, ports_count, at_port_draws}
+use Rattle.world_model.specs.Joins.{Join}
+use Rattle.label_events.proofs.controller_facts.Draws.{left_by, Draws, calm, itself, more, draws_then, then_none, none_then, none_fold, ports_count, at_port_draws}
 
 nothing : (n : ℕ) → n ≡ 0 → n ≤ 0
 nothing n e = omega arith

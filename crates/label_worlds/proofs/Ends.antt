@@ -3,39 +3,28 @@
 use Rattle.std.proofs.Common.{◌≡◌, ℕ, zero, suc, ◌≤◌, ◌<◌, ◌^◌, List, [], ◌∷◌, Option, None, Some, refl, sym, ◌∙◌, ap, subst, arith, All}
 use Rattle.std.specs.Prelude.{slice_get}
 use Rattle.std.specs.Option.{option_map}
-use Rattle.net_types.specs.declared.channel.End.{End}
-use Rattle.net_types.specs.declared.node.NodeId.{NodeId}
-use Rattle.net_types.specs.declared.node.PortNo.{PortNo}
-use Rattle.net_types.specs.Channel.{channel_on_control}
-use Rattle.net_types.specs.Label.{label_channel_of}
-use Rattle.atm_cells.specs.declared.cell.Cell.{Cell}
-use Rattle.ordered_lists.specs.Ordered.{Every}
-use Rattle.keyed_lists.specs.Keyed.{at}
-use Rattle.port_facts.proofs.Keyed.{at_every, at_key}
-use Rattle.crossbar_model.specs.Channels.{IsLinkPort}
-use Rattle.crossbar_model.specs.declared.branch.Branch.{Branch}
-use Rattle.crossbar_model.specs.Crossbar.{input_of, output_of}
-use Rattle.world_model.specs.Switch.{control_port}
-use Rattle.port_model.specs.Setup.{Setup}
-use Rattle.port_facts.specs.Port.{setup_port, IsLinked, IsLabelEnd}
-use Rattle.label_line.specs.Cells.{Role, Downstream, Upstream}
+use Rattle.world_model.specs.Words.{End, NodeId, PortNo, channel_on_control, label_channel_of, Cell, at, IsLinkPort, control_port, Setup, Topology, Node, node_at, IsTopology, Site}
+use Rattle.label_events.specs.ordered_lists.Ordered.{Every}
+use Rattle.label_events.proofs.port_facts.Keyed.{at_every, at_key}
+use Rattle.world_model.specs.crossbar_model.declared.branch.Branch.{Branch}
+use Rattle.world_model.specs.crossbar_model.Crossbar.{input_of, output_of}
+use Rattle.label_events.specs.port_facts.Port.{setup_port, IsLinked, IsLabelEnd}
+use Rattle.label_events.specs.label_line.Cells.{Role, Downstream, Upstream}
 use Rattle.world_model.specs.declared.link.LinkEnd.{LinkEnd}
-use Rattle.world_model.specs.Topology.{Topology, Node, node_at, peer_of}
-use Rattle.world_model.specs.Conditions.{IsTopology}
-use Rattle.world_model.specs.World.{Site}
-use Rattle.port_views.specs.Link.{LinkLabel, other}
-use Rattle.controller_views.specs.Lifted.{IsProper}
-use Rattle.controller_views.proofs.Sends.{label_vpi}
-use Rattle.controller_views.specs.Ready.{FitsLink}
-use Rattle.world_views.specs.Ready.{setups_of}
-use Rattle.world_views.specs.Shown.{end_of, AreApart}
-use Rattle.world_views.specs.Between.{IsPortEnd, default, label, IsShapedBranch, home, out, joined, HasAddress, IsLinkLabel}
-use Rattle.world_views.specs.Kept.{HasAddresses}
-use Rattle.world_views.proofs.Labels.{in_range_label}
-use Rattle.causes.proofs.Shown.{IsPeer, peer_back}
+use Rattle.world_model.specs.Topology.{peer_of}
+use Rattle.label_events.specs.port_views.Link.{LinkLabel, other}
+use Rattle.label_events.specs.controller_views.Lifted.{IsProper}
+use Rattle.label_events.proofs.controller_views.Sends.{label_vpi}
+use Rattle.label_events.specs.controller_views.Ready.{FitsLink}
+use Rattle.label_events.specs.world_views.Ready.{setups_of}
+use Rattle.label_events.specs.world_views.Shown.{end_of, AreApart}
+use Rattle.label_events.specs.world_views.Between.{IsPortEnd, default, label, IsShapedBranch, home, out, joined, HasAddress, IsLinkLabel}
+use Rattle.label_events.specs.world_views.Kept.{HasAddresses}
+use Rattle.label_events.proofs.world_views.Labels.{in_range_label}
+use Rattle.running_worlds.proofs.causes.Shown.{IsPeer, peer_back}
 use Rattle.label_events.specs.Queues as events
 use Rattle.label_events.specs.Queues.{HasLowPorts, LeadsOut, LeadsOn, LeadsFromLinks, IsAcross}
-use Rattle.controller_bindings.proofs.Lasts.{some_same}
+use Rattle.run_facts.proofs.controller_bindings.Lasts.{some_same}
 
 -- *The ends* of a link
 module _ (topology : Topology) (is : IsTopology topology) (link : LinkLabel) (of : IsLinkLabel topology link) where

@@ -3,40 +3,27 @@
 
 use Rattle.std.proofs.Common.{◌≡◌, ℕ, ◌+◌, ◌<◌, true, List, Option, None, Some, refl, arith}
 use Rattle.std.specs.Prelude.{is_some}
-use Rattle.net_types.specs.declared.node.NodeId.{NodeId}
-use Rattle.net_types.specs.declared.node.PortNo.{PortNo}
-use Rattle.net_types.specs.declared.node.Place.{Place}
-use Rattle.net_types.specs.declared.node.Place.TheVariants.{Down, Up, Out}
-use Rattle.net_types.specs.Label.{is_label_number}
-use Rattle.ipv4_forward.specs.declared.change.RouteChange.{RouteChange}
-use Rattle.ordered_lists.specs.Ordered.{Every}
-use Rattle.ordered_lists.proofs.Every.{every_map}
-use Rattle.port_facts.proofs.Keyed.{at_every}
-use Rattle.port_facts.specs.Port.{IsGrant}
-use Rattle.crossbar_model.specs.Channels.{IsLinkPort}
-use Rattle.port_model.specs.Setup.{Setup}
-use Rattle.port_model.specs.Grants.{Grant}
-use Rattle.world_model.specs.Controller.{port_key}
-use Rattle.controller_facts.specs.Sound.{IsSound, IsLinkedPort}
-use Rattle.label_line.specs.Line.{Line}
+use Rattle.world_model.specs.Words.{NodeId, PortNo, Place, Down, Up, Out, is_label_number, RouteChange, IsLinkPort, Setup, Grant, port_key, Topology, IsTopology, IsPlace, Site, site_at, next, Past}
+use Rattle.label_events.specs.ordered_lists.Ordered.{Every}
+use Rattle.label_events.proofs.ordered_lists.Every.{every_map}
+use Rattle.label_events.proofs.port_facts.Keyed.{at_every}
+use Rattle.label_events.specs.port_facts.Port.{IsGrant}
+use Rattle.label_events.specs.controller_facts.Sound.{IsSound, IsLinkedPort}
+use Rattle.label_events.specs.label_line.Line.{Line}
 use Rattle.world_model.specs.declared.event.Event.{Event}
 use Rattle.world_model.specs.declared.event.Event.TheVariants.{Inject, Carry, Lose, TickSwitch, Restart, RestartSwitch, Route}
 use Rattle.world_model.specs.declared.link.LinkEnd.{LinkEnd}
-use Rattle.world_model.specs.Topology.{Topology, peer_of}
-use Rattle.world_model.specs.Conditions.{IsTopology, IsPlace}
-use Rattle.world_model.specs.World.{Site, site_at}
-use Rattle.world_model.specs.Run.{next}
-use Rattle.world_model.specs.Past.{Past}
-use Rattle.port_views.specs.Link.{LinkLabel}
-use Rattle.arrival_views.specs.Packets.{HasLabelGrants}
-use Rattle.world_views.specs.Ready.{setups_of}
-use Rattle.world_views.specs.Pairs.{IsLike, by_branch}
-use Rattle.world_views.specs.Shown.{WorldShows, WorldGoes}
-use Rattle.world_views.specs.Between.{EachSite, IsWorld, IsLinkLabel}
-use Rattle.causes.proofs.Shown.{IsPeer, peer_back}
+use Rattle.world_model.specs.Topology.{peer_of}
+use Rattle.label_events.specs.port_views.Link.{LinkLabel}
+use Rattle.label_events.specs.arrival_views.Packets.{HasLabelGrants}
+use Rattle.label_events.specs.world_views.Ready.{setups_of}
+use Rattle.label_events.specs.world_views.Pairs.{IsLike, by_branch}
+use Rattle.label_events.specs.world_views.Shown.{WorldShows, WorldGoes}
+use Rattle.label_events.specs.world_views.Between.{EachSite, IsWorld, IsLinkLabel}
+use Rattle.running_worlds.proofs.causes.Shown.{IsPeer, peer_back}
 use Rattle.label_events.specs.Queues.{HasQueues, IsLinkPlace, LeadsFromLinks}
 use Rattle.label_events.proofs.Next.{loses, goes_down, goes_over, packet_enters, restarts, route_comes, ticks_switch, restarts_switch}
-use Rattle.world_views.proofs.Labels.{in_range_label}
+use Rattle.label_events.proofs.world_views.Labels.{in_range_label}
 use Rattle.label_worlds.proofs.Ends.{proper, low, apart, across, leads_out, leads_from}
 
 -- a port that cells of the topology leave by is a link's

@@ -4,50 +4,29 @@ use Rattle.std.proofs.Common.{◌≡◌, ◌≢◌, ℕ, ◌<◌, ◌+◌, Bool,
 use Rattle.std.specs.Prelude.{◌^◌, ◌==◌, ◌&&◌, nat_lt, Contains}
 use Rattle.std.specs.Option.{option_map_or, option_and_then}
 use Rattle.std.proofs.lemmas.Bool.Decides.{nat_tests}
-use Rattle.net_types.specs.declared.node.NodeId.{NodeId}
-use Rattle.net_types.specs.declared.node.PortNo.{PortNo}
-use Rattle.net_types.specs.declared.node.Place.TheVariants.{Up}
-use Rattle.net_types.specs.declared.number.Mark.{Mark}
-use Rattle.net_types.specs.declared.channel.Channel.{Channel}
-use Rattle.net_types.specs.Label.{is_label_channel, label_number_of, number_of_channel}
-use Rattle.ipv4_packet.specs.Packet.{protocol_of, source_of, first_fault}
-use Rattle.ipv4_packet.specs.declared.validate.PacketFault.TheVariants.{Short}
-use Rattle.atm_cells.specs.declared.cell.Cell.{Cell}
-use Rattle.ipv4_packet.specs.declared.flow.FlowId.{FlowId}
-use Rattle.flow_encaps.specs.declared.default.EncapsFault.{EncapsFault}
-use Rattle.flow_encaps.specs.Unwrapped.{default_unwrapped, unwrapped}
-use Rattle.ifmp_wire.specs.declared.message.Message.{Message}
-use Rattle.ifmp_wire.specs.Message.{InRange, FitsMessage, octets_of}
-use Rattle.wire_laws.proofs.Packets.{protocol_is}
-use Rattle.link_model.specs.Ledger.{payload_of}
-use Rattle.ordered_lists.specs.Ordered.{Every}
-use Rattle.port_facts.proofs.Keyed.{by_eq, at_key, at_every}
-use Rattle.port_model.specs.Labels.{Label, LabelState, Wiring, is_bound, label_number}
-use Rattle.port_model.specs.Port.{label_at, labels_of}
-use Rattle.world_model.specs.Controller.{Controller, Linked, port_key, linked_at, default_channel}
-use Rattle.world_model.specs.Packets.{is_control, control_protocol}
-use Rattle.world_model.specs.Cells.{Taker, ForGsmp, ForDefault, ForLabel, port_on, on_link, same_channel, label_taker, taker_at, taker_of}
-use Rattle.controller_bindings.specs.Bindings.{HasBoundLabels, IsBoundLast}
-use Rattle.controller_bindings.proofs.Lasts.{some_same}
-use Rattle.crossbar_model.specs.Crossbar.{queue_of}
-use Rattle.world_model.specs.Switch.{control_port}
-use Rattle.shown_cells.specs.Label.{Told}
-use Rattle.controller_views.proofs.Works.{port_is}
-use Rattle.arrival_views.specs.Packets.{IsFree, of_control, of_packet, IsPlain}
-use Rattle.arrival_views.specs.Cells.{IsTold}
-use Rattle.arrival_views.proofs.Hears.{told_is}
+use Rattle.world_model.specs.Words.{NodeId, PortNo, Up, Mark, Channel, is_label_channel, label_number_of, number_of_channel, protocol_of, source_of, Cell, FlowId, EncapsFault, default_unwrapped, unwrapped, InRange, FitsMessage, payload_of, Label, LabelState, Wiring, is_bound, label_number, label_at, labels_of, Controller, Linked, port_key, linked_at, default_channel, is_control, control_protocol, ForGsmp, ForDefault, ForLabel, port_on, on_link, same_channel, label_taker, taker_at, taker_of, queue_of, control_port, IsPlace, Site, site_at, queue_in, queue_at, Past, frames_of, last_bound, put_away}
+use Rattle.world_model.specs.ipv4_packet.Packet.{first_fault}
+use Rattle.world_model.specs.ipv4_packet.declared.validate.PacketFault.TheVariants.{Short}
+use Rattle.world_model.specs.ifmp_wire.declared.message.Message.{Message}
+use Rattle.world_model.specs.ifmp_wire.Message.{octets_of}
+use Rattle.label_events.proofs.wire_laws.Packets.{protocol_is}
+use Rattle.label_events.specs.ordered_lists.Ordered.{Every}
+use Rattle.label_events.proofs.port_facts.Keyed.{by_eq, at_key, at_every}
+use Rattle.world_model.specs.Cells.{Taker}
+use Rattle.run_facts.specs.controller_bindings.Bindings.{HasBoundLabels, IsBoundLast}
+use Rattle.run_facts.proofs.controller_bindings.Lasts.{some_same}
+use Rattle.label_events.specs.shown_cells.Label.{Told}
+use Rattle.label_events.proofs.controller_views.Works.{port_is}
+use Rattle.label_events.specs.arrival_views.Packets.{IsFree, of_control, of_packet, IsPlain}
+use Rattle.label_events.specs.arrival_views.Cells.{IsTold}
+use Rattle.label_events.proofs.arrival_views.Hears.{told_is}
 use Rattle.world_model.specs.declared.link.LinkEnd.{LinkEnd}
-use Rattle.world_model.specs.Conditions.{IsPlace}
-use Rattle.world_model.specs.World.{Site, site_at}
-use Rattle.world_model.specs.Places.{queue_in, queue_at}
-use Rattle.world_model.specs.Past.{Past, frames_of, last_bound}
-use Rattle.world_model.specs.Run.{put_away}
-use Rattle.world_views.specs.Made.{IsFit}
-use Rattle.world_views.specs.Marks.{Heading, own_end, heading_at, IsNewest, Means, early, control, local, plain, labelled}
-use Rattle.world_views.specs.Shown.{acting}
-use Rattle.world_views.specs.Between.{IsWorld}
-use Rattle.frame_readings.specs.Reading.{IsToldAs, Holds, sent as holds_sent, told as holds_told}
-use Rattle.frame_readings.proofs.Reading.{read_default, read_told, read_label}
+use Rattle.label_events.specs.world_views.Made.{IsFit}
+use Rattle.label_events.specs.world_views.Marks.{Heading, own_end, heading_at, IsNewest, Means, early, control, local, plain, labelled}
+use Rattle.label_events.specs.world_views.Shown.{acting}
+use Rattle.label_events.specs.world_views.Between.{IsWorld}
+use Rattle.running_worlds.specs.frame_readings.Reading.{IsToldAs, Holds, sent as holds_sent, told as holds_told}
+use Rattle.running_worlds.proofs.frame_readings.Reading.{read_default, read_told, read_label}
 use Rattle.running_worlds.proofs.Labels.{IsOfLabel}
 use Rattle.label_events.proofs.Enters.{first_passed, long_by}
 

@@ -2,64 +2,40 @@
 
 use Rattle.std.proofs.Common.{◌≡◌, ℕ, Bool, true, false, List, [], ◌∷◌, ◌++◌, length, Option, None, Some, Result, Ok, Err, refl, sym, ◌∙◌, ap, subst, arith, fold, if◌then◌else◌}
 use Rattle.std.specs.Prelude.{not, nat_le, nat_lt, drop, ◌==◌}
-use Rattle.net_types.specs.declared.node.PortNo.{PortNo}
-use Rattle.net_types.specs.declared.number.Mark.{Mark}
-use Rattle.net_types.specs.Label.{number_of_channel}
-use Rattle.adjacency_table.specs.Side.{is_estab}
-use Rattle.adjacency_table.specs.Greeting.{gsmp_received}
-use Rattle.ipv4_packet.specs.Packet.{protocol_of, source_of, first_fault}
-use Rattle.ipv4_packet.specs.declared.validate.PacketFault.{PacketFault}
-use Rattle.atm_cells.specs.declared.cell.Cell.{Cell}
-use Rattle.flow_encaps.specs.declared.default.EncapsFault.{EncapsFault}
-use Rattle.flow_encaps.specs.Unwrapped.{default_unwrapped, unwrapped}
-use Rattle.ifmp_wire.specs.declared.message.Message.{Message as IfmpMessage}
-use Rattle.ifmp_wire.specs.declared.reader.Fault.{Fault as IfmpFault}
-use Rattle.ifmp_wire.specs.Fields.{decoded as ifmp_decoded}
-use Rattle.gsmp_wire.specs.declared.fault.Fault.{Fault as GsmpFault}
-use Rattle.gsmp_wire.specs.declared.message.Message.{Message as GsmpMessage}
-use Rattle.gsmp_wire.specs.declared.message.Message.TheVariants as messages
-use Rattle.gsmp_wire.specs.declared.request.Request.{Request}
-use Rattle.gsmp_wire.specs.declared.request.Request.TheVariants.{AddBranch, MoveBranch, DeleteTree, VerifyTree, DeleteAll, PortManagement, AllPorts}
-use Rattle.gsmp_wire.specs.Fields.{decoded as gsmp_decoded}
-use Rattle.link_model.specs.Notes.{Journal}
-use Rattle.link_model.specs.Notes.{noted}
-use Rattle.link_model.specs.declared.record.Record.TheVariants.{Part, Loss, Chance}
-use Rattle.link_model.specs.declared.record.Cause.TheVariants.{PoolFull, Unbound}
-use Rattle.link_model.specs.Ledger.{is_frame}
-use Rattle.frame_model.specs.Reassembly.{Reassembly, Taken, marks_of, most_cells, broken, passed_over, without_slot, too_long, joined}
-use Rattle.frame_model.specs.Frame.{octets_of, last_mark, payload_in, passed, tested_by}
-use Rattle.port_model.specs.Desk.{empty_desk}
-use Rattle.port_model.specs.DeskAnswers.{Answered, Unknown, Done, Ports, Failed, answered, after_answer}
-use Rattle.port_facts.proofs.Keyed.{on_both, on_each}
-use Rattle.port_facts.proofs.Instances.{goes_gave, closes_gave, parted_gave, given_back_gave}
-use Rattle.port_facts.proofs.Rules.{used_goes, counts_goes, done_goes}
-use Rattle.port_facts.proofs.Hearings.{hears_goes}
-use Rattle.port_model.specs.Setup.{Setup}
-use Rattle.port_model.specs.Labels.{Label}
-use Rattle.port_model.specs.Saying.{closes}
-use Rattle.port_model.specs.Joins.{parted, given_back}
-use Rattle.port_model.specs.Answers as port_answers
-use Rattle.port_model.specs.Counting.{counts, used}
-use Rattle.port_model.specs.Hearing.{hears}
-use Rattle.port_model.specs.Resets.{cleared}
-use Rattle.world_model.specs.Controller.{Acted, Linked, free_slots, linked_at, ports_of, with_linked, with_desk, note}
-use Rattle.world_model.specs.Resets.{begins, node_resets}
-use Rattle.world_model.specs.Packets.{routes, control_protocol}
-use Rattle.world_model.specs.Joins.{Join, join_of, parts, releases_join, releases_input, released_inputs, resets_spent, releases}
-use Rattle.world_model.specs.Meeting.{port_of_input, tells_port, causes_in_estab, causes, may_clear, clears_of, clears_port, clears, done, takes_answer}
-use Rattle.world_model.specs.Gsmp.{told, gsmp_holds}
-use Rattle.world_model.specs.Cells.{Taker, ForGsmp, ForDefault, ForLabel, taker_of, reassembly_of, with_reassembly, label_holds, ifmp_holds, counted_at, packet_holds, default_holds, frame_holds, after_test, after_cell, takes_cell, cell_comes}
-use Rattle.controller_facts.proofs.Moves.{HasPorts, found_port, moves_ports}
-use Rattle.controller_facts.proofs.Lifetimes.{decoded_lives}
-use Rattle.controller_facts.proofs.Events.{routes_goes}
-use Rattle.shown_cells.proofs.Tested.{broken_frames, last_is}
-use Rattle.controller_views.specs.Lifted.{Growing}
-use Rattle.controller_views.proofs.Growing.{grow_self, grow_on, grow_fold, grow_same, node_resets_grow, at_port_grow}
-use Rattle.arrival_views.specs.Packets.{IsFree}
-use Rattle.arrival_views.specs.Cells.{PassesByRight, EndsFrame, ended_by}
-use Rattle.arrival_views.proofs.Comes.{has_slot, ends_is}
-use Rattle.controller_lifts.proofs.Follow.{steps_follow, empties_follow, behind_follow, changes_follow}
-use Rattle.controller_lifts.proofs.Ways.{growing_followed}
+use Rattle.world_model.specs.Words.{PortNo, Mark, number_of_channel, is_estab, gsmp_received, protocol_of, source_of, PacketFault, Cell, EncapsFault, default_unwrapped, unwrapped, Request, AddBranch, MoveBranch, DeleteTree, VerifyTree, PortManagement, Journal, noted, Part, Loss, Chance, PoolFull, Unbound, is_frame, Reassembly, marks_of, most_cells, broken, passed_over, without_slot, too_long, last_mark, payload_in, tested_by, empty_desk, Answered, Unknown, Done, Ports, Failed, answered, after_answer, Setup, Label, closes, parted, given_back, counts, used, hears, Linked, linked_at, with_linked, with_desk, begins, node_resets, routes, control_protocol, join_of, parts, releases_join, releases_input, released_inputs, resets_spent, releases, port_of_input, tells_port, causes_in_estab, causes, may_clear, clears_of, clears_port, clears, takes_answer, gsmp_holds, ForGsmp, ForDefault, ForLabel, taker_of, reassembly_of, with_reassembly, label_holds, ifmp_holds, counted_at, packet_holds, default_holds, frame_holds, takes_cell}
+use Rattle.world_model.specs.ipv4_packet.Packet.{first_fault}
+use Rattle.world_model.specs.ifmp_wire.declared.message.Message.{Message as IfmpMessage}
+use Rattle.world_model.specs.ifmp_wire.declared.reader.Fault.{Fault as IfmpFault}
+use Rattle.world_model.specs.ifmp_wire.Fields.{decoded as ifmp_decoded}
+use Rattle.world_model.specs.gsmp_wire.declared.fault.Fault.{Fault as GsmpFault}
+use Rattle.world_model.specs.gsmp_wire.declared.message.Message.{Message as GsmpMessage}
+use Rattle.world_model.specs.gsmp_wire.declared.message.Message.TheVariants as messages
+use Rattle.world_model.specs.gsmp_wire.declared.request.Request.TheVariants.{DeleteAll, AllPorts}
+use Rattle.world_model.specs.gsmp_wire.Fields.{decoded as gsmp_decoded}
+use Rattle.world_model.specs.frame_model.Reassembly.{Taken, joined}
+use Rattle.world_model.specs.frame_model.Frame.{octets_of, passed}
+use Rattle.label_events.proofs.port_facts.Keyed.{on_both, on_each}
+use Rattle.label_events.proofs.port_facts.Instances.{goes_gave, closes_gave, parted_gave, given_back_gave}
+use Rattle.label_events.proofs.port_facts.Rules.{used_goes, counts_goes, done_goes}
+use Rattle.label_events.proofs.port_facts.Hearings.{hears_goes}
+use Rattle.world_model.specs.port_model.Answers as port_answers
+use Rattle.world_model.specs.port_model.Resets.{cleared}
+use Rattle.world_model.specs.Controller.{Acted, free_slots, ports_of, note}
+use Rattle.world_model.specs.Joins.{Join}
+use Rattle.world_model.specs.Meeting.{done}
+use Rattle.world_model.specs.Gsmp.{told}
+use Rattle.world_model.specs.Cells.{Taker, after_test, after_cell, cell_comes}
+use Rattle.label_events.proofs.controller_facts.Moves.{HasPorts, found_port, moves_ports}
+use Rattle.label_events.proofs.controller_facts.Lifetimes.{decoded_lives}
+use Rattle.label_events.proofs.controller_facts.Events.{routes_goes}
+use Rattle.label_events.proofs.shown_cells.Tested.{broken_frames, last_is}
+use Rattle.label_events.specs.controller_views.Lifted.{Growing}
+use Rattle.label_events.proofs.controller_views.Growing.{grow_self, grow_on, grow_fold, grow_same, node_resets_grow, at_port_grow}
+use Rattle.label_events.specs.arrival_views.Packets.{IsFree}
+use Rattle.label_events.specs.arrival_views.Cells.{PassesByRight, EndsFrame, ended_by}
+use Rattle.label_events.proofs.arrival_views.Comes.{has_slot, ends_is}
+use Rattle.label_events.proofs.controller_lifts.Follow.{steps_follow, empties_follow, behind_follow, changes_follow}
+use Rattle.label_events.proofs.controller_lifts.Ways.{growing_followed}
 use Rattle.label_events.proofs.Enters.{routes_grow}
 
 -- *Answers of the switch*

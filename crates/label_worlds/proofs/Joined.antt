@@ -3,54 +3,39 @@
 use Rattle.std.proofs.Common.{◌≡◌, ℕ, Bool, true, false, List, [], ◌∷◌, ◌++◌, Option, None, Some, refl, sym, ◌∙◌, ap, subst, arith, fold, ◌⊎◌, inl, inr, if◌then◌else◌}
 use Rattle.std.specs.Prelude.{◌&&◌}
 use Rattle.std.specs.Option.{option_map}
-use Rattle.net_types.specs.declared.node.PortNo.{PortNo}
-use Rattle.net_types.specs.declared.channel.End.{End as ChannelEnd}
-use Rattle.net_types.specs.Label.{label_channel_of, number_of_channel}
-use Rattle.ipv4_forward.specs.Best.{best}
-use Rattle.ipv4_packet.specs.declared.flow.FlowId.{FlowId}
-use Rattle.ipv4_packet.specs.Flow.{next_hop_of}
-use Rattle.ipv4_packet.specs.Parts.{flow_destination, same_flow}
-use Rattle.gsmp_wire.specs.declared.request.Request.TheVariants.{MoveBranch}
-use Rattle.ordered_lists.specs.Ordered.{Every}
-use Rattle.keyed_lists.specs.Keyed.{at, put}
-use Rattle.port_facts.specs.Port.{IsLabelEnd}
-use Rattle.port_facts.proofs.Keyed.{by_eq, at_put_same, apart_at}
-use Rattle.port_facts.proofs.Found.{find_passes}
-use Rattle.port_facts.proofs.Rules.{and_first}
-use Rattle.port_facts.proofs.Instances.{joined_gave, lent_gave}
-use Rattle.label_line.specs.Cells as lines
-use Rattle.label_line.specs.Cells.{Role, Upstream}
-use Rattle.label_line.specs.Line.{Line}
-use Rattle.label_line.specs.Moves.{run}
-use Rattle.label_steps.proofs.Joins.{lent_more}
-use Rattle.port_model.specs.Setup.{Setup, home_of, label_end}
-use Rattle.port_model.specs.Labels.{Label}
-use Rattle.port_model.specs.Grants.{Grant, ByController, grant_label, grant_for, is_by_controller}
-use Rattle.port_model.specs.Port.{Work, label_at}
-use Rattle.port_model.specs.Joins as port_joins
-use Rattle.port_views.specs.Link.{LinkLabel, other}
-use Rattle.port_views.specs.Shown.{Part, part_of, ShownAt}
-use Rattle.port_views.specs.Reaching.{Reaches}
-use Rattle.port_views.proofs.Answering.{joined_leads, lent_leads}
-use Rattle.port_views.proofs.Reach.{run_join}
-use Rattle.world_model.specs.Controller.{Acted, Linked, port_key, linked_at}
-use Rattle.world_model.specs.Resets.{begins, with_work}
-use Rattle.world_model.specs.Performing.{works}
-use Rattle.world_model.specs.Asking.{asks}
-use Rattle.world_model.specs.Joins.{Join, port_by, join_through, join_by, join_for, may_join, enters_grant, output_of, enters_label, joins, tries_label, label_on, tries_join}
-use Rattle.controller_facts.proofs.Moves.{HasPorts, found_at_own, found_port, moves_ports}
-use Rattle.controller_facts.proofs.Entering.{by_controller, tries_join_goes}
-use Rattle.shown_cells.specs.Seen.{IsUnmade}
-use Rattle.shown_cells.specs.Label.{OnControl, ShowsCells}
-use Rattle.controller_views.specs.Ends.{working, End, EndGoes, EndLeads}
-use Rattle.controller_views.specs.Lifted.{IsProper, IsLifted}
-use Rattle.controller_views.proofs.Parts.{kept_chain, grows_self, grows_on, shown_less, end_stays, end_then}
-use Rattle.controller_views.proofs.Works.{linked_is, port_is, own_grows, asks_leads}
-use Rattle.controller_views.proofs.AtPort.{at_port_leads}
-use Rattle.controller_lifts.proofs.Lifts.{joined_says, lent_says}
-use Rattle.quiet_controllers.specs.Quiet.{entered_for, entered, Enters, here, later}
+use Rattle.world_model.specs.Words.{PortNo, End as ChannelEnd, label_channel_of, number_of_channel, best, FlowId, next_hop_of, flow_destination, same_flow, MoveBranch, at, put, Setup, home_of, label_end, Label, Grant, ByController, grant_label, grant_for, is_by_controller, Work, label_at, Linked, port_key, linked_at, begins, with_work, works, asks, port_by, join_through, join_by, join_for, may_join, enters_grant, enters_label, joins, tries_label, label_on, tries_join}
+use Rattle.label_events.specs.ordered_lists.Ordered.{Every}
+use Rattle.label_events.specs.port_facts.Port.{IsLabelEnd}
+use Rattle.label_events.proofs.port_facts.Keyed.{by_eq, at_put_same, apart_at}
+use Rattle.label_events.proofs.port_facts.Found.{find_passes}
+use Rattle.label_events.proofs.port_facts.Rules.{and_first}
+use Rattle.label_events.proofs.port_facts.Instances.{joined_gave, lent_gave}
+use Rattle.label_events.specs.label_line.Cells as lines
+use Rattle.label_events.specs.label_line.Cells.{Role, Upstream}
+use Rattle.label_events.specs.label_line.Line.{Line}
+use Rattle.label_events.specs.label_line.Moves.{run}
+use Rattle.label_events.proofs.label_steps.Joins.{lent_more}
+use Rattle.world_model.specs.port_model.Joins as port_joins
+use Rattle.label_events.specs.port_views.Link.{LinkLabel, other}
+use Rattle.label_events.specs.port_views.Shown.{Part, part_of, ShownAt}
+use Rattle.label_events.specs.port_views.Reaching.{Reaches}
+use Rattle.label_events.proofs.port_views.Answering.{joined_leads, lent_leads}
+use Rattle.label_events.proofs.port_views.Reach.{run_join}
+use Rattle.world_model.specs.Controller.{Acted}
+use Rattle.world_model.specs.Joins.{Join, output_of}
+use Rattle.label_events.proofs.controller_facts.Moves.{HasPorts, found_at_own, found_port, moves_ports}
+use Rattle.label_events.proofs.controller_facts.Entering.{by_controller, tries_join_goes}
+use Rattle.label_events.specs.shown_cells.Seen.{IsUnmade}
+use Rattle.label_events.specs.shown_cells.Label.{OnControl, ShowsCells}
+use Rattle.label_events.specs.controller_views.Ends.{working, End, EndGoes, EndLeads}
+use Rattle.label_events.specs.controller_views.Lifted.{IsProper, IsLifted}
+use Rattle.label_events.proofs.controller_views.Parts.{kept_chain, grows_self, grows_on, shown_less, end_stays, end_then}
+use Rattle.label_events.proofs.controller_views.Works.{linked_is, port_is, own_grows, asks_leads}
+use Rattle.label_events.proofs.controller_views.AtPort.{at_port_leads}
+use Rattle.label_events.proofs.controller_lifts.Lifts.{joined_says, lent_says}
+use Rattle.lasting_joins.specs.quiet_controllers.Quiet.{entered_for, entered, Enters, here, later}
 use Rattle.label_worlds.specs.Enters.{EntersTo}
-use Rattle.controller_bindings.proofs.Lasts.{some_same}
+use Rattle.run_facts.proofs.controller_bindings.Lasts.{some_same}
 
 -- *More may be joined* behind than before: from every line that is shown with the one, moves lead to one that is shown with
 -- the other

@@ -1,35 +1,27 @@
 -- the line of each label of each link is kept by every event
 
 use Rattle.std.proofs.Common.{◌≡◌, ◌<◌, List, [], ◌++◌, refl, sym, ◌∙◌, ap, subst}
-use Rattle.net_types.specs.declared.node.NodeId.{NodeId}
-use Rattle.net_types.specs.declared.node.Place.TheVariants.{Down, Up, Out}
-use Rattle.net_types.specs.declared.channel.End.{End}
-use Rattle.port_model.specs.Setup.{Policy, label_end}
-use Rattle.label_line.specs.Cells.{Upstream}
-use Rattle.label_line.specs.Line.{Line}
-use Rattle.label_line.specs.Moves.{run}
-use Rattle.label_line.specs.Law.{IsReached}
+use Rattle.world_model.specs.Words.{NodeId, Down, Up, Out, End, Policy, label_end, Topology, IsTopology, IsEvent, World, next, Past, past_of, IsTame}
+use Rattle.label_events.specs.label_line.Cells.{Upstream}
+use Rattle.label_events.specs.label_line.Line.{Line}
+use Rattle.label_events.specs.label_line.Moves.{run}
+use Rattle.label_events.specs.label_line.Law.{IsReached}
 use Rattle.world_model.specs.declared.event.Event.{Event}
 use Rattle.world_model.specs.declared.event.Event.TheVariants.{Inject, Carry, Lose, Tick, TickSwitch, Restart, RestartSwitch, Forge, Route}
-use Rattle.world_model.specs.Topology.{Topology}
-use Rattle.world_model.specs.Conditions.{IsTopology, IsEvent}
-use Rattle.world_model.specs.World.{World, opened}
-use Rattle.world_model.specs.Run.{next}
-use Rattle.world_model.specs.Past.{Past, past_of}
-use Rattle.world_model.specs.Headline.{IsTame}
-use Rattle.port_views.specs.Link.{LinkLabel}
-use Rattle.port_views.proofs.Reach.{run_join}
-use Rattle.world_views.specs.Pairs.{Pairs, IsLike}
-use Rattle.world_views.specs.Shown.{WorldGoes}
-use Rattle.world_views.specs.Between.{EachSite, IsWorld, IsLinkLabel, HasLabelLine, HasAllLabels}
-use Rattle.world_views.specs.Kept.{Comes, Keeps, behind}
-use Rattle.world_views.proofs.Sites.{world_less}
+use Rattle.world_model.specs.World.{opened}
+use Rattle.label_events.specs.port_views.Link.{LinkLabel}
+use Rattle.label_events.proofs.port_views.Reach.{run_join}
+use Rattle.label_events.specs.world_views.Pairs.{Pairs, IsLike}
+use Rattle.label_events.specs.world_views.Shown.{WorldGoes}
+use Rattle.label_events.specs.world_views.Between.{EachSite, IsWorld, IsLinkLabel, HasLabelLine, HasAllLabels}
+use Rattle.label_events.specs.world_views.Kept.{Comes, Keeps, behind}
+use Rattle.label_events.proofs.world_views.Sites.{world_less}
 use Rattle.label_events.proofs.Next.{comes_up}
 use Rattle.label_worlds.specs.Conduct.{now_of, then_of, CellsArrive, TicksLead, PairsAreOld}
 use Rattle.label_worlds.proofs.Ends.{proper, apart}
 use Rattle.run_facts.proofs.Forged.{none_forged}
 use Rattle.label_worlds.proofs.Events.{IsPlain, follows_lose, follows_down, follows_over, follows_inject, follows_restart, follows_route, follows_switch, follows_switch_restart}
-use Rattle.causes.proofs.Runs.{after_one}
+use Rattle.running_worlds.proofs.causes.Runs.{after_one}
 
 -- *The sites* before an event, and that no frame is forged in it
 abbrev pub SitesArePlain : Type 0

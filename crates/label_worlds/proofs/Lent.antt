@@ -1,20 +1,13 @@
 -- a grant that is lent to an input stays lent to it in a tick, up to its joins, where nothing is asked of grants
 
 use Rattle.std.proofs.Common.{ℕ, List, [], ◌∷◌, refl, fold}
-use Rattle.net_types.specs.declared.node.PortNo.{PortNo}
-use Rattle.net_types.specs.declared.channel.End.{End}
-use Rattle.adjacency_table.specs.Side.{is_estab}
-use Rattle.port_model.specs.Desk.{sent_again}
-use Rattle.port_model.specs.Setup.{Setup}
-use Rattle.port_facts.proofs.Keyed.{on_both}
-use Rattle.world_model.specs.Controller.{Acted, default_channel}
-use Rattle.world_model.specs.Asking.{sends_request}
-use Rattle.world_model.specs.Resets.{begins}
-use Rattle.controller_facts.proofs.Moves.{by_rule, HasPorts, moves_ports}
-use Rattle.world_model.specs.Ticks.{sends_again, ticks_port}
-use Rattle.port_model.specs.Ticks as port_ticks
-use Rattle.port_facts.proofs.Hearings.{ticks_goes}
-use Rattle.controller_facts.proofs.Events.{ticks_port_goes}
+use Rattle.world_model.specs.Words.{PortNo, End, is_estab, sent_again, Setup, default_channel, sends_request, begins, sends_again, ticks_port}
+use Rattle.label_events.proofs.port_facts.Keyed.{on_both}
+use Rattle.world_model.specs.Controller.{Acted}
+use Rattle.label_events.proofs.controller_facts.Moves.{by_rule, HasPorts, moves_ports}
+use Rattle.world_model.specs.port_model.Ticks as port_ticks
+use Rattle.label_events.proofs.port_facts.Hearings.{ticks_goes}
+use Rattle.label_events.proofs.controller_facts.Events.{ticks_port_goes}
 use Rattle.lasting_joins.proofs.Lent.{Keeps, itself, keeps_on, keeps_fold, control_keeps, rule_keeps}
 
 module _ (setups : List Setup) (q m : ℕ) (Unled : End → Type 0) where

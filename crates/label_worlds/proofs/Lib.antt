@@ -1,3 +1,4 @@
+pub use Rattle.lasting_joins.proofs.quiet_controllers as quiet_controllers
 pub mod Ends
 pub mod Opened
 pub mod Opening

@@ -3,22 +3,11 @@
 use Rattle.std.proofs.Common.{◌≡◌, ℕ, zero, suc, ◌+◌, List, [], ◌∷◌, None, Some, refl, ◌∙◌, ap}
 use Rattle.std.specs.Prelude.{replicate, slice_index_or}
 use Rattle.std.specs.FinMap.{empty}
-use Rattle.net_types.specs.declared.node.NodeId.{NodeId}
-use Rattle.net_types.specs.declared.node.PortNo.{PortNo}
-use Rattle.net_types.specs.Number.{GivenOut}
-use Rattle.adjacency_table.specs.declared.State.TheVariants.{Clearing}
-use Rattle.adjacency_table.specs.Side.{fresh}
-use Rattle.adjacency_table.specs.Ends.{router}
-use Rattle.atm_cells.specs.declared.cell.Cell.{Cell}
-use Rattle.crossbar_model.specs.Crossbar.{Crossbar, queue_of}
-use Rattle.ordered_lists.specs.Ordered.{Every}
-use Rattle.port_facts.proofs.Keyed.{at_every, every_more}
-use Rattle.port_model.specs.Setup.{Policy, Setup}
+use Rattle.world_model.specs.Words.{NodeId, PortNo, GivenOut, Clearing, fresh, router, Cell, Crossbar, queue_of, Policy, Setup, Linked, port_key, linked_at, setup_of, opens_ports, Topology, Node, ranges_of, timers_of, World, Site, site_key, site_at, empty_world, opened_site, with_opened, opens_each}
+use Rattle.label_events.specs.ordered_lists.Ordered.{Every}
+use Rattle.label_events.proofs.port_facts.Keyed.{at_every, every_more}
 use Rattle.world_model.specs.declared.range.PortRange.{PortRange}
-use Rattle.world_model.specs.Controller.{Linked, port_key, linked_at}
-use Rattle.world_model.specs.Opening.{setup_of, opens_ports}
-use Rattle.world_model.specs.Topology.{Topology, Node, ranges_of, timers_of}
-use Rattle.world_model.specs.World.{World, Site, site_key, site_at, empty_world, opened, opened_site, with_opened, opens_each}
+use Rattle.world_model.specs.World.{opened}
 
 -- *A port* in its opening state
 pub record IsNewPort (linked : Linked) : Type 0 where

@@ -4,45 +4,24 @@ use Rattle.std.proofs.Common.{◌≡◌, ℕ, ◌+◌, ◌≤◌, ◌<◌, List,
 use Rattle.std.specs.Prelude.{is_some}
 use Rattle.std.specs.Option.{option_map, option_map_or, option_and_then}
 use Rattle.std.specs.FinMap.{get-empty}
-use Rattle.net_types.specs.declared.channel.End.{End}
-use Rattle.net_types.specs.declared.node.NodeId.{NodeId}
-use Rattle.net_types.specs.declared.node.PortNo.{PortNo}
-use Rattle.net_types.specs.declared.prefix.Addr.{Addr}
-use Rattle.net_types.specs.declared.adjacency.Peer.{Peer}
-use Rattle.adjacency_table.specs.declared.State.TheVariants.{Clearing}
-use Rattle.adjacency_table.specs.Side.{Side}
-use Rattle.adjacency_table.specs.Instances.{begun}
-use Rattle.adjacency_table.specs.Ends.{router, side_of}
-use Rattle.atm_cells.specs.declared.cell.Cell.{Cell}
-use Rattle.link_model.specs.declared.frames.Frame.{Frame}
-use Rattle.link_model.specs.Ledger.{payload_of}
-use Rattle.keyed_lists.specs.Keyed.{at}
-use Rattle.port_facts.proofs.Keyed.{at_key}
-use Rattle.crossbar_model.specs.Channels.{end_cmp}
-use Rattle.crossbar_model.specs.declared.branch.Branch.{Branch}
-use Rattle.crossbar_model.specs.Crossbar.{Branches, output_of, queue_of}
-use Rattle.world_model.specs.Switch.{control_port}
-use Rattle.port_model.specs.Setup.{Policy}
-use Rattle.port_model.specs.Labels.{label_number}
-use Rattle.port_model.specs.Grants.{Grant, grant_label}
-use Rattle.port_model.specs.Port.{Session}
-use Rattle.world_model.specs.Controller.{Controller, Linked, port_key, linked_at, default_channel}
-use Rattle.label_line.specs.Cells.{Role, Downstream, Upstream}
-use Rattle.label_line.specs.Line.{Line, NoGrant, start}
+use Rattle.world_model.specs.Words.{End, NodeId, PortNo, Addr, Peer, Clearing, Side, router, side_of, Cell, Frame, payload_of, at, end_cmp, Branches, queue_of, control_port, Policy, label_number, Grant, grant_label, Session, Controller, Linked, port_key, linked_at, default_channel, Topology, World, Site, site_at, on_channel, past_of}
+use Rattle.world_model.specs.adjacency_table.Instances.{begun}
+use Rattle.label_events.proofs.port_facts.Keyed.{at_key}
+use Rattle.world_model.specs.crossbar_model.declared.branch.Branch.{Branch}
+use Rattle.world_model.specs.crossbar_model.Crossbar.{output_of}
+use Rattle.label_events.specs.label_line.Cells.{Role, Downstream, Upstream}
+use Rattle.label_events.specs.label_line.Line.{Line, NoGrant, start}
 use Rattle.world_model.specs.declared.link.LinkEnd.{LinkEnd}
-use Rattle.world_model.specs.Topology.{Topology}
-use Rattle.world_model.specs.World.{World, Site, site_at, opened}
-use Rattle.world_model.specs.Ways.{on_channel}
-use Rattle.world_model.specs.Past.{past_of}
-use Rattle.port_views.specs.Link.{LinkLabel}
-use Rattle.port_views.specs.Shown.{DownAt, UpAt, GrantShows, Once, part_of, label_of, flow_of, number_of, known_number, expected_number}
-use Rattle.shown_cells.specs.Seen.{nothing}
-use Rattle.shown_cells.specs.Label.{OnLink, OnControl, Where, ShowsCells}
-use Rattle.controller_views.specs.Ends.{End as EndShows, working}
-use Rattle.controller_views.proofs.Parts.{both}
-use Rattle.world_views.specs.Pairs.{Pairs, by_branch, by_desk, by_copy, IsLike}
-use Rattle.world_views.specs.Shown.{end_of, WorldShows}
-use Rattle.world_views.specs.Between.{HasLabelLine}
+use Rattle.world_model.specs.World.{opened}
+use Rattle.label_events.specs.port_views.Link.{LinkLabel}
+use Rattle.label_events.specs.port_views.Shown.{DownAt, UpAt, GrantShows, Once, part_of, label_of, flow_of, number_of, known_number, expected_number}
+use Rattle.label_events.specs.shown_cells.Seen.{nothing}
+use Rattle.label_events.specs.shown_cells.Label.{OnLink, OnControl, Where, ShowsCells}
+use Rattle.label_events.specs.controller_views.Ends.{End as EndShows, working}
+use Rattle.label_events.proofs.controller_views.Parts.{both}
+use Rattle.label_events.specs.world_views.Pairs.{Pairs, by_branch, by_desk, by_copy, IsLike}
+use Rattle.label_events.specs.world_views.Shown.{end_of, WorldShows}
+use Rattle.label_events.specs.world_views.Between.{HasLabelLine}
 use Rattle.run_facts.specs.Drawn.{ByPort, own_at}
 use Rattle.label_worlds.proofs.Opened.{IsNew, IsNewPort, new_at, new_port, none_made, no_cells}
 

@@ -3,49 +3,37 @@
 use Rattle.std.proofs.Common.{◌≡◌, ℕ, ◌≤◌, ◌<◌, ◌+◌, Bool, true, false, List, [], ◌∷◌, length, Option, None, Some, refl, sym, ◌∙◌, ap, subst, arith, fold, map}
 use Rattle.std.specs.Prelude.{◌^◌}
 use Rattle.std.specs.Option.{option_and_then}
-use Rattle.net_types.specs.declared.node.PortNo.{PortNo}
-use Rattle.net_types.specs.declared.channel.End.{End}
-use Rattle.net_types.specs.Label.{number_of_channel}
-use Rattle.gsmp_wire.specs.declared.request.Request.{Request}
-use Rattle.link_model.specs.declared.record.Record.TheVariants.{Part}
-use Rattle.ordered_lists.specs.Ordered.{Every}
-use Rattle.keyed_lists.specs.Keyed.{at}
-use Rattle.port_model.specs.Requests.{leads_home}
-use Rattle.port_facts.proofs.Keyed.{on_both}
-use Rattle.port_facts.proofs.Found.{filter_passes}
-use Rattle.port_facts.proofs.Instances.{closes_gave, parted_gave, given_back_gave}
-use Rattle.label_line.specs.Cells.{Role}
-use Rattle.label_steps.proofs.Joins.{given_back_leads, closes_lead}
-use Rattle.port_views.specs.Link.{LinkLabel}
-use Rattle.port_views.proofs.Answering.{parted_leads}
-use Rattle.port_widths.proofs.Keeping.{found_grant}
-use Rattle.port_widths.proofs.Rules.{given_back_fit}
-use Rattle.port_model.specs.Setup.{Setup, home_of}
-use Rattle.port_model.specs.Grants as grants
-use Rattle.port_model.specs.Grants.{Grant, grant_label}
-use Rattle.port_model.specs.Port.{Work, halts, label_at}
-use Rattle.port_model.specs.Saying.{is_spent, closes}
-use Rattle.port_model.specs.Joins.{parted, given_back}
-use Rattle.world_model.specs.Controller.{Controller, Acted, Linked, linked_at, ports_of, note}
-use Rattle.world_model.specs.Resets.{begins}
-use Rattle.world_model.specs.Joins.{Join, join_of, joins_of, parts, releases_join, releases_input, released_inputs, resets_spent, releases}
-use Rattle.controller_facts.specs.Sound.{IsSound}
-use Rattle.controller_facts.proofs.Moves.{HasPorts, moves_ports}
-use Rattle.controller_facts.proofs.Laws.{has_ports}
-use Rattle.controller_facts.proofs.Flows.{says_in_range}
-use Rattle.controller_facts.proofs.Joining.{IsJoin, granted_there, parts_grants, parts_goes, releases_input_goes, resets_spent_goes}
-use Rattle.controller_law.specs.Match.{lent_in, lent_at}
-use Rattle.controller_law.proofs.Matched.{shut_lent}
-use Rattle.controller_views.specs.Ends.{EndLeads}
-use Rattle.controller_views.specs.Lifted.{IsProper, IsReadableAction, IsLifted}
-use Rattle.controller_views.proofs.Parts.{end_stays, end_then, quiet_leads}
-use Rattle.controller_views.proofs.Works.{quiet_note, leads_fold}
-use Rattle.controller_views.proofs.AtPort.{at_port_leads}
-use Rattle.controller_views.specs.Ready.{IsReady, FitsLink}
-use Rattle.controller_lifts.proofs.Lifts.{readable_all, joined_says}
-use Rattle.controller_lifts.proofs.Kept.{Goes}
-use Rattle.controller_lifts.proofs.Ready.{Fits}
-use Rattle.controller_lifts.proofs.Releasing.{IsSteady, ready_steady, steady_on, steady_work, steady_fits, given_back_fits, found_join, parts_fit, input_fits, inputs_fit, ports_fit, released_ready}
+use Rattle.world_model.specs.Words.{PortNo, End, number_of_channel, Request, Part, at, leads_home, Setup, home_of, Grant, grant_label, Work, halts, label_at, is_spent, closes, parted, given_back, Controller, Linked, linked_at, begins, join_of, joins_of, parts, releases_join, releases_input, released_inputs, resets_spent, releases}
+use Rattle.label_events.specs.ordered_lists.Ordered.{Every}
+use Rattle.label_events.proofs.port_facts.Keyed.{on_both}
+use Rattle.label_events.proofs.port_facts.Found.{filter_passes}
+use Rattle.label_events.proofs.port_facts.Instances.{closes_gave, parted_gave, given_back_gave}
+use Rattle.label_events.specs.label_line.Cells.{Role}
+use Rattle.label_events.proofs.label_steps.Joins.{given_back_leads, closes_lead}
+use Rattle.label_events.specs.port_views.Link.{LinkLabel}
+use Rattle.label_events.proofs.port_views.Answering.{parted_leads}
+use Rattle.label_events.proofs.port_widths.Keeping.{found_grant}
+use Rattle.label_events.proofs.port_widths.Rules.{given_back_fit}
+use Rattle.world_model.specs.port_model.Grants as grants
+use Rattle.world_model.specs.Controller.{Acted, ports_of, note}
+use Rattle.world_model.specs.Joins.{Join}
+use Rattle.label_events.specs.controller_facts.Sound.{IsSound}
+use Rattle.label_events.proofs.controller_facts.Moves.{HasPorts, moves_ports}
+use Rattle.label_events.proofs.controller_facts.Laws.{has_ports}
+use Rattle.label_events.proofs.controller_facts.Flows.{says_in_range}
+use Rattle.label_events.proofs.controller_facts.Joining.{IsJoin, granted_there, parts_grants, parts_goes, releases_input_goes, resets_spent_goes}
+use Rattle.run_facts.specs.controller_law.Match.{lent_in, lent_at}
+use Rattle.run_facts.proofs.controller_law.Matched.{shut_lent}
+use Rattle.label_events.specs.controller_views.Ends.{EndLeads}
+use Rattle.label_events.specs.controller_views.Lifted.{IsProper, IsReadableAction, IsLifted}
+use Rattle.label_events.proofs.controller_views.Parts.{end_stays, end_then, quiet_leads}
+use Rattle.label_events.proofs.controller_views.Works.{quiet_note, leads_fold}
+use Rattle.label_events.proofs.controller_views.AtPort.{at_port_leads}
+use Rattle.label_events.specs.controller_views.Ready.{IsReady, FitsLink}
+use Rattle.label_events.proofs.controller_lifts.Lifts.{readable_all, joined_says}
+use Rattle.label_events.proofs.controller_lifts.Kept.{Goes}
+use Rattle.label_events.proofs.controller_lifts.Ready.{Fits}
+use Rattle.label_events.proofs.controller_lifts.Releasing.{IsSteady, ready_steady, steady_on, steady_work, steady_fits, given_back_fits, found_join, parts_fit, input_fits, inputs_fit, ports_fit, released_ready}
 use Rattle.lasting_joins.proofs.Lent.{Keeps, itself, keeps_on, found_input, input_keeps, spent_keeps}
 use Rattle.label_worlds.proofs.Drawn.{releases_small}
 

@@ -3,50 +3,41 @@
 use Rattle.std.proofs.Common.{◌≡◌, ◌≤◌, ◌<◌, Bool, true, false, List, [], ◌∷◌, ◌++◌, Option, None, Some, refl, sym, ◌∙◌, ap, subst, arith, fold, map, ◌⊎◌, inl, inr}
 use Rattle.std.specs.Prelude.{◌^◌, flat_map}
 use Rattle.std.specs.Option.{option_map_or}
-use Rattle.net_types.specs.declared.node.PortNo.{PortNo}
-use Rattle.net_types.specs.declared.channel.End.{End as ChannelEnd}
-use Rattle.adjacency_table.specs.declared.message.Answer.{Answer}
-use Rattle.adjacency_table.specs.declared.message.Answer.TheVariants.{Quiet, Send, Open, Reset}
-use Rattle.adjacency_table.specs.declared.message.Said.{Said}
-use Rattle.net_types.specs.declared.adjacency.Party.{Party}
-use Rattle.adjacency_table.specs.Side as sides
-use Rattle.adjacency_table.specs.Side.{ticked}
-use Rattle.ordered_lists.specs.Ordered.{Every}
-use Rattle.port_facts.specs.Port.{IsLabelEnd, IsPort}
-use Rattle.label_line.specs.Cells.{Role, Upstream}
-use Rattle.port_model.specs.Setup.{Setup, label_end}
-use Rattle.port_model.specs.Labels.{Label}
-use Rattle.port_model.specs.Port.{Session, Port}
-use Rattle.port_model.specs.Ticks as port_ticks
-use Rattle.port_views.specs.Link.{LinkLabel}
-use Rattle.world_model.specs.Controller.{Acted, Linked, ports_of}
-use Rattle.world_model.specs.Resets.{node_resets}
-use Rattle.world_model.specs.Joins.{Join, joins, label_on, tries_join, inputs_at, tries_joins}
+use Rattle.world_model.specs.Words.{PortNo, End as ChannelEnd, Answer, Quiet, Send, Open, Said, Party, ticked, Setup, label_end, Label, Session, Linked, node_resets, joins, label_on, tries_join, inputs_at, tries_joins, gsmp_answer, sends_again, ticks_port, ticks_ports, ticks_by}
+use Rattle.world_model.specs.adjacency_table.declared.message.Answer.TheVariants.{Reset}
+use Rattle.world_model.specs.adjacency_table.Side as sides
+use Rattle.label_events.specs.ordered_lists.Ordered.{Every}
+use Rattle.label_events.specs.port_facts.Port.{IsLabelEnd, IsPort}
+use Rattle.label_events.specs.label_line.Cells.{Role, Upstream}
+use Rattle.world_model.specs.port_model.Port.{Port}
+use Rattle.world_model.specs.port_model.Ticks as port_ticks
+use Rattle.label_events.specs.port_views.Link.{LinkLabel}
+use Rattle.world_model.specs.Controller.{Acted, ports_of}
+use Rattle.world_model.specs.Joins.{Join}
 use Rattle.world_model.specs.Gsmp.{answers, steps}
-use Rattle.adjacency_table.specs.Greeting.{gsmp_answer}
-use Rattle.world_model.specs.Ticks.{sends_again, ticks_port, ticks_ports, ticks_by, ticks}
-use Rattle.controller_facts.proofs.Moves.{ages, Found, HasPorts, moves_ports, further}
-use Rattle.controller_facts.specs.Sound.{IsSound, IsShutLinked}
-use Rattle.controller_facts.proofs.Laws.{has_ports, moves_sound}
-use Rattle.controller_law.proofs.Holding.{node_unmet}
-use Rattle.controller_facts.proofs.Joining.{every_flat_map, each_there}
-use Rattle.controller_facts.proofs.Entering.{tries_join_goes, tries_joins_goes, inputs_of_port}
-use Rattle.controller_facts.proofs.Events.{steps_goes, sends_again_goes, ticks_ports_goes}
-use Rattle.controller_facts.proofs.Numbers.{moves_never_fall}
-use Rattle.controller_views.specs.Ends.{EndLeads}
-use Rattle.controller_views.specs.Lifted.{IsProper}
-use Rattle.controller_views.proofs.Parts.{end_stays, end_then}
-use Rattle.controller_views.proofs.Works.{node_resets_leads}
-use Rattle.controller_views.proofs.AtPort.{at_port_leads}
-use Rattle.controller_views.specs.Ready.{IsReady, FitsLink}
-use Rattle.controller_lifts.proofs.Lifts.{ticks_lifted}
-use Rattle.controller_lifts.proofs.Kept.{IsClosed, Goes}
-use Rattle.controller_lifts.proofs.Unspent.{Unspent, unspent_closed}
-use Rattle.controller_lifts.proofs.Ready.{Fits, fits_closed, Readies, readies_fold, moves_ready, ticks_ready, ticks_ports_ready}
-use Rattle.controller_lifts.proofs.Follow.{steps_follow, sends_again_follow}
-use Rattle.controller_lifts.proofs.Ways.{leads_followed, kept_followed}
-use Rattle.quiet_controllers.specs.Quiet.{entered}
-use Rattle.quiet_controllers.specs.Law.{before_joins}
+use Rattle.world_model.specs.Ticks.{ticks}
+use Rattle.label_events.proofs.controller_facts.Moves.{ages, Found, HasPorts, moves_ports, further}
+use Rattle.label_events.specs.controller_facts.Sound.{IsSound, IsShutLinked}
+use Rattle.label_events.proofs.controller_facts.Laws.{has_ports, moves_sound}
+use Rattle.run_facts.proofs.controller_law.Holding.{node_unmet}
+use Rattle.label_events.proofs.controller_facts.Joining.{every_flat_map, each_there}
+use Rattle.label_events.proofs.controller_facts.Entering.{tries_join_goes, tries_joins_goes, inputs_of_port}
+use Rattle.label_events.proofs.controller_facts.Events.{steps_goes, sends_again_goes, ticks_ports_goes}
+use Rattle.label_events.proofs.controller_facts.Numbers.{moves_never_fall}
+use Rattle.label_events.specs.controller_views.Ends.{EndLeads}
+use Rattle.label_events.specs.controller_views.Lifted.{IsProper}
+use Rattle.label_events.proofs.controller_views.Parts.{end_stays, end_then}
+use Rattle.label_events.proofs.controller_views.Works.{node_resets_leads}
+use Rattle.label_events.proofs.controller_views.AtPort.{at_port_leads}
+use Rattle.label_events.specs.controller_views.Ready.{IsReady, FitsLink}
+use Rattle.label_events.proofs.controller_lifts.Lifts.{ticks_lifted}
+use Rattle.label_events.proofs.controller_lifts.Kept.{IsClosed, Goes}
+use Rattle.label_events.proofs.controller_lifts.Unspent.{Unspent, unspent_closed}
+use Rattle.label_events.proofs.controller_lifts.Ready.{Fits, fits_closed, Readies, readies_fold, moves_ready, ticks_ready, ticks_ports_ready}
+use Rattle.label_events.proofs.controller_lifts.Follow.{steps_follow, sends_again_follow}
+use Rattle.label_events.proofs.controller_lifts.Ways.{leads_followed, kept_followed}
+use Rattle.lasting_joins.specs.quiet_controllers.Quiet.{entered}
+use Rattle.lasting_joins.specs.quiet_controllers.Law.{before_joins}
 use Rattle.label_worlds.specs.Enters.{EntersTo, TickEntersTo}
 use Rattle.lasting_joins.proofs.Lent.{Keeps, keeps_on}
 use Rattle.label_worlds.proofs.Lent.{again_keeps, ticks_keep}

@@ -2,25 +2,24 @@
 
 use Rattle.std.proofs.Common.{◌≡◌, ◌≢◌, ◌<◌, List, [], Option, None, Some, refl, sym, ◌∙◌, ap, subst, ◌⊎◌, inl, inr}
 use Rattle.std.specs.Prelude.{◌^◌}
-use Rattle.net_types.specs.declared.node.NodeId.{NodeId}
-use Rattle.port_facts.proofs.Keyed.{by_eq, at_key}
-use Rattle.label_line.specs.Cells.{Role, Downstream, Upstream}
-use Rattle.label_line.specs.Line.{Line}
-use Rattle.port_model.specs.Setup.{Setup, label_end}
-use Rattle.world_model.specs.Controller.{Controller, Acted}
+use Rattle.world_model.specs.Words.{NodeId, Setup, label_end, Controller, World, Site, site_key, site_at, controller_acts}
+use Rattle.label_events.proofs.port_facts.Keyed.{by_eq, at_key}
+use Rattle.label_events.specs.label_line.Cells.{Role, Downstream, Upstream}
+use Rattle.label_events.specs.label_line.Line.{Line}
+use Rattle.world_model.specs.Controller.{Acted}
 use Rattle.world_model.specs.Ticks.{ticks}
-use Rattle.controller_facts.proofs.Laws.{has_ports}
-use Rattle.port_views.specs.Link.{LinkLabel, other}
-use Rattle.shown_cells.specs.Label.{OnLink, OnControl, ShowsCells}
-use Rattle.shown_cells.proofs.Made.{shows_more}
-use Rattle.controller_views.specs.Ends.{End, Pieces, Net, EndGoes, asking, idle, placed, put_at}
-use Rattle.controller_views.specs.Lifted.{IsProper}
-use Rattle.controller_views.proofs.Parts.{both, kept_waiting, kept_output, end_drawn, end_kept}
-use Rattle.controller_views.specs.Ready.{IsReady, FitsLink}
-use Rattle.controller_lifts.proofs.Ticking.{ticks_grow, ticks_node}
-use Rattle.world_model.specs.World.{World, Site, site_key, site_at, controller_acts, at_controller}
-use Rattle.world_views.specs.Shown.{pieces_of, WorldShows, WorldGoes, AreApart, acting}
-use Rattle.world_views.proofs.Sites.{acted, found_after, goes_self, enters, site_same, controller_goes, world_less}
+use Rattle.label_events.proofs.controller_facts.Laws.{has_ports}
+use Rattle.label_events.specs.port_views.Link.{LinkLabel, other}
+use Rattle.label_events.specs.shown_cells.Label.{OnLink, OnControl, ShowsCells}
+use Rattle.label_events.proofs.shown_cells.Made.{shows_more}
+use Rattle.label_events.specs.controller_views.Ends.{End, Pieces, Net, EndGoes, asking, idle, placed, put_at}
+use Rattle.label_events.specs.controller_views.Lifted.{IsProper}
+use Rattle.label_events.proofs.controller_views.Parts.{both, kept_waiting, kept_output, end_drawn, end_kept}
+use Rattle.label_events.specs.controller_views.Ready.{IsReady, FitsLink}
+use Rattle.label_events.proofs.controller_lifts.Ticking.{ticks_grow, ticks_node}
+use Rattle.world_model.specs.World.{at_controller}
+use Rattle.label_events.specs.world_views.Shown.{pieces_of, WorldShows, WorldGoes, AreApart, acting}
+use Rattle.label_events.proofs.world_views.Sites.{acted, found_after, goes_self, enters, site_same, controller_goes, world_less}
 use Rattle.label_worlds.specs.Enters.{TickEntersTo, IsTickJoin}
 use Rattle.label_worlds.proofs.Joined.{Turns}
 use Rattle.label_worlds.proofs.Ticked.{tick_leads, tick_turns}

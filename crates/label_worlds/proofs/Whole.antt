@@ -2,24 +2,17 @@
 
 use Rattle.std.proofs.Common.{◌≡◌, ℕ, ◌≤◌, List, [], ◌∷◌, map, Option, Some, refl, sym, ◌∙◌, ap, subst, arith}
 use Rattle.std.specs.Prelude.{is_some}
-use Rattle.net_types.specs.declared.node.NodeId.{NodeId}
-use Rattle.net_types.specs.declared.prefix.Addr.{Addr}
-use Rattle.ordered_lists.specs.Ordered.{Every}
-use Rattle.ordered_lists.proofs.Every.{every_unmapped}
-use Rattle.port_facts.proofs.Keyed.{at_every}
-use Rattle.port_model.specs.Setup.{Policy, Setup}
+use Rattle.world_model.specs.Words.{NodeId, Addr, Policy, Setup, Linked, port_key, setup_of, Topology, Node, ranges_of, timers_of, IsTopology, IsNode, past_of}
+use Rattle.label_events.specs.ordered_lists.Ordered.{Every}
+use Rattle.label_events.proofs.ordered_lists.Every.{every_unmapped}
+use Rattle.label_events.proofs.port_facts.Keyed.{at_every}
 use Rattle.world_model.specs.declared.range.PortRange.{PortRange}
-use Rattle.world_model.specs.Controller.{Linked, port_key}
-use Rattle.world_model.specs.Opening.{setup_of}
-use Rattle.label_line.specs.Cells.{Role, Downstream, Upstream}
+use Rattle.label_events.specs.label_line.Cells.{Role, Downstream, Upstream}
 use Rattle.world_model.specs.declared.link.LinkEnd.{LinkEnd}
-use Rattle.world_model.specs.Topology.{Topology, Node, ranges_of, timers_of}
-use Rattle.world_model.specs.Conditions.{IsTopology, IsNode}
 use Rattle.world_model.specs.World.{opened}
-use Rattle.world_model.specs.Past.{past_of}
-use Rattle.port_views.specs.Link.{LinkLabel}
-use Rattle.world_views.specs.Between.{HasAddress, IsLinkLabel, HasAllLabels}
-use Rattle.world_views.specs.Kept.{Keeps, Begins, HasAddresses}
+use Rattle.label_events.specs.port_views.Link.{LinkLabel}
+use Rattle.label_events.specs.world_views.Between.{HasAddress, IsLinkLabel, HasAllLabels}
+use Rattle.label_events.specs.world_views.Kept.{Keeps, Begins, HasAddresses}
 use Rattle.run_facts.specs.Drawn.{ByPort, own_at}
 use Rattle.run_facts.proofs.Runs.{runs_draw_once}
 use Rattle.run_facts.specs.Nodes.{IsNodeOfRun, HasSite, HasPort}

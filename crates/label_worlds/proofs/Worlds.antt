@@ -5,30 +5,22 @@ use Rattle.std.proofs.Common.{◌≡◌, ◌<◌, ◌+◌, List, [], ◌∷◌, 
 use Rattle.std.proofs.lemmas.List.{length-map}
 use Rattle.std.specs.Prelude.{◌^◌, not}
 use Rattle.std.specs.Option.{option_map_or}
-use Rattle.net_types.specs.declared.node.NodeId.{NodeId}
-use Rattle.net_types.specs.declared.node.Place.TheVariants.{Up}
-use Rattle.label_line.specs.Cells.{Upstream}
-use Rattle.port_model.specs.Setup.{Policy, label_end}
-use Rattle.world_model.specs.Cells.{Taker, taker_of, reassembly_of}
+use Rattle.world_model.specs.Words.{NodeId, Up, Policy, label_end, taker_of, reassembly_of, Topology, IsEvent, World, Site, site_at, queue_in, queue_at, next, put_away, Past, past_of, IsRun, IsTame}
+use Rattle.label_events.specs.label_line.Cells.{Upstream}
+use Rattle.world_model.specs.Cells.{Taker}
 use Rattle.world_model.specs.Ticks.{ticks}
-use Rattle.controller_facts.specs.Sound.{linked_setup}
-use Rattle.controller_facts.proofs.Drawn.{ticks_few}
-use Rattle.arrival_views.specs.Cells.{PassesByRight, EndsFrame}
+use Rattle.label_events.specs.controller_facts.Sound.{linked_setup}
+use Rattle.label_events.proofs.controller_facts.Drawn.{ticks_few}
+use Rattle.label_events.specs.arrival_views.Cells.{PassesByRight, EndsFrame}
 use Rattle.world_model.specs.declared.event.Event.{Event}
 use Rattle.world_model.specs.declared.event.Event.TheVariants.{Carry, Tick}
-use Rattle.world_model.specs.Topology.{Topology}
-use Rattle.world_model.specs.Conditions.{IsEvent}
-use Rattle.world_model.specs.World.{World, Site, site_at, at_controller, opened}
-use Rattle.world_model.specs.Places.{queue_in, queue_at}
-use Rattle.world_model.specs.Run.{next, put_away}
-use Rattle.world_model.specs.Past.{Past, past_of}
-use Rattle.world_model.specs.Headline.{IsRun, IsTame}
-use Rattle.world_views.specs.Pairs.{Pairs, IsLike}
+use Rattle.world_model.specs.World.{at_controller, opened}
+use Rattle.label_events.specs.world_views.Pairs.{Pairs, IsLike}
 use Rattle.pairs.specs.Events.{EntersAt}
-use Rattle.world_views.specs.Ready.{setups_of}
-use Rattle.world_views.specs.Shown.{WorldGoes, acting}
-use Rattle.world_views.specs.Between.{IsWorld}
-use Rattle.world_views.specs.Kept.{Comes}
+use Rattle.label_events.specs.world_views.Ready.{setups_of}
+use Rattle.label_events.specs.world_views.Shown.{WorldGoes, acting}
+use Rattle.label_events.specs.world_views.Between.{IsWorld}
+use Rattle.label_events.specs.world_views.Kept.{Comes}
 use Rattle.run_facts.specs.Nodes.{IsNodeOfRun, RunsHaveNodes, RunsHaveRoom}
 use Rattle.run_facts.proofs.Steps.{front_run, runs_have_fronts}
 use Rattle.running_worlds.proofs.Worlds.{events_true}
@@ -40,7 +32,7 @@ use Rattle.pairs.specs.Asked.{AnswersSettle}
 use Rattle.pairs.specs.Past.{RunsMakeNoPairs}
 use Rattle.label_worlds.proofs.Arriving.{arrives}
 use Rattle.label_worlds.proofs.Ticking.{Ticks, tick_goes}
-use Rattle.causes.proofs.Runs.{after_one}
+use Rattle.running_worlds.proofs.causes.Runs.{after_one}
 
 -- *Of a run*
 module _ (nodes : RunsHaveNodes) (room : RunsHaveRoom) (policy : Policy) (topology : Topology) (before : List Event) (event : Event) (comes : Comes policy topology before event)

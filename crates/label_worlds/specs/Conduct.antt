@@ -2,25 +2,15 @@
 -- and what may be joined behind an event
 
 use Rattle.std.specs.Prelude.{◌≡◌, ◌<◌, List, ◌∷◌, Some}
-use Rattle.net_types.specs.declared.channel.End.{End}
-use Rattle.net_types.specs.declared.node.NodeId.{NodeId}
-use Rattle.net_types.specs.declared.node.Place.TheVariants.{Up}
-use Rattle.atm_cells.specs.declared.cell.Cell.{Cell}
-use Rattle.crossbar_model.specs.Crossbar.{queue_of}
-use Rattle.world_model.specs.Switch.{control_port}
-use Rattle.port_model.specs.Setup.{Policy}
-use Rattle.label_line.specs.Line.{Line}
+use Rattle.world_model.specs.Words.{End, NodeId, Up, Cell, queue_of, control_port, Policy, Topology, World, Site, site_at, put_away, past_of}
+use Rattle.label_events.specs.label_line.Line.{Line}
 use Rattle.world_model.specs.declared.event.Event.{Event}
 use Rattle.world_model.specs.declared.event.Event.TheVariants.{Carry, Tick}
-use Rattle.world_model.specs.Topology.{Topology}
-use Rattle.world_model.specs.World.{World, Site, site_at}
-use Rattle.world_model.specs.Run.{put_away}
-use Rattle.world_model.specs.Past.{past_of}
-use Rattle.port_views.specs.Link.{LinkLabel}
-use Rattle.world_views.specs.Pairs.{Pairs, IsLike}
-use Rattle.world_views.specs.Shown.{WorldShows, WorldGoes}
-use Rattle.world_views.specs.Between.{IsWorld, IsLinkLabel}
-use Rattle.world_views.specs.Kept.{Comes, behind}
+use Rattle.label_events.specs.port_views.Link.{LinkLabel}
+use Rattle.label_events.specs.world_views.Pairs.{Pairs, IsLike}
+use Rattle.label_events.specs.world_views.Shown.{WorldShows, WorldGoes}
+use Rattle.label_events.specs.world_views.Between.{IsWorld, IsLinkLabel}
+use Rattle.label_events.specs.world_views.Kept.{Comes, behind}
 use Rattle.label_events.specs.Acts.{Arrives}
 
 -- the past before an event, and the network behind it

@@ -1,17 +1,13 @@
 -- The joins that a tick enters
 
 use Rattle.std.specs.Prelude.{◌≡◌, List, flat_map, Some}
-use Rattle.net_types.specs.declared.channel.End.{End}
-use Rattle.net_types.specs.declared.node.NodeId.{NodeId}
-use Rattle.port_model.specs.Setup.{label_end}
+use Rattle.world_model.specs.Words.{End, NodeId, label_end, inputs_at, World, Site, site_at}
 use Rattle.world_model.specs.Controller.{Acted}
-use Rattle.world_model.specs.Joins.{inputs_at}
-use Rattle.label_line.specs.Cells.{Upstream}
-use Rattle.port_views.specs.Link.{LinkLabel}
-use Rattle.world_model.specs.World.{World, Site, site_at}
-use Rattle.world_views.specs.Shown.{acting}
-use Rattle.quiet_controllers.specs.Quiet.{Enters}
-use Rattle.quiet_controllers.specs.Law.{before_joins}
+use Rattle.label_events.specs.label_line.Cells.{Upstream}
+use Rattle.label_events.specs.port_views.Link.{LinkLabel}
+use Rattle.label_events.specs.world_views.Shown.{acting}
+use Rattle.lasting_joins.specs.quiet_controllers.Quiet.{Enters}
+use Rattle.lasting_joins.specs.quiet_controllers.Law.{before_joins}
 
 -- one of these inputs, each tried in turn, is joined to the output
 pub record EntersTo (output : End) (a : Acted) (inputs : List End) : Type 0 where

@@ -1,2 +1,3 @@
+pub use Rattle.pairs.specs as pairs
 pub mod Conduct
 pub mod Enters

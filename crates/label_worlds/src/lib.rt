@@ -12,8 +12,8 @@
 ghost use Rattle.run_facts.specs.Nodes.{RunsHaveNodes, RunsHaveRoom};
 ghost use Rattle.pairs.specs.Past.{RunsMakeNoPairs};
 ghost use Rattle.pairs.specs.Asked.{AnswersSettle};
-ghost use Rattle.world_views.specs.Between.{HasAllLabels};
-ghost use Rattle.world_views.specs.Kept.{Keeps, Begins};
+ghost use Rattle.label_events.specs.world_views.Between.{HasAllLabels};
+ghost use Rattle.label_events.specs.world_views.Kept.{Keeps, Begins};
 ghost use Rattle.label_worlds.specs.Conduct.{CellsArrive, TicksLead, PairsAreOld};
 
 use run_facts::nodes_are_steady;

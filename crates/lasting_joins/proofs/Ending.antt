@@ -3,34 +3,23 @@
 use Rattle.std.proofs.Common.{◌≡◌, ℕ, Bool, true, false, List, [], ◌∷◌, Option, None, Some, Result, Ok, Err, refl, sym, ◌∙◌, ap, subst, if◌then◌else◌}
 use Rattle.std.specs.Prelude.{not, nat_lt}
 use Rattle.std.specs.List.{list_any}
-use Rattle.net_types.specs.declared.channel.End.{End}
-use Rattle.net_types.specs.declared.number.Mark.{Mark}
-use Rattle.atm_cells.specs.declared.cell.Cell.{Cell}
-use Rattle.adjacency_table.specs.Side.{is_estab}
-use Rattle.adjacency_table.specs.Greeting.{gsmp_received}
-use Rattle.flow_encaps.specs.Unwrapped.{default_unwrapped, unwrapped}
-use Rattle.gsmp_wire.specs.declared.fault.Fault.{Fault}
-use Rattle.gsmp_wire.specs.declared.message.Message.{Message}
-use Rattle.gsmp_wire.specs.declared.message.Message.TheVariants as messages
-use Rattle.gsmp_wire.specs.declared.request.Request.{Request}
-use Rattle.gsmp_wire.specs.declared.request.Request.TheVariants.{AddBranch, MoveBranch, DeleteTree, VerifyTree, DeleteAll, PortManagement, AllPorts}
-use Rattle.gsmp_wire.specs.Fields.{decoded as gsmp_decoded}
-use Rattle.frame_model.specs.Frame.{octets_of, last_mark, payload_in, tested_by}
-use Rattle.frame_model.specs.Reassembly.{Taken, taken}
-use Rattle.port_model.specs.Desk.{Desk, Standing}
-use Rattle.port_model.specs.DeskAnswers.{Answered, Unknown, Done, Ports, Failed, answered, after_answer, without_request}
-use Rattle.port_model.specs.Setup.{Setup}
-use Rattle.world_model.specs.Controller.{Controller, Acted, default_channel, default_end, default_home, free_slots, ports_of, with_desk}
-use Rattle.world_model.specs.Asking.{asks}
-use Rattle.world_model.specs.Joins.{releases}
-use Rattle.world_model.specs.Meeting.{port_of_input, is_deleting, has_emptied, ends_meeting, causes_in_estab, causes, clears, done, takes_answer, answer_comes}
-use Rattle.world_model.specs.Gsmp.{told, gsmp_holds}
-use Rattle.world_model.specs.Cells.{Taker, ForGsmp, ForDefault, ForLabel, same_channel, reassembly_of, with_reassembly, frame_holds, opened_frame, ends_frame, takes_cell, cell_comes}
-use Rattle.controller_facts.specs.Sound.{IsSound}
-use Rattle.controller_facts.proofs.Laws.{has_ports, moves_sound}
-use Rattle.controller_facts.proofs.Moves.{HasPorts, answering, moves_to, moves_ports}
-use Rattle.controller_facts.proofs.Joining.{releases_goes}
-use Rattle.controller_facts.proofs.Events.{IsTaker, kept_ports}
+use Rattle.world_model.specs.Words.{End, Mark, Cell, is_estab, gsmp_received, default_unwrapped, unwrapped, Request, AddBranch, MoveBranch, DeleteTree, VerifyTree, PortManagement, last_mark, payload_in, tested_by, Desk, Standing, Answered, Unknown, Done, Ports, Failed, answered, after_answer, without_request, Setup, Controller, default_channel, default_end, default_home, with_desk, asks, releases, port_of_input, is_deleting, has_emptied, ends_meeting, causes_in_estab, causes, clears, takes_answer, answer_comes, gsmp_holds, ForGsmp, ForDefault, ForLabel, same_channel, reassembly_of, with_reassembly, frame_holds, takes_cell}
+use Rattle.world_model.specs.gsmp_wire.declared.fault.Fault.{Fault}
+use Rattle.world_model.specs.gsmp_wire.declared.message.Message.{Message}
+use Rattle.world_model.specs.gsmp_wire.declared.message.Message.TheVariants as messages
+use Rattle.world_model.specs.gsmp_wire.declared.request.Request.TheVariants.{DeleteAll, AllPorts}
+use Rattle.world_model.specs.gsmp_wire.Fields.{decoded as gsmp_decoded}
+use Rattle.world_model.specs.frame_model.Frame.{octets_of}
+use Rattle.world_model.specs.frame_model.Reassembly.{Taken, taken}
+use Rattle.world_model.specs.Controller.{Acted, free_slots, ports_of}
+use Rattle.world_model.specs.Meeting.{done}
+use Rattle.world_model.specs.Gsmp.{told}
+use Rattle.world_model.specs.Cells.{Taker, opened_frame, ends_frame, cell_comes}
+use Rattle.controller_law.specs.controller_facts.Sound.{IsSound}
+use Rattle.controller_law.proofs.controller_facts.Laws.{has_ports, moves_sound}
+use Rattle.controller_law.proofs.controller_facts.Moves.{HasPorts, answering, moves_to, moves_ports}
+use Rattle.controller_law.proofs.controller_facts.Joining.{releases_goes}
+use Rattle.controller_law.proofs.controller_facts.Events.{IsTaker, kept_ports}
 use Rattle.lasting_joins.proofs.Lent.{node_keeps, tells_keep}
 use Rattle.lasting_joins.proofs.Keeping.{releases_keep, clears_last}
 use Rattle.lasting_joins.proofs.Lasting.{empties_last, changes_last, steps_last, default_lasts, label_lasts}

@@ -3,40 +3,22 @@
 use Rattle.std.proofs.Common.{◌≡◌, ℕ, Bool, true, false, List, [], ◌∷◌, length, Option, None, Some, refl, sym, ◌∙◌, ap, subst, fold, if◌then◌else◌}
 use Rattle.std.specs.Prelude.{◌&&◌, not, nat_lt, is_none}
 use Rattle.std.specs.Option.{option_map, option_map_or, option_and_then}
-use Rattle.net_types.specs.declared.channel.End.{End}
-use Rattle.net_types.specs.declared.node.PortNo.{PortNo}
-use Rattle.net_types.specs.Label.{number_of_channel}
-use Rattle.ipv4_forward.specs.Best.{best}
-use Rattle.ipv4_forward.specs.declared.table.Next.{Next}
-use Rattle.ipv4_forward.specs.declared.table.Next.TheVariants.{Local, Via}
-use Rattle.ipv4_packet.specs.declared.flow.FlowId.{FlowId}
-use Rattle.ipv4_packet.specs.Flow.{next_hop_of}
-use Rattle.ipv4_packet.specs.Parts.{same_flow, flow_destination}
-use Rattle.gsmp_wire.specs.declared.request.Request.TheVariants.{MoveBranch}
-use Rattle.ordered_lists.specs.Ordered.{Every}
-use Rattle.keyed_lists.specs.Keyed.{at, put}
-use Rattle.port_model.specs.Desk.{on_input, most_asked}
-use Rattle.port_model.specs.Setup.{Setup, home_of, label_end}
-use Rattle.port_model.specs.Labels.{Label, Offered, label_number}
-use Rattle.port_model.specs.Grants as grants
-use Rattle.port_model.specs.Grants.{Grant, ByController, ByInput, grant_label, grant_for, is_by_controller}
-use Rattle.port_model.specs.Port.{Session, label_at, labels_of}
-use Rattle.port_model.specs.Joins as port_joins
-use Rattle.port_facts.specs.Port.{IsLabelEnd, IsGrant}
-use Rattle.port_facts.proofs.Keyed.{at_key, at_every, apart_at, at_put_same}
-use Rattle.port_facts.proofs.Found.{find_passes}
-use Rattle.port_facts.proofs.Rules.{and_first, and_second}
-use Rattle.world_model.specs.Controller.{Acted, Linked, port_key, linked_at}
-use Rattle.world_model.specs.Resets.{begins}
-use Rattle.world_model.specs.Performing.{works}
-use Rattle.world_model.specs.Routes.{route_stays}
-use Rattle.world_model.specs.Joins.{Join, output_of, join_through, join_by, port_by, join_for, is_offered, may_join, enters_grant, enters_label, joins, label_on, tries_label, tries_join}
-use Rattle.controller_facts.specs.Sound.{IsSound, IsShutLinked}
-use Rattle.controller_facts.proofs.Laws.{has_ports, moves_sound}
-use Rattle.controller_facts.proofs.Moves.{HasPorts, Found, by_joining, by_lending, found_setup, found_at_own, found_port, moves_ports}
-use Rattle.controller_facts.proofs.Performing.{at_port_goes}
-use Rattle.controller_facts.proofs.Joining.{image_is}
-use Rattle.controller_facts.proofs.Entering.{OnPort, on_port, lends_labels, is_offered_by, by_controller, tries_join_goes}
+use Rattle.world_model.specs.Words.{End, PortNo, number_of_channel, best, Next, Local, Via, FlowId, next_hop_of, same_flow, flow_destination, MoveBranch, at, put, on_input, most_asked, Setup, home_of, label_end, Label, Offered, label_number, Grant, ByController, ByInput, grant_label, grant_for, is_by_controller, Session, label_at, labels_of, Linked, port_key, linked_at, begins, works, route_stays, join_through, join_by, port_by, join_for, is_offered, may_join, enters_grant, enters_label, joins, label_on, tries_label, tries_join}
+use Rattle.controller_law.specs.ordered_lists.Ordered.{Every}
+use Rattle.world_model.specs.port_model.Grants as grants
+use Rattle.world_model.specs.port_model.Joins as port_joins
+use Rattle.controller_law.specs.port_facts.Port.{IsLabelEnd, IsGrant}
+use Rattle.controller_law.proofs.port_facts.Keyed.{at_key, at_every, apart_at, at_put_same}
+use Rattle.controller_law.proofs.port_facts.Found.{find_passes}
+use Rattle.controller_law.proofs.port_facts.Rules.{and_first, and_second}
+use Rattle.world_model.specs.Controller.{Acted}
+use Rattle.world_model.specs.Joins.{Join, output_of}
+use Rattle.controller_law.specs.controller_facts.Sound.{IsSound, IsShutLinked}
+use Rattle.controller_law.proofs.controller_facts.Laws.{has_ports, moves_sound}
+use Rattle.controller_law.proofs.controller_facts.Moves.{HasPorts, Found, by_joining, by_lending, found_setup, found_at_own, found_port, moves_ports}
+use Rattle.controller_law.proofs.controller_facts.Performing.{at_port_goes}
+use Rattle.controller_law.proofs.controller_facts.Joining.{image_is}
+use Rattle.controller_law.proofs.controller_facts.Entering.{OnPort, on_port, lends_labels, is_offered_by, by_controller, tries_join_goes}
 use Rattle.controller_law.specs.Match.{lent_in, lent_at}
 use Rattle.controller_law.proofs.Releasing.{number_at}
 use Rattle.controller_law.proofs.Matched.{here_now}

@@ -2,22 +2,14 @@
 
 use Rattle.std.proofs.Common.{◌≡◌, ℕ, Bool, true, List, [], ◌∷◌, sym, subst, fold, if◌then◌else◌}
 use Rattle.std.specs.Prelude.{map, filter}
-use Rattle.net_types.specs.declared.channel.End.{End}
-use Rattle.net_types.specs.declared.node.PortNo.{PortNo}
-use Rattle.adjacency_table.specs.Side.{is_estab}
-use Rattle.gsmp_wire.specs.declared.request.Request.{Request}
-use Rattle.gsmp_wire.specs.declared.request.Request.TheVariants.{AddBranch, MoveBranch, DeleteTree, VerifyTree, DeleteAll, PortManagement, AllPorts}
-use Rattle.ordered_lists.specs.Ordered.{Every}
-use Rattle.port_model.specs.Requests.{leads_home}
-use Rattle.port_model.specs.Setup.{Setup, home_of}
-use Rattle.port_facts.proofs.Keyed.{on_each}
+use Rattle.world_model.specs.Words.{End, PortNo, is_estab, Request, AddBranch, MoveBranch, DeleteTree, VerifyTree, PortManagement, leads_home, Setup, home_of, asks, joins_of, releases_input, released_inputs, resets_spent, releases, ends_meeting, has_emptied, causes_in_estab, causes, clears_port, clears, port_of_input, default_end, default_home}
+use Rattle.world_model.specs.gsmp_wire.declared.request.Request.TheVariants.{DeleteAll, AllPorts}
+use Rattle.controller_law.specs.ordered_lists.Ordered.{Every}
+use Rattle.controller_law.proofs.port_facts.Keyed.{on_each}
 use Rattle.world_model.specs.Controller.{Acted, ports_of}
-use Rattle.world_model.specs.Asking.{asks}
-use Rattle.world_model.specs.Joins.{Join, joins_of, releases_input, released_inputs, resets_spent, releases}
-use Rattle.world_model.specs.Meeting.{ends_meeting, has_emptied, causes_in_estab, causes, clears_port, clears, port_of_input}
-use Rattle.world_model.specs.Controller.{default_end, default_home}
-use Rattle.controller_facts.proofs.Moves.{HasPorts, moves_ports}
-use Rattle.controller_facts.proofs.Joining.{releases_input_goes, resets_spent_goes, releases_goes}
+use Rattle.world_model.specs.Joins.{Join}
+use Rattle.controller_law.proofs.controller_facts.Moves.{HasPorts, moves_ports}
+use Rattle.controller_law.proofs.controller_facts.Joining.{releases_input_goes, resets_spent_goes, releases_goes}
 use Rattle.lasting_joins.proofs.Lent.{Keeps, itself, keeps_on, keeps_fold, asks_keep, tells_keep, spent_keeps, input_keeps, clears_keep}
 
 module _ (setups : List Setup) (q m : ℕ) (Unled : End → Type 0) where

@@ -2,62 +2,35 @@
 
 use Rattle.std.proofs.Common.{◌≡◌, ℕ, true, List, [], ◌∷◌, ◌++◌, drop, Option, None, Some, Result, Ok, Err, refl, sym, ◌∙◌, ap, subst, fold}
 use Rattle.std.specs.Prelude.{◌==◌, not, map}
-use Rattle.net_types.specs.declared.channel.Channel.{Channel}
-use Rattle.net_types.specs.declared.channel.End.{End}
-use Rattle.net_types.specs.declared.node.PortNo.{PortNo}
-use Rattle.net_types.specs.declared.number.Mark.{Mark}
-use Rattle.net_types.specs.declared.adjacency.Greeting.{Greeting}
-use Rattle.net_types.specs.declared.adjacency.Party.{Party}
-use Rattle.net_types.specs.Number.{next_control, with_control}
-use Rattle.adjacency_table.specs.declared.message.Answer.{Answer}
-use Rattle.adjacency_table.specs.declared.message.Answer.TheVariants.{Quiet, Send, Open, Reset}
-use Rattle.adjacency_table.specs.Side.{Step, is_estab}
-use Rattle.adjacency_table.specs.Greeting.{gsmp_answer, gsmp_received}
-use Rattle.ipv4_packet.specs.Packet.{protocol_of, source_of, first_fault}
-use Rattle.ipv4_packet.specs.declared.validate.PacketFault.{PacketFault}
-use Rattle.ipv4_forward.specs.Hop.{hop_of, onward}
-use Rattle.ipv4_forward.specs.declared.change.RouteChange.{RouteChange}
-use Rattle.ipv4_forward.specs.declared.outcome.Hop.{Hop}
-use Rattle.ipv4_forward.specs.declared.outcome.Hop.TheVariants.{Here, On, NoRoute, Expired}
-use Rattle.flow_encaps.specs.declared.default.EncapsFault.{EncapsFault}
-use Rattle.flow_encaps.specs.Unwrapped.{default_unwrapped, unwrapped}
-use Rattle.ifmp_wire.specs.declared.message.Message.{Message as IfmpMessage}
-use Rattle.ifmp_wire.specs.declared.reader.Fault.{Fault as IfmpFault}
-use Rattle.ifmp_wire.specs.Fields.{decoded as ifmp_decoded}
-use Rattle.gsmp_wire.specs.declared.fault.Fault.{Fault}
-use Rattle.gsmp_wire.specs.declared.message.Message.{Message}
-use Rattle.gsmp_wire.specs.declared.message.Message.TheVariants as messages
-use Rattle.gsmp_wire.specs.declared.request.Request.{Request}
-use Rattle.gsmp_wire.specs.declared.request.Request.TheVariants.{MoveBranch, DeleteAll, AllPorts}
-use Rattle.gsmp_wire.specs.Fields.{decoded as gsmp_decoded}
-use Rattle.port_model.specs.Desk.{Standing, empty_desk, sent_again}
-use Rattle.port_model.specs.DeskAnswers.{Answered, Unknown, Done, Ports, Failed, answered, after_answer, without_request}
-use Rattle.port_model.specs.Setup.{Setup, home_of}
-use Rattle.port_model.specs.Labels.{Label}
-use Rattle.port_model.specs.Counting.{counts, used}
-use Rattle.port_model.specs.Hearing.{hears}
-use Rattle.port_model.specs.Ticks as port_ticks
-use Rattle.port_facts.specs.Port.{Lives, IsShaped, AnyChannel}
-use Rattle.port_facts.proofs.Keyed.{on_both}
-use Rattle.port_facts.proofs.Rules.{used_goes, counts_goes}
-use Rattle.port_facts.proofs.Hearings.{hears_goes, ticks_goes}
-use Rattle.port_facts.proofs.Steps.{GoesOn, Goes}
-use Rattle.world_model.specs.Controller.{Acted, Linked, linked_at, with_desk, note, ports_of}
-use Rattle.world_model.specs.Sending.{sends, sends_control, says_gsmp}
-use Rattle.world_model.specs.Asking.{sends_request, asks}
-use Rattle.world_model.specs.Resets.{begins, node_resets}
-use Rattle.world_model.specs.Performing.{Rule, at_port}
-use Rattle.world_model.specs.Joins.{Join, releases, output_of}
-use Rattle.world_model.specs.Meeting.{meets, up_ports, empties, causes, clears, done, takes_answer, answer_comes}
-use Rattle.world_model.specs.Gsmp.{answers, steps, told, gsmp_holds}
-use Rattle.world_model.specs.Changes.{changed_joins, takes_join_back, begins_change, takes_change, may_take, takes_each, takes_changes, change_comes}
-use Rattle.world_model.specs.Packets.{is_control, sends_next, goes_by, grant_by, forwarded, routes, control_protocol}
-use Rattle.world_model.specs.Cells.{Taker, ForGsmp, ForDefault, ForLabel, label_holds, ifmp_holds, counted_at, packet_holds, default_holds, frame_holds}
-use Rattle.world_model.specs.Ticks.{sends_again, ticks_port, ticks_ports}
-use Rattle.controller_facts.proofs.Lifetimes.{decoded_lives}
-use Rattle.controller_facts.proofs.Moves.{HasPorts, Found, by_rule, found_setup, found_at_own, found_port, begun, moves_ports}
-use Rattle.controller_facts.proofs.Joining.{every_filter}
-use Rattle.controller_facts.proofs.Events.{routes_goes, ticks_port_goes}
+use Rattle.world_model.specs.Words.{Channel, End, PortNo, Mark, Greeting, Party, next_control, with_control, Answer, Quiet, Send, Open, Step, is_estab, gsmp_answer, gsmp_received, protocol_of, source_of, PacketFault, hop_of, onward, RouteChange, Hop, Here, On, EncapsFault, default_unwrapped, unwrapped, Request, MoveBranch, Standing, empty_desk, sent_again, Answered, Unknown, Done, Ports, Failed, answered, after_answer, without_request, Setup, home_of, Label, counts, used, hears, Linked, linked_at, with_desk, sends_control, says_gsmp, sends_request, asks, begins, node_resets, Rule, at_port, releases, meets, up_ports, empties, causes, clears, takes_answer, answer_comes, gsmp_holds, changed_joins, takes_join_back, begins_change, takes_change, may_take, takes_each, takes_changes, change_comes, is_control, sends_next, goes_by, grant_by, routes, control_protocol, ForGsmp, ForDefault, ForLabel, label_holds, ifmp_holds, counted_at, packet_holds, default_holds, frame_holds, sends_again, ticks_port, ticks_ports}
+use Rattle.world_model.specs.adjacency_table.declared.message.Answer.TheVariants.{Reset}
+use Rattle.world_model.specs.ipv4_packet.Packet.{first_fault}
+use Rattle.world_model.specs.ipv4_forward.declared.outcome.Hop.TheVariants.{NoRoute, Expired}
+use Rattle.world_model.specs.ifmp_wire.declared.message.Message.{Message as IfmpMessage}
+use Rattle.world_model.specs.ifmp_wire.declared.reader.Fault.{Fault as IfmpFault}
+use Rattle.world_model.specs.ifmp_wire.Fields.{decoded as ifmp_decoded}
+use Rattle.world_model.specs.gsmp_wire.declared.fault.Fault.{Fault}
+use Rattle.world_model.specs.gsmp_wire.declared.message.Message.{Message}
+use Rattle.world_model.specs.gsmp_wire.declared.message.Message.TheVariants as messages
+use Rattle.world_model.specs.gsmp_wire.declared.request.Request.TheVariants.{DeleteAll, AllPorts}
+use Rattle.world_model.specs.gsmp_wire.Fields.{decoded as gsmp_decoded}
+use Rattle.world_model.specs.port_model.Ticks as port_ticks
+use Rattle.controller_law.specs.port_facts.Port.{Lives, IsShaped, AnyChannel}
+use Rattle.controller_law.proofs.port_facts.Keyed.{on_both}
+use Rattle.controller_law.proofs.port_facts.Rules.{used_goes, counts_goes}
+use Rattle.controller_law.proofs.port_facts.Hearings.{hears_goes, ticks_goes}
+use Rattle.controller_law.proofs.port_facts.Steps.{GoesOn, Goes}
+use Rattle.world_model.specs.Controller.{Acted, note, ports_of}
+use Rattle.world_model.specs.Sending.{sends}
+use Rattle.world_model.specs.Joins.{Join, output_of}
+use Rattle.world_model.specs.Meeting.{done}
+use Rattle.world_model.specs.Gsmp.{answers, steps, told}
+use Rattle.world_model.specs.Packets.{forwarded}
+use Rattle.world_model.specs.Cells.{Taker}
+use Rattle.controller_law.proofs.controller_facts.Lifetimes.{decoded_lives}
+use Rattle.controller_law.proofs.controller_facts.Moves.{HasPorts, Found, by_rule, found_setup, found_at_own, found_port, begun, moves_ports}
+use Rattle.controller_law.proofs.controller_facts.Joining.{every_filter}
+use Rattle.controller_law.proofs.controller_facts.Events.{routes_goes, ticks_port_goes}
 use Rattle.controller_law.specs.Match.{lent_at}
 use Rattle.controller_law.proofs.Pairing.{SamePairs, same_pairs, goes_pairs}
 use Rattle.lasting_joins.proofs.Keeping.{Releasing, answered_keeps}

@@ -3,54 +3,28 @@
 use Rattle.std.proofs.Common.{◌≡◌, ◌≢◌, ℕ, true, false, List, [], ◌∷◌, ◌++◌, Option, None, Some, refl, sym, ◌∙◌, ap, subst, fold, if◌then◌else◌}
 use Rattle.std.specs.Prelude.{◌==◌, ◌+◌, nat_lt, nat_le, length}
 use Rattle.std.specs.Option.{option_and_then}
-use Rattle.net_types.specs.declared.node.PortNo.{PortNo}
-use Rattle.net_types.specs.declared.channel.Channel.{Channel}
-use Rattle.net_types.specs.declared.channel.End.{End}
-use Rattle.net_types.specs.declared.number.Mark.{Mark}
-use Rattle.net_types.specs.Label.{label_channel_of, label_number_of, number_of_channel}
-use Rattle.net_types.specs.Number.{next_control, with_control}
-use Rattle.adjacency_table.specs.Side.{Side, is_estab}
-use Rattle.net_types.specs.declared.adjacency.Party.{Party}
-use Rattle.gsmp_wire.specs.declared.request.Request.{Request}
-use Rattle.gsmp_wire.specs.declared.request.Request.TheVariants.{AddBranch, MoveBranch, DeleteTree, VerifyTree, DeleteAll, PortManagement, AllPorts}
-use Rattle.crossbar_model.specs.Crossbar.{same_end}
-use Rattle.link_model.specs.declared.record.Record.TheVariants.{Part}
-use Rattle.frame_model.specs.Reassembly.{nothing_taken}
-use Rattle.ordered_lists.specs.Ordered.{Every}
-use Rattle.keyed_lists.specs.Keyed.{at, put}
-use Rattle.port_model.specs.Desk.{asked, is_led_home, last_transaction}
-use Rattle.port_model.specs.declared.action.Action.{Action}
-use Rattle.port_model.specs.declared.action.Action.TheVariants.{Say, Ask, Note, CutChain, TakeBack, Withdraw, Reset}
-use Rattle.port_model.specs.Setup.{Setup, home_of}
-use Rattle.port_model.specs.Labels.{Label, LabelState, Wiring, Offered, Recalled, Wired}
-use Rattle.port_model.specs.Grants as grants
-use Rattle.port_model.specs.Grants.{Grant, GrantState, Idle, ByController, ByInput, Leaving, grant_label}
-use Rattle.port_model.specs.Port.{Session, Work, acts, without_grant, label_at}
-use Rattle.port_model.specs.Saying.{Unnumbered, last_number, numbered, spent_number, tells_in, tells, closes, reclaim_ack}
-use Rattle.port_model.specs.Hearing.{label_by}
-use Rattle.port_model.specs.Answers as answers
-use Rattle.port_model.specs.Joins.{joins_label, parted, given_back_in, given_back}
-use Rattle.port_model.specs.Resets.{resets, cleared}
-use Rattle.port_facts.specs.Port.{IsAction}
-use Rattle.port_facts.proofs.Keyed.{on_both, by_eq, at_put_other}
-use Rattle.port_facts.proofs.Found.{find_passes, session_grants, closes_port}
-use Rattle.port_facts.proofs.Rules.{IsTree, done_goes}
-use Rattle.link_model.specs.declared.record.Record.TheVariants.{Loss}
-use Rattle.link_model.specs.declared.record.Cause.TheVariants.{PoolFull}
-use Rattle.link_model.specs.Notes.{noted}
-use Rattle.frame_model.specs.Frame.{frame_cells, made}
-use Rattle.frame_model.specs.Sending.{Sent}
-use Rattle.world_model.specs.Controller.{Controller, free_slots, Acted, Linked, port_key, linked_at, with_linked, with_desk, note, chains_with, default_channel}
-use Rattle.world_model.specs.Sending.{with_cells, sends, sends_control}
-use Rattle.world_model.specs.Asking.{asks_next, asks, takes_back}
-use Rattle.world_model.specs.Resets.{begins, with_work, cuts_of, node_resets}
-use Rattle.world_model.specs.Performing.{does, does_in_estab, resets_of, resets_port, performs, performs_in_estab, Rule, works, at_port}
-use Rattle.world_model.specs.Joins.{Join, join_of, joins_of, parts, gives_back, releases_join, releases_input, resets_spent}
-use Rattle.world_model.specs.Meeting.{tells_port, may_clear, clears_of, clears_port}
-use Rattle.controller_facts.proofs.Moves.{Worked, worked_kept, by_rule, by_closing, by_parting, by_giving_back, Found, placing, moves_to, HasPorts, found_setup, found_at_own, found_port, begun, moves_ports, noting}
-use Rattle.controller_facts.proofs.Performing.{performs_in_estab_goes}
-use Rattle.controller_facts.proofs.Joining.{IsJoin, joins_are, granted_there, parts_grants, parts_goes}
-use Rattle.port_facts.proofs.Found.{find_every}
+use Rattle.world_model.specs.Words.{PortNo, Channel, End, Mark, label_channel_of, label_number_of, number_of_channel, next_control, with_control, Side, is_estab, Party, Request, AddBranch, MoveBranch, DeleteTree, VerifyTree, PortManagement, same_end, Part, nothing_taken, at, put, is_led_home, last_transaction, Action, Say, Ask, Note, CutChain, TakeBack, Withdraw, Setup, home_of, Label, LabelState, Wiring, Offered, Recalled, Wired, Grant, GrantState, Idle, ByController, ByInput, Leaving, grant_label, Session, Work, without_grant, label_at, Unnumbered, last_number, spent_number, tells_in, tells, closes, reclaim_ack, label_by, joins_label, parted, given_back_in, given_back, resets, Loss, PoolFull, noted, frame_cells, made, Controller, Linked, port_key, linked_at, with_linked, with_desk, chains_with, default_channel, sends_control, asks_next, asks, takes_back, begins, with_work, cuts_of, node_resets, does, does_in_estab, resets_of, resets_port, performs, performs_in_estab, Rule, works, at_port, join_of, joins_of, parts, gives_back, releases_join, releases_input, resets_spent, tells_port, may_clear, clears_of, clears_port}
+use Rattle.world_model.specs.gsmp_wire.declared.request.Request.TheVariants.{DeleteAll, AllPorts}
+use Rattle.controller_law.specs.ordered_lists.Ordered.{Every}
+use Rattle.world_model.specs.port_model.Desk.{asked}
+use Rattle.world_model.specs.port_model.declared.action.Action.TheVariants.{Reset}
+use Rattle.world_model.specs.port_model.Grants as grants
+use Rattle.world_model.specs.port_model.Port.{acts}
+use Rattle.world_model.specs.port_model.Saying.{numbered}
+use Rattle.world_model.specs.port_model.Answers as answers
+use Rattle.world_model.specs.port_model.Resets.{cleared}
+use Rattle.controller_law.specs.port_facts.Port.{IsAction}
+use Rattle.controller_law.proofs.port_facts.Keyed.{on_both, by_eq, at_put_other}
+use Rattle.controller_law.proofs.port_facts.Found.{find_passes, session_grants, closes_port}
+use Rattle.controller_law.proofs.port_facts.Rules.{IsTree, done_goes}
+use Rattle.world_model.specs.frame_model.Sending.{Sent}
+use Rattle.world_model.specs.Controller.{free_slots, Acted, note}
+use Rattle.world_model.specs.Sending.{with_cells, sends}
+use Rattle.world_model.specs.Joins.{Join}
+use Rattle.controller_law.proofs.controller_facts.Moves.{Worked, worked_kept, by_rule, by_closing, by_parting, by_giving_back, Found, placing, moves_to, HasPorts, found_setup, found_at_own, found_port, begun, moves_ports, noting}
+use Rattle.controller_law.proofs.controller_facts.Performing.{performs_in_estab_goes}
+use Rattle.controller_law.proofs.controller_facts.Joining.{IsJoin, joins_are, granted_there, parts_grants, parts_goes}
+use Rattle.controller_law.proofs.port_facts.Found.{find_every}
 use Rattle.controller_law.specs.Match.{lent_in, lent_at}
 use Rattle.controller_law.proofs.Pairing.{SamePairs, same_pairs, goes_pairs, without_other}
 use Rattle.controller_law.proofs.Matched.{end_is, there_now, here_before, lent_put}

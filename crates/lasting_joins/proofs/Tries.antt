@@ -3,50 +3,27 @@
 use Rattle.std.proofs.Common.{◌≡◌, ℕ, Bool, true, false, List, [], ◌∷◌, length, Option, None, Some, refl, sym, ◌∙◌, ap, subst, fold, if◌then◌else◌}
 use Rattle.std.specs.Prelude.{◌&&◌, not, nat_lt, is_none, flat_map}
 use Rattle.std.specs.Option.{option_map, option_and_then}
-use Rattle.net_types.specs.declared.channel.End.{End}
-use Rattle.net_types.specs.declared.node.PortNo.{PortNo}
-use Rattle.net_types.specs.declared.adjacency.Party.{Party}
-use Rattle.net_types.specs.Label.{number_of_channel, label_number_of}
-use Rattle.atm_cells.specs.declared.cell.Cell.{Cell}
-use Rattle.adjacency_table.specs.declared.message.Answer.{Answer}
-use Rattle.adjacency_table.specs.declared.message.Answer.TheVariants.{Quiet, Send, Open, Reset}
-use Rattle.adjacency_table.specs.declared.message.Said.{Said}
-use Rattle.adjacency_table.specs.Side.{Step, ticked}
-use Rattle.ipv4_forward.specs.Best.{best}
-use Rattle.ipv4_packet.specs.declared.flow.FlowId.{FlowId}
-use Rattle.ipv4_packet.specs.Flow.{next_hop_of}
-use Rattle.ipv4_packet.specs.Parts.{same_flow, flow_destination}
-use Rattle.gsmp_wire.specs.declared.request.Request.TheVariants.{MoveBranch}
-use Rattle.link_model.specs.Notes.{Journal}
-use Rattle.frame_model.specs.Frame.{octets_of, last_mark, payload_in, tested_by}
-use Rattle.frame_model.specs.Reassembly.{Taken, taken, nothing_taken}
-use Rattle.ordered_lists.specs.Ordered.{Every}
-use Rattle.keyed_lists.specs.Keyed.{at}
-use Rattle.port_model.specs.Desk.{on_input, most_asked}
-use Rattle.port_model.specs.Setup.{Setup, home_of}
-use Rattle.port_model.specs.Labels.{Label, Offered, label_number, is_bound}
-use Rattle.port_model.specs.Grants as grants
-use Rattle.port_model.specs.Grants.{Grant, ByController, ByInput, grant_label, grant_for, is_by_controller}
-use Rattle.port_model.specs.Port.{Work, labels_of, label_at}
-use Rattle.port_model.specs.Joins as port_joins
-use Rattle.port_facts.specs.Port.{IsLabelEnd}
-use Rattle.port_facts.proofs.Keyed.{on_both, on_each, by_eq, apart_at, at_put_other}
-use Rattle.port_facts.proofs.Found.{find_passes}
-use Rattle.port_facts.proofs.Rules.{and_first}
-use Rattle.world_model.specs.Controller.{Acted, Linked, port_key, default_channel, free_slots, linked_at, ports_of}
-use Rattle.world_model.specs.Routes.{route_stays}
-use Rattle.world_model.specs.Resets.{begins, with_work, cuts_default_of, cuts_default, cuts_gsmp, node_resets, node_restarts}
-use Rattle.world_model.specs.Performing.{at_port}
-use Rattle.world_model.specs.Joins.{Join, output_of, join_through, join_by, port_by, join_for, is_offered, may_join, enters_grant, enters_label, joins, tries_label, label_on, tries_join, inputs_at, tries_joins}
+use Rattle.world_model.specs.Words.{End, PortNo, Party, number_of_channel, label_number_of, Cell, Answer, Quiet, Send, Open, Said, Step, ticked, best, FlowId, next_hop_of, same_flow, flow_destination, MoveBranch, Journal, last_mark, payload_in, tested_by, nothing_taken, at, on_input, most_asked, Setup, home_of, Label, Offered, label_number, is_bound, Grant, ByController, ByInput, grant_label, grant_for, is_by_controller, Work, labels_of, label_at, Linked, port_key, default_channel, linked_at, route_stays, begins, with_work, cuts_default_of, cuts_default, cuts_gsmp, node_resets, node_restarts, at_port, join_through, join_by, port_by, join_for, is_offered, may_join, enters_grant, enters_label, joins, tries_label, label_on, tries_join, inputs_at, tries_joins, chains_with, ForGsmp, ForDefault, ForLabel, same_channel, label_taker, taker_at, port_on, on_link, reassembly_of, with_reassembly, takes_cell, sends_again, ticks_ports, ticks_by}
+use Rattle.world_model.specs.adjacency_table.declared.message.Answer.TheVariants.{Reset}
+use Rattle.world_model.specs.frame_model.Frame.{octets_of}
+use Rattle.world_model.specs.frame_model.Reassembly.{Taken, taken}
+use Rattle.controller_law.specs.ordered_lists.Ordered.{Every}
+use Rattle.world_model.specs.port_model.Grants as grants
+use Rattle.world_model.specs.port_model.Joins as port_joins
+use Rattle.controller_law.specs.port_facts.Port.{IsLabelEnd}
+use Rattle.controller_law.proofs.port_facts.Keyed.{on_both, on_each, by_eq, apart_at, at_put_other}
+use Rattle.controller_law.proofs.port_facts.Found.{find_passes}
+use Rattle.controller_law.proofs.port_facts.Rules.{and_first}
+use Rattle.world_model.specs.Controller.{Acted, free_slots, ports_of}
+use Rattle.world_model.specs.Joins.{Join, output_of}
 use Rattle.world_model.specs.Gsmp.{steps}
-use Rattle.world_model.specs.Controller.{chains_with}
-use Rattle.world_model.specs.Cells.{Taker, ForGsmp, ForDefault, ForLabel, same_channel, label_taker, taker_at, port_on, on_link, reassembly_of, with_reassembly, opened_frame, ends_frame, takes_cell, cell_comes}
-use Rattle.world_model.specs.Ticks.{sends_again, ticks_ports, ticks_by, ticks}
-use Rattle.controller_facts.proofs.Moves.{HasPorts, Found, by_joining, by_lending, ages, found_at_own, found_port, moves_ports}
-use Rattle.controller_facts.proofs.Performing.{at_port_goes}
-use Rattle.controller_facts.proofs.Joining.{every_flat_map, each_there, image_is}
-use Rattle.controller_facts.proofs.Entering.{granted_end, OnPort, on_port, lends_labels, is_offered_by, by_controller, inputs_of_port, tries_join_goes}
-use Rattle.controller_facts.proofs.Events.{IsTaker, kept_ports, steps_goes, sends_again_goes, ticks_ports_goes}
+use Rattle.world_model.specs.Cells.{Taker, opened_frame, ends_frame, cell_comes}
+use Rattle.world_model.specs.Ticks.{ticks}
+use Rattle.controller_law.proofs.controller_facts.Moves.{HasPorts, Found, by_joining, by_lending, ages, found_at_own, found_port, moves_ports}
+use Rattle.controller_law.proofs.controller_facts.Performing.{at_port_goes}
+use Rattle.controller_law.proofs.controller_facts.Joining.{every_flat_map, each_there, image_is}
+use Rattle.controller_law.proofs.controller_facts.Entering.{granted_end, OnPort, on_port, lends_labels, is_offered_by, by_controller, inputs_of_port, tries_join_goes}
+use Rattle.controller_law.proofs.controller_facts.Events.{IsTaker, kept_ports, steps_goes, sends_again_goes, ticks_ports_goes}
 use Rattle.controller_law.specs.Match.{lent_in, lent_at}
 use Rattle.controller_law.proofs.Matched.{here_before, there_now}
 use Rattle.lasting_joins.proofs.Lent.{Keeps, keeps_on, put_keeps, rule_keeps, worked_keeps, asks_keep, node_keeps, lent_by}

@@ -3,23 +3,15 @@
 use Rattle.std.proofs.Common.{◌≡◌, false, List, [], ◌∷◌, Option, None, Some, refl, sym, ◌∙◌, ap, subst, fold, if◌then◌else◌}
 use Rattle.std.specs.Prelude.{map, filter}
 use Rattle.std.specs.Option.{option_and_then}
-use Rattle.net_types.specs.declared.node.PortNo.{PortNo}
-use Rattle.gsmp_wire.specs.declared.request.Request.{Request}
-use Rattle.ordered_lists.specs.Ordered.{Every}
-use Rattle.port_model.specs.Requests.{leads_home}
-use Rattle.port_model.specs.Setup.{Setup, home_of}
-use Rattle.port_model.specs.Grants as grants
-use Rattle.port_model.specs.Grants.{Grant}
-use Rattle.port_model.specs.Port.{Session, Work, halts}
-use Rattle.port_model.specs.Saying.{is_spent, closes}
-use Rattle.port_facts.proofs.Keyed.{at_every}
-use Rattle.world_model.specs.Controller.{Acted, Linked, port_key, linked_at, ports_of}
-use Rattle.world_model.specs.Resets.{begins}
-use Rattle.world_model.specs.Performing.{works_as, works}
-use Rattle.world_model.specs.Joins.{Join, joins_of, releases_input, resets_spent, releases}
-use Rattle.controller_facts.specs.Sound.{IsSound, IsShutLinked}
-use Rattle.controller_facts.proofs.Laws.{has_ports, moves_sound}
-use Rattle.controller_facts.proofs.Joining.{IsJoin, joins_are, resets_spent_goes}
+use Rattle.world_model.specs.Words.{PortNo, Request, leads_home, Setup, home_of, Grant, Session, Work, halts, is_spent, closes, Linked, port_key, linked_at, begins, works_as, works, joins_of, releases_input, resets_spent, releases}
+use Rattle.controller_law.specs.ordered_lists.Ordered.{Every}
+use Rattle.world_model.specs.port_model.Grants as grants
+use Rattle.controller_law.proofs.port_facts.Keyed.{at_every}
+use Rattle.world_model.specs.Controller.{Acted, ports_of}
+use Rattle.world_model.specs.Joins.{Join}
+use Rattle.controller_law.specs.controller_facts.Sound.{IsSound, IsShutLinked}
+use Rattle.controller_law.proofs.controller_facts.Laws.{has_ports, moves_sound}
+use Rattle.controller_law.proofs.controller_facts.Joining.{IsJoin, joins_are, resets_spent_goes}
 use Rattle.controller_law.specs.Match.{lent_in, lent_at}
 use Rattle.controller_law.proofs.Matched.{shut_lent}
 

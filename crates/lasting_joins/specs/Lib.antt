@@ -1,0 +1,2 @@
+pub use Rattle.quiet_controllers.specs as quiet_controllers
+

@@ -4,25 +4,14 @@ use Rattle.std.proofs.Common.{◌≡◌, ◌≢◌, ℕ, suc, ◌≤◌, true, f
 use Rattle.std.specs.Prelude.{◌-◌, ◌==◌, ◌⊎◌, nat_eq, is_some}
 use Rattle.std.specs.Option.{option_map_or}
 use Rattle.std.proofs.lemmas.Bool.Decides.{nat_tests}
-use Rattle.net_types.specs.declared.adjacency.Peer.{Peer}
-use Rattle.adjacency_table.specs.declared.message.Answer.{Answer}
-use Rattle.adjacency_table.specs.declared.message.Answer.TheVariants.{Quiet, Send, Open, Reset}
-use Rattle.adjacency_table.specs.declared.message.Said.{Said}
-use Rattle.adjacency_table.specs.Side.{ticked}
-use Rattle.adjacency_table.specs.Hello.{ifmp_answer, hello_of}
-use Rattle.ifmp_wire.specs.declared.message.Message.TheVariants.{Adjacency}
-use Rattle.link_model.specs.declared.record.Record.TheVariants.{Opened}
-use Rattle.keyed_lists.specs.Keyed.{at, put, without}
-use Rattle.port_model.specs.Desk.{Desk}
-use Rattle.port_model.specs.declared.action.Action.{Action}
-use Rattle.port_model.specs.declared.action.Action.TheVariants.{Say, Note, TakeBack}
-use Rattle.port_model.specs.Setup.{Setup, label_end}
-use Rattle.port_model.specs.Grants.{Grant, GrantState, Idle, ByController, ByInput, Leaving, grant_label, is_leaving}
-use Rattle.port_model.specs.Port.{Session, Port, Work, acts, with_grants, with_grant, without_grant}
-use Rattle.port_model.specs.Adjacency.{first_session, answers, steps}
-use Rattle.port_model.specs.Ticks.{expires, ages_in, ages_found, ages, ticks_session, ticks}
-use Rattle.port_facts.proofs.Keyed.{on_both, on_each, by_eq, at_key, at_put_same, at_put_other}
-use Rattle.port_facts.proofs.Found.{acts_port}
+use Rattle.world_model.specs.Words.{Peer, Answer, Quiet, Send, Open, Said, ticked, ifmp_answer, hello_of, Opened, at, put, without, Desk, Action, Say, Note, TakeBack, Setup, label_end, Grant, GrantState, Idle, ByController, ByInput, Leaving, grant_label, is_leaving, Session, Work, with_grants, with_grant, without_grant, first_session, expires, ages_in, ages_found, ages, ticks_session}
+use Rattle.world_model.specs.adjacency_table.declared.message.Answer.TheVariants.{Reset}
+use Rattle.world_model.specs.ifmp_wire.declared.message.Message.TheVariants.{Adjacency}
+use Rattle.world_model.specs.port_model.Port.{Port, acts}
+use Rattle.world_model.specs.port_model.Adjacency.{answers, steps}
+use Rattle.world_model.specs.port_model.Ticks.{ticks}
+use Rattle.controller_law.proofs.port_facts.Keyed.{on_both, on_each, by_eq, at_key, at_put_same, at_put_other}
+use Rattle.controller_law.proofs.port_facts.Found.{acts_port}
 use Rattle.lifetimes.specs.Aging.{is_over}
 use Rattle.lifetimes.proofs.Calm.{Calm, rest_calm}
 use Rattle.lifetimes.proofs.Grants.{AnyActions, any_more, calm_now}

@@ -3,19 +3,12 @@
 use Rattle.std.proofs.Common.{◌≡◌, ◌≢◌, ℕ, true, false, List, [], ◌∷◌, ◌++◌, Option, None, Some, refl, sym, ◌∙◌, ap, subst, arith, if◌then◌else◌, inl, inr, map, fold}
 use Rattle.std.specs.Prelude.{◌⊎◌, ◌==◌, ◌-◌, is_some}
 use Rattle.std.proofs.lemmas.Bool.Decides.{nat_tests}
-use Rattle.net_types.specs.declared.channel.End.{End}
-use Rattle.adjacency_table.specs.Side.{ticked}
-use Rattle.ordered_lists.specs.Ordered.{Every}
-use Rattle.keyed_lists.specs.Keyed.{at}
-use Rattle.port_model.specs.Desk.{Desk}
-use Rattle.port_model.specs.declared.action.Action.{Action}
-use Rattle.port_model.specs.declared.action.Action.TheVariants.{TakeBack}
-use Rattle.port_model.specs.Setup.{Setup, label_end}
-use Rattle.port_model.specs.Grants.{Grant, GrantState, Idle, ByController, ByInput, Leaving, grant_label}
-use Rattle.port_model.specs.Port.{Session, Work, acts, with_grants, with_grant}
-use Rattle.port_model.specs.Adjacency.{steps}
-use Rattle.port_model.specs.Ticks.{expires, ages_in, ages_found, ages, ticks_session, ticks}
-use Rattle.port_facts.proofs.Keyed.{on_both, by_eq, every_more}
+use Rattle.world_model.specs.Words.{End, ticked, at, Desk, Action, TakeBack, Setup, label_end, Grant, GrantState, Idle, ByController, ByInput, Leaving, grant_label, Session, Work, with_grants, with_grant, expires, ages_in, ages_found, ages, ticks_session}
+use Rattle.controller_law.specs.ordered_lists.Ordered.{Every}
+use Rattle.world_model.specs.port_model.Port.{acts}
+use Rattle.world_model.specs.port_model.Adjacency.{steps}
+use Rattle.world_model.specs.port_model.Ticks.{ticks}
+use Rattle.controller_law.proofs.port_facts.Keyed.{on_both, by_eq, every_more}
 use Rattle.lifetimes.specs.Aging.{is_over}
 use Rattle.lifetimes.proofs.Calm.{IsTame, Calm, steps_calm, rest_calm}
 use Rattle.lifetimes.proofs.Ages.{Among, found_among, still_live, ages_live, ages_other, GoesOn, ticked_on}

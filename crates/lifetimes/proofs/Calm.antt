@@ -3,41 +3,19 @@
 use Rattle.std.proofs.Common.{◌≡◌, ℕ, Bool, true, false, List, [], ◌∷◌, ◌++◌, Option, None, Some, map, fold}
 use Rattle.std.specs.Prelude.{◌+◌, ◌&&◌, ◌||◌, ◌==◌, nat_lt, nat_le, min, max, is_none}
 use Rattle.std.specs.Option.{option_map, option_map_or}
-use Rattle.net_types.specs.declared.prefix.Addr.{Addr}
-use Rattle.net_types.specs.declared.channel.Channel.{Channel}
-use Rattle.net_types.specs.declared.channel.End.{End}
-use Rattle.net_types.specs.declared.number.Instance.{Instance}
-use Rattle.net_types.specs.declared.adjacency.Hello.{Hello}
-use Rattle.net_types.specs.declared.adjacency.Peer.{Peer}
-use Rattle.net_types.specs.Label.{number_of_channel}
-use Rattle.adjacency_table.specs.declared.message.Answer.{Answer}
-use Rattle.adjacency_table.specs.declared.message.Answer.TheVariants.{Quiet, Send, Open, Reset}
-use Rattle.adjacency_table.specs.Side as sides
-use Rattle.adjacency_table.specs.Hello.{heard_from, ifmp_answer, ifmp_received}
-use Rattle.ipv4_packet.specs.declared.flow.FlowId.{FlowId}
-use Rattle.ipv4_packet.specs.Parts.{same_flow}
-use Rattle.gsmp_wire.specs.declared.request.Request.{Request}
-use Rattle.gsmp_wire.specs.declared.request.Request.TheVariants.{AddBranch, DeleteTree, DeleteAll}
-use Rattle.ifmp_wire.specs.declared.message.Message.TheVariants.{Adjacency}
-use Rattle.link_model.specs.declared.record.Record.TheVariants.{Opened, Bind, Free, Join}
-use Rattle.keyed_lists.specs.Keyed.{put, without, entered, key_le}
-use Rattle.port_model.specs.Desk.{Desk, on_input}
-use Rattle.port_model.specs.declared.action.Action.{Action}
-use Rattle.port_model.specs.declared.action.Action.TheVariants as actions
-use Rattle.port_model.specs.declared.action.Action.TheVariants.{Say, Ask, Note, CutChain, TakeBack, Withdraw}
-use Rattle.port_model.specs.Setup.{Setup, label_end, control_end}
-use Rattle.port_model.specs.Labels.{Label, LabelState, Wiring, Offered, Recalled, Wired, label_number, label_for, lowest_spare}
-use Rattle.port_model.specs.Grants.{Grant}
-use Rattle.port_model.specs.Counts.{counted_once, packets_in, moved}
-use Rattle.port_model.specs.Port.{Session, Work, acts, halts, with_session, with_label, with_new_label, without_label, label_at, labels_of, known_of, desk_after, has_room}
-use Rattle.port_model.specs.Saying.{Unnumbered, last_number, own_of, peer_of, spent_number, greets, tells_in, tells, is_spent, closes, says, redirect, reclaim, label_range}
-use Rattle.port_model.specs.Adjacency.{first_session, opens, answers, steps, unwires, quits_label, quits_in, quits_found, quits, is_good, learns, greeted}
-use Rattle.port_model.specs.Counting.{packet_flow, wires, used_label, counts_flow, counts_by, counts, used}
-use Rattle.port_model.specs.Reclaiming.{reclaims_in, reclaims, unjoins, recalls, recalls_in, recalls_offered, acknowledged_in, acknowledged, narrowed, is_outside, recalls_outside, ranged, error_comes}
-use Rattle.port_model.specs.Answers.{bound_in, bound, freed_in, freed, joined_to}
-use Rattle.port_model.specs.Joins.{joins_label, joined, parted}
-use Rattle.port_model.specs.Ticks.{refreshes, one_older, one_idler, idles, ticks_in, ticks_found, ticks_label, asks_for_ack, nudges, moves_windows}
-use Rattle.port_facts.proofs.Keyed.{on_both}
+use Rattle.world_model.specs.Words.{Addr, Channel, End, Instance, Hello, Peer, number_of_channel, Answer, Quiet, Send, Open, heard_from, ifmp_answer, ifmp_received, FlowId, same_flow, Request, AddBranch, DeleteTree, Opened, Bind, Free, put, without, entered, key_le, Desk, on_input, Action, Say, Ask, Note, CutChain, TakeBack, Withdraw, Setup, label_end, control_end, Label, LabelState, Wiring, Offered, Recalled, Wired, label_number, label_for, lowest_spare, Grant, counted_once, packets_in, Session, Work, halts, with_session, with_label, with_new_label, without_label, label_at, labels_of, known_of, desk_after, has_room, Unnumbered, last_number, own_of, spent_number, greets, tells_in, tells, is_spent, closes, redirect, reclaim, label_range, first_session, opens, unwires, quits_label, quits_in, quits_found, quits, is_good, learns, packet_flow, wires, used_label, counts_flow, counts_by, counts, used, reclaims_in, reclaims, unjoins, recalls, recalls_in, recalls_offered, acknowledged_in, acknowledged, narrowed, is_outside, recalls_outside, ranged, error_comes, bound_in, bound, freed_in, freed, joined_to, joins_label, parted, refreshes, one_older, one_idler, idles, ticks_in, ticks_found, ticks_label, asks_for_ack, nudges, moves_windows}
+use Rattle.world_model.specs.adjacency_table.declared.message.Answer.TheVariants.{Reset}
+use Rattle.world_model.specs.adjacency_table.Side as sides
+use Rattle.world_model.specs.gsmp_wire.declared.request.Request.TheVariants.{DeleteAll}
+use Rattle.world_model.specs.ifmp_wire.declared.message.Message.TheVariants.{Adjacency}
+use Rattle.world_model.specs.link_model.declared.record.Record.TheVariants.{Join}
+use Rattle.world_model.specs.port_model.declared.action.Action.TheVariants as actions
+use Rattle.world_model.specs.port_model.Counts.{moved}
+use Rattle.world_model.specs.port_model.Port.{acts}
+use Rattle.world_model.specs.port_model.Saying.{peer_of, says}
+use Rattle.world_model.specs.port_model.Adjacency.{answers, steps, greeted}
+use Rattle.world_model.specs.port_model.Joins.{joined}
+use Rattle.controller_law.proofs.port_facts.Keyed.{on_both}
 
 -- a request that leads an input to the control link, if anywhere
 abbrev pub LeadsBack : Request → Type 0

@@ -3,18 +3,15 @@
 use Rattle.std.proofs.Common.{◌≡◌, ℕ, zero, suc, ◌≤◌, Bool, true, false, List, [], ◌∷◌, Option, None, Some, refl, subst, arith, if◌then◌else◌, sym, ◌∙◌, ap}
 use Rattle.std.specs.Prelude.{◌+◌, ◌-◌}
 use Rattle.std.specs.Option.{option_and_then}
-use Rattle.net_types.specs.declared.node.PortNo.{PortNo}
-use Rattle.ordered_lists.proofs.Every.{every_map}
-use Rattle.keyed_lists.specs.Keyed.{at}
-use Rattle.port_model.specs.Setup.{Setup}
-use Rattle.port_model.specs.Grants.{Grant, grant_label, is_leaving}
-use Rattle.port_facts.specs.Port.{IsGrant}
-use Rattle.port_facts.proofs.Keyed.{by_eq, at_key, at_every}
-use Rattle.world_model.specs.Controller.{Controller, Acted, Linked, port_key, linked_at}
+use Rattle.world_model.specs.Words.{PortNo, at, Setup, Grant, grant_label, is_leaving, Controller, Linked, port_key, linked_at}
+use Rattle.controller_law.proofs.ordered_lists.Every.{every_map}
+use Rattle.controller_law.specs.port_facts.Port.{IsGrant}
+use Rattle.controller_law.proofs.port_facts.Keyed.{by_eq, at_key, at_every}
+use Rattle.world_model.specs.Controller.{Acted}
 use Rattle.world_model.specs.Ticks as controller_ticks
-use Rattle.controller_facts.specs.Inputs.{Input, CellComes, PacketEnters, Ticks, Restarts, ChangeComes, FrameIsForged, CellLeaves, Meanwhile, takes_input, takes_inputs}
-use Rattle.controller_facts.specs.Sound.{IsSound, IsLinkedPort, Opening, opened_by, setups_by}
-use Rattle.controller_facts.proofs.Laws.{input_sound, inputs_sound, always_sound}
+use Rattle.controller_law.specs.controller_facts.Inputs.{Input, CellComes, PacketEnters, Ticks, Restarts, ChangeComes, FrameIsForged, CellLeaves, Meanwhile, takes_input, takes_inputs}
+use Rattle.controller_law.specs.controller_facts.Sound.{IsSound, IsLinkedPort, Opening, opened_by, setups_by}
+use Rattle.controller_law.proofs.controller_facts.Laws.{input_sound, inputs_sound, always_sound}
 use Rattle.controller_law.specs.Law.{IsOpening}
 use Rattle.lifetimes.specs.Aging.{reaches_at, one_tick, ticks_among, NotSet, NoneSets, IsCounted, grant_at, HasEnded}
 use Rattle.lifetimes.specs.Law.{IsSet, HadAsMuch, IsSetAlone, EndsByLifetime, IsEndedByReset}

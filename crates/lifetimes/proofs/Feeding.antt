@@ -4,46 +4,27 @@ use Rattle.std.proofs.Common.{◌≡◌, ◌≢◌, ℕ, Bool, true, false, List
 use Rattle.std.specs.Prelude.{◌+◌, ◌==◌, nat_le, drop}
 use Rattle.std.specs.Option.{option_map, option_map_or}
 use Rattle.std.proofs.lemmas.Bool.Decides.{nat_tests}
-use Rattle.net_types.specs.declared.node.NodeId.{NodeId}
-use Rattle.net_types.specs.declared.node.PortNo.{PortNo}
-use Rattle.net_types.specs.declared.node.Place.{Place}
-use Rattle.net_types.specs.declared.node.Place.TheVariants.{Down, Up, Out}
-use Rattle.net_types.specs.declared.channel.Channel.{Channel}
-use Rattle.net_types.specs.declared.number.Mark.{Mark}
-use Rattle.net_types.specs.Number.{GivenOut, next_control, with_control}
-use Rattle.atm_cells.specs.declared.cell.Cell.{Cell}
-use Rattle.link_model.specs.declared.record.Refusal.{Refusal}
-use Rattle.link_model.specs.declared.record.Record.TheVariants.{Loss, Forged}
-use Rattle.link_model.specs.declared.record.Cause.TheVariants.{PoolFull}
-use Rattle.link_model.specs.Notes.{Journal, noted}
-use Rattle.frame_model.specs.Sending.{Sent}
-use Rattle.frame_model.specs.Frame.{frame_cells, made}
-use Rattle.ordered_lists.specs.Ordered.{Every}
-use Rattle.keyed_lists.specs.Keyed.{at, put}
+use Rattle.world_model.specs.Words.{NodeId, PortNo, Place, Down, Up, Out, Channel, Mark, GivenOut, next_control, with_control, Cell, Refusal, Loss, Forged, PoolFull, Journal, noted, frame_cells, made, at, put, Switch, control_port, Setup, Controller, node_restarts, inject_refusal, injected, change_comes, Topology, World, Site, site_key, site_at, controller_acts, switch_acts, queue_in, queue_at, with_queue_in, with_queue_of, with_queue, injects_by, injects, arrives_at, carries_head, loses_head, forges}
+use Rattle.world_model.specs.frame_model.Sending.{Sent}
+use Rattle.controller_law.specs.ordered_lists.Ordered.{Every}
 use Rattle.world_model.specs.Switch as switches
-use Rattle.world_model.specs.Switch.{Switch, control_port}
 use Rattle.world_model.specs.Conduct as switch
-use Rattle.port_model.specs.Setup.{Setup}
-use Rattle.port_facts.proofs.Keyed.{on_both, by_eq, at_key, at_every, at_put_same, at_put_other, put_every}
-use Rattle.world_model.specs.Controller.{Controller, Acted, free_slots}
+use Rattle.controller_law.proofs.port_facts.Keyed.{on_both, by_eq, at_key, at_every, at_put_same, at_put_other, put_every}
+use Rattle.world_model.specs.Controller.{Acted, free_slots}
 use Rattle.world_model.specs.Sending.{with_cells, sends}
-use Rattle.world_model.specs.Resets.{node_restarts}
-use Rattle.world_model.specs.Packets.{inject_refusal, injected}
 use Rattle.world_model.specs.Cells as controller
 use Rattle.world_model.specs.Ticks as controller_ticks
-use Rattle.world_model.specs.Changes.{change_comes}
-use Rattle.controller_facts.specs.Inputs.{Input, CellComes, PacketEnters, Ticks, Restarts, ChangeComes, FrameIsForged, CellLeaves, Meanwhile, enters_unless, takes_input, takes_inputs}
-use Rattle.controller_facts.specs.Sound.{IsSound, IsOwn, opened_by, setups_by}
-use Rattle.controller_facts.proofs.Moves.{Move, noting, taking_notes, sending, sending_control, asking, withdrawing, answering, meeting, ending_meeting, turning, placing, clearing, gathering, chaining, routing, popping, moves_keep}
-use Rattle.controller_facts.proofs.Laws.{input_goes, always_sound}
+use Rattle.controller_law.specs.controller_facts.Inputs.{Input, CellComes, PacketEnters, Ticks, Restarts, ChangeComes, FrameIsForged, CellLeaves, Meanwhile, enters_unless, takes_input, takes_inputs}
+use Rattle.controller_law.specs.controller_facts.Sound.{IsSound, IsOwn, opened_by, setups_by}
+use Rattle.controller_law.proofs.controller_facts.Moves.{Move, noting, taking_notes, sending, sending_control, asking, withdrawing, answering, meeting, ending_meeting, turning, placing, clearing, gathering, chaining, routing, popping, moves_keep}
+use Rattle.controller_law.proofs.controller_facts.Laws.{input_goes, always_sound}
 use Rattle.world_model.specs.declared.event.Event.{Event}
 use Rattle.world_model.specs.declared.event.Event.TheVariants.{Inject, Carry, Lose, Tick, TickSwitch, Restart, RestartSwitch, Forge, Route}
 use Rattle.world_model.specs.declared.link.LinkEnd.{LinkEnd}
-use Rattle.world_model.specs.Topology.{Topology, peer_of}
-use Rattle.world_model.specs.World.{World, Site, site_key, site_at, controller_acts, at_controller, switch_acts, at_switch}
-use Rattle.world_model.specs.Places.{queue_in, queue_at, with_queue_in, with_queue_of, with_queue}
+use Rattle.world_model.specs.Topology.{peer_of}
+use Rattle.world_model.specs.World.{at_controller, at_switch}
 use Rattle.world_model.specs.Step as steps
-use Rattle.world_model.specs.Step.{injects_by, injects, arrives_at, carries_head, loses_head, forges, acts}
+use Rattle.world_model.specs.Step.{acts}
 use Rattle.lifetimes.specs.Run.{if_at, head_comes, head_leaves, comes_to}
 use Rattle.lifetimes.proofs.Opened.{IsFed}
 

@@ -2,39 +2,22 @@
 
 use Rattle.std.proofs.Common.{◌≡◌, ℕ, ◌≤◌, Bool, true, false, List, [], ◌∷◌, ◌++◌, length, Option, None, Some, refl, sym, ap, subst, arith, if◌then◌else◌, map, fold}
 use Rattle.std.specs.Prelude.{◌-◌, ◌==◌, not, nat_lt}
-use Rattle.net_types.specs.declared.prefix.Addr.{Addr}
-use Rattle.net_types.specs.declared.channel.Channel.{Channel}
-use Rattle.net_types.specs.declared.channel.End.{End}
-use Rattle.net_types.specs.declared.number.Instance.{Instance}
-use Rattle.net_types.specs.Label.{label_channel_of, label_number_of, is_label_number}
-use Rattle.ipv4_packet.specs.declared.flow.FlowId.{FlowId}
-use Rattle.ipv4_packet.specs.Parts.{same_flow}
-use Rattle.gsmp_wire.specs.declared.request.Request.{Request}
-use Rattle.gsmp_wire.specs.declared.request.Request.TheVariants.{AddBranch, MoveBranch, DeleteTree, VerifyTree, DeleteAll, PortManagement, AllPorts}
-use Rattle.ifmp_wire.specs.declared.message.Message.{Message}
-use Rattle.ifmp_wire.specs.declared.message.Message.TheVariants.{Adjacency, Redirect, Reclaim, ReclaimAck, LabelRange, Error}
-use Rattle.ordered_lists.specs.Ordered.{Every}
-use Rattle.keyed_lists.specs.Keyed.{at, put, without}
-use Rattle.port_model.specs.Desk.{Desk, empty_desk, most_asked}
-use Rattle.adjacency_table.specs.Side.{ticked}
-use Rattle.port_model.specs.declared.action.Action.{Action}
-use Rattle.port_model.specs.declared.action.Action.TheVariants.{TakeBack}
-use Rattle.port_model.specs.Setup.{Setup, is_in_range, label_end}
-use Rattle.port_model.specs.Grants.{Grant, GrantState, Idle, ByController, ByInput, Leaving, grant_label, grant_on, is_leaving, most_grants, Acceptance, New, Refreshed, OutOfRange, Taken, IsLeaving, GrantsFull, acceptance_beside, acceptance_of, acceptance}
-use Rattle.port_model.specs.Port.{Session, Port, Work, acts, with_grants, with_grant, without_grant, has_room}
-use Rattle.port_model.specs.Saying.{Unnumbered, says, closes, reclaim_ack, label_range, error}
-use Rattle.port_model.specs.Adjacency.{steps, greeted}
-use Rattle.port_model.specs.Counting.{counts, used}
-use Rattle.port_model.specs.Redirection.{takes, expects, accepts, grants_label, redirected}
-use Rattle.port_model.specs.Reclaiming.{reclaimed_in, reclaimed, acknowledged, ranged, error_comes}
-use Rattle.port_model.specs.Hearing.{label_by, hears}
-use Rattle.port_model.specs.Answers.{bound, freed, started_in, started, joined_to, done}
-use Rattle.port_model.specs.Joins.{lent, ended, given_back_in, given_back, joined, parted}
-use Rattle.port_model.specs.Ticks.{expires, ages_in, ages_found, ages, ticks_session, ticks}
-use Rattle.port_model.specs.Resets.{left_in, left_of, resets, restarts}
-use Rattle.port_facts.proofs.Keyed.{on_both, on_each, at_every, put_every, without_every, every_more}
-use Rattle.port_facts.proofs.Rules.{and_first}
-use Rattle.controller_facts.proofs.Joining.{every_flat_map}
+use Rattle.world_model.specs.Words.{Addr, Channel, End, Instance, label_channel_of, label_number_of, is_label_number, FlowId, same_flow, Request, AddBranch, MoveBranch, DeleteTree, VerifyTree, PortManagement, Redirect, Reclaim, ReclaimAck, LabelRange, Error, at, put, without, Desk, empty_desk, most_asked, ticked, Action, TakeBack, Setup, is_in_range, label_end, Grant, GrantState, Idle, ByController, ByInput, Leaving, grant_label, grant_on, is_leaving, most_grants, Acceptance, New, Refreshed, IsLeaving, GrantsFull, acceptance_beside, acceptance_of, acceptance, Session, Work, with_grants, with_grant, without_grant, has_room, Unnumbered, closes, reclaim_ack, label_range, error, counts, used, takes, expects, accepts, grants_label, reclaimed_in, reclaimed, acknowledged, ranged, error_comes, label_by, hears, bound, freed, started_in, started, joined_to, lent, given_back_in, given_back, parted, expires, ages_in, ages_found, ages, ticks_session, left_in, left_of, resets, restarts}
+use Rattle.world_model.specs.gsmp_wire.declared.request.Request.TheVariants.{DeleteAll, AllPorts}
+use Rattle.world_model.specs.ifmp_wire.declared.message.Message.{Message}
+use Rattle.world_model.specs.ifmp_wire.declared.message.Message.TheVariants.{Adjacency}
+use Rattle.controller_law.specs.ordered_lists.Ordered.{Every}
+use Rattle.world_model.specs.port_model.Grants.{OutOfRange, Taken}
+use Rattle.world_model.specs.port_model.Port.{Port, acts}
+use Rattle.world_model.specs.port_model.Saying.{says}
+use Rattle.world_model.specs.port_model.Adjacency.{steps, greeted}
+use Rattle.world_model.specs.port_model.Redirection.{redirected}
+use Rattle.world_model.specs.port_model.Answers.{done}
+use Rattle.world_model.specs.port_model.Joins.{ended, joined}
+use Rattle.world_model.specs.port_model.Ticks.{ticks}
+use Rattle.controller_law.proofs.port_facts.Keyed.{on_both, on_each, at_every, put_every, without_every, every_more}
+use Rattle.controller_law.proofs.port_facts.Rules.{and_first}
+use Rattle.controller_law.proofs.controller_facts.Joining.{every_flat_map}
 use Rattle.lifetimes.proofs.Calm.{IsTame, Calm, says_calm, tells_calm, closes_calm, steps_calm, greeted_calm, acknowledged_calm, ranged_calm, error_calm, bound_calm, freed_calm, joined_to_calm, joined_calm, parted_calm, used_calm, counts_keeps, rest_calm}
 
 -- *Acceptance*: a new grant is of a label in range, and one that is refreshed is there

@@ -3,47 +3,23 @@
 use Rattle.std.proofs.Common.{◌≡◌, ℕ, true, false, List, [], ◌∷◌, ◌++◌, Option, None, Some, refl, sym, ◌∙◌, subst, if◌then◌else◌, map, fold}
 use Rattle.std.specs.Prelude.{◌&&◌, flat_map}
 use Rattle.std.specs.Option.{option_map, option_map_or, option_or}
-use Rattle.net_types.specs.declared.node.PortNo.{PortNo}
-use Rattle.net_types.specs.declared.channel.Channel.{Channel}
-use Rattle.net_types.specs.declared.channel.End.{End}
-use Rattle.net_types.specs.declared.number.Mark.{Mark}
-use Rattle.net_types.specs.Label.{number_of_channel}
-use Rattle.atm_cells.specs.declared.cell.Cell.{Cell}
-use Rattle.adjacency_table.specs.Side.{is_estab}
-use Rattle.ipv4_forward.specs.Best.{best}
-use Rattle.ipv4_forward.specs.declared.change.RouteChange.{RouteChange}
-use Rattle.ipv4_packet.specs.declared.flow.FlowId.{FlowId}
-use Rattle.ipv4_packet.specs.declared.flow.FlowKind.TheVariants.{One, Two}
-use Rattle.ipv4_packet.specs.Flow.{flow_of, next_hop_of}
-use Rattle.ipv4_packet.specs.Parts.{flow_destination, same_flow}
-use Rattle.gsmp_wire.specs.declared.request.Request.{Request}
-use Rattle.gsmp_wire.specs.declared.request.Request.TheVariants.{AddBranch, MoveBranch, DeleteTree, VerifyTree, DeleteAll, PortManagement, AllPorts}
-use Rattle.gsmp_wire.specs.declared.message.Message.{Message}
-use Rattle.link_model.specs.declared.record.Record.TheVariants.{Part}
-use Rattle.frame_model.specs.Frame.{frame_cells}
-use Rattle.crossbar_model.specs.Crossbar.{same_end}
-use Rattle.ordered_lists.specs.Ordered.{Every}
-use Rattle.port_model.specs.Desk.{empty_desk}
-use Rattle.port_model.specs.DeskAnswers.{Answered, Unknown, Done, Ports, Failed, answered, after_answer}
-use Rattle.port_model.specs.Setup.{Setup, home_of}
-use Rattle.port_model.specs.Labels.{Label}
-use Rattle.port_model.specs.Grants.{Grant, GrantState, Idle, ByController, ByInput, Leaving, is_by_controller, is_leaving, input_of, grant_for, grant_of_kind, grant_matching}
-use Rattle.port_model.specs.Port.{Port}
-use Rattle.port_model.specs.Saying.{closes}
-use Rattle.port_model.specs.Joins as port_joins
-use Rattle.port_model.specs.Answers as port_answers
-use Rattle.port_model.specs.Resets.{cleared}
-use Rattle.port_facts.proofs.Keyed.{on_both, at_key}
-use Rattle.port_facts.proofs.Found.{find_every, find_passes}
-use Rattle.port_facts.proofs.Rules.{and_first}
-use Rattle.world_model.specs.Controller.{Acted, Linked, port_key, linked_at, ports_of, with_linked, with_desk, note, default_end, default_home}
-use Rattle.world_model.specs.Asking.{asks}
-use Rattle.world_model.specs.Resets.{begins}
-use Rattle.world_model.specs.Performing.{at_port}
-use Rattle.world_model.specs.Joins.{Join, join_to, joins_at, end_le, joins_of, join_of, parts, releases_join, releases_input, released_inputs, resets_spent, releases, port_by, join_through, join_by, join_for, may_join, enters_grant, output_of, enters_label, joins, tries_label, label_on, tries_join, inputs_at, tries_joins}
-use Rattle.world_model.specs.Meeting.{meets, up_ports, empties, default_branches, ends_meeting, has_emptied, port_of, tells_port, behind_delete_all, causes_in_estab, causes, may_clear, clears_of, clears_port, clears, done, answers_desk, answer_comes}
-use Rattle.world_model.specs.Changes.{changed_joins, takes_join_back, begins_change, takes_change, may_take, takes_each, takes_changes, change_comes}
-use Rattle.controller_facts.proofs.Joining.{every_flat_map, every_filter_map, every_in_order}
+use Rattle.world_model.specs.Words.{PortNo, Channel, End, Mark, number_of_channel, Cell, is_estab, best, RouteChange, FlowId, flow_of, next_hop_of, flow_destination, same_flow, Request, AddBranch, MoveBranch, DeleteTree, VerifyTree, PortManagement, Part, frame_cells, same_end, empty_desk, Answered, Unknown, Done, Ports, Failed, answered, after_answer, Setup, home_of, Label, Grant, GrantState, Idle, ByController, ByInput, Leaving, is_by_controller, is_leaving, grant_for, grant_of_kind, grant_matching, closes, Linked, port_key, linked_at, with_linked, with_desk, default_end, default_home, asks, begins, at_port, join_to, joins_at, end_le, joins_of, join_of, parts, releases_join, releases_input, released_inputs, resets_spent, releases, port_by, join_through, join_by, join_for, may_join, enters_grant, enters_label, joins, tries_label, label_on, tries_join, inputs_at, tries_joins, meets, up_ports, empties, default_branches, ends_meeting, has_emptied, tells_port, behind_delete_all, causes_in_estab, causes, may_clear, clears_of, clears_port, clears, answers_desk, answer_comes, changed_joins, takes_join_back, begins_change, takes_change, may_take, takes_each, takes_changes, change_comes}
+use Rattle.world_model.specs.ipv4_packet.declared.flow.FlowKind.TheVariants.{One, Two}
+use Rattle.world_model.specs.gsmp_wire.declared.request.Request.TheVariants.{DeleteAll, AllPorts}
+use Rattle.world_model.specs.gsmp_wire.declared.message.Message.{Message}
+use Rattle.controller_law.specs.ordered_lists.Ordered.{Every}
+use Rattle.world_model.specs.port_model.Grants.{input_of}
+use Rattle.world_model.specs.port_model.Port.{Port}
+use Rattle.world_model.specs.port_model.Joins as port_joins
+use Rattle.world_model.specs.port_model.Answers as port_answers
+use Rattle.world_model.specs.port_model.Resets.{cleared}
+use Rattle.controller_law.proofs.port_facts.Keyed.{on_both, at_key}
+use Rattle.controller_law.proofs.port_facts.Found.{find_every, find_passes}
+use Rattle.controller_law.proofs.port_facts.Rules.{and_first}
+use Rattle.world_model.specs.Controller.{Acted, ports_of, note}
+use Rattle.world_model.specs.Joins.{Join, output_of}
+use Rattle.world_model.specs.Meeting.{port_of, done}
+use Rattle.controller_law.proofs.controller_facts.Joining.{every_flat_map, every_filter_map, every_in_order}
 use Rattle.lifetimes.proofs.Grants.{IsFate, lent_all, given_back_all, joined_all, parted_all, closes_all, done_all, resets_all, restarts_all}
 use Rattle.lifetimes.proofs.Performing.{IsKept, Fits as FitsIn, found_fits, fold_fits, placed_fits, node_fits, asks_fits, takes_back_fits, at_port_fits}
 

@@ -4,16 +4,11 @@ use Rattle.std.proofs.Common.{◌≡◌, ℕ, ◌≤◌, Bool, true, false, List
 use Rattle.std.specs.Prelude.{◌&&◌, ◌||◌, ◌==◌, not, filter}
 use Rattle.std.specs.List.{list_any}
 use Rattle.std.proofs.lemmas.Bool.Decides.{nat_tests}
-use Rattle.net_types.specs.declared.channel.End.{End}
-use Rattle.net_types.specs.declared.node.PortNo.{PortNo}
-use Rattle.crossbar_model.specs.Crossbar.{same_end}
-use Rattle.gsmp_wire.specs.declared.request.Request.{Request}
-use Rattle.gsmp_wire.specs.declared.request.Request.TheVariants.{AddBranch, MoveBranch, DeleteTree, VerifyTree, DeleteAll, PortManagement, AllPorts}
-use Rattle.port_model.specs.Requests.{is_on, is_on_port, is_delete_all, withdraws, leads_home}
-use Rattle.port_model.specs.Desk.{Desk, Standing, asked, withdrawn, is_led_home, on_input, all_on}
-use Rattle.port_model.specs.Setup.{home_of}
-use Rattle.port_facts.proofs.Keyed.{on_each}
-use Rattle.port_facts.proofs.Rules.{and_first}
+use Rattle.world_model.specs.Words.{End, PortNo, same_end, Request, AddBranch, MoveBranch, DeleteTree, VerifyTree, PortManagement, is_on, is_on_port, is_delete_all, withdraws, leads_home, Desk, Standing, withdrawn, is_led_home, on_input, all_on, home_of}
+use Rattle.world_model.specs.gsmp_wire.declared.request.Request.TheVariants.{DeleteAll, AllPorts}
+use Rattle.world_model.specs.port_model.Desk.{asked}
+use Rattle.controller_law.proofs.port_facts.Keyed.{on_each}
+use Rattle.controller_law.proofs.port_facts.Rules.{and_first}
 use Rattle.controller_law.proofs.Lists.{either}
 use Rattle.lifetimes.proofs.Calm.{LeadsBack}
 

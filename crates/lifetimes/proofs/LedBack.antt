@@ -3,59 +3,33 @@
 use Rattle.std.proofs.Common.{◌≡◌, ◌≢◌, ℕ, ◌≤◌, Bool, true, false, List, [], ◌∷◌, length, Option, None, Some, refl, sym, ◌∙◌, ap, subst, arith, if◌then◌else◌, inl, inr, map, fold}
 use Rattle.std.specs.Prelude.{◌⊎◌, ◌&&◌, ◌+◌, ◌-◌, not, nat_lt, is_none, is_some, flat_map}
 use Rattle.std.specs.Option.{option_map, option_map_or, option_and_then}
-use Rattle.net_types.specs.declared.node.PortNo.{PortNo}
-use Rattle.net_types.specs.declared.channel.End.{End}
-use Rattle.net_types.specs.declared.adjacency.Greeting.{Greeting}
-use Rattle.net_types.specs.declared.adjacency.Party.{Party}
-use Rattle.net_types.specs.Label.{number_of_channel}
-use Rattle.adjacency_table.specs.declared.message.Answer.{Answer}
-use Rattle.adjacency_table.specs.declared.message.Answer.TheVariants.{Quiet, Send, Open, Reset}
-use Rattle.adjacency_table.specs.declared.message.Said.{Said}
-use Rattle.adjacency_table.specs.Side as sides
-use Rattle.adjacency_table.specs.Side.{is_estab, ticked}
-use Rattle.adjacency_table.specs.Greeting.{gsmp_answer}
-use Rattle.ipv4_forward.specs.Best.{best}
-use Rattle.ipv4_packet.specs.declared.flow.FlowId.{FlowId}
-use Rattle.ipv4_packet.specs.Flow.{next_hop_of}
-use Rattle.ipv4_packet.specs.Parts.{flow_destination, same_flow}
-use Rattle.crossbar_model.specs.Channels.{IsLinkPort}
-use Rattle.crossbar_model.specs.Crossbar.{same_end}
-use Rattle.gsmp_wire.specs.Layout.{octets_of as gsmp_octets}
-use Rattle.gsmp_wire.specs.declared.message.Message.TheVariants as messages
-use Rattle.gsmp_wire.specs.declared.request.Request.TheVariants.{MoveBranch, AllPorts}
-use Rattle.ordered_lists.specs.Ordered.{Every}
-use Rattle.ordered_lists.proofs.Every.{every_mapped}
-use Rattle.keyed_lists.specs.Keyed.{at}
-use Rattle.port_model.specs.Desk.{Desk, empty_desk, sent_again, is_led_home, on_input, all_on, most_asked, asked}
-use Rattle.port_model.specs.declared.action.Action.TheVariants.{TakeBack}
-use Rattle.port_model.specs.Setup.{Setup, home_of, label_end}
-use Rattle.port_model.specs.Labels.{Label}
-use Rattle.port_model.specs.Grants.{Grant, ByInput, grant_label, grant_for, is_by_controller, is_leaving, input_of}
-use Rattle.port_model.specs.Port.{Port, Work, label_at}
-use Rattle.port_model.specs.Joins as port_joins
-use Rattle.port_model.specs.Joins.{joins_label}
-use Rattle.port_model.specs.Ticks as port_ticks
-use Rattle.port_facts.specs.Port.{setup_port, IsLabelEnd, IsGrant, IsPort}
-use Rattle.port_facts.proofs.Keyed.{on_both, on_each, by_eq, at_key, at_every, at_map, put_every, apart_at}
-use Rattle.port_facts.proofs.Found.{find_passes}
-use Rattle.port_facts.proofs.Rules.{and_first, and_second}
-use Rattle.world_model.specs.Controller.{Controller, Acted, Linked, port_key, linked_at, ports_of, with_desk, default_channel}
-use Rattle.world_model.specs.Sending.{says_gsmp}
-use Rattle.world_model.specs.Asking.{sends_request, asks}
-use Rattle.world_model.specs.Resets.{begins, with_work, node_resets}
-use Rattle.world_model.specs.Performing.{performs, works, works_as}
-use Rattle.world_model.specs.Joins.{Join, port_by, join_through, join_by, join_for, is_offered, may_join, enters_grant, output_of, enters_label, joins, tries_label, label_on, tries_join, inputs_at, tries_joins}
-use Rattle.world_model.specs.Routes.{route_stays}
-use Rattle.world_model.specs.Meeting.{meets}
+use Rattle.world_model.specs.Words.{PortNo, End, Greeting, Party, number_of_channel, Answer, Quiet, Send, Open, Said, is_estab, ticked, gsmp_answer, best, FlowId, next_hop_of, flow_destination, same_flow, IsLinkPort, same_end, MoveBranch, at, Desk, empty_desk, sent_again, is_led_home, on_input, all_on, most_asked, TakeBack, Setup, home_of, label_end, Label, Grant, ByInput, grant_label, grant_for, is_by_controller, is_leaving, Work, label_at, joins_label, Controller, Linked, port_key, linked_at, with_desk, default_channel, says_gsmp, sends_request, asks, begins, with_work, node_resets, performs, works, works_as, port_by, join_through, join_by, join_for, is_offered, may_join, enters_grant, enters_label, joins, tries_label, label_on, tries_join, inputs_at, tries_joins, route_stays, meets, setup_of, sends_again, ticks_port, ticks_ports, ticks_by}
+use Rattle.world_model.specs.adjacency_table.declared.message.Answer.TheVariants.{Reset}
+use Rattle.world_model.specs.adjacency_table.Side as sides
+use Rattle.world_model.specs.gsmp_wire.Layout.{octets_of as gsmp_octets}
+use Rattle.world_model.specs.gsmp_wire.declared.message.Message.TheVariants as messages
+use Rattle.world_model.specs.gsmp_wire.declared.request.Request.TheVariants.{AllPorts}
+use Rattle.controller_law.specs.ordered_lists.Ordered.{Every}
+use Rattle.controller_law.proofs.ordered_lists.Every.{every_mapped}
+use Rattle.world_model.specs.port_model.Desk.{asked}
+use Rattle.world_model.specs.port_model.Grants.{input_of}
+use Rattle.world_model.specs.port_model.Port.{Port}
+use Rattle.world_model.specs.port_model.Joins as port_joins
+use Rattle.world_model.specs.port_model.Ticks as port_ticks
+use Rattle.controller_law.specs.port_facts.Port.{setup_port, IsLabelEnd, IsGrant, IsPort}
+use Rattle.controller_law.proofs.port_facts.Keyed.{on_both, on_each, by_eq, at_key, at_every, at_map, put_every, apart_at}
+use Rattle.controller_law.proofs.port_facts.Found.{find_passes}
+use Rattle.controller_law.proofs.port_facts.Rules.{and_first, and_second}
+use Rattle.world_model.specs.Controller.{Acted, ports_of}
+use Rattle.world_model.specs.Joins.{Join, output_of}
 use Rattle.world_model.specs.Gsmp.{answers, steps}
-use Rattle.world_model.specs.Opening.{setup_of}
-use Rattle.world_model.specs.Ticks.{sends_again, ticks_port, ticks_ports, ticks_by, ticks}
-use Rattle.controller_facts.specs.Inputs.{takes_input, takes_inputs}
-use Rattle.controller_facts.specs.Sound.{IsSound, IsLinkedPort, linked_setup, Opening, opened_by, setups_by}
-use Rattle.controller_facts.proofs.Moves.{Found, HasPorts, ages, found_setup, found_at_own, found_port}
-use Rattle.controller_facts.proofs.Joining.{each_there, every_flat_map}
-use Rattle.controller_facts.proofs.Entering.{is_offered_by, by_controller, inputs_of_port}
-use Rattle.controller_facts.proofs.Laws.{has_ports}
+use Rattle.world_model.specs.Ticks.{ticks}
+use Rattle.controller_law.specs.controller_facts.Inputs.{takes_input, takes_inputs}
+use Rattle.controller_law.specs.controller_facts.Sound.{IsSound, IsLinkedPort, linked_setup, Opening, opened_by, setups_by}
+use Rattle.controller_law.proofs.controller_facts.Moves.{Found, HasPorts, ages, found_setup, found_at_own, found_port}
+use Rattle.controller_law.proofs.controller_facts.Joining.{each_there, every_flat_map}
+use Rattle.controller_law.proofs.controller_facts.Entering.{is_offered_by, by_controller, inputs_of_port}
+use Rattle.controller_law.proofs.controller_facts.Laws.{has_ports}
 use Rattle.controller_law.specs.Law.{IsOpening}
 use Rattle.controller_law.proofs.Holding.{Holds, node_closed, none_deleting}
 use Rattle.controller_law.proofs.Entering.{IsHeldAt, held_at, joins_holds}

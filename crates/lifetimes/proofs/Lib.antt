@@ -1,3 +1,4 @@
+pub use Rattle.aal5_frames.proofs as aal5_frames
 pub mod Calm
 pub mod Grants
 pub mod Ages

@@ -5,20 +5,15 @@ use Rattle.std.specs.Prelude.{◌+◌, ◌==◌, filter, find, is_some, reverse}
 use Rattle.std.specs.List.{range_with_len}
 use Rattle.std.specs.Option.{option_map_or}
 use Rattle.std.proofs.lemmas.Bool.Decides.{nat_tests}
-use Rattle.net_types.specs.declared.node.NodeId.{NodeId}
-use Rattle.net_types.specs.declared.node.PortNo.{PortNo}
-use Rattle.net_types.specs.Number.{GivenOut}
-use Rattle.link_model.specs.Notes.{Journal}
-use Rattle.crossbar_model.specs.Channels.{IsLinkPort}
-use Rattle.ordered_lists.specs.Ordered.{Every, InOrder}
-use Rattle.port_model.specs.Setup.{Policy}
-use Rattle.port_facts.proofs.Keyed.{every_more}
+use Rattle.world_model.specs.Words.{NodeId, PortNo, GivenOut, Journal, IsLinkPort, Policy, Topology, Node, default_range, range_among, ranges_of, timers_of, World, Site, opened_site, with_opened, opens_each, empty_world}
+use Rattle.controller_law.specs.ordered_lists.Ordered.{Every, InOrder}
+use Rattle.controller_law.proofs.port_facts.Keyed.{every_more}
 use Rattle.world_model.specs.declared.range.PortRange.{PortRange}
-use Rattle.controller_facts.specs.Inputs.{Input, takes_inputs}
-use Rattle.controller_facts.specs.Sound.{Opening, DifferInPort, opened_by}
+use Rattle.controller_law.specs.controller_facts.Inputs.{Input, takes_inputs}
+use Rattle.controller_law.specs.controller_facts.Sound.{Opening, DifferInPort, opened_by}
 use Rattle.controller_law.specs.Law.{IsOpening}
-use Rattle.world_model.specs.Topology.{Topology, Node, peer_of, ports_of, default_range, range_among, ranges_of, timers_of}
-use Rattle.world_model.specs.World.{World, Site, opened_site, with_opened, opens_each, empty_world, opened}
+use Rattle.world_model.specs.Topology.{peer_of, ports_of}
+use Rattle.world_model.specs.World.{opened}
 
 abbrev port_number : ℕ → PortNo
 port_number n = record { 0 = n }

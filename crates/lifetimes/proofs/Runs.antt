@@ -4,26 +4,17 @@ use Rattle.std.proofs.Common.{◌≡◌, ℕ, Bool, true, false, List, [], ◌�
 use Rattle.std.specs.Prelude.{◌+◌, ◌==◌, ◌&&◌}
 use Rattle.std.specs.Option.{option_map, option_map_or, option_and_then}
 use Rattle.std.proofs.lemmas.Bool.Decides.{nat_tests}
-use Rattle.net_types.specs.declared.node.NodeId.{NodeId}
-use Rattle.net_types.specs.declared.node.PortNo.{PortNo}
-use Rattle.net_types.specs.declared.node.Place.TheVariants.{Down, Up, Out}
-use Rattle.net_types.specs.Number.{GivenOut}
-use Rattle.link_model.specs.Notes.{Journal}
-use Rattle.atm_cells.specs.declared.cell.Cell.{Cell}
-use Rattle.ordered_lists.specs.Ordered.{Every}
-use Rattle.port_model.specs.Setup.{Policy, control_end}
-use Rattle.port_facts.proofs.Keyed.{at_every}
-use Rattle.world_model.specs.Controller.{Controller, Acted}
+use Rattle.world_model.specs.Words.{NodeId, PortNo, Down, Up, Out, GivenOut, Journal, Cell, Policy, control_end, Controller, Topology, World, Site, site_key, site_at, controller_at, queue_in, queue_at, put_away, next, world_after}
+use Rattle.controller_law.specs.ordered_lists.Ordered.{Every}
+use Rattle.controller_law.proofs.port_facts.Keyed.{at_every}
+use Rattle.world_model.specs.Controller.{Acted}
 use Rattle.world_model.specs.Ticks.{ticks}
-use Rattle.controller_facts.specs.Inputs.{Input, Ticks, Meanwhile, takes_input, takes_inputs}
-use Rattle.controller_facts.specs.Sound.{Opening, opened_by}
+use Rattle.controller_law.specs.controller_facts.Inputs.{Input, Ticks, Meanwhile, takes_input, takes_inputs}
+use Rattle.controller_law.specs.controller_facts.Sound.{Opening, opened_by}
 use Rattle.controller_law.specs.Law.{IsOpening}
 use Rattle.world_model.specs.declared.event.Event.{Event}
 use Rattle.world_model.specs.declared.event.Event.TheVariants.{Inject, Carry, Lose, Tick, TickSwitch, Restart, RestartSwitch, Forge, Route}
-use Rattle.world_model.specs.Topology.{Topology}
-use Rattle.world_model.specs.World.{World, Site, site_key, site_at, controller_at, opened}
-use Rattle.world_model.specs.Places.{queue_in, queue_at}
-use Rattle.world_model.specs.Run.{put_away, next, world_after}
+use Rattle.world_model.specs.World.{opened}
 use Rattle.lifetimes.specs.Setting.{Sets}
 use Rattle.lifetimes.specs.Aging.{reaches_at, has_switch, one_tick, ticks_among, NotSet, NoneSets, IsCounted, grant_at, HasEnded}
 use Rattle.lifetimes.specs.Law.{HasLeft, stays_queued, SendsNone, EndsByReset}

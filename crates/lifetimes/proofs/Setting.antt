@@ -4,52 +4,26 @@ use Rattle.std.proofs.Common.{◌≡◌, ◌≢◌, ℕ, Bool, true, false, List
 use Rattle.std.specs.Prelude.{not, ◌==◌, nat_eq, nat_lt, nat_le, drop, is_some}
 use Rattle.std.specs.Option.{option_and_then}
 use Rattle.std.proofs.lemmas.Bool.Decides.{nat_tests}
-use Rattle.net_types.specs.declared.prefix.Addr.{Addr}
-use Rattle.net_types.specs.declared.node.PortNo.{PortNo}
-use Rattle.net_types.specs.declared.channel.Channel.{Channel}
-use Rattle.net_types.specs.declared.number.Mark.{Mark}
-use Rattle.net_types.specs.Label.{label_number_of}
-use Rattle.net_types.specs.Number.{next_control, with_control}
-use Rattle.ipv4_packet.specs.Packet.{first_fault}
-use Rattle.ipv4_packet.specs.declared.validate.PacketFault.{PacketFault}
-use Rattle.atm_cells.specs.declared.cell.Cell.{Cell}
-use Rattle.adjacency_table.specs.Side.{is_estab}
-use Rattle.ipv4_packet.specs.declared.flow.FlowId.{FlowId}
-use Rattle.ipv4_packet.specs.Parts.{same_flow}
-use Rattle.ifmp_wire.specs.declared.message.Message.{Message}
-use Rattle.ifmp_wire.specs.declared.message.Message.TheVariants.{Redirect}
-use Rattle.ifmp_wire.specs.Fields.{decoded}
-use Rattle.frame_model.specs.Reassembly.{Taken, taken}
-use Rattle.frame_model.specs.Frame.{tested, last_mark, frame_cells, made}
-use Rattle.frame_model.specs.Sending.{Sent}
-use Rattle.link_model.specs.Notes.{noted}
-use Rattle.link_model.specs.declared.record.Record.TheVariants.{Loss}
-use Rattle.link_model.specs.declared.record.Cause.TheVariants.{PoolFull}
-use Rattle.gsmp_wire.specs.Layout.{octets_of as gsmp_octets}
-use Rattle.gsmp_wire.specs.declared.request.Request.{Request}
-use Rattle.gsmp_wire.specs.declared.request.Request.TheVariants.{AddBranch}
-use Rattle.ordered_lists.specs.Ordered.{Every, InOrder}
-use Rattle.ordered_lists.proofs.Every.{every_map}
-use Rattle.keyed_lists.specs.Keyed.{at, put}
-use Rattle.port_model.specs.Desk.{Desk, most_asked, asked, message_at, last_transaction}
-use Rattle.port_model.specs.declared.action.Action.TheVariants.{Ask}
-use Rattle.port_model.specs.Setup.{Setup, is_in_range, control_end, label_end}
-use Rattle.port_model.specs.Grants.{Grant, Idle, grant_label, is_leaving, most_grants, Acceptance, New, Refreshed, OutOfRange, Taken as TakenBy, IsLeaving, GrantsFull, acceptance_beside, acceptance_of, acceptance}
-use Rattle.port_model.specs.Port.{Work, with_grant, Session}
-use Rattle.port_model.specs.Redirection.{expects, accepts, grants_label, redirected, is_from_peer, is_due}
-use Rattle.port_model.specs.Hearing.{hears}
-use Rattle.port_facts.proofs.Keyed.{on_both, on_each, at_key, at_put_same, put_order, every_more}
-use Rattle.world_model.specs.Controller.{Controller, Acted, Linked, port_key, free_slots, linked_at, with_linked, with_desk, default_channel}
+use Rattle.world_model.specs.Words.{Addr, PortNo, Channel, Mark, label_number_of, next_control, with_control, PacketFault, Cell, is_estab, FlowId, same_flow, Redirect, tested, last_mark, frame_cells, made, noted, Loss, PoolFull, Request, AddBranch, at, put, Desk, most_asked, last_transaction, Ask, Setup, is_in_range, control_end, label_end, Grant, Idle, grant_label, is_leaving, most_grants, Acceptance, New, Refreshed, IsLeaving, GrantsFull, acceptance_beside, acceptance_of, acceptance, Work, with_grant, Session, expects, accepts, grants_label, is_from_peer, is_due, hears, Controller, Linked, port_key, linked_at, with_linked, with_desk, default_channel, asks_next, asks, begins, with_work, node_resets, performs, performs_in_estab, works, works_as, at_port, routes, ForDefault, port_on, taker_of, ifmp_holds, counted_at, packet_holds, default_holds, takes_cell}
+use Rattle.world_model.specs.ipv4_packet.Packet.{first_fault}
+use Rattle.world_model.specs.ifmp_wire.declared.message.Message.{Message}
+use Rattle.world_model.specs.ifmp_wire.Fields.{decoded}
+use Rattle.world_model.specs.frame_model.Reassembly.{Taken, taken}
+use Rattle.world_model.specs.frame_model.Sending.{Sent}
+use Rattle.world_model.specs.gsmp_wire.Layout.{octets_of as gsmp_octets}
+use Rattle.controller_law.specs.ordered_lists.Ordered.{Every, InOrder}
+use Rattle.controller_law.proofs.ordered_lists.Every.{every_map}
+use Rattle.world_model.specs.port_model.Desk.{asked, message_at}
+use Rattle.world_model.specs.port_model.Grants.{OutOfRange, Taken as TakenBy}
+use Rattle.world_model.specs.port_model.Redirection.{redirected}
+use Rattle.controller_law.proofs.port_facts.Keyed.{on_both, on_each, at_key, at_put_same, put_order, every_more}
+use Rattle.world_model.specs.Controller.{Acted, free_slots}
 use Rattle.world_model.specs.Sending.{with_cells, sends}
-use Rattle.world_model.specs.Asking.{asks_next, asks}
-use Rattle.world_model.specs.Resets.{begins, with_work, node_resets}
-use Rattle.world_model.specs.Performing.{performs, performs_in_estab, works, works_as, at_port}
-use Rattle.world_model.specs.Packets.{routes}
-use Rattle.world_model.specs.Cells.{Taker, ForDefault, port_on, taker_of, ifmp_holds, counted_at, packet_holds, default_holds, opened_frame, ends_frame, takes_cell, cell_comes}
-use Rattle.controller_facts.specs.Inputs.{Input, CellComes, takes_input}
-use Rattle.controller_facts.specs.Sound.{IsSound}
-use Rattle.controller_facts.proofs.Moves.{found_port}
-use Rattle.controller_facts.proofs.Laws.{has_ports}
+use Rattle.world_model.specs.Cells.{Taker, opened_frame, ends_frame, cell_comes}
+use Rattle.controller_law.specs.controller_facts.Inputs.{Input, CellComes, takes_input}
+use Rattle.controller_law.specs.controller_facts.Sound.{IsSound}
+use Rattle.controller_law.proofs.controller_facts.Moves.{found_port}
+use Rattle.controller_law.proofs.controller_facts.Laws.{has_ports}
 use Rattle.controller_law.proofs.Holding.{node_closed}
 use Rattle.lifetimes.specs.Setting.{payload_of, Hears, Accepts, anew, again, Sets}
 use Rattle.lifetimes.specs.Aging.{has_switch, grant_at}
@@ -58,7 +32,7 @@ use Rattle.lifetimes.proofs.Performing.{performs_fits, fold_fits}
 use Rattle.lifetimes.proofs.Events.{taker_belongs, put_there}
 use Rattle.lifetimes.proofs.Ticking.{put_apart, Short, AnyQueue, KShort, kept_short, FitsShort, other_short, ports_apart}
 use Rattle.lifetimes.proofs.Standing.{UpOrNew, performed_up, in_session, stood, reset_by}
-use Rattle.port_facts.proofs.Rules.{and_second}
+use Rattle.controller_law.proofs.port_facts.Rules.{and_second}
 
 -- what isn't found isn't there
 none_there : {A : Type 0} (key : A → ℕ) (k : ℕ) (xs : List A) → at key k xs ≡ None → Every (λ x. key x ≢ k) xs

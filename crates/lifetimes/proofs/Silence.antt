@@ -4,26 +4,19 @@ use Rattle.std.proofs.Common.{◌≡◌, ℕ, ◌≤◌, ◌<◌, Bool, true, fa
 use Rattle.std.specs.Prelude.{◌+◌, ◌*◌, ◌/◌, ◌%◌, ◌&&◌, ◌==◌, nat_lt, nat_le}
 use Rattle.std.specs.List.{range_with_len}
 use Rattle.std.proofs.lemmas.Bool.Decides.{nat_tests}
-use Rattle.net_types.specs.declared.node.PortNo.{PortNo}
-use Rattle.net_types.specs.declared.channel.Channel.{Channel}
-use Rattle.net_types.specs.declared.number.Mark.{Mark}
-use Rattle.net_types.specs.Label.{is_label_number, label_number_of}
-use Rattle.net_types.proofs.Labels.{number_of_channel-label_channel_of}
-use Rattle.atm_cells.specs.declared.cell.Cell.{Cell}
+use Rattle.world_model.specs.Words.{PortNo, Channel, Mark, is_label_number, label_number_of, Cell, frame_cells, Setup, is_in_range, control_end, Grant, is_leaving, is_by_controller, New, Refreshed, IsLeaving, GrantsFull, Acceptance, acceptance, Linked, same_channel, ForDefault, port_on}
+use Rattle.world_model.proofs.net_types.Labels.{number_of_channel-label_channel_of}
 use Rattle.aal5_frames.specs.Frame.{cells_with, cell_of, pdu_of}
-use Rattle.frame_model.specs.Frame.{frame_cells}
-use Rattle.ordered_lists.specs.Ordered.{Every}
-use Rattle.ordered_lists.proofs.Every.{every_all, every_join, every_mapped}
-use Rattle.port_model.specs.Setup.{Setup, is_in_range, control_end}
-use Rattle.port_model.specs.Grants.{Grant, is_leaving, is_by_controller, New, Refreshed, OutOfRange, Taken as TakenBy, IsLeaving, GrantsFull, Acceptance, acceptance}
-use Rattle.port_facts.specs.Port.{IsGrant, IsPort}
-use Rattle.port_facts.proofs.Rules.{and_second, and_first}
-use Rattle.world_model.specs.Controller.{Acted, Linked}
-use Rattle.world_model.specs.Cells.{same_channel, ForDefault, port_on}
-use Rattle.controller_facts.specs.Inputs.{Input, CellComes, PacketEnters, Ticks, Restarts, ChangeComes, FrameIsForged, CellLeaves, Meanwhile, takes_input, takes_inputs}
-use Rattle.controller_facts.specs.Sound.{IsSound, IsLinkedPort, opened_by, setups_by}
-use Rattle.controller_facts.proofs.Laws.{has_ports, always_sound}
-use Rattle.controller_facts.proofs.Moves.{found_port}
+use Rattle.controller_law.specs.ordered_lists.Ordered.{Every}
+use Rattle.controller_law.proofs.ordered_lists.Every.{every_all, every_join, every_mapped}
+use Rattle.world_model.specs.port_model.Grants.{OutOfRange, Taken as TakenBy}
+use Rattle.controller_law.specs.port_facts.Port.{IsGrant, IsPort}
+use Rattle.controller_law.proofs.port_facts.Rules.{and_second, and_first}
+use Rattle.world_model.specs.Controller.{Acted}
+use Rattle.controller_law.specs.controller_facts.Inputs.{Input, CellComes, PacketEnters, Ticks, Restarts, ChangeComes, FrameIsForged, CellLeaves, Meanwhile, takes_input, takes_inputs}
+use Rattle.controller_law.specs.controller_facts.Sound.{IsSound, IsLinkedPort, opened_by, setups_by}
+use Rattle.controller_law.proofs.controller_facts.Laws.{has_ports, always_sound}
+use Rattle.controller_law.proofs.controller_facts.Moves.{found_port}
 use Rattle.lifetimes.specs.Setting.{Accepts, anew, again, Sets}
 use Rattle.lifetimes.specs.Aging.{NotSet}
 use Rattle.lifetimes.specs.Law.{stays_queued, SendsNone, IsConduct, SendsNoMore}

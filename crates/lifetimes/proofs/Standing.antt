@@ -3,56 +3,28 @@
 use Rattle.std.proofs.Common.{◌≡◌, ℕ, ◌≤◌, ◌+◌, Bool, true, false, List, [], ◌∷◌, length, Option, None, Some, refl, sym, ◌∙◌, ap, arith, if◌then◌else◌, inl, inr, fold}
 use Rattle.std.specs.Prelude.{◌⊎◌, ◌<◌, ◌&&◌, ◌==◌, not, nat_le, is_some, flat_map}
 use Rattle.std.specs.Option.{option_map_or}
-use Rattle.net_types.specs.declared.node.PortNo.{PortNo}
-use Rattle.net_types.specs.declared.channel.Channel.{Channel}
-use Rattle.net_types.specs.declared.channel.End.{End}
-use Rattle.net_types.specs.declared.number.Mark.{Mark}
-use Rattle.net_types.specs.declared.adjacency.Greeting.{Greeting}
-use Rattle.net_types.specs.declared.adjacency.Party.{Party}
-use Rattle.net_types.specs.Label.{number_of_channel}
-use Rattle.net_types.specs.Number.{next_control, with_control}
-use Rattle.adjacency_table.specs.declared.message.Answer.{Answer}
-use Rattle.adjacency_table.specs.declared.message.Answer.TheVariants.{Quiet, Send, Open, Reset}
-use Rattle.adjacency_table.specs.declared.message.Said.{Said}
-use Rattle.adjacency_table.specs.Table.{Reply, Silent, Says, Resets, tick_reply}
-use Rattle.adjacency_table.specs.Side.{is_estab, counted, followed_tick, ticked}
-use Rattle.adjacency_table.specs.Greeting.{gsmp_answer}
-use Rattle.ipv4_packet.specs.Packet.{ifmp_packet_of}
-use Rattle.flow_encaps.specs.Default.{default_payload}
-use Rattle.gsmp_wire.specs.Layout.{octets_of as gsmp_octets}
-use Rattle.gsmp_wire.specs.declared.message.Message.{Message}
-use Rattle.gsmp_wire.specs.declared.message.Message.TheVariants as messages
-use Rattle.gsmp_wire.specs.declared.request.Request.{Request}
-use Rattle.gsmp_wire.specs.declared.request.Request.TheVariants.{MoveBranch, AllPorts}
-use Rattle.ifmp_wire.specs.Message.{octets_of as ifmp_octets}
-use Rattle.link_model.specs.declared.record.Record.TheVariants.{Loss}
-use Rattle.link_model.specs.declared.record.Cause.TheVariants.{PoolFull}
-use Rattle.link_model.specs.Notes.{noted}
-use Rattle.frame_model.specs.Sending.{Sent}
-use Rattle.frame_model.specs.Frame.{frame_cells, made}
-use Rattle.port_model.specs.Desk.{empty_desk, asked, is_led_home, message_at, sent_again, last_transaction}
-use Rattle.port_model.specs.declared.action.Action.{Action}
-use Rattle.port_model.specs.declared.action.Action.TheVariants as actions
-use Rattle.port_model.specs.declared.action.Action.TheVariants.{Say, Ask, Note, CutChain, TakeBack, Withdraw}
-use Rattle.port_model.specs.Setup.{Setup, home_of}
-use Rattle.port_model.specs.Labels.{Label}
-use Rattle.port_model.specs.Port.{Work}
-use Rattle.port_model.specs.Joins as port_joins
-use Rattle.port_model.specs.Resets.{resets, restarts}
-use Rattle.port_model.specs.Ticks as port_ticks
-use Rattle.port_facts.proofs.Keyed.{on_both, at_every}
-use Rattle.port_facts.proofs.Hearings.{ticks_goes}
-use Rattle.port_facts.proofs.Instances.{goes_gave, lent_gave, joined_gave}
-use Rattle.world_model.specs.Controller.{Controller, Acted, Linked, port_key, free_slots, linked_at, ports_of, with_desk, default_channel, default_home}
-use Rattle.world_model.specs.Sending.{with_cells, sends, sends_control, says_gsmp}
-use Rattle.world_model.specs.Asking.{sends_request, asks_next, asks, takes_back}
-use Rattle.world_model.specs.Resets.{cuts_of, begins, with_work, closes_by, port_restarts_of, port_restarts, resets_gsmp, node_resets}
-use Rattle.world_model.specs.Performing.{does, does_in_estab, resets_of, performs, performs_in_estab, Rule, works, at_port}
-use Rattle.world_model.specs.Joins.{Join, join_for, may_join, enters_grant, output_of, enters_label, joins, tries_label, label_on, tries_join, inputs_at, tries_joins}
-use Rattle.world_model.specs.Meeting.{meets}
+use Rattle.world_model.specs.Words.{PortNo, Channel, End, Mark, Greeting, Party, number_of_channel, next_control, with_control, Answer, Quiet, Send, Open, Said, Reply, Silent, Says, Resets, tick_reply, is_estab, followed_tick, ticked, gsmp_answer, ifmp_packet_of, default_payload, Request, MoveBranch, Loss, PoolFull, noted, frame_cells, made, empty_desk, is_led_home, sent_again, last_transaction, Action, Say, Ask, Note, CutChain, TakeBack, Withdraw, Setup, home_of, Label, Work, resets, restarts, Controller, Linked, port_key, linked_at, with_desk, default_channel, default_home, sends_control, says_gsmp, sends_request, asks_next, asks, takes_back, cuts_of, begins, with_work, closes_by, port_restarts_of, port_restarts, resets_gsmp, node_resets, does, does_in_estab, resets_of, performs, performs_in_estab, Rule, works, at_port, join_for, may_join, enters_grant, enters_label, joins, tries_label, label_on, tries_join, inputs_at, tries_joins, meets, sends_again, ticks_port, ticks_ports, ticks_by}
+use Rattle.world_model.specs.adjacency_table.declared.message.Answer.TheVariants.{Reset}
+use Rattle.world_model.specs.adjacency_table.Side.{counted}
+use Rattle.world_model.specs.gsmp_wire.Layout.{octets_of as gsmp_octets}
+use Rattle.world_model.specs.gsmp_wire.declared.message.Message.{Message}
+use Rattle.world_model.specs.gsmp_wire.declared.message.Message.TheVariants as messages
+use Rattle.world_model.specs.gsmp_wire.declared.request.Request.TheVariants.{AllPorts}
+use Rattle.world_model.specs.ifmp_wire.Message.{octets_of as ifmp_octets}
+use Rattle.world_model.specs.frame_model.Sending.{Sent}
+use Rattle.world_model.specs.port_model.Desk.{asked, message_at}
+use Rattle.world_model.specs.port_model.declared.action.Action.TheVariants as actions
+use Rattle.world_model.specs.port_model.Joins as port_joins
+use Rattle.world_model.specs.port_model.Ticks as port_ticks
+use Rattle.controller_law.proofs.port_facts.Keyed.{on_both, at_every}
+use Rattle.controller_law.proofs.port_facts.Hearings.{ticks_goes}
+use Rattle.controller_law.proofs.port_facts.Instances.{goes_gave, lent_gave, joined_gave}
+use Rattle.world_model.specs.Controller.{Acted, free_slots, ports_of}
+use Rattle.world_model.specs.Sending.{with_cells, sends}
+use Rattle.world_model.specs.Joins.{Join, output_of}
 use Rattle.world_model.specs.Gsmp.{answers, steps}
-use Rattle.world_model.specs.Ticks.{sends_again, ticks_port, ticks_ports, ticks_by, ticks}
-use Rattle.controller_facts.specs.Sound.{IsSound, IsShutLinked}
+use Rattle.world_model.specs.Ticks.{ticks}
+use Rattle.controller_law.specs.controller_facts.Sound.{IsSound, IsShutLinked}
 use Rattle.lifetimes.specs.Aging.{is_over, reaches, reaches_at, has_switch}
 use Rattle.lifetimes.specs.Law.{IsReset}
 

@@ -4,51 +4,30 @@ use Rattle.std.proofs.Common.{◌≡◌, ◌≢◌, ℕ, suc, ◌≤◌, Bool, t
 use Rattle.std.specs.Prelude.{◌&&◌, ◌⊎◌, not, nat_eq, is_some}
 use Rattle.std.specs.Option.{option_map_or}
 use Rattle.std.proofs.lemmas.Bool.Decides.{nat_tests}
-use Rattle.net_types.specs.declared.node.PortNo.{PortNo}
-use Rattle.net_types.specs.declared.channel.Channel.{Channel}
-use Rattle.net_types.specs.declared.number.Mark.{Mark}
-use Rattle.net_types.specs.declared.adjacency.Greeting.{Greeting}
-use Rattle.net_types.specs.declared.adjacency.Party.{Party}
-use Rattle.atm_cells.specs.declared.cell.Cell.{Cell}
-use Rattle.adjacency_table.specs.declared.message.Answer.{Answer}
-use Rattle.adjacency_table.specs.declared.message.Answer.TheVariants.{Quiet, Send, Open, Reset}
-use Rattle.adjacency_table.specs.declared.message.Said.{Said}
-use Rattle.adjacency_table.specs.Side as sides
-use Rattle.adjacency_table.specs.Side.{is_estab, ticked}
-use Rattle.adjacency_table.specs.Greeting.{gsmp_answer}
-use Rattle.gsmp_wire.specs.Layout.{octets_of as gsmp_octets}
-use Rattle.gsmp_wire.specs.declared.message.Message.{Message}
-use Rattle.gsmp_wire.specs.declared.message.Message.TheVariants as messages
-use Rattle.gsmp_wire.specs.declared.request.Request.TheVariants.{AllPorts}
-use Rattle.frame_model.specs.Frame.{frame_cells}
-use Rattle.ordered_lists.specs.Ordered.{Every, InOrder}
-use Rattle.ordered_lists.proofs.Every.{every_all, every_map, every_map2}
-use Rattle.ordered_lists.proofs.InOrder.{order_unmapped}
-use Rattle.keyed_lists.specs.Keyed.{at, put}
-use Rattle.port_model.specs.Desk.{empty_desk, sent_again}
-use Rattle.port_model.specs.Setup.{Setup, control_end}
-use Rattle.port_model.specs.Grants.{Grant, GrantState, Idle, ByController, ByInput, Leaving, grant_label, is_leaving, is_by_controller}
-use Rattle.port_model.specs.Port.{Port, Work}
-use Rattle.port_model.specs.Resets.{left_in, left_of}
-use Rattle.port_model.specs.Ticks as port_ticks
-use Rattle.port_facts.specs.Port.{IsWork}
-use Rattle.port_facts.proofs.Keyed.{on_both, by_eq, at_key, at_every, each_found}
-use Rattle.port_facts.proofs.Hearings.{ticks_goes}
-use Rattle.port_facts.proofs.Kept.{goes_kept}
-use Rattle.world_model.specs.Controller.{Acted, Linked, port_key, linked_at, ports_of, with_desk, default_channel}
-use Rattle.world_model.specs.Sending.{says_gsmp}
-use Rattle.world_model.specs.Asking.{sends_request}
-use Rattle.world_model.specs.Resets.{begins, with_work}
-use Rattle.world_model.specs.Performing.{performs, performs_in_estab, works, works_as}
-use Rattle.world_model.specs.Joins.{tries_joins}
-use Rattle.world_model.specs.Meeting.{meets}
+use Rattle.world_model.specs.Words.{PortNo, Channel, Mark, Greeting, Party, Cell, Answer, Quiet, Send, Open, Said, is_estab, ticked, gsmp_answer, frame_cells, at, put, empty_desk, sent_again, Setup, control_end, Grant, GrantState, Idle, ByController, ByInput, Leaving, grant_label, is_leaving, is_by_controller, Work, left_in, left_of, Linked, port_key, linked_at, with_desk, default_channel, says_gsmp, sends_request, begins, with_work, performs, performs_in_estab, works, works_as, tries_joins, meets, sends_again, ticks_port, ticks_ports, ticks_by}
+use Rattle.world_model.specs.adjacency_table.declared.message.Answer.TheVariants.{Reset}
+use Rattle.world_model.specs.adjacency_table.Side as sides
+use Rattle.world_model.specs.gsmp_wire.Layout.{octets_of as gsmp_octets}
+use Rattle.world_model.specs.gsmp_wire.declared.message.Message.{Message}
+use Rattle.world_model.specs.gsmp_wire.declared.message.Message.TheVariants as messages
+use Rattle.world_model.specs.gsmp_wire.declared.request.Request.TheVariants.{AllPorts}
+use Rattle.controller_law.specs.ordered_lists.Ordered.{Every, InOrder}
+use Rattle.controller_law.proofs.ordered_lists.Every.{every_all, every_map, every_map2}
+use Rattle.controller_law.proofs.ordered_lists.InOrder.{order_unmapped}
+use Rattle.world_model.specs.port_model.Port.{Port}
+use Rattle.world_model.specs.port_model.Ticks as port_ticks
+use Rattle.controller_law.specs.port_facts.Port.{IsWork}
+use Rattle.controller_law.proofs.port_facts.Keyed.{on_both, by_eq, at_key, at_every, each_found}
+use Rattle.controller_law.proofs.port_facts.Hearings.{ticks_goes}
+use Rattle.controller_law.proofs.port_facts.Kept.{goes_kept}
+use Rattle.world_model.specs.Controller.{Acted, ports_of}
 use Rattle.world_model.specs.Gsmp.{answers, steps}
-use Rattle.world_model.specs.Ticks.{sends_again, ticks_port, ticks_ports, ticks_by, ticks}
-use Rattle.controller_facts.specs.Sound.{IsSound, linked_setup, AreApart}
-use Rattle.controller_facts.proofs.Moves.{ages, found_setup, found_at_own, begun}
-use Rattle.controller_facts.proofs.Joining.{every_flat_map}
-use Rattle.controller_facts.proofs.Laws.{has_ports}
-use Rattle.controller_facts.proofs.Each.{steps_keeps, sends_again_keeps, ticks_port_keeps}
+use Rattle.world_model.specs.Ticks.{ticks}
+use Rattle.controller_law.specs.controller_facts.Sound.{IsSound, linked_setup, AreApart}
+use Rattle.controller_law.proofs.controller_facts.Moves.{ages, found_setup, found_at_own, begun}
+use Rattle.controller_law.proofs.controller_facts.Joining.{every_flat_map}
+use Rattle.controller_law.proofs.controller_facts.Laws.{has_ports}
+use Rattle.controller_law.proofs.controller_facts.Each.{steps_keeps, sends_again_keeps, ticks_port_keeps}
 use Rattle.lifetimes.specs.Aging.{is_over, reaches, reaches_at}
 use Rattle.lifetimes.proofs.Grants.{IsFate, ticks_all}
 use Rattle.lifetimes.proofs.Ages.{AtMost, ticks_left}

@@ -2,15 +2,11 @@
 
 use Rattle.std.specs.Prelude.{◌≡◌, ℕ, ◌+◌, ◌&&◌, not, Bool, true, false, List, [], ◌∷◌, Option, None, Some, is_some, if◌then◌else◌}
 use Rattle.std.specs.Option.{option_map_or, option_and_then}
-use Rattle.net_types.specs.declared.node.PortNo.{PortNo}
-use Rattle.adjacency_table.specs.declared.message.Answer.{Answer}
-use Rattle.adjacency_table.specs.declared.message.Answer.TheVariants.{Reset}
-use Rattle.adjacency_table.specs.Side.{is_estab, ticked}
-use Rattle.keyed_lists.specs.Keyed.{at}
-use Rattle.port_model.specs.Grants.{Grant, grant_label, is_leaving}
-use Rattle.world_model.specs.Controller.{Controller, Acted, Linked, linked_at}
-use Rattle.controller_facts.specs.Inputs.{Input, Ticks, takes_input, takes_inputs}
-use Rattle.controller_facts.specs.Sound.{Opening, opened_by}
+use Rattle.world_model.specs.Words.{PortNo, Answer, is_estab, ticked, at, Grant, grant_label, is_leaving, Controller, Linked, linked_at}
+use Rattle.world_model.specs.adjacency_table.declared.message.Answer.TheVariants.{Reset}
+use Rattle.world_model.specs.Controller.{Acted}
+use Rattle.controller_law.specs.controller_facts.Inputs.{Input, Ticks, takes_input, takes_inputs}
+use Rattle.controller_law.specs.controller_facts.Sound.{Opening, opened_by}
 use Rattle.lifetimes.specs.Setting.{Sets}
 
 -- *A tick reaches the lifetimes of a port* that is in Estab, where it ends neither the adjacency with the switch nor

@@ -1,19 +1,12 @@
 -- What holds of a grant whose lifetime has passed
 
 use Rattle.std.specs.Prelude.{◌≡◌, ℕ, ◌≤◌, ◌<◌, ◌+◌, true, false, List, ◌++◌, drop, Some, Option}
-use Rattle.net_types.specs.declared.node.PortNo.{PortNo}
-use Rattle.net_types.specs.declared.channel.Channel.{Channel}
-use Rattle.net_types.specs.declared.channel.End.{End}
-use Rattle.atm_cells.specs.declared.cell.Cell.{Cell}
-use Rattle.ordered_lists.specs.Ordered.{Every}
-use Rattle.port_model.specs.Desk.{is_led_home}
-use Rattle.port_model.specs.Setup.{home_of, control_end}
-use Rattle.port_model.specs.Grants.{Grant, ByInput, is_leaving}
+use Rattle.world_model.specs.Words.{PortNo, Channel, End, Cell, is_led_home, home_of, control_end, Grant, ByInput, is_leaving, same_channel}
+use Rattle.controller_law.specs.ordered_lists.Ordered.{Every}
 use Rattle.world_model.specs.Controller.{Acted}
-use Rattle.world_model.specs.Cells.{same_channel}
 use Rattle.world_model.specs.Ticks.{ticks}
-use Rattle.controller_facts.specs.Inputs.{Input, FrameIsForged, CellLeaves, takes_input, takes_inputs}
-use Rattle.controller_facts.specs.Sound.{Opening, opened_by}
+use Rattle.controller_law.specs.controller_facts.Inputs.{Input, FrameIsForged, CellLeaves, takes_input, takes_inputs}
+use Rattle.controller_law.specs.controller_facts.Sound.{Opening, opened_by}
 use Rattle.controller_law.specs.Law.{IsOpening}
 use Rattle.lifetimes.specs.Setting.{Sets}
 use Rattle.lifetimes.specs.Aging.{reaches_at, has_switch, NotSet, IsCounted, grant_at, HasEnded}

@@ -2,24 +2,12 @@
 
 use Rattle.std.specs.Prelude.{◌≡◌, ℕ, ◌≤◌, ◌+◌, ◌==◌, ◌&&◌, Bool, true, false, List, [], ◌∷◌, Option, None, Some, if◌then◌else◌}
 use Rattle.std.specs.Option.{option_map_or, option_and_then}
-use Rattle.net_types.specs.declared.node.NodeId.{NodeId}
-use Rattle.net_types.specs.declared.node.PortNo.{PortNo}
-use Rattle.net_types.specs.declared.node.Place.{Place}
-use Rattle.net_types.specs.declared.node.Place.TheVariants.{Down, Up, Out}
-use Rattle.net_types.specs.declared.channel.End.{End}
-use Rattle.net_types.specs.Number.{next_control}
-use Rattle.atm_cells.specs.declared.cell.Cell.{Cell}
-use Rattle.port_model.specs.Desk.{is_led_home}
-use Rattle.port_model.specs.Setup.{Policy, home_of, control_end}
-use Rattle.port_model.specs.Grants.{Grant, ByInput}
-use Rattle.world_model.specs.Controller.{Controller, Acted}
-use Rattle.controller_facts.specs.Inputs.{Input, CellComes, PacketEnters, Ticks, Restarts, ChangeComes, FrameIsForged, CellLeaves}
+use Rattle.world_model.specs.Words.{NodeId, PortNo, Place, Down, Up, Out, End, next_control, Cell, is_led_home, Policy, home_of, control_end, Grant, ByInput, Controller, Topology, World, controller_at, queue_at, put_away, next, world_after}
+use Rattle.world_model.specs.Controller.{Acted}
+use Rattle.controller_law.specs.controller_facts.Inputs.{Input, CellComes, PacketEnters, Ticks, Restarts, ChangeComes, FrameIsForged, CellLeaves}
 use Rattle.world_model.specs.declared.event.Event.{Event}
 use Rattle.world_model.specs.declared.event.Event.TheVariants.{Inject, Carry, Lose, Tick, Restart, Forge, Route}
-use Rattle.world_model.specs.Topology.{Topology}
-use Rattle.world_model.specs.World.{World, controller_at, opened}
-use Rattle.world_model.specs.Places.{queue_at}
-use Rattle.world_model.specs.Run.{put_away, next, world_after}
+use Rattle.world_model.specs.World.{opened}
 use Rattle.lifetimes.specs.Setting.{Sets}
 use Rattle.lifetimes.specs.Aging.{reaches_at, has_switch, grant_at, HasEnded}
 use Rattle.lifetimes.specs.Law.{HasLeft, stays_queued, SendsNone, IsConduct, EndsByReset}

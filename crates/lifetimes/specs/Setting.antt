@@ -1,27 +1,13 @@
 -- *A lifetime is set*: a REDIRECT of the label is accepted (RFC 1953)
 
 use Rattle.std.specs.Prelude.{◌≡◌, ℕ, true, ◌==◌, nat_lt, List, [], ◌∷◌, length, drop, Option, None, Some, Ok}
-use Rattle.net_types.specs.declared.prefix.Addr.{Addr}
-use Rattle.net_types.specs.declared.node.PortNo.{PortNo}
-use Rattle.net_types.specs.declared.channel.Channel.{Channel}
-use Rattle.net_types.specs.declared.number.Instance.{Instance}
-use Rattle.ipv4_packet.specs.Packet.{protocol_of, source_of, first_fault}
-use Rattle.atm_cells.specs.declared.cell.Cell.{Cell}
-use Rattle.ipv4_packet.specs.declared.flow.FlowId.{FlowId}
-use Rattle.flow_encaps.specs.Unwrapped.{default_unwrapped}
-use Rattle.ifmp_wire.specs.declared.message.Message.{Message}
-use Rattle.ifmp_wire.specs.declared.message.Message.TheVariants.{Redirect}
-use Rattle.ifmp_wire.specs.Fields.{decoded}
-use Rattle.link_model.specs.Notes.{Journal}
-use Rattle.frame_model.specs.Reassembly.{Taken, taken}
-use Rattle.frame_model.specs.Frame.{tested}
-use Rattle.port_model.specs.Desk.{most_asked}
-use Rattle.port_model.specs.Grants.{Grant, Acceptance, New, Refreshed, acceptance}
-use Rattle.port_model.specs.Redirection.{takes}
-use Rattle.world_model.specs.Controller.{Controller, Acted, Linked, free_slots}
-use Rattle.world_model.specs.Packets.{control_protocol}
-use Rattle.world_model.specs.Cells.{ForDefault, taker_of}
-use Rattle.controller_facts.specs.Inputs.{Input, CellComes}
+use Rattle.world_model.specs.Words.{Addr, PortNo, Channel, Instance, protocol_of, source_of, Cell, FlowId, default_unwrapped, Redirect, Journal, tested, most_asked, Grant, Acceptance, New, Refreshed, acceptance, takes, Controller, Linked, control_protocol, ForDefault, taker_of}
+use Rattle.world_model.specs.ipv4_packet.Packet.{first_fault}
+use Rattle.world_model.specs.ifmp_wire.declared.message.Message.{Message}
+use Rattle.world_model.specs.ifmp_wire.Fields.{decoded}
+use Rattle.world_model.specs.frame_model.Reassembly.{Taken, taken}
+use Rattle.world_model.specs.Controller.{Acted, free_slots}
+use Rattle.controller_law.specs.controller_facts.Inputs.{Input, CellComes}
 
 -- the payload of the frame that a cell has ended on a port's default channel, where it passes its test
 abbrev pub payload_of : Journal → (ended : List Cell) → Option (List ℕ)

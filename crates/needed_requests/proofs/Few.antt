@@ -3,15 +3,12 @@
 use Rattle.std.proofs.Common.{◌≡◌, ◌≤◌, ◌+◌, Bool, true, false, List, [], ◌∷◌, length, arith}
 use Rattle.std.specs.Prelude.{not, ◌&&◌}
 use Rattle.std.specs.Option.{option_map_or}
-use Rattle.gsmp_wire.specs.declared.request.Request.{Request}
-use Rattle.gsmp_wire.specs.declared.request.Request.TheVariants.{AddBranch, MoveBranch, DeleteTree, VerifyTree, DeleteAll, PortManagement, AllPorts}
-use Rattle.crossbar_model.specs.Crossbar.{same_end}
-use Rattle.ordered_lists.specs.Ordered.{Every}
-use Rattle.port_model.specs.Requests.{input_of}
-use Rattle.port_model.specs.Setup.{home_of}
-use Rattle.world_model.specs.Controller.{Linked}
-use Rattle.controller_facts.specs.Inputs.{takes_inputs}
-use Rattle.controller_facts.specs.Sound.{opened_by}
+use Rattle.world_model.specs.Words.{Request, AddBranch, MoveBranch, DeleteTree, VerifyTree, PortManagement, same_end, home_of, Linked}
+use Rattle.world_model.specs.gsmp_wire.declared.request.Request.TheVariants.{DeleteAll, AllPorts}
+use Rattle.controller_law.specs.ordered_lists.Ordered.{Every}
+use Rattle.world_model.specs.port_model.Requests.{input_of}
+use Rattle.controller_law.specs.controller_facts.Inputs.{takes_inputs}
+use Rattle.controller_law.specs.controller_facts.Sound.{opened_by}
 use Rattle.controller_law.specs.Order.{is_lent, is_default, is_unlent, stands_unlent, one_if, count_of, IsLentMove, MovesLent}
 use Rattle.controller_law.specs.Law.{Always, MovesOfLent, StandsFew}
 use Rattle.needed_requests.specs.Needed.{is_needed_by, is_needed, NeedsFew}

@@ -1,12 +1,8 @@
 -- Which requests a controller asks however many stand, and how many of them can stand
 
 use Rattle.std.specs.Prelude.{◌≤◌, Bool, true, false, List}
-use Rattle.gsmp_wire.specs.declared.request.Request.{Request}
-use Rattle.gsmp_wire.specs.declared.request.Request.TheVariants.{AddBranch, MoveBranch, DeleteTree, DeleteAll, AllPorts}
-use Rattle.crossbar_model.specs.Crossbar.{same_end}
-use Rattle.port_model.specs.Desk.{Standing}
-use Rattle.port_model.specs.Setup.{home_of}
-use Rattle.world_model.specs.Controller.{Controller, Linked}
+use Rattle.world_model.specs.Words.{Request, AddBranch, MoveBranch, DeleteTree, same_end, Standing, home_of, Controller, Linked}
+use Rattle.world_model.specs.gsmp_wire.declared.request.Request.TheVariants.{DeleteAll, AllPorts}
 use Rattle.controller_law.specs.Order.{is_lent, is_default, count_of}
 use Rattle.controller_law.specs.Law as law
 

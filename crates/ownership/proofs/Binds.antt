@@ -2,12 +2,9 @@
 
 use Rattle.std.proofs.Common.{◌≡◌, ℕ, zero, suc, List, [], ◌∷◌, ◌++◌, Some, refl, sym, ◌∙◌, ap, subst}
 use Rattle.std.specs.Prelude.{Contains, slice_get}
-use Rattle.link_model.specs.declared.record.Record.TheVariants.{Bind}
+use Rattle.world_model.specs.Words.{Bind, Topology, World, next, worlds_from, world_after, IsUnused}
 use Rattle.world_model.specs.declared.event.Event.{Event}
-use Rattle.world_model.specs.Topology.{Topology}
-use Rattle.world_model.specs.World.{World, opened}
-use Rattle.world_model.specs.Run.{next, worlds_from, world_after}
-use Rattle.world_model.specs.Users.{IsUnused}
+use Rattle.world_model.specs.World.{opened}
 use Rattle.ownership.specs.Binds.{EachBindIsUnused}
 
 record IsStep (topology : Topology) (w : World) (events : List Event) (old new : World) : Type 0 where

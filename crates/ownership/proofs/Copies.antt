@@ -3,34 +3,20 @@
 use Rattle.std.proofs.Common.{◌≡◌, ℕ, ◌≤◌, Bool, true, false, List, [], ◌∷◌, ◌++◌, Option, None, Some, refl, sym, ◌∙◌, ap, subst, arith, if◌then◌else◌, filter}
 use Rattle.std.specs.Prelude.{is_some}
 use Rattle.std.specs.Option.{option_map_or, option_and_then}
-use Rattle.net_types.specs.declared.channel.End.{End}
-use Rattle.net_types.specs.declared.node.NodeId.{NodeId}
-use Rattle.net_types.specs.declared.adjacency.Party.{Party}
-use Rattle.net_types.specs.declared.node.Place.TheVariants.{Down}
-use Rattle.adjacency_table.specs.declared.State.TheVariants.{Estab}
-use Rattle.adjacency_table.specs.Side.{Side}
-use Rattle.atm_cells.specs.declared.cell.Cell.{Cell}
-use Rattle.gsmp_wire.specs.declared.message.Message.{Message}
-use Rattle.gsmp_wire.specs.declared.message.Message.TheVariants.{Adjacency, Branch, Move, Port, AllPorts}
-use Rattle.link_model.specs.declared.frames.Frame.{Frame}
-use Rattle.link_model.specs.Ledger.{payload_of}
-use Rattle.ordered_lists.specs.Ordered.{InOrder}
-use Rattle.ordered_lists.proofs.InOrder.{order_map}
-use Rattle.port_model.specs.Desk.{Standing}
+use Rattle.world_model.specs.Words.{End, NodeId, Party, Down, Estab, Side, Cell, Move, Frame, payload_of, Standing, default_channel, same_channel, Site, queue_in, gsmp_of, copy_of, copy_under, to_switch, on_channel}
+use Rattle.world_model.specs.gsmp_wire.declared.message.Message.{Message}
+use Rattle.world_model.specs.gsmp_wire.declared.message.Message.TheVariants.{Adjacency, Branch, Port, AllPorts}
+use Rattle.frame_readings.specs.ordered_lists.Ordered.{InOrder}
+use Rattle.frame_readings.proofs.ordered_lists.InOrder.{order_map}
 use Rattle.branch_line.specs.Words as lines
 use Rattle.branch_line.specs.Line.{Line, way_to_switch}
 use Rattle.branch_line.specs.Law as laws
 use Rattle.branch_line.specs.Law.{Always, IsAskedUnder, HasOnlyNewInEstab}
-use Rattle.world_model.specs.Controller.{default_channel}
-use Rattle.world_model.specs.Cells.{same_channel}
-use Rattle.world_model.specs.World.{Site}
-use Rattle.world_model.specs.Places.{queue_in}
-use Rattle.world_model.specs.Ways.{gsmp_of, copy_of, copy_under, to_switch, on_channel}
-use Rattle.shown_cells.specs.Seen.{Seen, Nothing, Word, nothing, hidden, word}
-use Rattle.shown_cells.proofs.Shows.{shows_join}
-use Rattle.input_views.specs.Words.{own_request, type_of, word_by, word_of, is_own, seen_copy, seen_request, seen_on_gsmp, seen_cell, erased}
-use Rattle.input_views.specs.Shown.{controller_of, switch_of, ShowsRequests}
-use Rattle.world_views.specs.Between.{HasInputLine}
+use Rattle.frame_readings.specs.shown_cells.Seen.{Seen, Nothing, Word, nothing, hidden, word}
+use Rattle.frame_readings.proofs.shown_cells.Shows.{shows_join}
+use Rattle.frame_readings.specs.input_views.Words.{own_request, type_of, word_by, word_of, is_own, seen_copy, seen_request, seen_on_gsmp, seen_cell, erased}
+use Rattle.frame_readings.specs.input_views.Shown.{controller_of, switch_of, ShowsRequests}
+use Rattle.frame_readings.specs.world_views.Between.{HasInputLine}
 use Rattle.ownership.specs.Copies.{IsBefore, CopiesAreInOrder}
 use Rattle.ownership.proofs.Matching.{Matches, none, silent, apart, says, order_matched}
 

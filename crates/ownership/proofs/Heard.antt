@@ -3,30 +3,19 @@
 use Rattle.std.proofs.Common.{◌≡◌, ℕ, Bool, true, false, zero, suc, List, [], ◌∷◌, ◌++◌, Option, None, Some, refl, sym, ◌∙◌, ap, subst, arith, if◌then◌else◌, filter, ◌⊎◌, inl, inr}
 use Rattle.std.specs.Prelude.{Contains, ◌&&◌, ◌==◌}
 use Rattle.std.specs.Option.{option_map, option_and_then}
-use Rattle.net_types.specs.declared.adjacency.Hello.{Hello}
-use Rattle.net_types.specs.declared.adjacency.HelloKind.{HelloKind}
-use Rattle.net_types.specs.declared.adjacency.HelloKind.TheVariants.{Ack}
-use Rattle.net_types.specs.declared.node.PortNo.{PortNo}
-use Rattle.net_types.specs.Label.{label_channel_of}
-use Rattle.atm_cells.specs.declared.cell.Cell.{Cell}
-use Rattle.ipv4_packet.specs.Packet.{source_of}
-use Rattle.flow_encaps.specs.Unwrapped.{default_unwrapped}
-use Rattle.ifmp_wire.specs.declared.message.Message.{Message}
-use Rattle.ifmp_wire.specs.declared.message.Message.TheVariants.{Adjacency, Redirect, Reclaim, ReclaimAck, LabelRange, Error}
-use Rattle.link_model.specs.declared.frames.Frame.{Frame}
-use Rattle.link_model.specs.Ledger.{payload_of}
-use Rattle.world_model.specs.Controller.{default_channel, default_home}
-use Rattle.world_model.specs.Cells.{same_channel}
-use Rattle.world_model.specs.Ways.{told, ifmp_in, ifmp_of, ifmp_under, on_channel}
-use Rattle.world_model.specs.Sent.{Numbered, numbered}
+use Rattle.world_model.specs.Words.{Hello, HelloKind, Ack, PortNo, label_channel_of, Cell, source_of, default_unwrapped, Redirect, Reclaim, ReclaimAck, LabelRange, Error, Frame, payload_of, default_channel, default_home, same_channel, ifmp_in, ifmp_of, ifmp_under, on_channel, Numbered}
+use Rattle.world_model.specs.ifmp_wire.declared.message.Message.{Message}
+use Rattle.world_model.specs.ifmp_wire.declared.message.Message.TheVariants.{Adjacency}
+use Rattle.world_model.specs.Ways.{told}
+use Rattle.world_model.specs.Sent.{numbered}
 use Rattle.label_line.specs.Cells as lines
 use Rattle.label_line.specs.Cells.{Role, Downstream, Upstream}
 use Rattle.label_line.specs.Law.{IfNumbered}
-use Rattle.port_views.specs.Link.{LinkLabel, other}
-use Rattle.port_views.specs.Heard.{heard_by, names, is_own}
-use Rattle.port_views.specs.Flows.{flow_number}
-use Rattle.shown_cells.specs.Seen.{Seen, Nothing, Word, Unknown, nothing, hidden, word}
-use Rattle.shown_cells.specs.Label.{Told, told_in, told_of, seen_packet, seen_payload, seen_message, Where, OnLink, OnControl, channel_at, on_label, seen, erased, ShowsCells}
+use Rattle.frame_readings.specs.port_views.Link.{LinkLabel, other}
+use Rattle.frame_readings.specs.port_views.Heard.{heard_by, names, is_own}
+use Rattle.frame_readings.specs.port_views.Flows.{flow_number}
+use Rattle.frame_readings.specs.shown_cells.Seen.{Seen, Nothing, Word, Unknown, nothing, hidden, word}
+use Rattle.frame_readings.specs.shown_cells.Label.{Told, told_in, told_of, seen_packet, seen_payload, seen_message, Where, OnLink, OnControl, channel_at, on_label, seen, erased, ShowsCells}
 use Rattle.ownership.proofs.Matching.{Matches, none, silent, apart, says, matches_join}
 
 some_is : {X : Type 0} (x y : X) → Some x ≡ Some y → x ≡ y

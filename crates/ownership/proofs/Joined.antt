@@ -4,33 +4,17 @@ use Rattle.std.proofs.Common.{◌≡◌, ℕ, ◌<◌, Bool, true, false, List, 
 use Rattle.std.specs.Prelude.{is_some}
 use Rattle.std.proofs.Common.{inl, inr}
 use Rattle.std.specs.Option.{option_map, option_map_or, option_and_then}
-use Rattle.net_types.specs.declared.channel.End.{End}
-use Rattle.net_types.specs.Label.{is_label_number, label_channel_of, number_of_channel}
-use Rattle.adjacency_table.specs.declared.State.{State}
-use Rattle.adjacency_table.specs.declared.State.TheVariants.{Clearing, SynSent, SynRcvd, Estab}
-use Rattle.adjacency_table.specs.Side.{is_estab}
-use Rattle.crossbar_model.specs.Channels.{IsLinkPort}
-use Rattle.crossbar_model.specs.Crossbar.{output_of}
-use Rattle.keyed_lists.specs.Keyed.{at}
-use Rattle.port_model.specs.Setup.{Setup, label_end, home_of, control_end}
-use Rattle.port_model.specs.Labels.{Label, LabelState, Wiring, Offered, Recalled, Wired, label_number}
-use Rattle.port_model.specs.Grants.{Grant, input_of}
-use Rattle.port_model.specs.Port.{Session, labels_of}
-use Rattle.port_facts.specs.Port.{IsLabelEnd, IsLabel, IsShut, setup_port}
-use Rattle.port_facts.proofs.Keyed.{at_every}
-use Rattle.world_model.specs.Controller.{Controller, Linked, linked_at, port_key}
-use Rattle.world_model.specs.Meeting.{is_clearing}
-use Rattle.controller_facts.specs.Sound.{IsLinkedPort, IsShutLinked}
-use Rattle.controller_law.specs.Match.{joined_in, joined_at, lent_in, lent_at, clearing_at, end_at}
-use Rattle.world_model.specs.World.{Site, site_at}
-use Rattle.world_model.specs.Ways.{session_at, output_at}
-use Rattle.world_model.specs.Past.{Past}
-use Rattle.world_model.specs.Users.{Way, IsWay}
-use Rattle.world_model.specs.Owned.{IsSpare, IsWiring, held}
-use Rattle.causes.proofs.Shown.{peer_back}
-use Rattle.world_views.specs.Pairs.{by_branch, IsJoin}
-use Rattle.world_views.specs.Between.{IsShapedBranch, setups_of}
-use Rattle.world_views.specs.Between as between
+use Rattle.world_model.specs.Words.{End, is_label_number, label_channel_of, number_of_channel, State, Clearing, SynSent, SynRcvd, Estab, is_estab, IsLinkPort, at, Setup, label_end, home_of, control_end, Label, LabelState, Wiring, Offered, Recalled, Wired, label_number, Grant, Session, labels_of, Controller, Linked, linked_at, port_key, is_clearing, Site, site_at, session_at, output_at, Past, Way, IsWay, IsSpare, IsWiring, held}
+use Rattle.world_model.specs.crossbar_model.Crossbar.{output_of}
+use Rattle.world_model.specs.port_model.Grants.{input_of}
+use Rattle.frame_readings.specs.port_facts.Port.{IsLabelEnd, IsLabel, IsShut, setup_port}
+use Rattle.frame_readings.proofs.port_facts.Keyed.{at_every}
+use Rattle.frame_readings.specs.controller_facts.Sound.{IsLinkedPort, IsShutLinked}
+use Rattle.run_facts.specs.controller_law.Match.{joined_in, joined_at, lent_in, lent_at, clearing_at, end_at}
+use Rattle.unused_labels.proofs.causes.Shown.{peer_back}
+use Rattle.frame_readings.specs.world_views.Pairs.{by_branch, IsJoin}
+use Rattle.frame_readings.specs.world_views.Between.{IsShapedBranch, setups_of}
+use Rattle.frame_readings.specs.world_views.Between as between
 use Rattle.ownership.specs.Owning.{IsKept}
 
 number_again : (label : ℕ) → number_of_channel (label_channel_of label) ≡ label

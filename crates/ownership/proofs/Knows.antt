@@ -3,18 +3,12 @@
 use Rattle.std.proofs.Common.{◌≡◌, true, Option, None, Some, refl, sym, ◌∙◌, ap, subst}
 use Rattle.std.specs.Prelude.{is_some}
 use Rattle.std.specs.Option.{option_map, option_and_then}
-use Rattle.net_types.specs.declared.adjacency.Peer.{Peer}
-use Rattle.adjacency_table.specs.Side.{Side, IsSide, knows_peer}
-use Rattle.port_facts.proofs.Keyed.{at_every}
-use Rattle.world_model.specs.Controller.{Linked, linked_at, port_key}
-use Rattle.controller_facts.specs.Sound.{IsLinkedPort}
+use Rattle.world_model.specs.Words.{Peer, Side, IsSide, knows_peer, Linked, linked_at, port_key, Site, site_at, side_at, Past, KnowsCleared, HasStored}
+use Rattle.frame_readings.proofs.port_facts.Keyed.{at_every}
+use Rattle.frame_readings.specs.controller_facts.Sound.{IsLinkedPort}
 use Rattle.world_model.specs.declared.link.LinkEnd.{LinkEnd}
-use Rattle.world_model.specs.World.{Site, site_at}
-use Rattle.world_model.specs.Ways.{side_at}
-use Rattle.world_model.specs.Past.{Past}
-use Rattle.world_model.specs.Owned.{KnowsCleared, HasStored}
-use Rattle.world_views.specs.Tied.{HasClearedInstances}
-use Rattle.world_views.specs.Between.{setups_of}
+use Rattle.frame_readings.specs.world_views.Tied.{HasClearedInstances}
+use Rattle.frame_readings.specs.world_views.Between.{setups_of}
 use Rattle.ownership.specs.Owning.{IsKept}
 
 module _ (past : Past) (kept : IsKept past) where

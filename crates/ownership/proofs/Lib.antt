@@ -1,3 +1,4 @@
+pub use Rattle.unused_labels.proofs as unused_labels
 pub mod Users
 pub mod Knows
 pub mod Joined

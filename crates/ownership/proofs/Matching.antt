@@ -1,8 +1,8 @@
 -- a list whose elements say, in order, words of another list: some elements are silent, and some words are of none of them
 
 use Rattle.std.proofs.Common.{List, [], ◌∷◌, ◌++◌}
-use Rattle.ordered_lists.specs.Ordered.{Every, InOrder}
-use Rattle.ordered_lists.proofs.Every.{every_all}
+use Rattle.frame_readings.specs.ordered_lists.Ordered.{Every, InOrder}
+use Rattle.frame_readings.proofs.ordered_lists.Every.{every_all}
 
 pub data Matches {A B : Type 0} (Silent : A → Type 0) (Says : A → B → Type 0) : List A → List B → Type 0 where
   none : Matches Silent Says [] []

@@ -2,21 +2,17 @@
 
 use Rattle.std.proofs.Common.{◌≡◌, ℕ, ◌<◌, ◌≤◌, Bool, true, List, Option, None, Some, refl, sym}
 use Rattle.std.specs.Option.{option_and_then}
-use Rattle.net_types.specs.declared.adjacency.Hello.{Hello}
-use Rattle.net_types.specs.declared.adjacency.HelloKind.TheVariants.{Ack}
-use Rattle.atm_cells.specs.declared.cell.Cell.{Cell}
-use Rattle.ifmp_wire.specs.declared.message.Message.{Message}
-use Rattle.ifmp_wire.specs.declared.message.Message.TheVariants.{Adjacency}
-use Rattle.link_model.specs.declared.frames.Frame.{Frame}
-use Rattle.ordered_lists.specs.Ordered.{Every, InOrder}
-use Rattle.ordered_lists.proofs.Every.{every_map}
+use Rattle.world_model.specs.Words.{Hello, Ack, Cell, Frame, ifmp_under, Numbered}
+use Rattle.world_model.specs.ifmp_wire.declared.message.Message.{Message}
+use Rattle.world_model.specs.ifmp_wire.declared.message.Message.TheVariants.{Adjacency}
+use Rattle.frame_readings.specs.ordered_lists.Ordered.{Every, InOrder}
+use Rattle.frame_readings.proofs.ordered_lists.Every.{every_map}
 use Rattle.label_line.specs.Cells as lines
 use Rattle.label_line.specs.Cells.{Downstream, Upstream}
 use Rattle.label_line.specs.Law.{IfNumbered, IsAbove, IsFrom, IsFromSaid}
 use Rattle.label_line.specs.Law as laws
-use Rattle.world_model.specs.Ways.{ifmp_under}
-use Rattle.world_model.specs.Sent.{Numbered, numbered}
-use Rattle.port_views.specs.Link.{LinkLabel}
+use Rattle.world_model.specs.Sent.{numbered}
+use Rattle.frame_readings.specs.port_views.Link.{LinkLabel}
 use Rattle.ownership.specs.Order.{Rises}
 use Rattle.ownership.proofs.Matching.{Matches, every_matched, order_matched}
 use Rattle.ownership.proofs.Heard.{Silent, Says, heard_as, heard_nothing, never_silent, asked_of, ack_of, ack_never_silent}

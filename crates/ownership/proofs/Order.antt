@@ -3,48 +3,22 @@
 use Rattle.std.proofs.Common.{◌≡◌, ℕ, true, List, [], ◌++◌, Option, None, Some, refl, sym, ◌∙◌, ap, subst, append-nil, if◌then◌else◌}
 use Rattle.std.specs.Prelude.{Contains, not}
 use Rattle.std.specs.Option.{option_map, option_map_or, option_and_then}
-use Rattle.net_types.specs.declared.number.Instance.{Instance}
-use Rattle.net_types.specs.declared.adjacency.Hello.{Hello}
-use Rattle.net_types.specs.declared.adjacency.HelloKind.{HelloKind}
-use Rattle.net_types.specs.declared.adjacency.HelloKind.TheVariants.{Ack}
-use Rattle.net_types.specs.declared.adjacency.Peer.{Peer}
-use Rattle.net_types.specs.declared.prefix.Addr.{Addr}
-use Rattle.net_types.specs.declared.channel.Channel.{Channel}
-use Rattle.net_types.specs.declared.node.Place.TheVariants.{Down, Up, Out}
-use Rattle.adjacency_table.specs.declared.State.{State}
-use Rattle.adjacency_table.specs.declared.State.TheVariants.{Estab}
-use Rattle.adjacency_table.specs.Side.{Side, knows_peer}
-use Rattle.adjacency_table.specs.Instances.{SideByInstances}
-use Rattle.adjacency_table.specs.Ends.{router, side_of}
-use Rattle.atm_cells.specs.declared.cell.Cell.{Cell}
-use Rattle.crossbar_model.specs.Crossbar.{queue_of}
-use Rattle.ifmp_wire.specs.declared.message.Message.{Message}
-use Rattle.ifmp_wire.specs.declared.message.Message.TheVariants.{Adjacency, Redirect, Reclaim, ReclaimAck, LabelRange, Error}
-use Rattle.ifmp_wire.specs.Message.{names_of}
-use Rattle.link_model.specs.declared.frames.Frame.{Frame}
-use Rattle.ordered_lists.specs.Ordered.{Every}
-use Rattle.port_model.specs.Port.{Session}
+use Rattle.world_model.specs.Words.{Instance, Hello, HelloKind, Ack, Peer, Addr, Channel, Down, Up, Out, State, Estab, Side, knows_peer, SideByInstances, router, side_of, Cell, queue_of, Redirect, Reclaim, ReclaimAck, LabelRange, Error, names_of, Frame, Session, Linked, default_channel, default_home, same_channel, control_port, World, Site, queue_at, queue_in, session_at, side_at, chain_at, on_channel, on_default_channel, Past, Way, IsWay, IsOwn, WasCleared, Numbered, HasNoneBelow, HasArrived}
+use Rattle.world_model.specs.ifmp_wire.declared.message.Message.{Message}
+use Rattle.world_model.specs.ifmp_wire.declared.message.Message.TheVariants.{Adjacency}
+use Rattle.frame_readings.specs.ordered_lists.Ordered.{Every}
 use Rattle.label_line.specs.Cells as lines
 use Rattle.label_line.specs.Cells.{Role, Downstream, Upstream}
 use Rattle.label_line.specs.Line.{Line}
 use Rattle.label_line.specs.Law.{Always, NumbersAreInOrder}
-use Rattle.world_model.specs.Controller.{Linked, default_channel, default_home}
-use Rattle.world_model.specs.Cells.{same_channel}
-use Rattle.world_model.specs.Switch.{control_port}
-use Rattle.world_model.specs.World.{World, Site}
-use Rattle.world_model.specs.Places.{queue_at, queue_in}
-use Rattle.world_model.specs.Ways.{session_at, side_at, chain_at, on_channel, on_default_channel}
-use Rattle.world_model.specs.Past.{Past}
-use Rattle.world_model.specs.Users.{Way, IsWay, IsOwn}
-use Rattle.world_model.specs.Owned.{WasCleared}
-use Rattle.world_model.specs.Sent.{Numbered, numbered, HasNoneBelow, HasArrived}
-use Rattle.port_views.specs.Link.{LinkLabel}
-use Rattle.port_views.specs.Shown.{known_number, expected_number}
-use Rattle.shown_cells.specs.Label.{OnControl, ShowsCells}
-use Rattle.world_views.specs.Shown.{end_of, WorldShows}
-use Rattle.world_views.specs.Pairs.{IsLike}
-use Rattle.world_views.specs.Tied.{is_rstack, tells_its_own}
-use Rattle.world_views.specs.Between.{HasLabelLine}
+use Rattle.world_model.specs.Sent.{numbered}
+use Rattle.frame_readings.specs.port_views.Link.{LinkLabel}
+use Rattle.frame_readings.specs.port_views.Shown.{known_number, expected_number}
+use Rattle.frame_readings.specs.shown_cells.Label.{OnControl, ShowsCells}
+use Rattle.frame_readings.specs.world_views.Shown.{end_of, WorldShows}
+use Rattle.frame_readings.specs.world_views.Pairs.{IsLike}
+use Rattle.frame_readings.specs.world_views.Tied.{is_rstack, tells_its_own}
+use Rattle.frame_readings.specs.world_views.Between.{HasLabelLine}
 use Rattle.unused_labels.proofs.Seen.{every_contained}
 use Rattle.unused_labels.proofs.Places.{linked_is}
 use Rattle.unused_labels.proofs.Links.{link_of, link_is}

@@ -1,10 +1,7 @@
 -- copies of requests and REDIRECTs are on their own channels
 
 use Rattle.std.proofs.Common.{ℕ, refl}
-use Rattle.world_model.specs.Past.{Past}
-use Rattle.world_model.specs.Users.{Way, IsWay}
-use Rattle.ifmp_wire.specs.declared.message.Message.TheVariants.{Redirect}
-use Rattle.net_types.specs.Label.{label_channel_of}
+use Rattle.world_model.specs.Words.{Past, Way, IsWay, Redirect, label_channel_of}
 use Rattle.unused_labels.specs.Unused.{HasOwnChannels}
 use Rattle.ownership.specs.Owning.{HasOwnWays}
 

@@ -3,39 +3,25 @@
 use Rattle.std.proofs.Common.{◌≡◌, ℕ, Bool, true, [], Option, None, Some, refl, sym, ◌∙◌, ap, subst, if◌then◌else◌}
 use Rattle.std.specs.Prelude.{Contains}
 use Rattle.std.specs.Option.{option_map_or}
-use Rattle.net_types.specs.declared.channel.End.{End}
-use Rattle.net_types.specs.declared.number.Instance.{Instance}
-use Rattle.net_types.specs.Label.{is_label_number, label_channel_of}
-use Rattle.ipv4_packet.specs.declared.flow.FlowId.{FlowId}
-use Rattle.ifmp_wire.specs.declared.message.Message.{Message}
-use Rattle.ifmp_wire.specs.declared.message.Message.TheVariants.{Reclaim, ReclaimAck}
-use Rattle.keyed_lists.specs.Keyed.{at}
-use Rattle.port_model.specs.Labels.{Label, LabelState, Wiring, Offered, Recalled, Wired}
-use Rattle.port_model.specs.Grants.{Grant, Leaving, grant_label}
-use Rattle.port_model.specs.Port.{Session}
-use Rattle.port_facts.proofs.Keyed.{at_every, each_found}
-use Rattle.world_model.specs.Controller.{Linked, port_key}
-use Rattle.controller_facts.specs.Sound.{IsLinkedPort}
+use Rattle.world_model.specs.Words.{End, Instance, is_label_number, label_channel_of, FlowId, Reclaim, ReclaimAck, at, Label, LabelState, Wiring, Offered, Recalled, Wired, Grant, Leaving, grant_label, Session, Linked, port_key, World, session_at, grants_at, Past, Way, IsWay, HasNoReclaim, IsNotRecalled, IsNotRecalledIn, held}
+use Rattle.world_model.specs.ifmp_wire.declared.message.Message.{Message}
+use Rattle.frame_readings.proofs.port_facts.Keyed.{at_every, each_found}
+use Rattle.frame_readings.specs.controller_facts.Sound.{IsLinkedPort}
 use Rattle.label_line.specs.Cells as lines
 use Rattle.label_line.specs.Cells.{Downstream, Upstream}
 use Rattle.label_line.specs.Line as line_specs
 use Rattle.label_line.specs.Line.{Line}
 use Rattle.label_line.specs.Law as laws
 use Rattle.label_line.specs.Law.{Always, OnlyRecalledIsReclaimed, IsNoReclaim, OwesNothing}
-use Rattle.world_model.specs.World.{World}
-use Rattle.world_model.specs.Ways.{session_at, grants_at}
-use Rattle.world_model.specs.Past.{Past}
-use Rattle.world_model.specs.Users.{Way, IsWay}
-use Rattle.world_model.specs.Owned.{HasNoReclaim, IsNotRecalled, IsNotRecalledIn, held}
-use Rattle.port_views.specs.Link.{LinkLabel}
-use Rattle.port_views.specs.Heard.{heard_by}
-use Rattle.port_views.specs.Flows.{flow_number}
-use Rattle.port_views.specs.Shown.{label_of, label_in, grant_in, GrantShows}
-use Rattle.port_views.proofs.Recalling.{names_own}
-use Rattle.shown_cells.specs.Label.{OnLink, OnControl}
-use Rattle.world_views.specs.Shown.{WorldShows}
-use Rattle.world_views.specs.Pairs.{IsLike}
-use Rattle.world_views.specs.Between.{HasLabelLine, setups_of}
+use Rattle.frame_readings.specs.port_views.Link.{LinkLabel}
+use Rattle.frame_readings.specs.port_views.Heard.{heard_by}
+use Rattle.frame_readings.specs.port_views.Flows.{flow_number}
+use Rattle.frame_readings.specs.port_views.Shown.{label_of, label_in, grant_in, GrantShows}
+use Rattle.frame_readings.proofs.port_views.Recalling.{names_own}
+use Rattle.frame_readings.specs.shown_cells.Label.{OnLink, OnControl}
+use Rattle.frame_readings.specs.world_views.Shown.{WorldShows}
+use Rattle.frame_readings.specs.world_views.Pairs.{IsLike}
+use Rattle.frame_readings.specs.world_views.Between.{HasLabelLine, setups_of}
 use Rattle.unused_labels.proofs.Seen.{every_contained, holds_message}
 use Rattle.unused_labels.proofs.Places.{linked_is, label_is, is_open, on_out, on_up, on_down, in_chain}
 use Rattle.unused_labels.proofs.Links.{link_of, link_is}

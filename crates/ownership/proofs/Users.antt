@@ -6,33 +6,18 @@ use Rattle.std.specs.Prelude.{Contains, is_some, ◌&&◌, nat_lt, nat_le}
 use Rattle.std.proofs.Common.{inl, inr}
 use Rattle.std.proofs.lemmas.List.Elements.{Contains-append_cases, Contains-append_left, Contains-append_right}
 use Rattle.std.proofs.lemmas.Bool.Decides.{nat_tests}
-use Rattle.net_types.specs.declared.node.NodeId.{NodeId}
-use Rattle.net_types.specs.declared.node.PortNo.{PortNo}
-use Rattle.net_types.specs.declared.node.Place.TheVariants.{Down, Up, Out}
-use Rattle.net_types.specs.declared.channel.Channel.{Channel}
-use Rattle.net_types.specs.declared.channel.End.{End}
-use Rattle.net_types.specs.Label.{is_label_number, is_label_channel, label_channel_of, number_of_channel}
-use Rattle.atm_cells.specs.declared.cell.Cell.{Cell}
-use Rattle.port_model.specs.Desk.{Standing}
-use Rattle.port_model.specs.Setup.{control_end, label_end}
-use Rattle.world_model.specs.Controller.{default_channel}
-use Rattle.world_model.specs.Cells.{same_channel, port_on, on_link}
+use Rattle.world_model.specs.Words.{NodeId, PortNo, Down, Up, Out, Channel, End, is_label_number, is_label_channel, label_channel_of, number_of_channel, Cell, Standing, control_end, label_end, default_channel, same_channel, port_on, on_link, queue_at, IsTopology, to_switch, requests_chain_at, gsmp_to_switch, on_channel, copy_under, Past, last_bound, Way, IsWay, User, ByCell, ByBranch, ByRequest, Uses, on_the_link, off_the_link, granted, connected, copied, from_controller, StandsForLast}
 use Rattle.world_model.specs.declared.link.LinkEnd.{LinkEnd}
-use Rattle.world_model.specs.Places.{queue_at}
-use Rattle.world_model.specs.Conditions.{IsTopology}
 use Rattle.world_model.specs.Topology.{peer_of}
-use Rattle.world_model.specs.Ways.{to_switch, requests_chain_at, gsmp_to_switch, on_channel, copy_under}
-use Rattle.world_model.specs.Past.{Past, last_bound}
-use Rattle.world_model.specs.Users.{Way, IsWay, User, ByCell, ByBranch, ByRequest, Uses, on_the_link, off_the_link, granted, connected, asked, copied, redirected, from_controller}
-use Rattle.world_model.specs.Owned.{StandsForLast}
-use Rattle.port_facts.proofs.Keyed.{by_eq}
-use Rattle.shown_cells.proofs.Frames.{differ}
-use Rattle.causes.proofs.Shown.{IsPeer, peer_back}
-use Rattle.causes.proofs.Ends.{parts_of_control}
-use Rattle.port_views.specs.Link.{LinkLabel}
-use Rattle.world_views.specs.Pairs.{Pairs, by_branch, by_desk, by_copy}
-use Rattle.world_views.specs.Marks.{Heading, heading_at, own_end, Means, early, control, local, plain, labelled, HasCome}
-use Rattle.world_views.specs.Between.{IsWorld, IsLinkLabel}
+use Rattle.world_model.specs.Users.{asked, redirected}
+use Rattle.frame_readings.proofs.port_facts.Keyed.{by_eq}
+use Rattle.frame_readings.proofs.shown_cells.Frames.{differ}
+use Rattle.unused_labels.proofs.causes.Shown.{IsPeer, peer_back}
+use Rattle.unused_labels.proofs.causes.Ends.{parts_of_control}
+use Rattle.frame_readings.specs.port_views.Link.{LinkLabel}
+use Rattle.frame_readings.specs.world_views.Pairs.{Pairs, by_branch, by_desk, by_copy}
+use Rattle.frame_readings.specs.world_views.Marks.{Heading, heading_at, own_end, Means, early, control, local, plain, labelled, HasCome}
+use Rattle.frame_readings.specs.world_views.Between.{IsWorld, IsLinkLabel}
 use Rattle.unused_labels.specs.Unused.{HasOwnChannels}
 use Rattle.unused_labels.proofs.Reading.{filtered_back}
 use Rattle.unused_labels.proofs.Links.{link_of, link_is}

@@ -6,45 +6,22 @@ use Rattle.std.specs.Prelude.{Contains, is_some, slice_get, slice_index}
 use Rattle.std.proofs.Common.{inl, inr}
 use Rattle.std.specs.Option.{option_map}
 use Rattle.std.proofs.lemmas.List.Elements.{Contains-append_cases, Contains-append_left, Contains-append_right}
-use Rattle.net_types.specs.declared.node.NodeId.{NodeId}
-use Rattle.net_types.specs.declared.node.PortNo.{PortNo}
-use Rattle.net_types.specs.declared.node.Place.TheVariants.{Down, Up, Out}
-use Rattle.net_types.specs.declared.channel.Channel.{Channel}
-use Rattle.net_types.specs.Channel.{channel_on_control}
-use Rattle.net_types.specs.declared.number.Instance.{Instance}
-use Rattle.net_types.specs.declared.number.Mark.{Mark}
-use Rattle.net_types.specs.declared.adjacency.Peer.{Peer}
-use Rattle.net_types.specs.declared.prefix.Addr.{Addr}
-use Rattle.adjacency_table.specs.Side.{Side}
-use Rattle.atm_cells.specs.declared.cell.Cell.{Cell}
-use Rattle.ifmp_wire.specs.declared.message.Message.{Message}
-use Rattle.ifmp_wire.specs.Message.{names_of}
-use Rattle.gsmp_wire.specs.declared.message.Message.{Message as GsmpMessage}
-use Rattle.gsmp_wire.specs.Layout.{octets_of as gsmp_octets}
-use Rattle.link_model.specs.declared.frames.Frame.{Frame}
-use Rattle.link_model.specs.Ledger.{payload_of}
-use Rattle.port_model.specs.Desk.{Standing}
-use Rattle.world_model.specs.Controller.{default_channel, default_home}
-use Rattle.world_model.specs.Cells.{same_channel, port_on, on_link}
-use Rattle.controller_views.specs.Lifted.{payload_by}
+use Rattle.world_model.specs.Words.{NodeId, PortNo, Down, Up, Out, Channel, channel_on_control, Instance, Mark, Peer, Addr, Side, Cell, names_of, Frame, payload_of, Standing, default_channel, default_home, same_channel, port_on, on_link, Topology, is_linked, World, next, worlds_from, world_after, queue_at, side_at, chain_at, on_channel, on_the_way, on_default_channel, ifmp_under, gsmp_under, copy_under, Past, past_of, frames_of, Way, IsWay, IsOwn, WasCleared, WaitsAs}
+use Rattle.world_model.specs.ifmp_wire.declared.message.Message.{Message}
+use Rattle.world_model.specs.gsmp_wire.declared.message.Message.{Message as GsmpMessage}
+use Rattle.world_model.specs.gsmp_wire.Layout.{octets_of as gsmp_octets}
+use Rattle.frame_readings.specs.controller_views.Lifted.{payload_by}
 use Rattle.world_model.specs.declared.link.LinkEnd.{LinkEnd}
-use Rattle.world_model.specs.Topology.{Topology, peer_of}
-use Rattle.world_model.specs.Lines.{is_linked}
+use Rattle.world_model.specs.Topology.{peer_of}
 use Rattle.world_model.specs.declared.event.Event.{Event}
-use Rattle.world_model.specs.World.{World, opened}
-use Rattle.world_model.specs.Run.{next, worlds_from, world_after}
-use Rattle.world_model.specs.Places.{queue_at}
-use Rattle.world_model.specs.Ways.{side_at, chain_at, on_channel, on_the_way, on_default_channel, ifmp_under, gsmp_under, copy_under}
-use Rattle.world_model.specs.Past.{Past, past_of, frames_of}
-use Rattle.world_model.specs.Users.{Way, IsWay, IsOwn}
-use Rattle.world_model.specs.Owned.{WasCleared, WaitsAs}
-use Rattle.shown_cells.proofs.Frames.{same_self, same_is}
-use Rattle.causes.proofs.Shown.{IsPeer, peer_back}
-use Rattle.causes.proofs.Ends.{control_parts}
-use Rattle.port_facts.proofs.Keyed.{by_eq}
-use Rattle.world_views.specs.Made.{AreMade}
-use Rattle.world_views.specs.Tied.{tells_its_own}
-use Rattle.world_views.specs.Marks.{Heading, heading_at, Means, early, control, local, plain, labelled}
+use Rattle.world_model.specs.World.{opened}
+use Rattle.frame_readings.proofs.shown_cells.Frames.{same_self, same_is}
+use Rattle.unused_labels.proofs.causes.Shown.{IsPeer, peer_back}
+use Rattle.unused_labels.proofs.causes.Ends.{control_parts}
+use Rattle.frame_readings.proofs.port_facts.Keyed.{by_eq}
+use Rattle.frame_readings.specs.world_views.Made.{AreMade}
+use Rattle.frame_readings.specs.world_views.Tied.{tells_its_own}
+use Rattle.frame_readings.specs.world_views.Marks.{Heading, heading_at, Means, early, control, local, plain, labelled}
 use Rattle.frame_readings.specs.Reading.{MarksAreRead, HasTold, HasSaid}
 use Rattle.run_facts.specs.Drawn.{ByPort, own_at}
 use Rattle.run_facts.specs.Drawn.{DrawnOnce, RunsDrawOnce}

@@ -4,18 +4,11 @@ use Rattle.std.proofs.Common.{◌≡◌, Bool, true, List, ◌++◌}
 use Rattle.std.specs.Prelude.{Contains}
 use Rattle.std.proofs.Common.{inl, inr}
 use Rattle.std.proofs.lemmas.List.Elements.{Contains-append_cases}
-use Rattle.net_types.specs.declared.channel.Channel.{Channel}
-use Rattle.net_types.specs.declared.node.Place.TheVariants.{Down, Up, Out}
-use Rattle.atm_cells.specs.declared.cell.Cell.{Cell}
-use Rattle.world_model.specs.Controller.{default_channel, default_home}
-use Rattle.world_model.specs.Cells.{same_channel}
+use Rattle.world_model.specs.Words.{Channel, Down, Up, Out, Cell, default_channel, default_home, same_channel, World, queue_at, chain_at, on_channel, on_default_channel}
 use Rattle.label_line.specs.Cells as lines
 use Rattle.label_line.specs.Law.{IsNoReclaim}
 use Rattle.world_model.specs.declared.link.LinkEnd.{LinkEnd}
-use Rattle.world_model.specs.World.{World}
-use Rattle.world_model.specs.Places.{queue_at}
-use Rattle.world_model.specs.Ways.{chain_at, on_channel, on_default_channel}
-use Rattle.shown_cells.specs.Label.{erased}
+use Rattle.frame_readings.specs.shown_cells.Label.{erased}
 use Rattle.unused_labels.proofs.Reading.{filtered}
 
 pub erased_reclaim : (w : lines.Cell) → IsNoReclaim w → IsNoReclaim (erased w)

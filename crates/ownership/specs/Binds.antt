@@ -1,12 +1,9 @@
 -- Before each event that binds a label nobody uses it, over a run
 
 use Rattle.std.specs.Prelude.{◌≡◌, List, ◌∷◌, ◌++◌}
-use Rattle.port_model.specs.Setup.{Policy}
+use Rattle.world_model.specs.Words.{Policy, Topology, past_of, BindsUnused}
 use Rattle.world_model.specs.declared.event.Event.{Event}
-use Rattle.world_model.specs.Topology.{Topology}
-use Rattle.world_model.specs.Past.{past_of}
-use Rattle.world_model.specs.Headline.{BindsUnused}
-use Rattle.world_views.specs.Kept.{BindsUnusedAt}
+use Rattle.frame_readings.specs.world_views.Kept.{BindsUnusedAt}
 
 -- at each event of a run
 abbrev pub EachBindIsUnused : Type 0

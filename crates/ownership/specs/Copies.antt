@@ -1,19 +1,10 @@
 -- Copies of requests on the way from a controller to its switch are in the order of their numbers
 
 use Rattle.std.specs.Prelude.{◌≡◌, ◌≤◌, true, List, Some}
-use Rattle.net_types.specs.declared.channel.End.{End}
-use Rattle.net_types.specs.declared.node.NodeId.{NodeId}
-use Rattle.adjacency_table.specs.declared.State.TheVariants.{Estab}
-use Rattle.atm_cells.specs.declared.cell.Cell.{Cell}
-use Rattle.link_model.specs.declared.frames.Frame.{Frame}
-use Rattle.ordered_lists.specs.Ordered.{InOrder}
-use Rattle.port_model.specs.Desk.{Standing}
-use Rattle.world_model.specs.Controller.{default_channel}
-use Rattle.world_model.specs.World.{World, Site, site_at}
-use Rattle.world_model.specs.Ways.{to_switch, on_channel, copy_under}
-use Rattle.world_model.specs.Past.{Past}
-use Rattle.input_views.specs.Words.{is_own}
-use Rattle.world_views.specs.Between.{IsInput}
+use Rattle.world_model.specs.Words.{End, NodeId, Estab, Cell, Frame, Standing, default_channel, World, Site, site_at, to_switch, on_channel, copy_under, Past}
+use Rattle.frame_readings.specs.ordered_lists.Ordered.{InOrder}
+use Rattle.frame_readings.specs.input_views.Words.{is_own}
+use Rattle.frame_readings.specs.world_views.Between.{IsInput}
 use Rattle.ownership.specs.Owning.{IsKept}
 
 -- of two copies of requests that are on an input, or are Delete All of its port, the later one has no lesser number

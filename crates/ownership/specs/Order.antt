@@ -2,14 +2,10 @@
 
 use Rattle.std.specs.Prelude.{◌≡◌, ◌<◌, ◌≤◌, true, List, Option, Some}
 use Rattle.std.specs.Option.{option_and_then}
-use Rattle.net_types.specs.declared.number.Mark.{Mark}
-use Rattle.atm_cells.specs.declared.cell.Cell.{Cell}
-use Rattle.link_model.specs.declared.frames.Frame.{Frame}
-use Rattle.ordered_lists.specs.Ordered.{InOrder}
+use Rattle.world_model.specs.Words.{Mark, Cell, Frame, World, on_default_channel, ifmp_under, Numbered, IsNotOverdue, IsKnownRightly}
+use Rattle.frame_readings.specs.ordered_lists.Ordered.{InOrder}
 use Rattle.world_model.specs.declared.link.LinkEnd.{LinkEnd}
-use Rattle.world_model.specs.World.{World}
-use Rattle.world_model.specs.Ways.{on_default_channel, ifmp_under}
-use Rattle.world_model.specs.Sent.{Numbered, numbered, IsNotOverdue, IsKnownRightly}
+use Rattle.world_model.specs.Sent.{numbered}
 
 -- *Numbers rise*: of two redirection messages under one instance the later one has no lesser number, and a greater one
 -- where it is of a later frame

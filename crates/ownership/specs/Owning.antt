@@ -1,29 +1,14 @@
 -- What is so of each label of each link in a network of a run, between its events: that it is owned
 
 use Rattle.std.specs.Prelude.{◌≡◌, true, Contains, Some}
-use Rattle.net_types.specs.declared.node.Place.TheVariants.{Down}
-use Rattle.atm_cells.specs.declared.cell.Cell.{Cell}
-use Rattle.ifmp_wire.specs.declared.message.Message.{Message}
-use Rattle.ifmp_wire.specs.Message.{names_of}
-use Rattle.port_model.specs.Desk.{Standing}
-use Rattle.crossbar_model.specs.Channels.{IsLinkPort}
-use Rattle.ordered_lists.specs.Ordered.{Every}
-use Rattle.port_model.specs.Setup.{Setup}
-use Rattle.world_model.specs.Controller.{default_channel}
-use Rattle.world_model.specs.Cells.{same_channel}
-use Rattle.world_model.specs.Conditions.{IsTopology}
+use Rattle.world_model.specs.Words.{Down, Cell, names_of, Standing, IsLinkPort, Setup, default_channel, same_channel, IsTopology, World, queue_at, side_at, on_the_way, on_default_channel, ifmp_under, copy_under, Past, Way, IsWay, IsOwn, WasCleared, AreOwned}
+use Rattle.world_model.specs.ifmp_wire.declared.message.Message.{Message}
+use Rattle.frame_readings.specs.ordered_lists.Ordered.{Every}
 use Rattle.world_model.specs.declared.link.LinkEnd.{LinkEnd}
-use Rattle.world_model.specs.World.{World}
-use Rattle.world_model.specs.Places.{queue_at}
-use Rattle.world_model.specs.Ways.{side_at, on_the_way, on_default_channel, ifmp_under, copy_under}
-use Rattle.world_model.specs.Past.{Past}
-use Rattle.world_model.specs.Users.{Way, IsWay, IsOwn}
-use Rattle.world_model.specs.Owned.{WasCleared}
-use Rattle.world_model.specs.Headline.{AreOwned}
-use Rattle.controller_facts.specs.Sound.{IsSound}
-use Rattle.controller_law.specs.Match.{IsMatched}
-use Rattle.world_views.specs.Tied.{tells_its_own}
-use Rattle.world_views.specs.Between.{EachSite, IsWorld, setups_of}
+use Rattle.frame_readings.specs.controller_facts.Sound.{IsSound}
+use Rattle.run_facts.specs.controller_law.Match.{IsMatched}
+use Rattle.frame_readings.specs.world_views.Tied.{tells_its_own}
+use Rattle.frame_readings.specs.world_views.Between.{EachSite, IsWorld, setups_of}
 use Rattle.ownership.specs.Order.{IsInOrder}
 
 -- a network of a run whose controllers are sound, with joins and grants that match

@@ -1,20 +1,9 @@
 -- On which channels control frames go between a controller and its switch
 
 use Rattle.std.specs.Prelude.{◌≡◌, true, List, Contains, Some, ◌⊎◌}
-use Rattle.net_types.specs.declared.node.NodeId.{NodeId}
-use Rattle.net_types.specs.declared.node.Place.TheVariants.{Down, Up}
-use Rattle.atm_cells.specs.declared.cell.Cell.{Cell}
-use Rattle.gsmp_wire.specs.declared.message.Message.{Message}
-use Rattle.port_model.specs.Setup.{Policy}
-use Rattle.world_model.specs.Controller.{default_channel}
-use Rattle.world_model.specs.Cells.{same_channel, port_on}
+use Rattle.world_model.specs.Words.{NodeId, Down, Up, Cell, Policy, default_channel, same_channel, port_on, Topology, is_linked, IsNode, queue_at, gsmp_under, Past, past_of, frames_of}
+use Rattle.world_model.specs.gsmp_wire.declared.message.Message.{Message}
 use Rattle.world_model.specs.declared.event.Event.{Event}
-use Rattle.world_model.specs.Topology.{Topology}
-use Rattle.world_model.specs.Lines.{is_linked}
-use Rattle.world_model.specs.Conditions.{IsNode}
-use Rattle.world_model.specs.Places.{queue_at}
-use Rattle.world_model.specs.Ways.{gsmp_under}
-use Rattle.world_model.specs.Past.{Past, past_of, frames_of}
 use Rattle.ownership.specs.Owning.{IsKept, HasOwnWays}
 
 -- *A control frame* is GSMP's, on GSMP's channel, or it goes by a port of a link

@@ -2,43 +2,16 @@
 
 use Rattle.std.proofs.Common.{◌≡◌, ◌⊎◌, inl, inr, ℕ, zero, suc, ◌+◌, ◌*◌, ◌/◌, ◌%◌, Bool, true, false, List, [], ◌∷◌, length, Option, None, Some, refl, sym, ◌∙◌, ap, subst, arith, count_by}
 use Rattle.std.specs.Prelude.{Contains, slice_get, is_some}
-use Rattle.net_types.specs.declared.node.NodeId.{NodeId}
-use Rattle.net_types.specs.declared.node.PortNo.{PortNo}
-use Rattle.net_types.specs.declared.node.Place.{Place}
-use Rattle.net_types.specs.declared.node.Place.TheVariants.{Down, Up, Out}
-use Rattle.net_types.specs.declared.channel.Channel.{Channel}
-use Rattle.net_types.specs.declared.number.Mark.{Mark}
-use Rattle.net_types.specs.Channel.{channel_on_control}
-use Rattle.net_types.specs.Label.{number_of_channel, label_channel_of}
-use Rattle.atm_cells.specs.declared.cell.Cell.{Cell}
-use Rattle.ipv4_packet.specs.declared.flow.FlowId.{FlowId}
-use Rattle.link_model.specs.declared.frames.Frame.{Frame}
-use Rattle.link_model.specs.Ledger.{payload_of}
-use Rattle.link_model.specs.declared.record.Record.{Record}
-use Rattle.link_model.specs.declared.record.Record.TheVariants.{Delivered, Dropped, Bind}
-use Rattle.ordered_lists.specs.Ordered.{Every}
+use Rattle.world_model.specs.Words.{NodeId, PortNo, Place, Down, Up, Out, Channel, Mark, channel_on_control, number_of_channel, label_channel_of, Cell, FlowId, Frame, payload_of, Record, Delivered, Dropped, Bind, Policy, Fate, IsDelivered, IsDropped, is_fate_of, has_loss_of, default_channel, port_on, on_link, same_channel, Topology, is_linked, IsTopology, IsPlace, World, queue_at, tallied, put_away, IsFateAt, Past, past_of, frames_of, bound_by, last_bound, Way, IsWay, User, ByCell, Uses, on_the_link, off_the_link, from_controller, IsUnused, WasAccepted, fates_of, IsTrueFate}
+use Rattle.arrival_views.specs.ordered_lists.Ordered.{Every}
 use Rattle.packet_worlds.proofs.Lists.{count_by-append}
-use Rattle.port_model.specs.Setup.{Policy}
-use Rattle.world_model.specs.Fates.{Fate, IsDelivered, IsDropped, is_fate_of, has_loss_of}
-use Rattle.world_model.specs.Controller.{default_channel}
-use Rattle.world_model.specs.Cells.{port_on, on_link, same_channel}
 use Rattle.world_model.specs.declared.event.Event.{Event}
 use Rattle.world_model.specs.declared.link.LinkEnd.{LinkEnd}
-use Rattle.world_model.specs.Topology.{Topology, peer_of}
-use Rattle.world_model.specs.Lines.{is_linked}
-use Rattle.world_model.specs.Conditions.{IsTopology, IsPlace}
-use Rattle.world_model.specs.World.{World}
-use Rattle.world_model.specs.Places.{queue_at}
-use Rattle.world_model.specs.Step.{tallied}
-use Rattle.world_model.specs.Run.{put_away}
-use Rattle.world_model.specs.Reached.{IsFateAt}
-use Rattle.world_model.specs.Past.{Past, past_of, frames_of, bound_by, last_bound}
-use Rattle.world_model.specs.Users.{Way, IsWay, User, ByCell, Uses, on_the_link, off_the_link, from_controller, IsUnused}
-use Rattle.world_model.specs.Headline.{WasAccepted, fates_of, IsTrueFate}
-use Rattle.world_views.specs.Marks.{Heading, heading_at, HasCome, Means, early, control, local, plain, labelled, last_cells}
-use Rattle.world_views.specs.Between.{IsWorld}
-use Rattle.world_views.specs.Kept.{behind}
-use Rattle.causes.proofs.Shown.{IsPeer, peer_back}
+use Rattle.world_model.specs.Topology.{peer_of}
+use Rattle.run_facts.specs.world_views.Marks.{Heading, heading_at, HasCome, Means, early, control, local, plain, labelled, last_cells}
+use Rattle.run_facts.specs.world_views.Between.{IsWorld}
+use Rattle.run_facts.specs.world_views.Kept.{behind}
+use Rattle.unused_labels.proofs.causes.Shown.{IsPeer, peer_back}
 use Rattle.run_facts.specs.Steps.{IsPast, IsStep, Stays}
 use Rattle.run_facts.proofs.Numbers.{some_of}
 use Rattle.packet_worlds.proofs.Meant.{in_frames, IsProper, MeansAt}

@@ -5,18 +5,12 @@ use Rattle.std.specs.Prelude.{Contains, slice_get}
 use Rattle.std.specs.List.{list_any, count_by}
 use Rattle.std.specs.Option.{option_or}
 use Rattle.std.proofs.lemmas.Bool.Decides.{nat_tests}
-use Rattle.ipv4_packet.specs.declared.flow.FlowId.{FlowId}
-use Rattle.link_model.specs.declared.record.Record.{Record}
-use Rattle.link_model.specs.declared.record.Record.TheVariants as records
-use Rattle.link_model.specs.declared.record.Record.TheVariants.{Bind}
-use Rattle.net_types.specs.declared.node.NodeId.{NodeId}
-use Rattle.net_types.specs.declared.node.PortNo.{PortNo}
-use Rattle.ordered_lists.specs.Ordered.{Every}
+use Rattle.world_model.specs.Words.{FlowId, Record, Bind, NodeId, PortNo, bound_by, last_bound, is_bind}
+use Rattle.world_model.specs.link_model.declared.record.Record.TheVariants as records
+use Rattle.arrival_views.specs.ordered_lists.Ordered.{Every}
 use Rattle.run_facts.proofs.Frames.{bound_then}
 use Rattle.packet_worlds.proofs.Lists.{or_left, or_right, count_by-skip}
 use Rattle.world_model.specs.declared.link.LinkEnd.{LinkEnd}
-use Rattle.world_model.specs.Past.{bound_by, last_bound}
-use Rattle.world_model.specs.Headline.{is_bind}
 
 bound_none : (ys : List Record) (end : LinkEnd) (label : ℕ) → Every (λ (item : Record). bound_by end label item ≡ None) ys → last_bound ys end label ≡ None
 bound_none [] end label each = refl

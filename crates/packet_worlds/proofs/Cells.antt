@@ -3,29 +3,15 @@
 use Rattle.std.proofs.Common.{◌≡◌, ℕ, ◌==◌, ◌&&◌, Bool, true, false, cond, List, [], ◌∷◌, ◌++◌, Option, None, Some, refl, sym, ◌∙◌, ap, subst, if◌then◌else◌, inl}
 use Rattle.std.specs.Prelude.{nat_lt}
 use Rattle.std.specs.Option.{option_and_then}
-use Rattle.net_types.specs.declared.node.NodeId.{NodeId}
-use Rattle.net_types.specs.declared.node.PortNo.{PortNo}
-use Rattle.net_types.specs.declared.node.Place.TheVariants.{Down, Up}
-use Rattle.net_types.specs.declared.channel.Channel.{Channel}
-use Rattle.net_types.specs.declared.number.Mark.{Mark}
-use Rattle.net_types.specs.Label.{number_of_channel, label_number_of}
-use Rattle.atm_cells.specs.declared.cell.Cell.{Cell}
-use Rattle.link_model.specs.declared.record.Record.TheVariants.{Loss, Chance}
-use Rattle.link_model.specs.declared.record.Cause.TheVariants.{PoolFull, Unbound}
-use Rattle.link_model.specs.Ledger.{is_frame, payload_of}
-use Rattle.link_model.specs.Notes.{Journal, noted}
-use Rattle.frame_model.specs.Reassembly.{Reassembly, Taken, taken, skipping_from, broken, marks_of}
-use Rattle.frame_model.specs.Frame.{tested, tested_by, passed, last_mark, payload_in, octets_of}
-use Rattle.ordered_lists.specs.Ordered.{Every}
-use Rattle.port_model.specs.Labels.{Label, is_bound}
-use Rattle.port_model.specs.Port.{label_at}
-use Rattle.port_facts.proofs.Keyed.{on_each, at_key, at_every, put_every}
-use Rattle.world_model.specs.Controller.{Controller, Acted, Linked, port_key, free_slots, linked_at, note, chains_with, default_channel}
-use Rattle.world_model.specs.Cells.{Taker, ForGsmp, ForDefault, ForLabel, port_on, on_link, same_channel, label_taker, taker_at, taker_of, reassembly_of, with_reassembly, frame_holds, opened_frame, after_test, ends_frame, after_cell, takes_cell, cell_comes}
+use Rattle.world_model.specs.Words.{NodeId, PortNo, Down, Up, Channel, Mark, number_of_channel, label_number_of, Cell, Loss, Chance, PoolFull, Unbound, is_frame, payload_of, Journal, noted, Reassembly, skipping_from, broken, marks_of, tested, tested_by, last_mark, payload_in, Label, is_bound, label_at, Controller, Linked, port_key, linked_at, chains_with, default_channel, ForGsmp, ForDefault, ForLabel, port_on, on_link, same_channel, label_taker, taker_at, taker_of, reassembly_of, with_reassembly, frame_holds, takes_cell, last_bound, IsTame}
+use Rattle.world_model.specs.frame_model.Reassembly.{Taken, taken}
+use Rattle.world_model.specs.frame_model.Frame.{passed, octets_of}
+use Rattle.arrival_views.specs.ordered_lists.Ordered.{Every}
+use Rattle.arrival_views.proofs.port_facts.Keyed.{on_each, at_key, at_every, put_every}
+use Rattle.world_model.specs.Controller.{Acted, free_slots, note}
+use Rattle.world_model.specs.Cells.{Taker, opened_frame, after_test, ends_frame, after_cell, cell_comes}
 use Rattle.world_model.specs.Topology.{peer_of}
-use Rattle.world_model.specs.Past.{last_bound}
-use Rattle.world_model.specs.Headline.{IsTame}
-use Rattle.world_views.specs.Marks.{heading_at, Means}
+use Rattle.run_facts.specs.world_views.Marks.{heading_at, Means}
 use Rattle.packet_worlds.proofs.Ledger.{entered, broken_cells, is_made}
 use Rattle.packet_worlds.proofs.Cut.{one}
 use Rattle.packet_worlds.proofs.Meant.{in_frames}
@@ -36,7 +22,7 @@ use Rattle.packet_worlds.proofs.Quietly.{BindsNone, push_none, AllowsDefault, Ar
 use Rattle.way_words.proofs.Switching.{taken_cases}
 use Rattle.packet_worlds.proofs.Takes.{broken_none, opened_grows, chain_ended, fair, HasLabels, Leaves, holds_gsmp, holds_default, holds_label}
 use Rattle.packet_worlds.proofs.Sites.{number_same}
-use Rattle.shown_cells.proofs.Tested.{last_is}
+use Rattle.arrival_views.proofs.shown_cells.Tested.{last_is}
 
 -- *Who takes it*
 data Took (c : Controller) (channel : Channel) : Option Taker → Type 0 where

@@ -3,16 +3,13 @@
 use Rattle.std.proofs.Common.{◌≡◌, ℕ, ◌+◌, ◌-◌, ◌*◌, ◌==◌, true, false, cond, List, [], ◌∷◌, ◌++◌, map, length, refl, ◌∙◌, ap, arith, zero-add}
 use Rattle.std.specs.List.{range_with_len}
 use Rattle.std.proofs.lemmas.List.FromFn.{map-range_with_len_more, length-map-range_with_len}
-use Rattle.net_types.specs.declared.channel.Channel.{Channel}
-use Rattle.net_types.specs.declared.number.Mark.{Mark}
-use Rattle.atm_cells.specs.declared.cell.Cell.{Cell}
-use Rattle.aal5_frames.specs.Frame.{cell_of, cells_for, pdu_of}
-use Rattle.aal5_frames.proofs.Cells.{cells_all, length-pdu_of}
-use Rattle.frame_model.specs.Frame.{frame_cells}
-use Rattle.ordered_lists.specs.Ordered.{Every}
+use Rattle.world_model.specs.Words.{Channel, Mark, Cell, frame_cells}
+use Rattle.arrival_views.specs.aal5_frames.Frame.{cell_of, cells_for, pdu_of}
+use Rattle.arrival_views.proofs.aal5_frames.Cells.{cells_all, length-pdu_of}
+use Rattle.arrival_views.specs.ordered_lists.Ordered.{Every}
 use Rattle.packet_worlds.proofs.Lists.{count_by-append, count_by-cons, count_by-skip}
-use Rattle.world_views.specs.Marks.{ends, ends_in}
-use Rattle.cell_lists.proofs.Frames.{every_value, not_last, is_last}
+use Rattle.run_facts.specs.world_views.Marks.{ends, ends_in}
+use Rattle.unused_labels.proofs.cell_lists.Frames.{every_value, not_last, is_last}
 
 -- one where the numbers are the same, and else nothing
 abbrev pub one : ℕ → ℕ → ℕ

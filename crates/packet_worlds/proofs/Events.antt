@@ -3,40 +3,24 @@
 use Rattle.std.proofs.Common.{◌≡◌, ◌⊎◌, inl, inr, ℕ, suc, ◌<◌, ◌+◌, Bool, true, false, List, [], ◌∷◌, length, cond, Option, None, Some, refl, sym, ◌∙◌, ap, subst, arith}
 use Rattle.std.specs.Prelude.{Contains, is_some, ◌==◌}
 use Rattle.std.proofs.lemmas.Bool.Decides.{nat_tests}
-use Rattle.net_types.specs.declared.node.NodeId.{NodeId}
-use Rattle.net_types.specs.declared.node.PortNo.{PortNo}
-use Rattle.net_types.specs.declared.node.Place.{Place}
-use Rattle.net_types.specs.declared.node.Place.TheVariants.{Down, Up, Out}
-use Rattle.net_types.specs.declared.number.Mark.{Mark}
-use Rattle.ipv4_forward.specs.declared.change.RouteChange.{RouteChange}
-use Rattle.atm_cells.specs.declared.cell.Cell.{Cell}
-use Rattle.link_model.specs.declared.record.Record.TheVariants.{Loss}
-use Rattle.link_model.specs.declared.record.Cause.TheVariants.{Lost}
-use Rattle.ordered_lists.specs.Ordered.{Every}
-use Rattle.ordered_lists.proofs.Every.{every_map}
-use Rattle.crossbar_model.specs.Crossbar.{input_of}
+use Rattle.world_model.specs.Words.{NodeId, PortNo, Place, Down, Up, Out, Mark, RouteChange, Cell, Loss, Lost, control_port, injected, change_comes, node_restarts, IsTopology, IsNode, IsPlace, World, Site, site_at, with_site, controller_acts, switch_acts, queue_at, with_queue, with_queue_in, same_queue, Past, IsTame, arrives_at, arrives, carries_head, loses_head}
+use Rattle.arrival_views.specs.ordered_lists.Ordered.{Every}
+use Rattle.arrival_views.proofs.ordered_lists.Every.{every_map}
+use Rattle.world_model.specs.crossbar_model.Crossbar.{input_of}
 use Rattle.world_model.specs.Switch as switches
-use Rattle.world_model.specs.Switch.{control_port}
 use Rattle.world_model.specs.Conduct as switch
 use Rattle.world_model.specs.Controller.{Acted, ports_of}
 use Rattle.world_model.specs.Cells as takes
-use Rattle.world_model.specs.Packets.{injected}
-use Rattle.world_model.specs.Changes.{change_comes}
-use Rattle.world_model.specs.Resets.{node_restarts}
 use Rattle.world_model.specs.Ticks.{ticks}
 use Rattle.world_model.specs.declared.link.LinkEnd.{LinkEnd}
 use Rattle.world_model.specs.Topology.{peer_of}
-use Rattle.world_model.specs.Conditions.{IsTopology, IsNode, IsPlace}
-use Rattle.world_model.specs.World.{World, Site, site_at, with_site, controller_acts, switch_acts, at_controller, at_switch}
-use Rattle.world_model.specs.Places.{queue_at, with_queue, with_queue_in, same_queue}
-use Rattle.world_model.specs.Past.{Past}
-use Rattle.world_model.specs.Headline.{IsTame}
-use Rattle.world_model.specs.Step.{note, arrives_at, arrives, carries_head, loses_head}
+use Rattle.world_model.specs.World.{at_controller, at_switch}
+use Rattle.world_model.specs.Step.{note}
 use Rattle.world_model.proofs.Lists.{length_set}
 use Rattle.world_model.proofs.Queues.{Sets}
-use Rattle.world_views.specs.Marks.{Heading, heading_at, HasCome, IsNewest, Means}
-use Rattle.causes.proofs.Shown.{IsPeer, peer_back}
-use Rattle.actor_pace.proofs.Controllers.{cell_follows, injected_paces, ticks_paces, restarts_paces, change_changes}
+use Rattle.run_facts.specs.world_views.Marks.{Heading, heading_at, HasCome, IsNewest, Means}
+use Rattle.unused_labels.proofs.causes.Shown.{IsPeer, peer_back}
+use Rattle.run_facts.proofs.actor_pace.Controllers.{cell_follows, injected_paces, ticks_paces, restarts_paces, change_changes}
 use Rattle.packet_worlds.proofs.Walk.{Kept, node_restarts_kept, change_comes_kept, ticks_kept}
 use Rattle.packet_worlds.proofs.Records.{routes_has}
 use Rattle.packet_worlds.proofs.Cut.{one}

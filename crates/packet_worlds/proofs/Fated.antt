@@ -4,19 +4,12 @@ use Rattle.std.proofs.Common.{◌≡◌, ℕ, zero, suc, Bool, true, false, List
 use Rattle.std.specs.Prelude.{Contains, slice_get}
 use Rattle.std.proofs.lemmas.Bool.Decides.{nat_tests}
 use Rattle.std.proofs.lemmas.List.Concat.{flat_map-cons}
-use Rattle.link_model.specs.declared.record.Record.{Record}
-use Rattle.link_model.specs.declared.record.Record.TheVariants as records
-use Rattle.link_model.specs.Notes.{Journal}
+use Rattle.world_model.specs.Words.{Record, Journal, Policy, is_fate_of, Topology, Node, World, opens_each, with_opened, worlds_from, Past, past_of, WasAccepted, AreTrueFates, HasFatesOnce}
+use Rattle.world_model.specs.link_model.declared.record.Record.TheVariants as records
 use Rattle.packet_worlds.proofs.Lists.{count_by-append}
-use Rattle.port_model.specs.Setup.{Policy}
-use Rattle.world_model.specs.Fates.{is_fate_of}
 use Rattle.world_model.specs.declared.event.Event.{Event}
-use Rattle.world_model.specs.Topology.{Topology, Node}
-use Rattle.world_model.specs.World.{World, opened, opens_each, with_opened}
-use Rattle.world_model.specs.Run.{worlds_from}
-use Rattle.world_model.specs.Past.{Past, past_of}
-use Rattle.world_model.specs.Headline.{WasAccepted, AreTrueFates, HasFatesOnce}
-use Rattle.world_views.specs.Between.{HasPacketsOnce}
+use Rattle.world_model.specs.World.{opened}
+use Rattle.run_facts.specs.world_views.Between.{HasPacketsOnce}
 use Rattle.packet_worlds.proofs.Bound.{count_none}
 
 -- *The opening* has no record, no frame and no entry, and nothing was sent

@@ -3,20 +3,11 @@
 use Rattle.std.proofs.Common.{◌≡◌, ℕ, ◌<◌, ◌≤◌, ◌+◌, ◌==◌, ◌&&◌, Bool, true, false, cond, List, ◌++◌, None, Some, refl, ap, arith, inl, inr}
 use Rattle.std.proofs.lemmas.Bool.{cases_lt}
 use Rattle.std.proofs.lemmas.Bool.Decides.{nat_tests}
-use Rattle.net_types.specs.declared.node.Place.{Place}
-use Rattle.net_types.specs.declared.channel.Channel.{Channel}
-use Rattle.net_types.specs.declared.number.Mark.{Mark}
-use Rattle.atm_cells.specs.declared.cell.Cell.{Cell}
-use Rattle.link_model.specs.declared.frames.Frame.{Frame}
-use Rattle.link_model.specs.declared.record.Record.TheVariants.{Loss}
-use Rattle.link_model.specs.declared.record.Cause.TheVariants.{PoolFull}
-use Rattle.link_model.specs.Ledger.{payload_of, same_mark}
-use Rattle.link_model.specs.Notes.{noted}
-use Rattle.frame_model.specs.Frame.{made, next_mark, frame_cells}
-use Rattle.ordered_lists.specs.Ordered.{Every}
-use Rattle.ordered_lists.proofs.Every.{every_join}
+use Rattle.world_model.specs.Words.{Place, Channel, Mark, Cell, Frame, Loss, PoolFull, payload_of, same_mark, noted, made, next_mark, frame_cells}
+use Rattle.arrival_views.specs.ordered_lists.Ordered.{Every}
+use Rattle.arrival_views.proofs.ordered_lists.Every.{every_join}
 use Rattle.packet_worlds.proofs.Lists.{count_by-append}
-use Rattle.world_views.specs.Marks.{heading_at, IsNewest, Means, ends, ends_in}
+use Rattle.run_facts.specs.world_views.Marks.{heading_at, IsNewest, Means, ends, ends_in}
 use Rattle.packet_worlds.proofs.Ledger.{payload_new, none_stays, other_packet, other_frame, own_entry, entered}
 use Rattle.packet_worlds.proofs.Cut.{one, IsCut, frame_is_cut, count_frame}
 use Rattle.packet_worlds.proofs.Meant.{in_frames, IsProper, IsApart, apart_cells, apart_control, MeansAt, frame_means}

@@ -4,32 +4,15 @@
 use Rattle.std.proofs.Common.{◌≡◌, ℕ, suc, ◌<◌, ◌≤◌, ◌+◌, ◌==◌, Bool, true, false, List, [], ◌∷◌, ◌++◌, map, length, None, refl, sym, ◌∙◌, ap, arith}
 use Rattle.std.specs.List.{count_by}
 use Rattle.std.proofs.lemmas.Bool.Decides.{nat_tests}
-use Rattle.net_types.specs.declared.node.Place.{Place}
-use Rattle.net_types.specs.declared.number.Mark.{Mark}
-use Rattle.atm_cells.specs.declared.cell.Cell.{Cell}
-use Rattle.link_model.specs.declared.entries.Entry.{Entry}
-use Rattle.link_model.specs.declared.frames.Frame.{Frame}
-use Rattle.link_model.specs.declared.record.Cause.{Cause}
-use Rattle.link_model.specs.declared.record.Cause.TheVariants.{Broken, Cut}
-use Rattle.link_model.specs.declared.record.Record.{Record}
-use Rattle.link_model.specs.declared.record.Record.TheVariants.{Delivered, Dropped, Loss}
-use Rattle.link_model.specs.Ledger.{payload_of, same_mark, has_entry}
-use Rattle.link_model.specs.Notes.{Journal, noted, losses_of}
-use Rattle.frame_model.specs.Reassembly.{Reassembly, broken, noted_all, distinct, marks_of, cut}
-use Rattle.frame_model.specs.Frame.{made}
-use Rattle.ordered_lists.specs.Ordered.{Every}
-use Rattle.ordered_lists.proofs.Every.{every_join, every_map2}
+use Rattle.world_model.specs.Words.{Place, Mark, Cell, Entry, Frame, Cause, Broken, Cut, Record, Delivered, Dropped, Loss, payload_of, same_mark, has_entry, Journal, noted, losses_of, Reassembly, broken, noted_all, distinct, marks_of, cut, made, IsDelivered, IsDropped, is_fate_of, has_loss_of, same_queue, IsPlace, WasAccepted, IsTrueFate, Past}
+use Rattle.arrival_views.specs.ordered_lists.Ordered.{Every}
+use Rattle.arrival_views.proofs.ordered_lists.Every.{every_join, every_map2}
 use Rattle.packet_worlds.proofs.Lists.{count_by-append, none_front}
-use Rattle.world_model.specs.Fates.{IsDelivered, IsDropped, is_fate_of, has_loss_of}
-use Rattle.world_model.specs.Places.{same_queue}
-use Rattle.world_model.specs.Conditions.{IsPlace}
-use Rattle.world_model.specs.Headline.{WasAccepted, IsTrueFate}
-use Rattle.world_model.specs.Past.{Past}
-use Rattle.world_views.specs.Marks.{heading_at, ends_in}
+use Rattle.run_facts.specs.world_views.Marks.{heading_at, ends_in}
 use Rattle.packet_worlds.proofs.Ledger.{none_stays}
 use Rattle.packet_worlds.proofs.Cut.{one}
 use Rattle.packet_worlds.proofs.Meant.{IsApart, MeansAt, means_stays}
-use Rattle.port_facts.proofs.Keyed.{on_each}
+use Rattle.arrival_views.proofs.port_facts.Keyed.{on_each}
 
 -- *An actor's turn*: the run with this event, but for the records, which are those before it; the time of the event; the
 -- queue that changes, and all others; how many last cells of each packet stand in these; how many packets were sent

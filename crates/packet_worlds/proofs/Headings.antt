@@ -4,25 +4,13 @@ use Rattle.std.proofs.Common.{◌≡◌, ℕ, ◌<◌, ◌≤◌, ◌+◌, ◌==
 use Rattle.std.specs.Prelude.{nat_lt, nat_le, ◌*◌, ◌/◌, ◌%◌}
 use Rattle.std.specs.Option.{option_map_or, option_or}
 use Rattle.std.proofs.lemmas.Bool.Decides.{nat_tests}
-use Rattle.net_types.specs.declared.node.NodeId.{NodeId}
-use Rattle.net_types.specs.declared.node.PortNo.{PortNo}
-use Rattle.net_types.specs.declared.node.Place.TheVariants.{Down, Up}
-use Rattle.net_types.specs.declared.channel.Channel.{Channel}
-use Rattle.net_types.specs.Channel.{channel_on_control}
-use Rattle.net_types.specs.Label.{label_channel_of, number_of_channel, is_label_channel}
-use Rattle.ipv4_packet.specs.declared.flow.FlowId.{FlowId}
-use Rattle.ipv4_packet.specs.declared.flow.FlowKind.{FlowKind}
-use Rattle.ipv4_packet.specs.declared.flow.FlowKind.TheVariants.{One, Two}
-use Rattle.ipv4_packet.specs.Flow.{kind_of, flow_of}
-use Rattle.ipv4_packet.specs.Parts.{same_flow}
-use Rattle.port_model.specs.Grants.{Grant, is_by_controller, grant_for, grant_of_kind, grant_matching}
-use Rattle.port_facts.proofs.Found.{find_passes}
-use Rattle.port_views.proofs.Flows.{flow_is}
-use Rattle.world_model.specs.Controller.{default_channel}
-use Rattle.world_model.specs.Cells.{port_on, on_link, same_channel}
+use Rattle.world_model.specs.Words.{NodeId, PortNo, Down, Up, Channel, channel_on_control, label_channel_of, number_of_channel, is_label_channel, FlowId, FlowKind, kind_of, flow_of, same_flow, Grant, is_by_controller, grant_for, grant_of_kind, grant_matching, default_channel, port_on, on_link, same_channel, Topology}
+use Rattle.world_model.specs.ipv4_packet.declared.flow.FlowKind.TheVariants.{One, Two}
+use Rattle.arrival_views.proofs.port_facts.Found.{find_passes}
+use Rattle.arrival_views.proofs.port_views.Flows.{flow_is}
 use Rattle.world_model.specs.declared.link.LinkEnd.{LinkEnd}
-use Rattle.world_model.specs.Topology.{Topology, peer_of}
-use Rattle.world_views.specs.Marks.{Heading, own_end, heading_at}
+use Rattle.world_model.specs.Topology.{peer_of}
+use Rattle.run_facts.specs.world_views.Marks.{Heading, own_end, heading_at}
 use Rattle.packet_worlds.proofs.Hops.{some_flow}
 use Rattle.packet_worlds.proofs.Ledger.{and_right, and_left}
 

@@ -3,33 +3,17 @@
 use Rattle.std.proofs.Common.{◌≡◌, ℕ, ◌-◌, ◌<◌, ◌≤◌, ◌==◌, Bool, true, false, nat_lt, nat_le, List, length, Option, None, Some, Ok, refl, sym, ◌∙◌, ap, ap₂, subst, arith, if◌then◌else◌}
 use Rattle.std.proofs.lemmas.Bool.Decides.{nat_tests}
 use Rattle.std.proofs.lemmas.List.{length-set}
-use Rattle.ipv4_packet.specs.Packet.{ttl_of, destination_of, protocol_of, with_ttl, canonical, first_fault, IsPacket}
-use Rattle.ipv4_packet.specs.declared.validate.PacketFault.{PacketFault}
-use Rattle.octet_fields.proofs.FieldLemmas.{AreOctets}
-use Rattle.ipv4_packet.proofs.HeaderLemmas.{IsPacket-with_ttl}
-use Rattle.ipv4_packet.proofs.RouteLemmas.{canonical-canonical, protocol_of-rerouted}
+use Rattle.world_model.specs.Words.{ttl_of, destination_of, protocol_of, with_ttl, canonical, IsPacket, PacketFault, Refusal, ControlProtocol, control_protocol, refused_by, inject_refusal, best, hop_by, hop_of, onward, Next, Local, Via, Hop, Here, On, PortNo, FlowKind, FlowId, flow_destination, kind_of, flow_ttl, at_ttl, flow_of, next_hop_of, default_payload, default_unwrapped, unwrapped, unwrapped_by, labelled_payload, Carries}
+use Rattle.world_model.specs.ipv4_packet.Packet.{first_fault}
+use Rattle.arrival_views.proofs.octet_fields.FieldLemmas.{AreOctets}
+use Rattle.world_model.proofs.ipv4_packet.HeaderLemmas.{IsPacket-with_ttl}
+use Rattle.world_model.proofs.ipv4_packet.RouteLemmas.{canonical-canonical, protocol_of-rerouted}
 use Rattle.packet_worlds.proofs.Onward.{fault_onward}
-use Rattle.link_model.specs.declared.record.Refusal.{Refusal}
-use Rattle.link_model.specs.declared.record.Refusal.TheVariants.{ControlProtocol}
-use Rattle.world_model.specs.Packets.{control_protocol, refused_by, inject_refusal}
-use Rattle.controller_facts.proofs.Onward.{packet_of}
-use Rattle.ipv4_forward.specs.Best.{best}
-use Rattle.ipv4_forward.specs.Hop.{hop_by, hop_of, onward}
-use Rattle.ipv4_forward.specs.declared.table.Next.{Next}
-use Rattle.ipv4_forward.specs.declared.table.Next.TheVariants.{Local, Via}
-use Rattle.ipv4_forward.specs.declared.table.Route.{Route}
-use Rattle.ipv4_forward.specs.declared.outcome.Hop.{Hop}
-use Rattle.ipv4_forward.specs.declared.outcome.Hop.TheVariants.{Here, NoRoute, On, Expired}
-use Rattle.net_types.specs.declared.node.PortNo.{PortNo}
-use Rattle.ipv4_packet.specs.declared.flow.FlowKind.{FlowKind}
-use Rattle.ipv4_packet.specs.declared.flow.FlowKind.TheVariants.{One as ConnectionKind, Two as HostsKind}
-use Rattle.ipv4_packet.specs.declared.flow.FlowId.{FlowId}
-use Rattle.ipv4_packet.specs.Parts.{flow_destination}
-use Rattle.ipv4_packet.specs.Flow.{kind_of, flow_ttl, at_ttl, flow_of, next_hop_of}
-use Rattle.flow_encaps.specs.Default.{default_payload}
-use Rattle.flow_encaps.specs.Unwrapped.{default_unwrapped, unwrapped, unwrapped_by}
-use Rattle.flow_encaps.specs.Labelled.{labelled_payload, Carries}
-use Rattle.flow_encaps.proofs.CarryLemmas.{packet-carried, unwrap_fault-carried, Carries-next_hop}
+use Rattle.arrival_views.proofs.controller_facts.Onward.{packet_of}
+use Rattle.world_model.specs.ipv4_forward.declared.table.Route.{Route}
+use Rattle.world_model.specs.ipv4_forward.declared.outcome.Hop.TheVariants.{NoRoute, Expired}
+use Rattle.world_model.specs.ipv4_packet.declared.flow.FlowKind.TheVariants.{One as ConnectionKind, Two as HostsKind}
+use Rattle.world_model.proofs.flow_encaps.CarryLemmas.{packet-carried, unwrap_fault-carried, Carries-next_hop}
 
 -- where packets of a flow go
 abbrev pub flow_hop : List Route → FlowId → Hop

@@ -3,40 +3,21 @@
 use Rattle.std.proofs.Common.{◌≡◌, ◌⊎◌, inl, inr, ℕ, zero, suc, ◌+◌, true, false, List, [], ◌∷◌, ◌++◌, length, Option, None, Some, refl, sym, ◌∙◌, ap, subst, arith}
 use Rattle.std.specs.Prelude.{nat_le, slice_get}
 use Rattle.std.specs.List.{list_any}
-use Rattle.net_types.specs.declared.node.NodeId.{NodeId}
-use Rattle.net_types.specs.declared.node.Place.{Place}
-use Rattle.net_types.specs.declared.node.Place.TheVariants.{Down, Up, Out}
-use Rattle.net_types.specs.declared.channel.Channel.{Channel}
-use Rattle.net_types.specs.declared.number.Mark.{Mark}
-use Rattle.net_types.specs.declared.node.PortNo.{PortNo}
-use Rattle.net_types.specs.Number.{next_control, with_control}
-use Rattle.link_model.specs.declared.record.Record.{Record}
-use Rattle.link_model.specs.declared.record.Record.TheVariants.{Refused, Forged, Loss}
-use Rattle.link_model.specs.declared.record.Cause.TheVariants.{PoolFull}
-use Rattle.link_model.specs.declared.record.Refusal.{Refusal}
-use Rattle.link_model.specs.Notes.{noted}
-use Rattle.frame_model.specs.Frame.{made, frame_cells}
-use Rattle.frame_model.specs.Sending.{Sent as SentFrame}
-use Rattle.port_facts.proofs.Keyed.{on_both}
-use Rattle.port_model.specs.Setup.{Policy}
+use Rattle.world_model.specs.Words.{NodeId, Place, Down, Up, Out, Channel, Mark, PortNo, next_control, with_control, Record, Refused, Forged, Loss, PoolFull, Refusal, noted, made, frame_cells, Policy, Controller, inject_refusal, injected, Topology, IsTopology, IsNode, IsEvent, World, Site, site_at, controller_acts, switch_acts, injects_by, forges, tallied, put_away, Reaches, sent_by, Past, past_of, IsTame, is_wild, WasAccepted}
+use Rattle.world_model.specs.frame_model.Sending.{Sent as SentFrame}
+use Rattle.arrival_views.proofs.port_facts.Keyed.{on_both}
 use Rattle.world_model.specs.Switch as switches
 use Rattle.world_model.specs.Conduct as switch
-use Rattle.world_model.specs.Controller.{Controller, Acted, free_slots}
+use Rattle.world_model.specs.Controller.{Acted, free_slots}
 use Rattle.world_model.specs.Sending.{with_cells, sends}
-use Rattle.world_model.specs.Packets.{inject_refusal, injected}
 use Rattle.world_model.specs.declared.event.Event.{Event}
 use Rattle.world_model.specs.declared.event.Event.TheVariants.{Inject, Carry, Lose, Tick, TickSwitch, Restart, RestartSwitch, Forge, Route}
-use Rattle.world_model.specs.Topology.{Topology}
-use Rattle.world_model.specs.Conditions.{IsTopology, IsNode, IsEvent}
-use Rattle.world_model.specs.World.{World, Site, site_at, at_controller, at_switch, controller_acts, switch_acts}
-use Rattle.world_model.specs.Step.{note, injects_by, forges, acts, tallied}
-use Rattle.world_model.specs.Run.{put_away}
-use Rattle.world_model.specs.Reached.{Sent, Reaches, taken, sent_by}
-use Rattle.world_model.specs.Past.{Past, past_of}
-use Rattle.world_model.specs.Headline.{IsTame, is_wild, WasAccepted}
-use Rattle.world_views.specs.Marks.{HasCome, IsNewest}
-use Rattle.world_views.specs.Between.{IsWorld}
-use Rattle.world_views.specs.Kept.{Comes, behind}
+use Rattle.world_model.specs.World.{at_controller, at_switch}
+use Rattle.world_model.specs.Step.{note, acts}
+use Rattle.world_model.specs.Reached.{Sent, taken}
+use Rattle.run_facts.specs.world_views.Marks.{HasCome, IsNewest}
+use Rattle.run_facts.specs.world_views.Between.{IsWorld}
+use Rattle.run_facts.specs.world_views.Kept.{Comes, behind}
 use Rattle.run_facts.proofs.Nodes.{runs_have_nodes}
 use Rattle.run_facts.proofs.Rooms.{runs_keep_nodes}
 use Rattle.run_facts.proofs.Steps.{pasts_are_whole, events_are_steps, pasts_stay, runs_have_fronts}

@@ -5,21 +5,11 @@ use Rattle.std.specs.Option.{option_map_or}
 use Rattle.std.specs.Str.{bytes_eq}
 use Rattle.std.proofs.lemmas.Bool.Decides.{nat_tests}
 use Rattle.std.proofs.lemmas.Slice.Eq.{bytes_eq-Decides}
-use Rattle.net_types.specs.declared.number.Mark.{Mark}
-use Rattle.atm_cells.specs.declared.cell.Cell.{Cell}
-use Rattle.link_model.specs.declared.entries.Entry.{Entry}
-use Rattle.link_model.specs.declared.frames.Frame.{Frame}
-use Rattle.link_model.specs.declared.record.Cause.{Cause}
-use Rattle.link_model.specs.declared.record.Cause.TheVariants.{Broken}
-use Rattle.link_model.specs.declared.record.Record.TheVariants.{Loss}
-use Rattle.link_model.specs.Ledger.{payload_of, same_mark, has_entry, is_frame}
-use Rattle.link_model.specs.Notes.{Journal, noted}
-use Rattle.link_model.proofs.Latest.{payload_of_push}
-use Rattle.frame_model.specs.Reassembly.{broken, marks_of}
-use Rattle.world_model.specs.Fates.{has_loss_of}
+use Rattle.world_model.specs.Words.{Mark, Cell, Entry, Frame, Cause, Broken, Loss, payload_of, same_mark, has_entry, is_frame, Journal, noted, broken, marks_of, has_loss_of}
+use Rattle.world_model.proofs.link_model.Latest.{payload_of_push}
 use Rattle.packet_worlds.proofs.Lists.{any_back}
-use Rattle.port_views.proofs.Hellos.{number_is}
-use Rattle.cell_lists.proofs.Taking.{marks_of-push, own_mark}
+use Rattle.arrival_views.proofs.port_views.Hellos.{number_is}
+use Rattle.unused_labels.proofs.cell_lists.Taking.{marks_of-push, own_mark}
 
 -- the parts of a conjunction of tests
 pub and_left : (a b : Bool) → a && b ≡ true → a ≡ true

@@ -1,3 +1,6 @@
+pub use Rattle.arrival_views.proofs.port_facts as port_facts
+pub use Rattle.run_facts.proofs as run_facts
+pub use Rattle.way_words.proofs as way_words
 pub mod Lists
 pub mod Onward
 pub mod Hops

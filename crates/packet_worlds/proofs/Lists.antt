@@ -3,7 +3,7 @@
 use Rattle.std.proofs.Common.{◌≡◌, ℕ, zero, suc, ◌+◌, Bool, true, false, ◌||◌, cond, List, [], ◌∷◌, ◌++◌, refl, arith, slice_index_or, replicate}
 use Rattle.std.specs.List.{list_any, count_by}
 use Rattle.std.proofs.lemmas.List.Sums.{sum_by-cons, sum_by-append}
-use Rattle.ordered_lists.specs.Ordered.{Every}
+use Rattle.arrival_views.specs.ordered_lists.Ordered.{Every}
 
 -- the parts of a disjunction of tests that fails
 pub or_left : (a b : Bool) → a || b ≡ false → a ≡ false

@@ -2,24 +2,12 @@
 
 use Rattle.std.proofs.Common.{◌≡◌, ◌≢◌, ℕ, ◌<◌, ◌==◌, Bool, true, false, List, [], ◌∷◌, ◌++◌, None, Some, refl, sym, ◌∙◌, subst, arith}
 use Rattle.std.proofs.lemmas.Bool.Decides.{nat_tests}
-use Rattle.net_types.specs.declared.node.NodeId.{NodeId}
-use Rattle.net_types.specs.declared.node.Place.{Place}
-use Rattle.net_types.specs.declared.channel.Channel.{Channel}
-use Rattle.net_types.specs.declared.number.Mark.{Mark}
-use Rattle.net_types.specs.Label.{is_label_channel}
-use Rattle.atm_cells.specs.declared.cell.Cell.{Cell}
-use Rattle.link_model.specs.declared.frames.Frame.{Frame}
-use Rattle.link_model.specs.Ledger.{payload_of}
-use Rattle.ordered_lists.specs.Ordered.{Every}
-use Rattle.ordered_lists.proofs.Every.{every_join, every_map}
+use Rattle.world_model.specs.Words.{NodeId, Place, Channel, Mark, is_label_channel, Cell, Frame, payload_of, default_channel, same_channel, Topology, is_linked, Past}
+use Rattle.arrival_views.specs.ordered_lists.Ordered.{Every}
+use Rattle.arrival_views.proofs.ordered_lists.Every.{every_join, every_map}
 use Rattle.packet_worlds.proofs.Lists.{none_passes}
-use Rattle.world_model.specs.Controller.{default_channel}
-use Rattle.world_model.specs.Cells.{same_channel}
 use Rattle.world_model.specs.declared.link.LinkEnd.{LinkEnd}
-use Rattle.world_model.specs.Topology.{Topology}
-use Rattle.world_model.specs.Lines.{is_linked}
-use Rattle.world_model.specs.Past.{Past}
-use Rattle.world_views.specs.Marks.{Heading, heading_at, HasCome, IsNewest, Means, early, control, local, plain, labelled, ends, ends_in}
+use Rattle.run_facts.specs.world_views.Marks.{Heading, heading_at, HasCome, IsNewest, Means, early, control, local, plain, labelled, ends, ends_in}
 use Rattle.packet_worlds.proofs.Ledger.{payload_stays, none_stays, other_packet}
 use Rattle.packet_worlds.proofs.Cut.{IsCut, IsEarly}
 

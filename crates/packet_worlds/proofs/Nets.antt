@@ -4,51 +4,28 @@ use Rattle.std.proofs.Common.{◌≡◌, ℕ, suc, ◌+◌, true, false, List, [
 use Rattle.std.specs.Prelude.{nat_eq, nat_le, ◌==◌}
 use Rattle.std.specs.List.{list_any}
 use Rattle.std.proofs.lemmas.Bool.Decides.{nat_tests}
-use Rattle.net_types.specs.declared.node.NodeId.{NodeId}
-use Rattle.net_types.specs.declared.node.PortNo.{PortNo}
-use Rattle.net_types.specs.declared.node.Place.{Place}
-use Rattle.net_types.specs.declared.node.Place.TheVariants.{Down, Up, Out}
-use Rattle.net_types.specs.declared.channel.Channel.{Channel}
-use Rattle.net_types.specs.declared.number.Mark.{Mark}
-use Rattle.net_types.specs.Number.{next_control}
-use Rattle.atm_cells.specs.declared.cell.Cell.{Cell}
-use Rattle.keyed_lists.specs.Keyed.{at, put}
-use Rattle.port_facts.proofs.Keyed.{at_key, on_both}
+use Rattle.world_model.specs.Words.{NodeId, PortNo, Place, Down, Up, Out, Channel, Mark, next_control, Cell, at, put, ArePorts, Loss, PoolFull, noted, made, frame_cells, Policy, control_port, Controller, Linked, port_key, inject_refusal, injected, change_comes, node_restarts, Refusal, Topology, IsNode, IsPlace, World, Site, site_key, site_at, controller_acts, switch_acts, place_node, queue_at, with_queue, with_queue_of, with_queue_in, queue_number, same_queue, places_of, IsShapedSite, AreShaped, IsShaped, IsPlaceOf, IsPlaceIn, injects_by, arrives_at, arrives, carries_head, loses_head, forges, put_away, next, world_after, past_of}
+use Rattle.arrival_views.proofs.port_facts.Keyed.{at_key, on_both}
 use Rattle.packet_worlds.proofs.Lists.{any_back}
-use Rattle.crossbar_model.specs.Channels.{ArePorts}
-use Rattle.link_model.specs.declared.record.Record.TheVariants.{Loss}
-use Rattle.link_model.specs.declared.record.Cause.TheVariants.{PoolFull}
-use Rattle.link_model.specs.Notes.{noted}
-use Rattle.frame_model.specs.Frame.{made, frame_cells}
-use Rattle.frame_model.specs.Sending.{Sent}
-use Rattle.port_model.specs.Setup.{Policy}
+use Rattle.world_model.specs.frame_model.Sending.{Sent}
 use Rattle.world_model.specs.Switch as switches
-use Rattle.world_model.specs.Switch.{control_port}
 use Rattle.world_model.specs.Conduct as switch
-use Rattle.world_model.specs.Controller.{Controller, Acted, Linked, port_key, ports_of, free_slots}
+use Rattle.world_model.specs.Controller.{Acted, ports_of, free_slots}
 use Rattle.world_model.specs.Sending.{with_cells, sends}
 use Rattle.world_model.specs.Cells as takes
-use Rattle.world_model.specs.Packets.{inject_refusal, injected}
-use Rattle.world_model.specs.Changes.{change_comes}
-use Rattle.world_model.specs.Resets.{node_restarts}
 use Rattle.world_model.specs.Ticks.{ticks}
-use Rattle.link_model.specs.declared.record.Refusal.{Refusal}
 use Rattle.world_model.specs.declared.event.Event.{Event}
 use Rattle.world_model.specs.declared.event.Event.TheVariants.{Inject, Carry, Lose, Tick, TickSwitch, Restart, RestartSwitch, Forge, Route}
 use Rattle.world_model.specs.declared.link.LinkEnd.{LinkEnd}
-use Rattle.world_model.specs.Topology.{Topology, peer_of}
-use Rattle.world_model.specs.Conditions.{IsNode, IsPlace}
-use Rattle.world_model.specs.World.{World, Site, site_key, site_at, opened, controller_acts, switch_acts, at_controller, at_switch}
-use Rattle.world_model.specs.Places.{place_node, queue_at, with_queue, with_queue_of, with_queue_in, queue_number, same_queue, places_of, IsShapedSite, AreShaped, IsShaped, IsPlaceOf, IsPlaceIn}
-use Rattle.world_model.specs.Step.{injects_by, arrives_at, arrives, carries_head, loses_head, forges, acts}
-use Rattle.world_model.specs.Run.{put_away, next, world_after}
-use Rattle.world_model.specs.Past.{past_of}
+use Rattle.world_model.specs.Topology.{peer_of}
+use Rattle.world_model.specs.World.{opened, at_controller, at_switch}
+use Rattle.world_model.specs.Step.{acts}
 use Rattle.world_model.proofs.Lists.{length_set}
 use Rattle.world_model.proofs.Opening.{opened_is_shaped}
-use Rattle.world_views.specs.Between.{EachSite}
+use Rattle.run_facts.specs.world_views.Between.{EachSite}
 use Rattle.run_facts.specs.Nodes.{HasPort, IsNodeOfRun, HasSite}
-use Rattle.actor_pace.proofs.Controllers.{cell_follows, injected_paces, ticks_paces, restarts_paces, change_changes}
-use Rattle.actor_pace.proofs.Switches.{cell_paces, tick_paces, restart_paces, sends_paces}
+use Rattle.run_facts.proofs.actor_pace.Controllers.{cell_follows, injected_paces, ticks_paces, restarts_paces, change_changes}
+use Rattle.run_facts.proofs.actor_pace.Switches.{cell_paces, tick_paces, restart_paces, sends_paces}
 use Rattle.packet_worlds.proofs.Worlds.{IsNet}
 
 -- *A site is put in the place of another*

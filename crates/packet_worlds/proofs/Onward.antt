@@ -2,13 +2,12 @@
 
 use Rattle.std.proofs.Common.{◌≡◌, ℕ, ◌-◌, ◌/◌, ◌%◌, ◌≤◌, ◌==◌, nat_lt, not, if◌then◌else◌, List, length, Option, None, Some, refl, sym, ◌∙◌, arith, slice_index}
 use Rattle.std.proofs.lemmas.Bool.Decides.{nat_tests}
-use Rattle.ipv4_packet.specs.Packet.{ttl_of, total_length_of, header_sum, with_ttl, canonical, first_fault}
-use Rattle.ipv4_packet.specs.declared.validate.PacketFault.{PacketFault}
-use Rattle.ipv4_packet.specs.declared.validate.PacketFault.TheVariants.{Short, Version, Options, Length, TooLong, Checksum}
-use Rattle.ipv4_packet.proofs.HeaderLemmas.{on_header}
-use Rattle.ipv4_packet.proofs.RouteLemmas.{length-rerouted, header_sum-rerouted, total_length_of-rerouted}
-use Rattle.ipv4_forward.specs.Hop.{onward}
-use Rattle.controller_facts.proofs.Onward.{guard}
+use Rattle.world_model.specs.Words.{ttl_of, total_length_of, header_sum, with_ttl, canonical, PacketFault, Version, Options, TooLong, Checksum, onward}
+use Rattle.world_model.specs.ipv4_packet.Packet.{first_fault}
+use Rattle.world_model.specs.ipv4_packet.declared.validate.PacketFault.TheVariants.{Short, Length}
+use Rattle.world_model.proofs.ipv4_packet.HeaderLemmas.{on_header}
+use Rattle.world_model.proofs.ipv4_packet.RouteLemmas.{length-rerouted, header_sum-rerouted, total_length_of-rerouted}
+use Rattle.arrival_views.proofs.controller_facts.Onward.{guard}
 
 -- the first test that fails, by the numbers that are tested: length, first octet, Total Length, sum
 abbrev fault_by : (size first total sum : ℕ) → Option PacketFault

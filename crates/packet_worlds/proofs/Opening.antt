@@ -5,23 +5,13 @@ use Rattle.std.specs.Prelude.{Contains}
 use Rattle.std.specs.Option.{option_map_or}
 use Rattle.std.proofs.lemmas.List.Sums.{sum_by-cons}
 use Rattle.std.proofs.lemmas.List.Concat.{flat_map-cons}
-use Rattle.net_types.specs.declared.node.Place.{Place}
-use Rattle.net_types.specs.declared.node.Place.TheVariants.{Down, Up, Out}
-use Rattle.atm_cells.specs.declared.cell.Cell.{Cell}
-use Rattle.ordered_lists.specs.Ordered.{Every}
-use Rattle.ordered_lists.proofs.Every.{every_join}
+use Rattle.world_model.specs.Words.{Place, Down, Up, Out, Cell, Journal, payload_of, Policy, is_fate_of, Topology, Node, World, Site, site_key, site_at, opened_site, opens_each, with_opened, empty_world, place_node, queue_in, queue_at, places, past_of, fates_of}
+use Rattle.arrival_views.specs.ordered_lists.Ordered.{Every}
+use Rattle.arrival_views.proofs.ordered_lists.Every.{every_join}
 use Rattle.packet_worlds.proofs.Lists.{each_replicate}
-use Rattle.link_model.specs.Notes.{Journal}
-use Rattle.link_model.specs.Ledger.{payload_of}
-use Rattle.port_facts.proofs.Keyed.{at_every}
-use Rattle.port_model.specs.Setup.{Policy}
-use Rattle.world_model.specs.Fates.{is_fate_of}
-use Rattle.world_model.specs.Topology.{Topology, Node}
-use Rattle.world_model.specs.World.{World, Site, site_key, site_at, opened_site, opened, opens_each, with_opened, empty_world}
-use Rattle.world_model.specs.Places.{place_node, queue_in, queue_at, places}
-use Rattle.world_model.specs.Past.{past_of}
-use Rattle.world_model.specs.Headline.{fates_of}
-use Rattle.world_views.specs.Marks.{ends_in, last_cells}
+use Rattle.arrival_views.proofs.port_facts.Keyed.{at_every}
+use Rattle.world_model.specs.World.{opened}
+use Rattle.run_facts.specs.world_views.Marks.{ends_in, last_cells}
 use Rattle.packet_worlds.specs.Law.{PacketsBegin}
 use Rattle.packet_worlds.proofs.Bound.{got_within}
 use Rattle.packet_worlds.proofs.Fated.{opened_notes}

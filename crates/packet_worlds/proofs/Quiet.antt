@@ -1,10 +1,9 @@
 -- records that are no fates of a packet, and bind no label: all that a port notes but bindings
 
 use Rattle.std.proofs.Common.{◌≡◌, Bool, true, false, refl}
-use Rattle.link_model.specs.declared.record.Record.{Record}
-use Rattle.link_model.specs.declared.record.Record.TheVariants.{Delivered, Dropped, Opened, Closed, Free, Join}
-use Rattle.world_model.specs.Headline.{is_bind}
-use Rattle.causes.proofs.Noting.{AllowsNotes}
+use Rattle.world_model.specs.Words.{Record, Delivered, Dropped, Opened, Closed, Free, is_bind}
+use Rattle.world_model.specs.link_model.declared.record.Record.TheVariants.{Join}
+use Rattle.unused_labels.proofs.causes.Noting.{AllowsNotes}
 
 -- *What may be noted*
 abbrev pub is_fate : Record → Bool

@@ -3,35 +3,20 @@
 use Rattle.std.proofs.Common.{◌≡◌, ℕ, true, false, List, [], ◌∷◌, ◌++◌, length, None, refl, sym, ◌∙◌, ap, subst, arith}
 use Rattle.std.specs.Prelude.{nat_le, ◌||◌}
 use Rattle.std.specs.List.{list_any}
-use Rattle.net_types.specs.declared.node.NodeId.{NodeId}
-use Rattle.net_types.specs.declared.node.PortNo.{PortNo}
-use Rattle.net_types.specs.declared.node.Place.TheVariants.{Down}
-use Rattle.net_types.specs.declared.channel.Channel.{Channel}
-use Rattle.net_types.specs.declared.number.Mark.{Mark}
-use Rattle.net_types.specs.Number.{next_control, with_control}
-use Rattle.atm_cells.specs.declared.cell.Cell.{Cell}
-use Rattle.gsmp_wire.specs.Layout.{octets_of as gsmp_octets}
-use Rattle.link_model.specs.declared.record.Record.{Record}
-use Rattle.link_model.specs.declared.record.Record.TheVariants as records
-use Rattle.link_model.specs.declared.record.Record.TheVariants.{Loss}
-use Rattle.link_model.specs.declared.record.Cause.TheVariants.{PoolFull}
-use Rattle.link_model.specs.Notes.{noted}
-use Rattle.frame_model.specs.Frame.{made, frame_cells}
-use Rattle.frame_model.specs.Sending.{Sent}
-use Rattle.ordered_lists.specs.Ordered.{Every}
-use Rattle.ordered_lists.proofs.Every.{every_join, every_map}
-use Rattle.port_facts.proofs.Keyed.{on_both}
+use Rattle.world_model.specs.Words.{NodeId, PortNo, Down, Channel, Mark, next_control, with_control, Cell, Record, Loss, PoolFull, noted, made, frame_cells, is_fate_of, Controller, default_channel, default_home, same_channel, on_link, Past, is_bind}
+use Rattle.world_model.specs.gsmp_wire.Layout.{octets_of as gsmp_octets}
+use Rattle.world_model.specs.link_model.declared.record.Record.TheVariants as records
+use Rattle.world_model.specs.frame_model.Sending.{Sent}
+use Rattle.arrival_views.specs.ordered_lists.Ordered.{Every}
+use Rattle.arrival_views.proofs.ordered_lists.Every.{every_join, every_map}
+use Rattle.arrival_views.proofs.port_facts.Keyed.{on_both}
 use Rattle.packet_worlds.proofs.Lists.{none_join, count_by-skip}
-use Rattle.world_model.specs.Fates.{is_fate_of}
-use Rattle.world_model.specs.Controller.{Controller, Acted, free_slots, default_channel, default_home}
+use Rattle.world_model.specs.Controller.{Acted, free_slots}
 use Rattle.world_model.specs.Sending.{with_cells, sends}
-use Rattle.world_model.specs.Cells.{same_channel, on_link}
-use Rattle.controller_views.specs.Lifted.{payload_by}
+use Rattle.arrival_views.specs.controller_views.Lifted.{payload_by}
 use Rattle.world_model.specs.Topology.{peer_of}
-use Rattle.world_model.specs.Past.{Past}
-use Rattle.world_model.specs.Headline.{is_bind}
 use Rattle.packet_worlds.proofs.Quiet.{is_fate, Allows}
-use Rattle.causes.proofs.Noting.{AllowsBinding}
+use Rattle.unused_labels.proofs.causes.Noting.{AllowsBinding}
 use Rattle.packet_worlds.proofs.Walk.{IsAlike, Kept}
 use Rattle.packet_worlds.proofs.Records.{AllowsFates, records_kept}
 use Rattle.packet_worlds.proofs.Cut.{IsCut, IsEarly, frame_is_cut}

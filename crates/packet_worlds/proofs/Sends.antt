@@ -4,54 +4,26 @@ use Rattle.std.proofs.Common.{◌≡◌, ℕ, ◌<◌, ◌+◌, ◌==◌, ◌&&�
 use Rattle.std.specs.Prelude.{nat_lt, nat_le}
 use Rattle.std.specs.Option.{option_and_then}
 use Rattle.std.proofs.lemmas.Bool.Decides.{nat_tests}
-use Rattle.net_types.specs.declared.node.NodeId.{NodeId}
-use Rattle.net_types.specs.declared.node.PortNo.{PortNo}
-use Rattle.net_types.specs.declared.node.Place.{Place}
-use Rattle.net_types.specs.declared.node.Place.TheVariants.{Down}
-use Rattle.net_types.specs.declared.channel.Channel.{Channel}
-use Rattle.net_types.specs.declared.number.Mark.{Mark}
-use Rattle.net_types.specs.Number.{next_control, with_control}
-use Rattle.net_types.specs.Label.{label_channel_of, is_label_number}
-use Rattle.net_types.proofs.Labels.{number_of_channel-label_channel_of}
-use Rattle.ipv4_packet.specs.Packet.{destination_of}
-use Rattle.ipv4_forward.specs.Best.{best}
-use Rattle.ipv4_forward.specs.Hop.{hop_of, onward}
-use Rattle.ipv4_forward.specs.declared.table.Next.TheVariants.{Via}
-use Rattle.ipv4_forward.specs.declared.table.Route.{Route}
-use Rattle.ipv4_forward.specs.declared.outcome.Hop.{Hop}
-use Rattle.ipv4_forward.specs.declared.outcome.Hop.TheVariants.{Here, On, NoRoute, Expired}
-use Rattle.atm_cells.specs.declared.cell.Cell.{Cell}
-use Rattle.ipv4_packet.specs.declared.flow.FlowId.{FlowId}
-use Rattle.ipv4_packet.specs.Flow.{kind_of, flow_of}
-use Rattle.ordered_lists.specs.Ordered.{Every}
-use Rattle.flow_encaps.specs.Default.{default_payload}
-use Rattle.flow_encaps.specs.Labelled.{labelled_payload, Carries}
-use Rattle.gsmp_wire.specs.Layout.{octets_of as gsmp_octets}
-use Rattle.gsmp_wire.specs.declared.message.Message.{Message as GsmpMessage}
-use Rattle.ifmp_wire.specs.declared.message.Message.{Message as IfmpMessage}
-use Rattle.link_model.specs.declared.record.Record.TheVariants.{Delivered, Dropped, Loss}
-use Rattle.link_model.specs.declared.record.Cause.TheVariants.{PoolFull}
-use Rattle.link_model.specs.declared.record.DropCause.TheVariants as drop_causes
-use Rattle.link_model.specs.declared.frames.Frame.{Frame}
-use Rattle.link_model.specs.Ledger.{payload_of}
-use Rattle.link_model.specs.Notes.{noted}
-use Rattle.frame_model.specs.Frame.{made, next_mark, frame_cells}
-use Rattle.frame_model.specs.Sending.{Sent}
-use Rattle.port_model.specs.Setup.{control_end}
-use Rattle.port_model.specs.Grants.{Grant, grant_matching}
-use Rattle.port_facts.proofs.Keyed.{at_key, at_every, on_each}
-use Rattle.world_model.specs.Controller.{Controller, Acted, Linked, free_slots, linked_at, port_key, default_channel, default_home}
-use Rattle.world_model.specs.Sending.{with_cells, sends, sends_control, says_gsmp, says_ifmp}
-use Rattle.world_model.specs.Packets.{is_control, sends_next, goes_by, grant_by, forwarded, routes}
-use Rattle.controller_views.specs.Lifted.{payload_by}
+use Rattle.world_model.specs.Words.{NodeId, PortNo, Place, Down, Channel, Mark, next_control, with_control, label_channel_of, is_label_number, destination_of, best, hop_of, onward, Via, Hop, Here, On, Cell, FlowId, kind_of, flow_of, default_payload, labelled_payload, Carries, Delivered, Dropped, Loss, PoolFull, Frame, payload_of, noted, made, next_mark, frame_cells, control_end, Grant, grant_matching, Controller, Linked, linked_at, port_key, default_channel, default_home, sends_control, says_gsmp, says_ifmp, is_control, sends_next, goes_by, grant_by, routes, is_linked, Reaches, hops, HasReached, delivered, without_route, expired, Past, last_bound, WasAccepted}
+use Rattle.world_model.proofs.net_types.Labels.{number_of_channel-label_channel_of}
+use Rattle.world_model.specs.ipv4_forward.declared.table.Route.{Route}
+use Rattle.world_model.specs.ipv4_forward.declared.outcome.Hop.TheVariants.{NoRoute, Expired}
+use Rattle.arrival_views.specs.ordered_lists.Ordered.{Every}
+use Rattle.world_model.specs.gsmp_wire.Layout.{octets_of as gsmp_octets}
+use Rattle.world_model.specs.gsmp_wire.declared.message.Message.{Message as GsmpMessage}
+use Rattle.world_model.specs.ifmp_wire.declared.message.Message.{Message as IfmpMessage}
+use Rattle.world_model.specs.link_model.declared.record.DropCause.TheVariants as drop_causes
+use Rattle.world_model.specs.frame_model.Sending.{Sent}
+use Rattle.arrival_views.proofs.port_facts.Keyed.{at_key, at_every, on_each}
+use Rattle.world_model.specs.Controller.{Acted, free_slots}
+use Rattle.world_model.specs.Sending.{with_cells, sends}
+use Rattle.world_model.specs.Packets.{forwarded}
+use Rattle.arrival_views.specs.controller_views.Lifted.{payload_by}
 use Rattle.world_model.specs.declared.link.LinkEnd.{LinkEnd}
 use Rattle.world_model.specs.Topology.{peer_of}
-use Rattle.world_model.specs.Lines.{is_linked}
-use Rattle.world_model.specs.Reached.{Reaches, taken, hops, HasReached, delivered, without_route, expired}
-use Rattle.world_model.specs.Past.{Past, last_bound}
-use Rattle.world_model.specs.Headline.{WasAccepted}
-use Rattle.world_views.specs.Marks.{Heading, heading_at, HasCome, IsNewest, Means, control, local, plain, labelled}
-use Rattle.controller_facts.proofs.Onward.{octets_onward, packet_of}
+use Rattle.world_model.specs.Reached.{taken}
+use Rattle.run_facts.specs.world_views.Marks.{Heading, heading_at, HasCome, IsNewest, Means, control, local, plain, labelled}
+use Rattle.arrival_views.proofs.controller_facts.Onward.{octets_onward, packet_of}
 use Rattle.packet_worlds.proofs.Hops as laws
 use Rattle.packet_worlds.proofs.Ledger.{payload_new}
 use Rattle.packet_worlds.proofs.Cut.{one}

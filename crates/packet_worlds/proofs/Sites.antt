@@ -4,59 +4,26 @@ use Rattle.std.proofs.Common.{◌≡◌, ◌≢◌, ℕ, suc, ◌<◌, ◌==◌,
 use Rattle.std.specs.Prelude.{Contains, is_some, ◌&&◌, nat_le, find}
 use Rattle.std.specs.Option.{option_map, option_and_then, option_map_or}
 use Rattle.std.proofs.lemmas.Bool.Decides.{nat_tests}
-use Rattle.net_types.specs.declared.prefix.Addr.{Addr}
-use Rattle.net_types.specs.declared.node.NodeId.{NodeId}
-use Rattle.net_types.specs.declared.node.PortNo.{PortNo}
-use Rattle.net_types.specs.declared.node.Place.{Place}
-use Rattle.net_types.specs.declared.node.Place.TheVariants.{Down, Up, Out}
-use Rattle.net_types.specs.declared.channel.Channel.{Channel}
-use Rattle.net_types.specs.declared.channel.End.{End}
-use Rattle.net_types.specs.declared.number.Mark.{Mark}
-use Rattle.net_types.specs.Label.{label_channel_of, number_of_channel, label_number_of, is_label_channel, is_label_number}
-use Rattle.net_types.proofs.Labels.{number_of_channel-label_channel_of}
-use Rattle.ipv4_packet.specs.Packet.{destination_of}
-use Rattle.ipv4_forward.specs.Best.{best, is_best}
-use Rattle.ipv4_forward.specs.Hop.{onward}
-use Rattle.ipv4_forward.specs.declared.table.Next.{Next}
-use Rattle.ipv4_forward.specs.declared.table.Next.TheVariants.{Via}
-use Rattle.ipv4_forward.specs.declared.table.Route.{Route}
-use Rattle.ipv4_packet.specs.declared.flow.FlowId.{FlowId}
-use Rattle.flow_encaps.specs.Labelled.{Carries}
-use Rattle.link_model.specs.declared.record.Record.{Record}
-use Rattle.link_model.specs.declared.frames.Frame.{Frame}
-use Rattle.ordered_lists.specs.Ordered.{Every, InOrder}
-use Rattle.ordered_lists.proofs.Every.{every_map, every_map2}
-use Rattle.crossbar_model.specs.Crossbar.{output_of}
-use Rattle.port_model.specs.Setup.{Setup, label_end, home_of, is_in_range}
-use Rattle.port_model.specs.Labels.{Label, LabelState, Wiring, is_bound, label_number}
-use Rattle.port_model.specs.Grants.{Grant}
-use Rattle.port_model.specs.Port.{labels_of, label_at}
-use Rattle.port_facts.specs.Port.{setup_port, IsLinked, IsLabelEnd, IsGrant}
-use Rattle.port_facts.proofs.Keyed.{at_key, at_every, at_map, each_found}
-use Rattle.port_facts.proofs.Found.{find_every}
-use Rattle.world_model.specs.Controller.{Linked, port_key, linked_at, default_channel}
-use Rattle.world_model.specs.Cells.{same_channel}
-use Rattle.controller_facts.specs.Sound.{linked_setup, IsLinkedPort, AreApart}
-use Rattle.controller_bindings.specs.Bindings.{IsBoundLast}
+use Rattle.world_model.specs.Words.{Addr, NodeId, PortNo, Place, Down, Up, Out, Channel, End, Mark, label_channel_of, number_of_channel, label_number_of, is_label_channel, is_label_number, destination_of, best, is_best, onward, Next, Via, FlowId, Carries, Record, Frame, Setup, label_end, home_of, is_in_range, Label, LabelState, Wiring, is_bound, label_number, Grant, labels_of, label_at, Linked, port_key, linked_at, default_channel, same_channel, Topology, is_linked, IsTopology, IsNode, IsPlace, IsLinkedNext, Site, site_at, place_node, queue_number, hops, table_in, grants_at, output_at, Past, last_bound, Way, IsWay, ByBranch, LeadsOn as LeadsFlow, StandsForLast, Policy}
+use Rattle.world_model.proofs.net_types.Labels.{number_of_channel-label_channel_of}
+use Rattle.world_model.specs.ipv4_forward.declared.table.Route.{Route}
+use Rattle.arrival_views.specs.ordered_lists.Ordered.{Every, InOrder}
+use Rattle.arrival_views.proofs.ordered_lists.Every.{every_map, every_map2}
+use Rattle.world_model.specs.crossbar_model.Crossbar.{output_of}
+use Rattle.arrival_views.specs.port_facts.Port.{setup_port, IsLinked, IsLabelEnd, IsGrant}
+use Rattle.arrival_views.proofs.port_facts.Keyed.{at_key, at_every, at_map, each_found}
+use Rattle.arrival_views.proofs.port_facts.Found.{find_every}
+use Rattle.arrival_views.specs.controller_facts.Sound.{linked_setup, IsLinkedPort, AreApart}
+use Rattle.run_facts.specs.controller_bindings.Bindings.{IsBoundLast}
 use Rattle.world_model.specs.declared.link.LinkEnd.{LinkEnd}
-use Rattle.world_model.specs.Topology.{Topology, peer_of}
-use Rattle.world_model.specs.Lines.{is_linked}
-use Rattle.world_model.specs.Conditions.{IsTopology, IsNode, IsPlace, IsLinkedNext}
-use Rattle.world_model.specs.World.{Site, site_at}
-use Rattle.world_model.specs.Places.{place_node, queue_number}
-use Rattle.world_model.specs.Reached.{hops, table_in}
-use Rattle.world_model.specs.Ways.{grants_at, output_at}
-use Rattle.world_model.specs.Past.{Past, last_bound}
-use Rattle.world_model.specs.Users.{Way, IsWay, ByBranch, LeadsOn as LeadsFlow}
-use Rattle.world_model.specs.Owned.{StandsForLast}
-use Rattle.port_model.specs.Setup.{Policy}
-use Rattle.world_views.specs.Marks.{Heading, heading_at, HasCome, Means, early, control, local, plain, labelled}
-use Rattle.world_views.specs.Pairs.{by_branch}
-use Rattle.world_views.specs.Between.{setups_of, default, label, IsShapedBranch, home, out, joined, HasShapes, HasAllUsers, HasAllHops}
-use Rattle.causes.proofs.Shown.{IsPeer, peer_back}
+use Rattle.world_model.specs.Topology.{peer_of}
+use Rattle.run_facts.specs.world_views.Marks.{Heading, heading_at, HasCome, Means, early, control, local, plain, labelled}
+use Rattle.run_facts.specs.world_views.Pairs.{by_branch}
+use Rattle.run_facts.specs.world_views.Between.{setups_of, default, label, IsShapedBranch, home, out, joined, HasShapes, HasAllUsers, HasAllHops}
+use Rattle.unused_labels.proofs.causes.Shown.{IsPeer, peer_back}
 use Rattle.run_facts.specs.Nodes.{IsNodeOfRun}
 use Rattle.run_facts.proofs.Numbers.{some_of}
-use Rattle.controller_facts.proofs.Onward.{octets_onward}
+use Rattle.arrival_views.proofs.controller_facts.Onward.{octets_onward}
 use Rattle.packet_worlds.proofs.Hops as laws
 use Rattle.packet_worlds.proofs.Meant.{in_frames, IsProper}
 use Rattle.packet_worlds.proofs.Headings.{leads_down, leads_up, own_there, label_is, no_default}

@@ -4,27 +4,14 @@ use Rattle.std.proofs.Common.{◌≡◌, ◌≢◌, ◌⊎◌, inl, inr, ℕ, su
 use Rattle.std.specs.Prelude.{slice_get}
 use Rattle.std.proofs.lemmas.Bool.Decides.{nat_tests}
 use Rattle.std.proofs.lemmas.List.{length-append}
-use Rattle.net_types.specs.declared.node.NodeId.{NodeId}
-use Rattle.net_types.specs.declared.node.Place.{Place}
-use Rattle.net_types.specs.declared.number.Mark.{Mark}
-use Rattle.link_model.specs.declared.frames.Frame.{Frame}
-use Rattle.link_model.specs.declared.record.Record.TheVariants as records
-use Rattle.ordered_lists.specs.Ordered.{Every}
-use Rattle.port_model.specs.Setup.{Policy}
-use Rattle.world_model.specs.Fates.{is_fate_of, has_loss_of}
-use Rattle.world_model.specs.Packets.{inject_refusal}
+use Rattle.world_model.specs.Words.{NodeId, Place, Mark, Frame, Policy, is_fate_of, has_loss_of, inject_refusal, Topology, IsPlace, World, queue_at, put_away, sent_by, Past, past_of, frames_of, WasAccepted}
+use Rattle.world_model.specs.link_model.declared.record.Record.TheVariants as records
+use Rattle.arrival_views.specs.ordered_lists.Ordered.{Every}
 use Rattle.world_model.specs.declared.event.Event.{Event}
-use Rattle.world_model.specs.Topology.{Topology}
-use Rattle.world_model.specs.Conditions.{IsPlace}
-use Rattle.world_model.specs.World.{World}
-use Rattle.world_model.specs.Places.{queue_at}
-use Rattle.world_model.specs.Run.{put_away}
-use Rattle.world_model.specs.Reached.{Sent, sent_by}
-use Rattle.world_model.specs.Past.{Past, past_of, frames_of}
-use Rattle.world_model.specs.Headline.{WasAccepted}
-use Rattle.world_views.specs.Marks.{Heading, heading_at, HasCome, Means, early, control, local, plain, labelled, last_cells}
-use Rattle.world_views.specs.Between.{IsWorld}
-use Rattle.world_views.specs.Kept.{behind}
+use Rattle.world_model.specs.Reached.{Sent}
+use Rattle.run_facts.specs.world_views.Marks.{Heading, heading_at, HasCome, Means, early, control, local, plain, labelled, last_cells}
+use Rattle.run_facts.specs.world_views.Between.{IsWorld}
+use Rattle.run_facts.specs.world_views.Kept.{behind}
 use Rattle.run_facts.specs.Steps.{IsPast, IsStep, Stays}
 use Rattle.packet_worlds.proofs.Cut.{one}
 use Rattle.packet_worlds.proofs.Meant.{in_frames, MeansAt}

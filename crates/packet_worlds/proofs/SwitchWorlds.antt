@@ -5,27 +5,14 @@ use Rattle.std.specs.Prelude.{◌==◌, ◌&&◌, ◌/◌}
 use Rattle.std.specs.Option.{option_map}
 use Rattle.std.specs.FinMap.{get}
 use Rattle.std.proofs.lemmas.Bool.Decides.{nat_tests}
-use Rattle.net_types.specs.declared.node.NodeId.{NodeId}
-use Rattle.net_types.specs.declared.node.PortNo.{PortNo}
-use Rattle.net_types.specs.declared.node.Place.{Place}
-use Rattle.net_types.specs.declared.node.Place.TheVariants.{Down, Up, Out}
-use Rattle.net_types.specs.declared.channel.End.{End}
-use Rattle.atm_cells.specs.declared.cell.Cell.{Cell}
-use Rattle.link_model.specs.declared.record.Record.TheVariants.{Loss}
-use Rattle.link_model.specs.declared.record.Cause.{Cause}
-use Rattle.link_model.specs.declared.record.Cause.TheVariants.{PoolFull, Unconnected}
-use Rattle.link_model.specs.Notes.{noted}
-use Rattle.crossbar_model.specs.declared.branch.Branch.{Branch}
-use Rattle.crossbar_model.specs.declared.routed.Routed.TheVariants as routes
-use Rattle.crossbar_model.specs.Crossbar.{Crossbar, queue_of, input_of, on_channel_of, route_on, switched_on, switched}
-use Rattle.world_model.specs.Switch.{Acted, control_port, free_slots}
-use Rattle.world_model.specs.Conduct.{passed, switched_cell, gsmp_cell, is_gsmp, cell_comes, tick_comes, restarted}
+use Rattle.world_model.specs.Words.{NodeId, PortNo, Place, Down, Up, Out, End, Cell, Loss, Cause, PoolFull, Unconnected, noted, Crossbar, queue_of, on_channel_of, route_on, switched_on, switched, control_port, switched_cell, gsmp_cell, is_gsmp, tick_comes, restarted, IsTopology, World, Site, site_at, with_site, place_node, queue_in, queue_at, queue_number, Past}
+use Rattle.world_model.specs.crossbar_model.declared.branch.Branch.{Branch}
+use Rattle.world_model.specs.crossbar_model.declared.routed.Routed.TheVariants as routes
+use Rattle.world_model.specs.crossbar_model.Crossbar.{input_of}
+use Rattle.world_model.specs.Switch.{Acted, free_slots}
+use Rattle.world_model.specs.Conduct.{passed, cell_comes}
 use Rattle.world_model.specs.Topology.{peer_of}
-use Rattle.world_model.specs.Conditions.{IsTopology}
-use Rattle.world_model.specs.World.{World, Site, site_at, with_site}
-use Rattle.world_model.specs.Places.{place_node, queue_in, queue_at, queue_number}
-use Rattle.world_model.specs.Past.{Past}
-use Rattle.world_views.specs.Marks.{heading_at, Means}
+use Rattle.run_facts.specs.world_views.Marks.{heading_at, Means}
 use Rattle.packet_worlds.proofs.Meant.{in_frames, IsProper}
 use Rattle.packet_worlds.proofs.Good.{Turn, Now, IsGood, nothing, some_accepted}
 use Rattle.packet_worlds.proofs.Frames.{in_hand}

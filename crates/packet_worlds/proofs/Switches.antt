@@ -2,32 +2,17 @@
 
 use Rattle.std.proofs.Common.{◌≡◌, ℕ, ◌<◌, ◌+◌, ◌==◌, ◌&&◌, Bool, true, false, cond, List, [], ◌∷◌, ◌++◌, length, None, Some, refl, sym, ◌∙◌, ap, subst, arith, slice_set, slice_index_or}
 use Rattle.std.specs.Prelude.{nat_le}
-use Rattle.net_types.specs.declared.node.NodeId.{NodeId}
-use Rattle.net_types.specs.declared.node.Place.{Place}
-use Rattle.net_types.specs.declared.node.Place.TheVariants.{Up}
-use Rattle.net_types.specs.declared.channel.End.{End}
-use Rattle.net_types.specs.declared.number.Mark.{Mark}
-use Rattle.net_types.specs.Number.{next_control, with_control}
-use Rattle.atm_cells.specs.declared.cell.Cell.{Cell}
-use Rattle.gsmp_wire.specs.declared.message.Message.{Message}
-use Rattle.gsmp_wire.specs.Layout.{octets_of}
-use Rattle.crossbar_model.specs.Crossbar.{queue_of, sent, on_channel_of}
-use Rattle.link_model.specs.declared.frames.Frame.{Frame}
-use Rattle.link_model.specs.declared.record.Record.{Record}
-use Rattle.link_model.specs.declared.record.Record.TheVariants.{Loss}
-use Rattle.link_model.specs.declared.record.Cause.{Cause}
-use Rattle.link_model.specs.declared.record.Cause.TheVariants.{PoolFull}
-use Rattle.link_model.specs.Notes.{Journal, noted}
-use Rattle.frame_model.specs.Frame.{made, frame_cells}
-use Rattle.frame_model.specs.Sending.{Sent}
-use Rattle.ordered_lists.proofs.Every.{every_join}
+use Rattle.world_model.specs.Words.{NodeId, Place, Up, End, Mark, next_control, with_control, Cell, queue_of, sent, on_channel_of, Frame, Record, Loss, Cause, PoolFull, Journal, noted, made, frame_cells, Switch, control_port, gsmp_channel, Past}
+use Rattle.world_model.specs.gsmp_wire.declared.message.Message.{Message}
+use Rattle.world_model.specs.gsmp_wire.Layout.{octets_of}
+use Rattle.world_model.specs.frame_model.Sending.{Sent}
+use Rattle.arrival_views.proofs.ordered_lists.Every.{every_join}
 use Rattle.packet_worlds.proofs.Lists.{count_by-append}
-use Rattle.port_facts.proofs.Keyed.{on_both}
-use Rattle.world_model.specs.Switch.{Switch, Acted, control_port, gsmp_channel, free_slots}
+use Rattle.arrival_views.proofs.port_facts.Keyed.{on_both}
+use Rattle.world_model.specs.Switch.{Acted, free_slots}
 use Rattle.world_model.specs.Conduct.{with_cells, says}
 use Rattle.world_model.proofs.Lists.{index_here, length_set}
-use Rattle.world_model.specs.Past.{Past}
-use Rattle.world_views.specs.Marks.{Heading, heading_at, Means, early, control, local, plain, labelled, ends}
+use Rattle.run_facts.specs.world_views.Marks.{Heading, heading_at, Means, early, control, local, plain, labelled, ends}
 use Rattle.packet_worlds.proofs.Ledger.{entered}
 use Rattle.packet_worlds.proofs.Cut.{one}
 use Rattle.packet_worlds.proofs.Meant.{in_frames, IsProper, default_proper, MeansAt}

@@ -4,46 +4,22 @@ use Rattle.std.proofs.Common.{◌≡◌, ℕ, ◌==◌, ◌&&◌, Bool, true, fa
 use Rattle.std.specs.Prelude.{drop, ◌/◌, ◌%◌, Result, Ok}
 use Rattle.std.specs.List.{list_any}
 use Rattle.std.proofs.lemmas.Bool.Decides.{nat_tests}
-use Rattle.net_types.specs.declared.node.NodeId.{NodeId}
-use Rattle.net_types.specs.declared.node.PortNo.{PortNo}
-use Rattle.net_types.specs.declared.node.Place.TheVariants.{Down, Up}
-use Rattle.net_types.specs.declared.prefix.Addr.{Addr}
-use Rattle.net_types.specs.declared.channel.Channel.{Channel}
-use Rattle.net_types.specs.declared.number.Mark.{Mark}
-use Rattle.net_types.specs.Label.{number_of_channel}
-use Rattle.ipv4_packet.specs.Packet.{protocol_of, first_fault, ifmp_packet_of}
-use Rattle.ipv4_packet.specs.declared.validate.PacketFault.{PacketFault}
-use Rattle.atm_cells.specs.declared.cell.Cell.{Cell}
-use Rattle.ipv4_packet.specs.declared.flow.FlowId.{FlowId}
-use Rattle.flow_encaps.specs.Default.{default_payload}
-use Rattle.flow_encaps.specs.Unwrapped.{default_unwrapped, unwrapped}
-use Rattle.flow_encaps.specs.declared.default.EncapsFault.{EncapsFault}
-use Rattle.ifmp_wire.specs.declared.message.Message.{Message}
-use Rattle.ifmp_wire.specs.Fields.{decoded as ifmp_decoded}
-use Rattle.ifmp_wire.specs.Message.{octets_of as ifmp_octets}
-use Rattle.gsmp_wire.specs.Fields.{decoded as gsmp_decoded}
-use Rattle.link_model.specs.declared.record.Record.{Record}
-use Rattle.link_model.specs.declared.record.Record.TheVariants.{Bad, Loss, Chance}
-use Rattle.link_model.specs.declared.record.Layer.TheVariants as layers
-use Rattle.link_model.specs.declared.record.Cause.TheVariants.{Broken}
-use Rattle.link_model.specs.Ledger.{is_frame, payload_of, has_entry}
-use Rattle.link_model.specs.Notes.{Journal, noted}
-use Rattle.refusal_names.specs.Names.{packet_refusal}
-use Rattle.frame_model.specs.Reassembly.{broken}
-use Rattle.frame_model.specs.Frame.{tested, passed}
+use Rattle.world_model.specs.Words.{NodeId, PortNo, Down, Up, Addr, Channel, Mark, number_of_channel, protocol_of, ifmp_packet_of, PacketFault, Cell, FlowId, default_payload, default_unwrapped, unwrapped, EncapsFault, Record, Bad, Loss, Chance, Broken, is_frame, payload_of, has_entry, Journal, noted, packet_refusal, broken, tested, Label, is_bound, label_at, Linked, default_channel, control_protocol, routes, ForGsmp, ForDefault, ForLabel, port_on, on_link, same_channel, label_holds, ifmp_holds, counted_at, packet_holds, default_holds, frame_holds, last_bound, is_wild, IsTame}
+use Rattle.world_model.specs.ipv4_packet.Packet.{first_fault}
+use Rattle.world_model.specs.ifmp_wire.declared.message.Message.{Message}
+use Rattle.world_model.specs.ifmp_wire.Fields.{decoded as ifmp_decoded}
+use Rattle.world_model.specs.ifmp_wire.Message.{octets_of as ifmp_octets}
+use Rattle.world_model.specs.gsmp_wire.Fields.{decoded as gsmp_decoded}
+use Rattle.world_model.specs.link_model.declared.record.Layer.TheVariants as layers
+use Rattle.world_model.specs.frame_model.Frame.{passed}
 use Rattle.packet_worlds.proofs.Lists.{none_front, any_back}
-use Rattle.wire_laws.proofs.Packets.{protocol_is}
-use Rattle.port_model.specs.Labels.{Label, is_bound}
-use Rattle.port_model.specs.Port.{label_at}
-use Rattle.world_model.specs.Controller.{Acted, Linked, default_channel}
-use Rattle.world_model.specs.Packets.{control_protocol, routes}
-use Rattle.world_model.specs.Cells.{Taker, ForGsmp, ForDefault, ForLabel, port_on, on_link, same_channel, label_holds, ifmp_holds, counted_at, packet_holds, default_holds, frame_holds, opened_frame, after_test, ends_frame}
-use Rattle.controller_views.specs.Lifted.{payload_by}
+use Rattle.arrival_views.proofs.wire_laws.Packets.{protocol_is}
+use Rattle.world_model.specs.Controller.{Acted}
+use Rattle.world_model.specs.Cells.{Taker, opened_frame, after_test, ends_frame}
+use Rattle.arrival_views.specs.controller_views.Lifted.{payload_by}
 use Rattle.world_model.specs.declared.link.LinkEnd.{LinkEnd}
 use Rattle.world_model.specs.Topology.{peer_of}
-use Rattle.world_model.specs.Past.{last_bound}
-use Rattle.world_model.specs.Headline.{is_wild, IsTame}
-use Rattle.world_views.specs.Marks.{heading_at, own_end, HasCome, IsNewest, Means, early, control, local, plain, labelled}
+use Rattle.run_facts.specs.world_views.Marks.{heading_at, own_end, HasCome, IsNewest, Means, early, control, local, plain, labelled}
 use Rattle.packet_worlds.proofs.Walk.{Kept, used_kept, counted_kept, ifmp_holds_kept, gsmp_holds_kept}
 use Rattle.packet_worlds.proofs.Records.{routes_has, opened_has}
 use Rattle.packet_worlds.proofs.Hops as laws
@@ -55,8 +31,8 @@ use Rattle.packet_worlds.proofs.Headings.{own_is}
 use Rattle.packet_worlds.proofs.Sends.{now_of, IsReady, good_routes}
 use Rattle.packet_worlds.proofs.Quietly.{BindsNone, NoBind, push_none, fate_none, AllowsDefault, AreFew, few_kept, both_kept, good_kept, IsQuiet, may_quiet, bind_quiet, IsSilent, may_silent, none_kept}
 use Rattle.packet_worlds.proofs.Bound.{and_parts}
-use Rattle.shown_cells.proofs.Tested.{last_is}
-use Rattle.port_facts.proofs.Keyed.{on_each}
+use Rattle.arrival_views.proofs.shown_cells.Tested.{last_is}
+use Rattle.arrival_views.proofs.port_facts.Keyed.{on_each}
 
 -- broken frames bind nothing
 pub broken_none : (notes : Journal) (marks : List Mark) → BindsNone notes.records → BindsNone (broken notes marks).records

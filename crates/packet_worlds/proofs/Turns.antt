@@ -3,41 +3,20 @@
 use Rattle.std.proofs.Common.{◌≡◌, ◌≢◌, ◌⊎◌, inr, ℕ, suc, ◌<◌, Bool, true, false, cond, List, [], ◌∷◌, ◌++◌, length, Option, Some, refl, sym, ◌∙◌, ap, subst, arith, slice_set, count_by}
 use Rattle.std.specs.Prelude.{Contains, ◌==◌}
 use Rattle.std.specs.Option.{option_map_or}
-use Rattle.net_types.specs.declared.node.NodeId.{NodeId}
-use Rattle.net_types.specs.declared.node.PortNo.{PortNo}
-use Rattle.net_types.specs.declared.node.Place.{Place}
-use Rattle.net_types.specs.declared.node.Place.TheVariants.{Down}
-use Rattle.net_types.specs.declared.channel.End.{End}
-use Rattle.net_types.specs.declared.number.Mark.{Mark}
-use Rattle.ipv4_packet.specs.Packet.{destination_of}
-use Rattle.ipv4_forward.specs.Best.{best}
-use Rattle.ipv4_forward.specs.declared.table.Next.TheVariants.{Via}
-use Rattle.atm_cells.specs.declared.cell.Cell.{Cell}
-use Rattle.link_model.specs.declared.frames.Frame.{Frame}
-use Rattle.link_model.specs.declared.record.Record.{Record}
-use Rattle.link_model.specs.declared.entries.Entry.{Entry}
-use Rattle.link_model.specs.Notes.{losses_of}
-use Rattle.ordered_lists.specs.Ordered.{Every}
-use Rattle.ordered_lists.proofs.Every.{every_join}
-use Rattle.keyed_lists.specs.Keyed.{at, put}
+use Rattle.world_model.specs.Words.{NodeId, PortNo, Place, Down, End, Mark, destination_of, best, Via, Cell, Frame, Record, Entry, losses_of, at, put, is_fate_of, default_channel, same_channel, Topology, is_linked, IsTopology, IsNode, IsPlace, World, Site, site_key, site_at, with_site, place_node, queue_in, queue_at, with_queue, with_queue_of, with_queue_in, queue_number, same_queue, Past}
+use Rattle.arrival_views.specs.ordered_lists.Ordered.{Every}
+use Rattle.arrival_views.proofs.ordered_lists.Every.{every_join}
 use Rattle.packet_worlds.proofs.Lists.{count_by-append, count_by-cons, count_by-skip, none_front}
-use Rattle.port_facts.proofs.Keyed.{at_key}
-use Rattle.world_model.specs.Fates.{is_fate_of}
-use Rattle.crossbar_model.specs.Crossbar.{output_of}
+use Rattle.arrival_views.proofs.port_facts.Keyed.{at_key}
+use Rattle.world_model.specs.crossbar_model.Crossbar.{output_of}
 use Rattle.world_model.specs.Switch as switches
-use Rattle.world_model.specs.Controller.{Acted, ports_of, default_channel}
-use Rattle.world_model.specs.Cells.{same_channel}
+use Rattle.world_model.specs.Controller.{Acted, ports_of}
 use Rattle.world_model.specs.declared.link.LinkEnd.{LinkEnd}
-use Rattle.world_model.specs.Topology.{Topology, peer_of}
-use Rattle.world_model.specs.Lines.{is_linked}
-use Rattle.world_model.specs.Conditions.{IsTopology, IsNode, IsPlace}
-use Rattle.world_model.specs.World.{World, Site, site_key, site_at, with_site}
-use Rattle.world_model.specs.Places.{place_node, queue_in, queue_at, with_queue, with_queue_of, with_queue_in, queue_number, same_queue}
-use Rattle.world_model.specs.Past.{Past}
+use Rattle.world_model.specs.Topology.{peer_of}
 use Rattle.world_model.specs.Step.{note}
 use Rattle.world_model.proofs.Lists.{at_put_same, at_put_other}
 use Rattle.world_model.proofs.Queues.{Sets, set_queue, sets_down, sets_out}
-use Rattle.world_views.specs.Marks.{Heading, heading_at, Means, ends, ends_in}
+use Rattle.run_facts.specs.world_views.Marks.{Heading, heading_at, Means, ends, ends_in}
 use Rattle.packet_worlds.proofs.Quiet.{is_fate}
 use Rattle.packet_worlds.proofs.Meant.{in_frames, IsProper, MeansAt}
 use Rattle.packet_worlds.proofs.Good.{Turn, IsTrueRecord, IsGood, nothing, good_set}

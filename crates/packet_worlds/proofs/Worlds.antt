@@ -4,27 +4,15 @@ use Rattle.std.proofs.Common.{◌≡◌, ◌≢◌, ◌⊎◌, inl, inr, ℕ, su
 use Rattle.std.specs.Prelude.{is_some}
 use Rattle.std.specs.List.{list_any}
 use Rattle.std.proofs.lemmas.Bool.Decides.{nat_tests}
-use Rattle.net_types.specs.declared.node.NodeId.{NodeId}
-use Rattle.net_types.specs.declared.node.PortNo.{PortNo}
-use Rattle.net_types.specs.declared.node.Place.{Place}
-use Rattle.net_types.specs.declared.node.Place.TheVariants.{Down, Up, Out}
-use Rattle.atm_cells.specs.declared.cell.Cell.{Cell}
-use Rattle.link_model.specs.Ledger.{payload_of}
-use Rattle.ordered_lists.specs.Ordered.{Every}
-use Rattle.keyed_lists.specs.Keyed.{at, put}
-use Rattle.port_facts.proofs.Keyed.{by_eq, at_key}
-use Rattle.world_model.specs.Fates.{is_fate_of, has_loss_of}
+use Rattle.world_model.specs.Words.{NodeId, PortNo, Place, Down, Up, Out, Cell, payload_of, at, put, is_fate_of, has_loss_of, Topology, IsTopology, IsPlace, World, Site, site_key, site_at, with_site, place_node, queue_at, with_queue, with_queue_of, with_queue_in, queue_number, same_queue, places_of, IsShaped, IsPlaceOf, IsPlaceIn, Past, WasAccepted}
+use Rattle.arrival_views.specs.ordered_lists.Ordered.{Every}
+use Rattle.arrival_views.proofs.port_facts.Keyed.{by_eq, at_key}
 use Rattle.world_model.specs.declared.link.LinkEnd.{LinkEnd}
-use Rattle.world_model.specs.Topology.{Topology, peer_of}
-use Rattle.world_model.specs.Conditions.{IsTopology, IsPlace}
-use Rattle.world_model.specs.World.{World, Site, site_key, site_at, with_site}
-use Rattle.world_model.specs.Places.{place_node, queue_at, with_queue, with_queue_of, with_queue_in, queue_number, same_queue, places_of, IsShaped, IsPlaceOf, IsPlaceIn}
-use Rattle.world_model.specs.Past.{Past}
-use Rattle.world_model.specs.Headline.{WasAccepted}
+use Rattle.world_model.specs.Topology.{peer_of}
 use Rattle.world_model.proofs.Lists.{at_put_same, at_put_other}
 use Rattle.world_model.proofs.Queues.{Sets, set_queue, weighs}
-use Rattle.world_views.specs.Marks.{ends_in, last_cells}
-use Rattle.causes.proofs.Shown.{peer_back}
+use Rattle.run_facts.specs.world_views.Marks.{ends_in, last_cells}
+use Rattle.unused_labels.proofs.causes.Shown.{peer_back}
 use Rattle.packet_worlds.proofs.Meant.{MeansAt}
 use Rattle.packet_worlds.proofs.Good.{Turn, IsTurn, IsTrueRecord, IsGood}
 use Rattle.packet_worlds.proofs.Bound.{and_parts}

@@ -1,13 +1,10 @@
 -- What an event keeps of packets
 
 use Rattle.std.specs.Prelude.{List}
-use Rattle.port_model.specs.Setup.{Policy}
+use Rattle.world_model.specs.Words.{Policy, Topology, Past, past_of, HasFatesOnce}
 use Rattle.world_model.specs.declared.event.Event.{Event}
-use Rattle.world_model.specs.Topology.{Topology}
-use Rattle.world_model.specs.Past.{Past, past_of}
-use Rattle.world_model.specs.Headline.{HasFatesOnce}
-use Rattle.world_views.specs.Between.{IsWorld, HasMeanings, HasPacketsOnce}
-use Rattle.world_views.specs.Kept.{Comes, behind, Begins, BindsUnusedAt}
+use Rattle.run_facts.specs.world_views.Between.{IsWorld, HasMeanings, HasPacketsOnce}
+use Rattle.run_facts.specs.world_views.Kept.{Comes, behind, Begins, BindsUnusedAt}
 use Rattle.packet_worlds.specs.Channels.{HasChannels}
 
 -- what cells mean, that packets are once, and on which channels cells stand

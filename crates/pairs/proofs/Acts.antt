@@ -1,23 +1,11 @@
 -- an actor of a site acts, or a queue loses its head: the pairs of each site stay within what may be
 
 use Rattle.std.proofs.Common.{◌≡◌, ◌≢◌, ℕ, zero, suc, ◌<◌, ◌≤◌, List, [], ◌∷◌, Option, None, Some, refl, sym, ◌∙◌, ap, subst, arith, Contains, ◌⊎◌, inl, inr}
-use Rattle.net_types.specs.declared.channel.End.{End}
-use Rattle.net_types.specs.declared.node.NodeId.{NodeId}
-use Rattle.net_types.specs.declared.node.Place.{Place}
-use Rattle.net_types.specs.declared.node.Place.TheVariants.{Down, Up, Out}
-use Rattle.net_types.specs.declared.number.Mark.{Mark}
-use Rattle.atm_cells.specs.declared.cell.Cell.{Cell}
-use Rattle.link_model.specs.declared.frames.Frame.{Frame}
-use Rattle.ordered_lists.specs.Ordered.{Every}
-use Rattle.keyed_lists.specs.Keyed.{at, put}
-use Rattle.port_model.specs.Setup.{Setup}
-use Rattle.port_model.specs.Desk.{Standing}
+use Rattle.world_model.specs.Words.{End, NodeId, Place, Down, Up, Out, Mark, Cell, Frame, at, put, Setup, Standing, World, Site, site_key, site_at, controller_acts, switch_acts, place_node, queue_in, queue_at, with_queue_in, with_queue_of, with_queue, copy_under, leads}
+use Rattle.world_views.specs.ordered_lists.Ordered.{Every}
 use Rattle.world_model.specs.Switch as switches
 use Rattle.world_model.specs.Controller.{Acted}
-use Rattle.world_model.specs.World.{World, Site, site_key, site_at, controller_acts, at_controller, switch_acts, at_switch}
-use Rattle.world_model.specs.Places.{place_node, queue_in, queue_at, with_queue_in, with_queue_of, with_queue}
-use Rattle.world_model.specs.Ways.{copy_under}
-use Rattle.world_model.specs.Users.{leads}
+use Rattle.world_model.specs.World.{at_controller, at_switch}
 use Rattle.quiet_controllers.specs.Quiet.{AskTheSame, IsQuiet}
 use Rattle.quiet_controllers.specs.Law.{IsAtWork, Asks, by_desk, by_cell}
 use Rattle.quiet_controllers.proofs.Beginning.{contained, asked_may, in_tail}

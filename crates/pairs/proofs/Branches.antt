@@ -4,49 +4,30 @@ use Rattle.std.proofs.Common.{◌≡◌, ℕ, zero, suc, ◌+◌, ◌≤◌, Boo
 use Rattle.std.specs.Prelude.{◌==◌, ◌&&◌, not, nat_le, nat_lt}
 use Rattle.std.specs.Option.{option_map, option_and_then}
 use Rattle.std.specs.FinMap.{get, insert, remove, keys}
-use Rattle.net_types.specs.declared.channel.End.{End}
-use Rattle.net_types.specs.declared.node.PortNo.{PortNo}
-use Rattle.net_types.specs.declared.number.Mark.{Mark}
-use Rattle.net_types.specs.declared.adjacency.Greeting.{Greeting}
-use Rattle.net_types.specs.declared.adjacency.Party.{Party}
-use Rattle.net_types.specs.Number.{next_control, with_control}
-use Rattle.adjacency_table.specs.declared.message.Answer.{Answer}
-use Rattle.adjacency_table.specs.declared.message.Answer.TheVariants.{Quiet, Send, Open, Reset}
-use Rattle.adjacency_table.specs.Side.{Step, is_estab, ticked}
-use Rattle.adjacency_table.specs.Greeting.{gsmp_answer, gsmp_received}
-use Rattle.atm_cells.specs.declared.cell.Cell.{Cell}
-use Rattle.gsmp_wire.specs.declared.fault.Fault.{Fault}
-use Rattle.gsmp_wire.specs.declared.message.Message.{Message}
-use Rattle.gsmp_wire.specs.declared.message.Message.TheVariants.{Adjacency, Branch as BranchMessage, Move, Port, AllPorts as AllPortsMessage}
-use Rattle.gsmp_wire.specs.declared.request.Request.{Request}
-use Rattle.gsmp_wire.specs.declared.request.Request.TheVariants.{AddBranch, MoveBranch, DeleteTree, VerifyTree, DeleteAll, PortManagement, AllPorts}
-use Rattle.gsmp_wire.specs.Layout.{octets_of as message_octets}
-use Rattle.gsmp_wire.specs.Fields.{decoded}
-use Rattle.link_model.specs.declared.frames.Frame.{Frame}
-use Rattle.link_model.specs.declared.record.Record.TheVariants.{Loss}
-use Rattle.link_model.specs.declared.record.Cause.TheVariants.{PoolFull}
-use Rattle.link_model.specs.Notes.{Journal, noted}
-use Rattle.frame_model.specs.Frame.{made, octets_of, last_mark, payload_in, passed, tested_by, frame_cells}
-use Rattle.frame_model.specs.Sending.{Sent}
-use Rattle.frame_model.specs.Reassembly.{Reassembly, Taken, taken, marks_of, broken, most_cells, passed_over, without_slot, too_long, joined}
-use Rattle.ordered_lists.specs.Ordered.{Every}
-use Rattle.ordered_lists.proofs.Every.{every_join}
-use Rattle.crossbar_model.specs.declared.branch.Branch.{Branch}
-use Rattle.crossbar_model.specs.declared.routed.Routed.{Routed}
-use Rattle.crossbar_model.specs.declared.routed.Routed.TheVariants as routes
-use Rattle.crossbar_model.specs.Crossbar.{Branches, Crossbar, same_end, new_branch, cut_by_move, output_of, input_of, unfinished_after, routed, switched_on}
-use Rattle.port_model.specs.Desk.{Standing}
+use Rattle.world_model.specs.Words.{End, PortNo, Mark, Greeting, Party, next_control, with_control, Answer, Quiet, Send, Open, Step, is_estab, ticked, gsmp_answer, gsmp_received, Cell, Move, Request, AddBranch, MoveBranch, DeleteTree, VerifyTree, PortManagement, Frame, Loss, PoolFull, Journal, noted, made, last_mark, payload_in, tested_by, frame_cells, Reassembly, marks_of, broken, most_cells, passed_over, without_slot, too_long, Routed, Branches, Crossbar, same_end, new_branch, cut_by_move, unfinished_after, routed, switched_on, Standing, Switch, control_port, gsmp_channel, Changed, noted_cut, added_by, added, moved_by, moved_to, ended_by, all_ended, inputs_on, branches_after, asked_in, is_request, failure_of, handled_by, handled_asked, handled, replied, requested, read, gsmp_cell, switched_cell, is_gsmp, tick_comes, restarted, gsmp_of, copy_by, copy_of, leads}
+use Rattle.world_model.specs.adjacency_table.declared.message.Answer.TheVariants.{Reset}
+use Rattle.world_model.specs.gsmp_wire.declared.fault.Fault.{Fault}
+use Rattle.world_model.specs.gsmp_wire.declared.message.Message.{Message}
+use Rattle.world_model.specs.gsmp_wire.declared.message.Message.TheVariants.{Adjacency, Branch as BranchMessage, Port, AllPorts as AllPortsMessage}
+use Rattle.world_model.specs.gsmp_wire.declared.request.Request.TheVariants.{DeleteAll, AllPorts}
+use Rattle.world_model.specs.gsmp_wire.Layout.{octets_of as message_octets}
+use Rattle.world_model.specs.gsmp_wire.Fields.{decoded}
+use Rattle.world_model.specs.frame_model.Frame.{octets_of, passed}
+use Rattle.world_model.specs.frame_model.Sending.{Sent}
+use Rattle.world_model.specs.frame_model.Reassembly.{Taken, taken, joined}
+use Rattle.world_views.specs.ordered_lists.Ordered.{Every}
+use Rattle.world_views.proofs.ordered_lists.Every.{every_join}
+use Rattle.world_model.specs.crossbar_model.declared.branch.Branch.{Branch}
+use Rattle.world_model.specs.crossbar_model.declared.routed.Routed.TheVariants as routes
+use Rattle.world_model.specs.crossbar_model.Crossbar.{output_of, input_of}
 use Rattle.world_model.specs.declared.request.Asked.{Asked}
 use Rattle.world_model.specs.declared.request.Failure.{Failure}
-use Rattle.world_model.specs.Switch.{Switch, Acted, control_port, gsmp_channel, free_slots}
-use Rattle.world_model.specs.Requests.{Changed, noted_cut, added_by, added, moved_by, moved_to, ended_by, ended, all_ended, inputs_on, cleared, branches_after, asked_in, is_request}
-use Rattle.world_model.specs.Failures.{failure_of}
-use Rattle.world_model.specs.Answers.{handled_by, handled_asked, handled}
-use Rattle.world_model.specs.Conduct.{with_cells, says, answers, steps, replied, requested, told, read, after_test, ends_frame, gsmp_cell, passed as passed_cell, switched_cell, is_gsmp, cell_comes, tick_comes, restarted}
-use Rattle.port_facts.proofs.Keyed.{on_both}
+use Rattle.world_model.specs.Switch.{Acted, free_slots}
+use Rattle.world_model.specs.Requests.{ended, cleared}
+use Rattle.world_model.specs.Conduct.{with_cells, says, answers, steps, told, after_test, ends_frame, passed as passed_cell, cell_comes}
+use Rattle.world_views.proofs.port_facts.Keyed.{on_both}
 use Rattle.causes.proofs.Maps.{same_input, insert_here, insert_away, remove_here, remove_away}
-use Rattle.world_model.specs.Ways.{told as heard, gsmp_of, copy_by, copy_of}
-use Rattle.world_model.specs.Users.{leads}
+use Rattle.world_model.specs.Ways.{told as heard}
 use Rattle.quiet_controllers.specs.Quiet.{AskTheSame}
 use Rattle.quiet_controllers.proofs.Asking.{cut_frames as chain_cut_frames}
 use Rattle.quiet_controllers.proofs.Events.{broken_frames, taken_frames, passed_frames}

@@ -4,46 +4,24 @@ use Rattle.std.proofs.Common.{◌≡◌, ◌≢◌, ℕ, ◌+◌, ◌<◌, ◌�
 use Rattle.std.specs.Prelude.{◌==◌, ◌&&◌, flat_map}
 use Rattle.std.specs.Option.{option_and_then}
 use Rattle.std.proofs.lemmas.Bool.Decides.{nat_tests}
-use Rattle.net_types.specs.declared.channel.End.{End}
-use Rattle.net_types.specs.declared.node.NodeId.{NodeId}
-use Rattle.net_types.specs.declared.node.Place.{Place}
-use Rattle.net_types.specs.declared.node.Place.TheVariants.{Down, Up, Out}
-use Rattle.net_types.specs.declared.number.Mark.{Mark}
-use Rattle.adjacency_table.specs.declared.message.Answer.TheVariants.{Reset}
-use Rattle.adjacency_table.specs.Side.{ticked}
-use Rattle.atm_cells.specs.declared.cell.Cell.{Cell}
-use Rattle.link_model.specs.declared.frames.Frame.{Frame}
-use Rattle.link_model.specs.declared.record.Refusal.{Refusal}
-use Rattle.keyed_lists.specs.Keyed.{at}
-use Rattle.port_facts.proofs.Keyed.{at_key}
-use Rattle.port_model.specs.Desk.{Standing}
+use Rattle.world_model.specs.Words.{End, NodeId, Place, Down, Up, Out, Mark, ticked, Cell, Frame, Refusal, at, Standing, control_port, inputs_at, inject_refusal, injected, node_restarts, change_comes, RouteChange, Journal, GivenOut, Topology, World, Site, site_key, site_at, place_node, queue_in, queue_at, with_queue_in, with_queue_of, with_queue, put_away, step, injects_by, arrives_at, carries_head, loses_head, gsmp_of, copy_of, copy_under, requests_chain_at, answers_chain_at, leads}
+use Rattle.world_model.specs.adjacency_table.declared.message.Answer.TheVariants.{Reset}
+use Rattle.world_views.proofs.port_facts.Keyed.{at_key}
 use Rattle.world_model.specs.Switch as switches
-use Rattle.world_model.specs.Switch.{control_port}
 use Rattle.world_model.specs.Conduct as conduct
 use Rattle.world_model.specs.Controller.{Acted}
 use Rattle.world_model.specs.Cells as controller_cells
-use Rattle.world_model.specs.Joins.{inputs_at}
-use Rattle.world_model.specs.Packets.{inject_refusal, injected}
 use Rattle.world_model.specs.Ticks as controller_ticks
-use Rattle.world_model.specs.Resets.{node_restarts}
-use Rattle.world_model.specs.Changes.{change_comes}
-use Rattle.controller_facts.proofs.Moves.{HasPorts, Moves}
-use Rattle.controller_facts.proofs.Performing.{node_restarts_goes}
-use Rattle.controller_facts.proofs.Joining.{change_comes_goes}
-use Rattle.controller_facts.proofs.Events.{routes_goes, cell_comes_goes, controller_ticks_goes}
-use Rattle.ipv4_forward.specs.declared.change.RouteChange.{RouteChange}
-use Rattle.link_model.specs.Notes.{Journal}
-use Rattle.net_types.specs.Number.{GivenOut}
+use Rattle.world_views.proofs.controller_facts.Moves.{HasPorts, Moves}
+use Rattle.world_views.proofs.controller_facts.Performing.{node_restarts_goes}
+use Rattle.world_views.proofs.controller_facts.Joining.{change_comes_goes}
+use Rattle.world_views.proofs.controller_facts.Events.{routes_goes, cell_comes_goes, controller_ticks_goes}
 use Rattle.world_model.specs.declared.event.Event.{Event}
 use Rattle.world_model.specs.declared.event.Event.TheVariants.{Inject, Carry, Lose, Tick, TickSwitch, Restart, RestartSwitch, Forge, Route}
 use Rattle.world_model.specs.declared.link.LinkEnd.{LinkEnd}
-use Rattle.world_model.specs.Topology.{Topology, peer_of}
-use Rattle.world_model.specs.World.{World, Site, site_key, site_at, at_controller, at_switch}
-use Rattle.world_model.specs.Places.{place_node, queue_in, queue_at, with_queue_in, with_queue_of, with_queue}
-use Rattle.world_model.specs.Run.{put_away}
-use Rattle.world_model.specs.Step.{step, acts, injects_by, arrives_at, carries_head, loses_head}
-use Rattle.world_model.specs.Ways.{gsmp_of, copy_of, copy_under, requests_chain_at, answers_chain_at}
-use Rattle.world_model.specs.Users.{leads}
+use Rattle.world_model.specs.Topology.{peer_of}
+use Rattle.world_model.specs.World.{at_controller, at_switch}
+use Rattle.world_model.specs.Step.{acts}
 use Rattle.quiet_controllers.specs.Quiet.{IsQuiet, Enters}
 use Rattle.quiet_controllers.specs.Law.{IsAtWork, Asks, by_desk, by_cell, before_joins}
 use Rattle.quiet_controllers.proofs.Beginning.{begins_quiet}
@@ -54,7 +32,7 @@ use Rattle.world_views.specs.Pairs.{Pairs, by_branch, by_desk as pair_desk, by_c
 use Rattle.world_views.specs.Between.{EachSite, setups_of}
 use Rattle.pairs.specs.Events.{EntersAt, IsAtDesk, CarriesHonestly, IsHonest, EventsMakeNoPairs}
 use Rattle.pairs.proofs.SitePairs.{first_of, in_left, desk, queue, to_pairs, of_pairs, put_there, gathered_by, waiting_by}
-use Rattle.controller_facts.proofs.Nodes.{moves_node}
+use Rattle.world_views.proofs.controller_facts.Nodes.{moves_node}
 use Rattle.pairs.proofs.Branches.{IsLed, cell_led, tick_led, restart_led}
 use Rattle.pairs.proofs.Acts.{HasMarks, Sited, put_sited, Fits, loses, May, IsGood, controller_sited, controller_here, switch_sited, switch_here, begins_led, queue_sited, marks_less, marks_sited}
 

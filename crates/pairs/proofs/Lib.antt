@@ -1,3 +1,4 @@
+pub use Rattle.quiet_controllers.proofs as quiet_controllers
 pub mod Branches
 pub mod SitePairs
 pub mod Opening

@@ -3,18 +3,13 @@
 use Rattle.std.proofs.Common.{◌≡◌, ℕ, suc, List, [], ◌∷◌, None, refl, sym, ◌∙◌, ap, subst, arith, Contains}
 use Rattle.std.specs.FinMap.{get-empty}
 use Rattle.std.specs.Option.{option_map}
-use Rattle.net_types.specs.declared.channel.End.{End}
-use Rattle.net_types.specs.declared.node.NodeId.{NodeId}
-use Rattle.ordered_lists.specs.Ordered.{Every}
-use Rattle.crossbar_model.specs.declared.branch.Branch.{Branch}
-use Rattle.crossbar_model.specs.Channels.{end_cmp}
-use Rattle.crossbar_model.specs.Crossbar.{output_of}
-use Rattle.link_model.specs.declared.frames.Frame.{Frame}
-use Rattle.port_model.specs.Setup.{Policy}
-use Rattle.world_model.specs.Topology.{Topology, Node}
-use Rattle.world_model.specs.World.{World, Site, site_key, opened, opened_site, with_opened, opens_each, empty_world}
+use Rattle.world_model.specs.Words.{End, NodeId, end_cmp, Frame, Policy, Topology, Node, World, Site, site_key, opened_site, with_opened, opens_each, empty_world}
+use Rattle.world_views.specs.ordered_lists.Ordered.{Every}
+use Rattle.world_model.specs.crossbar_model.declared.branch.Branch.{Branch}
+use Rattle.world_model.specs.crossbar_model.Crossbar.{output_of}
+use Rattle.world_model.specs.World.{opened}
 use Rattle.pairs.proofs.SitePairs.{SitePairs, branch, desk, chain, queue, of_pairs}
-use Rattle.port_facts.proofs.Keyed.{at_every, every_more}
+use Rattle.world_views.proofs.port_facts.Keyed.{at_every, every_more}
 use Rattle.world_views.specs.Pairs.{Pairs}
 
 -- *A site* that leads nothing

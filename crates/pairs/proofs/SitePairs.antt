@@ -3,22 +3,9 @@
 use Rattle.std.proofs.Common.{◌≡◌, ℕ, zero, suc, Bool, true, false, List, [], ◌∷◌, ◌++◌, Option, None, Some, refl, sym, ◌∙◌, ap, subst, arith, Contains, if◌then◌else◌}
 use Rattle.std.specs.Prelude.{filter, option_map}
 use Rattle.std.specs.Option.{option_map_or, option_and_then}
-use Rattle.net_types.specs.declared.channel.End.{End}
-use Rattle.net_types.specs.declared.node.NodeId.{NodeId}
-use Rattle.net_types.specs.declared.node.Place.{Place}
-use Rattle.net_types.specs.declared.node.Place.TheVariants.{Down}
-use Rattle.atm_cells.specs.declared.cell.Cell.{Cell}
-use Rattle.link_model.specs.declared.frames.Frame.{Frame}
-use Rattle.keyed_lists.specs.Keyed.{at, put}
-use Rattle.port_facts.proofs.Keyed.{at_key, at_put_same}
-use Rattle.crossbar_model.specs.Crossbar.{output_of}
-use Rattle.port_model.specs.Desk.{Standing}
-use Rattle.world_model.specs.Controller.{Controller, default_channel}
-use Rattle.world_model.specs.Cells.{same_channel}
-use Rattle.world_model.specs.World.{World, Site, site_key, site_at}
-use Rattle.world_model.specs.Places.{queue_in, queue_at}
-use Rattle.world_model.specs.Ways.{requests_chain_at, on_channel, copy_under}
-use Rattle.world_model.specs.Users.{leads}
+use Rattle.world_model.specs.Words.{End, NodeId, Place, Down, Cell, Frame, at, put, Standing, Controller, default_channel, same_channel, World, Site, site_key, site_at, queue_in, queue_at, requests_chain_at, on_channel, copy_under, leads}
+use Rattle.world_views.proofs.port_facts.Keyed.{at_key, at_put_same}
+use Rattle.world_model.specs.crossbar_model.Crossbar.{output_of}
 use Rattle.world_views.specs.Pairs.{Pairs, by_branch, by_desk, by_copy}
 use Rattle.quiet_controllers.proofs.Beginning.{in_tail}
 

@@ -1,19 +1,11 @@
 -- That each answer of a switch settles what may be joined
 
 use Rattle.std.specs.Prelude.{◌≡◌, List, ◌∷◌, Some}
-use Rattle.net_types.specs.declared.node.NodeId.{NodeId}
-use Rattle.net_types.specs.declared.node.Place.TheVariants.{Up}
-use Rattle.atm_cells.specs.declared.cell.Cell.{Cell}
-use Rattle.crossbar_model.specs.Crossbar.{queue_of}
-use Rattle.world_model.specs.Switch.{control_port}
-use Rattle.label_line.specs.Cells.{Upstream}
-use Rattle.port_model.specs.Setup.{Policy}
-use Rattle.port_views.specs.Link.{LinkLabel}
+use Rattle.world_model.specs.Words.{NodeId, Up, Cell, queue_of, control_port, Policy, Topology, Site, site_at, past_of}
+use Rattle.world_views.specs.label_line.Cells.{Upstream}
+use Rattle.world_views.specs.port_views.Link.{LinkLabel}
 use Rattle.world_model.specs.declared.event.Event.{Event}
 use Rattle.world_model.specs.declared.event.Event.TheVariants.{Carry}
-use Rattle.world_model.specs.Topology.{Topology}
-use Rattle.world_model.specs.World.{Site, site_at}
-use Rattle.world_model.specs.Past.{past_of}
 use Rattle.world_views.specs.Pairs.{IsLike}
 use Rattle.world_views.specs.Between.{IsWorld, IsLinkLabel}
 use Rattle.world_views.specs.Kept.{Comes, behind}

@@ -1,31 +1,19 @@
 -- Which labels are joined, or may be, behind an event: those that were before it, and at a tick those of the joins that it enters
 
 use Rattle.std.specs.Prelude.{◌≡◌, ◌≢◌, ℕ, ◌<◌, ◌≤◌, ◌⊎◌, true, nat_lt, List, [], ◌∷◌, None, Some}
-use Rattle.net_types.specs.declared.channel.End.{End}
-use Rattle.net_types.specs.declared.node.NodeId.{NodeId}
-use Rattle.net_types.specs.declared.node.Place.{Place}
-use Rattle.net_types.specs.declared.node.Place.TheVariants.{Down, Up, Out}
-use Rattle.net_types.specs.declared.number.Mark.{Mark}
-use Rattle.atm_cells.specs.declared.cell.Cell.{Cell}
-use Rattle.link_model.specs.Ledger.{payload_of}
-use Rattle.frame_model.specs.Frame.{octets_of, payload_in}
-use Rattle.frame_model.specs.Reassembly.{taken}
-use Rattle.ordered_lists.specs.Ordered.{Every}
-use Rattle.port_model.specs.Desk.{Standing, last_transaction}
-use Rattle.world_model.specs.Switch.{control_port, free_slots}
-use Rattle.world_model.specs.Conduct.{is_gsmp}
-use Rattle.controller_facts.specs.Sound.{ArePorts, AreShaped}
+use Rattle.world_model.specs.Words.{End, NodeId, Place, Down, Up, Out, Mark, Cell, payload_of, payload_in, Standing, last_transaction, control_port, is_gsmp, Topology, World, Site, site_at, queue_at, put_away, next, copy_under}
+use Rattle.world_model.specs.frame_model.Frame.{octets_of}
+use Rattle.world_model.specs.frame_model.Reassembly.{taken}
+use Rattle.world_views.specs.ordered_lists.Ordered.{Every}
+use Rattle.world_model.specs.Switch.{free_slots}
+use Rattle.world_views.specs.controller_facts.Sound.{ArePorts, AreShaped}
 use Rattle.quiet_controllers.specs.Quiet.{AreRead}
 use Rattle.quiet_controllers.specs.Heard.{LeadsToLinks, CanCome}
 use Rattle.quiet_controllers.specs.Law.{TickEnters}
 use Rattle.world_model.specs.declared.event.Event.{Event}
 use Rattle.world_model.specs.declared.event.Event.TheVariants.{Carry, Tick, Forge}
 use Rattle.world_model.specs.declared.link.LinkEnd.{LinkEnd}
-use Rattle.world_model.specs.Topology.{Topology, peer_of}
-use Rattle.world_model.specs.World.{World, Site, site_at}
-use Rattle.world_model.specs.Places.{queue_at}
-use Rattle.world_model.specs.Run.{put_away, next}
-use Rattle.world_model.specs.Ways.{copy_under}
+use Rattle.world_model.specs.Topology.{peer_of}
 use Rattle.world_views.specs.Shown.{acting}
 use Rattle.world_views.specs.Pairs.{Pairs}
 use Rattle.world_views.specs.Between.{EachSite, HasNumbers, setups_of}

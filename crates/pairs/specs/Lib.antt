@@ -1,3 +1,4 @@
+pub use Rattle.quiet_controllers.specs as quiet_controllers
 pub mod Events
 pub mod Past
 pub mod Settles

@@ -1,10 +1,8 @@
 -- Which labels are joined, or may be, behind each event of a run before the first frame that was forged or passed by chance
 
 use Rattle.std.specs.Prelude.{List}
-use Rattle.port_model.specs.Setup.{Policy}
+use Rattle.world_model.specs.Words.{Policy, Topology, past_of}
 use Rattle.world_model.specs.declared.event.Event.{Event}
-use Rattle.world_model.specs.Topology.{Topology}
-use Rattle.world_model.specs.Past.{past_of}
 use Rattle.world_views.specs.Between.{IsWorld}
 use Rattle.world_views.specs.Kept.{Comes, behind}
 use Rattle.pairs.specs.Events.{HasOldPairs}

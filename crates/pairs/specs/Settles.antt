@@ -2,20 +2,10 @@
 -- answer releases them
 
 use Rattle.std.specs.Prelude.{◌≡◌, true, false, List, Some}
-use Rattle.net_types.specs.declared.channel.End.{End}
-use Rattle.atm_cells.specs.declared.cell.Cell.{Cell}
-use Rattle.gsmp_wire.specs.declared.message.Message.{Message}
-use Rattle.link_model.specs.declared.frames.Frame.{Frame}
-use Rattle.port_model.specs.Requests.{leads_home}
-use Rattle.port_model.specs.Desk.{Standing}
-use Rattle.port_model.specs.DeskAnswers.{Done, answered, after_answer}
-use Rattle.port_model.specs.Setup.{home_of, label_end}
-use Rattle.world_model.specs.Controller.{Controller}
-use Rattle.world_model.specs.Cells.{ForGsmp, taker_of}
-use Rattle.world_model.specs.Meeting.{is_deleting, has_emptied}
-use Rattle.label_line.specs.Cells.{Upstream}
-use Rattle.port_views.specs.Link.{LinkLabel}
-use Rattle.world_model.specs.Ways.{gsmp_under}
+use Rattle.world_model.specs.Words.{End, Cell, Frame, leads_home, Standing, Done, answered, after_answer, home_of, label_end, Controller, ForGsmp, taker_of, is_deleting, has_emptied, gsmp_under}
+use Rattle.world_model.specs.gsmp_wire.declared.message.Message.{Message}
+use Rattle.world_views.specs.label_line.Cells.{Upstream}
+use Rattle.world_views.specs.port_views.Link.{LinkLabel}
 use Rattle.world_views.specs.Pairs.{IsJoin}
 
 -- an input is joined to the label, and a request that is answered doesn't lead it to the control link

@@ -1,14 +1,11 @@
 -- broken frames stand beside their causes, where all is so at each front of a run
 
 use Rattle.std.proofs.Common.{List}
-use Rattle.port_model.specs.Setup.{Policy}
+use Rattle.world_model.specs.Words.{Policy, Topology, world_after, past_of}
 use Rattle.world_model.specs.declared.event.Event.{Event}
-use Rattle.world_model.specs.Topology.{Topology}
 use Rattle.world_model.specs.World.{opened}
-use Rattle.world_model.specs.Run.{world_after}
-use Rattle.world_model.specs.Past.{past_of}
-use Rattle.world_views.specs.Pairs.{by_branch}
-use Rattle.world_views.specs.Between.{IsWorld}
+use Rattle.fed_worlds.specs.world_views.Pairs.{by_branch}
+use Rattle.fed_worlds.specs.world_views.Between.{IsWorld}
 use Rattle.fed_worlds.specs.Feeding.{IsFedWorld, CausesInRuns}
 use Rattle.passed_cells.specs.Passed.{BreaksHaveCauses}
 

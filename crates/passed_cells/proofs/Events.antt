@@ -4,64 +4,40 @@ use Rattle.std.proofs.Common.{◌≡◌, ℕ, ◌+◌, ◌<◌, ◌≤◌, Bool,
 use Rattle.std.specs.Prelude.{nat_lt, ◌==◌, ◌&&◌}
 use Rattle.std.specs.Option.{option_and_then}
 use Rattle.std.proofs.lemmas.Bool.Decides.{nat_tests}
-use Rattle.net_types.specs.declared.channel.Channel.{Channel}
-use Rattle.net_types.specs.declared.channel.End.{End}
-use Rattle.net_types.specs.declared.node.NodeId.{NodeId}
-use Rattle.net_types.specs.declared.node.PortNo.{PortNo}
-use Rattle.net_types.specs.declared.node.Place.{Place}
-use Rattle.net_types.specs.declared.node.Place.TheVariants.{Down, Up, Out}
-use Rattle.net_types.specs.declared.number.Mark.{Mark}
-use Rattle.net_types.specs.Label.{is_label_number, number_of_channel}
-use Rattle.net_types.specs.Number.{GivenOut}
-use Rattle.net_types.proofs.Labels.{number_of_channel-label_channel_of}
-use Rattle.ipv4_packet.specs.Packet.{protocol_of}
-use Rattle.atm_cells.specs.declared.cell.Cell.{Cell}
-use Rattle.link_model.specs.declared.frames.Frame.{Frame}
-use Rattle.link_model.specs.declared.record.Refusal.{Refusal}
-use Rattle.link_model.specs.Ledger.{payload_of}
-use Rattle.link_model.specs.Notes.{Journal}
-use Rattle.frame_model.specs.Frame.{octets_of, payload_in, last_mark}
-use Rattle.frame_model.specs.Reassembly.{taken}
-use Rattle.keyed_lists.specs.Keyed.{at}
-use Rattle.port_facts.proofs.Keyed.{at_key}
-use Rattle.port_model.specs.Setup.{Setup, label_end, home_of, control_end}
-use Rattle.port_model.specs.Grants.{Grant}
-use Rattle.port_model.specs.Desk.{Standing}
+use Rattle.world_model.specs.Words.{Channel, End, NodeId, PortNo, Place, Down, Up, Out, Mark, is_label_number, number_of_channel, GivenOut, protocol_of, Cell, Frame, Refusal, payload_of, Journal, payload_in, last_mark, at, Setup, label_end, home_of, control_end, Grant, Standing, control_port, Controller, default_channel, ForGsmp, ForDefault, ForLabel, same_channel, taker_of, reassembly_of, with_reassembly, inject_refusal, injected, grant_by, control_protocol, node_restarts, change_comes, Topology, World, Site, site_key, site_at, controller_acts, switch_acts, place_node, queue_in, queue_at, with_queue_in, with_queue_of, with_queue, injects_by, arrives_at, carries_head, loses_head, gsmp_of, copy_of, copy_under, requests_chain_at, answers_chain_at, leads}
+use Rattle.world_model.proofs.net_types.Labels.{number_of_channel-label_channel_of}
+use Rattle.world_model.specs.frame_model.Frame.{octets_of}
+use Rattle.world_model.specs.frame_model.Reassembly.{taken}
+use Rattle.fed_worlds.proofs.port_facts.Keyed.{at_key}
 use Rattle.world_model.specs.Switch as switches
-use Rattle.world_model.specs.Switch.{control_port, free_slots}
+use Rattle.world_model.specs.Switch.{free_slots}
 use Rattle.world_model.specs.Conduct as conduct
 use Rattle.world_model.specs.Controller as controllers
-use Rattle.world_model.specs.Controller.{Controller, Acted, default_channel}
+use Rattle.world_model.specs.Controller.{Acted}
 use Rattle.world_model.specs.Cells as controller_cells
-use Rattle.world_model.specs.Cells.{Taker, ForGsmp, ForDefault, ForLabel, same_channel, taker_of, reassembly_of, with_reassembly}
-use Rattle.world_model.specs.Packets.{inject_refusal, injected, grant_by, control_protocol}
+use Rattle.world_model.specs.Cells.{Taker}
 use Rattle.world_model.specs.Ticks as controller_ticks
-use Rattle.world_model.specs.Resets.{node_restarts}
-use Rattle.world_model.specs.Changes.{change_comes}
-use Rattle.controller_facts.proofs.Moves.{HasPorts, Moves}
-use Rattle.controller_facts.proofs.Performing.{node_restarts_goes}
-use Rattle.controller_facts.proofs.Joining.{change_comes_goes}
-use Rattle.controller_facts.proofs.Events.{routes_goes, cell_comes_goes, controller_ticks_goes}
+use Rattle.fed_worlds.proofs.controller_facts.Moves.{HasPorts, Moves}
+use Rattle.fed_worlds.proofs.controller_facts.Performing.{node_restarts_goes}
+use Rattle.fed_worlds.proofs.controller_facts.Joining.{change_comes_goes}
+use Rattle.fed_worlds.proofs.controller_facts.Events.{routes_goes, cell_comes_goes, controller_ticks_goes}
 use Rattle.packet_worlds.proofs.Walk.{node_restarts_kept, change_comes_kept, ticks_kept}
-use Rattle.frame_readings.specs.Reading.{Holds, sent, told as was_told}
-use Rattle.frame_readings.proofs.Reading.{read_default}
-use Rattle.frame_readings.proofs.Packets.{is_heard}
+use Rattle.running_worlds.specs.frame_readings.Reading.{Holds, sent, told as was_told}
+use Rattle.running_worlds.proofs.frame_readings.Reading.{read_default}
+use Rattle.running_worlds.proofs.frame_readings.Packets.{is_heard}
 use Rattle.world_model.specs.declared.event.Event.{Event}
 use Rattle.world_model.specs.declared.event.Event.TheVariants.{Inject, Carry, Lose, Tick, TickSwitch, Restart, RestartSwitch, Forge, Route}
 use Rattle.world_model.specs.declared.link.LinkEnd.{LinkEnd}
-use Rattle.world_model.specs.Topology.{Topology, peer_of}
-use Rattle.world_model.specs.World.{World, Site, site_key, site_at, controller_acts, at_controller, switch_acts, at_switch}
-use Rattle.world_model.specs.Places.{place_node, queue_in, queue_at, with_queue_in, with_queue_of, with_queue}
-use Rattle.world_model.specs.Step.{acts, injects_by, arrives_at, carries_head, loses_head}
-use Rattle.world_model.specs.Ways.{gsmp_of, copy_of, copy_under, requests_chain_at, answers_chain_at}
-use Rattle.world_model.specs.Users.{leads}
-use Rattle.world_views.specs.Ready.{setups_of}
-use Rattle.world_views.specs.Shown.{acting}
-use Rattle.world_views.specs.Pairs.{Pairs}
-use Rattle.world_views.specs.Tied.{waiting_on}
+use Rattle.world_model.specs.Topology.{peer_of}
+use Rattle.world_model.specs.World.{at_controller, at_switch}
+use Rattle.world_model.specs.Step.{acts}
+use Rattle.fed_worlds.specs.world_views.Ready.{setups_of}
+use Rattle.fed_worlds.specs.world_views.Shown.{acting}
+use Rattle.fed_worlds.specs.world_views.Pairs.{Pairs}
+use Rattle.fed_worlds.specs.world_views.Tied.{waiting_on}
 use Rattle.running_worlds.proofs.MadeCells as made_cells
 use Rattle.pairs.proofs.SitePairs.{first_of, in_left, in_either, to_pairs, put_there, gathered_by, waiting_by}
-use Rattle.controller_facts.proofs.Nodes.{moves_node}
+use Rattle.fed_worlds.proofs.controller_facts.Nodes.{moves_node}
 use Rattle.pairs.proofs.Branches.{IsLed, cell_led, tick_led, restart_led}
 use Rattle.pairs.proofs.Acts.{HasMarks, Sited, put_sited, marks_less, marks_sited, is_zero}
 use Rattle.pairs.proofs.Events.{one_more}

@@ -4,28 +4,20 @@ use Rattle.std.proofs.Common.{◌≡◌, ℕ, ◌+◌, ◌<◌, ◌≤◌, Bool,
 use Rattle.std.specs.Prelude.{◌==◌, ◌&&◌, ◌*◌, ◌/◌, ◌%◌, nat_le, nat_lt}
 use Rattle.std.specs.Option.{option_and_then}
 use Rattle.std.proofs.lemmas.Bool.Decides.{nat_tests}
-use Rattle.net_types.specs.declared.node.PortNo.{PortNo}
-use Rattle.net_types.specs.declared.channel.Channel.{Channel}
-use Rattle.net_types.specs.declared.channel.End.{End}
-use Rattle.net_types.specs.Label.{is_label_number, number_of_channel}
-use Rattle.ordered_lists.specs.Ordered.{Every}
-use Rattle.keyed_lists.specs.Keyed.{at, put}
-use Rattle.link_model.specs.Notes.{Journal}
-use Rattle.frame_model.specs.Reassembly.{Reassembly}
-use Rattle.port_facts.proofs.Keyed.{at_every, at_key, each_found}
-use Rattle.port_facts.specs.Port.{IsGrant}
-use Rattle.port_model.specs.Setup.{Setup, control_end}
-use Rattle.port_model.specs.Port.{Port}
-use Rattle.port_model.specs.Grants.{Grant, GrantState, Idle, ByController, ByInput, Leaving, grant_label, is_by_controller, input_of, grant_matching}
-use Rattle.world_model.specs.Controller.{Controller, Acted, Linked, port_key, linked_at, with_linked, chains_with}
-use Rattle.world_model.specs.Cells.{Taker, ForGsmp, ForDefault, ForLabel, same_channel, port_on, taker_of, with_reassembly}
-use Rattle.world_model.specs.Packets.{grant_by}
-use Rattle.controller_facts.specs.Sound.{IsSound, IsLinkedPort, IsShutLinked}
-use Rattle.controller_facts.proofs.Joining.{every_both}
-use Rattle.lifetimes.proofs.Joining.{IsUsed, matching_used}
-use Rattle.lifetimes.proofs.Events.{Belongs, taker_belongs}
-use Rattle.world_views.specs.Pairs.{IsJoin}
-use Rattle.world_views.proofs.Put.{found_put}
+use Rattle.world_model.specs.Words.{PortNo, Channel, End, is_label_number, number_of_channel, at, put, Journal, Reassembly, Setup, control_end, Grant, GrantState, Idle, ByController, ByInput, Leaving, grant_label, is_by_controller, grant_matching, Controller, Linked, port_key, linked_at, with_linked, chains_with, ForGsmp, ForDefault, ForLabel, same_channel, port_on, taker_of, with_reassembly, grant_by}
+use Rattle.fed_worlds.specs.ordered_lists.Ordered.{Every}
+use Rattle.fed_worlds.proofs.port_facts.Keyed.{at_every, at_key, each_found}
+use Rattle.fed_worlds.specs.port_facts.Port.{IsGrant}
+use Rattle.world_model.specs.port_model.Port.{Port}
+use Rattle.world_model.specs.port_model.Grants.{input_of}
+use Rattle.world_model.specs.Controller.{Acted}
+use Rattle.world_model.specs.Cells.{Taker}
+use Rattle.fed_worlds.specs.controller_facts.Sound.{IsSound, IsLinkedPort, IsShutLinked}
+use Rattle.fed_worlds.proofs.controller_facts.Joining.{every_both}
+use Rattle.fed_worlds.proofs.lifetimes.Joining.{IsUsed, matching_used}
+use Rattle.fed_worlds.proofs.lifetimes.Events.{Belongs, taker_belongs}
+use Rattle.fed_worlds.specs.world_views.Pairs.{IsJoin}
+use Rattle.fed_worlds.proofs.world_views.Put.{found_put}
 
 -- *Two channels* of the control link
 label_vci : (n : ℕ) → is_label_number n ≡ true → (n / 1024 < 16) × (32 ≤ n % 1024)

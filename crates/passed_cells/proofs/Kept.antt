@@ -2,37 +2,26 @@
 
 use Rattle.std.proofs.Common.{◌≡◌, ◌<◌, List, Some, sym, subst, inl, inr}
 use Rattle.std.specs.Prelude.{nat_lt}
-use Rattle.net_types.specs.declared.channel.End.{End}
-use Rattle.net_types.specs.declared.node.NodeId.{NodeId}
-use Rattle.net_types.specs.declared.node.Place.TheVariants.{Down, Up, Out}
-use Rattle.net_types.specs.declared.number.Mark.{Mark}
-use Rattle.net_types.specs.Label.{number_of_channel}
-use Rattle.link_model.specs.Ledger.{payload_of}
-use Rattle.frame_model.specs.Reassembly.{taken}
-use Rattle.port_model.specs.Setup.{Policy}
+use Rattle.world_model.specs.Words.{End, NodeId, Down, Up, Out, Mark, number_of_channel, payload_of, Policy, reassembly_of, Topology, World, Site, site_at, put_away, next, past_of}
+use Rattle.world_model.specs.frame_model.Reassembly.{taken}
 use Rattle.world_model.specs.Switch as switches
 use Rattle.world_model.specs.Controller as controllers
-use Rattle.world_model.specs.Cells.{reassembly_of}
-use Rattle.controller_facts.proofs.Laws.{has_ports}
+use Rattle.fed_worlds.proofs.controller_facts.Laws.{has_ports}
 use Rattle.world_model.specs.declared.event.Event.{Event}
 use Rattle.world_model.specs.declared.event.Event.TheVariants.{Inject, Carry, Lose, Tick, TickSwitch, Restart, RestartSwitch, Forge, Route}
-use Rattle.world_model.specs.Topology.{Topology}
-use Rattle.world_model.specs.World.{World, Site, site_at}
 use Rattle.world_model.specs.Step.{acts}
-use Rattle.world_model.specs.Run.{put_away, next}
-use Rattle.world_model.specs.Past.{past_of}
-use Rattle.frame_readings.proofs.Reading.{no_copy}
-use Rattle.run_facts.specs.Nodes.{RunsHaveNodes}
-use Rattle.run_facts.specs.Steps.{RunsHaveFronts, EventsAreSteps}
+use Rattle.running_worlds.proofs.frame_readings.Reading.{no_copy}
+use Rattle.running_worlds.specs.run_facts.Nodes.{RunsHaveNodes}
+use Rattle.running_worlds.specs.run_facts.Steps.{RunsHaveFronts, EventsAreSteps}
 use Rattle.running_worlds.proofs.Taken.{ended_mark}
 use Rattle.running_worlds.proofs.Kept.{ControllersPass, SwitchesPass, given}
-use Rattle.world_views.specs.Ready.{setups_of}
-use Rattle.world_views.specs.Made.{AreMade}
-use Rattle.world_views.specs.Pairs.{Pairs, by_branch, by_desk, by_copy}
-use Rattle.world_views.specs.Shown.{acting}
-use Rattle.world_views.specs.Tied.{HasPassed}
-use Rattle.world_views.specs.Between.{IsWorld, EachSite, HasShapes, HasAllShapes, HasAllMade}
-use Rattle.world_views.specs.Kept.{Comes, Keeps, behind}
+use Rattle.fed_worlds.specs.world_views.Ready.{setups_of}
+use Rattle.fed_worlds.specs.world_views.Made.{AreMade}
+use Rattle.fed_worlds.specs.world_views.Pairs.{Pairs, by_branch, by_desk, by_copy}
+use Rattle.fed_worlds.specs.world_views.Shown.{acting}
+use Rattle.fed_worlds.specs.world_views.Tied.{HasPassed}
+use Rattle.fed_worlds.specs.world_views.Between.{IsWorld, EachSite, HasShapes, HasAllShapes, HasAllMade}
+use Rattle.fed_worlds.specs.world_views.Kept.{Comes, Keeps, behind}
 use Rattle.pairs.specs.Events.{EntersAt}
 use Rattle.pairs.proofs.Acts.{Sited}
 use Rattle.pairs.specs.Past.{RunsMakeNoPairs}

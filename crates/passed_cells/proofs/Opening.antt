@@ -3,20 +3,14 @@
 use Rattle.std.proofs.Common.{◌≡◌, ℕ, suc, List, [], ◌∷◌, Some, refl, sym, ◌∙◌, ap, subst, arith, Contains}
 use Rattle.std.specs.Option.{option_map}
 use Rattle.std.specs.FinMap.{empty, get-empty}
-use Rattle.net_types.specs.declared.channel.End.{End}
-use Rattle.atm_cells.specs.declared.cell.Cell.{Cell}
-use Rattle.keyed_lists.specs.Keyed.{at}
-use Rattle.link_model.specs.declared.frames.Frame.{Frame}
-use Rattle.ordered_lists.specs.Ordered.{Every}
-use Rattle.crossbar_model.specs.Channels.{end_cmp}
-use Rattle.crossbar_model.specs.declared.branch.Branch.{Branch}
-use Rattle.crossbar_model.specs.Crossbar.{Branches, output_of}
-use Rattle.port_facts.proofs.Keyed.{at_every, every_more}
-use Rattle.port_model.specs.Setup.{Policy}
-use Rattle.world_model.specs.Topology.{Topology, Node}
-use Rattle.world_model.specs.World.{World, Site, site_key, opened_site, opened, opens_each, with_opened, empty_world}
-use Rattle.world_views.specs.Between.{HasAllPassed}
-use Rattle.world_views.specs.Kept.{Begins}
+use Rattle.world_model.specs.Words.{End, Cell, at, Frame, end_cmp, Branches, Policy, Topology, Node, World, Site, site_key, opened_site, opens_each, with_opened, empty_world}
+use Rattle.fed_worlds.specs.ordered_lists.Ordered.{Every}
+use Rattle.world_model.specs.crossbar_model.declared.branch.Branch.{Branch}
+use Rattle.world_model.specs.crossbar_model.Crossbar.{output_of}
+use Rattle.fed_worlds.proofs.port_facts.Keyed.{at_every, every_more}
+use Rattle.world_model.specs.World.{opened}
+use Rattle.fed_worlds.specs.world_views.Between.{HasAllPassed}
+use Rattle.fed_worlds.specs.world_views.Kept.{Begins}
 use Rattle.passed_cells.specs.Passed.{HasRequests}
 use Rattle.passed_cells.proofs.Sites.{SitePassed}
 use Rattle.passed_cells.proofs.Runs.{to_passed, to_requests, split}

@@ -2,24 +2,11 @@
 
 use Rattle.std.proofs.Common.{◌≡◌, ℕ, ◌<◌, List, [], ◌∷◌, ◌++◌, Option, None, Some, refl, sym, ◌∙◌, ap, subst, arith, Contains}
 use Rattle.std.specs.Prelude.{◌&&◌, Bool, true, false}
-use Rattle.net_types.specs.declared.channel.End.{End}
-use Rattle.net_types.specs.declared.node.NodeId.{NodeId}
-use Rattle.net_types.specs.declared.node.Place.TheVariants.{Down}
-use Rattle.net_types.specs.Label.{is_label_number}
-use Rattle.atm_cells.specs.declared.cell.Cell.{Cell}
-use Rattle.gsmp_wire.specs.declared.request.Request.{Request}
-use Rattle.port_model.specs.Desk.{Standing}
-use Rattle.port_facts.specs.Port.{IsLabelEnd, IsShaped, asks_ports, empties_control, empties_port, opens_input, opens_output, leads_label, leads_grant, joins_label, parts_label, frees_label}
-use Rattle.port_model.specs.Setup.{Setup, home_of, label_end}
-use Rattle.world_model.specs.Controller.{default_channel}
-use Rattle.world_model.specs.Cells.{same_channel}
-use Rattle.world_model.specs.World.{World, Site, site_at}
-use Rattle.world_model.specs.Places.{queue_at}
-use Rattle.world_model.specs.Ways.{requests_chain_at, on_channel, copy_under}
-use Rattle.world_model.specs.Users.{leads}
-use Rattle.world_views.specs.Between.{IsShapedBranch, home, out, joined, EachSite, HasShapes, setups_of}
-use Rattle.world_views.specs.Pairs.{Pairs}
-use Rattle.world_views.specs.Tied.{HasPassed, waiting_on}
+use Rattle.world_model.specs.Words.{End, NodeId, Down, is_label_number, Cell, Request, Standing, Setup, home_of, label_end, default_channel, same_channel, World, Site, site_at, queue_at, requests_chain_at, on_channel, copy_under, leads}
+use Rattle.fed_worlds.specs.port_facts.Port.{IsLabelEnd, IsShaped, asks_ports, empties_control, empties_port, opens_input, opens_output, leads_label, leads_grant, joins_label, parts_label, frees_label}
+use Rattle.fed_worlds.specs.world_views.Between.{IsShapedBranch, home, out, joined, EachSite, HasShapes, setups_of}
+use Rattle.fed_worlds.specs.world_views.Pairs.{Pairs}
+use Rattle.fed_worlds.specs.world_views.Tied.{HasPassed, waiting_on}
 use Rattle.pairs.proofs.SitePairs.{SitePairs, branch, desk, chain, queue, in_left, in_right, in_filter, of_pairs, led_by, gathered_by, waiting_by}
 use Rattle.pairs.proofs.Acts.{Sited}
 use Rattle.passed_cells.proofs.Sites.{SitePassed, contained}

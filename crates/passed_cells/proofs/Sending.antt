@@ -3,57 +3,35 @@
 use Rattle.std.proofs.Common.{◌≡◌, ◌≢◌, ℕ, ◌+◌, ◌<◌, ◌≤◌, Bool, true, false, cond, List, [], ◌∷◌, ◌++◌, length, map, Option, None, Some, Result, Ok, Err, refl, sym, ◌∙◌, ap, subst, arith, inl, inr, if◌then◌else◌}
 use Rattle.std.specs.Prelude.{◌==◌, ◌&&◌, nat_le, nat_lt, drop}
 use Rattle.std.proofs.lemmas.Bool.Decides.{nat_tests}
-use Rattle.net_types.specs.declared.node.PortNo.{PortNo}
-use Rattle.net_types.specs.declared.channel.Channel.{Channel}
-use Rattle.net_types.specs.declared.number.Mark.{Mark}
-use Rattle.net_types.specs.Number.{GivenOut, next_control, with_control}
-use Rattle.ipv4_packet.specs.Packet.{protocol_of, first_fault, ifmp_packet_of}
-use Rattle.ipv4_packet.specs.declared.validate.PacketFault.{PacketFault}
-use Rattle.ipv4_forward.specs.Hop.{hop_of, onward}
-use Rattle.ipv4_forward.specs.declared.outcome.Hop.{Hop}
-use Rattle.ipv4_forward.specs.declared.outcome.Hop.TheVariants.{Here, On, NoRoute, Expired}
-use Rattle.atm_cells.specs.declared.cell.Cell.{Cell}
-use Rattle.aal5_frames.specs.Frame.{cells_with, cell_of, pdu_of}
-use Rattle.ipv4_packet.specs.Flow.{kind_of}
-use Rattle.flow_encaps.specs.Default.{default_payload}
-use Rattle.flow_encaps.specs.Labelled.{labelled_payload}
-use Rattle.flow_encaps.specs.Unwrapped.{default_unwrapped, unwrapped}
-use Rattle.flow_encaps.specs.declared.default.EncapsFault.{EncapsFault}
-use Rattle.ifmp_wire.specs.Fields.{decoded as ifmp_decoded}
-use Rattle.ifmp_wire.specs.Message.{octets_of as ifmp_octets}
+use Rattle.world_model.specs.Words.{PortNo, Channel, Mark, GivenOut, next_control, with_control, protocol_of, ifmp_packet_of, PacketFault, hop_of, onward, Hop, Here, On, Cell, kind_of, default_payload, labelled_payload, default_unwrapped, unwrapped, EncapsFault, Frame, Record, Loss, PoolFull, Broken, has_entry, payload_of, Journal, noted, frame_cells, made, next_mark, last_mark, payload_in, tested_by, broken, marks_of, control_end, Grant, Label, Standing, Controller, Linked, default_channel, default_home, sends_control, is_control, sends_next, goes_by, grant_by, routes, control_protocol, ForGsmp, ForDefault, ForLabel, same_channel, taker_of, reassembly_of, with_reassembly, label_holds, ifmp_holds, counted_at, packet_holds, default_holds, frame_holds, takes_cell, gsmp_of, copy_of, copy_under}
+use Rattle.world_model.specs.ipv4_packet.Packet.{first_fault}
+use Rattle.world_model.specs.ipv4_forward.declared.outcome.Hop.TheVariants.{NoRoute, Expired}
+use Rattle.fed_worlds.specs.aal5_frames.Frame.{cells_with, cell_of, pdu_of}
+use Rattle.world_model.specs.ifmp_wire.Fields.{decoded as ifmp_decoded}
+use Rattle.world_model.specs.ifmp_wire.Message.{octets_of as ifmp_octets}
 use Rattle.std.specs.Option.{option_and_then}
-use Rattle.gsmp_wire.specs.declared.fault.Fault.{Fault as GsmpFault}
-use Rattle.gsmp_wire.specs.declared.message.Message.{Message}
-use Rattle.gsmp_wire.specs.Layout.{octets_of as gsmp_octets}
-use Rattle.gsmp_wire.specs.Fields.{decoded as gsmp_decoded}
-use Rattle.link_model.specs.declared.frames.Frame.{Frame}
-use Rattle.link_model.specs.declared.record.Record.{Record}
-use Rattle.link_model.specs.declared.record.Record.TheVariants.{Loss}
-use Rattle.link_model.specs.declared.record.Cause.TheVariants.{PoolFull, Broken}
-use Rattle.link_model.specs.Ledger.{has_entry, payload_of}
-use Rattle.link_model.proofs.Latest.{payload_of_push}
-use Rattle.link_model.proofs.Marks.{same_mark-Decides}
-use Rattle.link_model.specs.Notes.{Journal, noted}
-use Rattle.frame_model.specs.Frame.{frame_cells, made, next_mark, octets_of, last_mark, payload_in, passed, tested_by}
-use Rattle.frame_model.specs.Sending.{Sent}
-use Rattle.frame_model.specs.Reassembly.{Taken, taken, broken, marks_of}
-use Rattle.ordered_lists.specs.Ordered.{Every}
-use Rattle.ordered_lists.proofs.Every.{every_join}
-use Rattle.port_facts.proofs.Keyed.{on_both, on_each}
-use Rattle.port_model.specs.Setup.{control_end}
-use Rattle.port_model.specs.Grants.{Grant}
-use Rattle.port_model.specs.Labels.{Label}
-use Rattle.port_model.specs.Desk.{Standing}
-use Rattle.world_model.specs.Controller.{Controller, Acted, Linked, free_slots, note, default_channel, default_home}
-use Rattle.world_model.specs.Sending.{with_cells, sends, sends_control}
-use Rattle.world_model.specs.Packets.{is_control, sends_next, goes_by, grant_by, forwarded, routes, control_protocol}
-use Rattle.world_model.specs.Cells.{Taker, ForGsmp, ForDefault, ForLabel, same_channel, taker_of, reassembly_of, with_reassembly, label_holds, ifmp_holds, counted_at, packet_holds, default_holds, frame_holds, opened_frame, ends_frame, takes_cell, cell_comes}
+use Rattle.world_model.specs.gsmp_wire.declared.fault.Fault.{Fault as GsmpFault}
+use Rattle.world_model.specs.gsmp_wire.declared.message.Message.{Message}
+use Rattle.world_model.specs.gsmp_wire.Layout.{octets_of as gsmp_octets}
+use Rattle.world_model.specs.gsmp_wire.Fields.{decoded as gsmp_decoded}
+use Rattle.world_model.proofs.link_model.Latest.{payload_of_push}
+use Rattle.world_model.proofs.link_model.Marks.{same_mark-Decides}
+use Rattle.world_model.specs.frame_model.Frame.{octets_of, passed}
+use Rattle.world_model.specs.frame_model.Sending.{Sent}
+use Rattle.world_model.specs.frame_model.Reassembly.{Taken, taken}
+use Rattle.fed_worlds.specs.ordered_lists.Ordered.{Every}
+use Rattle.fed_worlds.proofs.ordered_lists.Every.{every_join}
+use Rattle.fed_worlds.proofs.port_facts.Keyed.{on_both, on_each}
+use Rattle.world_model.specs.Controller.{Acted, free_slots, note}
+use Rattle.world_model.specs.Sending.{with_cells, sends}
+use Rattle.world_model.specs.Packets.{forwarded}
+use Rattle.world_model.specs.Cells.{Taker, opened_frame, ends_frame, cell_comes}
 use Rattle.packet_worlds.proofs.Walk.{Kept, used_kept, counted_kept, ifmp_holds_kept, gsmp_holds_kept}
-use Rattle.world_model.specs.Ways.{told, gsmp_of, copy_of, copy_under}
-use Rattle.quiet_controllers.specs.Quiet.{AskTheSame, asked_by}
-use Rattle.quiet_controllers.proofs.Sending.{made_asks}
-use Rattle.quiet_controllers.proofs.Events.{taken_frames, passed_frames}
-use Rattle.frame_readings.proofs.Apart.{gsmp_head, snaps_apart}
+use Rattle.world_model.specs.Ways.{told}
+use Rattle.pairs.specs.quiet_controllers.Quiet.{AskTheSame, asked_by}
+use Rattle.pairs.proofs.quiet_controllers.Sending.{made_asks}
+use Rattle.pairs.proofs.quiet_controllers.Events.{taken_frames, passed_frames}
+use Rattle.running_worlds.proofs.frame_readings.Apart.{gsmp_head, snaps_apart}
 
 -- any record may be noted
 abbrev pub Any : Record → Type 0

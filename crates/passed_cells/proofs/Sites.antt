@@ -1,27 +1,14 @@
 -- at a site: what leads to a label, and the cells that wait for the switch
 
 use Rattle.std.proofs.Common.{◌≡◌, ◌≢◌, ℕ, zero, suc, ◌<◌, ◌≤◌, Bool, true, false, List, [], ◌∷◌, ◌++◌, None, Some, refl, sym, ◌∙◌, ap, subst, arith, Contains, inl, inr, if◌then◌else◌}
-use Rattle.net_types.specs.declared.channel.End.{End}
-use Rattle.net_types.specs.declared.node.Place.{Place}
-use Rattle.net_types.specs.declared.node.Place.TheVariants.{Down, Up, Out}
-use Rattle.net_types.specs.declared.number.Mark.{Mark}
-use Rattle.atm_cells.specs.declared.cell.Cell.{Cell}
-use Rattle.link_model.specs.declared.frames.Frame.{Frame}
-use Rattle.ordered_lists.specs.Ordered.{Every}
-use Rattle.ordered_lists.proofs.Every.{every_right}
-use Rattle.crossbar_model.specs.Crossbar.{output_of}
-use Rattle.port_model.specs.Desk.{Standing}
-use Rattle.port_model.specs.Setup.{home_of}
+use Rattle.world_model.specs.Words.{End, Place, Down, Up, Out, Mark, Cell, Frame, Standing, home_of, Controller, default_channel, same_channel, Site, queue_in, with_queue_in, copy_under, leads}
+use Rattle.fed_worlds.specs.ordered_lists.Ordered.{Every}
+use Rattle.fed_worlds.proofs.ordered_lists.Every.{every_right}
+use Rattle.world_model.specs.crossbar_model.Crossbar.{output_of}
 use Rattle.world_model.specs.Switch as switches
-use Rattle.world_model.specs.Controller.{Controller, default_channel}
-use Rattle.world_model.specs.Cells.{same_channel}
-use Rattle.world_model.specs.World.{Site}
-use Rattle.world_model.specs.Places.{queue_in, with_queue_in}
-use Rattle.world_model.specs.Ways.{copy_under}
-use Rattle.world_model.specs.Users.{leads}
-use Rattle.world_views.specs.Tied.{waiting_on}
-use Rattle.quiet_controllers.specs.Quiet.{AskTheSame}
-use Rattle.quiet_controllers.proofs.Beginning.{every_contained, in_tail}
+use Rattle.fed_worlds.specs.world_views.Tied.{waiting_on}
+use Rattle.pairs.specs.quiet_controllers.Quiet.{AskTheSame}
+use Rattle.pairs.proofs.quiet_controllers.Beginning.{every_contained, in_tail}
 use Rattle.pairs.proofs.SitePairs.{SitePairs, branch, chain, queue}
 use Rattle.pairs.proofs.Branches.{IsLed}
 use Rattle.pairs.proofs.Acts.{HasMarks, is_zero}

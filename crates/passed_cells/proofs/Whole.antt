@@ -1,10 +1,10 @@
 -- so it is in every run before the first frame that was forged or passed by chance
 
-use Rattle.run_facts.proofs.Nodes.{runs_have_nodes}
-use Rattle.run_facts.proofs.Steps.{events_are_steps, runs_have_fronts}
+use Rattle.running_worlds.proofs.run_facts.Nodes.{runs_have_nodes}
+use Rattle.running_worlds.proofs.run_facts.Steps.{events_are_steps, runs_have_fronts}
 use Rattle.running_worlds.proofs.Made.{up, down, frames_kept}
-use Rattle.world_views.specs.Between.{HasAllShapes}
-use Rattle.world_views.specs.Kept.{Keeps}
+use Rattle.fed_worlds.specs.world_views.Between.{HasAllShapes}
+use Rattle.fed_worlds.specs.world_views.Kept.{Keeps}
 use Rattle.pairs.specs.Past.{RunsMakeNoPairs}
 use Rattle.passed_cells.specs.Passed.{PassedIsKept}
 use Rattle.passed_cells.proofs.Kept.{passed_kept}

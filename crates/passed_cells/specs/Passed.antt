@@ -2,23 +2,10 @@
 -- stands beside its cause
 
 use Rattle.std.specs.Prelude.{◌≡◌, true, List, ◌++◌, Contains, Some}
-use Rattle.net_types.specs.declared.node.NodeId.{NodeId}
-use Rattle.net_types.specs.declared.node.Place.TheVariants.{Down}
-use Rattle.atm_cells.specs.declared.cell.Cell.{Cell}
-use Rattle.port_model.specs.Desk.{Standing}
-use Rattle.port_model.specs.Setup.{Policy}
-use Rattle.world_model.specs.Controller.{default_channel}
-use Rattle.world_model.specs.Cells.{same_channel}
+use Rattle.world_model.specs.Words.{NodeId, Down, Cell, Standing, Policy, default_channel, same_channel, Topology, queue_at, run, records_of, copy_under, Past, past_of, frames_of, HasCauses, IsTame, IsRun}
 use Rattle.world_model.specs.declared.event.Event.{Event}
-use Rattle.world_model.specs.Topology.{Topology}
-use Rattle.world_model.specs.Places.{queue_at}
-use Rattle.world_model.specs.Run.{run, records_of}
-use Rattle.world_model.specs.Ways.{copy_under}
-use Rattle.world_model.specs.Past.{Past, past_of, frames_of}
-use Rattle.world_model.specs.Causes.{HasCauses}
-use Rattle.world_model.specs.Headline.{IsTame, IsRun}
-use Rattle.world_views.specs.Between.{IsWorld, HasAllPassed}
-use Rattle.world_views.specs.Kept.{Comes, behind}
+use Rattle.fed_worlds.specs.world_views.Between.{IsWorld, HasAllPassed}
+use Rattle.fed_worlds.specs.world_views.Kept.{Comes, behind}
 
 -- requests wait for the switch on GSMP's channel
 abbrev pub HasRequests : Past → Type 0

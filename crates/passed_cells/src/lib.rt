@@ -6,8 +6,8 @@
 //! that of runs, and `proofs/Causes` that broken frames stand beside their causes. There is no code that runs.
 #![tactic(auto)]
 
-ghost use Rattle.world_views.specs.Between.{HasAllShapes, HasAllPassed};
-ghost use Rattle.world_views.specs.Kept.{Keeps, Begins};
+ghost use Rattle.fed_worlds.specs.world_views.Between.{HasAllShapes, HasAllPassed};
+ghost use Rattle.fed_worlds.specs.world_views.Kept.{Keeps, Begins};
 ghost use Rattle.pairs.specs.Past.{RunsMakeNoPairs};
 ghost use Rattle.passed_cells.specs.Passed.{HasRequests, PassedIsKept, BreaksHaveCauses};
 

@@ -1,3 +1,6 @@
+pub use Rattle.actor_pace.proofs.ordered_lists as ordered_lists
+pub use Rattle.telling_model.proofs as telling_model
+pub use Rattle.actor_pace.proofs as actor_pace
 pub mod Fronts
 pub mod Links
 pub mod Rules

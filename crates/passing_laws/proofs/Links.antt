@@ -3,11 +3,9 @@
 use Rattle.std.proofs.Common.{◌≡◌, ◌≢◌, ℕ, suc, ◌<◌, ◌==◌, Bool, true, false, List, [], ◌∷◌, length, slice_index_or, Option, None, Some, refl, sym, ◌∙◌, ap, arith, if◌then◌else◌}
 use Rattle.std.specs.Option.{option_or}
 use Rattle.std.proofs.lemmas.Bool.Decides.{nat_tests}
-use Rattle.net_types.specs.declared.node.NodeId.{NodeId}
-use Rattle.net_types.specs.declared.node.PortNo.{PortNo}
+use Rattle.world_model.specs.Words.{NodeId, PortNo, IsLink, IsTopology, Topology, Link, peer_among, same_link_end}
 use Rattle.world_model.specs.declared.link.LinkEnd.{LinkEnd}
-use Rattle.world_model.specs.Conditions.{IsLink, IsTopology}
-use Rattle.world_model.specs.Topology.{Topology, Link, peer_among, peer_of, same_link_end}
+use Rattle.world_model.specs.Topology.{peer_of}
 
 same_node : (a b : LinkEnd) → same_link_end a b ≡ true → a.node.0 ≡ b.node.0
 same_node a b e = grind (arith, nat_tests, e)

@@ -4,15 +4,10 @@ use Rattle.std.proofs.Common.{◌≡◌, ◌≢◌, ℕ, zero, suc, ◌<◌, ◌
 use Rattle.std.specs.Prelude.{drop}
 use Rattle.std.specs.Option.{option_map_or}
 use Rattle.std.proofs.lemmas.Bool.Decides.{nat_tests}
-use Rattle.net_types.specs.declared.node.NodeId.{NodeId}
-use Rattle.net_types.specs.declared.node.Place.{Place}
-use Rattle.net_types.specs.declared.node.Place.TheVariants.{Down, Up, Out}
-use Rattle.atm_cells.specs.declared.cell.Cell.{Cell}
-use Rattle.keyed_lists.specs.Keyed.{at, put}
+use Rattle.world_model.specs.Words.{NodeId, Place, Down, Up, Out, Cell, at, put, World, Site, site_key, site_at, controller_acts, switch_acts, place_node, queue_in, queue_at, queue_number, same_queue, with_queue, with_queue_in, with_queue_of}
 use Rattle.world_model.specs.Switch as switches
 use Rattle.world_model.specs.Controller as controllers
-use Rattle.world_model.specs.World.{World, Site, site_key, site_at, controller_acts, at_controller, switch_acts, at_switch}
-use Rattle.world_model.specs.Places.{place_node, queue_in, queue_at, queue_number, same_queue, with_queue, with_queue_in, with_queue_of}
+use Rattle.world_model.specs.World.{at_controller, at_switch}
 use Rattle.world_model.proofs.Lists.{by_eq, at_key, at_put_same, at_put_other, index_set, index_here}
 use Rattle.passing_laws.specs.declared.reached.Reached.{Reached}
 use Rattle.passing_laws.specs.declared.reached.Reached.TheVariants.{Controller, Switch}

@@ -3,32 +3,16 @@
 use Rattle.std.proofs.Common.{◌≡◌, ◌≢◌, ℕ, ◌+◌, ◌==◌, Bool, true, false, true≢false, List, [], ◌∷◌, Option, None, Some, refl, sym, ◌∙◌, ap, subst, arith, if◌then◌else◌}
 use Rattle.std.specs.Prelude.{drop}
 use Rattle.std.proofs.lemmas.Bool.Decides.{nat_tests}
-use Rattle.net_types.specs.declared.node.NodeId.{NodeId}
-use Rattle.net_types.specs.declared.node.Place.{Place}
-use Rattle.net_types.specs.declared.node.Place.TheVariants.{Down, Up, Out}
-use Rattle.net_types.specs.declared.channel.Channel.{Channel}
-use Rattle.net_types.specs.declared.number.Mark.{Mark}
-use Rattle.net_types.specs.Number.{next_control, with_control}
-use Rattle.atm_cells.specs.declared.cell.Cell.{Cell}
-use Rattle.link_model.specs.declared.record.Record.TheVariants.{Forged}
-use Rattle.link_model.specs.declared.record.Refusal.{Refusal}
-use Rattle.world_model.specs.Switch.{control_port}
+use Rattle.world_model.specs.Words.{NodeId, Place, Down, Up, Out, Channel, Mark, next_control, with_control, Cell, Forged, Refusal, control_port, inject_refusal, injected, node_restarts, change_comes, IsTopology, place_node, queue_at, queue_number, same_queue, with_queue, next, put_away, injects_by, arrives_at, arrives, carries_head, loses_head, forges_at, Topology, World, Site}
 use Rattle.world_model.specs.Conduct as switch
 use Rattle.world_model.specs.Sending.{sends}
-use Rattle.world_model.specs.Packets.{inject_refusal, injected}
 use Rattle.world_model.specs.Cells as controller
 use Rattle.world_model.specs.Ticks.{ticks}
-use Rattle.world_model.specs.Resets.{node_restarts}
-use Rattle.world_model.specs.Changes.{change_comes}
-use Rattle.world_model.specs.Conditions.{IsTopology}
 use Rattle.world_model.specs.declared.event.Event.{Event}
 use Rattle.world_model.specs.declared.event.Event.TheVariants.{Inject, Carry, Lose, Tick, TickSwitch, Restart, RestartSwitch, Forge, Route}
 use Rattle.world_model.specs.declared.link.LinkEnd.{LinkEnd}
-use Rattle.world_model.specs.Places.{place_node, queue_at, queue_number, same_queue, with_queue}
-use Rattle.world_model.specs.Run.{next, put_away}
-use Rattle.world_model.specs.Step.{note, injects_by, arrives_at, arrives, carries_head, loses_head, forges_at, acts}
-use Rattle.world_model.specs.Topology.{Topology, peer_of}
-use Rattle.world_model.specs.World.{World, Site}
+use Rattle.world_model.specs.Step.{note, acts}
+use Rattle.world_model.specs.Topology.{peer_of}
 use Rattle.telling_model.specs.Passing.{left, left_of, source_of}
 use Rattle.passing_laws.specs.declared.reached.Reached.{Reached}
 use Rattle.passing_laws.specs.declared.reached.Reached.TheVariants as actors

@@ -1,13 +1,8 @@
 -- How an event changes the queues of a network
 
 use Rattle.std.specs.Prelude.{◌≡◌, ◌++◌, true, false, [], Some}
-use Rattle.net_types.specs.declared.node.Place.{Place}
+use Rattle.world_model.specs.Words.{Place, IsTopology, queue_at, same_queue, next, Topology, World}
 use Rattle.world_model.specs.declared.event.Event.{Event}
-use Rattle.world_model.specs.Conditions.{IsTopology}
-use Rattle.world_model.specs.Places.{queue_at, same_queue}
-use Rattle.world_model.specs.Run.{next}
-use Rattle.world_model.specs.Topology.{Topology}
-use Rattle.world_model.specs.World.{World}
 use Rattle.telling_model.specs.Passing.{left, put_at, source_of}
 use Rattle.passing_laws.specs.Reached.{owns, reached}
 

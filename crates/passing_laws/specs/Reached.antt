@@ -1,15 +1,11 @@
 -- The actor that an event reaches, and the queues that it puts cells into
 
 use Rattle.std.specs.Prelude.{◌==◌, Bool, false, List, [], ◌∷◌, Option, None, Some}
-use Rattle.net_types.specs.declared.node.Place.{Place}
-use Rattle.net_types.specs.declared.node.Place.TheVariants.{Down, Up, Out}
-use Rattle.atm_cells.specs.declared.cell.Cell.{Cell}
+use Rattle.world_model.specs.Words.{Place, Down, Up, Out, Cell, queue_at, Topology, World}
 use Rattle.world_model.specs.declared.event.Event.{Event}
 use Rattle.world_model.specs.declared.event.Event.TheVariants.{Inject, Carry, Lose, Tick, TickSwitch, Restart, RestartSwitch, Forge, Route}
 use Rattle.world_model.specs.declared.link.LinkEnd.{LinkEnd}
-use Rattle.world_model.specs.Places.{queue_at}
-use Rattle.world_model.specs.Topology.{Topology, peer_of}
-use Rattle.world_model.specs.World.{World}
+use Rattle.world_model.specs.Topology.{peer_of}
 use Rattle.passing_laws.specs.declared.reached.Reached.{Reached}
 use Rattle.passing_laws.specs.declared.reached.Reached.TheVariants.{Nobody, Controller, Switch}
 

@@ -3,15 +3,13 @@
 use Rattle.std.proofs.Common.{◌≡◌, ℕ, Bool, true, false, List, [], ◌∷◌, ◌++◌, Option, None, Some, refl, sym, ◌∙◌, ap, subst, if◌then◌else◌}
 use Rattle.std.specs.Prelude.{find, filter, nat_lt, ◌+◌}
 use Rattle.std.specs.Option.{option_map, option_map_or}
-use Rattle.net_types.specs.declared.channel.End.{End}
+use Rattle.port_model.specs.Words.{End, at, put, Label, label_number, Grant, grant_label, Session, Work, halts, with_session, with_label, with_grant, label_at, labels_of, Unnumbered, last_number, own_of, tells_in, tells, closes, is_spent, spent_number}
 use Rattle.ordered_lists.specs.Ordered.{Every}
-use Rattle.keyed_lists.specs.Keyed.{at, put}
 use Rattle.port_model.specs.declared.action.Action.{Action}
 use Rattle.port_model.specs.declared.action.Action.TheVariants.{Say, Reset}
-use Rattle.port_model.specs.Labels.{Label, label_number}
-use Rattle.port_model.specs.Grants.{Grant, grant_label, input_of}
-use Rattle.port_model.specs.Port.{Session, Port, Work, acts, halts, with_session, with_label, with_grant, label_at, labels_of}
-use Rattle.port_model.specs.Saying.{Unnumbered, last_number, own_of, peer_of, tells_in, tells, closes, is_spent, says, spent_number}
+use Rattle.port_model.specs.Grants.{input_of}
+use Rattle.port_model.specs.Port.{Port, acts}
+use Rattle.port_model.specs.Saying.{peer_of, says}
 use Rattle.port_facts.proofs.Steps.{HeldFlow}
 use Rattle.port_facts.proofs.Keyed.{on_both, at_key, at_put_same}
 

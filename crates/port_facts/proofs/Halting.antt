@@ -3,29 +3,17 @@
 use Rattle.std.proofs.Common.{◌≡◌, ℕ, ◌≤◌, ◌+◌, true, false, List, [], ◌∷◌, ◌++◌, Option, None, Some, refl, sym, ◌∙◌, ap, arith}
 use Rattle.std.specs.Prelude.{nat_lt, ◌||◌}
 use Rattle.std.specs.Option.{option_map, option_map_or}
-use Rattle.net_types.specs.declared.channel.End.{End}
-use Rattle.net_types.specs.declared.adjacency.Peer.{Peer}
-use Rattle.adjacency_table.specs.declared.message.Said.{Said}
-use Rattle.adjacency_table.specs.declared.message.Answer.{Answer}
-use Rattle.adjacency_table.specs.declared.message.Answer.TheVariants.{Quiet, Send, Open, Reset}
-use Rattle.adjacency_table.specs.Hello.{hello_of, ifmp_answer}
-use Rattle.ifmp_wire.specs.declared.message.Message.TheVariants.{Adjacency}
-use Rattle.gsmp_wire.specs.declared.request.Request.TheVariants.{AddBranch, DeleteTree}
-use Rattle.link_model.specs.declared.record.Record.TheVariants.{Bind, Free, Join, Opened}
-use Rattle.net_types.specs.Label.{number_of_channel, label_channel_of}
-use Rattle.keyed_lists.specs.Keyed.{put, without, entered, key_le}
-use Rattle.port_model.specs.Desk.{Desk, on_input}
+use Rattle.port_model.specs.Words.{End, Peer, Said, Answer, Quiet, Send, Open, hello_of, ifmp_answer, AddBranch, DeleteTree, Bind, Free, Opened, number_of_channel, label_channel_of, put, without, entered, key_le, Desk, on_input, Setup, label_end, control_end, Label, Wiring, Offered, Wired, label_number, Grant, GrantState, Idle, ByController, ByInput, Leaving, grant_label, Session, Work, halts, with_session, with_label, without_label, with_new_label, with_grants, with_grant, without_grant, label_at, desk_after, has_room, Unnumbered, last_number, own_of, greets, tells_in, tells, is_spent, closes, reclaim_ack, spent_number, first_session, opens, accepts, joins_label, parted, lent, given_back_in, given_back}
+use Rattle.port_model.specs.adjacency_table.declared.message.Answer.TheVariants.{Reset}
+use Rattle.port_model.specs.ifmp_wire.declared.message.Message.TheVariants.{Adjacency}
+use Rattle.port_model.specs.link_model.declared.record.Record.TheVariants.{Join}
 use Rattle.port_model.specs.declared.action.Action.{Action}
 use Rattle.port_model.specs.declared.action.Action.TheVariants as actions
 use Rattle.port_model.specs.declared.action.Action.TheVariants.{Say, Ask, Note, CutChain, TakeBack}
-use Rattle.port_model.specs.Setup.{Setup, label_end, control_end}
-use Rattle.port_model.specs.Labels.{Label, Wiring, Offered, Wired, label_number}
-use Rattle.port_model.specs.Grants.{Grant, GrantState, Idle, ByController, ByInput, Leaving, grant_label}
-use Rattle.port_model.specs.Port.{Session, Work, acts, halts, with_session, with_label, without_label, with_new_label, with_grants, with_grant, without_grant, label_at, desk_after, has_room}
-use Rattle.port_model.specs.Saying.{Unnumbered, last_number, own_of, peer_of, greets, tells_in, tells, is_spent, closes, reclaim_ack, spent_number}
-use Rattle.port_model.specs.Adjacency.{first_session, opens, answers}
-use Rattle.port_model.specs.Redirection.{accepts}
-use Rattle.port_model.specs.Joins.{joins_label, joined, parted, lent, given_back_in, given_back}
+use Rattle.port_model.specs.Port.{acts}
+use Rattle.port_model.specs.Saying.{peer_of}
+use Rattle.port_model.specs.Adjacency.{answers}
+use Rattle.port_model.specs.Joins.{joined}
 use Rattle.port_facts.proofs.Keyed.{on_both, on_each}
 use Rattle.port_facts.proofs.Steps.{Step, greeting, telling, closing, noting, turning, heard, minding, relabelling, wiring, binding, quitting, unwiring, freeing, accepting, granting, regranting, starting, ending, taking_back, Goes, goes_keeps}
 

@@ -4,28 +4,16 @@ use Rattle.std.proofs.Common.{◌≡◌, ℕ, true, false, List, Option, None, S
 use Rattle.std.specs.Prelude.{◌+◌, ◌-◌, ◌==◌, nat_le, is_none}
 use Rattle.std.specs.Option.{option_map}
 use Rattle.std.proofs.lemmas.Bool.Decides.{nat_tests}
-use Rattle.net_types.specs.declared.prefix.Addr.{Addr}
-use Rattle.net_types.specs.declared.number.Instance.{Instance}
-use Rattle.net_types.specs.declared.channel.Channel.{Channel}
-use Rattle.net_types.specs.Label.{label_number_of}
-use Rattle.adjacency_table.specs.Side.{ticked}
-use Rattle.ipv4_packet.specs.declared.flow.FlowId.{FlowId}
-use Rattle.ifmp_wire.specs.declared.message.Message.{Message}
-use Rattle.ifmp_wire.specs.declared.message.Message.TheVariants.{Adjacency, Redirect, Reclaim, ReclaimAck, LabelRange, Error}
+use Rattle.port_model.specs.Words.{Addr, Instance, Channel, label_number_of, ticked, FlowId, Redirect, Reclaim, ReclaimAck, LabelRange, Error, at, Desk, on_input, Setup, label_end, Label, LabelState, Wiring, Offered, Recalled, Wired, label_number, is_bound, Grant, GrantState, Idle, ByController, ByInput, Leaving, grant_label, grant_on, is_leaving, acceptance, Session, Work, with_session, with_label, with_grant, label_at, labels_of, desk_after, redirect, label_range, unwires, is_from_peer, is_due, takes, expects, recalls, reclaimed, acknowledged, error_comes, label_by, hears, expires, ages_in, ages_found, ages, refreshes, one_older, one_idler, idles, ticks_in, ticks_found, ticks_label, asks_for_ack, nudges, ticks_session}
+use Rattle.port_model.specs.ifmp_wire.declared.message.Message.{Message}
+use Rattle.port_model.specs.ifmp_wire.declared.message.Message.TheVariants.{Adjacency}
 use Rattle.port_facts.specs.Port.{IsHeard}
-use Rattle.keyed_lists.specs.Keyed.{at}
-use Rattle.port_model.specs.Desk.{Desk, on_input}
-use Rattle.port_model.specs.Setup.{Setup, label_end}
-use Rattle.port_model.specs.Labels.{Label, LabelState, Wiring, Offered, Recalled, Wired, label_number, is_bound}
-use Rattle.port_model.specs.Grants.{Grant, GrantState, Idle, ByController, ByInput, Leaving, grant_label, grant_on, input_of, is_leaving, acceptance}
+use Rattle.port_model.specs.Grants.{input_of}
 use Rattle.port_model.specs.Counts.{moved}
-use Rattle.port_model.specs.Port.{Session, Work, with_session, with_label, with_grant, label_at, labels_of, desk_after}
-use Rattle.port_model.specs.Saying.{says, redirect, label_range}
-use Rattle.port_model.specs.Adjacency.{steps, unwires}
-use Rattle.port_model.specs.Redirection.{is_from_peer, is_due, takes, expects, redirected}
-use Rattle.port_model.specs.Reclaiming.{recalls, reclaimed, acknowledged, error_comes}
-use Rattle.port_model.specs.Hearing.{label_by, hears}
-use Rattle.port_model.specs.Ticks.{expires, ages_in, ages_found, ages, refreshes, one_older, one_idler, idles, ticks_in, ticks_found, ticks_label, asks_for_ack, nudges, ticks_session, ticks}
+use Rattle.port_model.specs.Saying.{says}
+use Rattle.port_model.specs.Adjacency.{steps}
+use Rattle.port_model.specs.Redirection.{redirected}
+use Rattle.port_model.specs.Ticks.{ticks}
 use Rattle.port_facts.proofs.Keyed.{on_both, on_each}
 use Rattle.port_facts.proofs.Steps.{IsTurn, KeepsSession, KeepsLabel, KeepsGrant, of_grant, in_session, was_live, heard, minding, relabelling, regranting, ending, taking_back, turning, offering, narrowing, GoesOn, stays, steps_to, further}
 use Rattle.port_facts.proofs.Steps as steps_of

@@ -2,21 +2,14 @@
 
 use Rattle.std.proofs.Common.{◌≡◌, ◌≢◌, ℕ, ◌≤◌, Bool, true, false, List, [], ◌∷◌, ◌++◌, length, Option, None, Some, refl, sym, ◌∙◌, ap, subst, arith, length-append, inl, inr}
 use Rattle.std.specs.Prelude.{map, flat_map, is_some}
-use Rattle.net_types.specs.declared.channel.End.{End}
-use Rattle.adjacency_table.specs.declared.State.TheVariants.{Clearing}
-use Rattle.adjacency_table.specs.Side.{is_estab, knows_peer}
-use Rattle.net_types.specs.Label.{label_channel_of}
+use Rattle.port_model.specs.Words.{End, Clearing, is_estab, knows_peer, label_channel_of, at, Setup, Label, Wiring, Offered, Grant, GrantState, Idle, ByController, ByInput, Leaving, grant_label, is_leaving, Session, Work, without_grant, label_at, reclaim_ack, joins_label, parted, lent, given_back_in, given_back, next_side, closing, left_in, left_of, taking_back_in, taking_back, withdrawing, resets, restarts, withdrawing_in, withdrawing_of}
 use Rattle.ordered_lists.specs.Ordered.{Every, InOrder}
 use Rattle.ordered_lists.proofs.Every.{every_join}
-use Rattle.keyed_lists.specs.Keyed.{at}
 use Rattle.port_model.specs.declared.action.Action.TheVariants.{CutChain}
-use Rattle.port_model.specs.Setup.{Setup}
-use Rattle.port_model.specs.Labels.{Label, Wiring, Offered}
-use Rattle.port_model.specs.Grants.{Grant, GrantState, Idle, ByController, ByInput, Leaving, grant_label, input_of, is_leaving}
-use Rattle.port_model.specs.Port.{Session, Port, Work, without_grant, label_at}
-use Rattle.port_model.specs.Saying.{reclaim_ack}
-use Rattle.port_model.specs.Joins.{joins_label, joined, parted, lent, ended, given_back_in, given_back}
-use Rattle.port_model.specs.Resets.{next_side, closing, left_in, left_of, taking_back_in, taking_back, withdrawing, resets, restarts, cleared, withdrawing_in, withdrawing_of}
+use Rattle.port_model.specs.Grants.{input_of}
+use Rattle.port_model.specs.Port.{Port}
+use Rattle.port_model.specs.Joins.{joined, ended}
+use Rattle.port_model.specs.Resets.{cleared}
 use Rattle.port_facts.specs.Port.{setup_port, IsLabelEnd, IsLabel, IsGrant, IsApart, owes_nothing, GrantOwesNothing, IsPort, empties_port, IsAction, IsWork}
 use Rattle.port_facts.proofs.Kept.{own_end, tells_kept, label_kept, found_label, grant_kept, gone_grant_kept, found_grant, found_owes, leaves}
 

@@ -3,32 +3,17 @@
 use Rattle.std.proofs.Common.{◌≡◌, ◌≢◌, ℕ, ◌≤◌, ◌<◌, ◌+◌, Bool, true, false, List, [], ◌∷◌, ◌++◌, length, Option, None, Some, refl, sym, ◌∙◌, ap, subst, arith, length-append, ◌⊎◌, inl, inr}
 use Rattle.std.specs.Prelude.{not, ◌||◌, is_some, nat_lt}
 use Rattle.std.specs.Option.{option_map, option_map_or}
-use Rattle.net_types.specs.declared.channel.End.{End}
-use Rattle.net_types.specs.declared.adjacency.Hello.{Hello}
-use Rattle.net_types.specs.declared.adjacency.Peer.{Peer}
-use Rattle.adjacency_table.specs.declared.State.TheVariants.{Clearing}
-use Rattle.adjacency_table.specs.declared.message.Said.{Said}
-use Rattle.adjacency_table.specs.declared.message.Answer.{Answer}
-use Rattle.adjacency_table.specs.declared.message.Answer.TheVariants.{Quiet, Send, Open, Reset}
-use Rattle.adjacency_table.specs.Side as sides
-use Rattle.adjacency_table.specs.Side.{Side, IsSide, is_estab, is_open}
-use Rattle.adjacency_table.specs.Hello.{same_peer, heard_from, hello_of, ifmp_answer}
-use Rattle.ifmp_wire.specs.declared.message.Message.TheVariants.{Adjacency}
-use Rattle.gsmp_wire.specs.declared.request.Request.TheVariants.{AddBranch, DeleteTree}
-use Rattle.link_model.specs.declared.record.Record.TheVariants.{Bind, Free, Opened}
+use Rattle.port_model.specs.Words.{End, Hello, Peer, Clearing, Said, Answer, Quiet, Send, Open, Side, IsSide, is_estab, is_open, same_peer, heard_from, hello_of, ifmp_answer, AddBranch, DeleteTree, Bind, Free, Opened, at, put, without, entered, key_le, Desk, on_input, Setup, is_in_range, label_end, control_end, Label, Wiring, Offered, Wired, label_number, is_spare, Grant, GrantState, Idle, ByController, grant_label, is_leaving, most_grants, Session, Work, halts, with_session, with_label, without_label, with_new_label, with_grants, with_grant, without_grant, label_at, labels_of, desk_after, has_room, Unnumbered, last_number, own_of, greets, tells_in, tells, is_spent, closes, spent_number, first_session, opens, accepts}
+use Rattle.port_model.specs.adjacency_table.declared.message.Answer.TheVariants.{Reset}
+use Rattle.port_model.specs.adjacency_table.Side as sides
+use Rattle.port_model.specs.ifmp_wire.declared.message.Message.TheVariants.{Adjacency}
 use Rattle.ordered_lists.specs.Ordered.{Every, InOrder}
-use Rattle.keyed_lists.specs.Keyed.{at, put, without, entered, key_le}
-use Rattle.port_model.specs.Desk.{Desk, on_input}
 use Rattle.port_model.specs.declared.action.Action.{Action}
 use Rattle.port_model.specs.declared.action.Action.TheVariants as actions
 use Rattle.port_model.specs.declared.action.Action.TheVariants.{Say, Ask, Note, CutChain, TakeBack}
-use Rattle.port_model.specs.Setup.{Setup, is_in_range, label_end, control_end}
-use Rattle.port_model.specs.Labels.{Label, Wiring, Offered, Wired, label_number, is_spare}
-use Rattle.port_model.specs.Grants.{Grant, GrantState, Idle, ByController, grant_label, is_leaving, most_grants}
-use Rattle.port_model.specs.Port.{Session, Port, Work, acts, halts, with_session, with_label, without_label, with_new_label, with_grants, with_grant, without_grant, label_at, labels_of, desk_after, has_room}
-use Rattle.port_model.specs.Saying.{Unnumbered, last_number, own_of, peer_of, greets, tells_in, tells, is_spent, closes, spent_number}
-use Rattle.port_model.specs.Adjacency.{first_session, opens, answers, steps}
-use Rattle.port_model.specs.Redirection.{accepts}
+use Rattle.port_model.specs.Port.{Port, acts}
+use Rattle.port_model.specs.Saying.{peer_of}
+use Rattle.port_model.specs.Adjacency.{answers, steps}
 use Rattle.port_facts.specs.Port.{setup_port, IsLabelEnd, IsLabel, IsBefore, IsGrant, IsApart, OwesNothing, owes_nothing, GrantOwesNothing, IsPort, leads_label, leads_grant, frees_label, IsAction, IsWork}
 use Rattle.port_facts.proofs.Keyed.{on_both, at_key, at_every, put_every, without_every, entered_every, put_order, without_order, entered_order, put_length, without_length, every_more, apart_more}
 use Rattle.port_facts.proofs.Turns.{IsTurned, received_turns, ticked_turns}

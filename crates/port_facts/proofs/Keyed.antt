@@ -5,7 +5,7 @@ use Rattle.std.specs.Prelude.{nat_eq, nat_le, find, map, is_some}
 use Rattle.std.specs.Option.{option_map}
 use Rattle.std.proofs.lemmas.Bool.Decides.{nat_tests}
 use Rattle.ordered_lists.specs.Ordered.{Every, InOrder}
-use Rattle.keyed_lists.specs.Keyed.{at, put, without, entered, key_le}
+use Rattle.port_model.specs.Words.{at, put, without, entered, key_le}
 
 -- either way of a test
 pub on_both : {A : Type 0} (P : A → Type 0) (b : Bool) (x y : A) → P x → P y → P (if b then x else y)

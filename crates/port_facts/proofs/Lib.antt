@@ -1,3 +1,5 @@
+pub use Rattle.octet_fields.proofs as octet_fields
+pub use Rattle.ordered_lists.proofs as ordered_lists
 pub mod Keyed
 pub mod Steps
 pub mod Found

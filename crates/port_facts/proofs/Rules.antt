@@ -5,41 +5,20 @@ use Rattle.std.specs.Prelude.{IsTrue, not, ◌+◌, ◌-◌, ◌==◌, ◌&&◌,
 use Rattle.std.specs.Option.{option_map, option_map_or, option_or}
 use Rattle.std.specs.List.{range_with_len}
 use Rattle.std.proofs.lemmas.Bool.Decides.{nat_tests}
-use Rattle.net_types.specs.declared.prefix.Addr.{Addr}
-use Rattle.net_types.specs.declared.channel.Channel.{Channel}
-use Rattle.net_types.specs.declared.channel.End.{End}
-use Rattle.net_types.specs.declared.adjacency.Hello.{Hello}
-use Rattle.net_types.specs.declared.adjacency.Peer.{Peer}
-use Rattle.net_types.specs.Label.{label_channel_of, label_number_of}
-use Rattle.adjacency_table.specs.Side as sides
-use Rattle.adjacency_table.specs.Hello.{ifmp_received, heard_from}
-use Rattle.ipv4_packet.specs.declared.flow.FlowId.{FlowId}
-use Rattle.ipv4_packet.specs.declared.flow.FlowId.TheVariants.{One, Two}
-use Rattle.ipv4_packet.specs.declared.flow.FlowKind.{FlowKind}
-use Rattle.ipv4_packet.specs.declared.flow.FlowKind.TheVariants.{One as ConnectionKind, Two as HostsKind}
-use Rattle.ipv4_packet.specs.Flow.{IsFlow, has_ports, shows_ports, flow_of}
-use Rattle.ipv4_packet.specs.Parts.{same_flow}
+use Rattle.port_model.specs.Words.{Addr, Channel, End, Hello, Peer, label_channel_of, label_number_of, ifmp_received, heard_from, FlowId, FlowKind, IsFlow, has_ports, shows_ports, flow_of, same_flow, tos_of, ttl_of, protocol_of, source_of, destination_of, Request, AddBranch, MoveBranch, DeleteTree, VerifyTree, PortManagement, Bind, at, Desk, Setup, is_in_range, is_between, label_numbers, label_end, Label, LabelState, Wiring, Offered, Recalled, Wired, label_number, is_bound, serves, is_spare, lowest_spare, label_for, Grant, GrantState, Idle, ByController, ByInput, Leaving, grant_label, grant_on, is_leaving, most_grants, Acceptance, New, Refreshed, IsLeaving, GrantsFull, acceptance_of, acceptance_beside, counted_once, packets_in, Session, Work, with_session, with_label, with_grant, without_grant, label_at, labels_of, known_of, has_room, Unnumbered, tells, redirect, reclaim, reclaim_ack, label_range, error, last_number, unwires, quits_label, quits_in, quits_found, quits, is_good, learns, packet_flow, wires, offers, counts_in, used_label, counts_flow, counts_by, counts, used, accepts, grants_label, reclaims_in, reclaims, unjoins, recalls, recalls_in, recalls_offered, reclaimed_in, reclaimed, acknowledged_in, acknowledged, narrowed, is_outside, recalls_outside, ranged, error_comes, label_by, bound_in, bound, freed_in, freed, started_in, started}
+use Rattle.port_model.specs.adjacency_table.Side as sides
+use Rattle.port_model.specs.ipv4_packet.declared.flow.FlowId.TheVariants.{One, Two}
+use Rattle.port_model.specs.ipv4_packet.declared.flow.FlowKind.TheVariants.{One as ConnectionKind, Two as HostsKind}
 use Rattle.octet_fields.specs.Fields.{u16_at}
-use Rattle.ipv4_packet.specs.Packet.{tos_of, ttl_of, protocol_of, source_of, destination_of}
-use Rattle.gsmp_wire.specs.declared.request.Request.{Request}
-use Rattle.gsmp_wire.specs.declared.request.Request.TheVariants.{AddBranch, MoveBranch, DeleteTree, VerifyTree, DeleteAll, PortManagement, AllPorts}
-use Rattle.link_model.specs.declared.record.Record.TheVariants.{Bind}
+use Rattle.port_model.specs.gsmp_wire.declared.request.Request.TheVariants.{DeleteAll, AllPorts}
 use Rattle.ordered_lists.specs.Ordered.{InOrder}
-use Rattle.keyed_lists.specs.Keyed.{at}
-use Rattle.port_model.specs.Desk.{Desk}
 use Rattle.port_model.specs.declared.action.Action.TheVariants.{Note, CutChain}
-use Rattle.port_model.specs.Setup.{Setup, is_in_range, is_between, label_numbers, label_end}
-use Rattle.port_model.specs.Labels.{Label, LabelState, Wiring, Offered, Recalled, Wired, label_number, is_bound, serves, is_spare, lowest_spare, label_for}
-use Rattle.port_model.specs.Grants.{Grant, GrantState, Idle, ByController, ByInput, Leaving, grant_label, grant_on, input_of, is_leaving, most_grants, Acceptance, New, Refreshed, OutOfRange, Taken, IsLeaving, GrantsFull, acceptance_of, acceptance_beside}
-use Rattle.port_model.specs.Counts.{counted_once, packets_in}
-use Rattle.port_model.specs.Port.{Session, Port, Work, acts, with_session, with_label, with_grant, without_grant, label_at, labels_of, known_of, has_room}
-use Rattle.port_model.specs.Saying.{Unnumbered, tells, says, redirect, reclaim, reclaim_ack, label_range, error, last_number}
-use Rattle.port_model.specs.Adjacency.{steps, unwires, quits_label, quits_in, quits_found, quits, is_good, learns, greeted}
-use Rattle.port_model.specs.Counting.{packet_flow, wires, offers, counts_in, used_label, counts_flow, counts_by, counts, used}
-use Rattle.port_model.specs.Redirection.{accepts, grants_label, redirected}
-use Rattle.port_model.specs.Reclaiming.{reclaims_in, reclaims, unjoins, recalls, recalls_in, recalls_offered, reclaimed_in, reclaimed, acknowledged_in, acknowledged, narrowed, is_outside, recalls_outside, ranged, error_comes}
-use Rattle.port_model.specs.Hearing.{label_by}
-use Rattle.port_model.specs.Answers.{bound_in, bound, freed_in, freed, started_in, started, done}
+use Rattle.port_model.specs.Grants.{input_of, OutOfRange, Taken}
+use Rattle.port_model.specs.Port.{Port, acts}
+use Rattle.port_model.specs.Saying.{says}
+use Rattle.port_model.specs.Adjacency.{steps, greeted}
+use Rattle.port_model.specs.Redirection.{redirected}
+use Rattle.port_model.specs.Answers.{done}
 use Rattle.port_facts.specs.Port.{IsBefore}
 use Rattle.port_facts.proofs.Keyed.{on_both, on_each, find_at}
 use Rattle.port_facts.proofs.Steps.{hears, KeepsLabel, of_label, of_grant, in_session, was_live, telling, closing, noting, turning, minding, relabelling, wiring, binding, quitting, unwiring, freeing, accepting, granting, regranting, starting, ending, taking_back, HeldFlow, IsTold, offering, recalling, acknowledging, narrowing, refusing, GoesOn, stays, steps_to, further}

@@ -4,37 +4,20 @@ use Rattle.std.proofs.Common.{◌≡◌, ℕ, ◌≤◌, ◌<◌, true, false, L
 use Rattle.std.specs.Prelude.{◌+◌, ◌^◌, ◌&&◌, ◌||◌, nat_lt, nat_le, flat_map}
 use Rattle.std.specs.Option.{option_map, option_map_or}
 use Rattle.std.proofs.lemmas.Bool.Decides.{nat_tests}
-use Rattle.net_types.specs.declared.channel.Channel.{Channel}
-use Rattle.net_types.specs.declared.channel.End.{End}
-use Rattle.net_types.specs.declared.number.Instance.{Instance}
-use Rattle.net_types.specs.declared.adjacency.Peer.{Peer}
-use Rattle.net_types.specs.Label.{number_of_channel, label_channel_of, is_label_number}
-use Rattle.adjacency_table.specs.declared.message.Said.{Said}
-use Rattle.adjacency_table.specs.declared.message.Answer.{Answer}
-use Rattle.adjacency_table.specs.declared.message.Answer.TheVariants.{Quiet, Send, Open, Reset}
-use Rattle.adjacency_table.specs.Hello.{hello_of, ifmp_answer}
-use Rattle.ipv4_packet.specs.Flow.{IsFlow}
-use Rattle.gsmp_wire.specs.declared.request.Request.TheVariants.{AddBranch, DeleteTree}
-use Rattle.ifmp_wire.specs.declared.message.Message.TheVariants.{Adjacency}
-use Rattle.ifmp_wire.specs.Message as wire
-use Rattle.ifmp_wire.specs.Message.{InRange}
-use Rattle.link_model.specs.declared.record.Record.TheVariants.{Bind, Free, Opened, Join}
+use Rattle.port_model.specs.Words.{Channel, End, Instance, Peer, number_of_channel, label_channel_of, is_label_number, Said, Answer, Quiet, Send, Open, hello_of, ifmp_answer, IsFlow, AddBranch, DeleteTree, InRange, Bind, Free, Opened, at, put, without, entered, key_le, Desk, on_input, Setup, is_in_range, label_end, control_end, Label, Wiring, Offered, Wired, label_number, Grant, GrantState, Idle, ByController, ByInput, Leaving, grant_label, Session, Work, halts, with_session, with_label, with_new_label, without_label, with_grants, without_grant, labels_of, label_at, desk_after, has_room, Unnumbered, last_number, spent_number, own_of, is_spent, tells_in, tells, closes, reclaim_ack, first_session, accepts, joins_label, lent, given_back_in, given_back, left_in, left_of, resets}
+use Rattle.port_model.specs.adjacency_table.declared.message.Answer.TheVariants.{Reset}
+use Rattle.port_model.specs.ifmp_wire.declared.message.Message.TheVariants.{Adjacency}
+use Rattle.port_model.specs.ifmp_wire.Message as wire
+use Rattle.port_model.specs.link_model.declared.record.Record.TheVariants.{Join}
 use Rattle.ordered_lists.specs.Ordered.{Every}
 use Rattle.ordered_lists.proofs.Every.{every_join}
-use Rattle.keyed_lists.specs.Keyed.{at, put, without, entered, key_le}
-use Rattle.port_model.specs.Desk.{Desk, on_input}
 use Rattle.port_model.specs.declared.action.Action.{Action}
 use Rattle.port_model.specs.declared.action.Action.TheVariants as actions
 use Rattle.port_model.specs.declared.action.Action.TheVariants.{Say, Ask, Note, CutChain, TakeBack}
-use Rattle.port_model.specs.Setup.{Setup, is_in_range, label_end, control_end}
-use Rattle.port_model.specs.Labels.{Label, Wiring, Offered, Wired, label_number}
-use Rattle.port_model.specs.Grants.{Grant, GrantState, Idle, ByController, ByInput, Leaving, grant_label}
-use Rattle.port_model.specs.Port.{Session, Port, Work, acts, halts, with_session, with_label, with_new_label, without_label, with_grants, without_grant, labels_of, label_at, desk_after, has_room}
-use Rattle.port_model.specs.Saying.{Unnumbered, last_number, spent_number, own_of, peer_of, is_spent, tells_in, tells, closes, reclaim_ack}
-use Rattle.port_model.specs.Adjacency.{first_session, answers}
-use Rattle.port_model.specs.Redirection.{accepts}
-use Rattle.port_model.specs.Joins.{joins_label, joined, lent, given_back_in, given_back}
-use Rattle.port_model.specs.Resets.{left_in, left_of, resets}
+use Rattle.port_model.specs.Port.{Port, acts}
+use Rattle.port_model.specs.Saying.{peer_of}
+use Rattle.port_model.specs.Adjacency.{answers}
+use Rattle.port_model.specs.Joins.{joined}
 use Rattle.port_facts.specs.Port.{setup_port, IsLabel, IsWork, AnyChannel, HasFlows, IsSayable, IsRanged}
 use Rattle.port_facts.proofs.Keyed.{on_both, at_every, at_key, put_every, without_every, entered_every, every_more}
 use Rattle.port_facts.proofs.Steps.{IsTold, offering, recalling, acknowledging, narrowing, refusing, HeldFlow, StepOn, GoesOn, Step, Goes, greeting, telling, closing, noting, turning, heard, minding, relabelling, wiring, binding, quitting, unwiring, freeing, accepting, granting, regranting, starting, ending, taking_back, goes_on_keeps}

@@ -3,30 +3,15 @@
 use Rattle.std.proofs.Common.{◌≡◌, ℕ, [], Option, None, Some, refl, sym, ◌∙◌, ap, subst}
 use Rattle.std.specs.Prelude.{flat_map}
 use Rattle.std.specs.Option.{option_map, option_map_or}
-use Rattle.net_types.specs.declared.channel.End.{End}
-use Rattle.net_types.specs.declared.adjacency.Peer.{Peer}
-use Rattle.adjacency_table.specs.declared.State.{State}
-use Rattle.adjacency_table.specs.declared.State.TheVariants.{Clearing, SynSent, SynRcvd, Estab}
-use Rattle.adjacency_table.specs.declared.message.Heard.{Heard}
-use Rattle.adjacency_table.specs.declared.message.Answer.TheVariants.{Quiet}
-use Rattle.adjacency_table.specs.Side as sides
-use Rattle.adjacency_table.specs.Side.{Side, received, ticked}
-use Rattle.adjacency_table.specs.Hello.{same_peer, heard_from, ifmp_answer}
-use Rattle.ifmp_wire.specs.declared.message.Message.TheVariants.{Adjacency}
-use Rattle.link_model.specs.declared.record.Record.TheVariants.{Join}
-use Rattle.net_types.specs.Label.{number_of_channel}
-use Rattle.keyed_lists.specs.Keyed.{at, put}
-use Rattle.port_model.specs.Desk.{Desk}
+use Rattle.port_model.specs.Words.{End, Peer, State, Clearing, SynSent, SynRcvd, Estab, Heard, Quiet, Side, received, ticked, same_peer, heard_from, ifmp_answer, number_of_channel, at, put, Desk, Setup, Label, label_number, Grant, grant_label, Session, Work, with_session, label_at, labels_of, Unnumbered, tells_in, tells, closes, joins_label, parted, left_of, resets, restarts}
+use Rattle.port_model.specs.adjacency_table.Side as sides
+use Rattle.port_model.specs.ifmp_wire.declared.message.Message.TheVariants.{Adjacency}
+use Rattle.port_model.specs.link_model.declared.record.Record.TheVariants.{Join}
 use Rattle.port_model.specs.declared.action.Action.{Action}
 use Rattle.port_model.specs.declared.action.Action.TheVariants.{Say, Note, TakeBack}
-use Rattle.port_model.specs.Setup.{Setup}
-use Rattle.port_model.specs.Labels.{Label, label_number}
-use Rattle.port_model.specs.Grants.{Grant, grant_label}
-use Rattle.port_model.specs.Port.{Session, Port, Work, acts, with_session, label_at, labels_of}
-use Rattle.port_model.specs.Saying.{Unnumbered, tells_in, tells, closes}
+use Rattle.port_model.specs.Port.{Port, acts}
 use Rattle.port_model.specs.Adjacency.{answers, steps}
-use Rattle.port_model.specs.Joins.{joins_label, joined, parted}
-use Rattle.port_model.specs.Resets.{left_of, resets, restarts}
+use Rattle.port_model.specs.Joins.{joined}
 use Rattle.port_facts.specs.Port.{IsShut}
 use Rattle.port_facts.proofs.Keyed.{on_both}
 use Rattle.port_facts.proofs.Found.{acts_port, closes_port}

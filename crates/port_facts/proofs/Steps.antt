@@ -2,30 +2,14 @@
 -- each of them keeps, every rule keeps.
 
 use Rattle.std.proofs.Common.{◌≡◌, ℕ, ◌≤◌, ◌<◌, true, false, length, None, Some}
-use Rattle.net_types.specs.declared.prefix.Addr.{Addr}
-use Rattle.net_types.specs.declared.channel.Channel.{Channel}
-use Rattle.net_types.specs.declared.channel.End.{End}
-use Rattle.ipv4_packet.specs.Flow.{IsFlow}
+use Rattle.port_model.specs.Words.{Addr, Channel, End, IsFlow, number_of_channel, Hello, Peer, Side, ticked, ifmp_received, FlowId, Bind, Free, at, Desk, Setup, is_in_range, label_end, Label, Wiring, Offered, Recalled, Wired, is_bound, is_spare, Grant, Idle, ByController, grant_label, is_leaving, most_grants, Session, Work, with_session, with_label, without_label, with_grant, without_grant, label_at, has_room, Unnumbered, greets, tells, closes, redirect, reclaim, reclaim_ack, label_range, error, unwires, wires, accepts, grants_label}
 use Rattle.port_facts.specs.Port.{AnyChannel}
-use Rattle.net_types.specs.Label.{number_of_channel}
-use Rattle.net_types.specs.declared.adjacency.Hello.{Hello}
-use Rattle.net_types.specs.declared.adjacency.Peer.{Peer}
-use Rattle.adjacency_table.specs.Side as sides
-use Rattle.adjacency_table.specs.Side.{Side, ticked}
-use Rattle.adjacency_table.specs.Hello.{ifmp_received}
-use Rattle.ipv4_packet.specs.declared.flow.FlowId.{FlowId}
-use Rattle.link_model.specs.declared.record.Record.TheVariants.{Bind, Free, Join}
-use Rattle.keyed_lists.specs.Keyed.{at}
-use Rattle.port_model.specs.Desk.{Desk}
+use Rattle.port_model.specs.adjacency_table.Side as sides
+use Rattle.port_model.specs.link_model.declared.record.Record.TheVariants.{Join}
 use Rattle.port_model.specs.declared.action.Action.TheVariants.{Note, CutChain, TakeBack}
-use Rattle.port_model.specs.Setup.{Setup, is_in_range, label_end}
-use Rattle.port_model.specs.Labels.{Label, Wiring, Offered, Recalled, Wired, is_bound, is_spare}
-use Rattle.port_model.specs.Grants.{Grant, Idle, ByController, grant_label, input_of, is_leaving, most_grants}
-use Rattle.port_model.specs.Port.{Session, Port, Work, acts, with_session, with_label, without_label, with_grant, without_grant, label_at, has_room}
-use Rattle.port_model.specs.Saying.{Unnumbered, greets, tells, closes, redirect, reclaim, reclaim_ack, label_range, error}
-use Rattle.port_model.specs.Adjacency.{steps, unwires}
-use Rattle.port_model.specs.Counting.{wires}
-use Rattle.port_model.specs.Redirection.{accepts, grants_label}
+use Rattle.port_model.specs.Grants.{input_of}
+use Rattle.port_model.specs.Port.{Port, acts}
+use Rattle.port_model.specs.Adjacency.{steps}
 
 -- what a message or a tick makes of the port's side
 pub data IsTurn (side : Side Peer) : sides.Step Peer → Type 0 where

@@ -4,14 +4,8 @@ use Rattle.std.proofs.Common.{◌≡◌, ℕ, Bool, true, false, Option, refl, a
 use Rattle.std.specs.Prelude.{nat_lt, ◌+◌}
 use Rattle.std.specs.Option.{option_map_or}
 use Rattle.std.proofs.lemmas.Bool.Decides.{nat_tests}
-use Rattle.net_types.specs.declared.adjacency.HelloKind.{HelloKind}
-use Rattle.net_types.specs.declared.adjacency.HelloKind.TheVariants.{Ack, Rstack}
-use Rattle.adjacency_table.specs.declared.State.{State}
-use Rattle.adjacency_table.specs.declared.State.TheVariants.{Clearing, SynSent, SynRcvd, Estab}
-use Rattle.adjacency_table.specs.declared.message.Heard.{Heard}
-use Rattle.adjacency_table.specs.Table.{Silent, Says, Resets, Row, stays, silence_limit}
-use Rattle.adjacency_table.specs.Side.{Side, Step, IsSide, is_estab, is_open, followed, received, followed_tick, ticked}
-use Rattle.adjacency_table.proofs.Rows.{Rows, by_row}
+use Rattle.port_model.specs.Words.{HelloKind, Ack, Rstack, State, Clearing, SynSent, SynRcvd, Estab, Heard, Silent, Says, Resets, Row, stays, silence_limit, Side, Step, IsSide, is_estab, is_open, followed, received, followed_tick, ticked}
+use Rattle.port_model.proofs.adjacency_table.Rows.{Rows, by_row}
 
 -- what follows a message or a tick: the side knows its peer from SynRcvd on; the answer opens exactly on entering
 -- Estab; a side in Clearing stays in it

@@ -4,36 +4,21 @@ use Rattle.std.proofs.Common.{◌≡◌, ℕ, ◌≤◌, ◌<◌, ◌+◌, ◌*�
 use Rattle.std.specs.Prelude.{nat_lt, ◌==◌, ◌/◌, max, flat_map}
 use Rattle.std.proofs.lemmas.List.{length-map}
 use Rattle.std.proofs.lemmas.Bool.Decides.{nat_tests}
-use Rattle.net_types.specs.declared.prefix.Addr.{Addr}
-use Rattle.net_types.specs.declared.number.Instance.{Instance}
-use Rattle.net_types.specs.declared.channel.Channel.{Channel}
-use Rattle.net_types.specs.declared.adjacency.Hello.{Hello}
-use Rattle.net_types.specs.declared.adjacency.Peer.{Peer}
-use Rattle.net_types.specs.Label.{label_number_of, is_label_number}
-use Rattle.adjacency_table.specs.Side as sides
-use Rattle.adjacency_table.specs.Side.{ticked}
-use Rattle.adjacency_table.specs.Hello.{ifmp_received, heard_from}
-use Rattle.ifmp_wire.specs.declared.message.Message.{Message}
-use Rattle.ifmp_wire.specs.declared.message.Message.TheVariants.{Adjacency, Redirect, Reclaim, ReclaimAck, LabelRange, Error}
+use Rattle.port_model.specs.Words.{Addr, Instance, Channel, Hello, Peer, label_number_of, is_label_number, ticked, ifmp_received, heard_from, Redirect, Reclaim, ReclaimAck, LabelRange, Error, at, Desk, Setup, is_in_range, Label, label_number, Grant, GrantState, Idle, ByController, ByInput, Leaving, grant_label, grant_on, acceptance, Session, Work, with_session, labels_of, label_range, quits, is_good, learns, takes, expects, narrowed, recalls_outside, recalls_offered, reclaimed, acknowledged, ranged, error_comes, label_by, hears, ages, ticks_label, asks_for_ack, nudges, moves_windows, ticks_session, closing, taking_back_in, taking_back, withdrawing, resets, withdrawing_in, withdrawing_of}
+use Rattle.port_model.specs.adjacency_table.Side as sides
+use Rattle.port_model.specs.ifmp_wire.declared.message.Message.{Message}
+use Rattle.port_model.specs.ifmp_wire.declared.message.Message.TheVariants.{Adjacency}
 use Rattle.ordered_lists.specs.Ordered.{Every, InOrder}
 use Rattle.ordered_lists.proofs.Every.{every_map}
-use Rattle.keyed_lists.specs.Keyed.{at}
-use Rattle.port_model.specs.Desk.{Desk}
-use Rattle.gsmp_wire.specs.declared.request.Request.TheVariants.{DeleteAll}
+use Rattle.port_model.specs.gsmp_wire.declared.request.Request.TheVariants.{DeleteAll}
 use Rattle.port_model.specs.declared.action.Action.{Action}
 use Rattle.port_model.specs.declared.action.Action.TheVariants.{Ask, CutChain}
-use Rattle.port_model.specs.Setup.{Setup, is_in_range}
-use Rattle.port_model.specs.Labels.{Label, label_number}
-use Rattle.port_model.specs.Grants.{Grant, GrantState, Idle, ByController, ByInput, Leaving, grant_label, grant_on, acceptance}
 use Rattle.port_model.specs.Counts.{moved}
-use Rattle.port_model.specs.Port.{Session, Port, Work, with_session, labels_of}
-use Rattle.port_model.specs.Saying.{says, label_range}
-use Rattle.port_model.specs.Adjacency.{steps, quits, is_good, learns, greeted}
-use Rattle.port_model.specs.Redirection.{takes, expects, redirected}
-use Rattle.port_model.specs.Reclaiming.{narrowed, recalls_outside, recalls_offered, reclaimed, acknowledged, ranged, error_comes}
-use Rattle.port_model.specs.Hearing.{label_by, hears}
-use Rattle.port_model.specs.Ticks.{ages, ticks_label, asks_for_ack, nudges, moves_windows, ticks_session, ticks}
-use Rattle.port_model.specs.Resets.{closing, taking_back_in, taking_back, withdrawing, resets, withdrawing_in, withdrawing_of}
+use Rattle.port_model.specs.Port.{Port}
+use Rattle.port_model.specs.Saying.{says}
+use Rattle.port_model.specs.Adjacency.{steps, greeted}
+use Rattle.port_model.specs.Redirection.{redirected}
+use Rattle.port_model.specs.Ticks.{ticks}
 use Rattle.port_facts.specs.Port.{setup_port, IsLabel, IsBefore, IsPort, IsWork}
 use Rattle.port_facts.proofs.Keyed.{on_both}
 use Rattle.port_facts.proofs.Found.{session_labels}

@@ -4,40 +4,21 @@
 use Rattle.std.proofs.Common.{◌≡◌, ℕ, ◌≤◌, ◌+◌, ◌*◌, Bool, true, false, List, [], ◌∷◌, ◌++◌, length, Option, None, Some, refl, ap, arith, if◌then◌else◌, fold}
 use Rattle.std.specs.Prelude.{nat_lt, nat_le, ◌==◌, ◌&&◌, ◌||◌, ◌-◌, is_none, min}
 use Rattle.std.specs.Option.{option_map, option_map_or}
-use Rattle.net_types.specs.declared.channel.Channel.{Channel}
-use Rattle.net_types.specs.declared.channel.End.{End}
-use Rattle.net_types.specs.declared.adjacency.Peer.{Peer}
-use Rattle.net_types.specs.Label.{label_number_of, number_of_channel}
-use Rattle.adjacency_table.specs.declared.message.Said.{Said}
-use Rattle.adjacency_table.specs.declared.message.Answer.{Answer}
-use Rattle.adjacency_table.specs.declared.message.Answer.TheVariants.{Quiet, Send, Open, Reset}
-use Rattle.adjacency_table.specs.Side as sides
-use Rattle.adjacency_table.specs.Side.{ticked}
-use Rattle.adjacency_table.specs.Hello.{hello_of, ifmp_answer}
-use Rattle.ipv4_packet.specs.declared.flow.FlowId.{FlowId}
-use Rattle.ipv4_packet.specs.Parts.{same_flow}
-use Rattle.ifmp_wire.specs.declared.message.Message.TheVariants.{Adjacency}
-use Rattle.gsmp_wire.specs.declared.request.Request.{Request}
-use Rattle.gsmp_wire.specs.declared.request.Request.TheVariants.{AddBranch, MoveBranch, DeleteTree, VerifyTree, DeleteAll, PortManagement, AllPorts}
-use Rattle.link_model.specs.declared.record.Record.TheVariants.{Bind, Free, Join, Opened}
-use Rattle.keyed_lists.specs.Keyed.{at, put, without, entered, key_le}
-use Rattle.port_model.specs.Desk.{Desk, on_input}
+use Rattle.port_model.specs.Words.{Channel, End, Peer, label_number_of, number_of_channel, Said, Answer, Quiet, Send, Open, ticked, hello_of, ifmp_answer, FlowId, same_flow, Request, AddBranch, MoveBranch, DeleteTree, VerifyTree, PortManagement, Bind, Free, Opened, at, put, without, entered, key_le, Desk, on_input, Setup, label_end, control_end, Label, LabelState, Wiring, Offered, Recalled, Wired, label_number, label_for, lowest_spare, Grant, GrantState, Idle, ByController, ByInput, Leaving, grant_label, grant_on, Acceptance, New, Refreshed, IsLeaving, GrantsFull, counted_once, packets_in, Session, Work, halts, with_session, with_label, without_label, with_new_label, with_grants, with_grant, without_grant, label_at, known_of, desk_after, has_room, Unnumbered, last_number, own_of, greets, tells_in, tells, is_spent, closes, redirect, reclaim, reclaim_ack, label_range, error, spent_number, first_session, opens, unwires, quits_label, quits_in, quits_found, quits, packet_flow, wires, offers, used_label, counts_flow, counts_by, counts, used, accepts, grants_label, reclaims_in, reclaims, unjoins, recalls, recalls_in, recalls_offered, reclaimed_in, reclaimed, acknowledged_in, acknowledged, is_outside, recalls_outside, label_by, bound_in, bound, freed_in, freed, started_in, started, expires, ages_in, ages_found, ages, refreshes, one_older, one_idler, idles, ticks_in, ticks_found, ticks_label}
+use Rattle.port_model.specs.adjacency_table.declared.message.Answer.TheVariants.{Reset}
+use Rattle.port_model.specs.adjacency_table.Side as sides
+use Rattle.port_model.specs.ifmp_wire.declared.message.Message.TheVariants.{Adjacency}
+use Rattle.port_model.specs.gsmp_wire.declared.request.Request.TheVariants.{DeleteAll, AllPorts}
+use Rattle.port_model.specs.link_model.declared.record.Record.TheVariants.{Join}
 use Rattle.port_model.specs.declared.action.Action.{Action}
 use Rattle.port_model.specs.declared.action.Action.TheVariants as actions
 use Rattle.port_model.specs.declared.action.Action.TheVariants.{Say, Ask, Note, CutChain, TakeBack, Withdraw}
-use Rattle.port_model.specs.Setup.{Setup, label_end, control_end}
-use Rattle.port_model.specs.Labels.{Label, LabelState, Wiring, Offered, Recalled, Wired, label_number, label_for, lowest_spare}
-use Rattle.port_model.specs.Grants.{Grant, GrantState, Idle, ByController, ByInput, Leaving, grant_label, grant_on, Acceptance, New, Refreshed, OutOfRange, Taken, IsLeaving, GrantsFull}
-use Rattle.port_model.specs.Counts.{counted_once, packets_in}
-use Rattle.port_model.specs.Port.{Session, Work, acts, halts, with_session, with_label, without_label, with_new_label, with_grants, with_grant, without_grant, label_at, known_of, desk_after, has_room}
-use Rattle.port_model.specs.Saying.{Unnumbered, last_number, own_of, peer_of, greets, tells_in, tells, is_spent, closes, says, redirect, reclaim, reclaim_ack, label_range, error, spent_number}
-use Rattle.port_model.specs.Adjacency.{first_session, opens, answers, steps, unwires, quits_label, quits_in, quits_found, quits}
-use Rattle.port_model.specs.Counting.{packet_flow, wires, offers, used_label, counts_flow, counts_by, counts, used}
-use Rattle.port_model.specs.Redirection.{accepts, grants_label, redirected}
-use Rattle.port_model.specs.Reclaiming.{reclaims_in, reclaims, unjoins, recalls, recalls_in, recalls_offered, reclaimed_in, reclaimed, acknowledged_in, acknowledged, is_outside, recalls_outside}
-use Rattle.port_model.specs.Hearing.{label_by}
-use Rattle.port_model.specs.Answers.{bound_in, bound, freed_in, freed, started_in, started, done}
-use Rattle.port_model.specs.Ticks.{expires, ages_in, ages_found, ages, refreshes, one_older, one_idler, idles, ticks_in, ticks_found, ticks_label}
+use Rattle.port_model.specs.Grants.{OutOfRange, Taken}
+use Rattle.port_model.specs.Port.{acts}
+use Rattle.port_model.specs.Saying.{peer_of, says}
+use Rattle.port_model.specs.Adjacency.{answers, steps}
+use Rattle.port_model.specs.Redirection.{redirected}
+use Rattle.port_model.specs.Answers.{done}
 use Rattle.port_facts.proofs.Keyed.{on_both, on_each}
 
 abbrev pub weight : Action → ℕ

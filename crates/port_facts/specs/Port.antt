@@ -1,26 +1,14 @@
 -- What holds of a port, whatever its peer says
 
 use Rattle.std.specs.Prelude.{◌≡◌, ◌≢◌, ℕ, ◌≤◌, ◌<◌, true, false, List, [], length, None, Some, is_some, ◌⊎◌}
-use Rattle.net_types.specs.declared.node.PortNo.{PortNo}
-use Rattle.net_types.specs.declared.channel.Channel.{Channel}
-use Rattle.net_types.specs.declared.channel.End.{End}
-use Rattle.net_types.specs.Label.{is_label_number}
-use Rattle.ipv4_packet.specs.Flow.{IsFlow}
-use Rattle.ifmp_wire.specs.Message.{InRange}
-use Rattle.gsmp_wire.specs.declared.request.Request.{Request}
-use Rattle.gsmp_wire.specs.declared.request.Request.TheVariants.{AddBranch, MoveBranch, DeleteTree, DeleteAll, AllPorts}
-use Rattle.adjacency_table.specs.declared.State.TheVariants.{Clearing}
-use Rattle.adjacency_table.specs.Side.{IsSide, is_estab}
-use Rattle.ifmp_wire.specs.declared.message.Message.{Message}
-use Rattle.ifmp_wire.specs.declared.message.Message.TheVariants.{Redirect, Reclaim}
+use Rattle.port_model.specs.Words.{PortNo, Channel, End, is_label_number, IsFlow, InRange, Request, AddBranch, MoveBranch, DeleteTree, Clearing, IsSide, is_estab, Redirect, Reclaim, at, Setup, is_in_range, label_end, home_of, Label, Wiring, label_number, Grant, GrantState, Leaving, is_leaving, most_grants, Work, labels_of}
+use Rattle.port_model.specs.gsmp_wire.declared.request.Request.TheVariants.{DeleteAll, AllPorts}
+use Rattle.port_model.specs.ifmp_wire.declared.message.Message.{Message}
 use Rattle.ordered_lists.specs.Ordered.{Every, InOrder}
-use Rattle.keyed_lists.specs.Keyed.{at}
 use Rattle.port_model.specs.declared.action.Action.{Action}
 use Rattle.port_model.specs.declared.action.Action.TheVariants.{Say, Ask, TakeBack}
-use Rattle.port_model.specs.Setup.{Setup, is_in_range, label_end, home_of}
-use Rattle.port_model.specs.Labels.{Label, Wiring, label_number}
-use Rattle.port_model.specs.Grants.{Grant, GrantState, Leaving, input_of, is_leaving, most_grants}
-use Rattle.port_model.specs.Port.{Port, Work, labels_of}
+use Rattle.port_model.specs.Grants.{input_of}
+use Rattle.port_model.specs.Port.{Port}
 
 -- the linked ports of a node, by what stays the same of them
 abbrev pub setup_port : Setup → ℕ

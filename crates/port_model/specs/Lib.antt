@@ -1,3 +1,8 @@
+pub use Rattle.ipv4_packet.specs as ipv4_packet
+pub use Rattle.ifmp_wire.specs as ifmp_wire
+pub use Rattle.gsmp_wire.specs as gsmp_wire
+pub use Rattle.adjacency_table.specs as adjacency_table
+pub use Rattle.link_model.specs as link_model
 pub mod Requests
 pub mod Messages
 pub mod Desk
@@ -17,3 +22,4 @@ pub mod Hearing
 pub mod Answers
 pub mod Joins
 pub mod Ticks
+pub mod Words

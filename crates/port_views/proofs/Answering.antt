@@ -4,12 +4,9 @@
 use Rattle.std.proofs.Common.{◌≡◌, ◌≢◌, ℕ, ◌≤◌, Bool, true, false, List, [], Option, None, Some, refl, sym, ◌∙◌, ap, subst, if◌then◌else◌}
 use Rattle.std.specs.Prelude.{◌==◌}
 use Rattle.std.specs.Option.{option_map_or}
-use Rattle.net_types.specs.declared.channel.End.{End}
-use Rattle.net_types.specs.Label.{label_number_of, number_of_channel, is_label_number}
-use Rattle.gsmp_wire.specs.declared.request.Request.{Request}
-use Rattle.gsmp_wire.specs.declared.request.Request.TheVariants.{AddBranch, MoveBranch, DeleteTree, VerifyTree, DeleteAll, PortManagement, AllPorts}
-use Rattle.link_model.specs.declared.record.Record.TheVariants.{Bind, Free, Join}
-use Rattle.keyed_lists.specs.Keyed.{at, put}
+use Rattle.port_model.specs.Words.{End, label_number_of, number_of_channel, is_label_number, Request, AddBranch, MoveBranch, DeleteTree, VerifyTree, PortManagement, Bind, Free, at, put, Setup, Label, LabelState, Wiring, Offered, Recalled, Wired, label_number, Grant, GrantState, Idle, ByController, ByInput, Leaving, grant_label, grant_on, Session, Work, with_label, without_label, with_grant, label_at, labels_of, last_number, own_of, redirect, used_label, used, joins_label, parted, lent, label_by, bound_in, bound, freed_in, freed, started_in, started, joined_to}
+use Rattle.port_model.specs.gsmp_wire.declared.request.Request.TheVariants.{DeleteAll, AllPorts}
+use Rattle.port_model.specs.link_model.declared.record.Record.TheVariants.{Join}
 use Rattle.port_facts.proofs.Keyed.{on_both, by_eq, at_key}
 use Rattle.label_line.specs.Cells as lines
 use Rattle.label_line.specs.Cells.{Role, Downstream, Upstream, Cell}
@@ -19,15 +16,10 @@ use Rattle.label_line.specs.Downstream as down
 use Rattle.label_line.specs.Upstream as up
 use Rattle.label_line.specs.Moves as moves
 use Rattle.port_model.specs.declared.action.Action.TheVariants.{Note}
-use Rattle.port_model.specs.Setup.{Setup}
-use Rattle.port_model.specs.Labels.{Label, LabelState, Wiring, Offered, Recalled, Wired, label_number}
-use Rattle.port_model.specs.Grants.{Grant, GrantState, Idle, ByController, ByInput, Leaving, grant_label, grant_on}
-use Rattle.port_model.specs.Port.{Session, Work, acts, with_label, without_label, with_grant, label_at, labels_of}
-use Rattle.port_model.specs.Saying.{last_number, own_of, peer_of, says, redirect}
-use Rattle.port_model.specs.Counting.{used_label, used}
-use Rattle.port_model.specs.Joins.{joins_label, joined, parted, lent}
-use Rattle.port_model.specs.Hearing.{label_by}
-use Rattle.port_model.specs.Answers.{bound_in, bound, freed_in, freed, started_in, started, joined_to, done}
+use Rattle.port_model.specs.Port.{acts}
+use Rattle.port_model.specs.Saying.{peer_of, says}
+use Rattle.port_model.specs.Joins.{joined}
+use Rattle.port_model.specs.Answers.{done}
 use Rattle.port_views.specs.Link.{LinkLabel}
 use Rattle.port_views.specs.Flows.{flow_number}
 use Rattle.port_views.specs.Shown.{label_of, flow_of, number_of, grant_in, IsLent, Shown}

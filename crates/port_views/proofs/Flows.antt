@@ -3,10 +3,8 @@
 use Rattle.std.proofs.Common.{◌≡◌, ◌≢◌, ℕ, ◌+◌, ◌-◌, ◌<◌, ◌≤◌, Bool, true, false, refl, sym, ◌∙◌, ap, ap₂, arith}
 use Rattle.std.specs.Prelude.{◌*◌, ◌==◌, ◌&&◌, nat_eq}
 use Rattle.std.proofs.lemmas.Bool.Decides.{nat_tests}
-use Rattle.net_types.specs.declared.prefix.Addr.{Addr}
-use Rattle.ipv4_packet.specs.declared.flow.FlowId.{FlowId}
-use Rattle.ipv4_packet.specs.declared.flow.FlowId.TheVariants.{One, Two}
-use Rattle.ipv4_packet.specs.Parts.{same_flow}
+use Rattle.port_model.specs.Words.{Addr, FlowId, same_flow}
+use Rattle.port_model.specs.ipv4_packet.declared.flow.FlowId.TheVariants.{One, Two}
 use Rattle.port_views.specs.Flows.{paired, flow_number}
 
 -- *Two numbers* are told by the number of both

@@ -4,19 +4,7 @@ use Rattle.std.proofs.Common.{◌≡◌, ℕ, Bool, true, false, List, [], ◌�
 use Rattle.std.specs.Prelude.{is_some, not, nat_eq, nat_lt}
 use Rattle.std.specs.Option.{option_map_or}
 use Rattle.std.proofs.lemmas.Bool.Decides.{nat_tests}
-use Rattle.net_types.specs.declared.prefix.Addr.{Addr}
-use Rattle.net_types.specs.declared.number.Instance.{Instance}
-use Rattle.net_types.specs.declared.channel.Channel.{Channel}
-use Rattle.net_types.specs.Label.{label_number_of}
-use Rattle.adjacency_table.specs.declared.State.{State}
-use Rattle.adjacency_table.specs.declared.State.TheVariants.{Clearing}
-use Rattle.adjacency_table.specs.Side.{is_estab}
-use Rattle.ipv4_packet.specs.declared.flow.FlowId.{FlowId}
-use Rattle.ipv4_packet.specs.Parts.{same_flow}
-use Rattle.ifmp_wire.specs.declared.message.Message.TheVariants.{Redirect, Reclaim}
-use Rattle.gsmp_wire.specs.declared.request.Request.TheVariants.{AddBranch}
-use Rattle.port_model.specs.Desk.{Desk}
-use Rattle.keyed_lists.specs.Keyed.{at}
+use Rattle.port_model.specs.Words.{Addr, Instance, Channel, label_number_of, State, Clearing, is_estab, FlowId, same_flow, Redirect, Reclaim, AddBranch, Desk, at, Setup, label_end, control_end, is_in_range, Grant, GrantState, Idle, ByController, ByInput, Leaving, grant_label, grant_on, is_leaving, Acceptance, New, Refreshed, IsLeaving, GrantsFull, most_grants, acceptance_beside, acceptance_of, acceptance, Session, Work, with_grants, with_grant, without_grant, has_room, error, reclaim_ack, own_of, takes, expects, accepts, grants_label, reclaimed_in, reclaimed, hears}
 use Rattle.port_facts.proofs.Keyed.{on_both, on_each, at_key}
 use Rattle.label_line.specs.Cells as lines
 use Rattle.label_line.specs.Cells.{Role, Downstream, Upstream, Cell}
@@ -24,13 +12,9 @@ use Rattle.label_line.specs.Line as states
 use Rattle.label_line.specs.Line.{Line}
 use Rattle.label_line.specs.Upstream as up
 use Rattle.port_model.specs.declared.action.Action.TheVariants.{Ask, TakeBack}
-use Rattle.port_model.specs.Setup.{Setup, label_end, control_end, is_in_range}
-use Rattle.port_model.specs.Grants.{Grant, GrantState, Idle, ByController, ByInput, Leaving, grant_label, grant_on, is_leaving, Acceptance, New, Refreshed, OutOfRange, Taken, IsLeaving, GrantsFull, most_grants, acceptance_beside, acceptance_of, acceptance}
-use Rattle.port_model.specs.Port.{Session, Work, with_grants, with_grant, without_grant, has_room}
-use Rattle.port_model.specs.Saying.{says, error, reclaim_ack, own_of, peer_of}
-use Rattle.port_model.specs.Redirection.{takes, expects, accepts, grants_label, redirected}
-use Rattle.port_model.specs.Reclaiming.{reclaimed_in, reclaimed}
-use Rattle.port_model.specs.Hearing.{hears}
+use Rattle.port_model.specs.Grants.{OutOfRange, Taken}
+use Rattle.port_model.specs.Saying.{says, peer_of}
+use Rattle.port_model.specs.Redirection.{redirected}
 use Rattle.port_views.specs.Link.{LinkLabel}
 use Rattle.port_views.specs.Flows.{flow_number}
 use Rattle.port_views.specs.Heard.{names}

@@ -2,14 +2,12 @@
 
 use Rattle.std.proofs.Common.{◌≡◌, ◌≢◌, ℕ, Bool, false, List, [], ◌∷◌, ◌++◌, Option, None, Some, inl, refl, sym, ◌∙◌, ap, subst, if◌then◌else◌}
 use Rattle.std.specs.Prelude.{nat_eq}
-use Rattle.ordered_lists.specs.Ordered.{Every}
-use Rattle.keyed_lists.specs.Keyed.{at, put, without}
+use Rattle.port_facts.specs.ordered_lists.Ordered.{Every}
+use Rattle.port_model.specs.Words.{at, put, without, Grant, grant_label, Work, with_grants, with_grant, without_grant}
 use Rattle.port_facts.proofs.Keyed.{on_each, on_both, by_eq, at_put_same, at_put_other}
 use Rattle.label_line.specs.Cells.{Downstream, Upstream, Cell}
 use Rattle.label_line.specs.Line as lines
 use Rattle.label_line.specs.Line.{Line}
-use Rattle.port_model.specs.Grants.{Grant, grant_label}
-use Rattle.port_model.specs.Port.{Work, with_grants, with_grant, without_grant}
 use Rattle.port_views.specs.Link.{LinkLabel}
 use Rattle.port_views.specs.Shown.{granted, GrantShows, IsLent, IsOfOther, Once, Shown}
 use Rattle.port_views.proofs.Lists.{at_without_same, at_without_other, at_more_same, at_more_other}

@@ -3,33 +3,16 @@
 use Rattle.std.proofs.Common.{◌≡◌, ℕ, Bool, true, false, List, [], ◌∷◌, ◌++◌, Option, None, Some, inl, inr, refl, sym, ◌∙◌, ap, arith, if◌then◌else◌}
 use Rattle.std.specs.Prelude.{not, ◌&&◌, ◌==◌}
 use Rattle.std.proofs.lemmas.Bool.Decides.{nat_tests}
-use Rattle.net_types.specs.declared.prefix.Addr.{Addr}
-use Rattle.net_types.specs.declared.adjacency.Peer.{Peer}
-use Rattle.net_types.specs.declared.adjacency.Hello.{Hello}
-use Rattle.net_types.specs.declared.adjacency.HelloKind.{HelloKind}
-use Rattle.net_types.specs.declared.adjacency.HelloKind.TheVariants.{Syn, Synack, Rstack, Ack}
-use Rattle.adjacency_table.specs.declared.State.{State}
-use Rattle.adjacency_table.specs.declared.State.TheVariants.{Clearing, SynSent, SynRcvd, Estab}
-use Rattle.adjacency_table.specs.declared.message.Said.{Said}
-use Rattle.adjacency_table.specs.declared.message.Answer.{Answer}
-use Rattle.adjacency_table.specs.Table.{Row, Reply, Silent, Says, Resets, row}
-use Rattle.adjacency_table.specs.Side.{Side, is_estab, answer_of, opened as opened_answer}
-use Rattle.adjacency_table.specs.Instances.{SideByInstances, enters, after_row, is_reset, greeting}
-use Rattle.adjacency_table.specs.Ends.{router, side_of, said_by}
-use Rattle.adjacency_table.specs.Hello.{hello_of}
-use Rattle.ifmp_wire.specs.declared.message.Message.TheVariants.{Adjacency}
-use Rattle.link_model.specs.declared.record.Record.TheVariants.{Opened}
-use Rattle.keyed_lists.specs.Keyed.{at}
+use Rattle.port_model.specs.Words.{Addr, Peer, Hello, HelloKind, Syn, Synack, Rstack, Ack, State, Clearing, SynSent, SynRcvd, Estab, Said, Answer, Row, Reply, Silent, Says, Resets, row, Side, is_estab, answer_of, SideByInstances, enters, after_row, is_reset, greeting, router, side_of, said_by, hello_of, Opened, at, Setup, Grant, grant_label, Work, greets, first_session, opens}
+use Rattle.port_model.specs.adjacency_table.Side.{opened as opened_answer}
+use Rattle.port_model.specs.ifmp_wire.declared.message.Message.TheVariants.{Adjacency}
 use Rattle.label_line.specs.Cells.{Role, Downstream, Upstream, Cell, hello}
 use Rattle.label_line.specs.Line.{Line}
 use Rattle.label_line.specs.Downstream as down
 use Rattle.label_line.specs.Upstream as up
 use Rattle.port_model.specs.declared.action.Action.TheVariants.{Say, Note}
-use Rattle.port_model.specs.Setup.{Setup}
-use Rattle.port_model.specs.Grants.{Grant, grant_label}
-use Rattle.port_model.specs.Port.{Work, acts}
-use Rattle.port_model.specs.Saying.{greets}
-use Rattle.port_model.specs.Adjacency.{first_session, opens, steps}
+use Rattle.port_model.specs.Port.{acts}
+use Rattle.port_model.specs.Adjacency.{steps}
 use Rattle.port_views.specs.Link.{LinkLabel}
 use Rattle.port_views.specs.Heard.{heard_down, heard_up, is_own}
 use Rattle.port_views.specs.Shown.{GrantShows, expected_number, Shown, rest_of}

@@ -2,30 +2,16 @@
 
 use Rattle.std.proofs.Common.{◌≡◌, ℕ, Bool, true, false, List, Option, None, Some, refl, sym, ◌∙◌, ap, ap₂, subst, arith, if◌then◌else◌}
 use Rattle.std.specs.Prelude.{nat_eq, max, is_some, not, ◌&&◌}
-use Rattle.net_types.specs.declared.prefix.Addr.{Addr}
-use Rattle.net_types.specs.declared.adjacency.Peer.{Peer}
-use Rattle.net_types.specs.declared.adjacency.Hello.{Hello}
-use Rattle.net_types.specs.declared.adjacency.HelloKind.{HelloKind}
-use Rattle.adjacency_table.specs.declared.State.{State}
-use Rattle.adjacency_table.specs.declared.State.TheVariants.{Clearing}
-use Rattle.adjacency_table.specs.declared.message.Said.{Said}
-use Rattle.adjacency_table.specs.declared.message.Answer.{Answer}
-use Rattle.adjacency_table.specs.Table.{Row, Reply, Silent, Says, Resets, row}
-use Rattle.adjacency_table.specs.Side.{Side, is_estab, answer_of, opened as opened_answer}
-use Rattle.adjacency_table.specs.Instances.{SideByInstances, row_for, enters, after_row, is_reset, greeting}
-use Rattle.adjacency_table.specs.Ends.{router, side_of, said_by, step_by}
-use Rattle.adjacency_table.specs.Hello.{next_in}
-use Rattle.ifmp_wire.specs.declared.message.Message.TheVariants.{Adjacency}
-use Rattle.port_model.specs.Desk.{Desk}
+use Rattle.port_model.specs.Words.{Addr, Peer, Hello, HelloKind, State, Clearing, Said, Answer, Row, Reply, Silent, Says, Resets, row, Side, is_estab, answer_of, SideByInstances, row_for, enters, after_row, is_reset, greeting, router, side_of, said_by, step_by, next_in, Desk, Setup, Session, Work, halts, learns}
+use Rattle.port_model.specs.adjacency_table.Side.{opened as opened_answer}
+use Rattle.port_model.specs.ifmp_wire.declared.message.Message.TheVariants.{Adjacency}
 use Rattle.port_facts.proofs.Keyed.{on_both}
 use Rattle.label_line.specs.Cells as lines
 use Rattle.label_line.specs.Cells.{Role, Downstream, Upstream, Cell}
 use Rattle.label_line.specs.Line.{Line}
 use Rattle.label_line.specs.Downstream as down
 use Rattle.label_line.specs.Upstream as up
-use Rattle.port_model.specs.Setup.{Setup}
-use Rattle.port_model.specs.Port.{Session, Work, halts}
-use Rattle.port_model.specs.Adjacency.{steps, learns, greeted}
+use Rattle.port_model.specs.Adjacency.{steps, greeted}
 use Rattle.port_views.specs.Link.{LinkLabel, other}
 use Rattle.port_views.specs.Heard.{is_own}
 use Rattle.port_views.specs.Shown.{expected_number, known_number, Shown, rest_of}

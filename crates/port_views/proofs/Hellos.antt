@@ -4,20 +4,10 @@ use Rattle.std.proofs.Common.{◌≡◌, ℕ, Bool, true, false, refl, ◌∙◌
 use Rattle.std.specs.Prelude.{◌&&◌, ◌==◌}
 use Rattle.std.proofs.lemmas.Bool.Decides.{nat_tests}
 use Rattle.std.proofs.lemmas.Grind.{common_steps}
-use Rattle.net_types.specs.declared.prefix.Addr.{Addr}
-use Rattle.net_types.specs.declared.number.Instance.{Instance}
-use Rattle.net_types.specs.declared.adjacency.Peer.{Peer}
-use Rattle.net_types.specs.declared.adjacency.Hello.{Hello}
-use Rattle.net_types.specs.declared.adjacency.HelloKind.{HelloKind}
-use Rattle.net_types.specs.declared.adjacency.HelloKind.TheVariants.{Syn, Synack, Rstack, Ack}
-use Rattle.adjacency_table.specs.Side.{Side}
-use Rattle.adjacency_table.specs.Instances.{SideByInstances, row_for}
-use Rattle.adjacency_table.specs.Ends.{router, side_of, said_by, step_by}
-use Rattle.adjacency_table.specs.Hello.{hello_of, heard_from, ifmp_received}
-use Rattle.adjacency_table.proofs.EndsLemmas.{ifmp_received_by_instances}
-use Rattle.ifmp_wire.specs.declared.message.Message.TheVariants.{Adjacency}
+use Rattle.port_model.specs.Words.{Addr, Instance, Peer, Hello, HelloKind, Syn, Synack, Rstack, Ack, Side, SideByInstances, row_for, router, side_of, said_by, step_by, hello_of, heard_from, ifmp_received, is_good}
+use Rattle.port_model.proofs.adjacency_table.EndsLemmas.{ifmp_received_by_instances}
+use Rattle.port_model.specs.ifmp_wire.declared.message.Message.TheVariants.{Adjacency}
 use Rattle.label_line.specs.Downstream as down
-use Rattle.port_model.specs.Adjacency.{is_good}
 use Rattle.port_views.specs.Heard.{is_own, is_own_hello}
 
 -- *A message in its sender's own words* is one that an end says to the other

@@ -3,13 +3,11 @@
 use Rattle.std.proofs.Common.{◌≡◌, ◌≢◌, ℕ, false, List, [], Option, None, Some, refl, sym, ◌∙◌, ap, subst}
 use Rattle.std.specs.Prelude.{is_some}
 use Rattle.std.specs.Option.{option_map_or}
-use Rattle.keyed_lists.specs.Keyed.{at, put, without, entered, key_le}
+use Rattle.port_model.specs.Words.{at, put, without, entered, key_le, Label, label_number, Session, Work, with_label, with_new_label, without_label, label_at}
 use Rattle.port_facts.proofs.Keyed.{at_put_same, at_put_other}
 use Rattle.label_line.specs.Cells.{Downstream, Upstream, Cell}
 use Rattle.label_line.specs.Line as lines
 use Rattle.label_line.specs.Line.{Line}
-use Rattle.port_model.specs.Labels.{Label, label_number}
-use Rattle.port_model.specs.Port.{Session, Work, with_label, with_new_label, without_label, label_at}
 use Rattle.port_views.specs.Link.{LinkLabel}
 use Rattle.port_views.specs.Shown.{label_of, flow_of, number_of, known_number, Shown}
 use Rattle.port_views.proofs.Lists.{at_without_same, at_without_other, at_entered_same, at_entered_other}

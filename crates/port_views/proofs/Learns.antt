@@ -4,15 +4,9 @@ use Rattle.std.proofs.Common.{◌≡◌, ℕ, ◌≤◌, Bool, true, false, List
 use Rattle.std.specs.Prelude.{nat_lt, max, ◌||◌}
 use Rattle.std.specs.Option.{option_map_or}
 use Rattle.std.proofs.lemmas.Bool.Decides.{nat_tests}
-use Rattle.net_types.specs.declared.prefix.Addr.{Addr}
-use Rattle.adjacency_table.specs.Table.{Reply, Silent, Says, Resets}
-use Rattle.adjacency_table.specs.Instances.{SideByInstances}
-use Rattle.ifmp_wire.specs.declared.message.Message.TheVariants.{Adjacency}
-use Rattle.link_model.specs.declared.record.Record.TheVariants.{Opened}
-use Rattle.port_model.specs.Desk.{Desk, on_input}
-use Rattle.gsmp_wire.specs.declared.request.Request.TheVariants.{DeleteTree}
+use Rattle.port_model.specs.Words.{Addr, Reply, Silent, Says, Resets, SideByInstances, Opened, Desk, on_input, DeleteTree, at, Setup, label_end, Label, LabelState, Wiring, Offered, Recalled, Wired, label_number, Session, Work, with_session, with_label, label_at, labels_of, known_of, desk_after, has_room, spent_number, unwires, quits_label, quits_in, quits_found, quits, learns}
+use Rattle.port_model.specs.ifmp_wire.declared.message.Message.TheVariants.{Adjacency}
 use Rattle.port_facts.proofs.Keyed.{on_both, on_each, by_eq, at_key}
-use Rattle.keyed_lists.specs.Keyed.{at}
 use Rattle.label_line.specs.Cells.{Role, Downstream, Upstream, Cell}
 use Rattle.label_line.specs.Line as lines
 use Rattle.label_line.specs.Line.{Line}
@@ -20,11 +14,7 @@ use Rattle.label_line.specs.Downstream as down
 use Rattle.label_line.specs.Moves.{Quit}
 use Rattle.port_model.specs.declared.action.Action.{Action}
 use Rattle.port_model.specs.declared.action.Action.TheVariants.{Say, Ask, Note, CutChain}
-use Rattle.port_model.specs.Setup.{Setup, label_end}
-use Rattle.port_model.specs.Labels.{Label, LabelState, Wiring, Offered, Recalled, Wired, label_number}
-use Rattle.port_model.specs.Port.{Session, Port, Work, acts, with_session, with_label, label_at, labels_of, known_of, desk_after, has_room}
-use Rattle.port_model.specs.Saying.{spent_number}
-use Rattle.port_model.specs.Adjacency.{unwires, quits_label, quits_in, quits_found, quits, learns}
+use Rattle.port_model.specs.Port.{Port, acts}
 use Rattle.port_views.specs.Link.{LinkLabel}
 use Rattle.port_views.specs.Shown.{label_of, number_of, known_number, Shown}
 use Rattle.port_views.specs.Reaching.{Reaches, Leads}

@@ -1,3 +1,6 @@
+pub use Rattle.port_facts.proofs.octet_fields as octet_fields
+pub use Rattle.port_facts.proofs.ordered_lists as ordered_lists
+pub use Rattle.port_facts.proofs as port_facts
 pub mod Reach
 pub mod Lists
 pub mod Flows

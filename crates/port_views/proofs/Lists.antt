@@ -3,7 +3,7 @@
 use Rattle.std.proofs.Common.{◌≡◌, ◌≢◌, ℕ, Bool, true, false, List, [], ◌∷◌, ◌++◌, Option, None, Some, refl, sym, ◌∙◌, ap, append_assoc, append-nil, arith, if◌then◌else◌}
 use Rattle.std.specs.Prelude.{nat_eq}
 use Rattle.std.proofs.lemmas.Bool.Decides.{nat_tests}
-use Rattle.keyed_lists.specs.Keyed.{at, without, entered}
+use Rattle.port_model.specs.Words.{at, without, entered}
 use Rattle.label_line.specs.Cells.{Role, Cell}
 use Rattle.label_line.specs.Cells as lines
 use Rattle.port_model.specs.declared.action.Action.{Action}

@@ -6,9 +6,9 @@ use Rattle.std.specs.Option.{option_map}
 use Rattle.port_facts.proofs.Keyed.{on_each}
 use Rattle.port_model.specs.declared.action.Action.{Action}
 use Rattle.port_model.specs.declared.action.Action.TheVariants.{Say, Reset}
-use Rattle.port_model.specs.Grants.{Grant}
-use Rattle.port_model.specs.Port.{Session, Work, acts, halts, with_session, with_grants}
-use Rattle.port_model.specs.Saying.{Unnumbered, own_of, peer_of, numbered, tells_in, tells, closes, says, spent_number, last_number, is_spent}
+use Rattle.port_model.specs.Words.{Grant, Session, Work, halts, with_session, with_grants, Unnumbered, own_of, tells_in, tells, closes, spent_number, last_number, is_spent}
+use Rattle.port_model.specs.Port.{acts}
+use Rattle.port_model.specs.Saying.{peer_of, numbered, says}
 
 module _ (P : Work → Type 0) where
   pub live_acts : (w : Work) (action : Action) → w.halted ≡ false → P (record w { actions = w.actions ++ action ∷ [] }) → P (acts w action)

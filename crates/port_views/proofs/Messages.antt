@@ -1,20 +1,11 @@
 -- any message of the other end is heard, at either end of the link
 
 use Rattle.std.proofs.Common.{◌≡◌, ℕ, Bool, true, false, List, refl}
-use Rattle.net_types.specs.declared.prefix.Addr.{Addr}
-use Rattle.net_types.specs.declared.number.Instance.{Instance}
-use Rattle.net_types.specs.declared.channel.Channel.{Channel}
-use Rattle.net_types.specs.Label.{is_label_number}
-use Rattle.ipv4_packet.specs.declared.flow.FlowId.{FlowId}
-use Rattle.ifmp_wire.specs.declared.message.Message.{Message}
-use Rattle.ifmp_wire.specs.declared.message.Message.TheVariants.{Adjacency, Redirect, Reclaim, ReclaimAck, LabelRange, Error}
-use Rattle.port_model.specs.Desk.{Desk}
+use Rattle.port_model.specs.Words.{Addr, Instance, Channel, is_label_number, FlowId, Redirect, Reclaim, ReclaimAck, LabelRange, Error, Desk, Setup, Work, is_spent, hears}
+use Rattle.port_model.specs.ifmp_wire.declared.message.Message.{Message}
+use Rattle.port_model.specs.ifmp_wire.declared.message.Message.TheVariants.{Adjacency}
 use Rattle.label_line.specs.Cells.{Role, Downstream, Upstream, Cell}
 use Rattle.label_line.specs.Line.{Line}
-use Rattle.port_model.specs.Setup.{Setup}
-use Rattle.port_model.specs.Port.{Work}
-use Rattle.port_model.specs.Saying.{is_spent}
-use Rattle.port_model.specs.Hearing.{hears}
 use Rattle.port_views.specs.Link.{LinkLabel, other}
 use Rattle.port_views.specs.Heard.{names, is_own}
 use Rattle.port_views.specs.Shown.{Shown}

@@ -4,32 +4,19 @@ use Rattle.std.proofs.Common.{◌≡◌, ◌≢◌, ℕ, ◌≤◌, Bool, true, 
 use Rattle.std.specs.Prelude.{◌+◌, nat_eq, nat_lt}
 use Rattle.std.specs.Option.{option_map, option_map_or}
 use Rattle.std.proofs.lemmas.Bool.Decides.{nat_tests}
-use Rattle.net_types.specs.declared.prefix.Addr.{Addr}
-use Rattle.net_types.specs.declared.number.Instance.{Instance}
-use Rattle.net_types.specs.declared.channel.Channel.{Channel}
-use Rattle.net_types.specs.Label.{label_channel_of, label_number_of, number_of_channel, is_label_channel, is_label_number}
-use Rattle.net_types.proofs.Labels.{number_of_channel-label_channel_of}
-use Rattle.ipv4_packet.specs.declared.flow.FlowId.{FlowId}
-use Rattle.ipv4_packet.specs.Parts.{same_flow}
-use Rattle.ifmp_wire.specs.declared.message.Message.{Message}
-use Rattle.ifmp_wire.specs.declared.message.Message.TheVariants.{Redirect, Reclaim}
-use Rattle.gsmp_wire.specs.declared.request.Request.TheVariants.{AddBranch}
-use Rattle.port_model.specs.Desk.{Desk}
-use Rattle.keyed_lists.specs.Keyed.{at}
+use Rattle.port_model.specs.Words.{Addr, Instance, Channel, label_channel_of, label_number_of, number_of_channel, is_label_channel, is_label_number, FlowId, same_flow, Redirect, Reclaim, AddBranch, Desk, at, Setup, label_end, control_end, label_number, Grant, GrantState, Idle, ByController, ByInput, Leaving, grant_on, Acceptance, New, Refreshed, IsLeaving, GrantsFull, acceptance, Session, Work, halts, with_session, with_grants, with_grant, without_grant, label_at, has_room, Unnumbered, last_number, tells_in, tells, is_spent, closes, label_range, error, reclaim_ack, takes, expects, accepts, grants_label, reclaimed_in, reclaimed, hears}
+use Rattle.port_model.proofs.net_types.Labels.{number_of_channel-label_channel_of}
+use Rattle.port_model.specs.ifmp_wire.declared.message.Message.{Message}
 use Rattle.port_facts.proofs.Keyed.{on_both, on_each}
 use Rattle.label_line.specs.Cells as lines
 use Rattle.label_line.specs.Cells.{Role, Downstream, Upstream, Cell}
 use Rattle.label_line.specs.Line.{Line}
 use Rattle.port_model.specs.declared.action.Action.{Action}
 use Rattle.port_model.specs.declared.action.Action.TheVariants.{Ask, TakeBack}
-use Rattle.port_model.specs.Setup.{Setup, label_end, control_end}
-use Rattle.port_model.specs.Labels.{label_number}
-use Rattle.port_model.specs.Grants.{Grant, GrantState, Idle, ByController, ByInput, Leaving, grant_on, Acceptance, New, Refreshed, OutOfRange, Taken, IsLeaving, GrantsFull, acceptance}
-use Rattle.port_model.specs.Port.{Session, Work, acts, halts, with_session, with_grants, with_grant, without_grant, label_at, has_room}
-use Rattle.port_model.specs.Saying.{Unnumbered, last_number, tells_in, tells, is_spent, closes, says, label_range, error, reclaim_ack}
-use Rattle.port_model.specs.Redirection.{takes, expects, accepts, grants_label, redirected}
-use Rattle.port_model.specs.Reclaiming.{reclaimed_in, reclaimed}
-use Rattle.port_model.specs.Hearing.{hears}
+use Rattle.port_model.specs.Grants.{OutOfRange, Taken}
+use Rattle.port_model.specs.Port.{acts}
+use Rattle.port_model.specs.Saying.{says}
+use Rattle.port_model.specs.Redirection.{redirected}
 use Rattle.port_views.specs.Link.{LinkLabel}
 use Rattle.port_views.specs.Heard.{heard_by, names, IsSaid}
 use Rattle.port_views.specs.Shown.{Shown}

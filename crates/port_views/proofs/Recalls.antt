@@ -4,16 +4,7 @@
 use Rattle.std.proofs.Common.{◌≡◌, ◌≢◌, ℕ, ◌≤◌, Bool, true, false, List, Option, None, Some, refl, sym, ◌∙◌, ap, subst, arith, map, if◌then◌else◌}
 use Rattle.std.specs.Prelude.{◌+◌, ◌==◌, is_some, min, nat_eq}
 use Rattle.std.specs.Option.{option_map_or}
-use Rattle.net_types.specs.declared.prefix.Addr.{Addr}
-use Rattle.net_types.specs.declared.number.Instance.{Instance}
-use Rattle.net_types.specs.declared.channel.Channel.{Channel}
-use Rattle.net_types.specs.declared.channel.End.{End}
-use Rattle.net_types.specs.Label.{label_number_of, is_label_number}
-use Rattle.ipv4_packet.specs.declared.flow.FlowId.{FlowId}
-use Rattle.ipv4_packet.specs.Parts.{same_flow}
-use Rattle.ifmp_wire.specs.declared.message.Message.TheVariants.{ReclaimAck, LabelRange, Error}
-use Rattle.port_model.specs.Desk.{Desk}
-use Rattle.keyed_lists.specs.Keyed.{put}
+use Rattle.port_model.specs.Words.{Addr, Instance, Channel, End, label_number_of, is_label_number, FlowId, same_flow, ReclaimAck, LabelRange, Error, Desk, put, Setup, label_end, Label, LabelState, Wiring, Offered, Recalled, Wired, label_number, Session, Work, with_session, with_label, label_at, labels_of, last_number, own_of, reclaim, quits, takes, expects, reclaims_in, unjoins, recalls, recalls_in, recalls_offered, acknowledged_in, acknowledged, narrowed, is_outside, recalls_outside, ranged, error_comes, label_by, hears}
 use Rattle.port_facts.proofs.Keyed.{on_both, on_each, by_eq, at_key}
 use Rattle.label_line.specs.Cells as lines
 use Rattle.label_line.specs.Cells.{Role, Downstream, Upstream, Cell}
@@ -22,14 +13,8 @@ use Rattle.label_line.specs.Line.{Line}
 use Rattle.label_line.specs.Downstream as down
 use Rattle.label_line.specs.Moves.{Recall}
 use Rattle.port_model.specs.declared.action.Action.TheVariants.{TakeBack}
-use Rattle.port_model.specs.Setup.{Setup, label_end}
-use Rattle.port_model.specs.Labels.{Label, LabelState, Wiring, Offered, Recalled, Wired, label_number}
-use Rattle.port_model.specs.Port.{Session, Work, acts, with_session, with_label, label_at, labels_of}
-use Rattle.port_model.specs.Saying.{last_number, own_of, peer_of, says, reclaim}
-use Rattle.port_model.specs.Adjacency.{quits}
-use Rattle.port_model.specs.Redirection.{takes, expects}
-use Rattle.port_model.specs.Reclaiming.{reclaims_in, unjoins, recalls, recalls_in, recalls_offered, acknowledged_in, acknowledged, narrowed, is_outside, recalls_outside, ranged, error_comes}
-use Rattle.port_model.specs.Hearing.{label_by, hears}
+use Rattle.port_model.specs.Port.{acts}
+use Rattle.port_model.specs.Saying.{peer_of, says}
 use Rattle.port_views.specs.Link.{LinkLabel}
 use Rattle.port_views.specs.Flows.{flow_number}
 use Rattle.port_views.specs.Shown.{label_of, flow_of, number_of, Shown}

@@ -3,10 +3,7 @@
 use Rattle.std.proofs.Common.{◌≡◌, ℕ, ◌≤◌, Bool, true, false, List, [], ◌∷◌, Option, None, Some, refl, sym, ◌∙◌, ap, subst, map, fold, if◌then◌else◌}
 use Rattle.std.specs.Prelude.{◌||◌, min, nat_le, is_none}
 use Rattle.std.specs.Option.{option_map_or}
-use Rattle.net_types.specs.Label.{is_label_number}
-use Rattle.adjacency_table.specs.Side.{ticked}
-use Rattle.port_model.specs.Desk.{Desk, on_input}
-use Rattle.keyed_lists.specs.Keyed.{at, put}
+use Rattle.port_model.specs.Words.{is_label_number, ticked, Desk, on_input, at, put, DeleteTree, Setup, label_end, grant_label, Label, LabelState, Wiring, Offered, Recalled, Wired, label_number, Session, Work, with_label, label_at, labels_of, desk_after, has_room, last_number, own_of, redirect, label_range, reclaim, unwires, reclaims_in, recalls, ages, refreshes, one_older, one_idler, idles, ticks_in, ticks_found, ticks_label, asks_for_ack, nudges, moves_windows, ticks_session}
 use Rattle.port_facts.proofs.Keyed.{on_both, by_eq, at_key}
 use Rattle.label_line.specs.Cells as lines
 use Rattle.label_line.specs.Cells.{Role, Downstream, Upstream, Cell}
@@ -15,17 +12,12 @@ use Rattle.label_line.specs.Line.{Line}
 use Rattle.label_line.specs.Downstream as down
 use Rattle.label_line.specs.Moves as moves
 use Rattle.label_line.specs.Moves.{Move}
-use Rattle.gsmp_wire.specs.declared.request.Request.TheVariants.{DeleteTree}
 use Rattle.port_model.specs.declared.action.Action.TheVariants.{Ask}
-use Rattle.port_model.specs.Setup.{Setup, label_end}
-use Rattle.port_model.specs.Grants.{grant_label}
 use Rattle.port_model.specs.Counts.{moved}
-use Rattle.port_model.specs.Labels.{Label, LabelState, Wiring, Offered, Recalled, Wired, label_number}
-use Rattle.port_model.specs.Port.{Session, Work, acts, with_label, label_at, labels_of, desk_after, has_room}
-use Rattle.port_model.specs.Saying.{last_number, own_of, peer_of, says, redirect, label_range, reclaim}
-use Rattle.port_model.specs.Adjacency.{unwires, steps}
-use Rattle.port_model.specs.Reclaiming.{reclaims_in, recalls}
-use Rattle.port_model.specs.Ticks.{ages, refreshes, one_older, one_idler, idles, ticks_in, ticks_found, ticks_label, asks_for_ack, nudges, moves_windows, ticks_session, ticks}
+use Rattle.port_model.specs.Port.{acts}
+use Rattle.port_model.specs.Saying.{peer_of, says}
+use Rattle.port_model.specs.Adjacency.{steps}
+use Rattle.port_model.specs.Ticks.{ticks}
 use Rattle.port_views.specs.Link.{LinkLabel}
 use Rattle.port_views.specs.Flows.{flow_number}
 use Rattle.port_views.specs.Shown.{label_of, flow_of, number_of, label_in, Shown}

@@ -4,17 +4,11 @@ use Rattle.std.proofs.Common.{◌≡◌, ◌≢◌, ℕ, ◌+◌, ◌-◌, ◌�
 use Rattle.std.specs.Prelude.{is_some}
 use Rattle.std.specs.List.{flat_map}
 use Rattle.std.proofs.lemmas.Bool.Decides.{nat_tests}
-use Rattle.net_types.specs.declared.prefix.Addr.{Addr}
-use Rattle.net_types.specs.declared.adjacency.Peer.{Peer}
-use Rattle.adjacency_table.specs.declared.State.{State}
-use Rattle.adjacency_table.specs.declared.State.TheVariants.{Clearing, SynSent}
-use Rattle.adjacency_table.specs.Side.{Side, fresh, is_estab}
-use Rattle.adjacency_table.specs.Instances.{SideByInstances, begun}
-use Rattle.adjacency_table.specs.Ends.{router, side_of}
-use Rattle.gsmp_wire.specs.declared.request.Request.TheVariants.{DeleteAll}
-use Rattle.ordered_lists.specs.Ordered.{Every}
-use Rattle.ordered_lists.proofs.Every.{every_join}
-use Rattle.keyed_lists.specs.Keyed.{at}
+use Rattle.port_model.specs.Words.{Addr, Peer, State, Clearing, SynSent, Side, fresh, is_estab, SideByInstances, router, side_of, at, Setup, Label, Grant, GrantState, Idle, ByController, ByInput, Leaving, grant_label, Session, Work, next_side, closing, left_in, left_of, taking_back_in, taking_back, withdrawing_in, withdrawing_of, withdrawing, resets, restarts}
+use Rattle.port_model.specs.adjacency_table.Instances.{begun}
+use Rattle.port_model.specs.gsmp_wire.declared.request.Request.TheVariants.{DeleteAll}
+use Rattle.port_facts.specs.ordered_lists.Ordered.{Every}
+use Rattle.port_facts.proofs.ordered_lists.Every.{every_join}
 use Rattle.port_facts.proofs.Keyed.{by_eq}
 use Rattle.label_line.specs.Cells.{Role, Downstream, Upstream, Cell}
 use Rattle.label_line.specs.Line as lines
@@ -24,11 +18,7 @@ use Rattle.label_line.specs.Upstream as up
 use Rattle.label_line.specs.Moves.{Restart, Release, Clear}
 use Rattle.port_model.specs.declared.action.Action.{Action}
 use Rattle.port_model.specs.declared.action.Action.TheVariants.{Say, Ask, Note, CutChain, TakeBack, Withdraw, Reset}
-use Rattle.port_model.specs.Setup.{Setup}
-use Rattle.port_model.specs.Labels.{Label}
-use Rattle.port_model.specs.Grants.{Grant, GrantState, Idle, ByController, ByInput, Leaving, grant_label}
-use Rattle.port_model.specs.Port.{Session, Port, Work}
-use Rattle.port_model.specs.Resets.{next_side, closing, left_in, left_of, taking_back_in, taking_back, withdrawing_in, withdrawing_of, withdrawing, resets, restarts}
+use Rattle.port_model.specs.Port.{Port}
 use Rattle.port_views.specs.Link.{LinkLabel}
 use Rattle.port_views.specs.Flows.{flow_number}
 use Rattle.port_views.specs.Heard.{IsOwn, asked, asked_all}

@@ -1,7 +1,7 @@
 -- a port at work asks something, and says a message under its next number
 
 use Rattle.std.proofs.Common.{◌≡◌, Bool, true, List, [], ◌∷◌, ◌++◌, None, Some, refl, ap, length}
-use Rattle.ifmp_wire.specs.declared.message.Message.{Message}
+use Rattle.port_model.specs.ifmp_wire.declared.message.Message.{Message}
 use Rattle.port_facts.proofs.Keyed.{on_both, every_more}
 use Rattle.label_line.specs.Cells as lines
 use Rattle.label_line.specs.Cells.{Role, Downstream, Upstream, Cell, ToSwitch, frame}
@@ -9,8 +9,8 @@ use Rattle.label_line.specs.Line.{Line}
 use Rattle.label_line.specs.Moves.{Lose}
 use Rattle.port_model.specs.declared.action.Action.{Action}
 use Rattle.port_model.specs.declared.action.Action.TheVariants.{Say, Reset}
-use Rattle.port_model.specs.Port.{Work, acts, halts}
-use Rattle.port_model.specs.Saying.{is_spent, closes}
+use Rattle.port_model.specs.Words.{Work, halts, is_spent, closes}
+use Rattle.port_model.specs.Port.{acts}
 use Rattle.port_views.specs.Link.{LinkLabel, other}
 use Rattle.port_views.specs.Heard.{heard_by, framed, is_own, IsOwn, asked}
 use Rattle.port_views.specs.Shown.{Shown}

@@ -3,24 +3,13 @@
 use Rattle.std.proofs.Common.{◌≡◌, ℕ, Bool, true, false, List, [], Option, None, Some, refl, sym, ◌∙◌, ap}
 use Rattle.std.specs.Prelude.{◌+◌, is_some, nat_eq, nat_le, nat_lt, ◌&&◌, ◌==◌}
 use Rattle.std.specs.Option.{option_map, option_map_or}
-use Rattle.net_types.specs.declared.prefix.Addr.{Addr}
-use Rattle.net_types.specs.declared.number.Instance.{Instance}
-use Rattle.net_types.specs.declared.adjacency.Peer.{Peer}
-use Rattle.adjacency_table.specs.declared.State.{State}
-use Rattle.adjacency_table.specs.declared.State.TheVariants.{Clearing, SynSent, SynRcvd, Estab}
-use Rattle.adjacency_table.specs.Side.{Side, is_estab}
-use Rattle.adjacency_table.specs.Instances.{SideByInstances}
-use Rattle.adjacency_table.specs.Ends.{router, side_of}
+use Rattle.port_model.specs.Words.{Addr, Instance, Peer, State, Clearing, SynSent, SynRcvd, Estab, Side, is_estab, SideByInstances, router, side_of, at, Label, label_number, Session, Work, with_session, last_number, own_of, is_from_peer, is_due, takes, expects}
 use Rattle.port_facts.proofs.Keyed.{on_each}
-use Rattle.keyed_lists.specs.Keyed.{at}
 use Rattle.label_line.specs.Cells.{Downstream, Upstream, Cell}
 use Rattle.label_line.specs.Line as lines
 use Rattle.label_line.specs.Line.{Line}
 use Rattle.label_line.specs.Upstream as up
-use Rattle.port_model.specs.Labels.{Label, label_number}
-use Rattle.port_model.specs.Port.{Session, Work, with_session}
-use Rattle.port_model.specs.Saying.{last_number, own_of, peer_of}
-use Rattle.port_model.specs.Redirection.{is_from_peer, is_due, takes, expects}
+use Rattle.port_model.specs.Saying.{peer_of}
 use Rattle.port_views.specs.Link.{LinkLabel}
 use Rattle.port_views.specs.Shown.{label_of, flow_of, number_of, known_number, expected_number, Shown}
 use Rattle.port_views.proofs.Live.{live_session}

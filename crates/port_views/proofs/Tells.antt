@@ -5,13 +5,7 @@ use Rattle.std.proofs.Common.{◌≡◌, ℕ, ◌+◌, ◌≤◌, true, false, L
 use Rattle.std.specs.Prelude.{nat_lt, is_some}
 use Rattle.std.specs.Option.{option_map, option_map_or}
 use Rattle.std.proofs.lemmas.Bool.Decides.{nat_tests}
-use Rattle.net_types.specs.declared.number.Instance.{Instance}
-use Rattle.adjacency_table.specs.declared.State.{State}
-use Rattle.adjacency_table.specs.declared.State.TheVariants.{Clearing, SynSent, SynRcvd, Estab}
-use Rattle.net_types.specs.declared.adjacency.Peer.{Peer}
-use Rattle.adjacency_table.specs.Side.{is_estab}
-use Rattle.adjacency_table.specs.Instances.{SideByInstances}
-use Rattle.adjacency_table.specs.Ends.{router, side_of}
+use Rattle.port_model.specs.Words.{Instance, State, Clearing, SynSent, SynRcvd, Estab, Peer, is_estab, SideByInstances, router, side_of, at, label_number, Session, Work, with_session, label_at, Unnumbered, last_number, spent_number, own_of, tells_in, tells, closes}
 use Rattle.port_facts.proofs.Keyed.{on_each}
 use Rattle.label_line.specs.Cells as lines
 use Rattle.label_line.specs.Cells.{Role, Downstream, Upstream, Cell, frame}
@@ -19,10 +13,8 @@ use Rattle.label_line.specs.Line.{Line}
 use Rattle.label_line.specs.Downstream.{sends_numbered, sends_other}
 use Rattle.label_line.specs.Moves.{SendOther}
 use Rattle.port_model.specs.declared.action.Action.TheVariants.{Say}
-use Rattle.keyed_lists.specs.Keyed.{at}
-use Rattle.port_model.specs.Labels.{label_number}
-use Rattle.port_model.specs.Port.{Session, Work, acts, with_session, label_at}
-use Rattle.port_model.specs.Saying.{Unnumbered, last_number, spent_number, own_of, peer_of, numbered, tells_in, tells, closes, says}
+use Rattle.port_model.specs.Port.{acts}
+use Rattle.port_model.specs.Saying.{peer_of, numbered, says}
 use Rattle.port_views.specs.Link.{LinkLabel}
 use Rattle.port_views.specs.Heard.{heard_by, IsSaid}
 use Rattle.port_views.specs.Shown.{label_of, flow_of, number_of, known_number, expected_number, Shown}

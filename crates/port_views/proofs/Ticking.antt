@@ -2,19 +2,11 @@
 
 use Rattle.std.proofs.Common.{◌≡◌, ℕ, Bool, true, false, List, Option, None, Some, refl, sym, ◌∙◌, ap, subst}
 use Rattle.std.specs.Prelude.{◌-◌, ◌==◌}
-use Rattle.net_types.specs.declared.number.Instance.{Instance}
-use Rattle.net_types.specs.declared.adjacency.Peer.{Peer}
-use Rattle.net_types.specs.declared.adjacency.Hello.{Hello}
-use Rattle.net_types.specs.declared.channel.End.{End}
-use Rattle.adjacency_table.specs.declared.message.Answer.{Answer}
-use Rattle.adjacency_table.specs.declared.message.Answer.TheVariants.{Quiet, Send, Open, Reset}
-use Rattle.adjacency_table.specs.Table.{Reply, Silent, Says, Resets, tick_reply}
-use Rattle.adjacency_table.specs.Side.{Side, Step, counted, ticked}
-use Rattle.adjacency_table.specs.Ends.{router, side_of, tick_by}
-use Rattle.adjacency_table.proofs.EndsLemmas.{ticked_by_instances}
-use Rattle.ifmp_wire.specs.declared.message.Message.TheVariants.{Adjacency}
-use Rattle.link_model.specs.declared.record.Record.TheVariants.{Opened}
-use Rattle.keyed_lists.specs.Keyed.{at}
+use Rattle.port_model.specs.Words.{Instance, Peer, Hello, End, Answer, Quiet, Send, Open, Reply, Silent, Says, Resets, tick_reply, Side, Step, ticked, router, side_of, tick_by, Opened, at, Setup, label_end, Grant, GrantState, Idle, ByController, ByInput, Leaving, grant_label, Work, halts, with_grants, with_grant, without_grant, greets, first_session, expires, ages_in, ages_found, ages}
+use Rattle.port_model.specs.adjacency_table.declared.message.Answer.TheVariants.{Reset}
+use Rattle.port_model.specs.adjacency_table.Side.{counted}
+use Rattle.port_model.proofs.adjacency_table.EndsLemmas.{ticked_by_instances}
+use Rattle.port_model.specs.ifmp_wire.declared.message.Message.TheVariants.{Adjacency}
 use Rattle.port_facts.proofs.Keyed.{on_both, by_eq, at_key}
 use Rattle.label_line.specs.Cells.{Role, Downstream, Upstream, Cell}
 use Rattle.label_line.specs.Line as states
@@ -23,12 +15,8 @@ use Rattle.label_line.specs.Downstream as down
 use Rattle.label_line.specs.Upstream as up
 use Rattle.label_line.specs.Moves as moves
 use Rattle.port_model.specs.declared.action.Action.TheVariants.{Say, Note, TakeBack}
-use Rattle.port_model.specs.Setup.{Setup, label_end}
-use Rattle.port_model.specs.Grants.{Grant, GrantState, Idle, ByController, ByInput, Leaving, grant_label}
-use Rattle.port_model.specs.Port.{Work, acts, halts, with_grants, with_grant, without_grant}
-use Rattle.port_model.specs.Saying.{greets}
-use Rattle.port_model.specs.Adjacency.{first_session, answers, steps}
-use Rattle.port_model.specs.Ticks.{expires, ages_in, ages_found, ages}
+use Rattle.port_model.specs.Port.{acts}
+use Rattle.port_model.specs.Adjacency.{answers, steps}
 use Rattle.port_views.specs.Link.{LinkLabel}
 use Rattle.port_views.specs.Flows.{flow_number}
 use Rattle.port_views.specs.Shown.{expected_number, grant_in, granted, IsLent, Shown}

@@ -3,21 +3,13 @@
 
 use Rattle.std.specs.Prelude.{◌≡◌, ℕ, Bool, true, false, ◌&&◌, ◌==◌, nat_eq, nat_lt, List, [], flat_map, Option, None, Some, if◌then◌else◌}
 use Rattle.std.specs.Option.{option_map_or}
-use Rattle.net_types.specs.declared.prefix.Addr.{Addr}
-use Rattle.net_types.specs.declared.channel.Channel.{Channel}
-use Rattle.net_types.specs.declared.adjacency.Hello.{Hello}
-use Rattle.net_types.specs.declared.adjacency.HelloKind.{HelloKind}
-use Rattle.net_types.specs.declared.adjacency.HelloKind.TheVariants.{Syn, Synack, Rstack, Ack}
-use Rattle.net_types.specs.Label.{label_number_of}
-use Rattle.adjacency_table.specs.Hello.{next_in}
-use Rattle.ifmp_wire.specs.declared.message.Message.{Message}
-use Rattle.ifmp_wire.specs.declared.message.Message.TheVariants.{Adjacency, Redirect, Reclaim, ReclaimAck, LabelRange, Error}
+use Rattle.port_model.specs.Words.{Addr, Channel, Hello, HelloKind, Syn, Synack, Rstack, Ack, label_number_of, next_in, Redirect, Reclaim, ReclaimAck, LabelRange, Error, Instance, Unnumbered, last_number}
+use Rattle.port_model.specs.ifmp_wire.declared.message.Message.{Message}
+use Rattle.port_model.specs.ifmp_wire.declared.message.Message.TheVariants.{Adjacency}
 use Rattle.label_line.specs.Cells as lines
 use Rattle.label_line.specs.Cells.{Role, Downstream, Upstream}
 use Rattle.port_model.specs.declared.action.Action.{Action}
 use Rattle.port_model.specs.declared.action.Action.TheVariants.{Say}
-use Rattle.net_types.specs.declared.number.Instance.{Instance}
-use Rattle.port_model.specs.Saying.{Unnumbered, last_number}
 use Rattle.port_views.specs.Flows.{flow_number}
 
 -- *Messages*. A channel names the label

@@ -1,9 +1,7 @@
 -- A label of a link, and the two ends of the link as they stand to it
 
 use Rattle.std.specs.Prelude.{ℕ}
-use Rattle.net_types.specs.declared.node.NodeId.{NodeId}
-use Rattle.net_types.specs.declared.node.PortNo.{PortNo}
-use Rattle.net_types.specs.declared.prefix.Addr.{Addr}
+use Rattle.port_model.specs.Words.{NodeId, PortNo, Addr}
 use Rattle.label_line.specs.Cells.{Role, Downstream, Upstream}
 
 -- the end at the other side of the link

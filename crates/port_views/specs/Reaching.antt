@@ -1,14 +1,14 @@
 -- That moves of a label's line lead from what a port at work shows to what it shows next
 
 use Rattle.std.specs.Prelude.{◌≡◌, ℕ, Bool, List, Some}
-use Rattle.ifmp_wire.specs.declared.message.Message.{Message}
+use Rattle.port_model.specs.ifmp_wire.declared.message.Message.{Message}
 use Rattle.label_line.specs.Cells as lines
 use Rattle.label_line.specs.Cells.{Role, Downstream, Upstream, Cell}
 use Rattle.label_line.specs.Line.{Line}
 use Rattle.label_line.specs.Downstream.{downstream_hears}
 use Rattle.label_line.specs.Upstream.{upstream_hears}
 use Rattle.label_line.specs.Moves.{Move, run}
-use Rattle.port_model.specs.Port.{Work}
+use Rattle.port_model.specs.Words.{Work}
 use Rattle.port_model.specs.Resets.{cleared}
 use Rattle.port_views.specs.Link.{LinkLabel, other}
 use Rattle.port_views.specs.Heard.{heard_by}

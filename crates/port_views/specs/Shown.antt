@@ -3,20 +3,11 @@
 
 use Rattle.std.specs.Prelude.{◌≡◌, ℕ, ◌+◌, ◌≤◌, ◌⊎◌, false, List, [], ◌∷◌, ◌++◌, is_some, Option, None, Some}
 use Rattle.std.specs.Option.{option_map_or}
-use Rattle.adjacency_table.specs.declared.State.{State}
-use Rattle.adjacency_table.specs.declared.State.TheVariants.{Clearing}
-use Rattle.adjacency_table.specs.Side.{is_estab}
-use Rattle.adjacency_table.specs.Instances.{SideByInstances}
-use Rattle.adjacency_table.specs.Ends.{router, side_of}
-use Rattle.ordered_lists.specs.Ordered.{Every}
-use Rattle.keyed_lists.specs.Keyed.{at}
+use Rattle.port_model.specs.Words.{State, Clearing, is_estab, SideByInstances, router, side_of, at, Label, LabelState, Wiring, Offered, Recalled, Wired, Grant, GrantState, Idle, ByController, ByInput, Leaving, grant_label, Session, Work, label_at, spent_number}
+use Rattle.port_facts.specs.ordered_lists.Ordered.{Every}
 use Rattle.label_line.specs.Cells.{Role, Downstream, Upstream, Cell}
 use Rattle.label_line.specs.Line as lines
 use Rattle.label_line.specs.Line.{Line}
-use Rattle.port_model.specs.Labels.{Label, LabelState, Wiring, Offered, Recalled, Wired}
-use Rattle.port_model.specs.Grants.{Grant, GrantState, Idle, ByController, ByInput, Leaving, grant_label}
-use Rattle.port_model.specs.Port.{Session, Work, label_at}
-use Rattle.port_model.specs.Saying.{spent_number}
 use Rattle.port_views.specs.Link.{LinkLabel, other}
 use Rattle.port_views.specs.Flows.{flow_number}
 use Rattle.port_views.specs.Heard.{IsOwn, asked_all}

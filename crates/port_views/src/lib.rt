@@ -8,31 +8,16 @@
 #![tactic(auto)]
 
 ghost use Rattle.std.specs.Prelude.{◌≡◌, ◌≤◌, [], List, Some, None, true, false, nat_eq, ℕ};
-ghost use Rattle.net_types.specs.declared.prefix.Addr.{Addr};
-ghost use Rattle.net_types.specs.declared.number.Instance.{Instance};
-ghost use Rattle.net_types.specs.declared.channel.End.{End};
-ghost use Rattle.net_types.specs.Label.{is_label_number};
-ghost use Rattle.adjacency_table.specs.declared.State.TheVariants.{Clearing};
-ghost use Rattle.ipv4_packet.specs.declared.flow.FlowId.{FlowId};
-ghost use Rattle.ipv4_packet.specs.Parts.{same_flow};
-ghost use Rattle.ifmp_wire.specs.declared.message.Message.{Message};
-ghost use Rattle.gsmp_wire.specs.declared.request.Request.{Request};
-ghost use Rattle.port_model.specs.Desk.{Desk};
-ghost use Rattle.keyed_lists.specs.Keyed.{at};
+ghost use Rattle.port_model.specs.Words.{Addr, Instance, End, is_label_number, Clearing, FlowId, same_flow, Request, Desk, at, Setup, Session, Work, resets, restarts, Unnumbered, is_spent, last_number, own_of, Grant, ByController, grant_label, hears, used, parted, lent};
+ghost use Rattle.port_model.specs.ifmp_wire.declared.message.Message.{Message};
 ghost use Rattle.label_line.specs.Cells as lines;
 ghost use Rattle.label_line.specs.Cells.{Role, Cell, Downstream, Upstream, frame};
 ghost use Rattle.label_line.specs.Line.{Line};
 ghost use Rattle.label_line.specs.Downstream.{sends_numbered};
-ghost use Rattle.port_model.specs.Setup.{Setup};
-ghost use Rattle.port_model.specs.Port.{Session, Work};
-ghost use Rattle.port_model.specs.Resets.{resets, restarts};
-ghost use Rattle.port_model.specs.Saying.{Unnumbered, is_spent, last_number, own_of, peer_of, says};
-ghost use Rattle.port_model.specs.Grants.{Grant, ByController, grant_label};
-ghost use Rattle.port_model.specs.Hearing.{hears};
+ghost use Rattle.port_model.specs.Saying.{peer_of, says};
 ghost use Rattle.port_model.specs.Answers.{done};
-ghost use Rattle.port_model.specs.Counting.{used};
 ghost use Rattle.port_model.specs.Ticks.{ticks};
-ghost use Rattle.port_model.specs.Joins.{joined, parted, lent};
+ghost use Rattle.port_model.specs.Joins.{joined};
 ghost use Rattle.port_views.specs.Link.{LinkLabel, other};
 ghost use Rattle.port_views.specs.Flows.{flow_number};
 ghost use Rattle.port_views.specs.Heard.{heard_by, is_own, IsSaid};

@@ -2,24 +2,12 @@
 
 use Rattle.std.proofs.Common.{◌≡◌, ℕ, ◌≤◌, ◌+◌, Bool, true, false, List, Option, None, Some, refl, ap, arith}
 use Rattle.std.specs.Prelude.{◌==◌}
-use Rattle.net_types.specs.declared.channel.End.{End}
-use Rattle.net_types.specs.Label.{label_number_of, number_of_channel, label_channel_of}
-use Rattle.ipv4_packet.specs.declared.flow.FlowId.{FlowId}
-use Rattle.gsmp_wire.specs.declared.request.Request.{Request}
-use Rattle.gsmp_wire.specs.declared.request.Request.TheVariants.{AddBranch, MoveBranch, DeleteTree, VerifyTree, DeleteAll, PortManagement, AllPorts}
-use Rattle.link_model.specs.declared.record.Record.TheVariants.{Bind, Free, Join}
-use Rattle.port_model.specs.Desk.{Desk}
-use Rattle.port_model.specs.declared.action.Action.TheVariants.{Note}
-use Rattle.port_model.specs.Setup.{Setup}
-use Rattle.port_model.specs.Labels.{Label, LabelState, Wiring, Offered, Recalled, Wired, label_for}
-use Rattle.port_model.specs.Grants.{Grant, GrantState, Idle, ByController, ByInput, Leaving, grant_on}
-use Rattle.port_model.specs.Counts.{counted_once}
-use Rattle.port_model.specs.Port.{Session, Work, acts, with_session, with_label, without_label, without_grant, label_at}
-use Rattle.port_model.specs.Saying.{redirect, reclaim_ack}
-use Rattle.port_model.specs.Counting.{packet_flow, counts_flow, counts_by, counts}
-use Rattle.port_model.specs.Hearing.{label_by}
-use Rattle.port_model.specs.Answers.{bound_in, bound, freed_in, freed, started_in, started, done}
-use Rattle.port_model.specs.Joins.{joins_label, parted, ended, given_back_in, given_back}
+use Rattle.world_model.specs.Words.{End, label_number_of, number_of_channel, label_channel_of, FlowId, Request, AddBranch, MoveBranch, DeleteTree, VerifyTree, PortManagement, Bind, Free, Desk, Note, Setup, Label, LabelState, Wiring, Offered, Recalled, Wired, label_for, Grant, GrantState, Idle, ByController, ByInput, Leaving, grant_on, counted_once, Session, Work, with_session, with_label, without_label, without_grant, label_at, redirect, reclaim_ack, packet_flow, counts_flow, counts_by, counts, label_by, bound_in, bound, freed_in, freed, started_in, started, joins_label, parted, given_back_in, given_back}
+use Rattle.world_model.specs.gsmp_wire.declared.request.Request.TheVariants.{DeleteAll, AllPorts}
+use Rattle.world_model.specs.link_model.declared.record.Record.TheVariants.{Join}
+use Rattle.world_model.specs.port_model.Port.{acts}
+use Rattle.world_model.specs.port_model.Answers.{done}
+use Rattle.world_model.specs.port_model.Joins.{ended}
 use Rattle.quiet_model.specs.Costs.{frame_weight, reset_weight, words_weight, naming_weight, offer_weight, label_cost}
 use Rattle.quiet_model.specs.Weights.{state_cost}
 use Rattle.port_weights.specs.Law.{ServesOnce}

@@ -2,16 +2,9 @@
 
 use Rattle.std.proofs.Common.{◌≡◌, ◌≤◌, ◌+◌, Bool, true, false, None, Some, refl, ap, arith, if◌then◌else◌}
 use Rattle.std.specs.Option.{option_map_or}
-use Rattle.net_types.specs.declared.adjacency.HelloKind.{HelloKind}
-use Rattle.net_types.specs.declared.adjacency.HelloKind.TheVariants.{Syn, Synack, Ack, Rstack}
-use Rattle.adjacency_table.specs.declared.State.{State}
-use Rattle.adjacency_table.specs.declared.State.TheVariants.{Clearing, SynSent, SynRcvd, Estab}
-use Rattle.adjacency_table.specs.declared.message.Heard.{Heard}
-use Rattle.adjacency_table.specs.declared.message.Said.{Said}
-use Rattle.adjacency_table.specs.declared.message.Answer.{Answer}
-use Rattle.adjacency_table.specs.declared.message.Answer.TheVariants.{Quiet, Send, Open, Reset}
-use Rattle.adjacency_table.specs.Side.{Side, is_entry, answer_to, answer_of, opened, followed, received}
-use Rattle.adjacency_table.specs.Table.{Reply, Silent, Says, Resets, Row, row}
+use Rattle.world_model.specs.Words.{HelloKind, Syn, Synack, Ack, Rstack, State, Clearing, SynSent, SynRcvd, Estab, Heard, Said, Answer, Quiet, Send, Open, Side, is_entry, answer_to, answer_of, followed, received, Reply, Silent, Says, Resets, Row, row}
+use Rattle.world_model.specs.adjacency_table.declared.message.Answer.TheVariants.{Reset}
+use Rattle.world_model.specs.adjacency_table.Side.{opened}
 use Rattle.quiet_model.specs.Costs.{rank}
 
 abbrev pub IsReplyBelow : HelloKind → Reply → Type 0

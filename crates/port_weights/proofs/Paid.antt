@@ -1,8 +1,7 @@
 -- the laws of a port
 
 use Rattle.std.proofs.Common.{ℕ, arith}
-use Rattle.port_model.specs.Desk.{empty_desk}
-use Rattle.port_model.specs.Port.{Work}
+use Rattle.world_model.specs.Words.{empty_desk, Work}
 use Rattle.quiet_model.specs.Costs.{message_cost, offer_weight}
 use Rattle.port_weights.specs.Law.{IsPaid, HearingIsPaid, CountingIsPaid, UseIsFree, AnswersAreFree, PartingIsFree, GivingBackIsFree}
 use Rattle.port_weights.proofs.Works.{Costs, due_some}

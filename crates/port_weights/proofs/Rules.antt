@@ -3,39 +3,16 @@
 use Rattle.std.proofs.Common.{◌≡◌, ℕ, ◌≤◌, ◌+◌, Bool, true, false, List, [], ◌∷◌, ◌++◌, length, Option, None, Some, refl, sym, ◌∙◌, ap, subst, arith, if◌then◌else◌, map}
 use Rattle.std.specs.Prelude.{nat_lt, not, ◌==◌, ◌&&◌, ◌||◌, max, min}
 use Rattle.std.specs.Option.{option_map_or, option_map}
-use Rattle.net_types.specs.declared.prefix.Addr.{Addr}
-use Rattle.net_types.specs.declared.number.Instance.{Instance}
-use Rattle.net_types.specs.declared.channel.Channel.{Channel}
-use Rattle.net_types.specs.declared.channel.End.{End}
-use Rattle.net_types.specs.declared.adjacency.Hello.{Hello}
-use Rattle.net_types.specs.declared.adjacency.HelloKind.{HelloKind}
-use Rattle.net_types.specs.declared.adjacency.Peer.{Peer}
-use Rattle.net_types.specs.Label.{label_number_of}
-use Rattle.adjacency_table.specs.declared.message.Said.{Said}
-use Rattle.adjacency_table.specs.declared.message.Answer.{Answer}
-use Rattle.adjacency_table.specs.declared.message.Answer.TheVariants.{Quiet, Send, Open, Reset}
-use Rattle.adjacency_table.specs.Side as sides
-use Rattle.adjacency_table.specs.Hello.{same_peer, hello_of, ifmp_answer, ifmp_received, heard_from}
-use Rattle.ipv4_packet.specs.declared.flow.FlowId.{FlowId}
-use Rattle.ipv4_packet.specs.Parts.{same_flow}
-use Rattle.ifmp_wire.specs.declared.message.Message.{Message}
-use Rattle.ifmp_wire.specs.declared.message.Message.TheVariants.{Adjacency, Redirect, Reclaim, ReclaimAck, LabelRange, Error}
-use Rattle.gsmp_wire.specs.declared.request.Request.TheVariants.{AddBranch, DeleteTree}
-use Rattle.link_model.specs.declared.record.Record.TheVariants.{Opened}
-use Rattle.keyed_lists.specs.Keyed.{at}
-use Rattle.port_model.specs.Desk.{Desk, on_input}
-use Rattle.port_model.specs.declared.action.Action.TheVariants.{Say, Ask, Note, CutChain, TakeBack}
-use Rattle.port_model.specs.Setup.{Setup, label_end, control_end, is_in_range}
-use Rattle.port_model.specs.Labels.{Label, LabelState, Wiring, Offered, Recalled, Wired, label_number, lowest_spare}
-use Rattle.port_model.specs.Grants.{Grant, GrantState, Idle, ByController, ByInput, Leaving, grant_label, grant_on, is_leaving, most_grants, Acceptance, New, Refreshed, OutOfRange, Taken, IsLeaving, GrantsFull, acceptance_beside, acceptance_of, acceptance}
-use Rattle.port_model.specs.Counts.{packets_in}
-use Rattle.port_model.specs.Port.{Session, Port, Work, acts, halts, with_session, with_label, with_new_label, with_grants, with_grant, without_grant, label_at, labels_of, known_of, desk_after, has_room}
-use Rattle.port_model.specs.Saying.{Unnumbered, last_number, greets, says, reclaim, reclaim_ack, label_range, error}
-use Rattle.port_model.specs.Adjacency.{first_session, opens, answers, steps, unwires, quits_label, quits_in, quits_found, quits, is_good, learns, greeted}
-use Rattle.port_model.specs.Counting.{wires, offers, used_label, used}
-use Rattle.port_model.specs.Redirection.{takes, expects, accepts, grants_label, redirected}
-use Rattle.port_model.specs.Reclaiming.{reclaims_in, unjoins, recalls, recalls_in, recalls_offered, reclaimed_in, reclaimed, acknowledged_in, acknowledged, narrowed, is_outside, recalls_outside, ranged, error_comes}
-use Rattle.port_model.specs.Hearing.{label_by, hears}
+use Rattle.world_model.specs.Words.{Addr, Instance, Channel, End, Hello, HelloKind, Peer, label_number_of, Said, Answer, Quiet, Send, Open, same_peer, hello_of, ifmp_answer, ifmp_received, heard_from, FlowId, same_flow, Redirect, Reclaim, ReclaimAck, LabelRange, Error, AddBranch, DeleteTree, Opened, at, Desk, on_input, Say, Ask, Note, CutChain, TakeBack, Setup, label_end, control_end, is_in_range, Label, LabelState, Wiring, Offered, Recalled, Wired, label_number, lowest_spare, Grant, GrantState, Idle, ByController, ByInput, Leaving, grant_label, grant_on, is_leaving, most_grants, Acceptance, New, Refreshed, IsLeaving, GrantsFull, acceptance_beside, acceptance_of, acceptance, packets_in, Session, Work, halts, with_session, with_label, with_new_label, with_grants, with_grant, without_grant, label_at, labels_of, known_of, desk_after, has_room, Unnumbered, last_number, greets, reclaim, reclaim_ack, label_range, error, first_session, opens, unwires, quits_label, quits_in, quits_found, quits, is_good, learns, wires, offers, used_label, used, takes, expects, accepts, grants_label, reclaims_in, unjoins, recalls, recalls_in, recalls_offered, reclaimed_in, reclaimed, acknowledged_in, acknowledged, narrowed, is_outside, recalls_outside, ranged, error_comes, label_by, hears}
+use Rattle.world_model.specs.adjacency_table.declared.message.Answer.TheVariants.{Reset}
+use Rattle.world_model.specs.adjacency_table.Side as sides
+use Rattle.world_model.specs.ifmp_wire.declared.message.Message.{Message}
+use Rattle.world_model.specs.ifmp_wire.declared.message.Message.TheVariants.{Adjacency}
+use Rattle.world_model.specs.port_model.Grants.{OutOfRange, Taken}
+use Rattle.world_model.specs.port_model.Port.{Port, acts}
+use Rattle.world_model.specs.port_model.Saying.{says}
+use Rattle.world_model.specs.port_model.Adjacency.{answers, steps, greeted}
+use Rattle.world_model.specs.port_model.Redirection.{redirected}
 use Rattle.quiet_model.specs.Costs.{frame_weight, request_weight, reset_weight, spending_weight, words_weight, redirection_weight, naming_weight, offer_weight, hello_weight, message_cost, label_cost}
 use Rattle.quiet_model.specs.Weights.{state_cost}
 use Rattle.port_facts.proofs.Keyed.{on_both, at_key}

@@ -2,7 +2,7 @@
 
 use Rattle.std.proofs.Common.{◌≡◌, ℕ, ◌≤◌, ◌+◌, Bool, true, false, List, [], ◌∷◌, ◌++◌, Some, refl, ◌∙◌, ap, arith, if◌then◌else◌}
 use Rattle.std.specs.Prelude.{nat_eq, find, filter}
-use Rattle.keyed_lists.specs.Keyed.{at, put, without, entered, in_order}
+use Rattle.world_model.specs.Words.{at, put, without, entered, in_order}
 use Rattle.port_facts.proofs.Keyed.{on_both}
 use Rattle.quiet_model.specs.Costs.{total}
 

@@ -4,16 +4,10 @@ use Rattle.std.proofs.Common.{◌≡◌, ℕ, ◌≤◌, ◌+◌, Bool, true, fa
 use Rattle.std.specs.Prelude.{nat_lt}
 use Rattle.std.specs.Option.{option_map, option_map_or}
 use Rattle.std.proofs.lemmas.Bool.Decides.{nat_tests}
-use Rattle.net_types.specs.declared.adjacency.Peer.{Peer}
-use Rattle.adjacency_table.specs.Side.{Side}
-use Rattle.keyed_lists.specs.Keyed.{at, put, without, entered, key_le}
-use Rattle.port_model.specs.declared.action.Action.{Action}
-use Rattle.port_model.specs.declared.action.Action.TheVariants as actions
-use Rattle.port_model.specs.declared.action.Action.TheVariants.{Say}
-use Rattle.port_model.specs.Labels.{Label, label_number}
-use Rattle.port_model.specs.Grants.{Grant, grant_label}
-use Rattle.port_model.specs.Port.{Session, Port, Work, acts, halts, with_session, with_label, without_label, with_new_label, with_grants, with_grant, without_grant, label_at}
-use Rattle.port_model.specs.Saying.{Unnumbered, last_number, spent_number, own_of, peer_of, numbered, tells_in, tells, is_spent, closes, says}
+use Rattle.world_model.specs.Words.{Peer, Side, at, put, without, entered, key_le, Action, Say, Label, label_number, Grant, grant_label, Session, Work, halts, with_session, with_label, without_label, with_new_label, with_grants, with_grant, without_grant, label_at, Unnumbered, last_number, spent_number, own_of, tells_in, tells, is_spent, closes}
+use Rattle.world_model.specs.port_model.declared.action.Action.TheVariants as actions
+use Rattle.world_model.specs.port_model.Port.{Port, acts}
+use Rattle.world_model.specs.port_model.Saying.{peer_of, numbered, says}
 use Rattle.quiet_model.specs.Costs.{total, frame_weight, reset_weight, spending_weight, message_cost, label_cost}
 use Rattle.quiet_model.specs.Weights.{state_cost}
 use Rattle.port_weights.specs.Works.{action_cost, work_weight}

@@ -1,20 +1,9 @@
 -- No rule of a port makes it heavier than what came pays for: a message that it hears, a packet that it counts
 
 use Rattle.std.specs.Prelude.{◌≡◌, ℕ, ◌≤◌, ◌+◌, List, Some}
-use Rattle.net_types.specs.declared.prefix.Addr.{Addr}
-use Rattle.ipv4_packet.specs.declared.flow.FlowId.{FlowId}
-use Rattle.gsmp_wire.specs.declared.request.Request.{Request}
-use Rattle.ifmp_wire.specs.declared.message.Message.{Message}
-use Rattle.keyed_lists.specs.Keyed.{at}
-use Rattle.port_model.specs.Desk.{Desk}
-use Rattle.port_model.specs.Setup.{Setup}
-use Rattle.port_model.specs.Labels.{Label, label_for}
-use Rattle.port_model.specs.Grants.{Grant, grant_label}
-use Rattle.port_model.specs.Port.{Session, Work, label_at}
-use Rattle.port_model.specs.Counting.{counts, used}
-use Rattle.port_model.specs.Hearing.{hears}
-use Rattle.port_model.specs.Answers.{done}
-use Rattle.port_model.specs.Joins.{parted, given_back}
+use Rattle.world_model.specs.Words.{Addr, FlowId, Request, at, Desk, Setup, Label, label_for, Grant, grant_label, Session, Work, label_at, counts, used, hears, parted, given_back}
+use Rattle.world_model.specs.ifmp_wire.declared.message.Message.{Message}
+use Rattle.world_model.specs.port_model.Answers.{done}
 use Rattle.quiet_model.specs.Costs.{message_cost, offer_weight}
 use Rattle.port_weights.specs.Works.{work_weight}
 

@@ -1,2 +1,3 @@
+pub use Rattle.quiet_model.specs as quiet_model
 pub mod Works
 pub mod Law

@@ -1,9 +1,8 @@
 -- What a port at work weighs: the port, and what it has asked so far
 
 use Rattle.std.specs.Prelude.{ℕ, ◌+◌}
-use Rattle.port_model.specs.declared.action.Action.{Action}
-use Rattle.port_model.specs.declared.action.Action.TheVariants.{Say, Ask, Note, CutChain, TakeBack, Withdraw, Reset}
-use Rattle.port_model.specs.Port.{Work}
+use Rattle.world_model.specs.Words.{Action, Say, Ask, Note, CutChain, TakeBack, Withdraw, Work}
+use Rattle.world_model.specs.port_model.declared.action.Action.TheVariants.{Reset}
 use Rattle.quiet_model.specs.Costs.{total, frame_weight, request_weight, reset_weight, message_cost}
 use Rattle.quiet_model.specs.Weights.{standing_cost, port_weight}
 

@@ -4,24 +4,13 @@ use Rattle.std.proofs.Common.{◌≡◌, ℕ, ◌<◌, ◌+◌, true, List, [], 
 use Rattle.std.specs.Prelude.{◌^◌, nat_lt}
 use Rattle.std.specs.Option.{option_map, option_map_or}
 use Rattle.std.proofs.lemmas.Bool.Decides.{nat_tests}
-use Rattle.net_types.specs.declared.channel.Channel.{Channel}
-use Rattle.net_types.specs.declared.number.Instance.{Instance}
-use Rattle.net_types.specs.declared.adjacency.Peer.{Peer}
-use Rattle.net_types.specs.Label.{label_channel_of}
-use Rattle.adjacency_table.specs.Side.{Side}
-use Rattle.ipv4_packet.specs.declared.flow.FlowId.{FlowId}
-use Rattle.ipv4_packet.specs.Identifier.{FitsFields}
-use Rattle.ifmp_wire.specs.Message.{FitsMessage}
-use Rattle.ordered_lists.specs.Ordered.{Every}
-use Rattle.keyed_lists.specs.Keyed.{at, put, without}
+use Rattle.port_model.specs.Words.{Channel, Instance, Peer, label_channel_of, Side, FlowId, FitsFields, FitsMessage, at, put, without, Setup, Label, label_number, Grant, grant_label, Session, Work, halts, with_session, with_label, without_label, with_grants, with_grant, without_grant, labels_of, Unnumbered, last_number, spent_number, own_of, is_spent, tells_in, tells, closes, redirect, reclaim, reclaim_ack, label_range, error}
+use Rattle.port_facts.specs.ordered_lists.Ordered.{Every}
 use Rattle.port_facts.proofs.Keyed.{on_both, on_each, at_every, put_every, without_every, every_more}
 use Rattle.port_model.specs.declared.action.Action.{Action}
 use Rattle.port_model.specs.declared.action.Action.TheVariants.{Say, Reset}
-use Rattle.port_model.specs.Setup.{Setup}
-use Rattle.port_model.specs.Labels.{Label, label_number}
-use Rattle.port_model.specs.Grants.{Grant, grant_label}
-use Rattle.port_model.specs.Port.{Session, Work, acts, halts, with_session, with_label, without_label, with_grants, with_grant, without_grant, labels_of}
-use Rattle.port_model.specs.Saying.{Unnumbered, last_number, spent_number, own_of, peer_of, is_spent, tells_in, tells, closes, says, redirect, reclaim, reclaim_ack, label_range, error}
+use Rattle.port_model.specs.Port.{acts}
+use Rattle.port_model.specs.Saying.{peer_of, says}
 use Rattle.port_widths.specs.Widths.{FitsStored, FitsLabel, FitsGrant, FitsAction, FitsWork, FitsSetup}
 
 abbrev pub Small : ℕ → Type 0

@@ -2,16 +2,11 @@
 
 use Rattle.std.specs.Prelude.{◌<◌, ◌^◌, Option, None, Some}
 use Rattle.std.specs.Option.{option_map_or}
-use Rattle.net_types.specs.declared.adjacency.Peer.{Peer}
-use Rattle.ipv4_packet.specs.Identifier.{FitsFields}
-use Rattle.ifmp_wire.specs.Message.{FitsMessage}
-use Rattle.ordered_lists.specs.Ordered.{Every}
+use Rattle.port_model.specs.Words.{Peer, FitsFields, FitsMessage, Setup, Label, Grant, Work, labels_of}
+use Rattle.port_facts.specs.ordered_lists.Ordered.{Every}
 use Rattle.port_model.specs.declared.action.Action.{Action}
 use Rattle.port_model.specs.declared.action.Action.TheVariants.{Say}
-use Rattle.port_model.specs.Setup.{Setup}
-use Rattle.port_model.specs.Labels.{Label}
-use Rattle.port_model.specs.Grants.{Grant}
-use Rattle.port_model.specs.Port.{Port, Work, labels_of}
+use Rattle.port_model.specs.Port.{Port}
 
 -- an instance and an address of 32 bits each
 abbrev pub FitsPeer : Peer → Type 0

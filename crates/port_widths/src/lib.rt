@@ -5,24 +5,13 @@
 #![tactic(auto)]
 
 ghost use Rattle.std.specs.Prelude.{◌≡◌, ℕ, ◌<◌, ◌+◌, ◌^◌, List, Some};
-ghost use Rattle.net_types.specs.declared.prefix.Addr.{Addr};
-ghost use Rattle.net_types.specs.declared.channel.End.{End};
-ghost use Rattle.ipv4_packet.specs.declared.flow.FlowId.{FlowId};
-ghost use Rattle.ipv4_packet.specs.Identifier.{FitsFields};
-ghost use Rattle.gsmp_wire.specs.declared.request.Request.{Request};
-ghost use Rattle.ifmp_wire.specs.declared.message.Message.{Message};
-ghost use Rattle.ifmp_wire.specs.Message.{FitsMessage};
-ghost use Rattle.port_model.specs.Desk.{Desk};
-ghost use Rattle.port_model.specs.Setup.{Setup};
-ghost use Rattle.port_model.specs.Grants.{Grant};
-ghost use Rattle.port_model.specs.Port.{Port, Work};
-ghost use Rattle.port_model.specs.Hearing.{hears};
-ghost use Rattle.port_model.specs.Counting.{counts, packet_flow, used};
+ghost use Rattle.port_model.specs.Words.{Addr, End, FlowId, FitsFields, Request, FitsMessage, Desk, Setup, Grant, Work, hears, counts, packet_flow, used, parted, lent, given_back, closes, resets, restarts};
+ghost use Rattle.port_model.specs.ifmp_wire.declared.message.Message.{Message};
+ghost use Rattle.port_model.specs.Port.{Port};
 ghost use Rattle.port_model.specs.Answers.{done};
 ghost use Rattle.port_model.specs.Ticks.{ticks};
-ghost use Rattle.port_model.specs.Joins.{joined, parted, lent, given_back};
-ghost use Rattle.port_model.specs.Saying.{closes};
-ghost use Rattle.port_model.specs.Resets.{resets, restarts, cleared};
+ghost use Rattle.port_model.specs.Joins.{joined};
+ghost use Rattle.port_model.specs.Resets.{cleared};
 ghost use Rattle.port_widths.specs.Widths.{FitsGrant, FitsPort, FitsWork, FitsSetup};
 
 /// Each rule of a port keeps the widths of its numbers, and says none that is wider, where what it heard has

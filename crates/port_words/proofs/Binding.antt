@@ -3,31 +3,13 @@
 use Rattle.std.proofs.Common.{◌≡◌, ℕ, Bool, true, false, List, [], ◌∷◌, ◌++◌, Option, None, Some, refl, sym, ap, subst, if◌then◌else◌, fold}
 use Rattle.std.specs.Prelude.{◌+◌, nat_lt, Contains}
 use Rattle.std.proofs.lemmas.List.Elements.{Contains-push}
-use Rattle.net_types.specs.declared.node.NodeId.{NodeId}
-use Rattle.net_types.specs.declared.node.PortNo.{PortNo}
-use Rattle.net_types.specs.declared.number.Instance.{Instance}
-use Rattle.net_types.specs.Label.{label_channel_of}
-use Rattle.adjacency_table.specs.Side.{is_estab}
-use Rattle.ipv4_packet.specs.declared.flow.FlowId.{FlowId}
-use Rattle.ifmp_wire.specs.declared.message.Message.TheVariants.{Redirect}
-use Rattle.link_model.specs.declared.record.Record.{Record}
-use Rattle.link_model.specs.declared.record.Record.TheVariants.{Bind}
-use Rattle.ordered_lists.specs.Ordered.{Every}
-use Rattle.keyed_lists.specs.Keyed.{put}
-use Rattle.port_model.specs.declared.action.Action.{Action}
-use Rattle.port_model.specs.declared.action.Action.TheVariants as actions
-use Rattle.port_model.specs.declared.action.Action.TheVariants.{Say, Note}
-use Rattle.port_model.specs.Setup.{Setup}
-use Rattle.port_model.specs.Labels.{Label, LabelState, Wiring, Offered, Recalled, Wired, label_number}
-use Rattle.port_model.specs.Port.{Session, Work, acts, halts, with_label, label_at, labels_of}
-use Rattle.port_model.specs.Saying.{last_number, own_of, peer_of, spent_number, tells_in, tells, is_spent, closes, redirect}
-use Rattle.port_model.specs.Answers.{bound_in, bound}
-use Rattle.port_model.specs.Hearing.{label_by}
-use Rattle.port_facts.proofs.Keyed.{on_both, at_every, put_every, every_more}
-use Rattle.world_model.specs.Controller.{Acted, Linked, linked_at, note}
-use Rattle.world_model.specs.Sending.{says_ifmp}
-use Rattle.world_model.specs.Resets.{begins, with_work}
-use Rattle.world_model.specs.Performing.{performs_in_estab, works_as}
+use Rattle.world_model.specs.Words.{NodeId, PortNo, Instance, label_channel_of, is_estab, FlowId, Redirect, Record, Bind, put, Action, Say, Note, Setup, Label, LabelState, Wiring, Offered, Recalled, Wired, label_number, Session, Work, halts, with_label, label_at, labels_of, last_number, own_of, spent_number, tells_in, tells, is_spent, closes, redirect, bound_in, bound, label_by, Linked, linked_at, says_ifmp, begins, with_work, performs_in_estab, works_as}
+use Rattle.controller_bindings.specs.ordered_lists.Ordered.{Every}
+use Rattle.world_model.specs.port_model.declared.action.Action.TheVariants as actions
+use Rattle.world_model.specs.port_model.Port.{acts}
+use Rattle.world_model.specs.port_model.Saying.{peer_of}
+use Rattle.controller_bindings.proofs.port_facts.Keyed.{on_both, at_every, put_every, every_more}
+use Rattle.world_model.specs.Controller.{Acted, note}
 use Rattle.port_words.specs.Words.{Terms, StandsAs, Stands, IsSteady, IsFair, IsSteadily}
 use Rattle.port_words.proofs.Voices.{session_steady}
 use Rattle.port_words.proofs.Sending.{note_h, bound_h}

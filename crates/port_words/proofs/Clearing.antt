@@ -2,54 +2,30 @@
 
 use Rattle.std.proofs.Common.{◌≡◌, ℕ, Bool, true, false, List, [], ◌∷◌, ◌++◌, Option, None, Some, refl, sym, ◌∙◌, ap, subst, if◌then◌else◌, fold, append_assoc, inl, inr}
 use Rattle.std.specs.Prelude.{not, ◌&&◌, length}
-use Rattle.net_types.specs.Label.{label_number_of}
-use Rattle.gsmp_wire.specs.declared.request.Request.TheVariants.{AddBranch, DeleteTree, VerifyTree, PortManagement, AllPorts}
-use Rattle.link_model.specs.declared.record.Record.TheVariants.{Bind, Free, Join, Part}
-use Rattle.keyed_lists.specs.Keyed.{put, without}
-use Rattle.port_model.specs.Messages.{is_up}
-use Rattle.port_model.specs.Labels.{Label, LabelState, Wiring, Offered, Recalled, Wired, label_number}
-use Rattle.port_model.specs.Grants.{Grant, GrantState, Idle, ByController, ByInput, Leaving, grant_label, grant_on}
-use Rattle.port_model.specs.Port.{Session, acts, halts, with_session, with_label, without_label, with_grants, without_grant, label_at}
-use Rattle.port_model.specs.Saying.{Unnumbered, last_number, own_of, peer_of, spent_number, tells_in, tells, is_spent, closes, redirect, reclaim_ack}
-use Rattle.port_model.specs.Hearing.{label_by}
-use Rattle.port_model.specs.Answers as port_answers
-use Rattle.port_model.specs.Answers.{bound_in, bound, freed_in, freed, started_in, started}
-use Rattle.port_model.specs.Joins as port_joins
-use Rattle.port_model.specs.Joins.{joins_label, parted, given_back_in, given_back}
-use Rattle.port_model.specs.Resets.{cleared}
-use Rattle.world_model.specs.Controller.{note, default_end, default_home}
-use Rattle.world_model.specs.Joins.{Join as ControllerJoin, join_of, parts, releases_join, releases_input, released_inputs, resets_spent, releases}
-use Rattle.world_model.specs.Meeting.{up_ports, default_branches, ends_meeting, has_emptied, port_of, tells_port, behind_delete_all, causes_in_estab, causes, is_clearing, awaits_nothing, may_clear, clears_of}
+use Rattle.world_model.specs.Words.{label_number_of, AddBranch, DeleteTree, VerifyTree, PortManagement, Bind, Free, Part, put, without, Label, LabelState, Wiring, Offered, Recalled, Wired, label_number, Grant, GrantState, Idle, ByController, ByInput, Leaving, grant_label, grant_on, Session, halts, with_session, with_label, without_label, with_grants, without_grant, label_at, Unnumbered, last_number, own_of, spent_number, tells_in, tells, is_spent, closes, redirect, reclaim_ack, label_by, bound_in, bound, freed_in, freed, started_in, started, joins_label, parted, given_back_in, given_back, default_end, default_home, join_of, parts, releases_join, releases_input, released_inputs, resets_spent, releases, up_ports, default_branches, ends_meeting, has_emptied, tells_port, behind_delete_all, causes_in_estab, causes, is_clearing, awaits_nothing, may_clear, clears_of, PortNo, Channel, End, Peer, next_control, with_control, label_channel_of, number_of_channel, Side, is_estab, Request, MoveBranch, all_on, is_led_home, last_transaction, Action, Say, Ask, Note, CutChain, TakeBack, Withdraw, Setup, home_of, Work, resets, restarts, closing, withdrawing, taking_back, Controller, Linked, port_key, linked_at, with_linked, with_desk, chains_with, sends_control, asks_next, asks, takes_back, begins, with_work, cuts_of, closes_by, port_restarts_of, port_restarts, resets_gsmp, node_resets, does, does_in_estab, resets_of, performs, performs_in_estab, Rule, works, at_port, nothing_taken}
+use Rattle.world_model.specs.gsmp_wire.declared.request.Request.TheVariants.{AllPorts}
+use Rattle.world_model.specs.link_model.declared.record.Record.TheVariants.{Join}
+use Rattle.world_model.specs.port_model.Messages.{is_up}
+use Rattle.world_model.specs.port_model.Port.{acts}
+use Rattle.world_model.specs.port_model.Saying.{peer_of}
+use Rattle.world_model.specs.port_model.Answers as port_answers
+use Rattle.world_model.specs.port_model.Joins as port_joins
+use Rattle.world_model.specs.port_model.Resets.{cleared}
+use Rattle.world_model.specs.Controller.{note}
+use Rattle.world_model.specs.Joins.{Join as ControllerJoin}
+use Rattle.world_model.specs.Meeting.{port_of}
 use Rattle.port_words.proofs.Joining.{Clears, unclear, cleared_on}
 use Rattle.std.specs.Prelude.{◌⊎◌, ◌+◌, ◌==◌, nat_lt, flat_map}
 use Rattle.std.specs.Option.{option_map}
-use Rattle.net_types.specs.declared.node.PortNo.{PortNo}
-use Rattle.net_types.specs.declared.channel.Channel.{Channel}
-use Rattle.net_types.specs.declared.channel.End.{End}
-use Rattle.net_types.specs.declared.adjacency.Peer.{Peer}
-use Rattle.net_types.specs.Number.{next_control, with_control}
-use Rattle.net_types.specs.Label.{label_channel_of, number_of_channel}
-use Rattle.adjacency_table.specs.Side.{Side, is_estab}
-use Rattle.gsmp_wire.specs.declared.request.Request.{Request}
-use Rattle.gsmp_wire.specs.declared.request.Request.TheVariants.{MoveBranch, DeleteAll}
-use Rattle.ordered_lists.specs.Ordered.{Every}
-use Rattle.ordered_lists.proofs.Every.{every_map, every_all}
-use Rattle.port_model.specs.Desk.{all_on, asked, is_led_home, last_transaction}
-use Rattle.port_model.specs.declared.action.Action.{Action}
-use Rattle.port_model.specs.declared.action.Action.TheVariants as actions
-use Rattle.port_model.specs.declared.action.Action.TheVariants.{Say, Ask, Note, CutChain, TakeBack, Withdraw}
-use Rattle.port_model.specs.Setup.{Setup, home_of}
-use Rattle.port_model.specs.Port.{Work}
-use Rattle.port_model.specs.Resets.{resets, restarts, closing, withdrawing, taking_back}
-use Rattle.port_facts.proofs.Keyed.{on_both, on_each, at_every, put_every}
-use Rattle.world_model.specs.Controller.{Controller, Acted, Linked, port_key, linked_at, ports_of, with_linked, with_desk, chains_with}
-use Rattle.world_model.specs.Sending.{sends_control}
-use Rattle.world_model.specs.Asking.{asks_next, asks, takes_back}
-use Rattle.world_model.specs.Resets.{begins, with_work, cuts_of, closes_by, port_restarts_of, port_restarts, resets_gsmp, node_resets}
-use Rattle.world_model.specs.Performing.{does, does_in_estab, resets_of, performs, performs_in_estab, Rule, works, at_port}
-use Rattle.frame_model.specs.Reassembly.{nothing_taken}
-use Rattle.controller_law.proofs.Desk.{asked_all, withdrawn_all, asked_of}
-use Rattle.controller_views.proofs.Sends.{sent_cases}
+use Rattle.world_model.specs.gsmp_wire.declared.request.Request.TheVariants.{DeleteAll}
+use Rattle.controller_bindings.specs.ordered_lists.Ordered.{Every}
+use Rattle.controller_bindings.proofs.ordered_lists.Every.{every_map, every_all}
+use Rattle.world_model.specs.port_model.Desk.{asked}
+use Rattle.world_model.specs.port_model.declared.action.Action.TheVariants as actions
+use Rattle.controller_bindings.proofs.port_facts.Keyed.{on_both, on_each, at_every, put_every}
+use Rattle.world_model.specs.Controller.{Acted, ports_of}
+use Rattle.controller_bindings.proofs.controller_law.Desk.{asked_all, withdrawn_all, asked_of}
+use Rattle.world_views.proofs.controller_views.Sends.{sent_cases}
 
 module _ (old : PortNo → ℕ → Type 0) where
   -- *A port begins anew* as its Delete All stands, or with its node

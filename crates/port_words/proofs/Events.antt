@@ -4,79 +4,39 @@
 use Rattle.std.proofs.Common.{◌≡◌, ◌≢◌, ℕ, Bool, true, false, List, [], ◌∷◌, ◌++◌, length, Option, None, Some, Result, Ok, Err, refl, sym, ◌∙◌, ap, subst, arith, if◌then◌else◌, fold, inl}
 use Rattle.std.specs.Prelude.{not, ◌==◌, ◌&&◌, nat_lt, nat_le, drop}
 use Rattle.std.proofs.lemmas.Bool.Decides.{nat_tests}
-use Rattle.net_types.specs.declared.node.PortNo.{PortNo}
-use Rattle.net_types.specs.declared.channel.Channel.{Channel}
-use Rattle.net_types.specs.declared.number.Mark.{Mark}
-use Rattle.net_types.specs.declared.adjacency.Greeting.{Greeting}
-use Rattle.net_types.specs.declared.adjacency.Party.{Party}
-use Rattle.adjacency_table.specs.declared.message.Answer.{Answer}
-use Rattle.adjacency_table.specs.declared.message.Answer.TheVariants.{Quiet, Send, Open, Reset}
-use Rattle.adjacency_table.specs.declared.message.Said.{Said}
-use Rattle.adjacency_table.specs.Side as sides
-use Rattle.adjacency_table.specs.Side.{is_estab, ticked}
-use Rattle.adjacency_table.specs.Greeting.{gsmp_answer, gsmp_received}
-use Rattle.ipv4_packet.specs.Packet.{protocol_of, source_of, first_fault}
-use Rattle.ipv4_packet.specs.declared.validate.PacketFault.{PacketFault}
-use Rattle.ipv4_forward.specs.Hop.{hop_of, onward}
-use Rattle.ipv4_forward.specs.declared.outcome.Hop.{Hop}
-use Rattle.ipv4_forward.specs.declared.outcome.Hop.TheVariants.{Here, On, NoRoute, Expired}
-use Rattle.atm_cells.specs.declared.cell.Cell.{Cell}
-use Rattle.ipv4_packet.specs.declared.flow.FlowId.{FlowId}
-use Rattle.ipv4_packet.specs.Flow.{kind_of}
-use Rattle.flow_encaps.specs.Default.{default_payload}
-use Rattle.flow_encaps.specs.Labelled.{labelled_payload}
-use Rattle.flow_encaps.specs.declared.default.EncapsFault.{EncapsFault}
-use Rattle.flow_encaps.specs.Unwrapped.{default_unwrapped, unwrapped}
-use Rattle.ifmp_wire.specs.declared.message.Message.{Message as IfmpMessage}
-use Rattle.ifmp_wire.specs.declared.reader.Fault.{Fault as IfmpFault}
-use Rattle.ifmp_wire.specs.Fields.{decoded as ifmp_decoded}
-use Rattle.gsmp_wire.specs.declared.fault.Fault.{Fault as GsmpFault}
-use Rattle.gsmp_wire.specs.declared.message.Message.{Message}
-use Rattle.gsmp_wire.specs.declared.message.Message.TheVariants as messages
-use Rattle.gsmp_wire.specs.declared.request.Request.{Request}
-use Rattle.gsmp_wire.specs.declared.request.Request.TheVariants.{AddBranch, MoveBranch, DeleteTree, VerifyTree, DeleteAll, PortManagement, AllPorts}
-use Rattle.gsmp_wire.specs.Fields.{decoded as gsmp_decoded}
-use Rattle.link_model.specs.declared.record.Record.TheVariants.{Bad, Loss, Delivered, Dropped}
-use Rattle.link_model.specs.declared.record.Cause.TheVariants.{Unbound}
-use Rattle.link_model.specs.Notes.{Journal}
-use Rattle.frame_model.specs.Reassembly.{Reassembly, Taken, taken, passed_over, without_slot, too_long, joined, most_cells}
-use Rattle.frame_model.specs.Frame.{tested, tested_by, last_mark, next_mark, octets_of, payload_in}
-use Rattle.ordered_lists.specs.Ordered.{Every}
-use Rattle.port_model.specs.DeskAnswers.{Answered, Unknown, Done, Ports, Failed, answered, after_answer}
-use Rattle.port_model.specs.Desk.{sent_again}
-use Rattle.port_model.specs.Setup.{Setup, control_end}
-use Rattle.port_model.specs.Labels.{Label}
-use Rattle.port_model.specs.Grants.{Grant}
-use Rattle.port_model.specs.Port.{Port}
-use Rattle.port_model.specs.Counting.{counts, used}
-use Rattle.port_model.specs.Hearing.{hears}
-use Rattle.port_model.specs.Answers as port_answers
-use Rattle.port_model.specs.Ticks as port_ticks
-use Rattle.port_facts.proofs.Keyed.{on_both, on_each, every_more}
-use Rattle.world_model.specs.Controller.{Controller, Acted, Linked, free_slots, linked_at, ports_of, with_desk, chains_with, default_home}
-use Rattle.world_model.specs.Sending.{sends, says_gsmp}
-use Rattle.world_model.specs.Asking.{sends_request}
-use Rattle.world_model.specs.Resets.{begins}
-use Rattle.world_model.specs.Performing.{works_as}
-use Rattle.world_model.specs.Joins.{tries_joins, releases}
-use Rattle.world_model.specs.Gsmp.{answers, steps, told, gsmp_holds}
-use Rattle.world_model.specs.Meeting.{port_of_input, causes, causes_in_estab, clears, done, answers_desk, answer_comes}
-use Rattle.world_model.specs.Packets.{is_control, sends_next, goes_by, grant_by, forwarded, routes, control_protocol}
-use Rattle.world_model.specs.Cells.{Taker, ForGsmp, ForDefault, ForLabel, port_on, taker_of, reassembly_of, with_reassembly, label_holds, ifmp_holds, counted_at, packet_holds, default_holds, frame_holds, opened_frame, ends_frame, after_cell, takes_cell, cell_comes}
-use Rattle.world_model.specs.Ticks.{sends_again, ticks_port, ticks_ports, ticks_by, ticks}
+use Rattle.world_model.specs.Words.{PortNo, Channel, Mark, Greeting, Party, Answer, Quiet, Send, Open, Said, is_estab, ticked, gsmp_answer, gsmp_received, protocol_of, source_of, PacketFault, hop_of, onward, Hop, Here, On, Cell, FlowId, kind_of, default_payload, labelled_payload, EncapsFault, default_unwrapped, unwrapped, Request, AddBranch, MoveBranch, DeleteTree, VerifyTree, PortManagement, Bad, Loss, Delivered, Dropped, Unbound, Journal, Reassembly, passed_over, without_slot, too_long, most_cells, tested, tested_by, last_mark, next_mark, payload_in, Answered, Unknown, Done, Ports, Failed, answered, after_answer, sent_again, Setup, control_end, Label, Grant, counts, used, hears, Controller, Linked, linked_at, with_desk, chains_with, default_home, says_gsmp, sends_request, begins, works_as, tries_joins, releases, gsmp_holds, port_of_input, causes, causes_in_estab, clears, answers_desk, answer_comes, is_control, sends_next, goes_by, grant_by, routes, control_protocol, ForGsmp, ForDefault, ForLabel, port_on, taker_of, reassembly_of, with_reassembly, label_holds, ifmp_holds, counted_at, packet_holds, default_holds, frame_holds, takes_cell, sends_again, ticks_port, ticks_ports, ticks_by, label_number_of, Frame, Record, Refused, Chance, Forged, Opened, Closed, Bind, Free, Part, Routes, Standing, grant_on, label_by, works}
+use Rattle.world_model.specs.adjacency_table.declared.message.Answer.TheVariants.{Reset}
+use Rattle.world_model.specs.adjacency_table.Side as sides
+use Rattle.world_model.specs.ipv4_packet.Packet.{first_fault}
+use Rattle.world_model.specs.ipv4_forward.declared.outcome.Hop.TheVariants.{NoRoute, Expired}
+use Rattle.world_model.specs.ifmp_wire.declared.message.Message.{Message as IfmpMessage}
+use Rattle.world_model.specs.ifmp_wire.declared.reader.Fault.{Fault as IfmpFault}
+use Rattle.world_model.specs.ifmp_wire.Fields.{decoded as ifmp_decoded}
+use Rattle.world_model.specs.gsmp_wire.declared.fault.Fault.{Fault as GsmpFault}
+use Rattle.world_model.specs.gsmp_wire.declared.message.Message.{Message}
+use Rattle.world_model.specs.gsmp_wire.declared.message.Message.TheVariants as messages
+use Rattle.world_model.specs.gsmp_wire.declared.request.Request.TheVariants.{DeleteAll, AllPorts}
+use Rattle.world_model.specs.gsmp_wire.Fields.{decoded as gsmp_decoded}
+use Rattle.world_model.specs.frame_model.Reassembly.{Taken, taken, joined}
+use Rattle.world_model.specs.frame_model.Frame.{octets_of}
+use Rattle.controller_bindings.specs.ordered_lists.Ordered.{Every}
+use Rattle.world_model.specs.port_model.Port.{Port}
+use Rattle.world_model.specs.port_model.Answers as port_answers
+use Rattle.world_model.specs.port_model.Ticks as port_ticks
+use Rattle.controller_bindings.proofs.port_facts.Keyed.{on_both, on_each, every_more}
+use Rattle.world_model.specs.Controller.{Acted, free_slots, ports_of}
+use Rattle.world_model.specs.Sending.{sends}
+use Rattle.world_model.specs.Gsmp.{answers, steps, told}
+use Rattle.world_model.specs.Meeting.{done}
+use Rattle.world_model.specs.Packets.{forwarded}
+use Rattle.world_model.specs.Cells.{Taker, opened_frame, ends_frame, after_cell, cell_comes}
+use Rattle.world_model.specs.Ticks.{ticks}
 use Rattle.controller_bindings.proofs.Lasts.{taken_grows, tested_grows}
 use Rattle.lifetimes.proofs.Events.{Belongs, taker_belongs, put_there}
-use Rattle.shown_cells.proofs.Tested.{taken_frames, tested_frames, last_is}
-use Rattle.net_types.specs.Label.{label_number_of}
-use Rattle.link_model.specs.declared.frames.Frame.{Frame}
-use Rattle.link_model.specs.declared.record.Record.{Record}
-use Rattle.link_model.specs.declared.record.Record.TheVariants.{Refused, Chance, Forged, Opened, Closed, Bind, Free, Join, Part, Routes}
-use Rattle.ifmp_wire.specs.declared.message.Message.TheVariants as ifmp
-use Rattle.ordered_lists.proofs.Every.{every_map}
-use Rattle.port_model.specs.Desk.{Standing}
-use Rattle.port_model.specs.Grants.{grant_on}
-use Rattle.port_model.specs.Hearing.{label_by}
-use Rattle.world_model.specs.Performing.{works}
+use Rattle.world_views.proofs.shown_cells.Tested.{taken_frames, tested_frames, last_is}
+use Rattle.world_model.specs.link_model.declared.record.Record.TheVariants.{Join}
+use Rattle.world_model.specs.ifmp_wire.declared.message.Message.TheVariants as ifmp
+use Rattle.controller_bindings.proofs.ordered_lists.Every.{every_map}
 use Rattle.port_words.specs.Words.{Terms, of_default, of_label, IsMade, IsOfHeld, IsWord, IsNoted, IsSent, waited, of_packet, away, said, bound, IsSteady, IsSteadyAt, IsSteadily}
 use Rattle.world_views.specs.Made.{IsFit}
 use Rattle.port_words.proofs.Clearing.{Waits, OldOrFresh, releases_j, causes_j, clears_j, cleared_old}

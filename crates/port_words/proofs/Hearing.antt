@@ -3,36 +3,21 @@
 use Rattle.std.proofs.Common.{◌≡◌, ℕ, true, false, List, [], ◌∷◌, ◌++◌, length, Option, None, Some, refl, sym, ◌∙◌, ap, subst, if◌then◌else◌, inl, inr}
 use Rattle.std.specs.Prelude.{◌⊎◌, not, ◌+◌, ◌==◌, ◌&&◌, nat_lt, flat_map}
 use Rattle.std.specs.Option.{option_map_or}
-use Rattle.net_types.specs.declared.prefix.Addr.{Addr}
-use Rattle.net_types.specs.declared.channel.Channel.{Channel}
-use Rattle.net_types.specs.Label.{label_number_of, number_of_channel}
-use Rattle.ipv4_packet.specs.declared.flow.FlowId.{FlowId}
-use Rattle.ipv4_packet.specs.Parts.{same_flow}
-use Rattle.gsmp_wire.specs.declared.request.Request.{Request}
-use Rattle.gsmp_wire.specs.declared.request.Request.TheVariants.{AddBranch, MoveBranch, DeleteTree, VerifyTree, DeleteAll, PortManagement, AllPorts}
-use Rattle.ifmp_wire.specs.declared.message.Message.{Message}
-use Rattle.ifmp_wire.specs.declared.message.Message.TheVariants.{Adjacency, Redirect, Reclaim, ReclaimAck, LabelRange, Error}
-use Rattle.link_model.specs.declared.record.Record.TheVariants.{Free, Join}
-use Rattle.ordered_lists.specs.Ordered.{Every}
-use Rattle.ordered_lists.proofs.Every.{every_join, every_mapped, every_all}
-use Rattle.keyed_lists.specs.Keyed.{at, without, entered, key_le}
-use Rattle.port_model.specs.Desk.{Desk}
-use Rattle.port_model.specs.declared.action.Action.{Action}
-use Rattle.port_model.specs.declared.action.Action.TheVariants.{Ask, Note, CutChain, TakeBack}
-use Rattle.port_model.specs.Setup.{Setup, label_end, control_end, is_in_range}
-use Rattle.port_model.specs.Labels.{Label, LabelState, Wiring, Offered, Recalled, Wired, label_number, label_for, lowest_spare}
-use Rattle.port_model.specs.Grants.{Grant, GrantState, Idle, ByController, ByInput, Leaving, grant_label, grant_on, Acceptance, New, Refreshed, OutOfRange, Taken, IsLeaving, GrantsFull, acceptance, acceptance_of, acceptance_beside, is_leaving, most_grants}
-use Rattle.port_model.specs.Counts.{counted_once, packets_in}
-use Rattle.port_model.specs.Port.{Session, Port, Work, with_session, with_label, with_new_label, without_label, with_grants, with_grant, without_grant, label_at, has_room}
-use Rattle.port_model.specs.Saying.{says, reclaim_ack, label_range, error}
-use Rattle.port_model.specs.Counting.{packet_flow, wires, counts_flow, counts_by, counts}
-use Rattle.port_model.specs.Redirection.{takes, accepts, expects, grants_label, redirected}
-use Rattle.port_model.specs.Reclaiming.{reclaimed_in, reclaimed, acknowledged_in, acknowledged, ranged, error_comes}
-use Rattle.port_model.specs.Hearing.{label_by, hears}
-use Rattle.port_model.specs.Answers.{freed_in, freed, started_in, started, done}
-use Rattle.port_model.specs.Resets.{closing, left_in, left_of, taking_back_in, taking_back, withdrawing_in, withdrawing_of, withdrawing, resets, restarts, cleared}
-use Rattle.port_facts.proofs.Keyed.{on_both, on_each, entered_every, without_every, every_more}
-use Rattle.port_facts.proofs.Found.{find_every, session_labels}
+use Rattle.world_model.specs.Words.{Addr, Channel, label_number_of, number_of_channel, FlowId, same_flow, Request, AddBranch, MoveBranch, DeleteTree, VerifyTree, PortManagement, Redirect, Reclaim, ReclaimAck, LabelRange, Error, Free, at, without, entered, key_le, Desk, Action, Ask, Note, CutChain, TakeBack, Setup, label_end, control_end, is_in_range, Label, LabelState, Wiring, Offered, Recalled, Wired, label_number, label_for, lowest_spare, Grant, GrantState, Idle, ByController, ByInput, Leaving, grant_label, grant_on, Acceptance, New, Refreshed, IsLeaving, GrantsFull, acceptance, acceptance_of, acceptance_beside, is_leaving, most_grants, counted_once, packets_in, Session, Work, with_session, with_label, with_new_label, without_label, with_grants, with_grant, without_grant, label_at, has_room, reclaim_ack, label_range, error, packet_flow, wires, counts_flow, counts_by, counts, takes, accepts, expects, grants_label, reclaimed_in, reclaimed, acknowledged_in, acknowledged, ranged, error_comes, label_by, hears, freed_in, freed, started_in, started, closing, left_in, left_of, taking_back_in, taking_back, withdrawing_in, withdrawing_of, withdrawing, resets, restarts}
+use Rattle.world_model.specs.gsmp_wire.declared.request.Request.TheVariants.{DeleteAll, AllPorts}
+use Rattle.world_model.specs.ifmp_wire.declared.message.Message.{Message}
+use Rattle.world_model.specs.ifmp_wire.declared.message.Message.TheVariants.{Adjacency}
+use Rattle.world_model.specs.link_model.declared.record.Record.TheVariants.{Join}
+use Rattle.controller_bindings.specs.ordered_lists.Ordered.{Every}
+use Rattle.controller_bindings.proofs.ordered_lists.Every.{every_join, every_mapped, every_all}
+use Rattle.world_model.specs.port_model.Grants.{OutOfRange, Taken}
+use Rattle.world_model.specs.port_model.Port.{Port}
+use Rattle.world_model.specs.port_model.Saying.{says}
+use Rattle.world_model.specs.port_model.Redirection.{redirected}
+use Rattle.world_model.specs.port_model.Answers.{done}
+use Rattle.world_model.specs.port_model.Resets.{cleared}
+use Rattle.controller_bindings.proofs.port_facts.Keyed.{on_both, on_each, entered_every, without_every, every_more}
+use Rattle.controller_bindings.proofs.port_facts.Found.{find_every, session_labels}
 use Rattle.lifetimes.proofs.Grants.{accepted_new, accepted_again}
 use Rattle.world_views.specs.Tied.{is_rstack}
 use Rattle.port_words.specs.Words.{Terms, StandsAs, Stands, IsGranted, IsSteady, IsFair}

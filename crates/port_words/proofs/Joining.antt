@@ -3,54 +3,29 @@
 use Rattle.std.proofs.Common.{◌≡◌, ℕ, Bool, true, false, List, [], ◌∷◌, ◌++◌, Option, None, Some, refl, sym, subst, if◌then◌else◌, map, fold}
 use Rattle.std.specs.Prelude.{◌&&◌, flat_map}
 use Rattle.std.specs.Option.{option_map}
-use Rattle.net_types.specs.declared.node.PortNo.{PortNo}
-use Rattle.net_types.specs.declared.channel.End.{End}
-use Rattle.net_types.specs.Label.{number_of_channel}
-use Rattle.adjacency_table.specs.Side.{is_estab}
-use Rattle.ipv4_forward.specs.Best.{best}
-use Rattle.ipv4_forward.specs.declared.change.RouteChange.{RouteChange}
-use Rattle.ipv4_packet.specs.declared.flow.FlowId.{FlowId}
-use Rattle.ipv4_packet.specs.Flow.{next_hop_of}
-use Rattle.ipv4_packet.specs.Parts.{flow_destination, same_flow}
-use Rattle.gsmp_wire.specs.declared.request.Request.{Request}
-use Rattle.gsmp_wire.specs.declared.request.Request.TheVariants.{AddBranch, MoveBranch, DeleteTree, VerifyTree, DeleteAll, PortManagement, AllPorts}
-use Rattle.link_model.specs.declared.record.Record.TheVariants.{Part}
-use Rattle.crossbar_model.specs.Crossbar.{same_end}
-use Rattle.ordered_lists.specs.Ordered.{Every}
-use Rattle.port_model.specs.Desk.{empty_desk}
-use Rattle.port_model.specs.Setup.{home_of}
-use Rattle.port_model.specs.Labels.{Label}
-use Rattle.port_model.specs.Grants.{Grant, is_by_controller, input_of, grant_for}
-use Rattle.port_model.specs.Saying.{closes}
-use Rattle.port_model.specs.Joins as port_joins
-use Rattle.port_model.specs.Answers as port_answers
-use Rattle.port_model.specs.Resets.{cleared}
-use Rattle.port_facts.proofs.Keyed.{on_both, at_key}
-use Rattle.port_facts.proofs.Found.{find_every}
-use Rattle.world_model.specs.Controller.{Acted, Linked, port_key, linked_at, ports_of, with_linked, with_desk, note, default_end, default_home}
-use Rattle.world_model.specs.Asking.{asks}
-use Rattle.world_model.specs.Resets.{begins}
-use Rattle.world_model.specs.Performing.{at_port}
-use Rattle.world_model.specs.Joins.{Join, join_to, joins_at, end_le, joins_of, join_of, parts, releases_join, releases_input, released_inputs, resets_spent, releases, port_by, join_through, join_by, join_for, may_join, enters_grant, output_of, enters_label, joins, tries_label, label_on, tries_join, inputs_at, tries_joins}
-use Rattle.world_model.specs.Meeting.{meets, up_ports, empties, default_branches, ends_meeting, has_emptied, port_of, tells_port, behind_delete_all, causes_in_estab, causes, may_clear, clears_of, clears_port}
-use Rattle.world_model.specs.Changes.{changed_joins, takes_join_back, begins_change, takes_change, may_take, takes_each, takes_changes, change_comes}
-use Rattle.controller_facts.proofs.Joining.{every_flat_map, every_filter_map, every_in_order}
+use Rattle.world_model.specs.Words.{PortNo, End, number_of_channel, is_estab, best, RouteChange, FlowId, next_hop_of, flow_destination, same_flow, Request, AddBranch, MoveBranch, DeleteTree, VerifyTree, PortManagement, Part, same_end, empty_desk, home_of, Label, Grant, is_by_controller, grant_for, closes, Linked, port_key, linked_at, with_linked, with_desk, default_end, default_home, asks, begins, at_port, join_to, joins_at, end_le, joins_of, join_of, parts, releases_join, releases_input, released_inputs, resets_spent, releases, port_by, join_through, join_by, join_for, may_join, enters_grant, enters_label, joins, tries_label, label_on, tries_join, inputs_at, tries_joins, meets, up_ports, empties, default_branches, ends_meeting, has_emptied, tells_port, behind_delete_all, causes_in_estab, causes, may_clear, clears_of, clears_port, changed_joins, takes_join_back, begins_change, takes_change, may_take, takes_each, takes_changes, change_comes, State, Clearing, SynSent, SynRcvd, Estab, Routes, changed, Session, is_clearing, awaits_nothing}
+use Rattle.world_model.specs.gsmp_wire.declared.request.Request.TheVariants.{DeleteAll, AllPorts}
+use Rattle.controller_bindings.specs.ordered_lists.Ordered.{Every}
+use Rattle.world_model.specs.port_model.Grants.{input_of}
+use Rattle.world_model.specs.port_model.Joins as port_joins
+use Rattle.world_model.specs.port_model.Answers as port_answers
+use Rattle.world_model.specs.port_model.Resets.{cleared}
+use Rattle.controller_bindings.proofs.port_facts.Keyed.{on_both, at_key}
+use Rattle.controller_bindings.proofs.port_facts.Found.{find_every}
+use Rattle.world_model.specs.Controller.{Acted, ports_of, note}
+use Rattle.world_model.specs.Joins.{Join, output_of}
+use Rattle.world_model.specs.Meeting.{port_of}
+use Rattle.controller_bindings.proofs.controller_facts.Joining.{every_flat_map, every_filter_map, every_in_order}
 use Rattle.std.specs.Prelude.{◌+◌, ◌==◌, length}
-use Rattle.port_model.specs.Messages.{is_up}
-use Rattle.port_facts.proofs.Keyed.{on_each}
-use Rattle.adjacency_table.specs.declared.State.{State}
-use Rattle.adjacency_table.specs.declared.State.TheVariants.{Clearing, SynSent, SynRcvd, Estab}
-use Rattle.link_model.specs.declared.record.Record.TheVariants.{Routes}
-use Rattle.ipv4_forward.specs.Change.{changed}
-use Rattle.port_model.specs.Port.{Session}
-use Rattle.world_model.specs.Meeting.{is_clearing, awaits_nothing}
+use Rattle.world_model.specs.port_model.Messages.{is_up}
+use Rattle.controller_bindings.proofs.port_facts.Keyed.{on_each}
 use Rattle.port_words.specs.Words.{Terms, IsGranted, IsSteady, IsSteadyAt, IsSteadily}
 use Rattle.port_words.proofs.Voices.{closes_v}
 use Rattle.port_words.proofs.Rules.{parted_v, joined_v, lent_v, given_back_v}
 use Rattle.port_words.proofs.Hearing.{BindsAny, done_v, cleared_steady}
 use Rattle.port_words.proofs.Sending.{note_h, put_h, found_h, fold_h}
 use Rattle.port_words.proofs.Performing.{asks_h, takes_back_h, at_port_h}
-use Rattle.controller_law.proofs.Ordering.{same_number}
+use Rattle.controller_bindings.proofs.controller_law.Ordering.{same_number}
 
 -- the grant for a flow is one of the port's
 pub grant_for_there : (P : Grant → Type 0) (grants : List Grant) (flow : FlowId) (grant : Grant) → Every P grants → grant_for grants flow ≡ Some grant → P grant

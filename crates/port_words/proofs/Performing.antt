@@ -2,29 +2,15 @@
 
 use Rattle.std.proofs.Common.{◌≡◌, List, [], ◌∷◌, Option, None, Some, refl, if◌then◌else◌, fold}
 use Rattle.std.specs.Prelude.{◌==◌}
-use Rattle.net_types.specs.declared.node.PortNo.{PortNo}
-use Rattle.net_types.specs.declared.channel.End.{End}
-use Rattle.adjacency_table.specs.Side.{is_estab}
-use Rattle.gsmp_wire.specs.declared.request.Request.{Request}
-use Rattle.gsmp_wire.specs.declared.request.Request.TheVariants.{MoveBranch}
-use Rattle.link_model.specs.declared.record.Record.{Record}
-use Rattle.link_model.specs.declared.record.Record.TheVariants.{Delivered, Dropped, Refused, Loss, Chance, Forged, Bad, Opened, Closed, Bind, Free, Join, Part, Routes}
-use Rattle.frame_model.specs.Reassembly.{cut}
-use Rattle.ordered_lists.specs.Ordered.{Every}
-use Rattle.port_model.specs.Desk.{Standing, asked, is_led_home, message_at, last_transaction}
-use Rattle.port_model.specs.declared.action.Action.{Action}
-use Rattle.port_model.specs.declared.action.Action.TheVariants as actions
-use Rattle.port_model.specs.declared.action.Action.TheVariants.{Say, Ask, Note, CutChain, TakeBack, Withdraw}
-use Rattle.port_model.specs.Setup.{home_of}
-use Rattle.port_model.specs.Port.{Work}
-use Rattle.port_model.specs.Resets.{resets, restarts}
-use Rattle.port_facts.proofs.Keyed.{on_both}
-use Rattle.world_model.specs.Controller.{Acted, Linked, linked_at, ports_of, with_desk}
-use Rattle.world_model.specs.Asking.{sends_request, asks_next, asks, takes_back}
-use Rattle.world_model.specs.Resets.{begins, with_work, closes_by, port_restarts_of, port_restarts, resets_gsmp, node_resets, cuts_default, cuts_gsmp, node_restarts}
-use Rattle.world_model.specs.Performing.{does, does_in_estab, resets_of, performs, performs_in_estab, Rule, works_as, works, at_port}
+use Rattle.world_model.specs.Words.{PortNo, End, is_estab, Request, MoveBranch, Record, Delivered, Dropped, Refused, Loss, Chance, Forged, Bad, Opened, Closed, Bind, Free, Part, Routes, cut, Standing, is_led_home, last_transaction, Action, Say, Ask, Note, CutChain, TakeBack, Withdraw, home_of, Work, resets, restarts, Linked, linked_at, with_desk, sends_request, asks_next, asks, takes_back, begins, with_work, closes_by, port_restarts_of, port_restarts, resets_gsmp, node_resets, cuts_default, cuts_gsmp, node_restarts, does, does_in_estab, resets_of, performs, performs_in_estab, Rule, works_as, works, at_port}
+use Rattle.world_model.specs.link_model.declared.record.Record.TheVariants.{Join}
+use Rattle.controller_bindings.specs.ordered_lists.Ordered.{Every}
+use Rattle.world_model.specs.port_model.Desk.{asked, message_at}
+use Rattle.world_model.specs.port_model.declared.action.Action.TheVariants as actions
+use Rattle.controller_bindings.proofs.port_facts.Keyed.{on_both}
+use Rattle.world_model.specs.Controller.{Acted, ports_of}
 use Rattle.controller_bindings.proofs.Lasts.{cut_grows}
-use Rattle.shown_cells.proofs.Tested.{cut_frames}
+use Rattle.world_views.proofs.shown_cells.Tested.{cut_frames}
 use Rattle.port_words.specs.Words.{Terms, IsSteady, BindsNone, IsFair, IsNoted, IsSteadyAt, IsSteadily}
 use Rattle.port_words.proofs.Voices.{Voiced}
 use Rattle.port_words.proofs.Hearing.{resets_v, restarts_v}

@@ -2,33 +2,15 @@
 
 use Rattle.std.proofs.Common.{◌≡◌, ◌≢◌, ℕ, Bool, true, false, Option, None, Some, refl, if◌then◌else◌, map, fold}
 use Rattle.std.specs.Prelude.{◌⊎◌, ◌-◌, ◌==◌, ◌||◌, nat_lt, nat_le, max, min, is_none}
-use Rattle.net_types.specs.declared.prefix.Addr.{Addr}
-use Rattle.net_types.specs.declared.channel.Channel.{Channel}
-use Rattle.net_types.specs.declared.channel.End.{End}
-use Rattle.net_types.specs.declared.number.Instance.{Instance}
-use Rattle.net_types.specs.declared.adjacency.Hello.{Hello}
-use Rattle.net_types.specs.declared.adjacency.Peer.{Peer}
-use Rattle.net_types.specs.Label.{label_channel_of}
-use Rattle.adjacency_table.specs.Side as sides
-use Rattle.adjacency_table.specs.Side.{ticked}
-use Rattle.adjacency_table.specs.Hello.{heard_from, ifmp_received}
-use Rattle.ipv4_packet.specs.declared.flow.FlowId.{FlowId}
-use Rattle.gsmp_wire.specs.declared.request.Request.TheVariants.{DeleteTree}
-use Rattle.keyed_lists.specs.Keyed.{at}
-use Rattle.port_model.specs.Desk.{Desk, on_input}
-use Rattle.port_model.specs.declared.action.Action.TheVariants.{Ask, CutChain, TakeBack}
-use Rattle.port_model.specs.Setup.{Setup, label_end}
-use Rattle.port_model.specs.Labels.{Label, LabelState, Wiring, Offered, Recalled, Wired, label_number}
-use Rattle.port_model.specs.Grants.{Grant, GrantState, Idle, ByController, ByInput, Leaving, grant_label}
-use Rattle.port_model.specs.Counts.{moved}
-use Rattle.port_model.specs.Port.{Session, Work, acts, with_session, with_label, with_grant, without_grant, label_at, labels_of, known_of, desk_after, has_room}
-use Rattle.port_model.specs.Saying.{last_number, says, redirect, reclaim, reclaim_ack, label_range, error}
-use Rattle.port_model.specs.Adjacency.{steps, unwires, quits_label, quits_in, quits_found, quits, is_good, learns, greeted}
-use Rattle.port_model.specs.Counting.{used_label, used}
-use Rattle.port_model.specs.Reclaiming.{reclaims_in, reclaims, unjoins, recalls, recalls_in, recalls_offered, acknowledged, narrowed, is_outside, recalls_outside, ranged}
-use Rattle.port_model.specs.Joins.{joins_label, joined, parted, lent, given_back_in, given_back}
-use Rattle.port_model.specs.Ticks.{expires, ages_in, ages_found, ages, refreshes, one_older, one_idler, idles, ticks_in, ticks_found, ticks_label, asks_for_ack, nudges, ticks_session, ticks}
-use Rattle.port_facts.proofs.Keyed.{on_both}
+use Rattle.world_model.specs.Words.{Addr, Channel, End, Instance, Hello, Peer, label_channel_of, ticked, heard_from, ifmp_received, FlowId, DeleteTree, at, Desk, on_input, Ask, CutChain, TakeBack, Setup, label_end, Label, LabelState, Wiring, Offered, Recalled, Wired, label_number, Grant, GrantState, Idle, ByController, ByInput, Leaving, grant_label, Session, Work, with_session, with_label, with_grant, without_grant, label_at, labels_of, known_of, desk_after, has_room, last_number, redirect, reclaim, reclaim_ack, label_range, error, unwires, quits_label, quits_in, quits_found, quits, is_good, learns, used_label, used, reclaims_in, reclaims, unjoins, recalls, recalls_in, recalls_offered, acknowledged, narrowed, is_outside, recalls_outside, ranged, joins_label, parted, lent, given_back_in, given_back, expires, ages_in, ages_found, ages, refreshes, one_older, one_idler, idles, ticks_in, ticks_found, ticks_label, asks_for_ack, nudges, ticks_session}
+use Rattle.world_model.specs.adjacency_table.Side as sides
+use Rattle.world_model.specs.port_model.Counts.{moved}
+use Rattle.world_model.specs.port_model.Port.{acts}
+use Rattle.world_model.specs.port_model.Saying.{says}
+use Rattle.world_model.specs.port_model.Adjacency.{steps, greeted}
+use Rattle.world_model.specs.port_model.Joins.{joined}
+use Rattle.world_model.specs.port_model.Ticks.{ticks}
+use Rattle.controller_bindings.proofs.port_facts.Keyed.{on_both}
 use Rattle.world_views.specs.Tied.{is_rstack}
 use Rattle.port_words.specs.Words.{Terms, StandsAs, Stands, IsGranted, IsWord}
 use Rattle.port_words.proofs.Voices.{Voiced, acts_v, kept_v, label_v, found_v, grant_v, gone_v, granted_v, tells_v, says_v, fold_v, steps_v}

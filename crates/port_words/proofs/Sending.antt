@@ -7,43 +7,24 @@ use Rattle.std.specs.Option.{option_or}
 use Rattle.std.specs.List.{range_with_len}
 use Rattle.std.proofs.lemmas.Bool.Decides.{nat_tests}
 use Rattle.std.proofs.lemmas.List.Elements.{Contains-append_left}
-use Rattle.net_types.specs.declared.node.PortNo.{PortNo}
-use Rattle.net_types.specs.declared.node.NodeId.{NodeId}
-use Rattle.net_types.specs.declared.channel.Channel.{Channel}
-use Rattle.net_types.specs.declared.number.Mark.{Mark}
-use Rattle.net_types.specs.declared.number.Instance.{Instance}
-use Rattle.net_types.specs.Number.{next_control, with_control}
-use Rattle.net_types.specs.Label.{label_channel_of}
-use Rattle.aal5_frames.specs.Frame.{cell_of, cells_with, pdu_of}
-use Rattle.atm_cells.specs.declared.cell.Cell.{Cell}
-use Rattle.ipv4_packet.specs.declared.flow.FlowId.{FlowId}
-use Rattle.gsmp_wire.specs.Layout.{octets_of as gsmp_octets}
-use Rattle.gsmp_wire.specs.declared.message.Message.{Message as GsmpMessage}
-use Rattle.ifmp_wire.specs.declared.message.Message.{Message as IfmpMessage}
-use Rattle.ifmp_wire.specs.declared.message.Message.TheVariants as ifmp
-use Rattle.ifmp_wire.specs.declared.message.Message.TheVariants.{Redirect}
-use Rattle.link_model.specs.declared.frames.Frame.{Frame}
-use Rattle.link_model.specs.declared.record.Record.{Record}
-use Rattle.link_model.specs.declared.record.Record.TheVariants.{Delivered, Dropped, Refused, Loss, Chance, Forged, Bad, Opened, Closed, Bind, Free, Join, Part, Routes}
-use Rattle.link_model.specs.declared.record.Cause.TheVariants.{PoolFull}
-use Rattle.link_model.specs.Ledger.{payload_of}
-use Rattle.link_model.specs.Notes.{Journal, noted}
-use Rattle.frame_model.specs.Frame.{frame_cells}
-use Rattle.frame_model.specs.Reassembly.{cut, nothing_taken}
-use Rattle.ordered_lists.specs.Ordered.{Every}
-use Rattle.ordered_lists.proofs.Every.{every_join, every_map, every_mapped, every_all}
-use Rattle.port_facts.proofs.Keyed.{at_every, put_every, every_more}
-use Rattle.world_model.specs.Controller.{Acted, Linked, port_key, linked_at, with_linked, note, chain_of, chains_with, default_channel, default_home}
-use Rattle.world_model.specs.Cells.{same_channel}
-use Rattle.world_model.specs.Sending.{sends, sends_control, says_gsmp, says_ifmp}
-use Rattle.world_model.specs.Resets.{cuts_of, cuts_label, cuts_default_of, cuts_default}
-use Rattle.world_model.specs.Past.{last_bound, bound_by}
+use Rattle.world_model.specs.Words.{PortNo, NodeId, Channel, Mark, Instance, next_control, with_control, label_channel_of, Cell, FlowId, Redirect, Frame, Record, Delivered, Dropped, Refused, Loss, Chance, Forged, Bad, Opened, Closed, Bind, Free, Part, Routes, PoolFull, payload_of, Journal, noted, frame_cells, cut, nothing_taken, Linked, port_key, linked_at, with_linked, chain_of, chains_with, default_channel, default_home, same_channel, sends_control, says_gsmp, says_ifmp, cuts_of, cuts_label, cuts_default_of, cuts_default, last_bound, bound_by}
+use Rattle.lifetimes.specs.aal5_frames.Frame.{cell_of, cells_with, pdu_of}
+use Rattle.world_model.specs.gsmp_wire.Layout.{octets_of as gsmp_octets}
+use Rattle.world_model.specs.gsmp_wire.declared.message.Message.{Message as GsmpMessage}
+use Rattle.world_model.specs.ifmp_wire.declared.message.Message.{Message as IfmpMessage}
+use Rattle.world_model.specs.ifmp_wire.declared.message.Message.TheVariants as ifmp
+use Rattle.world_model.specs.link_model.declared.record.Record.TheVariants.{Join}
+use Rattle.controller_bindings.specs.ordered_lists.Ordered.{Every}
+use Rattle.controller_bindings.proofs.ordered_lists.Every.{every_join, every_map, every_mapped, every_all}
+use Rattle.controller_bindings.proofs.port_facts.Keyed.{at_every, put_every, every_more}
+use Rattle.world_model.specs.Controller.{Acted, note}
+use Rattle.world_model.specs.Sending.{sends}
 use Rattle.controller_bindings.specs.Bindings.{site}
 use Rattle.controller_bindings.proofs.Lasts.{BindNothing, Grows, cut_grows}
-use Rattle.controller_views.specs.Lifted.{payload_by}
-use Rattle.controller_views.proofs.Sends.{sent_cases}
-use Rattle.shown_cells.proofs.Made.{made_is, made_elsewhere}
-use Rattle.shown_cells.proofs.Tested.{cut_frames}
+use Rattle.world_views.specs.controller_views.Lifted.{payload_by}
+use Rattle.world_views.proofs.controller_views.Sends.{sent_cases}
+use Rattle.world_views.proofs.shown_cells.Made.{made_is, made_elsewhere}
+use Rattle.world_views.proofs.shown_cells.Tested.{cut_frames}
 use Rattle.port_words.specs.Words.{Terms, DisownsNone, IsMade, of_gsmp, of_port, IsOfHeld, IsWord, IsFrameOf, IsSent, waited, of_packet, away, said, bound, IsNoted, IsSteadyAt, IsSteadily}
 
 -- *What is noted and binds nothing*

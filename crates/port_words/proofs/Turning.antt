@@ -3,23 +3,10 @@
 use Rattle.std.proofs.Common.{◌≡◌, ◌≢◌, ℕ, Bool, true, false, Option, Some, refl, sym, ◌∙◌, ap, subst, if◌then◌else◌, inl, inr}
 use Rattle.std.specs.Prelude.{◌⊎◌, ◌&&◌, not}
 use Rattle.std.specs.Option.{option_map_or}
-use Rattle.net_types.specs.declared.node.PortNo.{PortNo}
-use Rattle.net_types.specs.declared.prefix.Addr.{Addr}
-use Rattle.net_types.specs.declared.adjacency.Hello.{Hello}
-use Rattle.net_types.specs.declared.adjacency.Peer.{Peer}
-use Rattle.net_types.specs.declared.adjacency.HelloKind.{HelloKind}
-use Rattle.net_types.specs.declared.adjacency.HelloKind.TheVariants.{Syn, Synack, Rstack, Ack}
-use Rattle.adjacency_table.specs.declared.State.{State}
-use Rattle.adjacency_table.specs.declared.State.TheVariants.{Clearing, SynSent, SynRcvd, Estab}
-use Rattle.adjacency_table.specs.declared.message.Said.{Said}
-use Rattle.adjacency_table.specs.declared.message.Heard.{Heard}
-use Rattle.adjacency_table.specs.declared.message.Answer.{Answer}
-use Rattle.adjacency_table.specs.declared.message.Answer.TheVariants.{Send, Open}
-use Rattle.adjacency_table.specs.Table.{Reply, Silent, Says, Resets, Row, row, stays, stores_and, enters_by_synack, enters_by_ack, tick_reply}
-use Rattle.adjacency_table.specs.Side as sides
-use Rattle.adjacency_table.specs.Side.{Side, answer_of, answer_to, said, opened, is_entry, followed, counted, followed_tick, ticked}
-use Rattle.adjacency_table.specs.Hello.{same_peer, heard_from, ifmp_received}
-use Rattle.port_facts.proofs.Keyed.{on_both}
+use Rattle.world_model.specs.Words.{PortNo, Addr, Hello, Peer, HelloKind, Syn, Synack, Rstack, Ack, State, Clearing, SynSent, SynRcvd, Estab, Said, Heard, Answer, Send, Open, Reply, Silent, Says, Resets, Row, row, stays, stores_and, enters_by_synack, enters_by_ack, tick_reply, Side, answer_of, answer_to, said, is_entry, followed, followed_tick, ticked, same_peer, heard_from, ifmp_received}
+use Rattle.world_model.specs.adjacency_table.Side as sides
+use Rattle.world_model.specs.adjacency_table.Side.{opened, counted}
+use Rattle.controller_bindings.proofs.port_facts.Keyed.{on_both}
 use Rattle.world_views.specs.Tied.{is_rstack}
 use Rattle.port_words.specs.Words.{Terms}
 use Rattle.port_words.proofs.Voices.{IsTurn}

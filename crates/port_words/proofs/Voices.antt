@@ -3,32 +3,17 @@
 use Rattle.std.proofs.Common.{◌≡◌, ◌≢◌, ℕ, Bool, true, false, List, [], ◌∷◌, ◌++◌, Option, None, Some, refl, sym, subst, fold, inl, inr}
 use Rattle.std.specs.Prelude.{◌⊎◌, ◌+◌, nat_lt, not}
 use Rattle.std.specs.Option.{option_map, option_map_or}
-use Rattle.net_types.specs.declared.node.PortNo.{PortNo}
-use Rattle.net_types.specs.declared.number.Instance.{Instance}
-use Rattle.net_types.specs.declared.adjacency.Peer.{Peer}
-use Rattle.adjacency_table.specs.declared.State.TheVariants.{Clearing}
-use Rattle.adjacency_table.specs.declared.message.Said.{Said}
-use Rattle.adjacency_table.specs.declared.message.Answer.{Answer}
-use Rattle.adjacency_table.specs.declared.message.Answer.TheVariants.{Quiet, Send, Open, Reset}
-use Rattle.adjacency_table.specs.Side as sides
-use Rattle.adjacency_table.specs.Side.{Side, said}
-use Rattle.adjacency_table.specs.Hello.{hello_of, ifmp_answer}
-use Rattle.ifmp_wire.specs.declared.message.Message.{Message}
-use Rattle.ifmp_wire.specs.declared.message.Message.TheVariants.{Adjacency}
-use Rattle.link_model.specs.declared.record.Record.TheVariants.{Opened}
-use Rattle.ordered_lists.specs.Ordered.{Every}
-use Rattle.keyed_lists.specs.Keyed.{at, put, without}
-use Rattle.port_model.specs.declared.action.Action.{Action}
-use Rattle.port_model.specs.declared.action.Action.TheVariants as actions
-use Rattle.port_model.specs.declared.action.Action.TheVariants.{Say, Note}
-use Rattle.port_model.specs.Setup.{Setup}
-use Rattle.port_model.specs.Labels.{Label, label_number}
-use Rattle.port_model.specs.Grants.{Grant, grant_label}
-use Rattle.port_model.specs.Port.{Session, Port, Work, acts, halts, with_session, with_label, with_grants, with_grant, without_grant, label_at, labels_of}
-use Rattle.port_model.specs.Saying.{Unnumbered, last_number, own_of, peer_of, spent_number, greets, tells_in, tells, is_spent, closes, says}
-use Rattle.port_model.specs.Adjacency.{first_session, opens, answers, steps}
-use Rattle.port_model.specs.Redirection.{accepts, expects}
-use Rattle.port_facts.proofs.Keyed.{on_both, at_every, put_every, without_every, every_more}
+use Rattle.world_model.specs.Words.{PortNo, Instance, Peer, Clearing, Said, Answer, Quiet, Send, Open, Side, said, hello_of, ifmp_answer, Opened, at, put, without, Action, Say, Note, Setup, Label, label_number, Grant, grant_label, Session, Work, halts, with_session, with_label, with_grants, with_grant, without_grant, label_at, labels_of, Unnumbered, last_number, own_of, spent_number, greets, tells_in, tells, is_spent, closes, first_session, opens, accepts, expects}
+use Rattle.world_model.specs.adjacency_table.declared.message.Answer.TheVariants.{Reset}
+use Rattle.world_model.specs.adjacency_table.Side as sides
+use Rattle.world_model.specs.ifmp_wire.declared.message.Message.{Message}
+use Rattle.world_model.specs.ifmp_wire.declared.message.Message.TheVariants.{Adjacency}
+use Rattle.controller_bindings.specs.ordered_lists.Ordered.{Every}
+use Rattle.world_model.specs.port_model.declared.action.Action.TheVariants as actions
+use Rattle.world_model.specs.port_model.Port.{Port, acts}
+use Rattle.world_model.specs.port_model.Saying.{peer_of, says}
+use Rattle.world_model.specs.port_model.Adjacency.{answers, steps}
+use Rattle.controller_bindings.proofs.port_facts.Keyed.{on_both, at_every, put_every, without_every, every_more}
 use Rattle.world_views.specs.Tied.{is_rstack}
 use Rattle.port_words.specs.Words.{Terms, Stands, IsGranted, IsSteady, IsWord, IsFair}
 

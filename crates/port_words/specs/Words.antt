@@ -1,39 +1,14 @@
 -- What ports of a controller are, say and note in an event, by what was so before it
 
 use Rattle.std.specs.Prelude.{◌≡◌, ◌≢◌, ℕ, ◌<◌, ◌≤◌, ◌⊎◌, true, false, List, Contains, Some}
-use Rattle.net_types.specs.declared.node.NodeId.{NodeId}
-use Rattle.net_types.specs.declared.node.PortNo.{PortNo}
-use Rattle.net_types.specs.declared.prefix.Addr.{Addr}
-use Rattle.net_types.specs.declared.channel.Channel.{Channel}
-use Rattle.net_types.specs.declared.number.Instance.{Instance}
-use Rattle.net_types.specs.declared.adjacency.Peer.{Peer}
-use Rattle.net_types.specs.Label.{label_channel_of}
-use Rattle.adjacency_table.specs.declared.State.TheVariants.{Clearing}
-use Rattle.atm_cells.specs.declared.cell.Cell.{Cell}
-use Rattle.ipv4_packet.specs.declared.flow.FlowId.{FlowId}
-use Rattle.ipv4_packet.specs.declared.flow.FlowKind.{FlowKind}
-use Rattle.ipv4_forward.specs.Hop.{onward}
-use Rattle.flow_encaps.specs.Default.{default_payload}
-use Rattle.flow_encaps.specs.Labelled.{labelled_payload}
-use Rattle.gsmp_wire.specs.declared.message.Message.{Message as GsmpMessage}
-use Rattle.gsmp_wire.specs.Layout.{octets_of as gsmp_octets}
-use Rattle.ifmp_wire.specs.declared.message.Message.{Message}
-use Rattle.ifmp_wire.specs.declared.message.Message.TheVariants.{Redirect, Error}
-use Rattle.ifmp_wire.specs.Message.{names_of}
-use Rattle.link_model.specs.declared.frames.Frame.{Frame}
-use Rattle.link_model.specs.declared.record.Record.{Record}
-use Rattle.link_model.specs.declared.record.Record.TheVariants.{Bind}
-use Rattle.link_model.specs.Ledger.{payload_of}
-use Rattle.ordered_lists.specs.Ordered.{Every}
-use Rattle.port_model.specs.declared.action.Action.{Action}
-use Rattle.port_model.specs.declared.action.Action.TheVariants.{Say, Note}
-use Rattle.port_model.specs.Setup.{Setup}
-use Rattle.port_model.specs.Labels.{Label, LabelState, Wiring, Offered, Recalled, Wired}
-use Rattle.port_model.specs.Grants.{Grant}
-use Rattle.port_model.specs.Port.{Session, Port, labels_of}
-use Rattle.world_model.specs.Controller.{Acted, Linked, default_home}
-use Rattle.world_model.specs.Cells.{same_channel}
-use Rattle.controller_views.specs.Lifted.{payload_by}
+use Rattle.world_model.specs.Words.{NodeId, PortNo, Addr, Channel, Instance, Peer, label_channel_of, Clearing, Cell, FlowId, FlowKind, onward, default_payload, labelled_payload, Redirect, Error, names_of, Frame, Record, Bind, payload_of, Action, Say, Note, Setup, Label, LabelState, Wiring, Offered, Recalled, Wired, Grant, Session, labels_of, Linked, default_home, same_channel}
+use Rattle.world_model.specs.gsmp_wire.declared.message.Message.{Message as GsmpMessage}
+use Rattle.world_model.specs.gsmp_wire.Layout.{octets_of as gsmp_octets}
+use Rattle.world_model.specs.ifmp_wire.declared.message.Message.{Message}
+use Rattle.controller_bindings.specs.ordered_lists.Ordered.{Every}
+use Rattle.world_model.specs.port_model.Port.{Port}
+use Rattle.world_model.specs.Controller.{Acted}
+use Rattle.world_views.specs.controller_views.Lifted.{payload_by}
 use Rattle.world_views.specs.Made.{IsFit}
 use Rattle.world_views.specs.Tied.{tells_its_own}
 

@@ -3,50 +3,31 @@
 use Rattle.std.proofs.Common.{◌≡◌, ℕ, true, List, [], ◌∷◌, Option, None, Some, Result, Ok, Err, refl, sym, ◌∙◌, ap, arith, fold, map, inl, inr, if◌then◌else◌}
 use Rattle.std.specs.Prelude.{◌==◌, ◌&&◌, not, flat_map, find, drop, slice_index}
 use Rattle.std.specs.Option.{option_and_then}
-use Rattle.net_types.specs.declared.channel.End.{End}
-use Rattle.net_types.specs.declared.node.PortNo.{PortNo}
-use Rattle.net_types.specs.declared.adjacency.Greeting.{Greeting}
-use Rattle.net_types.specs.declared.adjacency.Party.{Party}
-use Rattle.atm_cells.specs.declared.cell.Cell.{Cell}
-use Rattle.adjacency_table.specs.declared.message.Answer.{Answer}
-use Rattle.adjacency_table.specs.declared.message.Answer.TheVariants.{Quiet, Send, Open, Reset}
-use Rattle.adjacency_table.specs.Side.{Step, is_estab}
-use Rattle.adjacency_table.specs.Greeting.{gsmp_answer, gsmp_received}
-use Rattle.gsmp_wire.specs.declared.fault.Fault.{Fault}
-use Rattle.gsmp_wire.specs.declared.message.Message.{Message}
-use Rattle.gsmp_wire.specs.declared.message.Message.TheVariants as messages
-use Rattle.gsmp_wire.specs.declared.request.Request.{Request}
-use Rattle.gsmp_wire.specs.declared.request.Request.TheVariants.{AddBranch, MoveBranch, DeleteTree, VerifyTree, DeleteAll, PortManagement, AllPorts}
-use Rattle.gsmp_wire.specs.declared.rows.PortRow.{PortRow}
-use Rattle.gsmp_wire.specs.Fields.{decoded, decoded_by}
-use Rattle.gsmp_wire.specs.Layout.{octets_of as gsmp_octets}
-use Rattle.gsmp_wire.specs.Refusal.{refusal, type_of}
-use Rattle.link_model.specs.declared.frames.Frame.{Frame}
-use Rattle.link_model.specs.declared.record.Layer.TheVariants as layers
-use Rattle.link_model.specs.declared.record.Record.TheVariants.{Bad}
-use Rattle.refusal_names.specs.Names.{gsmp_refusal}
-use Rattle.ordered_lists.specs.Ordered.{Every}
-use Rattle.port_model.specs.Messages.{is_up}
-use Rattle.port_model.specs.Desk.{Standing, empty_desk}
-use Rattle.port_model.specs.DeskAnswers.{Head, head_of, is_of_type, Answered, Unknown, Ports, Failed, succeeded, outcome, answered_with, after_answer, without_request}
-use Rattle.port_model.specs.Setup.{Setup}
-use Rattle.port_model.specs.Answers as port_answers
-use Rattle.port_model.specs.Resets.{cleared}
-use Rattle.port_facts.specs.Port.{IsShaped, IsLinked, IsDefaultEnd, MovesNone, asks_ports, empties_control, empties_port, opens_input, opens_output}
-use Rattle.port_facts.proofs.Keyed.{on_both, on_each}
-use Rattle.port_facts.proofs.Found.{find_every}
-use Rattle.port_facts.proofs.Rules.{done_goes}
-use Rattle.world_model.specs.Controller.{Acted, Linked, linked_at, ports_of, with_linked, with_desk, note, default_end, default_home}
-use Rattle.world_model.specs.Sending.{says_gsmp}
-use Rattle.world_model.specs.Asking.{asks}
-use Rattle.world_model.specs.Joins.{releases}
-use Rattle.world_model.specs.Meeting.{meets, up_ports, empties, default_branches, ends_meeting, has_emptied, port_of_input, tells_port, behind_delete_all, causes_in_estab, causes, may_clear, clears_of, clears_port, clears, done, takes_answer, answer_comes}
-use Rattle.world_model.specs.Gsmp.{answers, steps, told, gsmp_holds}
+use Rattle.world_model.specs.Words.{End, PortNo, Greeting, Party, Cell, Answer, Quiet, Send, Open, Step, is_estab, gsmp_answer, gsmp_received, Request, AddBranch, MoveBranch, DeleteTree, VerifyTree, PortManagement, PortRow, refusal, type_of, Frame, Bad, gsmp_refusal, Standing, empty_desk, Head, head_of, is_of_type, Answered, Unknown, Ports, Failed, succeeded, outcome, answered_with, after_answer, without_request, Setup, Linked, linked_at, with_linked, with_desk, default_end, default_home, says_gsmp, asks, releases, meets, up_ports, empties, default_branches, ends_meeting, has_emptied, port_of_input, tells_port, behind_delete_all, causes_in_estab, causes, may_clear, clears_of, clears_port, clears, takes_answer, answer_comes, gsmp_holds, copy_of}
+use Rattle.world_model.specs.adjacency_table.declared.message.Answer.TheVariants.{Reset}
+use Rattle.world_model.specs.gsmp_wire.declared.fault.Fault.{Fault}
+use Rattle.world_model.specs.gsmp_wire.declared.message.Message.{Message}
+use Rattle.world_model.specs.gsmp_wire.declared.message.Message.TheVariants as messages
+use Rattle.world_model.specs.gsmp_wire.declared.request.Request.TheVariants.{DeleteAll, AllPorts}
+use Rattle.world_model.specs.gsmp_wire.Fields.{decoded, decoded_by}
+use Rattle.world_model.specs.gsmp_wire.Layout.{octets_of as gsmp_octets}
+use Rattle.world_model.specs.link_model.declared.record.Layer.TheVariants as layers
+use Rattle.controller_facts.specs.ordered_lists.Ordered.{Every}
+use Rattle.world_model.specs.port_model.Messages.{is_up}
+use Rattle.world_model.specs.port_model.Answers as port_answers
+use Rattle.world_model.specs.port_model.Resets.{cleared}
+use Rattle.controller_facts.specs.port_facts.Port.{IsShaped, IsLinked, IsDefaultEnd, MovesNone, asks_ports, empties_control, empties_port, opens_input, opens_output}
+use Rattle.controller_facts.proofs.port_facts.Keyed.{on_both, on_each}
+use Rattle.controller_facts.proofs.port_facts.Found.{find_every}
+use Rattle.controller_facts.proofs.port_facts.Rules.{done_goes}
+use Rattle.world_model.specs.Controller.{Acted, ports_of, note}
+use Rattle.world_model.specs.Meeting.{done}
+use Rattle.world_model.specs.Gsmp.{answers, steps, told}
 use Rattle.controller_facts.proofs.Moves.{HasPorts, by_rule, moves_ports}
 use Rattle.controller_facts.proofs.Performing.{ports_linked}
 use Rattle.controller_facts.proofs.Joining.{every_filter}
 use Rattle.controller_facts.proofs.Events.{clears_goes}
-use Rattle.world_model.specs.Ways.{told as heard, copy_of}
+use Rattle.world_model.specs.Ways.{told as heard}
 use Rattle.quiet_controllers.specs.Quiet.{asked_by, AreRead, IsFine}
 use Rattle.quiet_controllers.specs.Heard.{RowsAreRead}
 use Rattle.quiet_controllers.proofs.Sending.{Holds, On, ports_of_quiet, same_on, control_on, stays_home}

@@ -6,47 +6,24 @@ use Rattle.std.specs.Option.{option_and_then}
 use Rattle.std.specs.Str.{bytes_eq}
 use Rattle.std.specs.Prelude.{take}
 use Rattle.std.proofs.lemmas.Bool.Decides.{nat_tests}
-use Rattle.net_types.specs.declared.channel.End.{End}
-use Rattle.net_types.specs.declared.node.PortNo.{PortNo}
-use Rattle.net_types.specs.declared.number.Mark.{Mark}
-use Rattle.atm_cells.specs.declared.cell.Cell.{Cell}
-use Rattle.adjacency_table.specs.Side.{is_estab}
-use Rattle.flow_encaps.specs.Default.{default_payload}
-use Rattle.gsmp_wire.specs.declared.fault.Fault.{Fault}
-use Rattle.gsmp_wire.specs.declared.fault.Fault.TheVariants as faults
-use Rattle.gsmp_wire.specs.declared.request.Request.{Request}
-use Rattle.gsmp_wire.specs.declared.request.Request.TheVariants.{AddBranch, MoveBranch, DeleteTree, VerifyTree, DeleteAll, PortManagement, AllPorts}
-use Rattle.gsmp_wire.specs.declared.rows.PortRow.{PortRow}
-use Rattle.gsmp_wire.specs.Fields.{decoded, decoded_by}
-use Rattle.gsmp_wire.specs.Layout.{octets_of as gsmp_octets, snap_header}
-use Rattle.gsmp_wire.specs.Refusal.{type_of, refusal_by}
-use Rattle.link_model.specs.declared.frames.Frame.{Frame}
-use Rattle.link_model.specs.Notes.{Journal, noted}
-use Rattle.frame_model.specs.Reassembly.{Reassembly, cut, noted_all, distinct, marks_of}
-use Rattle.link_model.specs.declared.record.Record.{Record}
-use Rattle.link_model.specs.declared.record.Record.TheVariants.{Loss}
-use Rattle.link_model.specs.declared.record.Cause.TheVariants.{Cut}
-use Rattle.ordered_lists.specs.Ordered.{Every}
-use Rattle.ordered_lists.proofs.Every.{every_join, every_map}
-use Rattle.port_model.specs.Desk.{Desk, Standing, asked, is_led_home, message_at, last_transaction}
-use Rattle.port_model.specs.Messages.{message_of}
-use Rattle.port_model.specs.Requests.{withdraws, is_on}
-use Rattle.port_model.specs.declared.action.Action.{Action}
-use Rattle.port_model.specs.declared.action.Action.TheVariants.{Say, Ask, Note, CutChain, TakeBack, Withdraw, Reset}
-use Rattle.port_model.specs.Setup.{Setup, home_of}
-use Rattle.port_model.specs.Port.{Work}
-use Rattle.port_model.specs.Resets.{resets, restarts}
-use Rattle.port_facts.specs.Port.{IsShaped, IsAction, parts_label}
-use Rattle.port_facts.proofs.Keyed.{on_both, on_each}
-use Rattle.port_facts.proofs.Joins.{resets_kept}
-use Rattle.world_model.specs.Controller.{Acted, Linked, linked_at, ports_of, with_desk, chain_of}
-use Rattle.world_model.specs.Asking.{sends_request, asks_next, asks, takes_back, withdraws_input}
-use Rattle.world_model.specs.Resets.{cuts_of, cuts_label, begins, with_work, closes_by, port_restarts_of, port_restarts, port_restarts_as, resets_gsmp, node_resets}
-use Rattle.world_model.specs.Performing.{does, does_in_estab, resets_of, performs, performs_in_estab, Rule, works_as, works, at_port}
+use Rattle.world_model.specs.Words.{End, PortNo, Mark, Cell, is_estab, default_payload, Request, AddBranch, MoveBranch, DeleteTree, VerifyTree, PortManagement, PortRow, snap_header, type_of, refusal_by, Frame, Journal, noted, Reassembly, cut, noted_all, distinct, marks_of, Record, Loss, Cut, Desk, Standing, is_led_home, last_transaction, message_of, withdraws, is_on, Action, Say, Ask, Note, CutChain, TakeBack, Withdraw, Setup, home_of, Work, resets, restarts, Linked, linked_at, with_desk, chain_of, sends_request, asks_next, asks, takes_back, withdraws_input, cuts_of, cuts_label, begins, with_work, closes_by, port_restarts_of, port_restarts, port_restarts_as, resets_gsmp, node_resets, does, does_in_estab, resets_of, performs, performs_in_estab, Rule, works_as, works, at_port, gsmp_of, copy_of}
+use Rattle.world_model.specs.gsmp_wire.declared.fault.Fault.{Fault}
+use Rattle.world_model.specs.gsmp_wire.declared.fault.Fault.TheVariants as faults
+use Rattle.world_model.specs.gsmp_wire.declared.request.Request.TheVariants.{DeleteAll, AllPorts}
+use Rattle.world_model.specs.gsmp_wire.Fields.{decoded, decoded_by}
+use Rattle.world_model.specs.gsmp_wire.Layout.{octets_of as gsmp_octets}
+use Rattle.controller_facts.specs.ordered_lists.Ordered.{Every}
+use Rattle.controller_facts.proofs.ordered_lists.Every.{every_join, every_map}
+use Rattle.world_model.specs.port_model.Desk.{asked, message_at}
+use Rattle.world_model.specs.port_model.declared.action.Action.TheVariants.{Reset}
+use Rattle.controller_facts.specs.port_facts.Port.{IsShaped, IsAction, parts_label}
+use Rattle.controller_facts.proofs.port_facts.Keyed.{on_both, on_each}
+use Rattle.controller_facts.proofs.port_facts.Joins.{resets_kept}
+use Rattle.world_model.specs.Controller.{Acted, ports_of}
 use Rattle.controller_facts.proofs.Moves.{HasPorts, Found, Worked, by_reset, asking, withdrawing, placing, moves_to, moves_ports, found_setup, found_at_own, begun, worked_kept}
 use Rattle.controller_facts.proofs.Performing.{node_resets_goes, cuts_label_goes}
 use Rattle.controller_facts.proofs.Joining.{every_filter}
-use Rattle.world_model.specs.Ways.{told, gsmp_of, copy_of}
+use Rattle.world_model.specs.Ways.{told}
 use Rattle.quiet_controllers.specs.Quiet.{May, asked_by, AreRead, IsFine}
 use Rattle.quiet_controllers.proofs.Sending.{Holds, On, Says, ports_of_quiet, same_on, control_on, moves_home, stays_home}
 

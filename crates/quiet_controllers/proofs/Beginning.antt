@@ -1,10 +1,8 @@
 -- a controller is quiet at first, and what a quiet one asks may be
 
 use Rattle.std.proofs.Common.{◌≡◌, ◌≢◌, ℕ, zero, suc, ◌<◌, ◌≤◌, List, [], ◌∷◌, length, refl, sym, ◌∙◌, subst, arith, Contains, slice_index_or, ◌⊎◌, inl, inr}
-use Rattle.net_types.specs.declared.channel.End.{End}
-use Rattle.ordered_lists.specs.Ordered.{Every}
-use Rattle.port_model.specs.Desk.{Standing}
-use Rattle.port_model.specs.Setup.{Setup}
+use Rattle.world_model.specs.Words.{End, Standing, Setup}
+use Rattle.controller_facts.specs.ordered_lists.Ordered.{Every}
 use Rattle.world_model.specs.Controller.{Acted}
 use Rattle.quiet_controllers.specs.Quiet.{IsFine, IsMeant, waited, fresh, carries, elsewhere, IsQuiet}
 use Rattle.quiet_controllers.specs.Law.{IsAtWork, Asks, by_desk, by_cell, PacketsAskNothing}

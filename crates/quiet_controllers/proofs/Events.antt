@@ -4,65 +4,31 @@ use Rattle.std.proofs.Common.{◌≡◌, ◌≢◌, ℕ, zero, suc, ◌<◌, ◌
 use Rattle.std.proofs.lemmas.Bool.Decides.{nat_tests}
 use Rattle.std.specs.Prelude.{◌==◌, ◌+◌, ◌*◌, ◌&&◌, nat_lt, nat_le, not, take, flat_map}
 use Rattle.std.specs.Option.{option_and_then}
-use Rattle.net_types.specs.declared.channel.End.{End}
-use Rattle.net_types.specs.declared.channel.Channel.{Channel}
-use Rattle.net_types.specs.declared.node.PortNo.{PortNo}
-use Rattle.net_types.specs.declared.number.Mark.{Mark}
-use Rattle.net_types.specs.declared.adjacency.Party.{Party}
-use Rattle.net_types.specs.Label.{label_number_of, label_channel_of}
-use Rattle.atm_cells.specs.declared.cell.Cell.{Cell}
-use Rattle.adjacency_table.specs.declared.message.Answer.{Answer}
-use Rattle.adjacency_table.specs.declared.message.Answer.TheVariants.{Quiet, Send, Open, Reset}
-use Rattle.adjacency_table.specs.declared.message.Said.{Said}
-use Rattle.adjacency_table.specs.Side.{Step, is_estab, ticked}
-use Rattle.ipv4_packet.specs.Packet.{protocol_of, source_of, first_fault}
-use Rattle.ipv4_packet.specs.declared.validate.PacketFault.{PacketFault}
-use Rattle.ipv4_forward.specs.Hop.{hop_of, onward}
-use Rattle.ipv4_forward.specs.declared.outcome.Hop.{Hop}
-use Rattle.ipv4_forward.specs.declared.outcome.Hop.TheVariants.{Here, On as Onward, NoRoute, Expired}
-use Rattle.ipv4_packet.specs.Flow.{kind_of}
-use Rattle.flow_encaps.specs.Default.{default_payload}
-use Rattle.flow_encaps.specs.Labelled.{labelled_payload}
-use Rattle.flow_encaps.specs.declared.default.EncapsFault.{EncapsFault}
-use Rattle.flow_encaps.specs.Unwrapped.{default_unwrapped, unwrapped}
-use Rattle.ifmp_wire.specs.declared.message.Message.{Message}
-use Rattle.ifmp_wire.specs.declared.reader.Fault.{Fault}
-use Rattle.ifmp_wire.specs.Fields.{decoded as ifmp_decoded}
-use Rattle.gsmp_wire.specs.Fields.{decoded as gsmp_decoded}
-use Rattle.link_model.specs.declared.frames.Frame.{Frame}
-use Rattle.link_model.specs.declared.record.Cause.TheVariants.{Unbound, PoolFull}
-use Rattle.link_model.specs.declared.record.Cause.TheVariants as causes_of
-use Rattle.link_model.specs.declared.record.Layer.TheVariants as layers
-use Rattle.link_model.specs.declared.record.DropCause.TheVariants as drops
-use Rattle.link_model.specs.declared.record.Record.{Record}
-use Rattle.link_model.specs.declared.record.Record.TheVariants.{Bad, Loss, Delivered, Dropped, Chance}
-use Rattle.link_model.specs.Ledger.{is_frame, has_entry}
-use Rattle.link_model.specs.Notes.{Journal, noted}
-use Rattle.refusal_names.specs.Names.{encaps_refusal, packet_refusal, ifmp_refusal}
-use Rattle.frame_model.specs.Frame.{octets_of, last_mark, payload_in, passed, tested_by, next_mark}
-use Rattle.frame_model.specs.Reassembly.{Reassembly, Taken, taken, marks_of, broken, most_cells, passed_over, without_slot, too_long, joined}
-use Rattle.ordered_lists.specs.Ordered.{Every}
-use Rattle.port_model.specs.Desk.{Standing, sent_again, last_transaction}
-use Rattle.port_model.specs.Setup.{Setup, control_end}
-use Rattle.port_model.specs.Labels.{Label, is_bound}
-use Rattle.port_model.specs.Grants.{Grant}
-use Rattle.port_model.specs.Port.{label_at}
-use Rattle.port_model.specs.Counting.{counts, used}
-use Rattle.port_model.specs.Hearing.{hears}
-use Rattle.port_model.specs.Ticks as port_ticks
-use Rattle.port_facts.specs.Port.{IsShaped, Lives}
-use Rattle.port_facts.proofs.Keyed.{on_both, on_each}
-use Rattle.port_facts.proofs.Rules.{used_goes, counts_goes}
-use Rattle.port_facts.proofs.Hearings.{hears_goes, ticks_goes}
-use Rattle.world_model.specs.Controller.{Acted, Linked, free_slots, linked_at, ports_of, note, default_channel, default_home}
-use Rattle.world_model.specs.Sending.{sends, sends_control}
-use Rattle.world_model.specs.Asking.{sends_request}
-use Rattle.world_model.specs.Resets.{cuts_default_of, cuts_default, cuts_gsmp, node_resets, node_restarts}
-use Rattle.world_model.specs.Joins.{inputs_at, tries_joins}
+use Rattle.world_model.specs.Words.{End, Channel, PortNo, Mark, Party, label_number_of, label_channel_of, Cell, Answer, Quiet, Send, Open, Said, Step, is_estab, ticked, protocol_of, source_of, PacketFault, hop_of, onward, Hop, Here, On as Onward, kind_of, default_payload, labelled_payload, EncapsFault, default_unwrapped, unwrapped, Frame, Unbound, PoolFull, Record, Bad, Loss, Delivered, Dropped, Chance, is_frame, has_entry, Journal, noted, encaps_refusal, packet_refusal, ifmp_refusal, last_mark, payload_in, tested_by, next_mark, Reassembly, marks_of, broken, most_cells, passed_over, without_slot, too_long, Standing, sent_again, last_transaction, Setup, control_end, Label, is_bound, Grant, label_at, counts, used, hears, Linked, linked_at, default_channel, default_home, sends_control, sends_request, cuts_default_of, cuts_default, cuts_gsmp, node_resets, node_restarts, inputs_at, tries_joins, is_control, sends_next, goes_by, grant_by, routes, injected, control_protocol, ForGsmp, ForDefault, ForLabel, port_on, on_link, same_channel, label_taker, taker_at, taker_of, reassembly_of, with_reassembly, label_holds, ifmp_holds, counted_at, packet_holds, default_holds, frame_holds, takes_cell, sends_again, ticks_port, ticks_ports, ticks_by}
+use Rattle.world_model.specs.adjacency_table.declared.message.Answer.TheVariants.{Reset}
+use Rattle.world_model.specs.ipv4_packet.Packet.{first_fault}
+use Rattle.world_model.specs.ipv4_forward.declared.outcome.Hop.TheVariants.{NoRoute, Expired}
+use Rattle.world_model.specs.ifmp_wire.declared.message.Message.{Message}
+use Rattle.world_model.specs.ifmp_wire.declared.reader.Fault.{Fault}
+use Rattle.world_model.specs.ifmp_wire.Fields.{decoded as ifmp_decoded}
+use Rattle.world_model.specs.gsmp_wire.Fields.{decoded as gsmp_decoded}
+use Rattle.world_model.specs.link_model.declared.record.Cause.TheVariants as causes_of
+use Rattle.world_model.specs.link_model.declared.record.Layer.TheVariants as layers
+use Rattle.world_model.specs.link_model.declared.record.DropCause.TheVariants as drops
+use Rattle.world_model.specs.frame_model.Frame.{octets_of, passed}
+use Rattle.world_model.specs.frame_model.Reassembly.{Taken, taken, joined}
+use Rattle.controller_facts.specs.ordered_lists.Ordered.{Every}
+use Rattle.world_model.specs.port_model.Ticks as port_ticks
+use Rattle.controller_facts.specs.port_facts.Port.{IsShaped, Lives}
+use Rattle.controller_facts.proofs.port_facts.Keyed.{on_both, on_each}
+use Rattle.controller_facts.proofs.port_facts.Rules.{used_goes, counts_goes}
+use Rattle.controller_facts.proofs.port_facts.Hearings.{hears_goes, ticks_goes}
+use Rattle.world_model.specs.Controller.{Acted, free_slots, ports_of, note}
+use Rattle.world_model.specs.Sending.{sends}
 use Rattle.world_model.specs.Gsmp.{steps}
-use Rattle.world_model.specs.Packets.{is_control, sends_next, goes_by, grant_by, forwarded, routes, injected, control_protocol}
-use Rattle.world_model.specs.Cells.{Taker, ForGsmp, ForDefault, ForLabel, port_on, on_link, same_channel, label_taker, taker_at, taker_of, reassembly_of, with_reassembly, label_holds, ifmp_holds, counted_at, packet_holds, default_holds, frame_holds, opened_frame, ends_frame, takes_cell, cell_comes}
-use Rattle.world_model.specs.Ticks.{sends_again, ticks_port, ticks_ports, ticks_by, ticks}
+use Rattle.world_model.specs.Packets.{forwarded}
+use Rattle.world_model.specs.Cells.{Taker, opened_frame, ends_frame, cell_comes}
+use Rattle.world_model.specs.Ticks.{ticks}
 use Rattle.controller_facts.proofs.Lifetimes.{decoded_lives}
 use Rattle.controller_facts.proofs.Moves.{HasPorts, by_rule, Found, found_at_own, found_port, moves_ports}
 use Rattle.controller_facts.proofs.Performing.{Any, any_ports, node_restarts_goes}

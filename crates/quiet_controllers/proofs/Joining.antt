@@ -3,38 +3,16 @@
 use Rattle.std.proofs.Common.{◌≡◌, ℕ, ◌<◌, Bool, true, false, List, [], ◌∷◌, ◌++◌, length, Option, None, Some, refl, sym, ◌∙◌, ap, subst, fold, if◌then◌else◌}
 use Rattle.std.specs.Prelude.{◌&&◌, not, nat_lt, is_none, flat_map}
 use Rattle.std.specs.Option.{option_map}
-use Rattle.net_types.specs.declared.channel.End.{End}
-use Rattle.net_types.specs.declared.node.PortNo.{PortNo}
-use Rattle.net_types.specs.Label.{number_of_channel}
-use Rattle.atm_cells.specs.declared.cell.Cell.{Cell}
-use Rattle.ipv4_forward.specs.Best.{best}
-use Rattle.ipv4_forward.specs.declared.change.RouteChange.{RouteChange}
-use Rattle.ipv4_packet.specs.declared.flow.FlowId.{FlowId}
-use Rattle.ipv4_packet.specs.Flow.{next_hop_of}
-use Rattle.ipv4_packet.specs.Parts.{same_flow, flow_destination}
-use Rattle.gsmp_wire.specs.declared.request.Request.{Request}
-use Rattle.gsmp_wire.specs.declared.request.Request.TheVariants.{MoveBranch}
-use Rattle.crossbar_model.specs.Crossbar.{same_end}
-use Rattle.link_model.specs.declared.frames.Frame.{Frame}
-use Rattle.link_model.specs.declared.record.Record.TheVariants.{Part}
-use Rattle.ordered_lists.specs.Ordered.{Every}
-use Rattle.ordered_lists.proofs.Every.{every_map}
-use Rattle.keyed_lists.specs.Keyed.{at}
-use Rattle.port_model.specs.Desk.{on_input, most_asked}
-use Rattle.port_model.specs.Setup.{Setup, home_of, label_end}
-use Rattle.port_model.specs.Labels.{Label, Offered, label_number}
-use Rattle.port_model.specs.Grants.{Grant, ByController, grant_label, grant_for, is_by_controller}
-use Rattle.port_model.specs.Port.{labels_of}
-use Rattle.port_model.specs.Saying.{closes}
-use Rattle.port_model.specs.Joins as port_joins
-use Rattle.port_facts.specs.Port.{IsLabelEnd, parts_label, joins_label}
-use Rattle.port_facts.proofs.Keyed.{on_both, apart_at}
-use Rattle.port_facts.proofs.Found.{find_every, find_passes}
-use Rattle.port_facts.proofs.Rules.{and_first}
-use Rattle.world_model.specs.Controller.{Acted, Linked, linked_at, ports_of, note}
-use Rattle.world_model.specs.Routes.{route_stays}
-use Rattle.world_model.specs.Joins.{Join, joins_of, join_of, parts, releases_join, releases_input, released_inputs, resets_spent, releases, output_of, join_through, join_by, port_by, join_for, is_offered, may_join, enters_grant, enters_label, joins, tries_label, label_on, tries_join, inputs_at, tries_joins}
-use Rattle.world_model.specs.Changes.{is_changed, changed_joins, takes_join_back, begins_change, takes_change, may_take, takes_each, takes_changes, change_comes}
+use Rattle.world_model.specs.Words.{End, PortNo, number_of_channel, Cell, best, RouteChange, FlowId, next_hop_of, same_flow, flow_destination, Request, MoveBranch, same_end, Frame, Part, at, on_input, most_asked, Setup, home_of, label_end, Label, Offered, label_number, Grant, ByController, grant_label, grant_for, is_by_controller, labels_of, closes, Linked, linked_at, route_stays, joins_of, join_of, parts, releases_join, releases_input, released_inputs, resets_spent, releases, join_through, join_by, port_by, join_for, is_offered, may_join, enters_grant, enters_label, joins, tries_label, label_on, tries_join, inputs_at, tries_joins, is_changed, changed_joins, takes_join_back, begins_change, takes_change, may_take, takes_each, takes_changes, change_comes}
+use Rattle.controller_facts.specs.ordered_lists.Ordered.{Every}
+use Rattle.controller_facts.proofs.ordered_lists.Every.{every_map}
+use Rattle.world_model.specs.port_model.Joins as port_joins
+use Rattle.controller_facts.specs.port_facts.Port.{IsLabelEnd, parts_label, joins_label}
+use Rattle.controller_facts.proofs.port_facts.Keyed.{on_both, apart_at}
+use Rattle.controller_facts.proofs.port_facts.Found.{find_every, find_passes}
+use Rattle.controller_facts.proofs.port_facts.Rules.{and_first}
+use Rattle.world_model.specs.Controller.{Acted, ports_of, note}
+use Rattle.world_model.specs.Joins.{Join, output_of}
 use Rattle.controller_facts.proofs.Moves.{HasPorts, Found, by_closing, by_parting, by_giving_back, by_joining, by_lending, found_at_own, found_port}
 use Rattle.controller_facts.proofs.Joining.{every_flat_map, every_filter, IsJoin, joins_are, join_input, join_output, each_there, granted_there, parts_grants, AnyEnd, any_ends, image_is}
 use Rattle.controller_facts.proofs.Performing.{Any, any_ports}

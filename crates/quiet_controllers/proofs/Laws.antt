@@ -1,12 +1,8 @@
 -- each event leaves a controller quiet, and so it asks no more than it did
 
 use Rattle.std.proofs.Common.{List, ◌⊎◌, inl, inr}
-use Rattle.net_types.specs.declared.channel.End.{End}
-use Rattle.port_model.specs.Setup.{Setup}
+use Rattle.world_model.specs.Words.{End, Setup, node_restarts, change_comes, injected}
 use Rattle.world_model.specs.Controller.{Acted}
-use Rattle.world_model.specs.Resets.{node_restarts}
-use Rattle.world_model.specs.Changes.{change_comes}
-use Rattle.world_model.specs.Packets.{injected}
 use Rattle.world_model.specs.Cells.{cell_comes}
 use Rattle.world_model.specs.Ticks.{ticks}
 use Rattle.quiet_controllers.specs.Quiet.{IsQuiet}

@@ -4,34 +4,18 @@ use Rattle.std.proofs.Common.{◌≡◌, ◌≢◌, ℕ, ◌+◌, ◌<◌, ◌�
 use Rattle.std.specs.Prelude.{◌/◌, nat_le}
 use Rattle.std.specs.List.{range_with_len}
 use Rattle.std.specs.Option.{option_and_then}
-use Rattle.net_types.specs.declared.channel.Channel.{Channel}
-use Rattle.net_types.specs.declared.channel.End.{End}
-use Rattle.net_types.specs.declared.number.Mark.{Mark}
-use Rattle.net_types.specs.Number.{next_control, with_control}
-use Rattle.atm_cells.specs.declared.cell.Cell.{Cell}
-use Rattle.aal5_frames.specs.Frame.{cells_with, cell_of, pdu_of}
-use Rattle.gsmp_wire.specs.declared.request.Request.{Request}
-use Rattle.gsmp_wire.specs.declared.request.Request.TheVariants.{AddBranch, MoveBranch}
-use Rattle.link_model.specs.declared.frames.Frame.{Frame}
-use Rattle.link_model.specs.declared.record.Record.TheVariants.{Loss}
-use Rattle.link_model.specs.declared.record.Cause.TheVariants.{PoolFull}
-use Rattle.link_model.specs.Ledger.{payload_of, same_mark}
-use Rattle.link_model.specs.Notes.{noted}
-use Rattle.link_model.proofs.Latest.{payload_of_push}
-use Rattle.link_model.proofs.Marks.{same_mark-Decides}
-use Rattle.frame_model.specs.Frame.{frame_cells, made}
-use Rattle.frame_model.specs.Sending.{Sent}
-use Rattle.ordered_lists.specs.Ordered.{Every}
-use Rattle.ordered_lists.proofs.Every.{every_join, every_map}
-use Rattle.port_model.specs.Desk.{Desk, Standing, last_transaction}
-use Rattle.port_model.specs.Setup.{Setup, home_of}
-use Rattle.port_facts.specs.Port.{IsShaped, asks_ports, empties_control, empties_port, opens_input, opens_output, leads_label, leads_grant, joins_label, parts_label, frees_label, MovesNone}
-use Rattle.port_facts.proofs.Keyed.{on_both}
-use Rattle.world_model.specs.Controller.{Controller, Acted, free_slots, default_channel}
-use Rattle.world_model.specs.Cells.{same_channel}
-use Rattle.world_model.specs.Sending.{with_cells, sends, sends_control}
+use Rattle.world_model.specs.Words.{Channel, End, Mark, next_control, with_control, Cell, Request, AddBranch, MoveBranch, Frame, Loss, PoolFull, payload_of, same_mark, noted, frame_cells, made, Desk, Standing, last_transaction, Setup, home_of, Controller, default_channel, same_channel, sends_control, gsmp_of, copy_of, copy_under}
+use Rattle.actor_pace.specs.aal5_frames.Frame.{cells_with, cell_of, pdu_of}
+use Rattle.world_model.proofs.link_model.Latest.{payload_of_push}
+use Rattle.world_model.proofs.link_model.Marks.{same_mark-Decides}
+use Rattle.world_model.specs.frame_model.Sending.{Sent}
+use Rattle.controller_facts.specs.ordered_lists.Ordered.{Every}
+use Rattle.controller_facts.proofs.ordered_lists.Every.{every_join, every_map}
+use Rattle.controller_facts.specs.port_facts.Port.{IsShaped, asks_ports, empties_control, empties_port, opens_input, opens_output, leads_label, leads_grant, joins_label, parts_label, frees_label, MovesNone}
+use Rattle.controller_facts.proofs.port_facts.Keyed.{on_both}
+use Rattle.world_model.specs.Controller.{Acted, free_slots}
+use Rattle.world_model.specs.Sending.{with_cells, sends}
 use Rattle.controller_facts.proofs.Moves.{HasPorts, sending, moves_to, moves_ports}
-use Rattle.world_model.specs.Ways.{gsmp_of, copy_of, copy_under}
 use Rattle.quiet_controllers.specs.Quiet.{May, asked_by, AreRead, IsFine, IsMeant, waited, fresh, carries, elsewhere, AskTheSame, IsQuiet}
 
 -- the cells of a frame have its mark and its channel

@@ -2,20 +2,14 @@
 -- such as its messages can be read by
 
 use Rattle.std.specs.Prelude.{◌≡◌, ◌≢◌, ℕ, ◌≤◌, ◌==◌, true, false, nat_lt, List, ◌∷◌, Some, Ok}
-use Rattle.net_types.specs.declared.number.Mark.{Mark}
-use Rattle.atm_cells.specs.declared.cell.Cell.{Cell}
-use Rattle.ipv4_forward.specs.Hop.{hop_of}
-use Rattle.ipv4_forward.specs.declared.outcome.Hop.TheVariants.{On}
-use Rattle.net_types.specs.declared.node.PortNo.{PortNo}
-use Rattle.gsmp_wire.specs.Fields.{decoded}
-use Rattle.gsmp_wire.specs.declared.message.Message.{Message}
-use Rattle.gsmp_wire.specs.declared.message.Message.TheVariants.{AllPorts}
-use Rattle.frame_model.specs.Frame.{octets_of, payload_in}
-use Rattle.frame_model.specs.Reassembly.{taken}
-use Rattle.port_model.specs.Setup.{Setup}
-use Rattle.world_model.specs.Controller.{Controller, Acted, free_slots}
-use Rattle.world_model.specs.Packets.{is_control}
-use Rattle.world_model.specs.Cells.{Taker, ForGsmp, ForDefault, ForLabel, taker_of, reassembly_of}
+use Rattle.world_model.specs.Words.{Mark, Cell, hop_of, On, PortNo, payload_in, Setup, Controller, is_control, ForGsmp, ForDefault, ForLabel, taker_of, reassembly_of}
+use Rattle.world_model.specs.gsmp_wire.Fields.{decoded}
+use Rattle.world_model.specs.gsmp_wire.declared.message.Message.{Message}
+use Rattle.world_model.specs.gsmp_wire.declared.message.Message.TheVariants.{AllPorts}
+use Rattle.world_model.specs.frame_model.Frame.{octets_of}
+use Rattle.world_model.specs.frame_model.Reassembly.{taken}
+use Rattle.world_model.specs.Controller.{Acted, free_slots}
+use Rattle.world_model.specs.Cells.{Taker}
 use Rattle.quiet_controllers.specs.Quiet.{AreRead}
 
 abbrev pub RowsAreRead : List Setup → Message → Type 0

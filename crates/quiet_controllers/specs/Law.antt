@@ -2,26 +2,14 @@
 -- what did before it, and at a tick the joins that it enters
 
 use Rattle.std.specs.Prelude.{◌≡◌, ◌≢◌, ℕ, ◌<◌, ◌≤◌, ◌⊎◌, true, List, [], flat_map, Contains, None, Some}
-use Rattle.net_types.specs.declared.channel.End.{End}
-use Rattle.net_types.specs.declared.number.Mark.{Mark}
-use Rattle.atm_cells.specs.declared.cell.Cell.{Cell}
-use Rattle.adjacency_table.specs.declared.message.Answer.TheVariants.{Reset}
-use Rattle.adjacency_table.specs.Side.{ticked}
-use Rattle.ipv4_forward.specs.declared.change.RouteChange.{RouteChange}
-use Rattle.ordered_lists.specs.Ordered.{Every}
-use Rattle.port_model.specs.Desk.{Standing, last_transaction}
-use Rattle.port_model.specs.Setup.{Setup}
-use Rattle.world_model.specs.Controller.{Acted, default_channel}
-use Rattle.world_model.specs.Resets.{node_restarts}
-use Rattle.world_model.specs.Joins.{inputs_at}
+use Rattle.world_model.specs.Words.{End, Mark, Cell, ticked, RouteChange, Standing, last_transaction, Setup, default_channel, node_restarts, inputs_at, change_comes, injected, same_channel, sends_again, ticks_ports, copy_under, leads}
+use Rattle.world_model.specs.adjacency_table.declared.message.Answer.TheVariants.{Reset}
+use Rattle.controller_facts.specs.ordered_lists.Ordered.{Every}
+use Rattle.world_model.specs.Controller.{Acted}
 use Rattle.world_model.specs.Gsmp.{steps}
-use Rattle.world_model.specs.Changes.{change_comes}
-use Rattle.world_model.specs.Packets.{injected}
-use Rattle.world_model.specs.Cells.{same_channel, cell_comes}
-use Rattle.world_model.specs.Ticks.{sends_again, ticks_ports, ticks}
+use Rattle.world_model.specs.Cells.{cell_comes}
+use Rattle.world_model.specs.Ticks.{ticks}
 use Rattle.controller_facts.specs.Sound.{ArePorts, AreShaped}
-use Rattle.world_model.specs.Ways.{copy_under}
-use Rattle.world_model.specs.Users.{leads}
 use Rattle.quiet_controllers.specs.Quiet.{AreRead, Enters}
 use Rattle.quiet_controllers.specs.Heard.{LeadsToLinks, CanCome}
 

@@ -2,25 +2,13 @@
 
 use Rattle.std.specs.Prelude.{◌≡◌, ◌≢◌, ℕ, ◌<◌, ◌≤◌, false, List, ◌∷◌, Contains, Option, None, Some, if◌then◌else◌}
 use Rattle.std.specs.Option.{option_and_then}
-use Rattle.net_types.specs.declared.channel.End.{End}
-use Rattle.net_types.specs.declared.number.Mark.{Mark}
-use Rattle.atm_cells.specs.declared.cell.Cell.{Cell}
-use Rattle.gsmp_wire.specs.declared.request.Request.{Request}
-use Rattle.gsmp_wire.specs.declared.rows.PortRow.{PortRow}
-use Rattle.gsmp_wire.specs.Layout.{octets_of}
-use Rattle.link_model.specs.declared.frames.Frame.{Frame}
-use Rattle.ordered_lists.specs.Ordered.{Every}
-use Rattle.port_model.specs.Desk.{Standing, last_transaction}
-use Rattle.port_model.specs.Messages.{message_of}
-use Rattle.port_model.specs.Setup.{Setup}
-use Rattle.port_facts.specs.Port.{IsShaped}
-use Rattle.port_model.specs.Labels.{Label}
-use Rattle.world_model.specs.Controller.{Controller, Acted, default_channel}
-use Rattle.world_model.specs.Cells.{same_channel}
-use Rattle.world_model.specs.Joins.{Join, join_for, may_join, label_on, tries_join, output_of}
+use Rattle.world_model.specs.Words.{End, Mark, Cell, Request, PortRow, Frame, Standing, last_transaction, message_of, Setup, Label, Controller, default_channel, same_channel, join_for, may_join, label_on, tries_join, gsmp_of, copy_of, copy_under, leads}
+use Rattle.world_model.specs.gsmp_wire.Layout.{octets_of}
+use Rattle.controller_facts.specs.ordered_lists.Ordered.{Every}
+use Rattle.controller_facts.specs.port_facts.Port.{IsShaped}
+use Rattle.world_model.specs.Controller.{Acted}
+use Rattle.world_model.specs.Joins.{Join, output_of}
 use Rattle.controller_facts.specs.Sound.{ArePorts, AreShaped}
-use Rattle.world_model.specs.Ways.{gsmp_of, copy_of, copy_under}
-use Rattle.world_model.specs.Users.{leads}
 
 -- *A request* leads from one label to another only where it may
 abbrev pub May : (Allowed : End → End → Type 0) → Request → Type 0

@@ -4,66 +4,44 @@ use Rattle.std.proofs.Common.{◌≡◌, ◌≢◌, ℕ, zero, suc, ◌≤◌, �
 use Rattle.std.specs.Prelude.{◌==◌, ◌&&◌, nat_lt, Contains, is_some, slice_index_or}
 use Rattle.std.specs.Option.{option_map_or}
 use Rattle.std.proofs.lemmas.Bool.Decides.{nat_tests}
-use Rattle.net_types.specs.declared.node.NodeId.{NodeId}
-use Rattle.net_types.specs.declared.node.PortNo.{PortNo}
-use Rattle.net_types.specs.declared.node.Place.{Place}
-use Rattle.net_types.specs.declared.node.Place.TheVariants.{Down, Up, Out}
-use Rattle.net_types.specs.declared.channel.Channel.{Channel}
-use Rattle.net_types.specs.declared.channel.End.{End}
-use Rattle.net_types.specs.declared.number.Mark.{Mark}
-use Rattle.net_types.specs.Number.{GivenOut}
-use Rattle.atm_cells.specs.declared.cell.Cell.{Cell}
-use Rattle.crossbar_model.specs.Crossbar.{output_of, input_of, on_channel_of}
-use Rattle.link_model.specs.declared.frames.Frame.{Frame}
-use Rattle.link_model.specs.Ledger.{payload_of}
-use Rattle.link_model.specs.Notes.{Journal}
-use Rattle.frame_model.specs.Frame.{octets_of, payload_in, last_mark}
-use Rattle.frame_model.specs.Reassembly.{taken}
-use Rattle.port_model.specs.Setup.{Policy}
-use Rattle.keyed_lists.specs.Keyed.{at}
-use Rattle.port_facts.proofs.Keyed.{at_key, at_put_other}
+use Rattle.world_model.specs.Words.{NodeId, PortNo, Place, Down, Up, Out, Channel, End, Mark, GivenOut, Cell, on_channel_of, Frame, payload_of, Journal, payload_in, last_mark, Policy, at, control_port, is_gsmp, Linked, port_key, linked_at, default_channel, same_channel, on_link, port_on, Topology, is_linked, IsTopology, IsPlace, IsNode, World, Site, site_key, site_at, controller_acts, switch_acts, place_node, queue_in, queue_at, with_queue_in, with_queue_of, with_queue, put_away, arrives_at, arrives, carries_head, Past, past_of, frames_of, last_bound}
+use Rattle.world_model.specs.crossbar_model.Crossbar.{output_of, input_of}
+use Rattle.world_model.specs.frame_model.Frame.{octets_of}
+use Rattle.world_model.specs.frame_model.Reassembly.{taken}
+use Rattle.running_worlds.proofs.port_facts.Keyed.{at_key, at_put_other}
 use Rattle.world_model.specs.declared.event.Event.{Event}
 use Rattle.world_model.specs.declared.event.Event.TheVariants.{Carry}
 use Rattle.world_model.specs.declared.link.LinkEnd.{LinkEnd}
 use Rattle.world_model.specs.Switch as switches
-use Rattle.world_model.specs.Switch.{control_port}
 use Rattle.world_model.specs.Conduct as switch
-use Rattle.world_model.specs.Conduct.{is_gsmp}
 use Rattle.world_model.specs.Controller as controllers
-use Rattle.world_model.specs.Controller.{Linked, port_key, linked_at, default_channel}
 use Rattle.world_model.specs.Cells as controller
-use Rattle.world_model.specs.Cells.{same_channel, on_link, port_on}
-use Rattle.world_model.specs.Topology.{Topology, peer_of}
-use Rattle.world_model.specs.Lines.{is_linked}
-use Rattle.world_model.specs.Conditions.{IsTopology, IsPlace, IsNode}
-use Rattle.world_model.specs.World.{World, Site, site_key, site_at, controller_acts, switch_acts, at_switch}
-use Rattle.run_facts.specs.Nodes.{HasSite}
-use Rattle.world_model.specs.Places.{place_node, queue_in, queue_at, with_queue_in, with_queue_of, with_queue}
-use Rattle.world_model.specs.Run.{put_away}
-use Rattle.world_model.specs.Step.{arrives_at, arrives, carries_head, acts}
-use Rattle.world_model.specs.Past.{Past, past_of, frames_of, last_bound}
-use Rattle.actor_pace.proofs.Controllers.{cell_follows}
-use Rattle.shown_cells.specs.Seen.{Extends, IsUnmade}
-use Rattle.shown_cells.proofs.Made.{extends_self}
-use Rattle.shown_cells.proofs.Tested.{frame_is, last_is}
-use Rattle.world_views.specs.Between.{IsWorld}
-use Rattle.world_views.specs.Kept.{Comes, behind, BindsUnusedAt}
+use Rattle.world_model.specs.Topology.{peer_of}
+use Rattle.world_model.specs.World.{at_switch}
+use Rattle.running_worlds.specs.run_facts.Nodes.{HasSite}
+use Rattle.world_model.specs.Step.{acts}
+use Rattle.running_worlds.proofs.actor_pace.Controllers.{cell_follows}
+use Rattle.running_worlds.specs.shown_cells.Seen.{Extends, IsUnmade}
+use Rattle.running_worlds.proofs.shown_cells.Made.{extends_self}
+use Rattle.running_worlds.proofs.shown_cells.Tested.{frame_is, last_is}
+use Rattle.running_worlds.specs.world_views.Between.{IsWorld}
+use Rattle.running_worlds.specs.world_views.Kept.{Comes, behind, BindsUnusedAt}
 use Rattle.ownership.specs.Places.{HasPlaces}
-use Rattle.causes.proofs.Shown.{IsPeer, peer_back}
+use Rattle.running_worlds.proofs.causes.Shown.{IsPeer, peer_back}
 use Rattle.running_worlds.specs.Running.{ChainsAreTrue}
-use Rattle.world_views.specs.Between.{setups_of}
-use Rattle.packet_worlds.proofs.Worlds.{port_above}
+use Rattle.running_worlds.specs.world_views.Between.{setups_of}
+use Rattle.quiet_rounds.proofs.packet_worlds.Worlds.{port_above}
 use Rattle.running_worlds.proofs.MadeTame.{whole_chain}
-use Rattle.packet_worlds.specs.Channels.{HasChannels}
-use Rattle.packet_worlds.proofs.Behind.{IsUser, cell_uses}
-use Rattle.packet_worlds.proofs.Headings.{own_there}
-use Rattle.quiet_model.specs.Costs.{total}
-use Rattle.quiet_model.specs.Weights.{Bearing, ToSwitch, Bound, bearing_on, bearing_of, cell_weight, place_at, site_weight, weight}
-use Rattle.quiet_model.specs.Law.{WeighsLess}
+use Rattle.quiet_rounds.specs.packet_worlds.Channels.{HasChannels}
+use Rattle.quiet_rounds.proofs.packet_worlds.Behind.{IsUser, cell_uses}
+use Rattle.quiet_rounds.proofs.packet_worlds.Headings.{own_there}
+use Rattle.controller_weights.specs.quiet_model.Costs.{total}
+use Rattle.controller_weights.specs.quiet_model.Weights.{Bearing, ToSwitch, Bound, bearing_on, bearing_of, cell_weight, place_at, site_weight, weight}
+use Rattle.controller_weights.specs.quiet_model.Law.{WeighsLess}
 use Rattle.controller_weights.specs.Coming.{coming_cost}
 use Rattle.controller_weights.proofs.Paid as controllers_paid
-use Rattle.switch_weights.specs.Coming.{asking_weight, Pays}
-use Rattle.switch_weights.proofs.Paid as switches_paid
+use Rattle.quiet_rounds.specs.switch_weights.Coming.{asking_weight, Pays}
+use Rattle.quiet_rounds.proofs.switch_weights.Paid as switches_paid
 use Rattle.quiet_links.proofs.Reweighed.{cell_less, nobody_less}
 use Rattle.quiet_rounds.proofs.Sites.{one_found, AreLighter, world_less, switch_weight, controller_acts_weight, Popped, popped}
 use Rattle.quiet_links.proofs.Facts as facts

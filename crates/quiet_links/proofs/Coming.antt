@@ -3,67 +3,34 @@
 use Rattle.std.proofs.Common.{◌≡◌, ◌≢◌, ℕ, zero, suc, ◌+◌, Bool, true, false, List, [], ◌∷◌, ◌++◌, length, Option, None, Some, Result, Ok, refl, sym, ◌∙◌, ap, subst, arith, if◌then◌else◌}
 use Rattle.std.specs.Prelude.{nat_lt, nat_le, Contains, is_some, find, map}
 use Rattle.std.specs.Option.{option_map_or, option_map, option_and_then}
-use Rattle.net_types.specs.declared.prefix.Addr.{Addr}
-use Rattle.net_types.specs.declared.node.NodeId.{NodeId}
-use Rattle.net_types.specs.declared.node.PortNo.{PortNo}
-use Rattle.net_types.specs.declared.node.Place.TheVariants.{Up}
-use Rattle.net_types.specs.declared.channel.Channel.{Channel}
-use Rattle.net_types.specs.declared.number.Mark.{Mark}
-use Rattle.net_types.specs.Label.{number_of_channel, is_label_number, is_label_channel, label_number_of}
-use Rattle.ipv4_packet.specs.Packet.{ttl_of, destination_of}
-use Rattle.ipv4_packet.specs.Flow.{flow_ttl, kind_of}
-use Rattle.ipv4_packet.specs.declared.flow.FlowId.{FlowId}
-use Rattle.ipv4_forward.specs.Best.{best, is_best}
-use Rattle.ipv4_forward.specs.Hop.{hop_by}
-use Rattle.ipv4_forward.specs.declared.outcome.Hop.TheVariants.{On, Expired}
-use Rattle.ipv4_forward.specs.declared.table.Next.{Next}
-use Rattle.ipv4_forward.specs.declared.table.Next.TheVariants.{Local, Via}
-use Rattle.ipv4_forward.specs.declared.table.Route.{Route}
-use Rattle.flow_encaps.specs.Unwrapped.{unwrapped}
-use Rattle.atm_cells.specs.declared.cell.Cell.{Cell}
-use Rattle.link_model.specs.declared.frames.Frame.{Frame}
-use Rattle.link_model.specs.Ledger.{payload_of}
-use Rattle.link_model.specs.Notes.{Journal}
-use Rattle.net_types.specs.Number.{GivenOut}
-use Rattle.frame_model.specs.Frame.{octets_of, payload_in, next_mark, last_mark}
-use Rattle.frame_model.specs.Reassembly.{Reassembly}
-use Rattle.ordered_lists.specs.Ordered.{Every, InOrder}
-use Rattle.port_model.specs.Setup.{Policy, Setup}
-use Rattle.port_model.specs.Labels.{Label, LabelState, Wiring, label_number, is_bound}
-use Rattle.port_model.specs.Grants.{Grant}
-use Rattle.port_model.specs.Port.{label_at, labels_of}
-use Rattle.port_facts.specs.Port.{IsGrant, setup_port}
-use Rattle.port_facts.proofs.Keyed.{at_key, at_every, each_found}
-use Rattle.port_facts.proofs.Found.{find_every}
-use Rattle.port_facts.proofs.Rules.{and_first}
-use Rattle.controller_facts.specs.Sound.{IsLinkedPort}
-use Rattle.controller_bindings.specs.Bindings.{IsBoundLast}
-use Rattle.crossbar_model.specs.Channels.{IsLinkPort}
-use Rattle.flow_encaps.specs.declared.default.EncapsFault.{EncapsFault}
+use Rattle.world_model.specs.Words.{Addr, NodeId, PortNo, Up, Channel, Mark, number_of_channel, is_label_number, is_label_channel, label_number_of, ttl_of, destination_of, flow_ttl, kind_of, FlowId, best, is_best, hop_by, On, Next, Local, Via, unwrapped, Cell, Frame, payload_of, Journal, GivenOut, payload_in, next_mark, last_mark, Reassembly, Policy, Setup, Label, LabelState, Wiring, label_number, is_bound, Grant, label_at, labels_of, IsLinkPort, EncapsFault, Controller, Linked, port_key, linked_at, default_channel, ForGsmp, ForDefault, ForLabel, same_channel, on_link, port_on, label_taker, taker_at, taker_of, reassembly_of, Topology, IsTopology, IsLinkedNext, Site, site_at, queue_at, grants_at, Past, frames_of, last_bound, Way, IsWay, ByGrant, granted}
+use Rattle.world_model.specs.ipv4_forward.declared.outcome.Hop.TheVariants.{Expired}
+use Rattle.world_model.specs.ipv4_forward.declared.table.Route.{Route}
+use Rattle.world_model.specs.frame_model.Frame.{octets_of}
+use Rattle.running_worlds.specs.ordered_lists.Ordered.{Every, InOrder}
+use Rattle.running_worlds.specs.port_facts.Port.{IsGrant, setup_port}
+use Rattle.running_worlds.proofs.port_facts.Keyed.{at_key, at_every, each_found}
+use Rattle.running_worlds.proofs.port_facts.Found.{find_every}
+use Rattle.running_worlds.proofs.port_facts.Rules.{and_first}
+use Rattle.running_worlds.specs.controller_facts.Sound.{IsLinkedPort}
+use Rattle.running_worlds.specs.controller_bindings.Bindings.{IsBoundLast}
 use Rattle.world_model.specs.declared.event.Event.TheVariants.{Carry}
-use Rattle.world_model.specs.Controller.{Controller, Linked, port_key, linked_at, free_slots, default_channel}
-use Rattle.world_model.specs.Cells.{ForGsmp, ForDefault, ForLabel, same_channel, on_link, port_on, label_taker, taker_at, taker_of, reassembly_of}
+use Rattle.world_model.specs.Controller.{free_slots}
 use Rattle.world_model.specs.declared.link.LinkEnd.{LinkEnd}
-use Rattle.world_model.specs.Topology.{Topology, peer_of}
-use Rattle.world_model.specs.Conditions.{IsTopology, IsLinkedNext}
-use Rattle.world_model.specs.World.{Site, site_at}
-use Rattle.world_model.specs.Places.{queue_at}
-use Rattle.world_model.specs.Ways.{grants_at}
-use Rattle.world_model.specs.Past.{Past, frames_of, last_bound}
-use Rattle.world_model.specs.Users.{Way, IsWay, ByGrant, granted}
-use Rattle.world_views.specs.Marks.{Heading, own_end, heading_at, Means, early, control, local, plain, labelled}
-use Rattle.world_views.specs.Between.{IsWorld, setups_of}
+use Rattle.world_model.specs.Topology.{peer_of}
+use Rattle.running_worlds.specs.world_views.Marks.{Heading, own_end, heading_at, Means, early, control, local, plain, labelled}
+use Rattle.running_worlds.specs.world_views.Between.{IsWorld, setups_of}
 use Rattle.running_worlds.specs.Running.{ChainsAreTrue}
 use Rattle.running_worlds.proofs.MadeTame.{whole_chain}
-use Rattle.shown_cells.proofs.Tested.{frame_is, last_is}
-use Rattle.unused_labels.proofs.Links as links
-use Rattle.causes.proofs.Shown.{IsPeer, peer_back}
-use Rattle.run_facts.specs.Nodes.{IsNodeOfRun}
-use Rattle.packet_worlds.proofs.Behind.{IsUser}
-use Rattle.packet_worlds.proofs.Hops as laws
-use Rattle.packet_worlds.proofs.Worlds.{port_above}
-use Rattle.quiet_model.specs.Weights.{Bound, hops_at}
-use Rattle.action_weights.specs.Fine.{HaveOwnNumbers, IsOfLink, IsFine}
+use Rattle.running_worlds.proofs.shown_cells.Tested.{frame_is, last_is}
+use Rattle.ownership.proofs.unused_labels.Links as links
+use Rattle.running_worlds.proofs.causes.Shown.{IsPeer, peer_back}
+use Rattle.running_worlds.specs.run_facts.Nodes.{IsNodeOfRun}
+use Rattle.quiet_rounds.proofs.packet_worlds.Behind.{IsUser}
+use Rattle.quiet_rounds.proofs.packet_worlds.Hops as laws
+use Rattle.quiet_rounds.proofs.packet_worlds.Worlds.{port_above}
+use Rattle.controller_weights.specs.quiet_model.Weights.{Bound, hops_at}
+use Rattle.controller_weights.specs.action_weights.Fine.{HaveOwnNumbers, IsOfLink, IsFine}
 use Rattle.controller_weights.specs.Coming.{IsToldGrant, HasToldGrants, Brings}
 
 -- a list of which each element is known

@@ -3,25 +3,13 @@
 use Rattle.std.proofs.Common.{◌≡◌, ℕ, suc, ◌≤◌, ◌<◌, ◌+◌, ◌-◌, ◌*◌, Bool, true, false, List, Option, None, Some, refl, ◌∙◌, ap, subst, arith, if◌then◌else◌}
 use Rattle.std.specs.Prelude.{◌==◌, ◌&&◌, nat_le}
 use Rattle.std.proofs.lemmas.Bool.Decides.{nat_tests}
-use Rattle.net_types.specs.declared.node.NodeId.{NodeId}
-use Rattle.net_types.specs.declared.node.PortNo.{PortNo}
-use Rattle.net_types.specs.declared.node.Place.TheVariants.{Down, Up}
-use Rattle.net_types.specs.declared.channel.Channel.{Channel}
-use Rattle.net_types.specs.Channel.{channel_on_control}
-use Rattle.net_types.specs.Label.{number_of_channel}
-use Rattle.ipv4_packet.specs.Flow.{flow_ttl, next_hop_of, at_ttl}
-use Rattle.ipv4_packet.specs.declared.flow.FlowId.{FlowId}
-use Rattle.ipv4_packet.specs.declared.flow.FlowId.TheVariants as flows
-use Rattle.atm_cells.specs.declared.cell.Cell.{Cell}
-use Rattle.link_model.specs.declared.frames.Frame.{Frame}
-use Rattle.link_model.specs.Ledger.{payload_of}
-use Rattle.world_model.specs.Controller.{default_channel}
-use Rattle.world_model.specs.Cells.{same_channel, on_link, port_on}
+use Rattle.world_model.specs.Words.{NodeId, PortNo, Down, Up, Channel, channel_on_control, number_of_channel, flow_ttl, next_hop_of, at_ttl, FlowId, Cell, Frame, payload_of, default_channel, same_channel, on_link, port_on, Topology}
+use Rattle.world_model.specs.ipv4_packet.declared.flow.FlowId.TheVariants as flows
 use Rattle.world_model.specs.declared.link.LinkEnd.{LinkEnd}
-use Rattle.world_model.specs.Topology.{Topology, peer_of}
-use Rattle.quiet_model.specs.Costs.{forwarding}
-use Rattle.quiet_model.specs.Weights.{Bearing, ToSwitch, ToController, Plain, Labelled, Bound, bearing_on, bearing_of, hops_at, hops_of, cost_of}
-use Rattle.packet_worlds.proofs.Headings.{port_is, link_is}
+use Rattle.world_model.specs.Topology.{peer_of}
+use Rattle.controller_weights.specs.quiet_model.Costs.{forwarding}
+use Rattle.controller_weights.specs.quiet_model.Weights.{Bearing, ToSwitch, ToController, Plain, Labelled, Bound, bearing_on, bearing_of, hops_at, hops_of, cost_of}
+use Rattle.quiet_rounds.proofs.packet_worlds.Headings.{port_is, link_is}
 
 -- *The bearing decides* what a cell weighs, and its stage
 abbrev pub bears : Bound → List Frame → Bearing → Cell → ℕ

@@ -2,40 +2,28 @@
 
 use Rattle.std.proofs.Common.{◌≡◌, ℕ, ◌≤◌, List, length, Some, sym, ◌∙◌, ap, subst, arith}
 use Rattle.std.specs.Prelude.{Contains}
-use Rattle.net_types.specs.declared.node.NodeId.{NodeId}
-use Rattle.net_types.specs.declared.number.Mark.{Mark}
-use Rattle.ipv4_packet.specs.Flow.{kind_of}
-use Rattle.gsmp_wire.specs.declared.message.Message as gsmp
-use Rattle.gsmp_wire.specs.declared.message.Message.TheVariants as messages
-use Rattle.gsmp_wire.specs.Layout.{octets_of as gsmp_octets}
-use Rattle.gsmp_wire.specs.Range.{Fits}
-use Rattle.link_model.specs.declared.record.Record.{Record}
-use Rattle.link_model.specs.declared.record.Record.TheVariants.{Bind}
-use Rattle.link_model.specs.Ledger.{payload_of}
-use Rattle.port_model.specs.Setup.{Policy}
-use Rattle.causes.proofs.Sizes.{IsShort, default_length, labelled_length, fault_short, ifmp_length, greeting_length, rows_length}
+use Rattle.world_model.specs.Words.{NodeId, Mark, kind_of, Fits, Record, Bind, payload_of, Policy, Topology, IsTopology, IsNode, World, Past, past_of, frames_of, last_bound, IsTame}
+use Rattle.world_model.specs.gsmp_wire.declared.message.Message as gsmp
+use Rattle.world_model.specs.gsmp_wire.declared.message.Message.TheVariants as messages
+use Rattle.world_model.specs.gsmp_wire.Layout.{octets_of as gsmp_octets}
+use Rattle.running_worlds.proofs.causes.Sizes.{IsShort, default_length, labelled_length, fault_short, ifmp_length, greeting_length, rows_length}
 use Rattle.world_model.specs.declared.event.Event.{Event}
 use Rattle.world_model.specs.declared.link.LinkEnd.{LinkEnd}
-use Rattle.world_model.specs.Topology.{Topology}
-use Rattle.world_model.specs.Conditions.{IsTopology, IsNode}
-use Rattle.world_model.specs.World.{World}
-use Rattle.world_model.specs.Past.{Past, past_of, frames_of, last_bound}
-use Rattle.world_model.specs.Headline.{IsTame}
-use Rattle.shown_cells.specs.Seen.{Extends}
-use Rattle.world_views.specs.Made.{IsFit, IsMadeAs, plain, labelled, told, said}
-use Rattle.world_views.specs.Between.{IsWorld, EachSite, HasAllMade}
-use Rattle.world_views.specs.Kept.{Comes, behind, BindsUnusedAt}
-use Rattle.packet_worlds.proofs.Behind.{IsUser}
-use Rattle.packet_worlds.proofs.Bound.{bound_stays, none_own}
-use Rattle.packet_worlds.proofs.Hops as laws
-use Rattle.packet_worlds.proofs.Nets.{world_net}
-use Rattle.packet_worlds.proofs.Worlds.{IsNet}
-use Rattle.run_facts.specs.Nodes.{IsNodeOfRun, HasSite}
-use Rattle.run_facts.specs.Steps.{IsStep, HasFront}
-use Rattle.run_facts.proofs.Nodes.{runs_have_nodes}
-use Rattle.run_facts.proofs.Rooms.{runs_keep_nodes, runs_have_room}
-use Rattle.run_facts.proofs.Steps.{events_are_steps, runs_have_fronts}
-use Rattle.run_facts.proofs.Grown.{frames_stay}
+use Rattle.running_worlds.specs.shown_cells.Seen.{Extends}
+use Rattle.running_worlds.specs.world_views.Made.{IsFit, IsMadeAs, plain, labelled, told, said}
+use Rattle.running_worlds.specs.world_views.Between.{IsWorld, EachSite, HasAllMade}
+use Rattle.running_worlds.specs.world_views.Kept.{Comes, behind, BindsUnusedAt}
+use Rattle.quiet_rounds.proofs.packet_worlds.Behind.{IsUser}
+use Rattle.quiet_rounds.proofs.packet_worlds.Bound.{bound_stays, none_own}
+use Rattle.quiet_rounds.proofs.packet_worlds.Hops as laws
+use Rattle.quiet_rounds.proofs.packet_worlds.Nets.{world_net}
+use Rattle.quiet_rounds.proofs.packet_worlds.Worlds.{IsNet}
+use Rattle.running_worlds.specs.run_facts.Nodes.{IsNodeOfRun, HasSite}
+use Rattle.running_worlds.specs.run_facts.Steps.{IsStep, HasFront}
+use Rattle.running_worlds.proofs.run_facts.Nodes.{runs_have_nodes}
+use Rattle.running_worlds.proofs.run_facts.Rooms.{runs_keep_nodes, runs_have_room}
+use Rattle.running_worlds.proofs.run_facts.Steps.{events_are_steps, runs_have_fronts}
+use Rattle.running_worlds.proofs.run_facts.Grown.{frames_stay}
 use Rattle.running_worlds.specs.Running.{ChainsAreTrue}
 use Rattle.running_worlds.proofs.Worlds.{events_true}
 use Rattle.running_worlds.proofs.MadeTame.{controllers_pass, switches_pass}

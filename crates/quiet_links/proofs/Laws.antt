@@ -2,7 +2,7 @@
 
 use Rattle.std.proofs.Common.{List, ◌++◌, refl, sym, ◌∙◌, ap, map}
 use Rattle.std.specs.List.{repeat}
-use Rattle.net_types.specs.declared.node.Place.{Place}
+use Rattle.world_model.specs.Words.{Place}
 use Rattle.world_model.specs.declared.event.Event.TheVariants.{Carry}
 use Rattle.quiet_links.specs.Law.{CarriesWeighLess, CarriesFind, RoundsMakeLighter, RoundsEmptyQueues, PacketsEnd}
 use Rattle.quiet_links.proofs.Carried.{weighs_less}

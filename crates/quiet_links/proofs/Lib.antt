@@ -1,3 +1,4 @@
+pub use Rattle.quiet_rounds.proofs as quiet_rounds
 pub mod Reweighed
 pub mod Facts
 pub mod Crossing

@@ -4,43 +4,21 @@ use Rattle.std.proofs.Common.{◌≡◌, ℕ, ◌≤◌, ◌<◌, ◌+◌, Bool,
 use Rattle.std.specs.Prelude.{◌==◌, is_some}
 use Rattle.std.specs.Option.{option_map_or, option_map, option_and_then}
 use Rattle.std.proofs.lemmas.Bool.Decides.{nat_tests}
-use Rattle.net_types.specs.declared.node.NodeId.{NodeId}
-use Rattle.net_types.specs.declared.node.PortNo.{PortNo}
-use Rattle.net_types.specs.declared.node.Place.{Place}
-use Rattle.net_types.specs.declared.node.Place.TheVariants.{Down, Up, Out}
-use Rattle.net_types.specs.declared.channel.Channel.{Channel}
-use Rattle.net_types.specs.declared.channel.End.{End}
-use Rattle.net_types.specs.Channel.{channel_on_control}
-use Rattle.net_types.specs.Label.{number_of_channel, label_channel_of, is_label_number, label_number_of, is_label_channel}
-use Rattle.ipv4_packet.specs.Flow.{flow_ttl}
-use Rattle.ipv4_packet.specs.declared.flow.FlowId.{FlowId}
-use Rattle.atm_cells.specs.declared.cell.Cell.{Cell}
-use Rattle.crossbar_model.specs.Crossbar.{output_of, input_of, on_channel_of}
-use Rattle.link_model.specs.declared.frames.Frame.{Frame}
-use Rattle.port_model.specs.Setup.{Policy, Setup, home_of, label_end}
-use Rattle.port_facts.specs.Port.{IsLabelEnd, IsLinked, setup_port}
-use Rattle.port_facts.proofs.Keyed.{at_map}
-use Rattle.port_facts.proofs.Rules.{and_first}
-use Rattle.world_model.specs.Controller.{Linked, port_key, linked_at, default_channel}
-use Rattle.world_model.specs.Cells.{same_channel}
-use Rattle.world_model.specs.Switch.{control_port}
+use Rattle.world_model.specs.Words.{NodeId, PortNo, Place, Down, Up, Out, Channel, End, channel_on_control, number_of_channel, label_channel_of, is_label_number, label_number_of, is_label_channel, flow_ttl, FlowId, Cell, on_channel_of, Frame, Policy, Setup, home_of, label_end, Linked, port_key, linked_at, default_channel, same_channel, control_port, Topology, is_linked, IsTopology, Site, site_at, Past, last_bound, Way, IsWay, ByBranch, connected, LeadsOn, StandsForLast, output_at}
+use Rattle.world_model.specs.crossbar_model.Crossbar.{output_of, input_of}
+use Rattle.running_worlds.specs.port_facts.Port.{IsLabelEnd, IsLinked, setup_port}
+use Rattle.running_worlds.proofs.port_facts.Keyed.{at_map}
+use Rattle.running_worlds.proofs.port_facts.Rules.{and_first}
 use Rattle.world_model.specs.declared.link.LinkEnd.{LinkEnd}
-use Rattle.world_model.specs.Topology.{Topology, peer_of}
-use Rattle.world_model.specs.Lines.{is_linked}
-use Rattle.world_model.specs.Conditions.{IsTopology}
-use Rattle.world_model.specs.World.{Site, site_at}
-use Rattle.world_model.specs.Past.{Past, last_bound}
-use Rattle.world_model.specs.Users.{Way, IsWay, ByBranch, connected, LeadsOn}
-use Rattle.world_model.specs.Owned.{StandsForLast}
-use Rattle.world_model.specs.Ways.{output_at}
-use Rattle.world_views.specs.Between.{IsWorld, IsPortEnd, default, label, IsShapedBranch, home, out, joined, setups_of}
-use Rattle.world_views.specs.Pairs.{by_branch}
-use Rattle.unused_labels.proofs.Links as links
-use Rattle.causes.proofs.Shown.{IsPeer, peer_back}
-use Rattle.run_facts.specs.Nodes.{IsNodeOfRun}
-use Rattle.packet_worlds.proofs.Behind.{IsUser}
-use Rattle.packet_worlds.proofs.Headings.{label_is, no_default}
-use Rattle.quiet_model.specs.Weights.{Bearing, Bound, bearing_on, bearing_out, bearing_of, hops_at, cell_weight, place_at}
+use Rattle.world_model.specs.Topology.{peer_of}
+use Rattle.running_worlds.specs.world_views.Between.{IsWorld, IsPortEnd, default, label, IsShapedBranch, home, out, joined, setups_of}
+use Rattle.running_worlds.specs.world_views.Pairs.{by_branch}
+use Rattle.ownership.proofs.unused_labels.Links as links
+use Rattle.running_worlds.proofs.causes.Shown.{IsPeer, peer_back}
+use Rattle.running_worlds.specs.run_facts.Nodes.{IsNodeOfRun}
+use Rattle.quiet_rounds.proofs.packet_worlds.Behind.{IsUser}
+use Rattle.quiet_rounds.proofs.packet_worlds.Headings.{label_is, no_default}
+use Rattle.controller_weights.specs.quiet_model.Weights.{Bearing, Bound, bearing_on, bearing_out, bearing_of, hops_at, cell_weight, place_at}
 use Rattle.quiet_links.proofs.Crossing.{bears, from_home, to_home, on_label, next_ttl, one_hop_less}
 
 -- *A site of a run*: its branches, and the ports of its labels

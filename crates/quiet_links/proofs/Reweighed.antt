@@ -4,43 +4,25 @@
 use Rattle.std.proofs.Common.{◌≡◌, ◌⊎◌, inl, inr, ℕ, ◌≤◌, Bool, true, false, List, Option, None, Some, refl, sym, ◌∙◌, ap, subst, arith, if◌then◌else◌}
 use Rattle.std.specs.Prelude.{Contains, is_some}
 use Rattle.std.specs.Option.{option_map_or}
-use Rattle.net_types.specs.declared.node.NodeId.{NodeId}
-use Rattle.net_types.specs.declared.node.PortNo.{PortNo}
-use Rattle.net_types.specs.declared.node.Place.{Place}
-use Rattle.net_types.specs.declared.node.Place.TheVariants.{Down, Up, Out}
-use Rattle.net_types.specs.declared.number.Mark.{Mark}
-use Rattle.net_types.specs.declared.adjacency.HelloKind.{HelloKind}
-use Rattle.net_types.specs.declared.adjacency.HelloKind.TheVariants.{Syn, Synack, Ack, Rstack}
-use Rattle.net_types.specs.Label.{number_of_channel}
-use Rattle.ipv4_packet.specs.declared.flow.FlowId.{FlowId}
-use Rattle.ipv4_packet.specs.Flow.{flow_ttl}
-use Rattle.atm_cells.specs.declared.cell.Cell.{Cell}
-use Rattle.gsmp_wire.specs.declared.message.Message.{Message}
-use Rattle.gsmp_wire.specs.declared.message.Message.TheVariants as messages
-use Rattle.gsmp_wire.specs.declared.fault.Fault.{Fault}
-use Rattle.gsmp_wire.specs.Fields.{decoded}
+use Rattle.world_model.specs.Words.{NodeId, PortNo, Place, Down, Up, Out, Mark, HelloKind, Syn, Synack, Ack, Rstack, number_of_channel, FlowId, flow_ttl, Cell, Frame, payload_of, default_channel, same_channel, on_link, port_on, Topology, is_linked, IsTopology, IsPlace, IsNode, queue_at, Past, frames_of, last_bound}
+use Rattle.world_model.specs.gsmp_wire.declared.message.Message.{Message}
+use Rattle.world_model.specs.gsmp_wire.declared.message.Message.TheVariants as messages
+use Rattle.world_model.specs.gsmp_wire.declared.fault.Fault.{Fault}
+use Rattle.world_model.specs.gsmp_wire.Fields.{decoded}
 use Rattle.std.specs.Prelude.{Result, Ok, Err}
-use Rattle.link_model.specs.declared.frames.Frame.{Frame}
-use Rattle.link_model.specs.Ledger.{payload_of}
-use Rattle.world_model.specs.Controller.{default_channel}
-use Rattle.world_model.specs.Cells.{same_channel, on_link, port_on}
 use Rattle.world_model.specs.declared.link.LinkEnd.{LinkEnd}
-use Rattle.world_model.specs.Topology.{Topology, peer_of}
-use Rattle.world_model.specs.Lines.{is_linked}
-use Rattle.world_model.specs.Conditions.{IsTopology, IsPlace, IsNode}
-use Rattle.world_model.specs.Places.{queue_at}
-use Rattle.world_model.specs.Past.{Past, frames_of, last_bound}
-use Rattle.shown_cells.specs.Seen.{Extends}
-use Rattle.world_views.specs.Marks.{Heading, own_end, heading_at, Means, early, control, local, plain, labelled}
-use Rattle.world_views.specs.Between.{HasMeanings}
+use Rattle.world_model.specs.Topology.{peer_of}
+use Rattle.running_worlds.specs.shown_cells.Seen.{Extends}
+use Rattle.running_worlds.specs.world_views.Marks.{Heading, own_end, heading_at, Means, early, control, local, plain, labelled}
+use Rattle.running_worlds.specs.world_views.Between.{HasMeanings}
 use Rattle.ownership.specs.Places.{IsPlaced, of_gsmp, of_link, HasPlaces}
-use Rattle.packet_worlds.specs.Channels.{HasChannels}
-use Rattle.packet_worlds.proofs.Behind.{IsUser, cell_uses}
-use Rattle.packet_worlds.proofs.Meant.{IsProper}
-use Rattle.packet_worlds.proofs.Headings.{own_is, own_there}
-use Rattle.packet_worlds.proofs.Worlds.{port_above}
-use Rattle.quiet_model.specs.Costs.{greeting_weight, asking_cost, answering_cost, if_said, switch_cost, controller_cost, default_cost, forwarding}
-use Rattle.quiet_model.specs.Weights.{Bearing, ToSwitch, ToController, Plain, Labelled, Bound, bearing_on, bearing_out, bearing_of, hops_at, hops_of, cost_of, cell_weight}
+use Rattle.quiet_rounds.specs.packet_worlds.Channels.{HasChannels}
+use Rattle.quiet_rounds.proofs.packet_worlds.Behind.{IsUser, cell_uses}
+use Rattle.quiet_rounds.proofs.packet_worlds.Meant.{IsProper}
+use Rattle.quiet_rounds.proofs.packet_worlds.Headings.{own_is, own_there}
+use Rattle.quiet_rounds.proofs.packet_worlds.Worlds.{port_above}
+use Rattle.controller_weights.specs.quiet_model.Costs.{greeting_weight, asking_cost, answering_cost, if_said, switch_cost, controller_cost, default_cost, forwarding}
+use Rattle.controller_weights.specs.quiet_model.Weights.{Bearing, ToSwitch, ToController, Plain, Labelled, Bound, bearing_on, bearing_out, bearing_of, hops_at, hops_of, cost_of, cell_weight}
 
 -- *A frame of GSMP* weighs as a SYN at most
 kind_less : (kind : HelloKind) → greeting_weight kind ≤ greeting_weight Syn

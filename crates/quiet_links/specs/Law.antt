@@ -2,22 +2,16 @@
 
 use Rattle.std.specs.Prelude.{◌≡◌, ℕ, ◌+◌, ◌≤◌, true, false, List, ◌∷◌, ◌++◌}
 use Rattle.std.specs.List.{repeat}
-use Rattle.net_types.specs.declared.node.Place.{Place}
-use Rattle.port_model.specs.Setup.{Policy}
+use Rattle.world_model.specs.Words.{Place, Policy, Topology, has_loss_of, round, past_of, IsRun, WasAccepted, fates_of, is_empty, HasFatesWhole}
 use Rattle.world_model.specs.declared.event.Event.{Event}
 use Rattle.world_model.specs.declared.event.Event.TheVariants.{Carry}
-use Rattle.world_model.specs.Topology.{Topology}
 use Rattle.world_model.specs.World.{opened}
-use Rattle.world_model.specs.Fates.{has_loss_of}
-use Rattle.world_model.specs.Run.{round}
-use Rattle.world_model.specs.Past.{past_of}
-use Rattle.world_model.specs.Headline.{IsRun, WasAccepted, fates_of, is_empty, HasFatesWhole}
-use Rattle.world_views.specs.Between.{IsWorld}
-use Rattle.world_views.specs.Kept.{HasAddresses, Comes, BindsUnusedAt}
+use Rattle.running_worlds.specs.world_views.Between.{IsWorld}
+use Rattle.running_worlds.specs.world_views.Kept.{HasAddresses, Comes, BindsUnusedAt}
 use Rattle.ownership.specs.Places.{HasPlaces}
-use Rattle.packet_worlds.specs.Channels.{HasChannels}
-use Rattle.quiet_model.specs.Weights.{weight}
-use Rattle.quiet_model.specs.Law.{WeighsLess, carried, finds}
+use Rattle.quiet_rounds.specs.packet_worlds.Channels.{HasChannels}
+use Rattle.controller_weights.specs.quiet_model.Weights.{weight}
+use Rattle.controller_weights.specs.quiet_model.Law.{WeighsLess, carried, finds}
 
 -- *Each carry* that comes to a network with all that is so of every one makes it lighter where it finds a cell
 abbrev pub CarriesWeighLess : Type 0

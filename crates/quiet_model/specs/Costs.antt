@@ -2,22 +2,16 @@
 -- are upper bounds, and this project's own.
 
 use Rattle.std.specs.Prelude.{ℕ, zero, suc, ◌+◌, ◌*◌, ◌==◌, List, [], ◌∷◌, drop, Option, None, Some, Result, Ok, Err, if◌then◌else◌}
-use Rattle.net_types.specs.declared.adjacency.HelloKind.{HelloKind}
-use Rattle.net_types.specs.declared.adjacency.HelloKind.TheVariants.{Syn, Synack, Ack, Rstack}
-use Rattle.ipv4_packet.specs.Packet.{protocol_of, first_fault, ttl_of}
-use Rattle.ipv4_packet.specs.declared.validate.PacketFault.{PacketFault}
-use Rattle.flow_encaps.specs.Unwrapped.{default_unwrapped}
-use Rattle.flow_encaps.specs.declared.default.EncapsFault.{EncapsFault}
-use Rattle.ifmp_wire.specs.declared.message.Message as ifmp
-use Rattle.ifmp_wire.specs.declared.message.Message.TheVariants as told
-use Rattle.ifmp_wire.specs.declared.reader.Fault as ifmp_faults
-use Rattle.ifmp_wire.specs.Fields.{decoded as ifmp_decoded}
-use Rattle.gsmp_wire.specs.declared.message.Message as gsmp
-use Rattle.gsmp_wire.specs.declared.message.Message.TheVariants as said
-use Rattle.gsmp_wire.specs.declared.fault.Fault as gsmp_faults
-use Rattle.gsmp_wire.specs.Fields.{decoded as gsmp_decoded}
-use Rattle.port_model.specs.Labels.{LabelState, Wiring, Offered, Recalled, Wired}
-use Rattle.world_model.specs.Packets.{control_protocol}
+use Rattle.world_model.specs.Words.{HelloKind, Syn, Synack, Ack, Rstack, protocol_of, ttl_of, PacketFault, default_unwrapped, EncapsFault, LabelState, Wiring, Offered, Recalled, Wired, control_protocol}
+use Rattle.world_model.specs.ipv4_packet.Packet.{first_fault}
+use Rattle.world_model.specs.ifmp_wire.declared.message.Message as ifmp
+use Rattle.world_model.specs.ifmp_wire.declared.message.Message.TheVariants as told
+use Rattle.world_model.specs.ifmp_wire.declared.reader.Fault as ifmp_faults
+use Rattle.world_model.specs.ifmp_wire.Fields.{decoded as ifmp_decoded}
+use Rattle.world_model.specs.gsmp_wire.declared.message.Message as gsmp
+use Rattle.world_model.specs.gsmp_wire.declared.message.Message.TheVariants as said
+use Rattle.world_model.specs.gsmp_wire.declared.fault.Fault as gsmp_faults
+use Rattle.world_model.specs.gsmp_wire.Fields.{decoded as gsmp_decoded}
 
 -- the sum over a list
 abbrev pub total : {A : Type 0} → (A → ℕ) → List A → ℕ

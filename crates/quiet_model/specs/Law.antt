@@ -2,17 +2,10 @@
 
 use Rattle.std.specs.Prelude.{◌≡◌, ℕ, ◌+◌, ◌≤◌, true, false, ◌==◌, List, [], ◌∷◌, ◌++◌, length, map, if◌then◌else◌}
 use Rattle.std.specs.List.{repeat}
-use Rattle.net_types.specs.declared.node.Place.{Place}
-use Rattle.port_model.specs.Setup.{Policy}
+use Rattle.world_model.specs.Words.{Place, Policy, Topology, World, has_loss_of, queue_at, round, Past, past_of, IsRun, IsTame, WasAccepted, fates_of, is_empty}
 use Rattle.world_model.specs.declared.event.Event.{Event}
 use Rattle.world_model.specs.declared.event.Event.TheVariants.{Carry}
-use Rattle.world_model.specs.Topology.{Topology}
-use Rattle.world_model.specs.World.{World, opened}
-use Rattle.world_model.specs.Fates.{has_loss_of}
-use Rattle.world_model.specs.Places.{queue_at}
-use Rattle.world_model.specs.Run.{round}
-use Rattle.world_model.specs.Past.{Past, past_of}
-use Rattle.world_model.specs.Headline.{IsRun, IsTame, WasAccepted, fates_of, is_empty}
+use Rattle.world_model.specs.World.{opened}
 use Rattle.quiet_model.specs.Weights.{weight}
 
 -- a carry finds a cell, or an empty queue

@@ -2,30 +2,11 @@
 
 use Rattle.std.specs.Prelude.{ℕ, suc, ◌+◌, ◌-◌, ◌*◌, ◌==◌, List, [], ◌∷◌, length, Option, None, Some, if◌then◌else◌}
 use Rattle.std.specs.Option.{option_map_or}
-use Rattle.net_types.specs.declared.node.NodeId.{NodeId}
-use Rattle.net_types.specs.declared.node.Place.{Place}
-use Rattle.net_types.specs.declared.node.Place.TheVariants.{Down, Up, Out}
-use Rattle.net_types.specs.declared.channel.Channel.{Channel}
-use Rattle.net_types.specs.declared.adjacency.HelloKind.TheVariants.{Syn}
-use Rattle.net_types.specs.Label.{number_of_channel}
-use Rattle.ipv4_packet.specs.declared.flow.FlowId.{FlowId}
-use Rattle.ipv4_packet.specs.Flow.{flow_ttl}
-use Rattle.atm_cells.specs.declared.cell.Cell.{Cell}
-use Rattle.gsmp_wire.specs.declared.request.Request.{Request}
-use Rattle.gsmp_wire.specs.declared.request.Request.TheVariants.{DeleteAll, AllPorts}
-use Rattle.link_model.specs.declared.frames.Frame.{Frame}
-use Rattle.link_model.specs.Ledger.{payload_of}
-use Rattle.port_model.specs.Desk.{Desk}
-use Rattle.port_model.specs.Labels.{Label}
-use Rattle.port_model.specs.Grants.{Grant, GrantState, Idle, ByController, ByInput, Leaving}
-use Rattle.port_model.specs.Port.{Port, labels_of}
-use Rattle.port_model.specs.Saying.{is_spent}
-use Rattle.world_model.specs.Controller.{Controller, Linked, default_channel}
-use Rattle.world_model.specs.Cells.{same_channel, port_on, on_link}
+use Rattle.world_model.specs.Words.{NodeId, Place, Down, Up, Out, Channel, Syn, number_of_channel, FlowId, flow_ttl, Cell, Request, Frame, payload_of, Desk, Label, Grant, GrantState, Idle, ByController, ByInput, Leaving, labels_of, is_spent, Controller, Linked, default_channel, same_channel, port_on, on_link, Topology, Site, Past, frames_of, last_bound}
+use Rattle.world_model.specs.gsmp_wire.declared.request.Request.TheVariants.{DeleteAll, AllPorts}
+use Rattle.world_model.specs.port_model.Port.{Port}
 use Rattle.world_model.specs.declared.link.LinkEnd.{LinkEnd}
-use Rattle.world_model.specs.Topology.{Topology, peer_of}
-use Rattle.world_model.specs.World.{Site}
-use Rattle.world_model.specs.Past.{Past, frames_of, last_bound}
+use Rattle.world_model.specs.Topology.{peer_of}
 use Rattle.quiet_model.specs.Costs.{total, request_weight, words_weight, reset_weight, deleting_weight, listing_weight, label_cost, greeting_weight, forwarding, switch_cost, controller_cost, default_cost}
 
 -- *Cells*: to a switch itself or to a controller on GSMP's channel, on a default channel of a link, or on the channel of a

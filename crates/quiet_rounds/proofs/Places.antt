@@ -3,28 +3,18 @@
 use Rattle.std.proofs.Common.{◌≡◌, ℕ, zero, suc, ◌≤◌, ◌<◌, ◌+◌, Bool, true, false, List, [], ◌∷◌, ◌++◌, length, Some, refl, sym, ◌∙◌, ap, arith, if◌then◌else◌, map}
 use Rattle.std.specs.Prelude.{nat_eq, flat_map}
 use Rattle.std.proofs.lemmas.Bool.Decides.{nat_tests}
-use Rattle.net_types.specs.declared.node.NodeId.{NodeId}
-use Rattle.net_types.specs.declared.node.PortNo.{PortNo}
-use Rattle.net_types.specs.declared.node.Place.{Place}
-use Rattle.net_types.specs.declared.node.Place.TheVariants.{Down, Up, Out}
-use Rattle.ordered_lists.specs.Ordered.{Every}
-use Rattle.keyed_lists.specs.Keyed.{at}
-use Rattle.port_model.specs.Setup.{Policy}
+use Rattle.world_model.specs.Words.{NodeId, PortNo, Place, Down, Up, Out, at, Policy, Topology, IsNode, World, Site, site_key, places_of, places, AreShaped, past_of, IsRun}
+use Rattle.packet_worlds.specs.ordered_lists.Ordered.{Every}
 use Rattle.world_model.specs.declared.event.Event.{Event}
 use Rattle.world_model.specs.Controller.{ports_of}
 use Rattle.world_model.specs.Topology as topologies
-use Rattle.world_model.specs.Topology.{Topology}
-use Rattle.world_model.specs.Conditions.{IsNode}
-use Rattle.world_model.specs.World.{World, Site, site_key, opened}
-use Rattle.world_model.specs.Places.{places_of, places, AreShaped}
-use Rattle.world_model.specs.Past.{past_of}
-use Rattle.world_model.specs.Headline.{IsRun}
-use Rattle.world_views.specs.Between.{EachSite}
-use Rattle.world_views.specs.Kept.{HasAddresses}
+use Rattle.world_model.specs.World.{opened}
+use Rattle.packet_worlds.specs.world_views.Between.{EachSite}
+use Rattle.packet_worlds.specs.world_views.Kept.{HasAddresses}
 use Rattle.packet_worlds.proofs.Nets.{world_net}
-use Rattle.run_facts.specs.Nodes.{IsNodeOfRun, HasSite}
-use Rattle.run_facts.proofs.Nodes.{runs_have_nodes}
-use Rattle.run_facts.proofs.Rooms.{runs_keep_nodes}
+use Rattle.packet_worlds.specs.run_facts.Nodes.{IsNodeOfRun, HasSite}
+use Rattle.packet_worlds.proofs.run_facts.Nodes.{runs_have_nodes}
+use Rattle.packet_worlds.proofs.run_facts.Rooms.{runs_keep_nodes}
 use Rattle.quiet_rounds.proofs.Sites.{all_found}
 
 module _ (topology : Topology) where

@@ -4,26 +4,14 @@ use Rattle.std.proofs.Common.{◌≡◌, ◌⊎◌, inl, inr, ℕ, zero, suc, �
 use Rattle.std.specs.Prelude.{◌==◌, ◌&&◌, nat_eq, slice_index_or}
 use Rattle.std.specs.List.{repeat, list_all}
 use Rattle.std.specs.Option.{option_map_or}
-use Rattle.net_types.specs.declared.node.NodeId.{NodeId}
-use Rattle.net_types.specs.declared.node.Place.{Place}
-use Rattle.net_types.specs.declared.node.Place.TheVariants.{Down, Up, Out}
-use Rattle.atm_cells.specs.declared.cell.Cell.{Cell}
-use Rattle.ordered_lists.specs.Ordered.{Every}
-use Rattle.keyed_lists.specs.Keyed.{at}
-use Rattle.port_model.specs.Setup.{Policy}
+use Rattle.world_model.specs.Words.{NodeId, Place, Down, Up, Out, Cell, at, Policy, Topology, World, Site, site_key, place_node, queue_in, queue_at, places, put_away, round, carries_head, Past, past_of, frames_of, last_bound, is_empty}
+use Rattle.packet_worlds.specs.ordered_lists.Ordered.{Every}
 use Rattle.world_model.specs.declared.event.Event.{Event}
 use Rattle.world_model.specs.declared.event.Event.TheVariants.{Carry}
-use Rattle.world_model.specs.Topology.{Topology}
-use Rattle.world_model.specs.World.{World, Site, site_key}
-use Rattle.world_model.specs.Places.{place_node, queue_in, queue_at, places}
-use Rattle.world_model.specs.Run.{put_away, round}
-use Rattle.world_model.specs.Step.{carries_head}
-use Rattle.world_model.specs.Past.{Past, past_of, frames_of, last_bound}
-use Rattle.world_model.specs.Headline.{is_empty}
-use Rattle.run_facts.proofs.Steps.{events_are_steps}
-use Rattle.quiet_model.specs.Costs.{total}
-use Rattle.quiet_model.specs.Weights.{stage, cell_weight, place_at, queues_weight, site_weight, weight}
-use Rattle.quiet_model.specs.Law.{found, finds, WeighsLess}
+use Rattle.packet_worlds.proofs.run_facts.Steps.{events_are_steps}
+use Rattle.switch_weights.specs.quiet_model.Costs.{total}
+use Rattle.switch_weights.specs.quiet_model.Weights.{stage, cell_weight, place_at, queues_weight, site_weight, weight}
+use Rattle.switch_weights.specs.quiet_model.Law.{found, finds, WeighsLess}
 use Rattle.quiet_rounds.proofs.Sites.{one_found}
 
 -- *A cell weighs 1 at least*

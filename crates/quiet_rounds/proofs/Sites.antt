@@ -4,21 +4,15 @@ use Rattle.std.proofs.Common.{◌≡◌, ◌≢◌, ℕ, suc, ◌≤◌, ◌<◌
 use Rattle.std.specs.Prelude.{◌==◌, Contains, slice_index_or}
 use Rattle.std.specs.Option.{option_map_or}
 use Rattle.std.proofs.lemmas.Bool.Decides.{nat_tests}
-use Rattle.net_types.specs.declared.node.NodeId.{NodeId}
-use Rattle.net_types.specs.declared.node.PortNo.{PortNo}
-use Rattle.net_types.specs.declared.node.Place.{Place}
-use Rattle.net_types.specs.declared.node.Place.TheVariants.{Down, Up, Out}
-use Rattle.atm_cells.specs.declared.cell.Cell.{Cell}
-use Rattle.ordered_lists.specs.Ordered.{Every, InOrder}
-use Rattle.keyed_lists.specs.Keyed.{at, put}
-use Rattle.port_facts.proofs.Keyed.{at_key, each_found, at_put_same}
+use Rattle.world_model.specs.Words.{NodeId, PortNo, Place, Down, Up, Out, Cell, at, put, World, Site, site_key, site_at, controller_acts, switch_acts, place_node, queue_in, queue_at, with_queue_in, with_queue_of, with_queue, AreShaped, IsShaped}
+use Rattle.packet_worlds.specs.ordered_lists.Ordered.{Every, InOrder}
+use Rattle.packet_worlds.proofs.port_facts.Keyed.{at_key, each_found, at_put_same}
 use Rattle.world_model.specs.Switch as switches
 use Rattle.world_model.specs.Controller as controllers
-use Rattle.world_model.specs.World.{World, Site, site_key, site_at, controller_acts, at_controller, switch_acts, at_switch}
-use Rattle.world_model.specs.Places.{place_node, queue_in, queue_at, with_queue_in, with_queue_of, with_queue, AreShaped, IsShaped}
-use Rattle.quiet_model.specs.Costs.{total}
-use Rattle.quiet_model.specs.Weights.{place_at, queues_weight, controller_weight, site_weight}
-use Rattle.port_weights.proofs.Sums.{total_put}
+use Rattle.world_model.specs.World.{at_controller, at_switch}
+use Rattle.switch_weights.specs.quiet_model.Costs.{total}
+use Rattle.switch_weights.specs.quiet_model.Weights.{place_at, queues_weight, controller_weight, site_weight}
+use Rattle.switch_weights.proofs.port_weights.Sums.{total_put}
 use Rattle.switch_weights.proofs.Queues.{leaves_queue}
 
 -- a carry finds a cell

@@ -1,30 +1,18 @@
 -- what a controller and a switch leave of a world: marks that were given out, and new instances
 
 use Rattle.std.proofs.Common.{◌≡◌, ℕ, ◌<◌, ◌≤◌, ◌+◌, List, length, Option, None, Some, refl, sym, ◌∙◌, ap, subst, arith, ◌⊎◌, inl, inr}
-use Rattle.net_types.specs.declared.node.NodeId.{NodeId}
-use Rattle.net_types.specs.declared.channel.Channel.{Channel}
-use Rattle.net_types.specs.Number.{GivenOut}
-use Rattle.atm_cells.specs.declared.cell.Cell.{Cell}
-use Rattle.ipv4_forward.specs.declared.table.Next.{Next}
-use Rattle.link_model.specs.declared.record.Record.TheVariants.{Loss}
-use Rattle.link_model.specs.Notes.{noted}
-use Rattle.ordered_lists.specs.Ordered.{Every}
-use Rattle.keyed_lists.specs.Keyed.{at}
-use Rattle.port_facts.proofs.Keyed.{on_both, at_key, at_every, put_every}
-use Rattle.port_model.specs.Setup.{Setup}
+use Rattle.world_model.specs.Words.{NodeId, Channel, GivenOut, Cell, Next, Loss, noted, at, Setup, Controller, sends_control, Mark, frame_cells, made, PoolFull, setup_of, with_site, World, Site, site_key, site_at, controller_acts, switch_acts}
+use Rattle.controller_bindings.specs.ordered_lists.Ordered.{Every}
+use Rattle.controller_bindings.proofs.port_facts.Keyed.{on_both, at_key, at_every, put_every}
 use Rattle.world_model.specs.Switch as switches
-use Rattle.world_model.specs.Controller.{Controller, Acted, free_slots}
-use Rattle.world_model.specs.Sending.{with_cells, sends_control}
+use Rattle.world_model.specs.Controller.{Acted, free_slots}
+use Rattle.world_model.specs.Sending.{with_cells}
 use Rattle.std.specs.Prelude.{nat_le}
-use Rattle.net_types.specs.declared.number.Mark.{Mark}
-use Rattle.frame_model.specs.Sending.{Sent}
-use Rattle.frame_model.specs.Frame.{frame_cells, made}
-use Rattle.link_model.specs.declared.record.Cause.TheVariants.{PoolFull}
-use Rattle.controller_facts.specs.Inputs.{Input, takes_input}
-use Rattle.controller_facts.specs.Sound.{IsSound, IsOwn, setups_by}
-use Rattle.controller_facts.proofs.Laws.{always_sound, input_draws, input_draws_marks}
+use Rattle.world_model.specs.frame_model.Sending.{Sent}
+use Rattle.controller_bindings.specs.controller_facts.Inputs.{Input, takes_input}
+use Rattle.controller_bindings.specs.controller_facts.Sound.{IsSound, IsOwn, setups_by}
+use Rattle.controller_bindings.proofs.controller_facts.Laws.{always_sound, input_draws, input_draws_marks}
 use Rattle.std.proofs.lemmas.List.{length-map}
-use Rattle.world_model.specs.Opening.{setup_of}
 use Rattle.run_facts.specs.Inputs.{SwitchInput, switch_takes}
 use Rattle.run_facts.specs.Frames.{IsFree}
 use Rattle.run_facts.proofs.Switches as switching
@@ -33,7 +21,7 @@ use Rattle.run_facts.proofs.Owns.{own_in, IsDrawn, is_drawn, Owns, input_owns}
 use Rattle.run_facts.proofs.Controllers as controllers
 use Rattle.run_facts.proofs.Controllers.{IsLeft, input_leaves}
 use Rattle.lifetimes.proofs.Opened.{IsFed}
-use Rattle.world_model.specs.World.{with_site, World, Site, site_key, site_at, controller_acts, at_controller, switch_acts, at_switch}
+use Rattle.world_model.specs.World.{at_controller, at_switch}
 use Rattle.run_facts.specs.Drawn.{Holder, own_at, IsNew, Draws}
 use Rattle.run_facts.proofs.Marked.{node_of, kind_of, own_is, own_found, Kind, IsController, IsSwitch, IsPort, own_as, SiteMarked, WorldMarked, sites_later, site_later, Popped, site_draws}
 

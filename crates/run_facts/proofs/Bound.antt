@@ -2,17 +2,11 @@
 
 use Rattle.std.proofs.Common.{◌≡◌, ℕ, zero, suc, ◌+◌, ◌≤◌, List, [], ◌∷◌, ◌++◌, length, slice_get, Option, None, Some, refl, sym, ◌∙◌, ap, subst, arith, append-nil, append_assoc, inl, inr}
 use Rattle.std.specs.Option.{option_map, option_or}
-use Rattle.net_types.specs.declared.node.NodeId.{NodeId}
-use Rattle.net_types.specs.declared.node.PortNo.{PortNo}
-use Rattle.net_types.specs.Number.{GivenOut}
-use Rattle.link_model.specs.declared.record.Record.{Record}
-use Rattle.link_model.specs.Notes.{Journal}
-use Rattle.ordered_lists.specs.Ordered.{Every}
-use Rattle.keyed_lists.specs.Keyed.{at}
-use Rattle.port_model.specs.Setup.{Policy}
-use Rattle.world_model.specs.Controller.{Controller, Acted}
-use Rattle.controller_facts.specs.Inputs.{Input, Meanwhile, takes_input, takes_inputs}
-use Rattle.controller_facts.specs.Sound.{IsOwn, Opening, opened_by}
+use Rattle.world_model.specs.Words.{NodeId, PortNo, GivenOut, Record, Journal, at, Policy, Controller, Topology, Node, node_at, World, Site, site_key, site_at, controller_at, opened_site, with_opened, opens_each, empty_world, IsTopology, put_away, next, world_after, past_of, last_bound}
+use Rattle.controller_bindings.specs.ordered_lists.Ordered.{Every}
+use Rattle.world_model.specs.Controller.{Acted}
+use Rattle.controller_bindings.specs.controller_facts.Inputs.{Input, Meanwhile, takes_input, takes_inputs}
+use Rattle.controller_bindings.specs.controller_facts.Sound.{IsOwn, Opening, opened_by}
 use Rattle.controller_bindings.specs.Bindings as bindings
 use Rattle.controller_bindings.specs.Bindings.{noted_by, noted_by_all}
 use Rattle.run_facts.proofs.Frames.{bound_then}
@@ -21,11 +15,7 @@ use Rattle.lifetimes.proofs.Opened.{opening_of, IsFed, opening_fed}
 use Rattle.lifetimes.proofs.Feeding.{after_of, inputs_join}
 use Rattle.lifetimes.proofs.Runs.{next_there, run_fed}
 use Rattle.world_model.specs.declared.event.Event.{Event}
-use Rattle.world_model.specs.Topology.{Topology, Node, node_at}
-use Rattle.world_model.specs.World.{World, Site, site_key, site_at, controller_at, opened_site, with_opened, opens_each, empty_world, opened}
-use Rattle.world_model.specs.Conditions.{IsTopology}
-use Rattle.world_model.specs.Run.{put_away, next, world_after}
-use Rattle.world_model.specs.Past.{past_of, last_bound}
+use Rattle.world_model.specs.World.{opened}
 use Rattle.run_facts.proofs.Marked.{WorldMarked}
 use Rattle.run_facts.proofs.Opening.{found_more}
 use Rattle.run_facts.proofs.Runs.{Any, any_marked}

@@ -2,40 +2,24 @@
 
 use Rattle.std.proofs.Common.{◌≡◌, ℕ, suc, ◌+◌, List, [], ◌∷◌, ◌++◌, Option, None, Some, refl, sym, ap, subst}
 use Rattle.std.specs.Option.{option_map, option_map_or}
-use Rattle.net_types.specs.declared.node.NodeId.{NodeId}
-use Rattle.net_types.specs.declared.node.PortNo.{PortNo}
-use Rattle.net_types.specs.declared.node.Place.{Place}
-use Rattle.net_types.specs.declared.node.Place.TheVariants.{Down, Up, Out}
-use Rattle.net_types.specs.declared.channel.Channel.{Channel}
-use Rattle.net_types.specs.Number.{next_control, with_control}
-use Rattle.atm_cells.specs.declared.cell.Cell.{Cell}
-use Rattle.link_model.specs.declared.record.Refusal.{Refusal}
-use Rattle.link_model.specs.declared.record.Record.TheVariants.{Forged}
-use Rattle.ordered_lists.specs.Ordered.{Every}
-use Rattle.ordered_lists.proofs.Every.{every_join}
-use Rattle.port_facts.proofs.Keyed.{at_every, put_every, every_more}
-use Rattle.port_model.specs.Setup.{Policy}
+use Rattle.world_model.specs.Words.{NodeId, PortNo, Place, Down, Up, Out, Channel, next_control, with_control, Cell, Refusal, Forged, Policy, control_port, Controller, inject_refusal, injected, node_restarts, change_comes, Topology, Node, World, Site, site_key, site_at, controller_acts, switch_acts, opened_site, with_opened, opens_each, empty_world, place_node, queue_at, with_queue_in, with_queue_of, with_queue, injects_by, arrives_at, arrives, carries_head, loses_head, forges_at, forges, put_away, next, world_after, answers_chain_at, requests_chain_at}
+use Rattle.controller_bindings.specs.ordered_lists.Ordered.{Every}
+use Rattle.controller_bindings.proofs.ordered_lists.Every.{every_join}
+use Rattle.controller_bindings.proofs.port_facts.Keyed.{at_every, put_every, every_more}
 use Rattle.world_model.specs.Switch as switches
-use Rattle.world_model.specs.Switch.{control_port}
 use Rattle.world_model.specs.Conduct as switch
-use Rattle.world_model.specs.Controller.{Controller, Acted}
-use Rattle.world_model.specs.Packets.{inject_refusal, injected}
+use Rattle.world_model.specs.Controller.{Acted}
 use Rattle.world_model.specs.Sending.{sends}
 use Rattle.world_model.specs.Cells as controller
 use Rattle.world_model.specs.Ticks as controller_ticks
-use Rattle.world_model.specs.Resets.{node_restarts}
-use Rattle.world_model.specs.Changes.{change_comes}
-use Rattle.controller_facts.specs.Inputs.{Input, CellComes, PacketEnters, Ticks, Restarts, ChangeComes, FrameIsForged, enters_unless, takes_input}
+use Rattle.controller_bindings.specs.controller_facts.Inputs.{Input, CellComes, PacketEnters, Ticks, Restarts, ChangeComes, FrameIsForged, enters_unless, takes_input}
 use Rattle.run_facts.specs.Inputs as turns
 use Rattle.world_model.specs.declared.event.Event.{Event}
 use Rattle.world_model.specs.declared.event.Event.TheVariants.{Inject, Carry, Lose, Tick, TickSwitch, Restart, RestartSwitch, Forge, Route}
 use Rattle.world_model.specs.declared.link.LinkEnd.{LinkEnd}
-use Rattle.world_model.specs.Topology.{Topology, Node, peer_of}
-use Rattle.world_model.specs.World.{World, Site, site_key, site_at, controller_acts, at_controller, switch_acts, at_switch, opened_site, with_opened, opens_each, empty_world, opened}
-use Rattle.world_model.specs.Places.{place_node, queue_at, with_queue_in, with_queue_of, with_queue}
-use Rattle.world_model.specs.Step.{note, injects_by, arrives_at, arrives, carries_head, loses_head, forges_at, forges, acts}
-use Rattle.world_model.specs.Run.{put_away, next, world_after}
-use Rattle.world_model.specs.Ways.{answers_chain_at, requests_chain_at}
+use Rattle.world_model.specs.Topology.{peer_of}
+use Rattle.world_model.specs.World.{at_controller, at_switch, opened}
+use Rattle.world_model.specs.Step.{note, acts}
 use Rattle.run_facts.specs.Chains.{HasOwnChains, RunsHaveOwnChains}
 use Rattle.run_facts.proofs.Gathering.{IsOwn, input_chain, sends_same, switch_chain}
 use Rattle.run_facts.proofs.Numbers.{some_of}

@@ -2,17 +2,12 @@
 
 use Rattle.std.proofs.Common.{◌≡◌, Bool, true, false, List, [], ◌∷◌, Option, None, Some, subst, if◌then◌else◌}
 use Rattle.std.specs.Prelude.{◌==◌, ◌+◌}
-use Rattle.net_types.specs.declared.node.NodeId.{NodeId}
-use Rattle.net_types.specs.declared.node.Place.TheVariants.{Down, Up, Out}
-use Rattle.net_types.specs.Number.{next_control}
-use Rattle.atm_cells.specs.declared.cell.Cell.{Cell}
-use Rattle.controller_facts.specs.Inputs.{Input, PacketEnters, Ticks, Restarts, ChangeComes, FrameIsForged}
-use Rattle.controller_facts.specs.Sound.{IsOwn}
+use Rattle.world_model.specs.Words.{NodeId, Down, Up, Out, next_control, Cell, World, queue_at}
+use Rattle.controller_bindings.specs.controller_facts.Inputs.{Input, PacketEnters, Ticks, Restarts, ChangeComes, FrameIsForged}
+use Rattle.controller_bindings.specs.controller_facts.Sound.{IsOwn}
 use Rattle.lifetimes.specs.Run.{if_at, head_comes, head_leaves, comes_to}
 use Rattle.world_model.specs.declared.event.Event.{Event}
 use Rattle.world_model.specs.declared.event.Event.TheVariants.{Inject, Carry, Lose, Tick, TickSwitch, Restart, RestartSwitch, Forge, Route}
-use Rattle.world_model.specs.World.{World}
-use Rattle.world_model.specs.Places.{queue_at}
 
 abbrev IsOwnIf : Option Input → Type 0
 IsOwnIf None = Unit {0}

@@ -3,35 +3,17 @@
 use Rattle.std.proofs.Common.{◌≡◌, ◌≢◌, ℕ, ◌<◌, ◌≤◌, ◌+◌, true, false, List, [], ◌∷◌, ◌++◌, length, Option, None, Some, refl, sym, subst, arith, map, not}
 use Rattle.std.specs.Prelude.{nat_le, nat_lt, ◌==◌, ◌&&◌}
 use Rattle.std.proofs.lemmas.Bool.Decides.{nat_tests}
-use Rattle.net_types.specs.declared.node.PortNo.{PortNo}
-use Rattle.net_types.specs.declared.channel.Channel.{Channel}
-use Rattle.net_types.specs.declared.number.Mark.{Mark}
-use Rattle.net_types.specs.Number.{next_control, with_control}
-use Rattle.net_types.specs.Prefix.{Network}
-use Rattle.atm_cells.specs.declared.cell.Cell.{Cell}
-use Rattle.ipv4_forward.specs.Best.{is_same, has_prefix}
-use Rattle.ipv4_forward.specs.Change.{renewed, changed_by, changed}
-use Rattle.ipv4_forward.specs.declared.change.RouteChange.{RouteChange}
-use Rattle.ipv4_forward.specs.declared.table.Next.{Next}
-use Rattle.ipv4_forward.specs.declared.table.Route.{Route}
-use Rattle.link_model.specs.declared.frames.Frame.{Frame}
-use Rattle.link_model.specs.declared.record.Record.TheVariants.{Loss}
-use Rattle.link_model.specs.declared.record.Cause.TheVariants.{PoolFull}
-use Rattle.link_model.specs.declared.record.Refusal.{Refusal}
-use Rattle.link_model.specs.Ledger.{payload_of}
-use Rattle.link_model.specs.Notes.{noted}
-use Rattle.frame_model.specs.Frame.{frame_cells, made, next_mark}
-use Rattle.frame_model.specs.Sending.{Sent}
-use Rattle.ordered_lists.specs.Ordered.{Every}
-use Rattle.ordered_lists.proofs.Every.{every_join, every_map, every_mapped, every_all}
-use Rattle.port_facts.proofs.Keyed.{on_both}
-use Rattle.world_model.specs.Controller.{Controller, Acted, Linked, free_slots, default_home, default_channel}
-use Rattle.world_model.specs.Cells.{ForDefault, taker_of, same_channel}
-use Rattle.world_model.specs.Sending.{with_cells, sends, sends_control}
-use Rattle.world_model.specs.Packets.{is_control, inject_refusal}
-use Rattle.controller_facts.specs.Inputs.{Input, CellComes, PacketEnters, Ticks, Restarts, ChangeComes, FrameIsForged, CellLeaves, Meanwhile, enters_unless, takes_input}
-use Rattle.controller_facts.proofs.Joining.{every_filter}
-use Rattle.actor_pace.proofs.Cells.{every_drop}
+use Rattle.world_model.specs.Words.{PortNo, Channel, Mark, next_control, with_control, Network, Cell, is_same, has_prefix, renewed, changed_by, changed, RouteChange, Next, Frame, Loss, PoolFull, Refusal, payload_of, noted, frame_cells, made, next_mark, Controller, Linked, default_home, default_channel, ForDefault, taker_of, same_channel, sends_control, is_control, inject_refusal}
+use Rattle.world_model.specs.ipv4_forward.declared.table.Route.{Route}
+use Rattle.world_model.specs.frame_model.Sending.{Sent}
+use Rattle.controller_bindings.specs.ordered_lists.Ordered.{Every}
+use Rattle.controller_bindings.proofs.ordered_lists.Every.{every_join, every_map, every_mapped, every_all}
+use Rattle.controller_bindings.proofs.port_facts.Keyed.{on_both}
+use Rattle.world_model.specs.Controller.{Acted, free_slots}
+use Rattle.world_model.specs.Sending.{with_cells, sends}
+use Rattle.controller_bindings.specs.controller_facts.Inputs.{Input, CellComes, PacketEnters, Ticks, Restarts, ChangeComes, FrameIsForged, CellLeaves, Meanwhile, enters_unless, takes_input}
+use Rattle.controller_bindings.proofs.controller_facts.Joining.{every_filter}
+use Rattle.world_pace.proofs.actor_pace.Cells.{every_drop}
 use Rattle.run_facts.specs.Inputs.{IsMark, IsMarked}
 use Rattle.run_facts.specs.Frames.{IsFree, Stay}
 use Rattle.run_facts.proofs.Frames.{free_next, free_packet, stay_more}

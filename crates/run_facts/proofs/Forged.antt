@@ -3,29 +3,14 @@
 use Rattle.std.proofs.Common.{◌≡◌, ℕ, Bool, true, false, List, [], ◌∷◌, ◌++◌, length, Option, None, Some, refl, sym, ◌∙◌, ap, true≢false, if◌then◌else◌}
 use Rattle.std.specs.Prelude.{nat_le}
 use Rattle.std.specs.List.{list_any}
-use Rattle.net_types.specs.declared.channel.Channel.{Channel}
-use Rattle.net_types.specs.declared.node.Place.{Place}
-use Rattle.net_types.specs.declared.node.Place.TheVariants.{Down, Up, Out}
-use Rattle.net_types.specs.declared.number.Mark.{Mark}
-use Rattle.net_types.specs.Number.{next_control, with_control}
-use Rattle.atm_cells.specs.declared.cell.Cell.{Cell}
-use Rattle.link_model.specs.declared.record.Record.{Record}
-use Rattle.link_model.specs.declared.record.Record.TheVariants.{Loss, Forged}
-use Rattle.link_model.specs.declared.record.Cause.TheVariants.{PoolFull}
-use Rattle.link_model.specs.Notes.{noted}
-use Rattle.frame_model.specs.Frame.{frame_cells, made}
-use Rattle.frame_model.specs.Sending.{Sent, sent_frame}
+use Rattle.world_model.specs.Words.{Channel, Place, Down, Up, Out, Mark, next_control, with_control, Cell, Record, Loss, Forged, PoolFull, noted, frame_cells, made, sent_frame, control_port, Topology, World, Site, site_at, controller_acts, switch_acts, forges_at, next, put_away, is_wild, IsTame}
+use Rattle.world_model.specs.frame_model.Sending.{Sent}
 use Rattle.world_model.specs.Switch as switches
-use Rattle.world_model.specs.Switch.{control_port}
 use Rattle.world_model.specs.Conduct as switch
 use Rattle.world_model.specs.Controller.{free_slots}
 use Rattle.world_model.specs.Sending.{with_cells, sends}
 use Rattle.world_model.specs.declared.event.Event.TheVariants.{Forge}
-use Rattle.world_model.specs.Topology.{Topology}
-use Rattle.world_model.specs.World.{World, Site, site_at, controller_acts, switch_acts}
-use Rattle.world_model.specs.Step.{note, forges_at}
-use Rattle.world_model.specs.Run.{next, put_away}
-use Rattle.world_model.specs.Headline.{is_wild, IsTame}
+use Rattle.world_model.specs.Step.{note}
 
 wild_sent : {Q : Type 0} (place : Place) (free : ℕ) (with_queue : List Cell → Q) (s : Sent Q) (channel : Channel) (mark : Mark) (payload : List ℕ) → s.notes.records ≡ Forged place ∷ []
     → list_any is_wild (sent_frame free with_queue s channel mark payload).notes.records ≡ true

@@ -2,22 +2,14 @@
 
 use Rattle.std.proofs.Common.{◌≡◌, ◌≢◌, ℕ, ◌+◌, Bool, List, [], ◌∷◌, ◌++◌, Option, None, Some, refl, sym, ◌∙◌, ap, arith, if◌then◌else◌, map}
 use Rattle.std.specs.Option.{option_or}
-use Rattle.net_types.specs.declared.number.Mark.{Mark}
-use Rattle.link_model.specs.declared.frames.Frame.{Frame}
-use Rattle.link_model.specs.declared.record.Record.{Record}
-use Rattle.link_model.specs.declared.record.Record.TheVariants.{Loss, Chance}
-use Rattle.link_model.specs.declared.record.Cause.TheVariants.{PoolFull, Broken, Cut}
-use Rattle.link_model.specs.Ledger.{payload_of, has_entry, is_frame}
-use Rattle.link_model.specs.Notes.{Journal, noted}
-use Rattle.frame_model.specs.Frame.{tested, tested_by, payload_in, octets_of, last_mark}
-use Rattle.frame_model.specs.Reassembly.{Reassembly, Taken, taken, passed_over, without_slot, too_long, joined, most_cells, marks_of, broken, noted_all, distinct, cut}
-use Rattle.port_facts.proofs.Keyed.{on_both}
+use Rattle.world_model.specs.Words.{Mark, Frame, Record, Loss, Chance, PoolFull, Broken, Cut, payload_of, has_entry, is_frame, Journal, noted, tested, tested_by, payload_in, last_mark, Reassembly, passed_over, without_slot, too_long, most_cells, marks_of, broken, noted_all, distinct, cut, bound_by, last_bound, Cell}
+use Rattle.world_model.specs.frame_model.Frame.{octets_of}
+use Rattle.world_model.specs.frame_model.Reassembly.{Taken, taken, joined}
+use Rattle.controller_bindings.proofs.port_facts.Keyed.{on_both}
 use Rattle.world_model.specs.declared.link.LinkEnd.{LinkEnd}
-use Rattle.world_model.specs.Past.{bound_by, last_bound}
-use Rattle.atm_cells.specs.declared.cell.Cell.{Cell}
 use Rattle.std.specs.Prelude.{not, nat_le, length}
 use Rattle.run_facts.specs.Frames.{IsFree, Stay, BindsNone}
-use Rattle.shown_cells.proofs.Made.{made_elsewhere}
+use Rattle.world_views.proofs.shown_cells.Made.{made_elsewhere}
 
 -- *Frames*: the number of the next one is free
 pub free_next : (controls : ℕ) (frames : List Frame) (payload : List ℕ) → IsFree controls frames

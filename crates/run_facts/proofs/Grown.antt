@@ -4,32 +4,14 @@ use Rattle.std.proofs.Common.{◌≡◌, ℕ, ◌<◌, ◌+◌, Bool, true, fals
 use Rattle.std.specs.Prelude.{◌==◌, ◌&&◌, nat_lt, Contains}
 use Rattle.std.specs.Option.{option_map_or}
 use Rattle.std.proofs.lemmas.Bool.Decides.{nat_tests}
-use Rattle.net_types.specs.declared.node.NodeId.{NodeId}
-use Rattle.net_types.specs.declared.node.PortNo.{PortNo}
-use Rattle.net_types.specs.declared.node.Place.{Place}
-use Rattle.net_types.specs.declared.node.Place.TheVariants.{Down, Up, Out}
-use Rattle.net_types.specs.declared.number.Mark.{Mark}
-use Rattle.net_types.specs.declared.channel.Channel.{Channel}
-use Rattle.net_types.specs.Number.{GivenOut, next_control, with_control}
-use Rattle.atm_cells.specs.declared.cell.Cell.{Cell}
-use Rattle.link_model.specs.declared.frames.Frame.{Frame}
-use Rattle.link_model.specs.declared.record.Refusal.{Refusal}
-use Rattle.link_model.specs.declared.record.Record.TheVariants.{Forged}
-use Rattle.link_model.specs.Ledger.{payload_of}
-use Rattle.link_model.specs.Notes.{Journal}
-use Rattle.frame_model.specs.Frame.{next_mark}
-use Rattle.port_model.specs.Setup.{Policy}
+use Rattle.world_model.specs.Words.{NodeId, PortNo, Place, Down, Up, Out, Mark, Channel, GivenOut, next_control, with_control, Cell, Frame, Refusal, Forged, payload_of, Journal, next_mark, Policy, control_port, is_control, inject_refusal, injected, node_restarts, change_comes, Topology, IsNode, World, Site, site_at, controller_acts, switch_acts, queue_in, queue_at, with_queue, injects_by, arrives_at, arrives, carries_head, loses_head, forges_at, forges, put_away, next, world_after, Past, past_of, frames_of}
 use Rattle.world_model.specs.Switch as switches
-use Rattle.world_model.specs.Switch.{control_port}
 use Rattle.world_model.specs.Conduct as switch
 use Rattle.world_model.specs.Controller.{Acted}
-use Rattle.world_model.specs.Packets.{is_control, inject_refusal, injected}
 use Rattle.world_model.specs.Sending.{sends}
 use Rattle.world_model.specs.Cells as controller
 use Rattle.world_model.specs.Ticks as controller_ticks
-use Rattle.world_model.specs.Resets.{node_restarts}
-use Rattle.world_model.specs.Changes.{change_comes}
-use Rattle.controller_facts.specs.Inputs.{Input, CellComes, PacketEnters, Ticks, Restarts, ChangeComes, enters_unless, takes_input}
+use Rattle.controller_bindings.specs.controller_facts.Inputs.{Input, CellComes, PacketEnters, Ticks, Restarts, ChangeComes, enters_unless, takes_input}
 use Rattle.run_facts.specs.Inputs as turns
 use Rattle.run_facts.specs.Inputs.{SwitchInput, switch_takes}
 use Rattle.run_facts.specs.Frames.{IsFree, Stay}
@@ -39,13 +21,9 @@ use Rattle.run_facts.proofs.Controllers.{IsNewest, input_stays, control_stays}
 use Rattle.world_model.specs.declared.event.Event.{Event}
 use Rattle.world_model.specs.declared.event.Event.TheVariants.{Inject, Carry, Lose, Tick, TickSwitch, Restart, RestartSwitch, Forge, Route}
 use Rattle.world_model.specs.declared.link.LinkEnd.{LinkEnd}
-use Rattle.world_model.specs.Topology.{Topology, peer_of}
-use Rattle.world_model.specs.Conditions.{IsNode}
-use Rattle.world_model.specs.World.{World, Site, site_at, controller_acts, at_controller, switch_acts, at_switch, opened}
-use Rattle.world_model.specs.Places.{queue_in, queue_at, with_queue}
-use Rattle.world_model.specs.Step.{note, injects_by, arrives_at, arrives, carries_head, loses_head, forges_at, forges}
-use Rattle.world_model.specs.Run.{put_away, next, world_after}
-use Rattle.world_model.specs.Past.{Past, past_of, frames_of}
+use Rattle.world_model.specs.Topology.{peer_of}
+use Rattle.world_model.specs.World.{at_controller, at_switch, opened}
+use Rattle.world_model.specs.Step.{note}
 use Rattle.world_views.specs.Marks.{Heading, Means, early, control, local, plain, labelled, heading_at}
 use Rattle.world_views.specs.Between.{IsWorld}
 use Rattle.world_views.specs.Kept.{Comes}

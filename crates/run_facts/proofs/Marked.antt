@@ -2,28 +2,16 @@
 
 use Rattle.std.proofs.Common.{◌≡◌, ◌≢◌, ℕ, ◌<◌, ◌≤◌, true, List, [], ◌∷◌, Option, None, Some, refl, sym, ◌∙◌, ap, subst, arith, ◌⊎◌, inl, inr}
 use Rattle.std.specs.Option.{option_map, option_map_or, option_and_then}
-use Rattle.net_types.specs.declared.node.NodeId.{NodeId}
-use Rattle.net_types.specs.declared.node.Place.{Place}
-use Rattle.net_types.specs.declared.node.Place.TheVariants.{Down, Up, Out}
-use Rattle.net_types.specs.declared.adjacency.Peer.{Peer}
-use Rattle.net_types.specs.Number.{GivenOut}
-use Rattle.adjacency_table.specs.Side.{Side}
-use Rattle.atm_cells.specs.declared.cell.Cell.{Cell}
-use Rattle.ipv4_forward.specs.declared.table.Next.{Next}
-use Rattle.ordered_lists.specs.Ordered.{Every}
-use Rattle.ordered_lists.proofs.Every.{every_map}
-use Rattle.keyed_lists.specs.Keyed.{at, put}
-use Rattle.port_facts.proofs.Keyed.{by_eq, at_key, at_every, at_put_same, at_put_other, put_every}
-use Rattle.world_model.specs.Controller.{Linked, linked_at, default_home}
-use Rattle.world_model.specs.Cells.{same_channel}
-use Rattle.actor_pace.proofs.Cells.{every_at, every_set}
+use Rattle.world_model.specs.Words.{NodeId, Place, Down, Up, Out, Peer, GivenOut, Side, Cell, Next, at, put, Linked, linked_at, default_home, same_channel, World, Site, site_key, site_at, with_site, place_node, queue_in, queue_at, with_queue_in, with_queue_of, with_queue}
+use Rattle.controller_bindings.specs.ordered_lists.Ordered.{Every}
+use Rattle.controller_bindings.proofs.ordered_lists.Every.{every_map}
+use Rattle.controller_bindings.proofs.port_facts.Keyed.{by_eq, at_key, at_every, at_put_same, at_put_other, put_every}
+use Rattle.world_pace.proofs.actor_pace.Cells.{every_at, every_set}
 use Rattle.run_facts.specs.Inputs.{IsMarked}
 use Rattle.run_facts.specs.Frames.{IsFree}
 use Rattle.run_facts.proofs.Switches.{AreMarked, mark_later, marked_later, queues_later}
 use Rattle.run_facts.proofs.Owns.{own_of, own_in, port_own, IsDrawn, is_drawn}
 use Rattle.run_facts.proofs.Controllers.{Table, Change}
-use Rattle.world_model.specs.World.{World, Site, site_key, site_at, with_site}
-use Rattle.world_model.specs.Places.{place_node, queue_in, queue_at, with_queue_in, with_queue_of, with_queue}
 use Rattle.run_facts.specs.Drawn.{Holder, ByController, BySwitch, ByPort, own_at, IsNew, is_new, Draws}
 
 -- *Who draws*, at a node

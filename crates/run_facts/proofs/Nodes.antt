@@ -5,50 +5,33 @@ use Rattle.std.specs.Prelude.{All, find, reverse}
 use Rattle.std.specs.List.{list_any}
 use Rattle.std.specs.Option.{option_map_or}
 use Rattle.std.proofs.lemmas.List.{length-map, reverse-append}
-use Rattle.net_types.specs.declared.node.NodeId.{NodeId}
-use Rattle.net_types.specs.declared.node.PortNo.{PortNo}
-use Rattle.net_types.specs.Label.{is_label_number, number_of_channel}
-use Rattle.ipv4_forward.specs.declared.change.RouteChange.{RouteChange}
-use Rattle.ipv4_forward.specs.declared.table.Next.{Next}
-use Rattle.ipv4_forward.specs.declared.table.Route.{Route}
-use Rattle.link_model.specs.declared.record.Record.{Record}
-use Rattle.ordered_lists.specs.Ordered.{Every}
-use Rattle.ordered_lists.proofs.Every.{every_join, every_map, every_mapped}
-use Rattle.world_model.specs.Switch.{control_port}
-use Rattle.crossbar_model.specs.Channels.{IsLinkPort, ArePorts}
-use Rattle.port_facts.proofs.Keyed.{at_every}
-use Rattle.port_facts.specs.Port.{IsRanged}
-use Rattle.port_widths.specs.Widths.{FitsSetup}
-use Rattle.port_model.specs.Setup.{Policy, Setup}
-use Rattle.port_model.specs.Port.{labels_of}
+use Rattle.world_model.specs.Words.{NodeId, PortNo, is_label_number, number_of_channel, RouteChange, Next, Record, control_port, IsLinkPort, ArePorts, Policy, Setup, labels_of, Controller, Linked, linked_at, joins_of, setup_of, Topology, Node, default_range, range_among, ranges_of, timers_of, is_linked, World, Site, site_key, site_at, IsEvent, IsNode, IsNodeOf as IsTopologyNode, IsRange, IsLinkedNext, IsLinkedChange, world_after, Past, past_of, last_bound, IsRun}
+use Rattle.world_model.specs.ipv4_forward.declared.table.Route.{Route}
+use Rattle.controller_bindings.specs.ordered_lists.Ordered.{Every}
+use Rattle.controller_bindings.proofs.ordered_lists.Every.{every_join, every_map, every_mapped}
+use Rattle.controller_bindings.proofs.port_facts.Keyed.{at_every}
+use Rattle.controller_bindings.specs.port_facts.Port.{IsRanged}
+use Rattle.world_views.specs.port_widths.Widths.{FitsSetup}
 use Rattle.world_model.specs.declared.range.PortRange.{PortRange}
-use Rattle.world_model.specs.Controller.{Controller, Acted, Linked, linked_at}
-use Rattle.world_model.specs.Joins.{joins_of}
-use Rattle.world_model.specs.Opening.{setup_of}
-use Rattle.controller_facts.specs.Inputs.{takes_inputs}
-use Rattle.controller_facts.specs.Sound.{IsSound, Opening, opened_by, setups_by}
-use Rattle.controller_facts.specs.Said.{HasFlowingPorts}
-use Rattle.controller_facts.specs.Conditions.{HasGrantedJoins, HasMovingRequests}
-use Rattle.controller_facts.proofs.Laws.{always_sound}
-use Rattle.controller_facts.proofs.Conditions.{always_moves, always_granted}
-use Rattle.controller_facts.proofs.Flows.{always_flowing}
-use Rattle.controller_law.specs.Law.{IsOpening}
-use Rattle.controller_law.specs.Order.{IsOrderly}
-use Rattle.controller_law.specs.Match.{IsMatched}
-use Rattle.controller_law.proofs.Laws.{always_holds, always_matched}
+use Rattle.world_model.specs.Controller.{Acted}
+use Rattle.controller_bindings.specs.controller_facts.Inputs.{takes_inputs}
+use Rattle.controller_bindings.specs.controller_facts.Sound.{IsSound, Opening, opened_by, setups_by}
+use Rattle.controller_bindings.specs.controller_facts.Said.{HasFlowingPorts}
+use Rattle.controller_bindings.specs.controller_facts.Conditions.{HasGrantedJoins, HasMovingRequests}
+use Rattle.controller_bindings.proofs.controller_facts.Laws.{always_sound}
+use Rattle.controller_bindings.proofs.controller_facts.Conditions.{always_moves, always_granted}
+use Rattle.controller_bindings.proofs.controller_facts.Flows.{always_flowing}
+use Rattle.controller_bindings.specs.controller_law.Law.{IsOpening}
+use Rattle.controller_bindings.specs.controller_law.Order.{IsOrderly}
+use Rattle.controller_bindings.specs.controller_law.Match.{IsMatched}
+use Rattle.controller_bindings.proofs.controller_law.Laws.{always_holds, always_matched}
 use Rattle.controller_bindings.specs.Bindings as bindings
 use Rattle.controller_bindings.specs.Bindings.{IsBoundLast, HasBoundLabels, IsLed, HasLedJoins, GathersForBound, noted_by_all}
 use Rattle.controller_bindings.proofs.Laws.{always_bound, always_led, always_gathers}
 use Rattle.world_model.specs.declared.event.Event.{Event}
 use Rattle.world_model.specs.declared.event.Event.TheVariants.{Route as RouteEvent}
 use Rattle.world_model.specs.Topology as topologies
-use Rattle.world_model.specs.Topology.{Topology, Node, default_range, range_among, ranges_of, timers_of}
-use Rattle.world_model.specs.Lines.{is_linked}
-use Rattle.world_model.specs.World.{World, Site, site_key, site_at, opened}
-use Rattle.world_model.specs.Conditions.{IsEvent, IsNode, IsNodeOf as IsTopologyNode, IsRange, IsLinkedNext, IsLinkedChange}
-use Rattle.world_model.specs.Run.{world_after}
-use Rattle.world_model.specs.Past.{Past, past_of, last_bound}
-use Rattle.world_model.specs.Headline.{IsRun}
+use Rattle.world_model.specs.World.{opened}
 use Rattle.world_model.proofs.Opening.{ports_are}
 use Rattle.world_pace.specs.Running.{IsRunningSite}
 use Rattle.world_pace.proofs.Running.{site_runs}

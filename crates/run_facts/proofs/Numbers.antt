@@ -3,20 +3,13 @@
 use Rattle.std.proofs.Common.{◌≡◌, ℕ, zero, suc, ◌<◌, ◌≤◌, List, [], ◌∷◌, ◌++◌, length, slice_index_or, Option, None, Some, refl, sym, ap, subst, arith, true}
 use Rattle.std.specs.Prelude.{Contains}
 use Rattle.std.specs.Option.{option_map, option_map_or, option_and_then}
-use Rattle.net_types.specs.declared.node.NodeId.{NodeId}
-use Rattle.net_types.specs.declared.node.PortNo.{PortNo}
-use Rattle.net_types.specs.declared.node.Place.{Place}
-use Rattle.atm_cells.specs.declared.cell.Cell.{Cell}
-use Rattle.ordered_lists.specs.Ordered.{Every, InOrder}
-use Rattle.ordered_lists.proofs.Every.{every_join, every_map}
-use Rattle.ordered_lists.proofs.InOrder.{order_unmapped}
-use Rattle.keyed_lists.specs.Keyed.{at}
-use Rattle.port_facts.proofs.Keyed.{at_every, at_key, each_found}
-use Rattle.port_model.specs.Setup.{Policy}
-use Rattle.world_model.specs.Controller.{Controller, Linked, linked_at, port_key, default_home}
-use Rattle.world_model.specs.Cells.{same_channel}
-use Rattle.controller_facts.specs.Sound.{IsSound, AreApart, linked_setup, setups_by}
-use Rattle.controller_facts.proofs.Laws.{always_sound}
+use Rattle.world_model.specs.Words.{NodeId, PortNo, Place, Cell, at, Policy, Controller, Linked, linked_at, port_key, default_home, same_channel, Topology, World, Site, site_key, site_at, queue_at, chain_at, answers_chain_at, requests_chain_at, world_after, past_of}
+use Rattle.controller_bindings.specs.ordered_lists.Ordered.{Every, InOrder}
+use Rattle.controller_bindings.proofs.ordered_lists.Every.{every_join, every_map}
+use Rattle.controller_bindings.proofs.ordered_lists.InOrder.{order_unmapped}
+use Rattle.controller_bindings.proofs.port_facts.Keyed.{at_every, at_key, each_found}
+use Rattle.controller_bindings.specs.controller_facts.Sound.{IsSound, AreApart, linked_setup, setups_by}
+use Rattle.controller_bindings.proofs.controller_facts.Laws.{always_sound}
 use Rattle.run_facts.specs.Inputs.{IsMarked}
 use Rattle.run_facts.proofs.Switches.{AreMarked}
 use Rattle.run_facts.proofs.Owns.{port_own}
@@ -24,12 +17,7 @@ use Rattle.lifetimes.proofs.Opened.{IsFed, opening_fed}
 use Rattle.lifetimes.proofs.Runs.{run_fed}
 use Rattle.world_model.specs.declared.event.Event.{Event}
 use Rattle.world_model.specs.declared.link.LinkEnd.{LinkEnd}
-use Rattle.world_model.specs.Topology.{Topology}
-use Rattle.world_model.specs.World.{World, Site, site_key, site_at, opened}
-use Rattle.world_model.specs.Places.{queue_at}
-use Rattle.world_model.specs.Ways.{chain_at, answers_chain_at, requests_chain_at}
-use Rattle.world_model.specs.Run.{world_after}
-use Rattle.world_model.specs.Past.{past_of}
+use Rattle.world_model.specs.World.{opened}
 use Rattle.world_views.specs.Between.{HasNumbers, HasAllNumbers}
 use Rattle.world_views.specs.Kept.{Keeps, Begins}
 use Rattle.run_facts.proofs.Marked.{IsController, IsSwitch, IsPort, SiteMarked, WorldMarked, queue_marked}

@@ -1,32 +1,18 @@
 -- how the controllers of a run are opened, and that their names stay
 
 use Rattle.std.proofs.Common.{◌≡◌, ℕ, ◌∙◌, List, [], ◌∷◌, length, refl}
-use Rattle.net_types.specs.declared.node.NodeId.{NodeId}
-use Rattle.net_types.specs.Number.{GivenOut}
-use Rattle.link_model.specs.Notes.{Journal}
-use Rattle.port_model.specs.Setup.{Policy}
-use Rattle.port_facts.proofs.Keyed.{on_both}
+use Rattle.world_model.specs.Words.{NodeId, GivenOut, Journal, Policy, Addr, Channel, Mark, next_control, with_control, Loss, PoolFull, noted, frame_cells, made, Setup, Controller, Topology, Node, opened_site}
+use Rattle.controller_bindings.proofs.port_facts.Keyed.{on_both}
 use Rattle.std.specs.Prelude.{nat_le}
-use Rattle.net_types.specs.declared.prefix.Addr.{Addr}
-use Rattle.net_types.specs.declared.channel.Channel.{Channel}
-use Rattle.net_types.specs.declared.number.Mark.{Mark}
-use Rattle.net_types.specs.Number.{next_control, with_control}
-use Rattle.link_model.specs.declared.record.Record.TheVariants.{Loss}
-use Rattle.link_model.specs.declared.record.Cause.TheVariants.{PoolFull}
-use Rattle.link_model.specs.Notes.{noted}
-use Rattle.frame_model.specs.Sending.{Sent}
-use Rattle.frame_model.specs.Frame.{frame_cells, made}
-use Rattle.port_model.specs.Setup.{Setup}
-use Rattle.world_model.specs.Controller.{Controller, Acted, free_slots}
+use Rattle.world_model.specs.frame_model.Sending.{Sent}
+use Rattle.world_model.specs.Controller.{Acted, free_slots}
 use Rattle.world_model.specs.Sending.{with_cells, sends}
-use Rattle.controller_facts.specs.Inputs.{Input, CellComes, PacketEnters, Ticks, Restarts, ChangeComes, FrameIsForged, CellLeaves, Meanwhile, takes_input, takes_inputs}
-use Rattle.controller_facts.specs.Sound.{IsSound, IsOwn, Opening, opened_by, setups_by}
-use Rattle.controller_facts.proofs.Moves.{Move, noting, taking_notes, sending, sending_control, asking, withdrawing, answering, meeting, ending_meeting, turning, placing, clearing, gathering, chaining, routing, popping, moves_keep}
-use Rattle.controller_facts.proofs.Laws.{input_goes, input_sound, opening_sound}
-use Rattle.controller_law.specs.Law.{IsOpening}
+use Rattle.controller_bindings.specs.controller_facts.Inputs.{Input, CellComes, PacketEnters, Ticks, Restarts, ChangeComes, FrameIsForged, CellLeaves, Meanwhile, takes_input, takes_inputs}
+use Rattle.controller_bindings.specs.controller_facts.Sound.{IsSound, IsOwn, Opening, opened_by, setups_by}
+use Rattle.controller_bindings.proofs.controller_facts.Moves.{Move, noting, taking_notes, sending, sending_control, asking, withdrawing, answering, meeting, ending_meeting, turning, placing, clearing, gathering, chaining, routing, popping, moves_keep}
+use Rattle.controller_bindings.proofs.controller_facts.Laws.{input_goes, input_sound, opening_sound}
+use Rattle.controller_bindings.specs.controller_law.Law.{IsOpening}
 use Rattle.lifetimes.proofs.Opened.{opening_of}
-use Rattle.world_model.specs.Topology.{Topology, Node}
-use Rattle.world_model.specs.World.{opened_site}
 
 pub opened_as : (policy : Policy) (topology : Topology) (number : NodeId) (node : Node) (numbers : GivenOut) (notes : Journal)
     → (opened_by (opening_of policy topology number node numbers notes)).controller ≡ (opened_site policy topology number node numbers).controller

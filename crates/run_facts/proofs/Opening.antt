@@ -3,24 +3,15 @@
 use Rattle.std.proofs.Common.{◌≡◌, ℕ, zero, suc, ◌<◌, ◌≤◌, ◌+◌, Bool, true, false, List, [], ◌∷◌, ◌++◌, length, slice_get, Option, None, Some, refl, sym, ◌∙◌, ap, subst, arith, ◌⊎◌, inl, inr, if◌then◌else◌}
 use Rattle.std.specs.Prelude.{nat_eq}
 use Rattle.std.specs.Option.{option_map}
-use Rattle.net_types.specs.declared.node.NodeId.{NodeId}
-use Rattle.net_types.specs.Number.{GivenOut}
-use Rattle.ipv4_forward.specs.declared.table.Next.{Next}
-use Rattle.ordered_lists.specs.Ordered.{Every}
-use Rattle.ordered_lists.proofs.Every.{every_join}
-use Rattle.keyed_lists.specs.Keyed.{at}
-use Rattle.port_facts.proofs.Keyed.{by_eq, at_every}
-use Rattle.atm_cells.specs.declared.cell.Cell.{Cell}
-use Rattle.port_model.specs.Setup.{Policy, Setup}
+use Rattle.world_model.specs.Words.{NodeId, GivenOut, Next, at, Cell, Policy, Setup, Linked, port_key, default_home, same_channel, setup_of, opens_port, opens_ports, Topology, Node, ranges_of, timers_of, World, Site, site_key, opened_site, numbers_after, with_opened, opens_each, empty_world}
+use Rattle.controller_bindings.specs.ordered_lists.Ordered.{Every}
+use Rattle.controller_bindings.proofs.ordered_lists.Every.{every_join}
+use Rattle.controller_bindings.proofs.port_facts.Keyed.{by_eq, at_every}
 use Rattle.world_model.specs.declared.range.PortRange.{PortRange}
-use Rattle.world_model.specs.Controller.{Linked, port_key, default_home}
-use Rattle.world_model.specs.Cells.{same_channel}
-use Rattle.world_model.specs.Opening.{setup_of, opens_port, opens_ports}
 use Rattle.run_facts.specs.Inputs.{IsMarked}
 use Rattle.run_facts.proofs.Owns.{own_in, port_own}
 use Rattle.run_facts.proofs.Controllers.{Table}
-use Rattle.world_model.specs.Topology.{Topology, Node, ranges_of, timers_of}
-use Rattle.world_model.specs.World.{World, Site, site_key, opened_site, numbers_after, with_opened, opens_each, empty_world, opened}
+use Rattle.world_model.specs.World.{opened}
 use Rattle.run_facts.specs.Drawn.{Holder, own_at}
 use Rattle.run_facts.proofs.Marked.{Kind, IsController, IsSwitch, IsPort, own_as, own_found, node_of, kind_of, own_is, same_holder, SiteMarked, WorldMarked, sites_later}
 

@@ -3,31 +3,18 @@
 use Rattle.std.proofs.Common.{◌≡◌, ◌≢◌, ℕ, ◌<◌, ◌≤◌, ◌+◌, List, length, Option, Some, refl, sym, ◌∙◌, ap, subst, arith, ◌⊎◌, inl, inr}
 use Rattle.std.specs.Prelude.{nat_le}
 use Rattle.std.specs.Option.{option_map}
-use Rattle.net_types.specs.declared.adjacency.Party.{Party}
-use Rattle.net_types.specs.declared.channel.Channel.{Channel}
-use Rattle.net_types.specs.declared.number.Mark.{Mark}
-use Rattle.net_types.specs.Number.{next_control, with_control}
-use Rattle.adjacency_table.specs.Side as sides
-use Rattle.adjacency_table.specs.Side.{Side}
-use Rattle.link_model.specs.declared.record.Record.TheVariants.{Loss}
-use Rattle.link_model.specs.declared.record.Cause.TheVariants.{PoolFull}
-use Rattle.link_model.specs.Notes.{noted}
-use Rattle.frame_model.specs.Sending.{Sent}
-use Rattle.frame_model.specs.Frame.{frame_cells, made}
-use Rattle.keyed_lists.specs.Keyed.{at, put}
-use Rattle.port_model.specs.Desk.{Desk}
-use Rattle.port_model.specs.Setup.{Setup}
-use Rattle.port_model.specs.Port.{Work}
-use Rattle.port_model.specs.Resets.{cleared}
-use Rattle.port_facts.proofs.Keyed.{on_both, by_eq, at_put_same, at_put_other}
-use Rattle.port_facts.proofs.Instances.{goes_gave, closes_gave, parted_gave, joined_gave, lent_gave, given_back_gave}
-use Rattle.world_model.specs.Controller.{Controller, Acted, Linked, port_key, free_slots}
+use Rattle.world_model.specs.Words.{Party, Channel, Mark, next_control, with_control, Side, Loss, PoolFull, noted, frame_cells, made, at, put, Desk, Setup, Work, Controller, Linked, port_key, begins, with_work, resets_gsmp}
+use Rattle.world_model.specs.adjacency_table.Side as sides
+use Rattle.world_model.specs.frame_model.Sending.{Sent}
+use Rattle.world_model.specs.port_model.Resets.{cleared}
+use Rattle.controller_bindings.proofs.port_facts.Keyed.{on_both, by_eq, at_put_same, at_put_other}
+use Rattle.controller_bindings.proofs.port_facts.Instances.{goes_gave, closes_gave, parted_gave, joined_gave, lent_gave, given_back_gave}
+use Rattle.world_model.specs.Controller.{Acted, free_slots}
 use Rattle.world_model.specs.Sending.{with_cells, sends}
-use Rattle.world_model.specs.Resets.{begins, with_work, resets_gsmp}
-use Rattle.controller_facts.specs.Inputs.{Input, takes_input}
-use Rattle.controller_facts.specs.Sound.{IsSound, IsOwn}
-use Rattle.controller_facts.proofs.Moves.{IsGsmpTurn, hears, ages, Worked, by_rule, by_closing, by_reset, by_restart, by_parting, by_joining, by_lending, by_giving_back, Move, noting, taking_notes, sending, sending_control, asking, withdrawing, answering, meeting, ending_meeting, turning, placing, clearing, gathering, chaining, routing, popping, moves_keep}
-use Rattle.controller_facts.proofs.Laws.{input_goes}
+use Rattle.controller_bindings.specs.controller_facts.Inputs.{Input, takes_input}
+use Rattle.controller_bindings.specs.controller_facts.Sound.{IsSound, IsOwn}
+use Rattle.controller_bindings.proofs.controller_facts.Moves.{IsGsmpTurn, hears, ages, Worked, by_rule, by_closing, by_reset, by_restart, by_parting, by_joining, by_lending, by_giving_back, Move, noting, taking_notes, sending, sending_control, asking, withdrawing, answering, meeting, ending_meeting, turning, placing, clearing, gathering, chaining, routing, popping, moves_keep}
+use Rattle.controller_bindings.proofs.controller_facts.Laws.{input_goes}
 use Rattle.run_facts.proofs.Switches.{tick_own}
 use Rattle.run_facts.proofs.PortOwns.{goes_owns, closes_owns, parted_owns, joined_owns, lent_owns, given_back_owns}
 

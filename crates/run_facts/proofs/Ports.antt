@@ -4,14 +4,11 @@ use Rattle.std.proofs.Common.{◌≡◌, ℕ, ◌==◌, ◌||◌, Bool, true, fa
 use Rattle.std.specs.Prelude.{nat_eq, filter}
 use Rattle.std.specs.List.{list_any, range_with_len}
 use Rattle.std.proofs.lemmas.Bool.Decides.{nat_tests}
-use Rattle.net_types.specs.declared.node.NodeId.{NodeId}
-use Rattle.net_types.specs.declared.node.PortNo.{PortNo}
-use Rattle.keyed_lists.specs.Keyed.{at}
-use Rattle.port_facts.proofs.Keyed.{by_eq}
-use Rattle.world_model.specs.Controller.{Controller, Linked, port_key, ports_of}
+use Rattle.world_model.specs.Words.{NodeId, PortNo, at, Controller, Linked, port_key, Topology, is_linked}
+use Rattle.controller_bindings.proofs.port_facts.Keyed.{by_eq}
+use Rattle.world_model.specs.Controller.{ports_of}
 use Rattle.world_model.specs.Topology as topologies
-use Rattle.world_model.specs.Topology.{Topology, peer_of}
-use Rattle.world_model.specs.Lines.{is_linked}
+use Rattle.world_model.specs.Topology.{peer_of}
 use Rattle.run_facts.specs.Nodes.{HasPort}
 
 -- what passes a test is among those that do

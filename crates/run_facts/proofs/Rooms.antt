@@ -5,25 +5,14 @@ use Rattle.std.specs.Prelude.{is_some, filter}
 use Rattle.std.specs.List.{range_with_len}
 use Rattle.std.proofs.Common.{cond, append-nil, append_assoc, if◌then◌else◌}
 use Rattle.world_model.specs.Step.{acts}
-use Rattle.net_types.specs.declared.node.NodeId.{NodeId}
-use Rattle.net_types.specs.declared.node.PortNo.{PortNo}
-use Rattle.net_types.specs.declared.number.Instance.{Instance}
-use Rattle.net_types.specs.Number.{GivenOut, next_instance}
-use Rattle.ordered_lists.specs.Ordered.{Every}
-use Rattle.keyed_lists.specs.Keyed.{at}
-use Rattle.port_facts.proofs.Keyed.{by_eq}
-use Rattle.world_model.specs.Switch.{control_port, numbers_of, begun}
-use Rattle.port_model.specs.Setup.{Policy}
-use Rattle.world_model.specs.Opening.{after_opening}
-use Rattle.actor_pace.specs.Pace.{IsUpTo}
+use Rattle.world_model.specs.Words.{NodeId, PortNo, Instance, GivenOut, next_instance, at, control_port, numbers_of, Policy, after_opening, Topology, Node, ranges_of, World, Site, site_key, opened_site, with_opened, opens_each, empty_world, queue_at, IsTopology, put_away, next, world_after, IsRun}
+use Rattle.controller_bindings.specs.ordered_lists.Ordered.{Every}
+use Rattle.controller_bindings.proofs.port_facts.Keyed.{by_eq}
+use Rattle.world_model.specs.Switch.{begun}
+use Rattle.world_pace.specs.actor_pace.Pace.{IsUpTo}
 use Rattle.world_model.specs.declared.event.Event.{Event}
 use Rattle.world_model.specs.Topology as topologies
-use Rattle.world_model.specs.Topology.{Topology, Node, ranges_of}
-use Rattle.world_model.specs.World.{World, Site, site_key, opened_site, with_opened, opens_each, empty_world, opened}
-use Rattle.world_model.specs.Places.{queue_at}
-use Rattle.world_model.specs.Conditions.{IsTopology}
-use Rattle.world_model.specs.Run.{put_away, next, world_after}
-use Rattle.world_model.specs.Headline.{IsRun}
+use Rattle.world_model.specs.World.{opened}
 use Rattle.world_model.proofs.Opening.{site_ports}
 use Rattle.world_pace.specs.Running.{AreRunning, IsRunningSite, most_frame}
 use Rattle.world_pace.proofs.Running.{queue_up}

@@ -2,22 +2,17 @@
 
 use Rattle.std.proofs.Common.{◌≡◌, ℕ, zero, suc, ◌<◌, ◌≤◌, ◌+◌, List, [], ◌∷◌, ◌++◌, length, slice_index_or, Option, None, Some, refl, sym, ◌∙◌, ap, subst, arith, append_assoc, ◌⊎◌, inl, inr}
 use Rattle.std.specs.Prelude.{Contains}
-use Rattle.net_types.specs.declared.node.NodeId.{NodeId}
-use Rattle.ipv4_forward.specs.declared.change.RouteChange.{RouteChange}
-use Rattle.ipv4_forward.specs.declared.table.Next.{Next}
-use Rattle.ipv4_forward.specs.declared.table.Route.{Route}
-use Rattle.ordered_lists.specs.Ordered.{Every}
-use Rattle.ordered_lists.proofs.Every.{every_all}
-use Rattle.port_facts.proofs.Keyed.{at_every}
-use Rattle.port_model.specs.Setup.{Policy}
+use Rattle.world_model.specs.Words.{NodeId, RouteChange, Next, Policy, Topology, World, site_key, put_away, next, worlds_from, world_after}
+use Rattle.world_model.specs.ipv4_forward.declared.table.Route.{Route}
+use Rattle.controller_bindings.specs.ordered_lists.Ordered.{Every}
+use Rattle.controller_bindings.proofs.ordered_lists.Every.{every_all}
+use Rattle.controller_bindings.proofs.port_facts.Keyed.{at_every}
 use Rattle.run_facts.proofs.Controllers.{May}
 use Rattle.lifetimes.proofs.Opened.{IsFed, opening_fed}
 use Rattle.lifetimes.proofs.Runs.{next_fed, run_fed}
 use Rattle.world_model.specs.declared.event.Event.{Event}
 use Rattle.world_model.specs.declared.event.Event.TheVariants.{Route as RouteEvent}
-use Rattle.world_model.specs.Topology.{Topology}
-use Rattle.world_model.specs.World.{World, site_key, opened}
-use Rattle.world_model.specs.Run.{put_away, next, worlds_from, world_after}
+use Rattle.world_model.specs.World.{opened}
 use Rattle.run_facts.specs.Drawn.{Holder, own_at, IsNew, is_new, Draws, EventsDraw, RunsDrawOnce}
 use Rattle.run_facts.proofs.Marked.{WorldMarked}
 use Rattle.run_facts.proofs.Acting.{fed_whole, Left}

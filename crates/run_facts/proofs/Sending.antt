@@ -2,22 +2,12 @@
 
 use Rattle.std.proofs.Common.{ℕ, List, [], ◌++◌, ◌∷◌, Result}
 use Rattle.std.specs.Prelude.{◌+◌}
-use Rattle.net_types.specs.declared.node.PortNo.{PortNo}
-use Rattle.net_types.specs.declared.channel.Channel.{Channel}
-use Rattle.atm_cells.specs.declared.cell.Cell.{Cell}
-use Rattle.ipv4_forward.specs.Change.{changed}
-use Rattle.ipv4_forward.specs.declared.change.RouteChange.{RouteChange}
-use Rattle.ipv4_forward.specs.declared.table.Route.{Route}
-use Rattle.gsmp_wire.specs.Layout.{octets_of as gsmp_octets}
-use Rattle.gsmp_wire.specs.declared.fault.Fault.{Fault as GsmpFault}
-use Rattle.gsmp_wire.specs.declared.message.Message.{Message}
-use Rattle.link_model.specs.declared.frames.Frame.{Frame}
-use Rattle.world_model.specs.Controller.{Acted, default_channel, default_home}
-use Rattle.world_model.specs.Sending.{sends_control, says_gsmp}
-use Rattle.world_model.specs.Resets.{node_restarts}
-use Rattle.world_model.specs.Performing.{Rule, at_port}
-use Rattle.world_model.specs.Changes.{change_comes}
-use Rattle.world_model.specs.Gsmp.{gsmp_holds}
+use Rattle.world_model.specs.Words.{PortNo, Channel, Cell, changed, RouteChange, Frame, default_channel, default_home, sends_control, says_gsmp, node_restarts, Rule, at_port, change_comes, gsmp_holds}
+use Rattle.world_model.specs.ipv4_forward.declared.table.Route.{Route}
+use Rattle.world_model.specs.gsmp_wire.Layout.{octets_of as gsmp_octets}
+use Rattle.world_model.specs.gsmp_wire.declared.fault.Fault.{Fault as GsmpFault}
+use Rattle.world_model.specs.gsmp_wire.declared.message.Message.{Message}
+use Rattle.world_model.specs.Controller.{Acted}
 use Rattle.world_model.specs.Ticks.{ticks}
 use Rattle.run_facts.proofs.Walks as walks
 use Rattle.run_facts.proofs.Walks.{Sees, Has}

@@ -2,38 +2,18 @@
 
 use Rattle.std.proofs.Common.{◌≡◌, ℕ, suc, ◌<◌, ◌+◌, List, [], ◌∷◌, ◌++◌, length, length-append, slice_get, Option, None, Some, refl, sym, ◌∙◌, ap, subst, arith, append_assoc}
 use Rattle.std.specs.Option.{option_map_or}
-use Rattle.net_types.specs.declared.node.NodeId.{NodeId}
-use Rattle.net_types.specs.declared.node.Place.{Place}
-use Rattle.net_types.specs.declared.node.Place.TheVariants.{Down, Up, Out}
-use Rattle.atm_cells.specs.declared.cell.Cell.{Cell}
-use Rattle.ipv4_forward.specs.Best.{best}
-use Rattle.ipv4_packet.specs.Packet.{destination_of}
-use Rattle.link_model.specs.declared.record.Refusal.{Refusal}
-use Rattle.port_model.specs.Setup.{Policy}
-use Rattle.world_model.specs.Fates.{Fate}
+use Rattle.world_model.specs.Words.{NodeId, Place, Down, Up, Out, Cell, best, destination_of, Refusal, Policy, Fate, inject_refusal, tick_comes, restarted, forged, node_restarts, Forged, next_control, with_control, control_port, change_comes, Topology, Node, World, Site, site_at, controller_acts, switch_acts, with_opened, opens_each, empty_world, place_node, queue_at, with_queue_of, with_queue, injects_by, arrives_at, arrives, carries_head, loses_head, forges, put_away, next, worlds_from, world_after, records_of, sent_by, table_in, Reaches, hops, HasReached, IsFateAt, delivered, without_route, expired, Past, past_of, IsRun, IsTame, is_wild, WasAccepted, IsTopology}
 use Rattle.world_model.specs.Switch as switches
 use Rattle.world_model.specs.Controller as controllers
-use Rattle.world_model.specs.Packets.{inject_refusal}
 use Rattle.world_model.specs.Ticks.{ticks}
-use Rattle.world_model.specs.Conduct.{tick_comes, restarted, forged}
-use Rattle.world_model.specs.Resets.{node_restarts}
-use Rattle.link_model.specs.declared.record.Record.TheVariants.{Forged}
-use Rattle.net_types.specs.Number.{next_control, with_control}
 use Rattle.world_model.specs.Sending.{sends}
-use Rattle.world_model.specs.Switch.{control_port}
-use Rattle.world_model.specs.Changes.{change_comes}
 use Rattle.world_model.specs.declared.event.Event.{Event}
 use Rattle.world_model.specs.declared.event.Event.TheVariants.{Inject, Carry, Lose, Tick, TickSwitch, Restart, RestartSwitch, Forge, Route}
 use Rattle.world_model.specs.declared.link.LinkEnd.{LinkEnd}
-use Rattle.world_model.specs.Topology.{Topology, Node, peer_of}
-use Rattle.world_model.specs.World.{World, Site, site_at, controller_acts, switch_acts, with_opened, opens_each, empty_world, opened}
-use Rattle.world_model.specs.Places.{place_node, queue_at, with_queue_of, with_queue}
-use Rattle.world_model.specs.Step.{note, injects_by, arrives_at, arrives, carries_head, loses_head, forges, acts}
-use Rattle.world_model.specs.Run.{put_away, next, worlds_from, world_after, records_of}
-use Rattle.world_model.specs.Reached.{Sent, sent_by, table_in, Reaches, taken, hops, HasReached, IsFateAt, delivered, without_route, expired}
-use Rattle.world_model.specs.Past.{Past, past_of}
-use Rattle.world_model.specs.Headline.{IsRun, IsTame, is_wild, WasAccepted}
-use Rattle.world_model.specs.Conditions.{IsTopology}
+use Rattle.world_model.specs.Topology.{peer_of}
+use Rattle.world_model.specs.World.{opened}
+use Rattle.world_model.specs.Step.{note, acts}
+use Rattle.world_model.specs.Reached.{Sent, taken}
 use Rattle.world_views.specs.Kept.{behind}
 use Rattle.run_facts.specs.Steps.{PastsAreWhole, IsStep, EventsAreSteps, Stays, PastsStay, RunsHaveFronts}
 use Rattle.run_facts.proofs.Lists.{front_get, front_same, any_none, flat_one}

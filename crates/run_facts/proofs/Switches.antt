@@ -5,50 +5,30 @@ use Rattle.std.specs.Prelude.{◌==◌, ◌&&◌, nat_le, nat_lt}
 use Rattle.std.specs.FinMap.{get, keys}
 use Rattle.std.specs.List.{range_with_len}
 use Rattle.std.specs.Prelude.{◌/◌}
-use Rattle.net_types.specs.declared.node.PortNo.{PortNo}
-use Rattle.net_types.specs.declared.channel.Channel.{Channel}
-use Rattle.net_types.specs.declared.channel.End.{End}
-use Rattle.net_types.specs.declared.number.Mark.{Mark}
-use Rattle.net_types.specs.declared.adjacency.Party.{Party}
-use Rattle.net_types.specs.Number.{with_control}
-use Rattle.atm_cells.specs.declared.cell.Cell.{Cell}
-use Rattle.aal5_frames.specs.Frame.{cells_with, cell_of, pdu_of}
-use Rattle.adjacency_table.specs.declared.message.Said.{Said}
-use Rattle.adjacency_table.specs.declared.message.Answer.{Answer}
-use Rattle.adjacency_table.specs.declared.message.Answer.TheVariants.{Quiet, Send, Open, Reset}
-use Rattle.adjacency_table.specs.Side.{Side, Step, is_estab, ticked, followed_tick, counted}
-use Rattle.adjacency_table.specs.Table.{Reply, Silent, Says, Resets, tick_reply}
-use Rattle.adjacency_table.specs.Greeting.{greeting_of, gsmp_answer, gsmp_received}
-use Rattle.gsmp_wire.specs.declared.fault.Fault.{Fault}
-use Rattle.gsmp_wire.specs.declared.message.Message.{Message}
-use Rattle.gsmp_wire.specs.declared.message.Message.TheVariants as messages
-use Rattle.gsmp_wire.specs.declared.request.Request.{Request}
-use Rattle.gsmp_wire.specs.declared.request.Request.TheVariants.{AddBranch, MoveBranch, DeleteTree, VerifyTree, DeleteAll, PortManagement, AllPorts}
-use Rattle.gsmp_wire.specs.Layout.{octets_of}
-use Rattle.gsmp_wire.specs.Fields.{decoded}
-use Rattle.link_model.specs.Notes.{Journal, noted}
-use Rattle.link_model.specs.declared.record.Record.TheVariants.{Loss, Bad}
-use Rattle.link_model.specs.declared.record.Cause.TheVariants.{PoolFull, Cut, Unconnected}
-use Rattle.link_model.specs.declared.record.Layer.TheVariants.{Gsmp}
-use Rattle.refusal_names.specs.Names.{gsmp_refusal}
-use Rattle.frame_model.specs.Sending.{Sent}
-use Rattle.frame_model.specs.Frame.{frame_cells, made, Tested, tested}
-use Rattle.frame_model.specs.Reassembly.{Taken, taken, cut}
-use Rattle.ordered_lists.specs.Ordered.{Every}
-use Rattle.ordered_lists.proofs.Every.{every_join, every_map}
-use Rattle.port_facts.proofs.Keyed.{on_both}
-use Rattle.crossbar_model.specs.declared.branch.Branch.{Branch}
-use Rattle.crossbar_model.specs.declared.routed.Routed.{Routed}
-use Rattle.crossbar_model.specs.declared.routed.Routed.TheVariants as routes
-use Rattle.crossbar_model.specs.Crossbar.{Crossbar, queue_of, sent, switched_on, input_of, on_channel_of, routed, cut_by_move}
+use Rattle.world_model.specs.Words.{PortNo, Channel, End, Mark, Party, with_control, Cell, Said, Answer, Quiet, Send, Open, Side, Step, is_estab, ticked, followed_tick, Reply, Silent, Says, Resets, tick_reply, greeting_of, gsmp_answer, gsmp_received, Request, AddBranch, MoveBranch, DeleteTree, VerifyTree, PortManagement, Journal, noted, Loss, Bad, PoolFull, Cut, Unconnected, Gsmp, gsmp_refusal, frame_cells, made, Tested, tested, cut, Routed, Crossbar, queue_of, sent, switched_on, on_channel_of, routed, cut_by_move, Switch, control_port, gsmp_channel, Changed, asked_in, is_request, noted_cut, moved_by, ended_by, all_ended, inputs_on, branches_after, failure_of, Handled, handled, handled_asked, handled_by, reset, replied, requested, read, gsmp_cell, switched_cell, is_gsmp, restarted}
+use Rattle.lifetimes.specs.aal5_frames.Frame.{cells_with, cell_of, pdu_of}
+use Rattle.world_model.specs.adjacency_table.declared.message.Answer.TheVariants.{Reset}
+use Rattle.world_model.specs.adjacency_table.Side.{counted}
+use Rattle.world_model.specs.gsmp_wire.declared.fault.Fault.{Fault}
+use Rattle.world_model.specs.gsmp_wire.declared.message.Message.{Message}
+use Rattle.world_model.specs.gsmp_wire.declared.message.Message.TheVariants as messages
+use Rattle.world_model.specs.gsmp_wire.declared.request.Request.TheVariants.{DeleteAll, AllPorts}
+use Rattle.world_model.specs.gsmp_wire.Layout.{octets_of}
+use Rattle.world_model.specs.gsmp_wire.Fields.{decoded}
+use Rattle.world_model.specs.frame_model.Sending.{Sent}
+use Rattle.world_model.specs.frame_model.Reassembly.{Taken, taken}
+use Rattle.controller_bindings.specs.ordered_lists.Ordered.{Every}
+use Rattle.controller_bindings.proofs.ordered_lists.Every.{every_join, every_map}
+use Rattle.controller_bindings.proofs.port_facts.Keyed.{on_both}
+use Rattle.world_model.specs.crossbar_model.declared.branch.Branch.{Branch}
+use Rattle.world_model.specs.crossbar_model.declared.routed.Routed.TheVariants as routes
+use Rattle.world_model.specs.crossbar_model.Crossbar.{input_of}
 use Rattle.world_model.specs.declared.request.Asked.{Asked}
 use Rattle.world_model.specs.declared.request.Failure.{Failure}
-use Rattle.world_model.specs.Switch.{Switch, Acted, control_port, gsmp_channel, free_slots}
-use Rattle.world_model.specs.Requests.{Changed, asked_in, is_request, noted_cut, moved_by, ended_by, ended, all_ended, inputs_on, branches_after}
-use Rattle.world_model.specs.Failures.{failure_of}
-use Rattle.world_model.specs.Answers.{Handled, handled, handled_asked, handled_by}
-use Rattle.world_model.specs.Conduct.{with_cells, sends, says, reset, answers, steps, replied, requested, told, read, opened_frame, ends_frame, gsmp_cell, passed, switched_cell, is_gsmp, cell_comes, restarted}
-use Rattle.actor_pace.proofs.Cells.{every_set, every_at}
+use Rattle.world_model.specs.Switch.{Acted, free_slots}
+use Rattle.world_model.specs.Requests.{ended}
+use Rattle.world_model.specs.Conduct.{with_cells, sends, says, answers, steps, told, opened_frame, ends_frame, passed, cell_comes}
+use Rattle.world_pace.proofs.actor_pace.Cells.{every_set, every_at}
 use Rattle.run_facts.specs.Inputs.{IsMark, IsMarked, SwitchInput, CellComes, Ticks, Restarts, switch_takes}
 use Rattle.run_facts.specs.Frames.{IsFree, Stay, BindsNone}
 use Rattle.run_facts.proofs.Taking.{cut_frames, taken_frames, tested_frames, taken_chain}

@@ -4,14 +4,10 @@ use Rattle.std.proofs.Common.{◌≡◌, ℕ, ◌*◌, ◌+◌, ◌/◌, ◌%◌
 use Rattle.std.specs.Prelude.{◌==◌, ◌&&◌}
 use Rattle.std.specs.Option.{option_and_then}
 use Rattle.std.proofs.lemmas.Bool.Decides.{nat_tests}
-use Rattle.net_types.specs.declared.channel.Channel.{Channel}
-use Rattle.net_types.specs.Label.{label_number_of}
-use Rattle.ordered_lists.specs.Ordered.{Every}
-use Rattle.port_model.specs.Labels.{Label, is_bound}
-use Rattle.port_model.specs.Port.{label_at}
-use Rattle.port_facts.proofs.Keyed.{at_every, at_key}
-use Rattle.world_model.specs.Controller.{Controller, Linked, linked_at, port_key, default_channel, default_home}
-use Rattle.world_model.specs.Cells.{Taker, ForGsmp, ForDefault, ForLabel, taker_of, taker_at, label_taker, port_on, on_link, same_channel}
+use Rattle.world_model.specs.Words.{Channel, label_number_of, Label, is_bound, label_at, Controller, Linked, linked_at, port_key, default_channel, default_home, ForGsmp, ForDefault, ForLabel, taker_of, taker_at, label_taker, port_on, on_link, same_channel}
+use Rattle.controller_bindings.specs.ordered_lists.Ordered.{Every}
+use Rattle.controller_bindings.proofs.port_facts.Keyed.{at_every, at_key}
+use Rattle.world_model.specs.Cells.{Taker}
 
 -- what is so of every port is so of the one that takes
 abbrev pub OfTaker : (Linked → Type 0) → Taker → Type 0

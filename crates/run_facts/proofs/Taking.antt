@@ -2,13 +2,12 @@
 
 use Rattle.std.proofs.Common.{◌≡◌, Bool, true, subst, List, [], ◌∷◌, ◌++◌, length}
 use Rattle.std.specs.Prelude.{not, nat_le}
-use Rattle.atm_cells.specs.declared.cell.Cell.{Cell}
-use Rattle.link_model.specs.Notes.{Journal}
-use Rattle.frame_model.specs.Frame.{tested, payload_in, octets_of}
-use Rattle.frame_model.specs.Reassembly.{Reassembly, Taken, taken, passed_over, without_slot, too_long, joined, most_cells}
-use Rattle.port_facts.proofs.Keyed.{on_both, on_each}
-pub use Rattle.shown_cells.proofs.Tested.{cut_frames, taken_frames}
-use Rattle.shown_cells.proofs.Tested as cells_of
+use Rattle.world_model.specs.Words.{Cell, Journal, tested, payload_in, Reassembly, passed_over, without_slot, too_long, most_cells}
+use Rattle.world_model.specs.frame_model.Frame.{octets_of}
+use Rattle.world_model.specs.frame_model.Reassembly.{Taken, taken, joined}
+use Rattle.controller_bindings.proofs.port_facts.Keyed.{on_both, on_each}
+pub use Rattle.world_views.proofs.shown_cells.Tested.{cut_frames, taken_frames}
+use Rattle.world_views.proofs.shown_cells.Tested as cells_of
 
 -- *A test of a frame* makes no frame
 pub tested_frames : (notes : Journal) (cells : List Cell) → (tested notes cells).notes.frames ≡ notes.frames

@@ -4,37 +4,18 @@ use Rattle.std.proofs.Common.{◌≡◌, ◌≢◌, ℕ, ◌+◌, Bool, true, fa
 use Rattle.std.specs.Prelude.{◌==◌, ◌&&◌, drop, nat_le}
 use Rattle.std.specs.Option.{option_map, option_or}
 use Rattle.std.proofs.lemmas.Bool.Decides.{nat_tests}
-use Rattle.net_types.specs.declared.node.NodeId.{NodeId}
-use Rattle.net_types.specs.declared.node.PortNo.{PortNo}
-use Rattle.net_types.specs.declared.node.Place.{Place}
-use Rattle.net_types.specs.declared.node.Place.TheVariants.{Down, Up, Out}
-use Rattle.net_types.specs.declared.channel.Channel.{Channel}
-use Rattle.net_types.specs.declared.number.Mark.{Mark}
-use Rattle.net_types.specs.Number.{GivenOut, next_control, with_control}
-use Rattle.atm_cells.specs.declared.cell.Cell.{Cell}
-use Rattle.ipv4_packet.specs.declared.flow.FlowId.{FlowId}
-use Rattle.link_model.specs.declared.record.Record.{Record}
-use Rattle.link_model.specs.declared.record.Record.TheVariants.{Bind, Loss, Forged, Refused}
-use Rattle.link_model.specs.declared.record.Cause.TheVariants.{PoolFull, Lost}
-use Rattle.link_model.specs.declared.record.Refusal.{Refusal}
-use Rattle.link_model.specs.Notes.{Journal, noted}
-use Rattle.frame_model.specs.Sending.{Sent}
-use Rattle.frame_model.specs.Frame.{frame_cells, made}
-use Rattle.ordered_lists.specs.Ordered.{Every}
-use Rattle.keyed_lists.specs.Keyed.{at, put}
-use Rattle.port_facts.proofs.Keyed.{on_both, by_eq, at_key, at_every, at_put_same}
+use Rattle.world_model.specs.Words.{NodeId, PortNo, Place, Down, Up, Out, Channel, Mark, GivenOut, next_control, with_control, Cell, FlowId, Record, Bind, Loss, Forged, Refused, PoolFull, Lost, Refusal, Journal, noted, frame_cells, made, at, put, Switch, control_port, Controller, inject_refusal, injected, node_restarts, change_comes, Topology, World, Site, site_key, site_at, controller_at, controller_acts, switch_acts, queue_at, with_queue_in, with_queue_of, with_queue, injects_by, arrives_at, carries_head, loses_head, forges_at, forges, put_away, next, bound_by, last_bound}
+use Rattle.world_model.specs.frame_model.Sending.{Sent}
+use Rattle.controller_bindings.specs.ordered_lists.Ordered.{Every}
+use Rattle.controller_bindings.proofs.port_facts.Keyed.{on_both, by_eq, at_key, at_every, at_put_same}
 use Rattle.world_model.specs.Switch as switches
-use Rattle.world_model.specs.Switch.{Switch, control_port}
 use Rattle.world_model.specs.Conduct as switch
-use Rattle.world_model.specs.Controller.{Controller, Acted, free_slots}
-use Rattle.world_model.specs.Packets.{inject_refusal, injected}
+use Rattle.world_model.specs.Controller.{Acted, free_slots}
 use Rattle.world_model.specs.Sending.{with_cells, sends}
 use Rattle.world_model.specs.Cells as controller
 use Rattle.world_model.specs.Ticks as controller_ticks
-use Rattle.world_model.specs.Resets.{node_restarts}
-use Rattle.world_model.specs.Changes.{change_comes}
-use Rattle.controller_facts.specs.Inputs.{Input, CellComes, PacketEnters, Ticks, Restarts, ChangeComes, FrameIsForged, CellLeaves, Meanwhile, enters_unless, takes_input, takes_inputs}
-use Rattle.controller_facts.specs.Sound.{IsOwn, opened_by}
+use Rattle.controller_bindings.specs.controller_facts.Inputs.{Input, CellComes, PacketEnters, Ticks, Restarts, ChangeComes, FrameIsForged, CellLeaves, Meanwhile, enters_unless, takes_input, takes_inputs}
+use Rattle.controller_bindings.specs.controller_facts.Sound.{IsOwn, opened_by}
 use Rattle.controller_bindings.specs.Bindings.{site, IsOfNode, noted_by}
 use Rattle.controller_bindings.proofs.Laws.{notes_own}
 use Rattle.run_facts.specs.Inputs as turns
@@ -47,12 +28,9 @@ use Rattle.lifetimes.proofs.Feeding.{inputs_join, acted_by, number_isnt}
 use Rattle.world_model.specs.declared.event.Event.{Event}
 use Rattle.world_model.specs.declared.event.Event.TheVariants.{Inject, Carry, Lose, Tick, TickSwitch, Restart, RestartSwitch, Forge, Route}
 use Rattle.world_model.specs.declared.link.LinkEnd.{LinkEnd}
-use Rattle.world_model.specs.Topology.{Topology, peer_of}
-use Rattle.world_model.specs.World.{World, Site, site_key, site_at, controller_at, controller_acts, at_controller, switch_acts, at_switch}
-use Rattle.world_model.specs.Places.{queue_at, with_queue_in, with_queue_of, with_queue}
-use Rattle.world_model.specs.Step.{note, injects_by, arrives_at, carries_head, loses_head, forges_at, forges}
-use Rattle.world_model.specs.Run.{put_away, next}
-use Rattle.world_model.specs.Past.{bound_by, last_bound}
+use Rattle.world_model.specs.Topology.{peer_of}
+use Rattle.world_model.specs.World.{at_controller, at_switch}
+use Rattle.world_model.specs.Step.{note}
 use Rattle.run_facts.proofs.Marked.{WorldMarked, queue_marked, queue_popped}
 use Rattle.run_facts.proofs.Runs.{Any}
 use Rattle.run_facts.proofs.Opened.{always_named}

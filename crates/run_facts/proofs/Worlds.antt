@@ -1,31 +1,15 @@
 -- each event leaves marks that were given out, and draws new instances
 
 use Rattle.std.proofs.Common.{◌≡◌, ℕ, ◌+◌, List, [], ◌∷◌, Option, None, Some, refl, sym, ◌∙◌, ap, subst, arith, inl}
-use Rattle.net_types.specs.declared.node.NodeId.{NodeId}
-use Rattle.net_types.specs.declared.node.PortNo.{PortNo}
-use Rattle.net_types.specs.declared.node.Place.{Place}
-use Rattle.net_types.specs.declared.node.Place.TheVariants.{Down, Up, Out}
-use Rattle.net_types.specs.declared.channel.Channel.{Channel}
-use Rattle.net_types.specs.Number.{GivenOut, next_control, with_control}
-use Rattle.atm_cells.specs.declared.cell.Cell.{Cell}
-use Rattle.ipv4_forward.specs.declared.change.RouteChange.{RouteChange}
-use Rattle.ipv4_forward.specs.declared.table.Next.{Next}
-use Rattle.link_model.specs.declared.record.Record.{Record}
-use Rattle.link_model.specs.declared.record.Record.TheVariants.{Forged}
-use Rattle.link_model.specs.declared.record.Refusal.{Refusal}
-use Rattle.keyed_lists.specs.Keyed.{at, put}
-use Rattle.port_facts.proofs.Keyed.{at_key, at_every, at_put_same, put_every}
-use Rattle.world_model.specs.Switch.{control_port}
+use Rattle.world_model.specs.Words.{NodeId, PortNo, Place, Down, Up, Out, Channel, GivenOut, next_control, with_control, Cell, RouteChange, Next, Record, Forged, Refusal, at, put, control_port, inject_refusal, injected, sends_control, node_restarts, change_comes, Topology, with_site, World, Site, site_key, site_at, controller_acts, switch_acts, queue_at, with_queue_in, with_queue_of, with_queue, injects_by, injects, arrives_at, arrives, carries_head, loses_head, forges_at, forges}
+use Rattle.controller_bindings.proofs.port_facts.Keyed.{at_key, at_every, at_put_same, put_every}
 use Rattle.world_model.specs.Conduct as switch
 use Rattle.world_model.specs.Controller.{Acted}
-use Rattle.world_model.specs.Packets.{inject_refusal, injected}
-use Rattle.world_model.specs.Sending.{sends, sends_control}
+use Rattle.world_model.specs.Sending.{sends}
 use Rattle.world_model.specs.Cells as controller
 use Rattle.world_model.specs.Ticks as controller_ticks
-use Rattle.world_model.specs.Resets.{node_restarts}
-use Rattle.world_model.specs.Changes.{change_comes}
-use Rattle.controller_facts.specs.Inputs.{Input, CellComes, PacketEnters, Ticks, Restarts, ChangeComes, enters_unless, takes_input}
-use Rattle.controller_facts.specs.Sound.{IsOwn}
+use Rattle.controller_bindings.specs.controller_facts.Inputs.{Input, CellComes, PacketEnters, Ticks, Restarts, ChangeComes, enters_unless, takes_input}
+use Rattle.controller_bindings.specs.controller_facts.Sound.{IsOwn}
 use Rattle.run_facts.specs.Inputs as turns
 use Rattle.run_facts.proofs.Switches as switching
 use Rattle.run_facts.proofs.Switches.{sends_leave}
@@ -35,10 +19,9 @@ use Rattle.run_facts.proofs.Controllers.{IsLeft, control_leaves, May}
 use Rattle.world_model.specs.declared.event.Event.{Event}
 use Rattle.world_model.specs.declared.event.Event.TheVariants.{Inject, Carry, Lose, Tick, TickSwitch, Restart, RestartSwitch, Forge, Route}
 use Rattle.world_model.specs.declared.link.LinkEnd.{LinkEnd}
-use Rattle.world_model.specs.Topology.{Topology, peer_of}
-use Rattle.world_model.specs.World.{with_site, World, Site, site_key, site_at, controller_acts, at_controller, switch_acts, at_switch}
-use Rattle.world_model.specs.Places.{queue_at, with_queue_in, with_queue_of, with_queue}
-use Rattle.world_model.specs.Step.{note, injects_by, injects, arrives_at, arrives, carries_head, loses_head, forges_at, forges, acts}
+use Rattle.world_model.specs.Topology.{peer_of}
+use Rattle.world_model.specs.World.{at_controller, at_switch}
+use Rattle.world_model.specs.Step.{note, acts}
 use Rattle.run_facts.proofs.Marked.{Kind, IsController, IsSwitch, IsPort, own_as, SiteMarked, WorldMarked, sites_later, queue_marked, Popped, queue_popped, site_draws}
 use Rattle.run_facts.proofs.Acting.{IsWhole, sent_same, Left, still, then_left, acting, is_left, site_of, controller_left, turning, turned, switch_by, switch_left}
 

@@ -1,16 +1,8 @@
 -- The chains of GSMP's channel have taken cells of that channel alone
 
 use Rattle.std.specs.Prelude.{◌≡◌, true, List, ◌++◌, Contains}
-use Rattle.net_types.specs.declared.node.NodeId.{NodeId}
-use Rattle.atm_cells.specs.declared.cell.Cell.{Cell}
-use Rattle.port_model.specs.Setup.{Policy}
-use Rattle.world_model.specs.Controller.{default_channel}
-use Rattle.world_model.specs.Cells.{same_channel}
+use Rattle.world_model.specs.Words.{NodeId, Cell, Policy, default_channel, same_channel, Topology, World, requests_chain_at, answers_chain_at, past_of}
 use Rattle.world_model.specs.declared.event.Event.{Event}
-use Rattle.world_model.specs.Topology.{Topology}
-use Rattle.world_model.specs.World.{World}
-use Rattle.world_model.specs.Ways.{requests_chain_at, answers_chain_at}
-use Rattle.world_model.specs.Past.{past_of}
 
 -- those of each switch and of each controller
 abbrev pub HasOwnChains : World → Type 0

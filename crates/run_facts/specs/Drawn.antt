@@ -2,15 +2,9 @@
 
 use Rattle.std.specs.Prelude.{◌≡◌, ℕ, ◌<◌, ◌≤◌, List, Contains, Option, Some, ◌⊎◌}
 use Rattle.std.specs.Option.{option_map}
-use Rattle.net_types.specs.declared.node.NodeId.{NodeId}
-use Rattle.port_model.specs.Setup.{Policy}
+use Rattle.world_model.specs.Words.{NodeId, Policy, Topology, World, site_at, next, side_at, Past, past_of}
 use Rattle.world_model.specs.declared.event.Event.{Event}
 use Rattle.world_model.specs.declared.link.LinkEnd.{LinkEnd}
-use Rattle.world_model.specs.Topology.{Topology}
-use Rattle.world_model.specs.World.{World, site_at}
-use Rattle.world_model.specs.Run.{next}
-use Rattle.world_model.specs.Ways.{side_at}
-use Rattle.world_model.specs.Past.{Past, past_of}
 
 -- *Who draws instances*: the controller of a node, its switch, a port of a link
 pub data Holder : Type 0 where

@@ -1,12 +1,8 @@
 -- What is made of frames, and what is noted
 
 use Rattle.std.specs.Prelude.{◌≡◌, ℕ, ◌<◌, List, Some, None}
-use Rattle.net_types.specs.declared.number.Mark.{Mark}
-use Rattle.link_model.specs.declared.frames.Frame.{Frame}
-use Rattle.link_model.specs.declared.record.Record.{Record}
-use Rattle.link_model.specs.Ledger.{payload_of}
+use Rattle.world_model.specs.Words.{Mark, Frame, Record, payload_of, last_bound}
 use Rattle.world_model.specs.declared.link.LinkEnd.{LinkEnd}
-use Rattle.world_model.specs.Past.{last_bound}
 
 -- nothing is made under the control marks that weren't given out
 abbrev pub IsFree : (controls : ℕ) → List Frame → Type 0

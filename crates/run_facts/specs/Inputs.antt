@@ -1,11 +1,9 @@
 -- What may come to a switch, and which marks are given out
 
 use Rattle.std.specs.Prelude.{◌≡◌, ℕ, ◌<◌, ◌≤◌}
-use Rattle.net_types.specs.declared.node.PortNo.{PortNo}
-use Rattle.net_types.specs.declared.number.Mark.{Mark}
-use Rattle.atm_cells.specs.declared.cell.Cell.{Cell}
+use Rattle.world_model.specs.Words.{PortNo, Mark, Cell, tick_comes, restarted}
 use Rattle.world_model.specs.Switch.{Acted}
-use Rattle.world_model.specs.Conduct.{cell_comes, tick_comes, restarted}
+use Rattle.world_model.specs.Conduct.{cell_comes}
 
 -- a cell comes on a port, a tick, a restart
 pub data SwitchInput : Type 0 where

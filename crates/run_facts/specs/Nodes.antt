@@ -1,36 +1,20 @@
 -- What is so of each node in every run, forged frames or not
 
 use Rattle.std.specs.Prelude.{◌≡◌, ◌*◌, ◌≤◌, true, List, ◌∷◌, length, map, Contains, Some}
-use Rattle.net_types.specs.declared.node.NodeId.{NodeId}
-use Rattle.net_types.specs.declared.node.PortNo.{PortNo}
-use Rattle.net_types.specs.declared.node.Place.{Place}
-use Rattle.net_types.specs.Number.{HasNumbersLeft}
-use Rattle.atm_cells.specs.declared.cell.Cell.{Cell}
-use Rattle.ipv4_forward.specs.declared.change.RouteChange.{RouteChange}
-use Rattle.ipv4_forward.specs.declared.table.Route.{Route}
-use Rattle.ordered_lists.specs.Ordered.{Every}
-use Rattle.crossbar_model.specs.Channels.{IsLinkPort, ArePorts}
-use Rattle.world_model.specs.Switch.{control_port, numbers_of}
-use Rattle.port_model.specs.Setup.{Policy, Setup}
-use Rattle.port_facts.specs.Port.{IsRanged}
-use Rattle.port_widths.specs.Widths.{FitsSetup}
-use Rattle.world_model.specs.Controller.{Controller, Linked, linked_at, ports_of}
-use Rattle.world_model.specs.Opening.{setup_of}
-use Rattle.controller_facts.specs.Sound.{IsSound}
-use Rattle.controller_facts.specs.Said.{HasFlowingPorts}
-use Rattle.controller_facts.specs.Conditions.{HasGrantedJoins, HasMovingRequests}
-use Rattle.controller_law.specs.Order.{IsOrderly}
-use Rattle.controller_law.specs.Match.{IsMatched}
+use Rattle.world_model.specs.Words.{NodeId, PortNo, Place, HasNumbersLeft, Cell, RouteChange, IsLinkPort, ArePorts, control_port, numbers_of, Policy, Setup, Controller, Linked, linked_at, setup_of, Topology, Node, node_at, ranges_of, timers_of, is_linked, IsNode, IsLinkedNext, IsLinkedChange, World, Site, site_at, queue_at, Past, past_of, IsRun}
+use Rattle.world_model.specs.ipv4_forward.declared.table.Route.{Route}
+use Rattle.controller_bindings.specs.ordered_lists.Ordered.{Every}
+use Rattle.controller_bindings.specs.port_facts.Port.{IsRanged}
+use Rattle.world_views.specs.port_widths.Widths.{FitsSetup}
+use Rattle.world_model.specs.Controller.{ports_of}
+use Rattle.controller_bindings.specs.controller_facts.Sound.{IsSound}
+use Rattle.controller_bindings.specs.controller_facts.Said.{HasFlowingPorts}
+use Rattle.controller_bindings.specs.controller_facts.Conditions.{HasGrantedJoins, HasMovingRequests}
+use Rattle.controller_bindings.specs.controller_law.Order.{IsOrderly}
+use Rattle.controller_bindings.specs.controller_law.Match.{IsMatched}
 use Rattle.controller_bindings.specs.Bindings.{HasBoundLabels, HasLedJoins, GathersForBound}
 use Rattle.world_model.specs.declared.event.Event.{Event}
 use Rattle.world_model.specs.Topology as topologies
-use Rattle.world_model.specs.Topology.{Topology, Node, node_at, ranges_of, timers_of}
-use Rattle.world_model.specs.Lines.{is_linked}
-use Rattle.world_model.specs.Conditions.{IsNode, IsLinkedNext, IsLinkedChange}
-use Rattle.world_model.specs.World.{World, Site, site_at}
-use Rattle.world_model.specs.Places.{queue_at}
-use Rattle.world_model.specs.Past.{Past, past_of}
-use Rattle.world_model.specs.Headline.{IsRun}
 use Rattle.world_views.specs.Shown.{acting}
 use Rattle.world_views.specs.Between.{EachSite, setups_of}
 use Rattle.world_views.specs.Kept.{HasAddresses}

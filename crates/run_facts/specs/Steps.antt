@@ -1,19 +1,10 @@
 -- What an event adds to a past, and what of a past stays so
 
 use Rattle.std.specs.Prelude.{◌≡◌, ℕ, suc, ◌<◌, List, [], ◌∷◌, ◌++◌, length, slice_get, Some}
-use Rattle.net_types.specs.declared.node.NodeId.{NodeId}
-use Rattle.port_model.specs.Setup.{Policy}
-use Rattle.world_model.specs.Fates.{Fate}
-use Rattle.shown_cells.specs.Seen.{Extends}
+use Rattle.world_model.specs.Words.{NodeId, Policy, Fate, Topology, CanCome, next, Reaches, HasReached, sent_by, table_in, Past, past_of, frames_of, WasCleared, IsRun, IsTame, WasAccepted, IsTrueFate}
+use Rattle.world_views.specs.shown_cells.Seen.{Extends}
 use Rattle.world_model.specs.declared.event.Event.{Event}
 use Rattle.world_model.specs.declared.link.LinkEnd.{LinkEnd}
-use Rattle.world_model.specs.Topology.{Topology}
-use Rattle.world_model.specs.Conditions.{CanCome}
-use Rattle.world_model.specs.Run.{next}
-use Rattle.world_model.specs.Reached.{Reaches, HasReached, sent_by, table_in}
-use Rattle.world_model.specs.Past.{Past, past_of, frames_of}
-use Rattle.world_model.specs.Owned.{WasCleared}
-use Rattle.world_model.specs.Headline.{IsRun, IsTame, WasAccepted, IsTrueFate}
 use Rattle.world_views.specs.Marks.{HasCome}
 use Rattle.world_views.specs.Between.{IsWorld}
 use Rattle.world_views.specs.Kept.{Comes, behind}

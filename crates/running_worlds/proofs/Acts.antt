@@ -2,31 +2,20 @@
 
 use Rattle.std.proofs.Common.{◌≡◌, ℕ, ◌≤◌, List, ◌∷◌, length, Option, None, Some, refl, sym, ◌∙◌, ap, subst, arith, inr}
 use Rattle.std.specs.FinMap.{get}
-use Rattle.net_types.specs.declared.channel.End.{End}
-use Rattle.net_types.specs.declared.node.NodeId.{NodeId}
-use Rattle.net_types.specs.declared.node.PortNo.{PortNo}
-use Rattle.net_types.specs.Number.{GivenOut}
-use Rattle.crossbar_model.specs.Channels.{IsLinkPort}
-use Rattle.crossbar_model.specs.Crossbar.{queue_of}
-use Rattle.link_model.specs.declared.frames.Frame.{Frame}
-use Rattle.link_model.specs.Ledger.{payload_of}
-use Rattle.link_model.specs.Notes.{Journal}
-use Rattle.ordered_lists.specs.Ordered.{Every}
+use Rattle.world_model.specs.Words.{End, NodeId, PortNo, GivenOut, IsLinkPort, queue_of, Frame, payload_of, Journal, control_port, numbers_of, Setup, World, Site, site_at, with_site, controller_acts, switch_acts, FitsRows}
+use Rattle.frame_readings.specs.ordered_lists.Ordered.{Every}
 use Rattle.world_model.specs.Switch as switches
-use Rattle.world_model.specs.Switch.{control_port, numbers_of}
-use Rattle.port_model.specs.Setup.{Setup}
 use Rattle.world_model.specs.Controller.{Acted, ports_of}
-use Rattle.controller_facts.specs.Sound.{IsSound}
-use Rattle.controller_law.specs.Order.{IsOrderly}
-use Rattle.controller_law.specs.Match.{IsMatched}
-use Rattle.controller_law.proofs.Whole.{Whole}
-use Rattle.world_model.specs.World.{World, Site, site_at, with_site, controller_acts, at_controller, switch_acts, at_switch}
-use Rattle.gsmp_wire.specs.Range.{FitsRows}
-use Rattle.input_steps.specs.Hearing.{LeadsAway}
-use Rattle.input_premises.proofs.Reading.{are_read}
+use Rattle.frame_readings.specs.controller_facts.Sound.{IsSound}
+use Rattle.input_events.specs.controller_law.Order.{IsOrderly}
+use Rattle.input_events.specs.controller_law.Match.{IsMatched}
+use Rattle.input_events.proofs.controller_law.Whole.{Whole}
+use Rattle.world_model.specs.World.{at_controller, at_switch}
+use Rattle.input_events.specs.input_steps.Hearing.{LeadsAway}
+use Rattle.input_events.proofs.input_premises.Reading.{are_read}
 use Rattle.input_events.specs.Coming.{GoesByLinks, TellsPorts}
-use Rattle.world_views.specs.Between.{EachSite, setups_of}
-use Rattle.world_views.specs.Shown.{acting}
+use Rattle.frame_readings.specs.world_views.Between.{EachSite, setups_of}
+use Rattle.frame_readings.specs.world_views.Shown.{acting}
 use Rattle.running_worlds.specs.Mode.{Mode, Knows}
 use Rattle.running_worlds.specs.New.{AsksShaped, TellsUp, control_mark}
 use Rattle.running_worlds.proofs.Asking as asking

@@ -3,58 +3,35 @@
 use Rattle.std.proofs.Common.{◌≡◌, ℕ, Bool, true, false, not, List, [], ◌∷◌, map, filter, find, length, Option, None, Some, Result, Ok, Err, refl, sym, ◌∙◌, ap, subst, arith, if◌then◌else◌}
 use Rattle.std.specs.Prelude.{◌==◌, ◌&&◌, nat_le}
 use Rattle.std.proofs.lemmas.Bool.Decides.{nat_tests}
-use Rattle.net_types.specs.declared.adjacency.Party.{Party}
-use Rattle.net_types.specs.declared.node.PortNo.{PortNo}
-use Rattle.net_types.specs.declared.number.Mark.{Mark}
-use Rattle.adjacency_table.specs.declared.message.Answer.{Answer}
-use Rattle.adjacency_table.specs.declared.message.Answer.TheVariants.{Quiet, Send, Open, Reset}
-use Rattle.adjacency_table.specs.declared.message.Said.{Said}
-use Rattle.adjacency_table.specs.Side as sides
-use Rattle.adjacency_table.specs.Side.{Side, is_estab, is_open}
-use Rattle.adjacency_table.specs.Greeting.{greeting_of, gsmp_answer, gsmp_received, heard_in, same_party}
-use Rattle.atm_cells.specs.declared.cell.Cell.{Cell}
-use Rattle.crossbar_model.specs.Channels.{IsLinkPort}
-use Rattle.gsmp_wire.specs.declared.fault.Fault.{Fault}
-use Rattle.gsmp_wire.specs.declared.message.BranchKind.{BranchKind}
-use Rattle.gsmp_wire.specs.declared.message.BranchKind.TheVariants as kinds
-use Rattle.gsmp_wire.specs.declared.message.Message.{Message}
-use Rattle.gsmp_wire.specs.declared.message.Message.TheVariants as messages
-use Rattle.gsmp_wire.specs.declared.request.Request.{Request}
-use Rattle.gsmp_wire.specs.declared.request.Request.TheVariants.{AddBranch, MoveBranch, DeleteTree, VerifyTree, DeleteAll, PortManagement, AllPorts}
-use Rattle.gsmp_wire.specs.declared.rows.PortRow.{PortRow}
-use Rattle.link_model.specs.declared.frames.Frame.{Frame}
-use Rattle.link_model.specs.declared.record.Layer.TheVariants.{Gsmp}
-use Rattle.link_model.specs.declared.record.Record.TheVariants.{Bad, Loss}
-use Rattle.link_model.specs.declared.record.Cause.TheVariants.{PoolFull}
-use Rattle.link_model.specs.Notes.{noted}
-use Rattle.frame_model.specs.Frame.{frame_cells, made}
-use Rattle.frame_model.specs.Sending.{Sent}
-use Rattle.gsmp_wire.specs.Layout.{octets_of as gsmp_octets}
-use Rattle.net_types.specs.Number.{next_control, with_control}
-use Rattle.ordered_lists.specs.Ordered.{Every}
-use Rattle.ordered_lists.proofs.Parts.{part_filtered, every_part}
-use Rattle.refusal_names.specs.Names.{gsmp_refusal}
-use Rattle.port_model.specs.Desk.{Standing}
-use Rattle.port_model.specs.DeskAnswers.{Head, head_of, is_branch_of, is_of_type, succeeded, outcome, answered_with, after_answer, Answered, Unknown, Done, Ports, Failed}
-use Rattle.port_model.specs.Setup.{Setup}
-use Rattle.port_facts.specs.Port.{IsShaped}
-use Rattle.port_facts.proofs.Keyed.{on_both}
-use Rattle.port_facts.proofs.Found.{find_every, find_passes}
-use Rattle.port_facts.proofs.Turns.{IsTurned, received_turns}
-use Rattle.port_facts.proofs.Rules.{and_second}
-use Rattle.world_model.specs.Controller.{Controller, Acted, Linked, free_slots, ports_of, with_desk, default_channel}
-use Rattle.world_model.specs.Sending.{with_cells, says_gsmp}
-use Rattle.world_model.specs.Meeting.{takes_answer}
-use Rattle.world_model.specs.Gsmp.{answers, steps, told, gsmp_holds}
-use Rattle.controller_facts.specs.Sound.{linked_setup}
-use Rattle.controller_facts.proofs.Moves.{answering, moves_to, moves_ports}
-use Rattle.controller_facts.proofs.Laws.{has_ports}
-use Rattle.controller_law.specs.Order.{IsMeeting, IsDeleting, IsOther, listing, emptying}
-use Rattle.controller_law.proofs.Entering.{both_not}
-use Rattle.controller_law.proofs.Whole.{Whole}
-use Rattle.input_steps.proofs.Resets.{note_still}
-use Rattle.input_premises.specs.Read.{AreRead}
-use Rattle.input_premises.proofs.Reading.{are_read}
+use Rattle.world_model.specs.Words.{Party, PortNo, Mark, Answer, Quiet, Send, Open, Said, Side, is_estab, is_open, greeting_of, gsmp_answer, gsmp_received, heard_in, same_party, Cell, IsLinkPort, BranchKind, Request, AddBranch, MoveBranch, DeleteTree, VerifyTree, PortManagement, PortRow, Frame, Gsmp, Bad, Loss, PoolFull, noted, frame_cells, made, next_control, with_control, gsmp_refusal, Standing, Head, head_of, is_branch_of, is_of_type, succeeded, outcome, answered_with, after_answer, Answered, Unknown, Done, Ports, Failed, Setup, Controller, Linked, with_desk, default_channel, says_gsmp, takes_answer, gsmp_holds}
+use Rattle.world_model.specs.adjacency_table.declared.message.Answer.TheVariants.{Reset}
+use Rattle.world_model.specs.adjacency_table.Side as sides
+use Rattle.world_model.specs.gsmp_wire.declared.fault.Fault.{Fault}
+use Rattle.world_model.specs.gsmp_wire.declared.message.BranchKind.TheVariants as kinds
+use Rattle.world_model.specs.gsmp_wire.declared.message.Message.{Message}
+use Rattle.world_model.specs.gsmp_wire.declared.message.Message.TheVariants as messages
+use Rattle.world_model.specs.gsmp_wire.declared.request.Request.TheVariants.{DeleteAll, AllPorts}
+use Rattle.world_model.specs.frame_model.Sending.{Sent}
+use Rattle.world_model.specs.gsmp_wire.Layout.{octets_of as gsmp_octets}
+use Rattle.frame_readings.specs.ordered_lists.Ordered.{Every}
+use Rattle.frame_readings.proofs.ordered_lists.Parts.{part_filtered, every_part}
+use Rattle.frame_readings.specs.port_facts.Port.{IsShaped}
+use Rattle.frame_readings.proofs.port_facts.Keyed.{on_both}
+use Rattle.frame_readings.proofs.port_facts.Found.{find_every, find_passes}
+use Rattle.frame_readings.proofs.port_facts.Turns.{IsTurned, received_turns}
+use Rattle.frame_readings.proofs.port_facts.Rules.{and_second}
+use Rattle.world_model.specs.Controller.{Acted, free_slots, ports_of}
+use Rattle.world_model.specs.Sending.{with_cells}
+use Rattle.world_model.specs.Gsmp.{answers, steps, told}
+use Rattle.frame_readings.specs.controller_facts.Sound.{linked_setup}
+use Rattle.frame_readings.proofs.controller_facts.Moves.{answering, moves_to, moves_ports}
+use Rattle.frame_readings.proofs.controller_facts.Laws.{has_ports}
+use Rattle.input_events.specs.controller_law.Order.{IsMeeting, IsDeleting, IsOther, listing, emptying}
+use Rattle.input_events.proofs.controller_law.Entering.{both_not}
+use Rattle.input_events.proofs.controller_law.Whole.{Whole}
+use Rattle.input_events.proofs.input_steps.Resets.{note_still}
+use Rattle.input_events.specs.input_premises.Read.{AreRead}
+use Rattle.input_events.proofs.input_premises.Reading.{are_read}
 use Rattle.input_events.specs.Coming.{IsFromSwitch}
 use Rattle.running_worlds.specs.Mode.{AreUp}
 use Rattle.running_worlds.specs.Calls.{IsFineStill, in_mode}

@@ -4,50 +4,25 @@
 use Rattle.std.proofs.Common.{◌≡◌, ◌≢◌, ℕ, ◌+◌, ◌<◌, ◌≤◌, true, false, not, List, [], ◌∷◌, ◌++◌, map, filter, length, fold, Option, None, Some, refl, sym, ◌∙◌, subst, arith, if◌then◌else◌}
 use Rattle.std.specs.Prelude.{◌==◌, nat_le}
 use Rattle.std.proofs.lemmas.Bool.Decides.{nat_tests}
-use Rattle.net_types.specs.declared.channel.Channel.{Channel}
-use Rattle.net_types.specs.declared.channel.End.{End}
-use Rattle.net_types.specs.declared.node.PortNo.{PortNo}
-use Rattle.net_types.specs.declared.number.Mark.{Mark}
-use Rattle.net_types.specs.Number.{next_control, with_control}
-use Rattle.adjacency_table.specs.Side.{is_estab}
-use Rattle.atm_cells.specs.declared.cell.Cell.{Cell}
-use Rattle.crossbar_model.specs.Channels.{IsLinkPort}
-use Rattle.flow_encaps.specs.Default.{default_payload}
-use Rattle.ipv4_packet.specs.Packet.{ifmp_packet_of}
-use Rattle.ifmp_wire.specs.Message.{octets_of as ifmp_octets}
-use Rattle.gsmp_wire.specs.Layout.{octets_of as gsmp_octets}
-use Rattle.gsmp_wire.specs.declared.request.Request.{Request}
-use Rattle.gsmp_wire.specs.declared.request.Request.TheVariants.{MoveBranch}
-use Rattle.gsmp_wire.specs.declared.message.Message.{Message}
-use Rattle.ordered_lists.specs.Ordered.{Every}
-use Rattle.ordered_lists.proofs.Every.{every_join}
-use Rattle.ordered_lists.proofs.Parts.{part_filtered, every_part}
-use Rattle.link_model.specs.declared.frames.Frame.{Frame}
-use Rattle.link_model.specs.declared.record.Cause.TheVariants.{PoolFull}
-use Rattle.link_model.specs.declared.record.Record.TheVariants.{Loss}
-use Rattle.link_model.specs.Notes.{noted}
-use Rattle.frame_model.specs.Frame.{frame_cells, made}
-use Rattle.frame_model.specs.Sending.{Sent}
-use Rattle.port_model.specs.Desk.{Desk, Standing, asked, is_led_home, last_transaction, message_at}
-use Rattle.port_model.specs.Requests.{withdraws}
-use Rattle.port_model.specs.declared.action.Action.{Action}
-use Rattle.port_model.specs.declared.action.Action.TheVariants as actions
-use Rattle.port_model.specs.declared.action.Action.TheVariants.{Say, Ask, Note, CutChain, TakeBack, Withdraw}
-use Rattle.port_model.specs.Setup.{Setup, home_of}
-use Rattle.port_model.specs.Port.{Work}
-use Rattle.port_model.specs.Resets.{resets}
-use Rattle.port_facts.specs.Port.{setup_port, IsAction, IsShaped, parts_label}
-use Rattle.port_facts.proofs.Keyed.{on_both, on_each, at_every}
-use Rattle.port_facts.proofs.Joins.{resets_kept}
-use Rattle.world_model.specs.Controller.{Controller, Acted, Linked, free_slots, linked_at, ports_of, with_desk, default_channel, default_home}
-use Rattle.world_model.specs.Sending.{with_cells, sends, sends_control, says_gsmp}
-use Rattle.world_model.specs.Asking.{asks_next, asks, takes_back}
-use Rattle.world_model.specs.Resets.{begins, with_work, resets_gsmp, port_restarts, node_resets}
-use Rattle.world_model.specs.Performing.{does, does_in_estab, resets_of, performs, performs_in_estab, Rule, works, works_as, at_port}
-use Rattle.controller_facts.proofs.Moves.{Moves, HasPorts, Found, Worked, by_reset, placing, moves_to, moves_ports, found_setup, found_at_own, begun, worked_kept}
-use Rattle.controller_facts.proofs.Performing.{does_in_estab_goes, performs_in_estab_goes}
-use Rattle.input_steps.proofs.Resets.{IsStill, still_fold, restarts_still, cuts_still, note_still}
-use Rattle.input_premises.specs.Read.{AreRead}
+use Rattle.world_model.specs.Words.{Channel, End, PortNo, Mark, next_control, with_control, is_estab, Cell, IsLinkPort, default_payload, ifmp_packet_of, Request, MoveBranch, Frame, PoolFull, Loss, noted, frame_cells, made, Desk, Standing, is_led_home, last_transaction, withdraws, Action, Say, Ask, Note, CutChain, TakeBack, Withdraw, Setup, home_of, Work, resets, Controller, Linked, linked_at, with_desk, default_channel, default_home, sends_control, says_gsmp, asks_next, asks, takes_back, begins, with_work, resets_gsmp, port_restarts, node_resets, does, does_in_estab, resets_of, performs, performs_in_estab, Rule, works, works_as, at_port}
+use Rattle.world_model.specs.ifmp_wire.Message.{octets_of as ifmp_octets}
+use Rattle.world_model.specs.gsmp_wire.Layout.{octets_of as gsmp_octets}
+use Rattle.world_model.specs.gsmp_wire.declared.message.Message.{Message}
+use Rattle.frame_readings.specs.ordered_lists.Ordered.{Every}
+use Rattle.frame_readings.proofs.ordered_lists.Every.{every_join}
+use Rattle.frame_readings.proofs.ordered_lists.Parts.{part_filtered, every_part}
+use Rattle.world_model.specs.frame_model.Sending.{Sent}
+use Rattle.world_model.specs.port_model.Desk.{asked, message_at}
+use Rattle.world_model.specs.port_model.declared.action.Action.TheVariants as actions
+use Rattle.frame_readings.specs.port_facts.Port.{setup_port, IsAction, IsShaped, parts_label}
+use Rattle.frame_readings.proofs.port_facts.Keyed.{on_both, on_each, at_every}
+use Rattle.frame_readings.proofs.port_facts.Joins.{resets_kept}
+use Rattle.world_model.specs.Controller.{Acted, free_slots, ports_of}
+use Rattle.world_model.specs.Sending.{with_cells, sends}
+use Rattle.frame_readings.proofs.controller_facts.Moves.{Moves, HasPorts, Found, Worked, by_reset, placing, moves_to, moves_ports, found_setup, found_at_own, begun, worked_kept}
+use Rattle.frame_readings.proofs.controller_facts.Performing.{does_in_estab_goes, performs_in_estab_goes}
+use Rattle.input_events.proofs.input_steps.Resets.{IsStill, still_fold, restarts_still, cuts_still, note_still}
+use Rattle.input_events.specs.input_premises.Read.{AreRead}
 use Rattle.running_worlds.specs.Mode.{AreUp}
 use Rattle.running_worlds.specs.New.{AsksShaped, SinceThen}
 use Rattle.running_worlds.specs.Fine.{IsFine, Allows}

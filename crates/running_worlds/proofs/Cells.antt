@@ -1,18 +1,11 @@
 -- frames are sent: those of the GSMP channel are new, and others are none of it
 
 use Rattle.std.proofs.Common.{◌≡◌, ◌≢◌, ℕ, ◌+◌, ◌≤◌, true, false, true≢false, List, [], ◌∷◌, ◌++◌, ◌⊎◌, inl, inr, sym, ◌∙◌, ap, subst, arith}
-use Rattle.net_types.specs.declared.channel.Channel.{Channel}
-use Rattle.net_types.specs.declared.number.Mark.{Mark}
-use Rattle.atm_cells.specs.declared.cell.Cell.{Cell}
-use Rattle.ordered_lists.specs.Ordered.{Every}
-use Rattle.ordered_lists.proofs.Every.{every_join, every_map}
-use Rattle.link_model.specs.declared.frames.Frame.{Frame}
-use Rattle.link_model.specs.Ledger.{payload_of}
-use Rattle.frame_model.specs.Frame.{frame_cells}
-use Rattle.world_model.specs.Controller.{default_channel}
-use Rattle.world_model.specs.Cells.{same_channel}
-use Rattle.shown_cells.proofs.Made.{made_is, made_elsewhere}
-use Rattle.shown_cells.proofs.Frames.{IsOf, IsCut, frame_is_cut, differ}
+use Rattle.world_model.specs.Words.{Channel, Mark, Cell, Frame, payload_of, frame_cells, default_channel, same_channel}
+use Rattle.frame_readings.specs.ordered_lists.Ordered.{Every}
+use Rattle.frame_readings.proofs.ordered_lists.Every.{every_join, every_map}
+use Rattle.frame_readings.proofs.shown_cells.Made.{made_is, made_elsewhere}
+use Rattle.frame_readings.proofs.shown_cells.Frames.{IsOf, IsCut, frame_is_cut, differ}
 use Rattle.running_worlds.specs.New.{is_on_gsmp, control_mark, IsNew, SinceThen}
 
 -- *The cells of a frame* have its channel and its mark

@@ -3,67 +3,42 @@
 use Rattle.std.proofs.Common.{◌≡◌, ◌≢◌, ℕ, ◌≤◌, ◌<◌, Bool, true, false, not, List, [], ◌∷◌, ◌++◌, fold, length, Option, None, Some, Result, Ok, zero, suc, refl, sym, ◌∙◌, ap, subst, arith, if◌then◌else◌}
 use Rattle.std.specs.Prelude.{nat_le, nat_lt, take}
 use Rattle.std.specs.Option.{option_and_then}
-use Rattle.net_types.specs.declared.adjacency.Party.{Party}
-use Rattle.net_types.specs.declared.channel.Channel.{Channel}
-use Rattle.net_types.specs.declared.node.PortNo.{PortNo}
-use Rattle.net_types.specs.declared.number.Mark.{Mark}
-use Rattle.adjacency_table.specs.declared.message.Answer.{Answer}
-use Rattle.adjacency_table.specs.declared.message.Answer.TheVariants.{Quiet, Send, Open, Reset}
-use Rattle.adjacency_table.specs.declared.message.Said.{Said}
-use Rattle.adjacency_table.specs.Side as sides
-use Rattle.adjacency_table.specs.Side.{is_estab, ticked}
-use Rattle.atm_cells.specs.declared.cell.Cell.{Cell}
-use Rattle.crossbar_model.specs.Channels.{IsLinkPort}
-use Rattle.ipv4_forward.specs.Hop.{hop_of, onward}
-use Rattle.ipv4_forward.specs.declared.outcome.Hop.{Hop}
-use Rattle.ipv4_forward.specs.declared.outcome.Hop.TheVariants.{Here, On, NoRoute, Expired}
-use Rattle.ipv4_packet.specs.Flow.{kind_of}
-use Rattle.flow_encaps.specs.Default.{default_payload}
-use Rattle.flow_encaps.specs.Labelled.{labelled_payload}
-use Rattle.gsmp_wire.specs.declared.fault.Fault.{Fault}
-use Rattle.gsmp_wire.specs.declared.message.Message.{Message}
-use Rattle.gsmp_wire.specs.Fields.{decoded}
-use Rattle.link_model.specs.declared.frames.Frame.{Frame}
-use Rattle.link_model.specs.declared.record.Cause.TheVariants.{PoolFull}
-use Rattle.link_model.specs.declared.record.DropCause.TheVariants as drops
-use Rattle.link_model.specs.declared.record.Record.TheVariants.{Delivered, Dropped, Loss}
-use Rattle.link_model.specs.Ledger.{payload_of}
-use Rattle.link_model.specs.Notes.{Journal, noted}
-use Rattle.frame_model.specs.Frame.{octets_of, last_mark, payload_in, next_mark, tested_by}
-use Rattle.frame_model.specs.Reassembly.{Reassembly, Taken, taken, marks_of, most_cells, passed_over, without_slot, too_long, joined, nothing_taken, cut}
-use Rattle.ordered_lists.specs.Ordered.{Every}
-use Rattle.ordered_lists.proofs.Every.{every_join}
-use Rattle.port_model.specs.Desk.{Standing, last_transaction, sent_again}
-use Rattle.port_model.specs.Setup.{Setup, control_end}
-use Rattle.port_model.specs.Grants.{Grant}
-use Rattle.port_model.specs.Ticks as port_ticks
-use Rattle.port_facts.specs.Port.{IsShaped}
-use Rattle.port_facts.proofs.Hearings.{ticks_goes}
-use Rattle.port_facts.proofs.Keyed.{on_both, on_each}
-use Rattle.port_facts.proofs.Steps.{Goes}
-use Rattle.port_facts.proofs.Turns.{ticked_turns}
-use Rattle.world_model.specs.Controller.{Acted, Linked, free_slots, linked_at, ports_of, default_channel, default_home}
-use Rattle.world_model.specs.Sending.{sends, sends_control}
-use Rattle.world_model.specs.Asking.{sends_request}
-use Rattle.world_model.specs.Resets.{begins, cuts_default_of, cuts_default, cuts_gsmp, node_resets, node_restarts}
-use Rattle.world_model.specs.Performing.{Rule, at_port}
-use Rattle.world_model.specs.Joins.{tries_joins}
-use Rattle.world_model.specs.Packets.{is_control, sends_next, goes_by, grant_by, forwarded, routes}
+use Rattle.world_model.specs.Words.{Party, Channel, PortNo, Mark, Answer, Quiet, Send, Open, Said, is_estab, ticked, Cell, IsLinkPort, hop_of, onward, Hop, Here, On, kind_of, default_payload, labelled_payload, Frame, PoolFull, Delivered, Dropped, Loss, payload_of, Journal, noted, last_mark, payload_in, next_mark, tested_by, Reassembly, marks_of, most_cells, passed_over, without_slot, too_long, nothing_taken, cut, Standing, last_transaction, sent_again, Setup, control_end, Grant, Linked, linked_at, default_channel, default_home, sends_control, sends_request, begins, cuts_default_of, cuts_default, cuts_gsmp, node_resets, node_restarts, Rule, at_port, tries_joins, is_control, sends_next, goes_by, grant_by, routes, ForGsmp, port_on, on_link, same_channel, taker_at, takes_cell, sends_again, ticks_port, ticks_ports, ticks_by, gsmp_of, gsmp_under}
+use Rattle.world_model.specs.adjacency_table.declared.message.Answer.TheVariants.{Reset}
+use Rattle.world_model.specs.adjacency_table.Side as sides
+use Rattle.world_model.specs.ipv4_forward.declared.outcome.Hop.TheVariants.{NoRoute, Expired}
+use Rattle.world_model.specs.gsmp_wire.declared.fault.Fault.{Fault}
+use Rattle.world_model.specs.gsmp_wire.declared.message.Message.{Message}
+use Rattle.world_model.specs.gsmp_wire.Fields.{decoded}
+use Rattle.world_model.specs.link_model.declared.record.DropCause.TheVariants as drops
+use Rattle.world_model.specs.frame_model.Frame.{octets_of}
+use Rattle.world_model.specs.frame_model.Reassembly.{Taken, taken, joined}
+use Rattle.frame_readings.specs.ordered_lists.Ordered.{Every}
+use Rattle.frame_readings.proofs.ordered_lists.Every.{every_join}
+use Rattle.world_model.specs.port_model.Ticks as port_ticks
+use Rattle.frame_readings.specs.port_facts.Port.{IsShaped}
+use Rattle.frame_readings.proofs.port_facts.Hearings.{ticks_goes}
+use Rattle.frame_readings.proofs.port_facts.Keyed.{on_both, on_each}
+use Rattle.frame_readings.proofs.port_facts.Steps.{Goes}
+use Rattle.frame_readings.proofs.port_facts.Turns.{ticked_turns}
+use Rattle.world_model.specs.Controller.{Acted, free_slots, ports_of}
+use Rattle.world_model.specs.Sending.{sends}
+use Rattle.world_model.specs.Packets.{forwarded}
 use Rattle.world_model.specs.Gsmp.{steps}
-use Rattle.world_model.specs.Cells.{ForGsmp, port_on, on_link, same_channel, taker_at, after_test, ends_frame, after_cell, takes_cell, cell_comes}
-use Rattle.world_model.specs.Ticks.{sends_again, ticks_port, ticks_ports, ticks_by, ticks}
-use Rattle.controller_facts.proofs.Moves.{ages, by_rule, gathering, moves_to, moves_ports}
-use Rattle.controller_facts.proofs.Laws.{has_ports, moves_sound}
-use Rattle.controller_facts.proofs.Events.{ticks_ports_goes}
-use Rattle.controller_law.proofs.Whole.{Whole, numbered_whole}
-use Rattle.controller_law.proofs.Events.{steps_holds, sends_again_holds, ticks_port_holds}
-use Rattle.world_model.specs.Ways.{gsmp_of, gsmp_under, told as heard}
-use Rattle.input_steps.specs.Hearing.{IsEnded, PassesTrue}
-use Rattle.input_steps.proofs.Resets.{note_still}
+use Rattle.world_model.specs.Cells.{after_test, ends_frame, after_cell, cell_comes}
+use Rattle.world_model.specs.Ticks.{ticks}
+use Rattle.frame_readings.proofs.controller_facts.Moves.{ages, by_rule, gathering, moves_to, moves_ports}
+use Rattle.frame_readings.proofs.controller_facts.Laws.{has_ports, moves_sound}
+use Rattle.frame_readings.proofs.controller_facts.Events.{ticks_ports_goes}
+use Rattle.input_events.proofs.controller_law.Whole.{Whole, numbered_whole}
+use Rattle.input_events.proofs.controller_law.Events.{steps_holds, sends_again_holds, ticks_port_holds}
+use Rattle.world_model.specs.Ways.{told as heard}
+use Rattle.input_events.specs.input_steps.Hearing.{IsEnded, PassesTrue}
+use Rattle.input_events.proofs.input_steps.Resets.{note_still}
 use Rattle.input_events.specs.Coming.{IsNext, GoesByLinks, IsFromSwitch}
 use Rattle.input_events.proofs.Cells.{IsKept, other_cell_leads}
 use Rattle.input_events.proofs.Packets.{control_apart, home_apart}
-use Rattle.shown_cells.proofs.Tested.{broken_frames, cut_frames, frame_is, last_is, passed_frames}
+use Rattle.frame_readings.proofs.shown_cells.Tested.{broken_frames, cut_frames, frame_is, last_is, passed_frames}
 use Rattle.running_worlds.specs.Mode.{Mode, Told, Untold}
 use Rattle.running_worlds.proofs.Asking.{Queued, still_fine, node_fine, request_fine, elsewhere_fine, packet_fine, at_port_fine}
 use Rattle.running_worlds.proofs.Joining.{Well, tries_joins_well}

@@ -3,28 +3,15 @@
 use Rattle.std.proofs.Common.{◌≡◌, ℕ, true, false, List, [], ◌∷◌, ◌++◌, length, Option, None, Some, sym, ◌∙◌}
 use Rattle.std.specs.Prelude.{nat_le}
 use Rattle.std.specs.List.{list_any}
-use Rattle.net_types.specs.declared.node.NodeId.{NodeId}
-use Rattle.net_types.specs.declared.node.PortNo.{PortNo}
-use Rattle.net_types.specs.declared.node.Place.{Place}
-use Rattle.net_types.specs.declared.node.Place.TheVariants.{Down, Up, Out}
-use Rattle.net_types.specs.declared.channel.Channel.{Channel}
-use Rattle.net_types.specs.declared.number.Mark.{Mark}
-use Rattle.net_types.specs.Number.{next_control, with_control}
-use Rattle.link_model.specs.declared.record.Record.{Record}
-use Rattle.link_model.specs.declared.record.Record.TheVariants.{Forged, Loss}
-use Rattle.link_model.specs.declared.record.Cause.TheVariants.{PoolFull}
-use Rattle.link_model.specs.Notes.{noted}
-use Rattle.frame_model.specs.Frame.{frame_cells, made}
-use Rattle.frame_model.specs.Sending.{Sent}
-use Rattle.port_facts.proofs.Keyed.{on_both}
+use Rattle.world_model.specs.Words.{NodeId, PortNo, Place, Down, Up, Out, Channel, Mark, next_control, with_control, Record, Forged, Loss, PoolFull, noted, frame_cells, made, Switch, control_port, Controller, World, Site, site_at, controller_acts, switch_acts, forges, is_wild, IsTame}
+use Rattle.world_model.specs.frame_model.Sending.{Sent}
+use Rattle.frame_readings.proofs.port_facts.Keyed.{on_both}
 use Rattle.world_model.specs.Switch as switches
-use Rattle.world_model.specs.Switch.{Switch, control_port}
 use Rattle.world_model.specs.Conduct as switch
-use Rattle.world_model.specs.Controller.{Controller, free_slots}
+use Rattle.world_model.specs.Controller.{free_slots}
 use Rattle.world_model.specs.Sending.{with_cells, sends}
-use Rattle.world_model.specs.World.{World, Site, site_at, controller_acts, at_controller, switch_acts, at_switch}
-use Rattle.world_model.specs.Step.{note, forges}
-use Rattle.world_model.specs.Headline.{is_wild, IsTame}
+use Rattle.world_model.specs.World.{at_controller, at_switch}
+use Rattle.world_model.specs.Step.{note}
 
 -- behind the record of the forgery stand others, or none
 abbrev BeginsForged : Place → List Record → Type 0

@@ -2,23 +2,14 @@
 
 use Rattle.std.proofs.Common.{false, Option, None, Some}
 use Rattle.std.specs.Option.{option_map_or, unwrap_or}
-use Rattle.net_types.specs.declared.adjacency.Greeting.{Greeting}
-use Rattle.net_types.specs.declared.adjacency.HelloKind.{HelloKind}
-use Rattle.net_types.specs.declared.adjacency.HelloKind.TheVariants.{Syn, Synack, Rstack, Ack}
-use Rattle.net_types.specs.declared.adjacency.Party.{Party}
-use Rattle.adjacency_table.specs.Greeting.{greeting_of, nobody, same_party, heard_in, gsmp_answer, gsmp_received}
-use Rattle.adjacency_table.specs.declared.message.Answer.{Answer}
-use Rattle.adjacency_table.specs.declared.message.Answer.TheVariants.{Quiet, Send, Open, Reset}
-use Rattle.adjacency_table.specs.declared.message.Heard.{Heard}
-use Rattle.adjacency_table.specs.declared.message.Said.{Said}
-use Rattle.adjacency_table.specs.Table.{Reply, Silent, Says, Resets, Row, row as table_row, tick_reply}
-use Rattle.adjacency_table.specs.Side.{Side, said, answer_to, answer_of, opened, is_entry, followed, counted, followed_tick, ticked}
-use Rattle.gsmp_wire.specs.Range.{FitsParty, Fits}
-use Rattle.gsmp_wire.specs.declared.message.Message.TheVariants.{Adjacency}
-use Rattle.port_facts.proofs.Keyed.{on_both}
-use Rattle.input_premises.proofs.Written.{IsWritten}
-use Rattle.input_premises.proofs.Reading.{nobody_fits}
-use Rattle.world_views.specs.Ready.{FitsStored, FitsSide}
+use Rattle.world_model.specs.Words.{Greeting, HelloKind, Syn, Synack, Rstack, Ack, Party, greeting_of, nobody, same_party, heard_in, gsmp_answer, gsmp_received, Answer, Quiet, Send, Open, Heard, Said, Reply, Silent, Says, Resets, Row, row as table_row, tick_reply, Side, said, answer_to, answer_of, is_entry, followed, followed_tick, ticked, FitsParty, Fits}
+use Rattle.world_model.specs.adjacency_table.declared.message.Answer.TheVariants.{Reset}
+use Rattle.world_model.specs.adjacency_table.Side.{opened, counted}
+use Rattle.world_model.specs.gsmp_wire.declared.message.Message.TheVariants.{Adjacency}
+use Rattle.frame_readings.proofs.port_facts.Keyed.{on_both}
+use Rattle.input_events.proofs.input_premises.Written.{IsWritten}
+use Rattle.input_events.proofs.input_premises.Reading.{nobody_fits}
+use Rattle.frame_readings.specs.world_views.Ready.{FitsStored, FitsSide}
 
 -- *Greetings*: in the parties of a side, or of the greeting that it answers
 known_fits : (o : Option Party) → FitsStored o → FitsParty (unwrap_or o nobody)

@@ -2,23 +2,16 @@
 
 use Rattle.std.proofs.Common.{◌≡◌, ℕ, List, drop, Option, None, Some, refl, sym, ◌∙◌, ap, subst}
 use Rattle.std.specs.Option.{option_and_then}
-use Rattle.net_types.specs.declared.adjacency.Greeting.{Greeting}
-use Rattle.net_types.specs.declared.node.PortNo.{PortNo}
-use Rattle.gsmp_wire.specs.declared.fault.Fault.{Fault}
-use Rattle.gsmp_wire.specs.declared.message.Message.{Message}
-use Rattle.gsmp_wire.specs.declared.message.Message.TheVariants.{Adjacency, AllPorts}
-use Rattle.gsmp_wire.specs.declared.rows.PortRow.{PortRow}
-use Rattle.gsmp_wire.specs.declared.request.Request.{Request}
-use Rattle.gsmp_wire.specs.declared.request.Request.TheVariants as requests
-use Rattle.gsmp_wire.specs.Fields.{decoded, decoded_by}
-use Rattle.gsmp_wire.specs.Layout.{octets_of}
-use Rattle.gsmp_wire.specs.Refusal.{refusal, type_of}
-use Rattle.port_model.specs.Desk.{Standing}
-use Rattle.port_model.specs.Messages.{message_of}
-use Rattle.port_model.specs.Setup.{Setup}
-use Rattle.port_facts.specs.Port.{IsShaped}
-use Rattle.world_model.specs.Ways.{told, gsmp_of, copy_of}
-use Rattle.input_steps.specs.Asking.{IsReadable}
+use Rattle.world_model.specs.Words.{Greeting, PortNo, PortRow, Request, refusal, type_of, Standing, message_of, Setup, gsmp_of, copy_of}
+use Rattle.world_model.specs.gsmp_wire.declared.fault.Fault.{Fault}
+use Rattle.world_model.specs.gsmp_wire.declared.message.Message.{Message}
+use Rattle.world_model.specs.gsmp_wire.declared.message.Message.TheVariants.{Adjacency, AllPorts}
+use Rattle.world_model.specs.gsmp_wire.declared.request.Request.TheVariants as requests
+use Rattle.world_model.specs.gsmp_wire.Fields.{decoded, decoded_by}
+use Rattle.world_model.specs.gsmp_wire.Layout.{octets_of}
+use Rattle.frame_readings.specs.port_facts.Port.{IsShaped}
+use Rattle.world_model.specs.Ways.{told}
+use Rattle.input_events.specs.input_steps.Asking.{IsReadable}
 use Rattle.running_worlds.specs.Mode.{AreUp}
 use Rattle.running_worlds.specs.New.{AsksShaped, TellsUp}
 

@@ -1,7 +1,7 @@
 -- the laws, where the old cells are those of two lists
 
 use Rattle.std.specs.Prelude.{Contains}
-use Rattle.input_premises.proofs.Steady.{steady_whole}
+use Rattle.input_events.proofs.input_premises.Steady.{steady_whole}
 use Rattle.running_worlds.specs.Calls.{TicksTellUp, RestartsTellUp, TicksAskShaped}
 use Rattle.running_worlds.proofs.Events.{ticks_go}
 use Rattle.running_worlds.proofs.Switches.{tick_fine, restarted_fine}

@@ -4,48 +4,33 @@ use Rattle.std.proofs.Common.{◌≡◌, ℕ, ◌+◌, ◌≤◌, Bool, true, fa
 use Rattle.std.specs.Prelude.{nat_lt, Contains}
 use Rattle.std.specs.Option.{option_map_or}
 use Rattle.std.proofs.lemmas.Bool.Decides.{nat_tests}
-use Rattle.net_types.specs.declared.channel.Channel.{Channel}
-use Rattle.net_types.specs.declared.node.NodeId.{NodeId}
-use Rattle.net_types.specs.declared.node.PortNo.{PortNo}
-use Rattle.net_types.specs.declared.node.Place.{Place}
-use Rattle.net_types.specs.declared.node.Place.TheVariants.{Down, Up, Out}
-use Rattle.atm_cells.specs.declared.cell.Cell.{Cell}
-use Rattle.crossbar_model.specs.Crossbar.{input_of, queue_of}
-use Rattle.gsmp_wire.specs.declared.message.Message.{Message}
-use Rattle.link_model.specs.declared.frames.Frame.{Frame}
-use Rattle.link_model.specs.declared.record.Refusal.{Refusal}
+use Rattle.world_model.specs.Words.{Channel, NodeId, PortNo, Place, Down, Up, Out, Cell, queue_of, Frame, Refusal, control_port, Setup, default_channel, same_channel, change_comes, inject_refusal, injected, node_restarts, RouteChange, Topology, World, Site, site_at, with_site, place_node, queue_in, queue_at, with_queue_in, with_queue_of, injects_by, arrives_at, carries_head, loses_head, gsmp_under}
+use Rattle.world_model.specs.crossbar_model.Crossbar.{input_of}
+use Rattle.world_model.specs.gsmp_wire.declared.message.Message.{Message}
 use Rattle.world_model.specs.Switch as switches
-use Rattle.world_model.specs.Switch.{control_port}
 use Rattle.world_model.specs.Conduct as conduct
-use Rattle.port_model.specs.Setup.{Setup}
-use Rattle.world_model.specs.Controller.{Acted, free_slots, default_channel}
-use Rattle.world_model.specs.Cells.{same_channel, cell_comes}
-use Rattle.world_model.specs.Changes.{change_comes}
-use Rattle.world_model.specs.Packets.{inject_refusal, injected}
-use Rattle.world_model.specs.Resets.{node_restarts}
+use Rattle.world_model.specs.Controller.{Acted, free_slots}
+use Rattle.world_model.specs.Cells.{cell_comes}
 use Rattle.world_model.specs.Ticks.{ticks}
-use Rattle.controller_facts.specs.Inputs.{Input, CellComes, PacketEnters, Ticks, Restarts, ChangeComes, enters_unless, takes_input}
-use Rattle.controller_facts.specs.Sound.{IsOwn}
-use Rattle.controller_facts.proofs.Laws.{has_ports, input_goes, moves_sound}
-use Rattle.controller_facts.proofs.Moves.{moves_to, popping}
-use Rattle.ipv4_forward.specs.declared.change.RouteChange.{RouteChange}
-use Rattle.controller_law.proofs.Whole.{Whole}
-use Rattle.controller_law.proofs.Events.{input_holds}
+use Rattle.frame_readings.specs.controller_facts.Inputs.{Input, CellComes, PacketEnters, Ticks, Restarts, ChangeComes, enters_unless, takes_input}
+use Rattle.frame_readings.specs.controller_facts.Sound.{IsOwn}
+use Rattle.frame_readings.proofs.controller_facts.Laws.{has_ports, input_goes, moves_sound}
+use Rattle.frame_readings.proofs.controller_facts.Moves.{moves_to, popping}
+use Rattle.input_events.proofs.controller_law.Whole.{Whole}
+use Rattle.input_events.proofs.controller_law.Events.{input_holds}
 use Rattle.world_model.specs.declared.event.Event.{Event}
 use Rattle.world_model.specs.declared.event.Event.TheVariants.{Inject, Carry, Lose, Tick, TickSwitch, Restart, RestartSwitch, Forge, Route}
 use Rattle.world_model.specs.declared.link.LinkEnd.{LinkEnd}
-use Rattle.world_model.specs.Topology.{Topology, peer_of}
-use Rattle.world_model.specs.World.{World, Site, site_at, with_site, at_controller, at_switch}
-use Rattle.world_model.specs.Places.{place_node, queue_in, queue_at, with_queue_in, with_queue_of}
-use Rattle.world_model.specs.Step.{injects_by, arrives_at, carries_head, loses_head, acts}
-use Rattle.world_model.specs.Ways.{gsmp_under}
-use Rattle.input_steps.specs.Hearing.{IsEnded, PassesTrue}
+use Rattle.world_model.specs.Topology.{peer_of}
+use Rattle.world_model.specs.World.{at_controller, at_switch}
+use Rattle.world_model.specs.Step.{acts}
+use Rattle.input_events.specs.input_steps.Hearing.{IsEnded, PassesTrue}
 use Rattle.input_events.specs.Coming.{IsNext, IsToSwitch, IsFromSwitch, IsFar, CanCarry, CanLose, IsOrdinary, IsRunning}
-use Rattle.controller_facts.proofs.Nodes.{moves_node}
+use Rattle.frame_readings.proofs.controller_facts.Nodes.{moves_node}
 use Rattle.input_events.proofs.Sites.{put_at}
 use Rattle.input_events.proofs.Events.{set_length}
-use Rattle.world_views.specs.Between.{EachSite, setups_of}
-use Rattle.world_views.specs.Shown.{acting}
+use Rattle.frame_readings.specs.world_views.Between.{EachSite, setups_of}
+use Rattle.frame_readings.specs.world_views.Shown.{acting}
 use Rattle.running_worlds.specs.Mode.{Mode}
 use Rattle.running_worlds.proofs.Joining.{change_well}
 use Rattle.running_worlds.specs.Calls.{in_mode}

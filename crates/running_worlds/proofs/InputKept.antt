@@ -5,39 +5,22 @@ use Rattle.std.specs.Prelude.{◌==◌, ◌||◌, Contains}
 use Rattle.std.specs.List.{list_any}
 use Rattle.std.specs.Option.{option_and_then, option_map, option_map_or}
 use Rattle.std.proofs.lemmas.Bool.Decides.{nat_tests}
-use Rattle.net_types.specs.declared.node.NodeId.{NodeId}
-use Rattle.net_types.specs.declared.node.PortNo.{PortNo}
-use Rattle.net_types.specs.declared.node.Place.TheVariants.{Down, Up}
-use Rattle.net_types.specs.declared.number.Mark.{Mark}
-use Rattle.atm_cells.specs.declared.cell.Cell.{Cell}
-use Rattle.crossbar_model.specs.Crossbar.{queue_of}
-use Rattle.gsmp_wire.specs.declared.message.Message.{Message}
-use Rattle.gsmp_wire.specs.declared.message.Message.TheVariants as messages
-use Rattle.gsmp_wire.specs.declared.request.Request.{Request}
-use Rattle.gsmp_wire.specs.declared.request.Request.TheVariants.{AddBranch, MoveBranch, DeleteTree, VerifyTree, DeleteAll, PortManagement, AllPorts}
-use Rattle.gsmp_wire.specs.declared.rows.PortRow.{PortRow}
-use Rattle.link_model.specs.declared.frames.Frame.{Frame}
-use Rattle.link_model.specs.Ledger.{payload_of}
-use Rattle.ordered_lists.specs.Ordered.{Every}
-use Rattle.port_model.specs.Desk.{Standing, all_on}
-use Rattle.port_model.specs.Requests.{is_delete_all}
-use Rattle.world_model.specs.Switch.{control_port}
-use Rattle.port_model.specs.Setup.{Setup}
-use Rattle.port_facts.specs.Port.{IsShaped}
-use Rattle.world_model.specs.Controller.{Controller, Linked, ports_of, default_channel}
-use Rattle.world_model.specs.Cells.{same_channel}
-use Rattle.world_model.specs.World.{World, Site, site_at}
-use Rattle.world_model.specs.Places.{queue_in, queue_at}
-use Rattle.world_model.specs.Ways.{gsmp_of, gsmp_under, copy_of, copy_under, on_channel, requests_chain_at, answers_chain_at}
+use Rattle.world_model.specs.Words.{NodeId, PortNo, Down, Up, Mark, Cell, queue_of, Request, AddBranch, MoveBranch, DeleteTree, VerifyTree, PortManagement, PortRow, Frame, payload_of, Standing, all_on, is_delete_all, control_port, Setup, Controller, Linked, default_channel, same_channel, World, Site, site_at, queue_in, queue_at, gsmp_of, gsmp_under, copy_of, copy_under, on_channel, requests_chain_at, answers_chain_at}
+use Rattle.world_model.specs.gsmp_wire.declared.message.Message.{Message}
+use Rattle.world_model.specs.gsmp_wire.declared.message.Message.TheVariants as messages
+use Rattle.world_model.specs.gsmp_wire.declared.request.Request.TheVariants.{DeleteAll, AllPorts}
+use Rattle.frame_readings.specs.ordered_lists.Ordered.{Every}
+use Rattle.frame_readings.specs.port_facts.Port.{IsShaped}
+use Rattle.world_model.specs.Controller.{ports_of}
 use Rattle.frame_readings.specs.Reading.{MarksAreRead}
-use Rattle.world_views.specs.Made.{AreMade}
-use Rattle.world_views.specs.Between.{setups_of, HasShapes, HasPortsUp, HasNumbers}
+use Rattle.frame_readings.specs.world_views.Made.{AreMade}
+use Rattle.frame_readings.specs.world_views.Between.{setups_of, HasShapes, HasPortsUp, HasNumbers}
 use Rattle.running_worlds.specs.Mode.{AreUp, Told, Untold, IsMild, IsMildStanding}
 use Rattle.running_worlds.specs.New.{control_mark, AsksShaped, TellsUp, IsNew}
 use Rattle.running_worlds.proofs.Cells.{IsEither}
 use Rattle.running_worlds.specs.Left.{OldAsks, OldTells, port_list, Left, IsKnown, known, IsLeft}
 use Rattle.running_worlds.proofs.Lists.{every_among, among_right, among_filter, among_tail}
-use Rattle.causes.proofs.Parts.{zero_is}
+use Rattle.branch_shapes.proofs.causes.Parts.{zero_is}
 
 -- *Lists*
 module _ {A : Type 0} where

@@ -4,42 +4,26 @@ use Rattle.std.proofs.Common.{◌≡◌, ℕ, ◌+◌, ◌<◌, ◌≤◌, suc, 
 use Rattle.std.specs.List.{list_any}
 use Rattle.std.specs.Option.{option_map, option_map_or}
 use Rattle.std.specs.FinMap.{get-empty}
-use Rattle.net_types.specs.declared.channel.End.{End}
-use Rattle.net_types.specs.declared.node.NodeId.{NodeId}
-use Rattle.net_types.specs.declared.node.PortNo.{PortNo}
-use Rattle.net_types.specs.declared.node.Place.TheVariants.{Down, Up}
-use Rattle.net_types.specs.declared.number.Instance.{Instance}
-use Rattle.net_types.specs.Number.{GivenOut, next_instance}
-use Rattle.adjacency_table.specs.declared.State.TheVariants.{SynSent}
-use Rattle.adjacency_table.specs.Ends.{side_of}
-use Rattle.adjacency_table.specs.Instances.{begun as begun_side}
-use Rattle.atm_cells.specs.declared.cell.Cell.{Cell}
-use Rattle.crossbar_model.specs.declared.branch.Branch.{Branch}
-use Rattle.crossbar_model.specs.Channels.{end_cmp}
-use Rattle.crossbar_model.specs.Crossbar.{output_of, queue_of}
-use Rattle.ordered_lists.specs.Ordered.{Every}
-use Rattle.ordered_lists.proofs.Every.{every_join}
-use Rattle.port_model.specs.Desk.{Standing}
-use Rattle.port_model.specs.Requests.{is_delete_all}
+use Rattle.world_model.specs.Words.{End, NodeId, PortNo, Down, Up, Instance, GivenOut, next_instance, SynSent, side_of, Cell, end_cmp, queue_of, Standing, is_delete_all, control_port, numbers_of, Policy, Controller, default_channel, after_opening, Topology, Node, World, Site, site_key, site_at, opened_site, with_opened, opens_each, empty_world, queue_in, on_channel, gsmp_to_switch, gsmp_to_controller}
+use Rattle.world_model.specs.adjacency_table.Instances.{begun as begun_side}
+use Rattle.world_model.specs.crossbar_model.declared.branch.Branch.{Branch}
+use Rattle.world_model.specs.crossbar_model.Crossbar.{output_of}
+use Rattle.frame_readings.specs.ordered_lists.Ordered.{Every}
+use Rattle.frame_readings.proofs.ordered_lists.Every.{every_join}
 use Rattle.world_model.specs.declared.port.PortState.{PortState}
-use Rattle.world_model.specs.Switch.{control_port, numbers_of, begun}
-use Rattle.port_model.specs.Setup.{Policy}
-use Rattle.port_facts.specs.Port.{IsShaped}
-use Rattle.port_facts.proofs.Keyed.{at_key, at_every}
-use Rattle.world_model.specs.Controller.{Controller, ports_of, default_channel}
-use Rattle.world_model.specs.Opening.{after_opening}
-use Rattle.branch_line.specs.Line.{Line, start}
+use Rattle.world_model.specs.Switch.{begun}
+use Rattle.frame_readings.specs.port_facts.Port.{IsShaped}
+use Rattle.frame_readings.proofs.port_facts.Keyed.{at_key, at_every}
+use Rattle.world_model.specs.Controller.{ports_of}
+use Rattle.frame_readings.specs.branch_line.Line.{Line, start}
 use Rattle.world_model.specs.Topology as topologies
-use Rattle.world_model.specs.Topology.{Topology, Node}
-use Rattle.world_model.specs.World.{World, Site, site_key, site_at, opened_site, with_opened, opens_each, empty_world, opened}
-use Rattle.world_model.specs.Places.{queue_in}
-use Rattle.world_model.specs.Ways.{on_channel, gsmp_to_switch, gsmp_to_controller}
+use Rattle.world_model.specs.World.{opened}
 use Rattle.world_model.proofs.Opening.{site_ports}
-use Rattle.shown_cells.specs.Seen.{nothing}
-use Rattle.input_views.specs.Words.{own_of, others_of}
-use Rattle.input_views.specs.Shown.{controller_of, switch_of, before_of, behind_of, ShowsRequests, ShowsAnswers, IsAllPorts}
-use Rattle.world_views.specs.Between.{setups_of, HasShapes, HasPortsUp, HasNumbers, HasInputLine, HasAllShapes, HasAllPortsUp, HasAllNumbers, HasAllInputs}
-use Rattle.world_views.specs.Kept.{Begins}
+use Rattle.frame_readings.specs.shown_cells.Seen.{nothing}
+use Rattle.frame_readings.specs.input_views.Words.{own_of, others_of}
+use Rattle.frame_readings.specs.input_views.Shown.{controller_of, switch_of, before_of, behind_of, ShowsRequests, ShowsAnswers, IsAllPorts}
+use Rattle.frame_readings.specs.world_views.Between.{setups_of, HasShapes, HasPortsUp, HasNumbers, HasInputLine, HasAllShapes, HasAllPortsUp, HasAllNumbers, HasAllInputs}
+use Rattle.frame_readings.specs.world_views.Kept.{Begins}
 use Rattle.branch_shapes.proofs.Runs.{none_among, begun_ports}
 
 -- *A new site*

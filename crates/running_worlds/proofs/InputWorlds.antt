@@ -4,33 +4,18 @@ use Rattle.std.proofs.Common.{◌≡◌, List, [], ◌∷◌, ◌++◌, Option, 
 use Rattle.std.specs.Prelude.{Contains}
 use Rattle.std.specs.FinMap.{get}
 use Rattle.std.specs.Option.{option_map, option_map_or}
-use Rattle.net_types.specs.declared.node.NodeId.{NodeId}
-use Rattle.net_types.specs.declared.node.PortNo.{PortNo}
-use Rattle.net_types.specs.declared.node.Place.{Place}
-use Rattle.net_types.specs.declared.node.Place.TheVariants.{Down, Up, Out}
-use Rattle.atm_cells.specs.declared.cell.Cell.{Cell}
-use Rattle.crossbar_model.specs.Crossbar.{queue_of}
-use Rattle.world_model.specs.Switch.{control_port}
-use Rattle.port_model.specs.Setup.{Policy}
-use Rattle.world_model.specs.Controller.{Controller, default_channel}
+use Rattle.world_model.specs.Words.{NodeId, PortNo, Place, Down, Up, Out, Cell, queue_of, control_port, Policy, Controller, default_channel, Topology, World, Site, site_at, queue_in, next, put_away, Past, past_of, IsTame, on_channel, gsmp_to_switch, gsmp_to_controller}
 use Rattle.world_model.specs.declared.event.Event.{Event}
 use Rattle.world_model.specs.declared.event.Event.TheVariants.{Inject, Carry, Lose, Tick, TickSwitch, Restart, RestartSwitch, Forge, Route}
-use Rattle.world_model.specs.Topology.{Topology}
-use Rattle.world_model.specs.World.{World, Site, site_at}
-use Rattle.world_model.specs.Places.{queue_in}
-use Rattle.world_model.specs.Run.{next, put_away}
-use Rattle.world_model.specs.Past.{Past, past_of}
-use Rattle.world_model.specs.Headline.{IsTame}
-use Rattle.world_model.specs.Ways.{on_channel, gsmp_to_switch, gsmp_to_controller}
 use Rattle.branch_shapes.specs.Events.{HasOwnShapes}
 use Rattle.branch_shapes.proofs.Sites.{numbers_same, events_keep}
 use Rattle.input_events.specs.Coming.{CanCarry, IsOrdinary, IsRunning, HasLines}
 use Rattle.input_events.proofs.Events.{event_lines}
 use Rattle.frame_readings.specs.Reading.{MarksAreRead}
-use Rattle.world_views.specs.Made.{AreMade}
-use Rattle.world_views.specs.Ready.{IsReadySite}
-use Rattle.world_views.specs.Between.{EachSite, setups_of, HasShapes, HasPortsUp, IsWorld, HasAllShapes, HasAllPortsUp, HasAllInputs, HasAllMade}
-use Rattle.world_views.specs.Kept.{Comes, behind, Keeps}
+use Rattle.frame_readings.specs.world_views.Made.{AreMade}
+use Rattle.frame_readings.specs.world_views.Ready.{IsReadySite}
+use Rattle.frame_readings.specs.world_views.Between.{EachSite, setups_of, HasShapes, HasPortsUp, IsWorld, HasAllShapes, HasAllPortsUp, HasAllInputs, HasAllMade}
+use Rattle.frame_readings.specs.world_views.Kept.{Comes, behind, Keeps}
 use Rattle.run_facts.specs.Nodes.{RunsHaveNodes, IsNodeOfRun}
 use Rattle.run_facts.specs.Steps.{EventsAreSteps, RunsHaveFronts}
 use Rattle.running_worlds.specs.Running.{EventsAreOrdinary}

@@ -2,58 +2,34 @@
 
 use Rattle.std.proofs.Common.{◌≡◌, ℕ, Bool, true, false, not, List, [], ◌∷◌, ◌++◌, map, filter, fold, Option, None, Some, refl, ◌∙◌, ap, subst, arith, inr, length, flat_map, if◌then◌else◌}
 use Rattle.std.specs.Prelude.{◌==◌, nat_le}
-use Rattle.net_types.specs.declared.channel.Channel.{Channel}
-use Rattle.net_types.specs.declared.channel.End.{End}
-use Rattle.net_types.specs.declared.number.Mark.{Mark}
-use Rattle.net_types.specs.Number.{next_control, with_control}
-use Rattle.net_types.specs.declared.node.PortNo.{PortNo}
-use Rattle.net_types.specs.Label.{number_of_channel}
-use Rattle.adjacency_table.specs.Side.{is_estab}
-use Rattle.atm_cells.specs.declared.cell.Cell.{Cell}
-use Rattle.crossbar_model.specs.Channels.{IsLinkPort}
-use Rattle.crossbar_model.specs.Crossbar.{same_end}
-use Rattle.gsmp_wire.specs.declared.request.Request.{Request}
-use Rattle.gsmp_wire.specs.declared.request.Request.TheVariants.{AddBranch, MoveBranch, DeleteTree, VerifyTree, DeleteAll, PortManagement, AllPorts}
-use Rattle.ipv4_forward.specs.declared.change.RouteChange.{RouteChange}
-use Rattle.link_model.specs.declared.frames.Frame.{Frame}
-use Rattle.link_model.specs.declared.record.Record.TheVariants.{Part, Loss}
-use Rattle.link_model.specs.declared.record.Cause.TheVariants.{PoolFull}
-use Rattle.link_model.specs.Notes.{noted}
-use Rattle.frame_model.specs.Frame.{frame_cells, made}
-use Rattle.frame_model.specs.Sending.{Sent}
-use Rattle.gsmp_wire.specs.Layout.{octets_of as gsmp_octets}
-use Rattle.ordered_lists.specs.Ordered.{Every}
-use Rattle.ordered_lists.proofs.Every.{every_map, every_right}
-use Rattle.port_model.specs.Desk.{Desk, Standing, asked, last_transaction, empty_desk, message_at}
-use Rattle.port_model.specs.Messages.{is_up}
-use Rattle.port_model.specs.Requests.{withdraws}
-use Rattle.port_model.specs.Setup.{Setup, home_of}
-use Rattle.port_model.specs.Labels.{Label}
-use Rattle.port_model.specs.Saying.{closes}
-use Rattle.port_model.specs.Joins as port_joins
-use Rattle.port_model.specs.Answers as port_answers
-use Rattle.port_model.specs.Resets.{cleared}
-use Rattle.port_facts.specs.Port.{IsDefaultEnd, IsLabelEnd, IsLinked, IsPort, IsShaped, asks_ports, empties_control, empties_port, opens_input, opens_output, parts_label}
-use Rattle.port_facts.proofs.Keyed.{on_both, on_each}
-use Rattle.port_facts.proofs.Found.{find_every}
-use Rattle.port_facts.proofs.Rules.{done_goes}
-use Rattle.world_model.specs.Controller.{Controller, Acted, Linked, free_slots, linked_at, ports_of, with_desk, with_linked, note, default_channel, default_end, default_home}
+use Rattle.world_model.specs.Words.{Channel, End, Mark, next_control, with_control, PortNo, number_of_channel, is_estab, Cell, IsLinkPort, same_end, Request, AddBranch, MoveBranch, DeleteTree, VerifyTree, PortManagement, RouteChange, Frame, Part, Loss, PoolFull, noted, frame_cells, made, Desk, Standing, last_transaction, empty_desk, withdraws, Setup, home_of, Label, closes, Controller, Linked, linked_at, with_desk, with_linked, default_channel, default_end, default_home, asks, begins, join_of, joins_of, parts, releases_join, releases_input, released_inputs, resets_spent, releases, enters_grant, enters_label, joins, join_for, may_join, tries_label, label_on, tries_join, inputs_at, tries_joins, meets, up_ports, empties, default_branches, ends_meeting, has_emptied, port_of_input, tells_port, behind_delete_all, causes_in_estab, causes, may_clear, clears_of, clears_port, clears, changed_joins, is_changed, takes_join_back, begins_change, takes_change, may_take, takes_each, takes_changes, change_comes}
+use Rattle.world_model.specs.gsmp_wire.declared.request.Request.TheVariants.{DeleteAll, AllPorts}
+use Rattle.world_model.specs.frame_model.Sending.{Sent}
+use Rattle.world_model.specs.gsmp_wire.Layout.{octets_of as gsmp_octets}
+use Rattle.frame_readings.specs.ordered_lists.Ordered.{Every}
+use Rattle.frame_readings.proofs.ordered_lists.Every.{every_map, every_right}
+use Rattle.world_model.specs.port_model.Desk.{asked, message_at}
+use Rattle.world_model.specs.port_model.Messages.{is_up}
+use Rattle.world_model.specs.port_model.Joins as port_joins
+use Rattle.world_model.specs.port_model.Answers as port_answers
+use Rattle.world_model.specs.port_model.Resets.{cleared}
+use Rattle.frame_readings.specs.port_facts.Port.{IsDefaultEnd, IsLabelEnd, IsLinked, IsPort, IsShaped, asks_ports, empties_control, empties_port, opens_input, opens_output, parts_label}
+use Rattle.frame_readings.proofs.port_facts.Keyed.{on_both, on_each}
+use Rattle.frame_readings.proofs.port_facts.Found.{find_every}
+use Rattle.frame_readings.proofs.port_facts.Rules.{done_goes}
+use Rattle.world_model.specs.Controller.{Acted, free_slots, ports_of, note}
 use Rattle.world_model.specs.Sending.{with_cells, sends}
-use Rattle.world_model.specs.Asking.{asks}
-use Rattle.world_model.specs.Resets.{begins}
-use Rattle.world_model.specs.Joins.{Join, join_of, joins_of, parts, releases_join, releases_input, released_inputs, resets_spent, releases, output_of, enters_grant, enters_label, joins, join_for, may_join, tries_label, label_on, tries_join, inputs_at, tries_joins}
-use Rattle.world_model.specs.Meeting.{meets, up_ports, empties, default_branches, ends_meeting, has_emptied, port_of_input, tells_port, behind_delete_all, causes_in_estab, causes, may_clear, clears_of, clears_port, clears}
-use Rattle.world_model.specs.Changes.{changed_joins, is_changed, takes_join_back, begins_change, takes_change, may_take, takes_each, takes_changes, change_comes}
-use Rattle.controller_facts.proofs.Moves.{HasPorts, Found, by_rule, by_giving_back, by_closing, moves_ports, moves_to, ending_meeting, routing, IsShapedStanding}
-use Rattle.controller_facts.proofs.Performing.{Any, any_ports, asks_goes, takes_back_goes, ports_linked}
-use Rattle.controller_facts.proofs.Joining.{IsJoin, joins_are, join_input, join_output, parts_grants, granted_there, parts_goes, releases_input_goes, resets_spent_goes, releases_goes, AnyEnd, any_ends, begins_change_goes, takes_change_goes, every_filter, every_flat_map, each_there}
-use Rattle.controller_facts.proofs.Entering.{tries_join_goes, inputs_of_port}
-use Rattle.controller_facts.proofs.Events.{clears_goes, causes_goes}
-use Rattle.input_steps.proofs.Resets.{note_still}
-use Rattle.input_premises.specs.Read.{AreRead}
-use Rattle.input_premises.proofs.Asking.{asks_is}
-use Rattle.input_premises.proofs.Releasing.{parted_asks}
-use Rattle.input_premises.proofs.Finishing.{emptied_end}
+use Rattle.world_model.specs.Joins.{Join, output_of}
+use Rattle.frame_readings.proofs.controller_facts.Moves.{HasPorts, Found, by_rule, by_giving_back, by_closing, moves_ports, moves_to, ending_meeting, routing, IsShapedStanding}
+use Rattle.frame_readings.proofs.controller_facts.Performing.{Any, any_ports, asks_goes, takes_back_goes, ports_linked}
+use Rattle.frame_readings.proofs.controller_facts.Joining.{IsJoin, joins_are, join_input, join_output, parts_grants, granted_there, parts_goes, releases_input_goes, resets_spent_goes, releases_goes, AnyEnd, any_ends, begins_change_goes, takes_change_goes, every_filter, every_flat_map, each_there}
+use Rattle.frame_readings.proofs.controller_facts.Entering.{tries_join_goes, inputs_of_port}
+use Rattle.frame_readings.proofs.controller_facts.Events.{clears_goes, causes_goes}
+use Rattle.input_events.proofs.input_steps.Resets.{note_still}
+use Rattle.input_events.specs.input_premises.Read.{AreRead}
+use Rattle.input_events.proofs.input_premises.Asking.{asks_is}
+use Rattle.input_events.proofs.input_premises.Releasing.{parted_asks}
+use Rattle.input_events.proofs.input_premises.Finishing.{emptied_end}
 use Rattle.running_worlds.specs.Mode.{Mode, Told, Untold}
 use Rattle.running_worlds.specs.Fine.{Allows}
 use Rattle.running_worlds.proofs.Asking.{Fine, told_allows, still_fine, asks_where_fine, asks_fine, moves_allowed, takes_back_fine, at_port_fine, quiet_fine, fine_fold}

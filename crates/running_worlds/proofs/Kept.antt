@@ -5,53 +5,35 @@ use Rattle.std.specs.Prelude.{◌^◌, nat_lt, All, Contains}
 use Rattle.std.specs.Option.{option_and_then}
 use Rattle.std.proofs.lemmas.Option.{get_or_from_slice_get, slice_get_within}
 use Rattle.std.proofs.lemmas.List.{length-map}
-use Rattle.net_types.specs.declared.node.NodeId.{NodeId}
-use Rattle.net_types.specs.declared.node.PortNo.{PortNo}
-use Rattle.net_types.specs.declared.node.Place.TheVariants.{Down, Up, Out}
-use Rattle.net_types.specs.declared.number.Mark.{Mark}
-use Rattle.net_types.specs.declared.prefix.Addr.{Addr}
-use Rattle.atm_cells.specs.declared.cell.Cell.{Cell}
-use Rattle.gsmp_wire.specs.declared.message.Message.{Message}
-use Rattle.gsmp_wire.specs.declared.fault.Fault.{Fault}
-use Rattle.gsmp_wire.specs.Fields.{decoded}
-use Rattle.link_model.specs.declared.frames.Frame.{Frame}
-use Rattle.link_model.specs.Ledger.{payload_of}
-use Rattle.frame_model.specs.Frame.{octets_of, last_mark, payload_in}
-use Rattle.port_model.specs.Desk.{Standing}
+use Rattle.world_model.specs.Words.{NodeId, PortNo, Down, Up, Out, Mark, Addr, Cell, Frame, payload_of, last_mark, payload_in, Standing, control_port, numbers_of, is_gsmp, Policy, Linked, default_channel, ForGsmp, ForDefault, ForLabel, same_channel, taker_of, reassembly_of, Topology, Node, node_in, IsPlace, IsEvent, World, Site, site_at, queue_at, put_away, gsmp_of, gsmp_under, copy_of, on_channel, requests_chain_at, past_of, frames_of, IsTame}
+use Rattle.world_model.specs.gsmp_wire.declared.message.Message.{Message}
+use Rattle.world_model.specs.gsmp_wire.declared.fault.Fault.{Fault}
+use Rattle.world_model.specs.gsmp_wire.Fields.{decoded}
+use Rattle.world_model.specs.frame_model.Frame.{octets_of}
 use Rattle.world_model.specs.Switch as switches
-use Rattle.world_model.specs.Switch.{control_port, numbers_of}
 use Rattle.world_model.specs.declared.port.PortState.{PortState}
 use Rattle.world_model.specs.Answers.{row_of}
-use Rattle.world_model.specs.Conduct.{is_gsmp}
-use Rattle.port_model.specs.Setup.{Policy}
-use Rattle.world_model.specs.Controller.{free_slots, Linked, default_channel, ports_of}
-use Rattle.world_model.specs.Cells.{Taker, ForGsmp, ForDefault, ForLabel, same_channel, taker_of, reassembly_of}
-use Rattle.causes.proofs.Shown.{peer_back}
+use Rattle.world_model.specs.Controller.{free_slots, ports_of}
+use Rattle.world_model.specs.Cells.{Taker}
+use Rattle.branch_shapes.proofs.causes.Shown.{peer_back}
 use Rattle.world_model.specs.declared.event.Event.{Event}
 use Rattle.world_model.specs.declared.event.Event.TheVariants.{Inject, Carry, Lose, Tick, TickSwitch, Restart, RestartSwitch, Forge, Route}
-use Rattle.world_model.specs.Topology.{Topology, Node, node_in}
-use Rattle.world_model.specs.Conditions.{IsPlace, IsEvent}
-use Rattle.world_model.specs.World.{World, Site, site_at}
-use Rattle.world_model.specs.Places.{queue_at}
-use Rattle.world_model.specs.Run.{put_away}
 use Rattle.world_model.specs.Step.{acts}
-use Rattle.world_model.specs.Ways.{told, gsmp_of, gsmp_under, copy_of, on_channel, requests_chain_at}
-use Rattle.world_model.specs.Past.{past_of, frames_of}
-use Rattle.world_model.specs.Headline.{IsTame}
-use Rattle.world_views.specs.Made.{IsFit, AreMade}
-use Rattle.world_views.specs.Marks.{heading_at, Means}
-use Rattle.world_views.specs.Ready.{setups_of, IsReadySite}
-use Rattle.world_views.specs.Shown.{acting}
-use Rattle.world_views.specs.Between.{HasAllMade, HasAllReady, IsWorld}
-use Rattle.world_views.specs.Kept.{Comes, Keeps}
+use Rattle.world_model.specs.Ways.{told}
+use Rattle.frame_readings.specs.world_views.Made.{IsFit, AreMade}
+use Rattle.frame_readings.specs.world_views.Marks.{heading_at, Means}
+use Rattle.frame_readings.specs.world_views.Ready.{setups_of, IsReadySite}
+use Rattle.frame_readings.specs.world_views.Shown.{acting}
+use Rattle.frame_readings.specs.world_views.Between.{HasAllMade, HasAllReady, IsWorld}
+use Rattle.frame_readings.specs.world_views.Kept.{Comes, Keeps}
 use Rattle.run_facts.specs.Nodes.{IsNodeOfRun, RunsHaveNodes, RunsHaveRoom}
 use Rattle.run_facts.specs.Steps.{EventsAreSteps, HasFront, RunsHaveFronts}
 use Rattle.frame_readings.proofs.Reading.{read_said}
 use Rattle.running_worlds.proofs.MadeCells.{Ends, IsRead, taken_by}
 use Rattle.running_worlds.proofs.Switch as switch
 use Rattle.running_worlds.proofs.Switch.{IsSized}
-use Rattle.input_steps.specs.Asking.{IsAsked}
-use Rattle.input_premises.proofs.Asking.{shaped_asked}
+use Rattle.input_events.specs.input_steps.Asking.{IsAsked}
+use Rattle.input_events.proofs.input_premises.Asking.{shaped_asked}
 use Rattle.running_worlds.proofs.Labels.{of_label, label_read}
 use Rattle.running_worlds.proofs.MadeSites.{IsKnown, Before, Behind}
 use Rattle.running_worlds.proofs.MadeEvents.{IsGiven, event_behind}

@@ -3,31 +3,17 @@
 use Rattle.std.proofs.Common.{◌≡◌, ◌≢◌, ℕ, ◌<◌, Bool, true, false, List, Option, None, Some, Result, Ok, refl, sym, ◌∙◌, subst, arith, if◌then◌else◌}
 use Rattle.std.specs.Prelude.{◌==◌}
 use Rattle.std.specs.Option.{option_and_then}
-use Rattle.net_types.specs.declared.channel.Channel.{Channel}
-use Rattle.net_types.specs.declared.node.NodeId.{NodeId}
-use Rattle.net_types.specs.declared.node.PortNo.{PortNo}
-use Rattle.net_types.specs.declared.node.Place.TheVariants.{Up}
-use Rattle.net_types.specs.declared.number.Mark.{Mark}
-use Rattle.net_types.specs.Label.{number_of_channel, is_label_channel, label_number_of}
-use Rattle.ipv4_packet.specs.declared.flow.FlowId.{FlowId}
-use Rattle.flow_encaps.specs.declared.default.EncapsFault.{EncapsFault}
-use Rattle.flow_encaps.specs.Labelled.{Carries}
-use Rattle.flow_encaps.specs.Unwrapped.{unwrapped}
-use Rattle.link_model.specs.Ledger.{payload_of}
-use Rattle.link_model.specs.declared.record.Record.{Record}
-use Rattle.ordered_lists.specs.Ordered.{Every}
-use Rattle.port_model.specs.Labels.{Label, LabelState, Wiring, Offered, Recalled, Wired, is_bound, label_number}
-use Rattle.port_model.specs.Port.{label_at, labels_of}
-use Rattle.port_facts.proofs.Keyed.{at_key, at_every}
-use Rattle.world_model.specs.Controller.{Controller, Acted, Linked, port_key, linked_at, default_channel}
-use Rattle.world_model.specs.Cells.{Taker, ForGsmp, ForDefault, ForLabel, port_on, on_link, same_channel, label_taker, taker_at, taker_of}
-use Rattle.controller_bindings.specs.Bindings.{site, IsBoundLast, HasBoundLabels}
+use Rattle.world_model.specs.Words.{Channel, NodeId, PortNo, Up, Mark, number_of_channel, is_label_channel, label_number_of, FlowId, EncapsFault, Carries, unwrapped, payload_of, Record, Label, LabelState, Wiring, Offered, Recalled, Wired, is_bound, label_number, label_at, labels_of, Controller, Linked, port_key, linked_at, default_channel, ForGsmp, ForDefault, ForLabel, port_on, on_link, same_channel, label_taker, taker_at, taker_of, Past, frames_of, last_bound}
+use Rattle.frame_readings.specs.ordered_lists.Ordered.{Every}
+use Rattle.frame_readings.proofs.port_facts.Keyed.{at_key, at_every}
+use Rattle.world_model.specs.Controller.{Acted}
+use Rattle.world_model.specs.Cells.{Taker}
+use Rattle.branch_shapes.specs.controller_bindings.Bindings.{site, IsBoundLast, HasBoundLabels}
 use Rattle.world_model.specs.declared.link.LinkEnd.{LinkEnd}
-use Rattle.world_model.specs.Past.{Past, frames_of, last_bound}
-use Rattle.world_views.specs.Made.{IsFit}
-use Rattle.world_views.specs.Marks.{own_end, heading_at, Means, early, control, local, plain, labelled}
+use Rattle.frame_readings.specs.world_views.Made.{IsFit}
+use Rattle.frame_readings.specs.world_views.Marks.{own_end, heading_at, Means, early, control, local, plain, labelled}
 use Rattle.frame_readings.proofs.Reading.{read_label}
-use Rattle.controller_law.proofs.Ordering.{same_number}
+use Rattle.input_events.proofs.controller_law.Ordering.{same_number}
 
 -- *The taker of a label's channel*: the label of that number at the port of the channel
 pub record IsOfLabel (c : Controller) (channel : Channel) (linked : Linked) (label : Label) : Type 0 where

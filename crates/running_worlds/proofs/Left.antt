@@ -1,19 +1,9 @@
 -- sites are put, queues lose their heads: what is left stays
 
 use Rattle.std.proofs.Common.{◌≡◌, ◌≢◌, ℕ, ◌≤◌, zero, suc, List, [], ◌∷◌, length, Some, refl, sym, ◌∙◌, ap, subst, arith, slice_set, slice_index_or}
-use Rattle.net_types.specs.declared.node.NodeId.{NodeId}
-use Rattle.net_types.specs.declared.node.Place.{Place}
-use Rattle.net_types.specs.declared.node.Place.TheVariants.{Down, Up, Out}
-use Rattle.atm_cells.specs.declared.cell.Cell.{Cell}
-use Rattle.link_model.specs.declared.frames.Frame.{Frame}
-use Rattle.link_model.specs.Ledger.{payload_of}
-use Rattle.ordered_lists.specs.Ordered.{Every}
-use Rattle.crossbar_model.specs.Crossbar.{queue_of}
-use Rattle.world_model.specs.Switch.{control_port}
-use Rattle.port_model.specs.Setup.{Setup}
-use Rattle.port_facts.proofs.Keyed.{by_eq}
-use Rattle.world_model.specs.World.{World, Site, site_at, with_site}
-use Rattle.world_model.specs.Places.{queue_in, with_queue_in}
+use Rattle.world_model.specs.Words.{NodeId, Place, Down, Up, Out, Cell, Frame, payload_of, queue_of, control_port, Setup, World, Site, site_at, with_site, queue_in, with_queue_in}
+use Rattle.frame_readings.specs.ordered_lists.Ordered.{Every}
+use Rattle.frame_readings.proofs.port_facts.Keyed.{by_eq}
 use Rattle.input_events.specs.Coming.{CanLose}
 use Rattle.input_events.proofs.Sites.{put_at}
 use Rattle.running_worlds.specs.New.{AsksShaped, TellsUp, SinceThen, control_mark}

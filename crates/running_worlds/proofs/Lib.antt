@@ -1,3 +1,12 @@
+pub use Rattle.frame_readings.proofs.port_facts as port_facts
+pub use Rattle.run_facts.proofs.actor_pace as actor_pace
+pub use Rattle.frame_readings.proofs.shown_cells as shown_cells
+pub use Rattle.input_events.proofs.input_steps as input_steps
+pub use Rattle.input_events.proofs.input_premises as input_premises
+pub use Rattle.frame_readings.proofs as frame_readings
+pub use Rattle.input_events.proofs as input_events
+pub use Rattle.branch_shapes.proofs.causes as causes
+pub use Rattle.run_facts.proofs as run_facts
 pub mod Lists
 pub mod Tame
 pub mod Sites

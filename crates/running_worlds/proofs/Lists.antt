@@ -2,8 +2,8 @@
 
 use Rattle.std.proofs.Common.{◌≡◌, ℕ, ◌<◌, zero, suc, Bool, true, false, List, [], ◌∷◌, ◌++◌, map, filter, length, refl, sym, subst, arith, slice_index_or, if◌then◌else◌}
 use Rattle.std.specs.Prelude.{All, Contains}
-use Rattle.net_types.specs.declared.node.PortNo.{PortNo}
-use Rattle.ordered_lists.specs.Ordered.{Every, InOrder}
+use Rattle.world_model.specs.Words.{PortNo}
+use Rattle.frame_readings.specs.ordered_lists.Ordered.{Every, InOrder}
 use Rattle.input_events.specs.Coming.{IsBelow}
 
 module _ {A : Type 0} where

@@ -4,8 +4,8 @@ use Rattle.run_facts.proofs.Nodes.{runs_have_nodes}
 use Rattle.run_facts.proofs.Rooms.{runs_have_room}
 use Rattle.run_facts.proofs.Steps.{events_are_steps, runs_have_fronts}
 use Rattle.running_worlds.proofs.Worlds.{events_true}
-use Rattle.world_views.specs.Between.{HasAllMade, HasAllReady}
-use Rattle.world_views.specs.Kept.{Keeps, Begins}
+use Rattle.frame_readings.specs.world_views.Between.{HasAllMade, HasAllReady}
+use Rattle.frame_readings.specs.world_views.Kept.{Keeps, Begins}
 use Rattle.running_worlds.proofs.MadeTame.{controllers_pass, switches_pass}
 use Rattle.running_worlds.proofs.Kept.{ControllersPass, SwitchesPass, made_kept, ready_kept}
 use Rattle.running_worlds.proofs.Opening.{ready_begins}

@@ -5,60 +5,38 @@ use Rattle.std.proofs.Common.{◌≡◌, ◌≢◌, ℕ, Bool, true, false, List
 use Rattle.std.specs.Prelude.{◌==◌, ◌^◌, ◌<◌, nat_lt}
 use Rattle.std.specs.Option.{option_and_then}
 use Rattle.std.proofs.lemmas.Bool.Decides.{nat_tests}
-use Rattle.net_types.specs.declared.channel.Channel.{Channel}
-use Rattle.net_types.specs.declared.node.PortNo.{PortNo}
-use Rattle.net_types.specs.declared.number.Mark.{Mark}
-use Rattle.net_types.specs.declared.prefix.Addr.{Addr}
-use Rattle.net_types.specs.Label.{label_number_of}
-use Rattle.ipv4_packet.specs.Packet.{protocol_of, source_of, first_fault, ifmp_packet_of}
-use Rattle.ipv4_packet.specs.declared.validate.PacketFault.{PacketFault}
-use Rattle.ipv4_forward.specs.Hop.{hop_of, onward}
-use Rattle.ipv4_forward.specs.declared.outcome.Hop.{Hop}
-use Rattle.ipv4_forward.specs.declared.outcome.Hop.TheVariants.{Here, On, NoRoute, Expired}
-use Rattle.atm_cells.specs.declared.cell.Cell.{Cell}
-use Rattle.ipv4_packet.specs.Flow.{kind_of}
-use Rattle.flow_encaps.specs.declared.default.EncapsFault.{EncapsFault}
-use Rattle.flow_encaps.specs.Default.{default_payload}
-use Rattle.flow_encaps.specs.Labelled.{labelled_payload}
-use Rattle.flow_encaps.specs.Unwrapped.{default_unwrapped, unwrapped}
-use Rattle.ifmp_wire.specs.declared.message.Message.{Message as IfmpMessage}
-use Rattle.ifmp_wire.specs.declared.reader.Fault.{Fault as IfmpFault}
-use Rattle.ifmp_wire.specs.Message.{octets_of as ifmp_octets}
-use Rattle.ifmp_wire.specs.Fields.{decoded as ifmp_decoded}
-use Rattle.gsmp_wire.specs.declared.fault.Fault.{Fault}
-use Rattle.gsmp_wire.specs.declared.message.Message.{Message}
-use Rattle.gsmp_wire.specs.Fields.{decoded as gsmp_decoded}
-use Rattle.link_model.specs.declared.record.Cause.TheVariants.{Unbound}
-use Rattle.link_model.specs.declared.record.Layer.TheVariants as layers
-use Rattle.link_model.specs.declared.record.DropCause.TheVariants as causes_of
-use Rattle.link_model.specs.declared.record.Record.TheVariants.{Bad, Loss, Delivered, Dropped}
-use Rattle.link_model.specs.Notes.{Journal}
-use Rattle.refusal_names.specs.Names.{encaps_refusal, gsmp_refusal}
-use Rattle.frame_model.specs.Frame.{tested_by, octets_of, payload_in, last_mark, next_mark}
-use Rattle.frame_model.specs.Reassembly.{Reassembly, Taken, taken, cut, nothing_taken}
-use Rattle.port_model.specs.Setup.{Setup, control_end}
-use Rattle.port_model.specs.Labels.{Label, is_bound}
-use Rattle.port_model.specs.Port.{Port, label_at}
-use Rattle.port_model.specs.Grants.{Grant}
-use Rattle.port_facts.proofs.Keyed.{on_each, at_every, put_every}
-use Rattle.port_facts.proofs.Rules.{and_first}
-use Rattle.world_model.specs.Controller.{Acted, Linked, port_key, free_slots, linked_at, ports_of, with_linked, chains_with, default_channel, default_home}
-use Rattle.world_model.specs.Sending.{sends, sends_control}
-use Rattle.world_model.specs.Packets.{is_control, sends_next, goes_by, grant_by, forwarded, routes, injected, control_protocol}
-use Rattle.world_model.specs.Gsmp.{gsmp_holds}
-use Rattle.world_model.specs.Resets.{cuts_default_of, cuts_default, cuts_gsmp, node_resets, node_restarts}
-use Rattle.controller_facts.proofs.Performing.{Any, any_ports}
-use Rattle.world_model.specs.Cells.{port_on, on_link, same_channel, label_taker, taker_at, taker_of, after_test, Taker, ForGsmp, ForDefault, ForLabel, reassembly_of, with_reassembly, label_holds, ifmp_holds, counted_at, packet_holds, default_holds, frame_holds, ends_frame, after_cell, takes_cell, cell_comes}
-use Rattle.controller_facts.proofs.Moves.{Found, taking_notes, gathering, chaining, moves_to, HasPorts, found_at_own}
-use Rattle.controller_facts.proofs.Events.{IsTaker}
-use Rattle.controller_lifts.proofs.Kept.{Of}
-use Rattle.controller_lifts.proofs.Ready.{Fits as FitsIn}
-use Rattle.controller_lifts.proofs.Unspent.{Unspent}
-use Rattle.world_views.specs.Made.{IsFit, IsMadeAs, plain, labelled}
+use Rattle.world_model.specs.Words.{Channel, PortNo, Mark, Addr, label_number_of, protocol_of, source_of, ifmp_packet_of, PacketFault, hop_of, onward, Hop, Here, On, Cell, kind_of, EncapsFault, default_payload, labelled_payload, default_unwrapped, unwrapped, Unbound, Bad, Loss, Delivered, Dropped, Journal, encaps_refusal, gsmp_refusal, tested_by, payload_in, last_mark, next_mark, Reassembly, cut, nothing_taken, Setup, control_end, Label, is_bound, label_at, Grant, Linked, port_key, linked_at, with_linked, chains_with, default_channel, default_home, sends_control, is_control, sends_next, goes_by, grant_by, routes, injected, control_protocol, gsmp_holds, cuts_default_of, cuts_default, cuts_gsmp, node_resets, node_restarts, port_on, on_link, same_channel, label_taker, taker_at, taker_of, ForGsmp, ForDefault, ForLabel, reassembly_of, with_reassembly, label_holds, ifmp_holds, counted_at, packet_holds, default_holds, frame_holds, takes_cell}
+use Rattle.world_model.specs.ipv4_packet.Packet.{first_fault}
+use Rattle.world_model.specs.ipv4_forward.declared.outcome.Hop.TheVariants.{NoRoute, Expired}
+use Rattle.world_model.specs.ifmp_wire.declared.message.Message.{Message as IfmpMessage}
+use Rattle.world_model.specs.ifmp_wire.declared.reader.Fault.{Fault as IfmpFault}
+use Rattle.world_model.specs.ifmp_wire.Message.{octets_of as ifmp_octets}
+use Rattle.world_model.specs.ifmp_wire.Fields.{decoded as ifmp_decoded}
+use Rattle.world_model.specs.gsmp_wire.declared.fault.Fault.{Fault}
+use Rattle.world_model.specs.gsmp_wire.declared.message.Message.{Message}
+use Rattle.world_model.specs.gsmp_wire.Fields.{decoded as gsmp_decoded}
+use Rattle.world_model.specs.link_model.declared.record.Layer.TheVariants as layers
+use Rattle.world_model.specs.link_model.declared.record.DropCause.TheVariants as causes_of
+use Rattle.world_model.specs.frame_model.Frame.{octets_of}
+use Rattle.world_model.specs.frame_model.Reassembly.{Taken, taken}
+use Rattle.world_model.specs.port_model.Port.{Port}
+use Rattle.frame_readings.proofs.port_facts.Keyed.{on_each, at_every, put_every}
+use Rattle.frame_readings.proofs.port_facts.Rules.{and_first}
+use Rattle.world_model.specs.Controller.{Acted, free_slots, ports_of}
+use Rattle.world_model.specs.Sending.{sends}
+use Rattle.world_model.specs.Packets.{forwarded}
+use Rattle.frame_readings.proofs.controller_facts.Performing.{Any, any_ports}
+use Rattle.world_model.specs.Cells.{after_test, Taker, ends_frame, after_cell, cell_comes}
+use Rattle.frame_readings.proofs.controller_facts.Moves.{Found, taking_notes, gathering, chaining, moves_to, HasPorts, found_at_own}
+use Rattle.frame_readings.proofs.controller_facts.Events.{IsTaker}
+use Rattle.frame_readings.proofs.controller_lifts.Kept.{Of}
+use Rattle.frame_readings.proofs.controller_lifts.Ready.{Fits as FitsIn}
+use Rattle.frame_readings.proofs.controller_lifts.Unspent.{Unspent}
+use Rattle.frame_readings.specs.world_views.Made.{IsFit, IsMadeAs, plain, labelled}
 use Rattle.frame_readings.specs.Reading.{Holds, sent, told as holds_told}
 use Rattle.frame_readings.proofs.Packets.{is_forwarded, is_heard}
 use Rattle.frame_readings.proofs.Reading.{read_default, read_said}
-use Rattle.shown_cells.proofs.Tested.{cut_frames, taken_frames, tested_frames}
+use Rattle.frame_readings.proofs.shown_cells.Tested.{cut_frames, taken_frames, tested_frames}
 use Rattle.running_worlds.proofs.Making.{fit_onward, grant_by_is, carries_onward}
 use Rattle.running_worlds.proofs.Walk.{To, stays, goes_on, to_fold, alike_to, note_to, node_to, sends_to}
 use Rattle.running_worlds.proofs.Rules.{hears_to, counts_to, used_to}

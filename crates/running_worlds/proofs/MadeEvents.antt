@@ -3,32 +3,21 @@
 use Rattle.std.proofs.Common.{◌≡◌, ◌≢◌, ℕ, ◌+◌, ◌≤◌, ◌<◌, Bool, true, false, List, [], ◌∷◌, Option, None, Some, refl, subst, arith, inl, inr}
 use Rattle.std.specs.Prelude.{◌^◌, ◌==◌, ◌&&◌}
 use Rattle.std.proofs.lemmas.Bool.Decides.{nat_tests}
-use Rattle.net_types.specs.declared.node.NodeId.{NodeId}
-use Rattle.net_types.specs.declared.node.PortNo.{PortNo}
-use Rattle.net_types.specs.declared.node.Place.{Place}
-use Rattle.net_types.specs.declared.node.Place.TheVariants.{Down, Up, Out}
-use Rattle.atm_cells.specs.declared.cell.Cell.{Cell}
-use Rattle.link_model.specs.declared.record.Refusal.{Refusal}
-use Rattle.world_model.specs.Switch.{control_port}
+use Rattle.world_model.specs.Words.{NodeId, PortNo, Place, Down, Up, Out, Cell, Refusal, control_port, inject_refusal, injected, taker_of, node_restarts, change_comes, AreOctets, Topology, World, Site, site_at, queue_at, with_queue_in, with_queue_of, with_queue, injects_by, arrives_at, carries_head, loses_head}
 use Rattle.world_model.specs.Conduct as switch_conduct
-use Rattle.world_model.specs.Packets.{inject_refusal, injected}
 use Rattle.world_model.specs.Cells as controller_cells
-use Rattle.world_model.specs.Cells.{Taker, taker_of}
+use Rattle.world_model.specs.Cells.{Taker}
 use Rattle.world_model.specs.Ticks.{ticks}
-use Rattle.world_model.specs.Resets.{node_restarts}
-use Rattle.world_model.specs.Changes.{change_comes}
-use Rattle.controller_facts.proofs.Moves.{HasPorts}
-use Rattle.controller_facts.proofs.Laws.{has_ports}
+use Rattle.frame_readings.proofs.controller_facts.Moves.{HasPorts}
+use Rattle.frame_readings.proofs.controller_facts.Laws.{has_ports}
 use Rattle.world_model.specs.declared.event.Event.{Event}
 use Rattle.world_model.specs.declared.event.Event.TheVariants.{Inject, Carry, Lose, Tick, TickSwitch, Restart, RestartSwitch, Forge, Route}
 use Rattle.world_model.specs.declared.link.LinkEnd.{LinkEnd}
-use Rattle.world_model.specs.Conditions.{AreOctets}
-use Rattle.world_model.specs.Topology.{Topology, peer_of}
-use Rattle.world_model.specs.World.{World, Site, site_at, at_controller, at_switch}
-use Rattle.world_model.specs.Places.{queue_at, with_queue_in, with_queue_of, with_queue}
-use Rattle.world_model.specs.Step.{injects_by, arrives_at, carries_head, loses_head, acts}
-use Rattle.world_views.specs.Ready.{setups_of}
-use Rattle.world_views.specs.Shown.{acting}
+use Rattle.world_model.specs.Topology.{peer_of}
+use Rattle.world_model.specs.World.{at_controller, at_switch}
+use Rattle.world_model.specs.Step.{acts}
+use Rattle.frame_readings.specs.world_views.Ready.{setups_of}
+use Rattle.frame_readings.specs.world_views.Shown.{acting}
 use Rattle.running_worlds.proofs.Walk.{To}
 use Rattle.running_worlds.proofs.MadeJoining.{change_comes_to}
 use Rattle.running_worlds.proofs.Meeting.{controller_ticks_to}

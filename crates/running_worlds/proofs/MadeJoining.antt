@@ -3,38 +3,18 @@
 use Rattle.std.proofs.Common.{◌≡◌, true, false, List, [], ◌∷◌, ◌++◌, Option, None, Some, refl, sym, ◌∙◌, ap, subst, fold}
 use Rattle.std.specs.Prelude.{not, nat_lt, ◌+◌, ◌&&◌, is_none, flat_map, length}
 use Rattle.std.specs.Option.{option_map}
-use Rattle.net_types.specs.declared.node.PortNo.{PortNo}
-use Rattle.net_types.specs.declared.channel.End.{End}
-use Rattle.net_types.specs.Label.{number_of_channel}
-use Rattle.ipv4_forward.specs.Best.{best}
-use Rattle.ipv4_forward.specs.Change.{changed}
-use Rattle.ipv4_forward.specs.declared.change.RouteChange.{RouteChange}
-use Rattle.ipv4_packet.specs.declared.flow.FlowId.{FlowId}
-use Rattle.ipv4_packet.specs.Flow.{next_hop_of}
-use Rattle.ipv4_packet.specs.Parts.{same_flow, flow_destination}
-use Rattle.gsmp_wire.specs.declared.request.Request.{Request}
-use Rattle.gsmp_wire.specs.declared.request.Request.TheVariants.{MoveBranch}
-use Rattle.link_model.specs.declared.record.Record.TheVariants.{Part, Routes}
-use Rattle.crossbar_model.specs.Crossbar.{same_end}
-use Rattle.ordered_lists.proofs.Every.{every_map}
-use Rattle.keyed_lists.specs.Keyed.{at}
-use Rattle.port_model.specs.Desk.{on_input, most_asked}
-use Rattle.port_model.specs.Setup.{Setup, home_of}
-use Rattle.port_model.specs.Labels.{Label, Offered, label_number}
-use Rattle.port_model.specs.Grants.{Grant, ByController, grant_label, grant_for, is_by_controller}
-use Rattle.port_model.specs.Port.{labels_of}
-use Rattle.port_facts.specs.Port.{IsLabelEnd, IsPort, parts_label, joins_label}
-use Rattle.port_facts.proofs.Keyed.{on_both, on_each, apart_at}
-use Rattle.port_facts.proofs.Found.{find_every, find_passes}
-use Rattle.port_facts.proofs.Rules.{and_first}
-use Rattle.world_model.specs.Controller.{Acted, Linked, linked_at, ports_of, note}
-use Rattle.world_model.specs.Routes.{route_stays}
-use Rattle.world_model.specs.Joins.{Join, joins_of, join_of, parts, releases_join, releases_input, released_inputs, resets_spent, releases, port_by, join_through, join_by, join_for, is_offered, may_join, enters_grant, output_of, enters_label, joins, tries_label, label_on, tries_join, inputs_at, tries_joins}
-use Rattle.world_model.specs.Changes.{is_changed, changed_joins, takes_join_back, begins_change, takes_change, may_take, takes_each, takes_changes, change_comes}
-use Rattle.controller_facts.proofs.Moves.{Found, routing, moves_to, HasPorts, found_at_own, found_port}
-use Rattle.controller_facts.proofs.Joining.{every_filter, every_flat_map, IsJoin, each_there, joins_are, join_input, join_output, parts_grants, granted_there, image_is}
-use Rattle.controller_facts.proofs.Entering.{granted_end, OnPort, on_port, is_offered_by, by_controller, lends_labels, inputs_of_port}
-use Rattle.controller_facts.proofs.Laws.{moves_sound}
+use Rattle.world_model.specs.Words.{PortNo, End, number_of_channel, best, changed, RouteChange, FlowId, next_hop_of, same_flow, flow_destination, Request, MoveBranch, Part, Routes, same_end, at, on_input, most_asked, Setup, home_of, Label, Offered, label_number, Grant, ByController, grant_label, grant_for, is_by_controller, labels_of, Linked, linked_at, route_stays, joins_of, join_of, parts, releases_join, releases_input, released_inputs, resets_spent, releases, port_by, join_through, join_by, join_for, is_offered, may_join, enters_grant, enters_label, joins, tries_label, label_on, tries_join, inputs_at, tries_joins, is_changed, changed_joins, takes_join_back, begins_change, takes_change, may_take, takes_each, takes_changes, change_comes}
+use Rattle.frame_readings.proofs.ordered_lists.Every.{every_map}
+use Rattle.frame_readings.specs.port_facts.Port.{IsLabelEnd, IsPort, parts_label, joins_label}
+use Rattle.frame_readings.proofs.port_facts.Keyed.{on_both, on_each, apart_at}
+use Rattle.frame_readings.proofs.port_facts.Found.{find_every, find_passes}
+use Rattle.frame_readings.proofs.port_facts.Rules.{and_first}
+use Rattle.world_model.specs.Controller.{Acted, ports_of, note}
+use Rattle.world_model.specs.Joins.{Join, output_of}
+use Rattle.frame_readings.proofs.controller_facts.Moves.{Found, routing, moves_to, HasPorts, found_at_own, found_port}
+use Rattle.frame_readings.proofs.controller_facts.Joining.{every_filter, every_flat_map, IsJoin, each_there, joins_are, join_input, join_output, parts_grants, granted_there, image_is}
+use Rattle.frame_readings.proofs.controller_facts.Entering.{granted_end, OnPort, on_port, is_offered_by, by_controller, lends_labels, inputs_of_port}
+use Rattle.frame_readings.proofs.controller_facts.Laws.{moves_sound}
 use Rattle.running_worlds.proofs.Walk.{Loose, To, loosely, stays, goes_on, goes_loose, to_fold, loose_fold, alike_to, note_to}
 use Rattle.running_worlds.proofs.Performed.{asks_to, takes_back_to}
 use Rattle.running_worlds.proofs.Rules.{joined_to, parted_to, lent_to, given_back_loose, closes_loose}

@@ -2,24 +2,18 @@
 
 use Rattle.std.proofs.Common.{◌≡◌, ◌<◌, List, Option, None, Some, refl, sym, subst}
 use Rattle.std.specs.Prelude.{◌^◌}
-use Rattle.net_types.specs.declared.node.NodeId.{NodeId}
-use Rattle.net_types.specs.declared.node.Place.{Place}
-use Rattle.net_types.specs.declared.node.Place.TheVariants.{Down, Up, Out}
-use Rattle.atm_cells.specs.declared.cell.Cell.{Cell}
-use Rattle.ordered_lists.specs.Ordered.{Every}
-use Rattle.crossbar_model.specs.Channels.{IsLinkPort}
+use Rattle.world_model.specs.Words.{NodeId, Place, Down, Up, Out, Cell, IsLinkPort, Setup, World, Site, site_at, controller_acts, switch_acts, place_node, with_queue_in, with_queue_of, with_queue}
+use Rattle.frame_readings.specs.ordered_lists.Ordered.{Every}
 use Rattle.world_model.specs.Switch as switches
-use Rattle.port_model.specs.Setup.{Setup}
 use Rattle.world_model.specs.Controller.{Acted}
-use Rattle.controller_facts.proofs.Moves.{popping, moves_to}
-use Rattle.controller_views.specs.Ready.{IsReady}
-use Rattle.controller_lifts.proofs.Ready.{both_ready, split_unspent, split_fits}
-use Rattle.world_model.specs.World.{World, Site, site_at, controller_acts, at_controller, switch_acts, at_switch}
-use Rattle.world_model.specs.Places.{place_node, with_queue_in, with_queue_of, with_queue}
-pub use Rattle.world_views.proofs.Put.{put_found, Sited, put_sited}
-use Rattle.world_views.specs.Made.{AreMade}
-use Rattle.world_views.specs.Ready.{setups_of, IsReadySite}
-use Rattle.world_views.specs.Shown.{acting}
+use Rattle.frame_readings.proofs.controller_facts.Moves.{popping, moves_to}
+use Rattle.frame_readings.specs.controller_views.Ready.{IsReady}
+use Rattle.frame_readings.proofs.controller_lifts.Ready.{both_ready, split_unspent, split_fits}
+use Rattle.world_model.specs.World.{at_controller, at_switch}
+pub use Rattle.frame_readings.proofs.world_views.Put.{put_found, Sited, put_sited}
+use Rattle.frame_readings.specs.world_views.Made.{AreMade}
+use Rattle.frame_readings.specs.world_views.Ready.{setups_of, IsReadySite}
+use Rattle.frame_readings.specs.world_views.Shown.{acting}
 use Rattle.running_worlds.proofs.Walk.{Base, base_moves, Carried, To, alike_to}
 use Rattle.running_worlds.proofs.Switch as switch
 use Rattle.running_worlds.proofs.Switch.{IsSized, IsGood}

@@ -2,24 +2,15 @@
 
 use Rattle.std.proofs.Common.{◌≡◌, Bool, not, List, [], ◌∷◌, ◌++◌, length, refl, sym, subst}
 use Rattle.std.specs.Prelude.{nat_le, nat_lt}
-use Rattle.net_types.specs.declared.node.Place.TheVariants.{Down, Up}
-use Rattle.atm_cells.specs.declared.cell.Cell.{Cell}
-use Rattle.link_model.specs.Notes.{Journal}
-use Rattle.frame_model.specs.Frame.{last_mark}
-use Rattle.frame_model.specs.Reassembly.{Reassembly, Taken, taken, most_cells, passed_over, without_slot, too_long, joined}
-use Rattle.port_facts.proofs.Keyed.{on_each}
+use Rattle.world_model.specs.Words.{Down, Up, Cell, Journal, last_mark, Reassembly, most_cells, passed_over, without_slot, too_long, reassembly_of, World, put_away, past_of, frames_of, IsTame, Frame}
+use Rattle.world_model.specs.frame_model.Reassembly.{Taken, taken, joined}
+use Rattle.frame_readings.proofs.port_facts.Keyed.{on_each}
 use Rattle.world_model.specs.Switch as switches
 use Rattle.world_model.specs.Controller.{free_slots}
-use Rattle.world_model.specs.Cells.{reassembly_of}
 use Rattle.world_model.specs.declared.event.Event.TheVariants.{Carry}
-use Rattle.world_model.specs.World.{World}
-use Rattle.world_model.specs.Run.{put_away}
-use Rattle.world_model.specs.Past.{past_of, frames_of}
-use Rattle.world_model.specs.Headline.{IsTame}
-use Rattle.link_model.specs.declared.frames.Frame.{Frame}
-use Rattle.input_steps.specs.Hearing.{IsEnded, PassesTrue}
+use Rattle.input_events.specs.input_steps.Hearing.{IsEnded, PassesTrue}
 use Rattle.run_facts.specs.Steps.{EventsAreSteps, RunsHaveFronts}
-use Rattle.shown_cells.proofs.Tested.{frame_is}
+use Rattle.frame_readings.proofs.shown_cells.Tested.{frame_is}
 use Rattle.running_worlds.specs.Running.{TameEventsAreTrue}
 use Rattle.running_worlds.proofs.Kept.{IsTrue, ControllersPass, SwitchesPass}
 

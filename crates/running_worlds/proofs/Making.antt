@@ -4,33 +4,19 @@ use Rattle.std.proofs.Common.{◌≡◌, ℕ, ◌-◌, ◌≤◌, Bool, true, fa
 use Rattle.std.specs.Prelude.{◌==◌, ◌&&◌}
 use Rattle.std.specs.Option.{option_and_then, option_map_or, option_or}
 use Rattle.std.proofs.lemmas.List.{length-set}
-use Rattle.net_types.specs.declared.node.PortNo.{PortNo}
-use Rattle.net_types.specs.declared.number.Mark.{Mark}
-use Rattle.ipv4_packet.specs.Packet.{protocol_of, ttl_of, with_ttl, first_fault, IsPacket}
-use Rattle.ipv4_packet.proofs.HeaderLemmas.{IsPacket-with_ttl}
-use Rattle.ipv4_packet.proofs.RouteLemmas.{protocol_of-rerouted, canonical-canonical}
-use Rattle.ipv4_forward.specs.Hop.{onward}
-use Rattle.ipv4_packet.specs.declared.flow.FlowId.{FlowId}
-use Rattle.ipv4_packet.specs.declared.flow.FlowKind.{FlowKind}
-use Rattle.ipv4_packet.specs.declared.flow.FlowKind.TheVariants.{One, Two}
-use Rattle.ipv4_packet.specs.Flow.{kind_of, flow_of}
-use Rattle.ipv4_packet.specs.Parts.{same_flow}
-use Rattle.flow_encaps.specs.Labelled.{labelled_payload, Carries}
-use Rattle.link_model.specs.declared.frames.Frame.{Frame}
-use Rattle.link_model.specs.declared.record.Refusal.{Refusal}
-use Rattle.link_model.specs.declared.record.Refusal.TheVariants.{ControlProtocol}
-use Rattle.link_model.specs.Ledger.{same_mark, payload_of}
-use Rattle.link_model.proofs.Latest.{payload_of_push}
-use Rattle.link_model.proofs.Marks.{same_mark-Decides}
-use Rattle.port_model.specs.Grants.{Grant, is_by_controller, grant_for, grant_of_kind, grant_matching}
-use Rattle.port_facts.proofs.Found.{find_passes}
-use Rattle.port_facts.proofs.Rules.{and_second}
-use Rattle.world_model.specs.Controller.{Controller, Linked, linked_at}
-use Rattle.world_model.specs.Packets.{control_protocol, refused_by, grant_by}
-use Rattle.controller_facts.proofs.Onward.{octets_onward, packet_of}
-use Rattle.port_views.proofs.Flows.{flow_is}
+use Rattle.world_model.specs.Words.{PortNo, Mark, protocol_of, ttl_of, with_ttl, IsPacket, onward, FlowId, FlowKind, kind_of, flow_of, same_flow, labelled_payload, Carries, Frame, Refusal, ControlProtocol, same_mark, payload_of, Grant, is_by_controller, grant_for, grant_of_kind, grant_matching, Controller, Linked, linked_at, control_protocol, refused_by, grant_by}
+use Rattle.world_model.specs.ipv4_packet.Packet.{first_fault}
+use Rattle.world_model.proofs.ipv4_packet.HeaderLemmas.{IsPacket-with_ttl}
+use Rattle.world_model.proofs.ipv4_packet.RouteLemmas.{protocol_of-rerouted, canonical-canonical}
+use Rattle.world_model.specs.ipv4_packet.declared.flow.FlowKind.TheVariants.{One, Two}
+use Rattle.world_model.proofs.link_model.Latest.{payload_of_push}
+use Rattle.world_model.proofs.link_model.Marks.{same_mark-Decides}
+use Rattle.frame_readings.proofs.port_facts.Found.{find_passes}
+use Rattle.frame_readings.proofs.port_facts.Rules.{and_second}
+use Rattle.frame_readings.proofs.controller_facts.Onward.{octets_onward, packet_of}
+use Rattle.frame_readings.proofs.port_views.Flows.{flow_is}
 use Rattle.frame_readings.proofs.Packets.{is_forwarded, whole_packet}
-use Rattle.world_views.specs.Made.{IsFit, IsMadeAs, AreMade}
+use Rattle.frame_readings.specs.world_views.Made.{IsFit, IsMadeAs, AreMade}
 
 -- *One more frame*
 pub made_more : (frames : List Frame) (mark : Mark) (payload : List ℕ) → AreMade frames → IsMadeAs mark payload → AreMade (frames ++ record { mark = mark; payload = payload } ∷ [])

@@ -2,44 +2,30 @@
 
 use Rattle.std.proofs.Common.{◌≡◌, ℕ, zero, suc, ◌<◌, ◌≤◌, true, List, [], ◌∷◌, Option, None, Some, refl, arith, map, fold, if◌then◌else◌}
 use Rattle.std.specs.Prelude.{◌^◌, ◌==◌, ◌&&◌, find, take, flat_map}
-use Rattle.net_types.specs.declared.node.PortNo.{PortNo}
-use Rattle.net_types.specs.declared.adjacency.Party.{Party}
-use Rattle.adjacency_table.specs.declared.message.Said.{Said}
-use Rattle.adjacency_table.specs.declared.message.Answer.{Answer}
-use Rattle.adjacency_table.specs.declared.message.Answer.TheVariants.{Quiet, Send, Open, Reset}
-use Rattle.adjacency_table.specs.Side as sides
-use Rattle.adjacency_table.specs.Side.{is_estab, ticked}
-use Rattle.adjacency_table.specs.Greeting.{greeting_of, gsmp_answer, gsmp_received}
-use Rattle.gsmp_wire.specs.Range.{FitsRows, Fits}
-use Rattle.gsmp_wire.specs.declared.message.Message.{Message}
-use Rattle.gsmp_wire.specs.declared.message.Message.TheVariants as messages
-use Rattle.gsmp_wire.specs.declared.rows.PortRow.{PortRow}
-use Rattle.gsmp_wire.specs.declared.request.Request.{Request}
-use Rattle.gsmp_wire.specs.declared.request.Request.TheVariants.{AddBranch, MoveBranch, DeleteTree, VerifyTree, DeleteAll, PortManagement, AllPorts}
-use Rattle.ordered_lists.specs.Ordered.{Every}
-use Rattle.port_model.specs.Desk.{Standing, empty_desk, sent_again, last_transaction}
-use Rattle.port_model.specs.DeskAnswers.{Head, head_of, is_of_type, Answered, Unknown, Done, Ports, Failed, succeeded, outcome, answered_with, after_answer}
-use Rattle.port_model.specs.Setup.{Setup}
-use Rattle.port_model.specs.Resets.{cleared}
-use Rattle.port_facts.specs.Port.{IsLinked, IsShaped, asks_ports, empties_control, empties_port, opens_input, opens_output}
-use Rattle.port_facts.proofs.Keyed.{on_both, on_each, at_every, put_every}
-use Rattle.port_facts.proofs.Found.{find_every}
-use Rattle.port_widths.proofs.Rules.{cleared_fit}
-use Rattle.world_model.specs.Controller.{Acted, Linked, port_key, linked_at, ports_of, with_linked, with_desk, default_end, default_home}
-use Rattle.world_model.specs.Sending.{says_gsmp}
-use Rattle.world_model.specs.Asking.{asks, sends_request}
-use Rattle.world_model.specs.Joins.{releases, tries_joins}
-use Rattle.world_model.specs.Meeting.{meets, up_ports, empties, default_branches, ends_meeting, has_emptied, port_of_input, tells_port, behind_delete_all, causes_in_estab, causes, may_clear, clears_of, clears_port, clears, done, takes_answer, answer_comes}
+use Rattle.world_model.specs.Words.{PortNo, Party, Said, Answer, Quiet, Send, Open, is_estab, ticked, greeting_of, gsmp_answer, gsmp_received, FitsRows, Fits, PortRow, Request, AddBranch, MoveBranch, DeleteTree, VerifyTree, PortManagement, Standing, empty_desk, sent_again, last_transaction, Head, head_of, is_of_type, Answered, Unknown, Done, Ports, Failed, succeeded, outcome, answered_with, after_answer, Setup, Linked, port_key, linked_at, with_linked, with_desk, default_end, default_home, says_gsmp, asks, sends_request, releases, tries_joins, meets, up_ports, empties, default_branches, ends_meeting, has_emptied, port_of_input, tells_port, behind_delete_all, causes_in_estab, causes, may_clear, clears_of, clears_port, clears, takes_answer, answer_comes, sends_again, ticks_port, ticks_ports, ticks_by}
+use Rattle.world_model.specs.adjacency_table.declared.message.Answer.TheVariants.{Reset}
+use Rattle.world_model.specs.adjacency_table.Side as sides
+use Rattle.world_model.specs.gsmp_wire.declared.message.Message.{Message}
+use Rattle.world_model.specs.gsmp_wire.declared.message.Message.TheVariants as messages
+use Rattle.world_model.specs.gsmp_wire.declared.request.Request.TheVariants.{DeleteAll, AllPorts}
+use Rattle.frame_readings.specs.ordered_lists.Ordered.{Every}
+use Rattle.world_model.specs.port_model.Resets.{cleared}
+use Rattle.frame_readings.specs.port_facts.Port.{IsLinked, IsShaped, asks_ports, empties_control, empties_port, opens_input, opens_output}
+use Rattle.frame_readings.proofs.port_facts.Keyed.{on_both, on_each, at_every, put_every}
+use Rattle.frame_readings.proofs.port_facts.Found.{find_every}
+use Rattle.frame_readings.proofs.port_widths.Rules.{cleared_fit}
+use Rattle.world_model.specs.Controller.{Acted, ports_of}
+use Rattle.world_model.specs.Meeting.{done}
 use Rattle.world_model.specs.Gsmp.{answers, steps, told}
-use Rattle.world_model.specs.Ticks.{sends_again, ticks_port, ticks_ports, ticks_by, ticks}
-use Rattle.controller_facts.proofs.Moves.{IsGsmpTurn, hears as hears_greeting, ages, answering, meeting, ending_meeting, turning, clearing, moves_to, HasPorts, IsShapedStanding, found_at_own}
-use Rattle.controller_facts.proofs.Performing.{Any, any_ports}
-use Rattle.controller_facts.specs.Sound.{IsSound}
-use Rattle.controller_facts.proofs.Events.{ups_linked, default_of, emptied_port, sends_again_goes}
-use Rattle.controller_lifts.proofs.Kept.{Of}
-use Rattle.controller_lifts.proofs.Ready.{Fits as FitsIn}
-use Rattle.controller_lifts.proofs.Unspent.{Unspent}
-use Rattle.world_views.specs.Ready.{FitsSide}
+use Rattle.world_model.specs.Ticks.{ticks}
+use Rattle.frame_readings.proofs.controller_facts.Moves.{IsGsmpTurn, hears as hears_greeting, ages, answering, meeting, ending_meeting, turning, clearing, moves_to, HasPorts, IsShapedStanding, found_at_own}
+use Rattle.frame_readings.proofs.controller_facts.Performing.{Any, any_ports}
+use Rattle.frame_readings.specs.controller_facts.Sound.{IsSound}
+use Rattle.frame_readings.proofs.controller_facts.Events.{ups_linked, default_of, emptied_port, sends_again_goes}
+use Rattle.frame_readings.proofs.controller_lifts.Kept.{Of}
+use Rattle.frame_readings.proofs.controller_lifts.Ready.{Fits as FitsIn}
+use Rattle.frame_readings.proofs.controller_lifts.Unspent.{Unspent}
+use Rattle.frame_readings.specs.world_views.Ready.{FitsSide}
 use Rattle.running_worlds.proofs.Greeted.{AnswersWell, received_side, received_answers, ticked_side, ticked_answers}
 use Rattle.running_worlds.proofs.Walk.{To, stays, goes_on, to_fold, alike_to, node_to, says_gsmp_to, fits_at}
 use Rattle.running_worlds.proofs.Performed.{asks_to, asks_each_to, sent_again_to}

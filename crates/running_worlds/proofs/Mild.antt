@@ -1,28 +1,21 @@
 -- what a rule of a port asks before its switch is met: neither a reset of the port nor Delete All
 
 use Rattle.std.proofs.Common.{◌≡◌, false, List, [], ◌∷◌, Some, refl}
-use Rattle.net_types.specs.declared.channel.End.{End}
-use Rattle.net_types.specs.declared.node.PortNo.{PortNo}
-use Rattle.gsmp_wire.specs.declared.request.Request.TheVariants.{AddBranch, MoveBranch, DeleteTree, VerifyTree, DeleteAll, PortManagement, AllPorts}
-use Rattle.ordered_lists.specs.Ordered.{Every}
-use Rattle.ordered_lists.proofs.Every.{every_all}
-use Rattle.port_model.specs.Desk.{Desk}
-use Rattle.port_model.specs.declared.action.Action.{Action}
-use Rattle.port_model.specs.declared.action.Action.TheVariants as actions
-use Rattle.port_model.specs.declared.action.Action.TheVariants.{Say, Ask, Note, CutChain, TakeBack, Withdraw}
-use Rattle.port_model.specs.Setup.{Setup}
-use Rattle.port_model.specs.Port.{Work, labels_of, desk_with}
-use Rattle.port_facts.proofs.Keyed.{at_every}
-use Rattle.port_facts.proofs.Steps.{Goes}
-use Rattle.world_model.specs.Controller.{Acted, Linked, linked_at, port_key}
-use Rattle.world_model.specs.Resets.{begins}
-use Rattle.controller_facts.specs.Sound.{IsShutLinked}
-use Rattle.controller_facts.proofs.Moves.{HasPorts, found_at_own, found_setup, begun}
-use Rattle.controller_facts.proofs.Laws.{has_ports}
-use Rattle.controller_law.proofs.Asked.{MayAct, MayActs, IsNoReset, IsTo, Both, goes_asks}
-use Rattle.controller_law.proofs.Resetting.{goes_silent}
-use Rattle.controller_law.proofs.Whole.{Whole}
-use Rattle.controller_law.proofs.Matched.{Never}
+use Rattle.world_model.specs.Words.{End, PortNo, AddBranch, MoveBranch, DeleteTree, VerifyTree, PortManagement, Desk, Action, Say, Ask, Note, CutChain, TakeBack, Withdraw, Setup, Work, labels_of, desk_with, Linked, linked_at, port_key, begins}
+use Rattle.world_model.specs.gsmp_wire.declared.request.Request.TheVariants.{DeleteAll, AllPorts}
+use Rattle.frame_readings.specs.ordered_lists.Ordered.{Every}
+use Rattle.frame_readings.proofs.ordered_lists.Every.{every_all}
+use Rattle.world_model.specs.port_model.declared.action.Action.TheVariants as actions
+use Rattle.frame_readings.proofs.port_facts.Keyed.{at_every}
+use Rattle.frame_readings.proofs.port_facts.Steps.{Goes}
+use Rattle.world_model.specs.Controller.{Acted}
+use Rattle.frame_readings.specs.controller_facts.Sound.{IsShutLinked}
+use Rattle.frame_readings.proofs.controller_facts.Moves.{HasPorts, found_at_own, found_setup, begun}
+use Rattle.frame_readings.proofs.controller_facts.Laws.{has_ports}
+use Rattle.input_events.proofs.controller_law.Asked.{MayAct, MayActs, IsNoReset, IsTo, Both, goes_asks}
+use Rattle.input_events.proofs.controller_law.Resetting.{goes_silent}
+use Rattle.input_events.proofs.controller_law.Whole.{Whole}
+use Rattle.input_events.proofs.controller_law.Matched.{Never}
 use Rattle.running_worlds.specs.Mode.{Mode, Told, Untold}
 use Rattle.running_worlds.proofs.Asking.{AllowsAction, told_allows}
 

@@ -2,36 +2,23 @@
 
 use Rattle.std.proofs.Common.{◌≡◌, ℕ, zero, suc, ◌+◌, ◌≤◌, ◌<◌, false, List, [], ◌∷◌, ◌++◌, length, map, Some, refl, ap, subst, arith}
 use Rattle.std.specs.Prelude.{◌^◌, All}
-use Rattle.net_types.specs.declared.node.NodeId.{NodeId}
-use Rattle.net_types.specs.declared.node.PortNo.{PortNo}
-use Rattle.net_types.specs.declared.number.Instance.{Instance}
-use Rattle.net_types.specs.Number.{GivenOut}
-use Rattle.gsmp_wire.specs.Range.{Bits, FitsRows}
-use Rattle.link_model.specs.declared.frames.Frame.{Frame}
-use Rattle.link_model.specs.Ledger.{payload_of}
-use Rattle.ordered_lists.specs.Ordered.{Every}
-use Rattle.crossbar_model.specs.Channels.{IsLinkPort}
+use Rattle.world_model.specs.Words.{NodeId, PortNo, Instance, GivenOut, Bits, FitsRows, Frame, payload_of, IsLinkPort, control_port, numbers_of, Policy, Setup, is_spent, Linked, setup_of, opens_ports, Topology, Node, ranges_of, timers_of, World, Site, site_key, opened_site, opens_each, with_opened, empty_world, past_of, IsRun}
+use Rattle.frame_readings.specs.ordered_lists.Ordered.{Every}
 use Rattle.world_model.specs.declared.port.PortState.{PortState}
-use Rattle.world_model.specs.Switch.{control_port, numbers_of, begun}
+use Rattle.world_model.specs.Switch.{begun}
 use Rattle.world_model.specs.Answers.{row_of}
-use Rattle.port_model.specs.Setup.{Policy, Setup}
-use Rattle.port_model.specs.Saying.{is_spent}
-use Rattle.port_facts.proofs.Keyed.{at_every, every_more}
-use Rattle.port_widths.specs.Widths.{FitsPort, FitsSetup}
+use Rattle.frame_readings.proofs.port_facts.Keyed.{at_every, every_more}
+use Rattle.frame_readings.specs.port_widths.Widths.{FitsPort, FitsSetup}
 use Rattle.world_model.specs.declared.range.PortRange.{PortRange}
-use Rattle.world_model.specs.Controller.{Linked, ports_of}
-use Rattle.world_model.specs.Opening.{setup_of, opens_ports}
-use Rattle.controller_views.specs.Ready.{IsReadyPort}
+use Rattle.world_model.specs.Controller.{ports_of}
+use Rattle.frame_readings.specs.controller_views.Ready.{IsReadyPort}
 use Rattle.world_model.specs.declared.event.Event.{Event}
-use Rattle.world_model.specs.Topology.{Topology, Node, ranges_of, timers_of}
 use Rattle.world_model.specs.Topology as topologies
-use Rattle.world_model.specs.World.{World, Site, site_key, opened_site, opened, opens_each, with_opened, empty_world}
-use Rattle.world_model.specs.Past.{past_of}
-use Rattle.world_model.specs.Headline.{IsRun}
-use Rattle.world_views.specs.Made.{AreMade}
-use Rattle.world_views.specs.Ready.{FitsSide}
-use Rattle.world_views.specs.Between.{HasAllMade, HasAllReady}
-use Rattle.world_views.specs.Kept.{Begins}
+use Rattle.world_model.specs.World.{opened}
+use Rattle.frame_readings.specs.world_views.Made.{AreMade}
+use Rattle.frame_readings.specs.world_views.Ready.{FitsSide}
+use Rattle.frame_readings.specs.world_views.Between.{HasAllMade, HasAllReady}
+use Rattle.frame_readings.specs.world_views.Kept.{Begins}
 use Rattle.run_facts.specs.Nodes.{IsNodeOfRun, RunsHaveNodes, RunsHaveRoom}
 
 -- *Nothing was made*

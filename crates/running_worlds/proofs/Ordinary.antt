@@ -4,40 +4,21 @@ use Rattle.std.proofs.Common.{◌≡◌, ◌≢◌, ℕ, ◌+◌, ◌<◌, ◌�
 use Rattle.std.specs.Prelude.{◌==◌, ◌&&◌, ◌||◌, Contains, is_some, nat_le, nat_lt}
 use Rattle.std.specs.List.{list_any}
 use Rattle.std.proofs.lemmas.Bool.Decides.{nat_tests}
-use Rattle.net_types.specs.declared.channel.Channel.{Channel}
-use Rattle.net_types.specs.declared.node.NodeId.{NodeId}
-use Rattle.net_types.specs.declared.node.PortNo.{PortNo}
-use Rattle.net_types.specs.declared.node.Place.{Place}
-use Rattle.net_types.specs.declared.node.Place.TheVariants.{Down, Up, Out}
-use Rattle.net_types.specs.declared.number.Mark.{Mark}
-use Rattle.net_types.specs.Number.{next_control, with_control}
-use Rattle.atm_cells.specs.declared.cell.Cell.{Cell}
-use Rattle.link_model.specs.declared.record.Record.{Record}
-use Rattle.link_model.specs.declared.record.Record.TheVariants.{Forged, Loss}
-use Rattle.link_model.specs.declared.record.Cause.TheVariants.{PoolFull}
-use Rattle.link_model.specs.Notes.{noted}
-use Rattle.frame_model.specs.Frame.{frame_cells, made}
-use Rattle.frame_model.specs.Sending.{Sent}
-use Rattle.port_facts.proofs.Keyed.{on_both}
+use Rattle.world_model.specs.Words.{Channel, NodeId, PortNo, Place, Down, Up, Out, Mark, next_control, with_control, Cell, Record, Forged, Loss, PoolFull, noted, frame_cells, made, Controller, linked_at, ForGsmp, port_on, on_link, taker_at, Topology, IsTopology, IsPlace, CanCome, World, Site, site_at, controller_acts, switch_acts, queue_at, Past, frames_of, next, put_away, is_wild, IsTame}
+use Rattle.world_model.specs.frame_model.Sending.{Sent}
+use Rattle.frame_readings.proofs.port_facts.Keyed.{on_both}
 use Rattle.world_model.specs.Switch as switches
 use Rattle.world_model.specs.Conduct as switch
-use Rattle.world_model.specs.Controller.{Controller, free_slots, linked_at}
-use Rattle.world_model.specs.Cells.{ForGsmp, port_on, on_link, taker_at}
+use Rattle.world_model.specs.Controller.{free_slots}
 use Rattle.world_model.specs.Sending.{with_cells, sends}
 use Rattle.world_model.specs.declared.event.Event.{Event}
 use Rattle.world_model.specs.declared.event.Event.TheVariants.{Inject, Carry, Lose, Tick, TickSwitch, Restart, RestartSwitch, Forge, Route}
 use Rattle.world_model.specs.declared.link.LinkEnd.{LinkEnd}
-use Rattle.world_model.specs.Topology.{Topology, peer_of}
-use Rattle.world_model.specs.Conditions.{IsTopology, IsPlace, CanCome}
-use Rattle.world_model.specs.World.{World, Site, site_at, controller_acts, switch_acts}
-use Rattle.world_model.specs.Places.{queue_at}
-use Rattle.world_model.specs.Past.{Past, frames_of}
-use Rattle.world_model.specs.Run.{next, put_away}
-use Rattle.world_model.specs.Headline.{is_wild, IsTame}
-use Rattle.causes.proofs.Shown.{IsPeer, peer_back}
+use Rattle.world_model.specs.Topology.{peer_of}
+use Rattle.branch_shapes.proofs.causes.Shown.{IsPeer, peer_back}
 use Rattle.input_events.specs.Coming.{IsNext, IsFar, CanCarry, CanLose, IsOrdinary}
-use Rattle.world_views.specs.Marks.{Heading, heading_at, Means, early, control, local, plain, labelled}
-use Rattle.world_views.specs.Between.{HasMeanings, HasNumbers}
+use Rattle.frame_readings.specs.world_views.Marks.{Heading, heading_at, Means, early, control, local, plain, labelled}
+use Rattle.frame_readings.specs.world_views.Between.{HasMeanings, HasNumbers}
 use Rattle.running_worlds.specs.Running.{ChainsAreTrue}
 use Rattle.running_worlds.proofs.Lists.{among_head}
 

@@ -2,39 +2,25 @@
 
 use Rattle.std.proofs.Common.{◌≡◌, ◌<◌, false, List, [], ◌∷◌, Option, None, Some, refl, arith, fold, if◌then◌else◌}
 use Rattle.std.specs.Prelude.{◌^◌, ◌==◌, map, flat_map}
-use Rattle.net_types.specs.declared.channel.End.{End}
-use Rattle.net_types.specs.declared.node.PortNo.{PortNo}
-use Rattle.adjacency_table.specs.Side.{is_estab}
-use Rattle.gsmp_wire.specs.declared.request.Request.{Request}
-use Rattle.gsmp_wire.specs.declared.request.Request.TheVariants.{MoveBranch}
-use Rattle.ordered_lists.specs.Ordered.{Every}
-use Rattle.ordered_lists.proofs.Every.{every_join}
-use Rattle.port_model.specs.Desk.{Standing, asked, is_led_home, message_at, last_transaction}
-use Rattle.port_model.specs.declared.action.Action.{Action}
-use Rattle.port_model.specs.declared.action.Action.TheVariants.{Say, Ask, Note, CutChain, TakeBack, Withdraw, Reset}
-use Rattle.port_model.specs.Setup.{Setup, home_of}
-use Rattle.port_model.specs.Labels.{Label}
-use Rattle.port_model.specs.Grants.{Grant, GrantState, Idle, ByController, ByInput, Leaving}
-use Rattle.port_model.specs.Port.{Session, Work}
-use Rattle.port_model.specs.Saying.{is_spent}
-use Rattle.port_model.specs.Resets.{closing, taking_back_in, taking_back, withdrawing_in, withdrawing_of, withdrawing, resets}
-use Rattle.port_facts.specs.Port.{IsShaped, parts_label, IsAction, IsSayable, IsWork}
-use Rattle.port_facts.proofs.Keyed.{on_both, on_each, at_every}
-use Rattle.port_facts.proofs.Joins.{resets_kept}
-use Rattle.port_widths.specs.Widths.{FitsAction, FitsWork}
-use Rattle.port_widths.proofs.Rules.{resets_fit}
-use Rattle.world_model.specs.Controller.{Acted, Linked, port_key, linked_at, with_desk}
-use Rattle.world_model.specs.Asking.{sends_request, asks_next, asks, takes_back}
-use Rattle.world_model.specs.Resets.{begins, with_work, node_resets}
-use Rattle.world_model.specs.Performing.{does, does_in_estab, resets_as, resets_of, resets_port, performs, performs_in_estab, Rule, works_as, works, at_port}
-use Rattle.controller_facts.proofs.Moves.{Worked, by_reset, Found, asking, placing, Moves, moves_to, HasPorts, found_setup, found_at_own, begun, moves_ports, worked_kept}
-use Rattle.controller_facts.proofs.Performing.{resets_port_goes, works_as_goes}
-use Rattle.controller_facts.proofs.Joining.{every_flat_map}
-use Rattle.controller_lifts.proofs.Halted.{HasReset}
-use Rattle.controller_lifts.proofs.Kept.{Of, Goes, goes_fold, done_goes, performs_goes}
-use Rattle.controller_lifts.proofs.Unspent.{Unspent, unspent_closed, works_unspent}
-use Rattle.label_steps.specs.Follows.{IsUnspent}
-use Rattle.input_premises.proofs.Written.{are_written}
+use Rattle.world_model.specs.Words.{End, PortNo, is_estab, Request, MoveBranch, Standing, is_led_home, last_transaction, Action, Say, Ask, Note, CutChain, TakeBack, Withdraw, Setup, home_of, Label, Grant, GrantState, Idle, ByController, ByInput, Leaving, Session, Work, is_spent, closing, taking_back_in, taking_back, withdrawing_in, withdrawing_of, withdrawing, resets, Linked, port_key, linked_at, with_desk, sends_request, asks_next, asks, takes_back, begins, with_work, node_resets, does, does_in_estab, resets_as, resets_of, resets_port, performs, performs_in_estab, Rule, works_as, works, at_port}
+use Rattle.frame_readings.specs.ordered_lists.Ordered.{Every}
+use Rattle.frame_readings.proofs.ordered_lists.Every.{every_join}
+use Rattle.world_model.specs.port_model.Desk.{asked, message_at}
+use Rattle.world_model.specs.port_model.declared.action.Action.TheVariants.{Reset}
+use Rattle.frame_readings.specs.port_facts.Port.{IsShaped, parts_label, IsAction, IsSayable, IsWork}
+use Rattle.frame_readings.proofs.port_facts.Keyed.{on_both, on_each, at_every}
+use Rattle.frame_readings.proofs.port_facts.Joins.{resets_kept}
+use Rattle.frame_readings.specs.port_widths.Widths.{FitsAction, FitsWork}
+use Rattle.frame_readings.proofs.port_widths.Rules.{resets_fit}
+use Rattle.world_model.specs.Controller.{Acted}
+use Rattle.frame_readings.proofs.controller_facts.Moves.{Worked, by_reset, Found, asking, placing, Moves, moves_to, HasPorts, found_setup, found_at_own, begun, moves_ports, worked_kept}
+use Rattle.frame_readings.proofs.controller_facts.Performing.{resets_port_goes, works_as_goes}
+use Rattle.frame_readings.proofs.controller_facts.Joining.{every_flat_map}
+use Rattle.frame_readings.proofs.controller_lifts.Halted.{HasReset}
+use Rattle.frame_readings.proofs.controller_lifts.Kept.{Of, Goes, goes_fold, done_goes, performs_goes}
+use Rattle.frame_readings.proofs.controller_lifts.Unspent.{Unspent, unspent_closed, works_unspent}
+use Rattle.frame_readings.specs.label_steps.Follows.{IsUnspent}
+use Rattle.input_events.proofs.input_premises.Written.{are_written}
 use Rattle.running_worlds.proofs.Walk.{Base, base_moves, Carried, Loose, To, loosely, stays, goes_on, to_fold, alike_to, note_to, cuts_to, withdraws_to, node_to, says_gsmp_to, says_ifmp_to, worked_carried, fits_at, begins_fit}
 
 -- *What a reset asks* is said to nobody

@@ -3,55 +3,33 @@
 use Rattle.std.proofs.Common.{◌≡◌, ℕ, ◌<◌, Bool, true, false, List, Option, None, Some, refl, sym, ◌∙◌, ap, subst, arith, if◌then◌else◌}
 use Rattle.std.specs.Prelude.{◌^◌, ◌==◌, ◌&&◌, not}
 use Rattle.std.specs.Option.{option_or}
-use Rattle.net_types.specs.declared.node.PortNo.{PortNo}
-use Rattle.net_types.specs.declared.prefix.Addr.{Addr}
-use Rattle.net_types.specs.declared.channel.End.{End}
-use Rattle.octet_fields.specs.Fields.{u16_at}
-use Rattle.octet_fields.proofs.FieldLemmas.{AreOctets, u16_at-fits, u32_at-fits}
-use Rattle.ipv4_packet.specs.Packet.{tos_of, ttl_of, protocol_of, source_of, destination_of}
-use Rattle.ipv4_packet.specs.declared.flow.FlowId.{FlowId}
-use Rattle.ipv4_packet.specs.declared.flow.FlowId.TheVariants as flows
-use Rattle.ipv4_packet.specs.declared.flow.FlowKind.{FlowKind}
-use Rattle.ipv4_packet.specs.declared.flow.FlowKind.TheVariants.{One, Two}
-use Rattle.ipv4_packet.specs.Flow.{shows_ports, flow_of}
-use Rattle.ipv4_packet.specs.Identifier.{FitsFields}
-use Rattle.ifmp_wire.specs.declared.message.Message.{Message}
-use Rattle.ifmp_wire.specs.Message.{InRange, FitsMessage}
-use Rattle.gsmp_wire.specs.declared.request.Request.{Request}
-use Rattle.ordered_lists.specs.Ordered.{Every}
-use Rattle.keyed_lists.specs.Keyed.{at}
-use Rattle.port_model.specs.Desk.{Desk}
-use Rattle.port_model.specs.declared.action.Action.TheVariants.{Ask}
-use Rattle.port_model.specs.Setup.{Setup}
-use Rattle.port_model.specs.Labels.{Label, Offered, label_for, lowest_spare}
-use Rattle.port_model.specs.Counts.{counted_once, packets_in}
-use Rattle.port_model.specs.Grants.{Grant, ByController, grant_label}
-use Rattle.port_model.specs.Port.{Session, Work, halts, with_session, with_new_label, label_at, has_room}
-use Rattle.port_model.specs.Saying.{is_spent, closes}
-use Rattle.port_model.specs.Hearing.{hears}
-use Rattle.port_model.specs.Counting.{packet_flow, wires, counts_in, used_label, counts_flow, counts_by, counts, used}
-use Rattle.port_model.specs.Answers.{done}
-use Rattle.port_model.specs.Joins.{joins_label, joined, parted, lent, given_back}
-use Rattle.port_model.specs.Ticks.{ticks}
-use Rattle.port_facts.specs.Port.{IsLabelEnd, IsSayable}
-use Rattle.port_facts.proofs.Keyed.{on_both}
-use Rattle.port_facts.proofs.Rules.{counts_goes, used_goes, done_goes}
-use Rattle.port_facts.proofs.Hearings.{hears_goes, ticks_goes}
-use Rattle.port_views.proofs.Recalling.{room_acts}
-use Rattle.port_views.proofs.Refreshing.{room_ticks}
-use Rattle.port_widths.proofs.Keeping.{closes_fit, found_grant}
-use Rattle.port_widths.proofs.Rules.{hears_fit, counts_fit, used_fit, done_fit, ticks_fit, joined_fit, parted_fit, lent_fit, given_back_fit}
-use Rattle.label_steps.specs.Follows.{IsUnspent}
-use Rattle.label_steps.proofs.Follow.{unspent_session, unspent_label}
-use Rattle.label_steps.proofs.Unspent.{hears_unspent, used_unspent, done_unspent}
-use Rattle.world_model.specs.Controller.{Acted, Linked, linked_at}
-use Rattle.world_model.specs.Resets.{begins}
-use Rattle.world_model.specs.Performing.{at_port}
-use Rattle.controller_facts.proofs.Flows.{says_in_range}
-use Rattle.controller_facts.proofs.Moves.{by_rule, by_closing, by_parting, by_joining, by_lending, by_giving_back, HasPorts, found_port}
-use Rattle.controller_lifts.proofs.Lifts.{heard_any}
-use Rattle.controller_lifts.proofs.Halted.{HasReset, goes_asked}
-use Rattle.world_views.specs.Made.{IsFit}
+use Rattle.world_model.specs.Words.{PortNo, Addr, End, tos_of, ttl_of, protocol_of, source_of, destination_of, FlowId, FlowKind, shows_ports, flow_of, FitsFields, InRange, FitsMessage, Request, at, Desk, Ask, Setup, Label, Offered, label_for, lowest_spare, counted_once, packets_in, Grant, ByController, grant_label, Session, Work, halts, with_session, with_new_label, label_at, has_room, is_spent, closes, hears, packet_flow, wires, counts_in, used_label, counts_flow, counts_by, counts, used, joins_label, parted, lent, given_back, Linked, linked_at, begins, at_port}
+use Rattle.frame_readings.specs.octet_fields.Fields.{u16_at}
+use Rattle.frame_readings.proofs.octet_fields.FieldLemmas.{AreOctets, u16_at-fits, u32_at-fits}
+use Rattle.world_model.specs.ipv4_packet.declared.flow.FlowId.TheVariants as flows
+use Rattle.world_model.specs.ipv4_packet.declared.flow.FlowKind.TheVariants.{One, Two}
+use Rattle.world_model.specs.ifmp_wire.declared.message.Message.{Message}
+use Rattle.frame_readings.specs.ordered_lists.Ordered.{Every}
+use Rattle.world_model.specs.port_model.Answers.{done}
+use Rattle.world_model.specs.port_model.Joins.{joined}
+use Rattle.world_model.specs.port_model.Ticks.{ticks}
+use Rattle.frame_readings.specs.port_facts.Port.{IsLabelEnd, IsSayable}
+use Rattle.frame_readings.proofs.port_facts.Keyed.{on_both}
+use Rattle.frame_readings.proofs.port_facts.Rules.{counts_goes, used_goes, done_goes}
+use Rattle.frame_readings.proofs.port_facts.Hearings.{hears_goes, ticks_goes}
+use Rattle.frame_readings.proofs.port_views.Recalling.{room_acts}
+use Rattle.frame_readings.proofs.port_views.Refreshing.{room_ticks}
+use Rattle.frame_readings.proofs.port_widths.Keeping.{closes_fit, found_grant}
+use Rattle.frame_readings.proofs.port_widths.Rules.{hears_fit, counts_fit, used_fit, done_fit, ticks_fit, joined_fit, parted_fit, lent_fit, given_back_fit}
+use Rattle.frame_readings.specs.label_steps.Follows.{IsUnspent}
+use Rattle.frame_readings.proofs.label_steps.Follow.{unspent_session, unspent_label}
+use Rattle.frame_readings.proofs.label_steps.Unspent.{hears_unspent, used_unspent, done_unspent}
+use Rattle.world_model.specs.Controller.{Acted}
+use Rattle.frame_readings.proofs.controller_facts.Flows.{says_in_range}
+use Rattle.frame_readings.proofs.controller_facts.Moves.{by_rule, by_closing, by_parting, by_joining, by_lending, by_giving_back, HasPorts, found_port}
+use Rattle.frame_readings.proofs.controller_lifts.Lifts.{heard_any}
+use Rattle.frame_readings.proofs.controller_lifts.Halted.{HasReset, goes_asked}
+use Rattle.frame_readings.specs.world_views.Made.{IsFit}
 use Rattle.running_worlds.proofs.Walk.{Loose, To, fits_at, begins_fit, begins_work}
 use Rattle.running_worlds.proofs.Performed.{IsFree, at_port_loose, at_port_to}
 

@@ -7,49 +7,27 @@ use Rattle.std.specs.Option.{option_and_then, option_map, option_map_or}
 use Rattle.std.proofs.lemmas.Bool.Decides.{nat_tests}
 use Rattle.std.proofs.lemmas.List.{length-map}
 use Rattle.std.proofs.lemmas.List.Kept.{AllPairs-from_increasing}
-use Rattle.net_types.specs.declared.channel.Channel.{Channel}
-use Rattle.net_types.specs.declared.channel.End.{End}
-use Rattle.net_types.specs.declared.node.NodeId.{NodeId}
-use Rattle.net_types.specs.declared.node.PortNo.{PortNo}
-use Rattle.net_types.specs.declared.node.Place.TheVariants.{Down, Up}
-use Rattle.ipv4_packet.specs.Packet.{destination_of, ttl_of}
-use Rattle.ipv4_forward.specs.Best.{is_best}
-use Rattle.ipv4_forward.specs.Hop.{hop_by}
-use Rattle.ipv4_forward.specs.declared.outcome.Hop.TheVariants.{On, Expired}
-use Rattle.ipv4_forward.specs.declared.table.Next.{Next}
-use Rattle.ipv4_forward.specs.declared.table.Next.TheVariants.{Local, Via}
-use Rattle.ipv4_forward.specs.declared.table.Route.{Route}
-use Rattle.atm_cells.specs.declared.cell.Cell.{Cell}
-use Rattle.gsmp_wire.specs.declared.message.Message.TheVariants as messages
-use Rattle.gsmp_wire.specs.Range.{FitsRows}
-use Rattle.crossbar_model.specs.declared.branch.Branch.{Branch}
-use Rattle.crossbar_model.specs.Channels.{IsLinkPort}
-use Rattle.crossbar_model.specs.Crossbar.{queue_of}
-use Rattle.ordered_lists.specs.Ordered.{Every, InOrder}
-use Rattle.ordered_lists.proofs.Every.{every_map, every_unmapped}
-use Rattle.keyed_lists.specs.Keyed.{at}
+use Rattle.world_model.specs.Words.{Channel, End, NodeId, PortNo, Down, Up, destination_of, ttl_of, is_best, hop_by, On, Next, Local, Via, Cell, FitsRows, IsLinkPort, queue_of, at, control_port, numbers_of, Setup, Policy, home_of, Controller, Linked, linked_at, port_key, default_channel, same_channel, IsLinkedNext, Site, site_at, queue_in, queue_at, Past, frames_of, copy_of, on_channel, requests_chain_at, answers_chain_at}
+use Rattle.world_model.specs.ipv4_forward.declared.outcome.Hop.TheVariants.{Expired}
+use Rattle.world_model.specs.ipv4_forward.declared.table.Route.{Route}
+use Rattle.world_model.specs.gsmp_wire.declared.message.Message.TheVariants as messages
+use Rattle.world_model.specs.crossbar_model.declared.branch.Branch.{Branch}
+use Rattle.frame_readings.specs.ordered_lists.Ordered.{Every, InOrder}
+use Rattle.frame_readings.proofs.ordered_lists.Every.{every_map, every_unmapped}
 use Rattle.world_model.specs.declared.port.PortState.{PortState}
-use Rattle.world_model.specs.Switch.{control_port, numbers_of}
 use Rattle.world_model.specs.Answers.{row_of}
-use Rattle.port_model.specs.Setup.{Setup, Policy, home_of}
-use Rattle.port_facts.specs.Port.{setup_port, IsLinked}
-use Rattle.port_facts.proofs.Found.{find_every}
-use Rattle.port_facts.proofs.Keyed.{at_key, at_every}
-use Rattle.world_model.specs.Controller.{Controller, Linked, linked_at, ports_of, port_key, default_channel}
-use Rattle.world_model.specs.Cells.{same_channel}
-use Rattle.controller_facts.proofs.Conditions.{label_has_home}
-use Rattle.world_model.specs.Conditions.{IsLinkedNext}
-use Rattle.world_model.specs.World.{Site, site_at}
-use Rattle.world_model.specs.Places.{queue_in, queue_at}
-use Rattle.world_model.specs.Past.{Past, frames_of}
-use Rattle.world_model.specs.Ways.{copy_of, on_channel, requests_chain_at, answers_chain_at}
-use Rattle.input_steps.specs.Hearing.{LeadsAway}
+use Rattle.frame_readings.specs.port_facts.Port.{setup_port, IsLinked}
+use Rattle.frame_readings.proofs.port_facts.Found.{find_every}
+use Rattle.frame_readings.proofs.port_facts.Keyed.{at_key, at_every}
+use Rattle.world_model.specs.Controller.{ports_of}
+use Rattle.frame_readings.proofs.controller_facts.Conditions.{label_has_home}
+use Rattle.input_events.specs.input_steps.Hearing.{LeadsAway}
 use Rattle.input_events.specs.Coming.{GoesByLinks, IsBelow, TellsPorts, HasSaid, HasAnswered, IsSteadySite}
 use Rattle.frame_readings.specs.Reading as readings
 use Rattle.frame_readings.specs.Reading.{MarksAreRead}
-use Rattle.world_views.specs.Ready.{IsReadySite}
-use Rattle.world_views.specs.Made.{AreMade}
-use Rattle.world_views.specs.Between.{setups_of, IsPortEnd, default, label, IsShapedBranch, home, out, joined, HasShapes, HasPortsUp}
+use Rattle.frame_readings.specs.world_views.Ready.{IsReadySite}
+use Rattle.frame_readings.specs.world_views.Made.{AreMade}
+use Rattle.frame_readings.specs.world_views.Between.{setups_of, IsPortEnd, default, label, IsShapedBranch, home, out, joined, HasShapes, HasPortsUp}
 use Rattle.run_facts.specs.Nodes.{HasPort, HasLinkPorts, IsNodeOfRun}
 use Rattle.running_worlds.proofs.Lists.{all_every, ascending, among_right, among_filter}
 

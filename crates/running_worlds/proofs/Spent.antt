@@ -2,26 +2,19 @@
 
 use Rattle.std.proofs.Common.{◌≡◌, ◌≢◌, ℕ, ◌≤◌, ◌<◌, Bool, true, false, List, [], ◌∷◌, Option, None, Some, refl, sym, ◌∙◌, ap, subst, arith, fold, ◌⊎◌, inl, inr, if◌then◌else◌}
 use Rattle.std.specs.Prelude.{◌^◌, map}
-use Rattle.net_types.specs.declared.node.PortNo.{PortNo}
-use Rattle.adjacency_table.specs.Side.{is_estab}
-use Rattle.ordered_lists.specs.Ordered.{Every}
-use Rattle.port_model.specs.Setup.{Setup}
-use Rattle.port_model.specs.Port.{Session, Port, Work, halts}
-use Rattle.port_model.specs.Saying.{is_spent, closes}
-use Rattle.port_model.specs.Resets.{resets}
-use Rattle.port_facts.proofs.Keyed.{on_each, at_key}
-use Rattle.world_model.specs.Controller.{Acted, Linked, port_key, linked_at, ports_of}
-use Rattle.world_model.specs.Resets.{begins, with_work}
-use Rattle.world_model.specs.Performing.{does_in_estab, resets_as, resets_of, resets_port, works_as, works}
-use Rattle.world_model.specs.Joins.{resets_spent}
-use Rattle.controller_facts.specs.Sound.{IsSound, IsShutLinked}
-use Rattle.controller_facts.proofs.Moves.{by_closing, placing, Moves, moves_to, found_at_own}
-use Rattle.controller_facts.proofs.Joining.{resets_spent_goes}
-use Rattle.controller_facts.proofs.Laws.{has_ports, moves_sound}
-use Rattle.controller_facts.proofs.Numbers.{moves_never_fall}
-use Rattle.controller_facts.proofs.Unmet.{put_each, none_with, ports_apart}
-use Rattle.controller_lifts.proofs.Kept.{IsClosed, Of, Each, Goes, goes_fold, done_goes}
-use Rattle.controller_lifts.proofs.Unspent.{Unspent, each_more}
+use Rattle.world_model.specs.Words.{PortNo, is_estab, Setup, Session, Work, halts, is_spent, closes, resets, Linked, port_key, linked_at, begins, with_work, does_in_estab, resets_as, resets_of, resets_port, works_as, works, resets_spent}
+use Rattle.frame_readings.specs.ordered_lists.Ordered.{Every}
+use Rattle.world_model.specs.port_model.Port.{Port}
+use Rattle.frame_readings.proofs.port_facts.Keyed.{on_each, at_key}
+use Rattle.world_model.specs.Controller.{Acted, ports_of}
+use Rattle.frame_readings.specs.controller_facts.Sound.{IsSound, IsShutLinked}
+use Rattle.frame_readings.proofs.controller_facts.Moves.{by_closing, placing, Moves, moves_to, found_at_own}
+use Rattle.frame_readings.proofs.controller_facts.Joining.{resets_spent_goes}
+use Rattle.frame_readings.proofs.controller_facts.Laws.{has_ports, moves_sound}
+use Rattle.frame_readings.proofs.controller_facts.Numbers.{moves_never_fall}
+use Rattle.frame_readings.proofs.controller_facts.Unmet.{put_each, none_with, ports_apart}
+use Rattle.frame_readings.proofs.controller_lifts.Kept.{IsClosed, Of, Each, Goes, goes_fold, done_goes}
+use Rattle.frame_readings.proofs.controller_lifts.Unspent.{Unspent, each_more}
 
 -- the numbers of a port aren't spent, or it is one of these
 pub data IsAmong (key : ℕ) : List PortNo → Type 0 where

@@ -1,14 +1,10 @@
 -- where chains are cut and ports restart no frame is made, and the adjacency with the switch and the desk stay
 
 use Rattle.std.proofs.Common.{◌≡◌, ℕ, ◌≤◌, List, [], ◌∷◌, Option, Some, None, refl, ◌∙◌, fold, arith}
-use Rattle.net_types.specs.declared.node.PortNo.{PortNo}
-use Rattle.port_model.specs.declared.action.Action.{Action}
-use Rattle.port_model.specs.declared.action.Action.TheVariants.{Say, Ask, Note, CutChain, TakeBack, Withdraw, Reset}
-use Rattle.port_model.specs.Port.{Work}
-use Rattle.port_model.specs.Resets.{restarts}
-use Rattle.world_model.specs.Controller.{Acted, Linked, linked_at, ports_of, chain_of}
-use Rattle.world_model.specs.Resets.{cuts_of, begins, with_work, closes_by, port_restarts_as, port_restarts_of, port_restarts, resets_gsmp, node_resets}
-use Rattle.shown_cells.proofs.Tested.{cut_frames}
+use Rattle.world_model.specs.Words.{PortNo, Action, Say, Ask, Note, CutChain, TakeBack, Withdraw, Work, restarts, Linked, linked_at, chain_of, cuts_of, begins, with_work, closes_by, port_restarts_as, port_restarts_of, port_restarts, resets_gsmp, node_resets}
+use Rattle.world_model.specs.port_model.declared.action.Action.TheVariants.{Reset}
+use Rattle.world_model.specs.Controller.{Acted, ports_of}
+use Rattle.frame_readings.proofs.shown_cells.Tested.{cut_frames}
 
 -- *Still*
 pub record IsStill (a b : Acted) : Type 0 where

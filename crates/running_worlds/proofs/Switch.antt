@@ -3,59 +3,37 @@
 use Rattle.std.proofs.Common.{◌≡◌, ℕ, ◌≤◌, ◌<◌, Bool, true, List, [], ◌∷◌, length, Option, None, Some, Result, Ok, Err, refl, sym, ◌∙◌, ap, subst, map, arith, if◌then◌else◌}
 use Rattle.std.specs.FinMap.{get, keys}
 use Rattle.std.specs.Prelude.{◌^◌, ◌==◌, ◌&&◌, nat_le, nat_lt}
-use Rattle.net_types.specs.declared.adjacency.Greeting.{Greeting}
-use Rattle.net_types.specs.declared.adjacency.Party.{Party}
-use Rattle.net_types.specs.declared.number.Mark.{Mark}
-use Rattle.net_types.specs.declared.node.PortNo.{PortNo}
-use Rattle.net_types.specs.declared.number.Instance.{Instance}
-use Rattle.net_types.specs.declared.channel.End.{End}
-use Rattle.net_types.specs.Number.{GivenOut, next_control, with_control, next_instance}
-use Rattle.adjacency_table.specs.declared.message.Answer.{Answer}
-use Rattle.adjacency_table.specs.declared.message.Answer.TheVariants.{Quiet, Send, Open, Reset}
-use Rattle.adjacency_table.specs.Side.{Step, is_estab, ticked}
-use Rattle.adjacency_table.specs.Greeting.{gsmp_answer, gsmp_received}
-use Rattle.atm_cells.specs.declared.cell.Cell.{Cell}
-use Rattle.gsmp_wire.specs.declared.fault.Fault.{Fault}
-use Rattle.gsmp_wire.specs.declared.message.Message.{Message}
-use Rattle.gsmp_wire.specs.declared.message.Message.TheVariants.{Adjacency, Branch, Move, Port, AllPorts}
-use Rattle.gsmp_wire.specs.declared.request.Request.{Request}
-use Rattle.gsmp_wire.specs.declared.request.Request.TheVariants as requests
-use Rattle.gsmp_wire.specs.Layout.{octets_of}
-use Rattle.gsmp_wire.specs.Range.{FitsRows, Fits}
-use Rattle.gsmp_wire.specs.Fields.{decoded}
-use Rattle.gsmp_reading.specs.Said.{IsSaid}
-use Rattle.link_model.specs.declared.frames.Frame.{Frame}
-use Rattle.link_model.specs.declared.record.Record.TheVariants.{Loss}
-use Rattle.link_model.specs.declared.record.Cause.TheVariants.{PoolFull}
-use Rattle.link_model.specs.Notes.{noted}
-use Rattle.frame_model.specs.Frame.{made, frame_cells, octets_of as cell_octets, payload_in, tested_by}
-use Rattle.frame_model.specs.Reassembly.{Taken, taken}
-use Rattle.frame_model.specs.Sending.{Sent}
-use Rattle.crossbar_model.specs.declared.routed.Routed.{Routed}
-use Rattle.crossbar_model.specs.declared.routed.Routed.TheVariants as routes
-use Rattle.crossbar_model.specs.declared.branch.Branch.{Branch as BranchOf}
-use Rattle.crossbar_model.specs.Crossbar.{routed, cut_by_move}
-use Rattle.port_model.specs.Desk.{Standing}
-use Rattle.port_model.specs.DeskAnswers.{Head, head_of}
-use Rattle.port_facts.proofs.Keyed.{on_both, on_each}
-use Rattle.port_facts.proofs.Rules.{and_first}
+use Rattle.world_model.specs.Words.{Greeting, Party, Mark, PortNo, Instance, End, GivenOut, next_control, with_control, next_instance, Answer, Quiet, Send, Open, Step, is_estab, ticked, gsmp_answer, gsmp_received, Cell, Move, Request, FitsRows, Fits, Frame, Loss, PoolFull, noted, made, frame_cells, payload_in, tested_by, Routed, routed, cut_by_move, Standing, Head, head_of, Switch, control_port, gsmp_channel, Changed, moved_by, moved_to, ended_by, all_ended, inputs_on, branches_after, asked_in, is_request, ports_after, failure_of, Handled, handled_by, handled_asked, handled, replied, requested, read, gsmp_cell, switched_cell, is_gsmp, tick_comes, restarted, copy_by, copy_of}
+use Rattle.world_model.specs.adjacency_table.declared.message.Answer.TheVariants.{Reset}
+use Rattle.world_model.specs.gsmp_wire.declared.fault.Fault.{Fault}
+use Rattle.world_model.specs.gsmp_wire.declared.message.Message.{Message}
+use Rattle.world_model.specs.gsmp_wire.declared.message.Message.TheVariants.{Adjacency, Branch, Port, AllPorts}
+use Rattle.world_model.specs.gsmp_wire.declared.request.Request.TheVariants as requests
+use Rattle.world_model.specs.gsmp_wire.Layout.{octets_of}
+use Rattle.world_model.specs.gsmp_wire.Fields.{decoded}
+use Rattle.frame_readings.specs.gsmp_reading.Said.{IsSaid}
+use Rattle.world_model.specs.frame_model.Frame.{octets_of as cell_octets}
+use Rattle.world_model.specs.frame_model.Reassembly.{Taken, taken}
+use Rattle.world_model.specs.frame_model.Sending.{Sent}
+use Rattle.world_model.specs.crossbar_model.declared.routed.Routed.TheVariants as routes
+use Rattle.world_model.specs.crossbar_model.declared.branch.Branch.{Branch as BranchOf}
+use Rattle.frame_readings.proofs.port_facts.Keyed.{on_both, on_each}
+use Rattle.frame_readings.proofs.port_facts.Rules.{and_first}
 use Rattle.world_model.specs.declared.port.PortState.{PortState}
 use Rattle.world_model.specs.declared.request.Asked.{Asked}
 use Rattle.world_model.specs.declared.request.Failure.{Failure}
-use Rattle.world_model.specs.Switch.{Switch, Acted, control_port, gsmp_channel, free_slots, begun}
-use Rattle.world_model.specs.Requests.{Changed, moved_by, moved_to, ended_by, ended, all_ended, inputs_on, cleared, branches_after, asked_in, is_request, ports_after}
-use Rattle.world_model.specs.Failures.{failure_of}
-use Rattle.world_model.specs.Answers.{row_of, Handled, handled_by, handled_asked, handled}
-use Rattle.world_model.specs.Conduct.{with_cells, says, answers, steps, replied, requested, told, read, after_test, ends_frame, gsmp_cell, passed, switched_cell, is_gsmp, cell_comes, tick_comes, restarted}
-use Rattle.world_model.specs.Ways.{copy_by, copy_of}
-use Rattle.world_views.specs.Made.{said, AreMade}
-use Rattle.world_views.specs.Ready.{FitsSide}
-use Rattle.shown_cells.proofs.Tested.{cut_frames, taken_frames, tested_frames}
+use Rattle.world_model.specs.Switch.{Acted, free_slots, begun}
+use Rattle.world_model.specs.Requests.{ended, cleared}
+use Rattle.world_model.specs.Answers.{row_of}
+use Rattle.world_model.specs.Conduct.{with_cells, says, answers, steps, told, after_test, ends_frame, passed, cell_comes}
+use Rattle.frame_readings.specs.world_views.Made.{said, AreMade}
+use Rattle.frame_readings.specs.world_views.Ready.{FitsSide}
+use Rattle.frame_readings.proofs.shown_cells.Tested.{cut_frames, taken_frames, tested_frames}
 use Rattle.running_worlds.proofs.Making.{made_more}
-use Rattle.input_premises.proofs.Written.{IsWritten}
+use Rattle.input_events.proofs.input_premises.Written.{IsWritten}
 use Rattle.running_worlds.proofs.Greeted.{AnswersWell, received_side, received_answers, ticked_side, ticked_answers}
-use Rattle.input_steps.specs.Asking.{IsAsked}
-use Rattle.input_steps.proofs.Handled.{noted_frames}
+use Rattle.input_events.specs.input_steps.Asking.{IsAsked}
+use Rattle.input_events.proofs.input_steps.Handled.{noted_frames}
 use Rattle.input_events.proofs.Answering.{TellsRows, answer_written}
 use Rattle.run_facts.proofs.Switches.{handled_as}
 

@@ -7,62 +7,41 @@ use Rattle.std.specs.Option.{option_and_then, option_map_or}
 use Rattle.std.specs.FinMap as finite
 use Rattle.std.specs.FinMap.{get}
 use Rattle.std.proofs.lemmas.Bool.Decides.{nat_tests}
-use Rattle.net_types.specs.declared.adjacency.Greeting.{Greeting}
-use Rattle.net_types.specs.declared.adjacency.Party.{Party}
-use Rattle.net_types.specs.declared.channel.End.{End}
-use Rattle.net_types.specs.declared.node.PortNo.{PortNo}
-use Rattle.net_types.specs.declared.number.Instance.{Instance}
-use Rattle.net_types.specs.declared.number.Mark.{Mark}
-use Rattle.net_types.specs.Number.{next_control, next_instance, with_control}
-use Rattle.adjacency_table.specs.declared.message.Answer.{Answer}
-use Rattle.adjacency_table.specs.declared.message.Answer.TheVariants.{Quiet, Send, Open, Reset}
-use Rattle.adjacency_table.specs.Side.{Step, is_estab, ticked}
-use Rattle.adjacency_table.specs.Greeting.{gsmp_answer, gsmp_received}
-use Rattle.atm_cells.specs.declared.cell.Cell.{Cell}
-use Rattle.crossbar_model.specs.declared.branch.Branch.{Branch as Led}
-use Rattle.crossbar_model.specs.declared.routed.Routed.{Routed}
-use Rattle.crossbar_model.specs.declared.routed.Routed.TheVariants as routes
-use Rattle.crossbar_model.specs.Crossbar.{Crossbar, queue_of, input_of, on_channel_of, routed, switched_on}
-use Rattle.gsmp_wire.specs.declared.fault.Fault.{Fault}
-use Rattle.gsmp_wire.specs.declared.message.Message.{Message}
-use Rattle.gsmp_wire.specs.declared.message.Message.TheVariants.{Adjacency, Branch, Move, Port, AllPorts}
-use Rattle.gsmp_wire.specs.declared.request.Request.{Request}
-use Rattle.gsmp_wire.specs.declared.request.Request.TheVariants as requests
-use Rattle.gsmp_wire.specs.declared.rows.PortRow.{PortRow}
-use Rattle.gsmp_wire.specs.Fields.{decoded}
-use Rattle.gsmp_wire.specs.Layout.{octets_of as message_octets}
-use Rattle.link_model.specs.declared.frames.Frame.{Frame}
-use Rattle.link_model.specs.declared.record.Cause.TheVariants.{PoolFull}
-use Rattle.link_model.specs.declared.record.Record.TheVariants.{Loss}
-use Rattle.link_model.specs.Ledger.{payload_of}
-use Rattle.link_model.specs.Notes.{Journal, noted}
-use Rattle.frame_model.specs.Frame.{octets_of, frame_cells, made, last_mark, payload_in, tested_by}
-use Rattle.frame_model.specs.Reassembly.{Reassembly, Taken, marks_of, most_cells, passed_over, without_slot, too_long, joined}
-use Rattle.frame_model.specs.Sending.{Sent}
-use Rattle.ordered_lists.specs.Ordered.{Every}
-use Rattle.ordered_lists.proofs.Every.{every_join, every_map, every_mapped}
-use Rattle.port_model.specs.Messages.{is_up}
-use Rattle.port_model.specs.Setup.{Setup}
-use Rattle.port_facts.specs.Port.{IsShaped, asks_ports, empties_control, empties_port, opens_input, opens_output, leads_label, leads_grant, joins_label, parts_label, frees_label}
-use Rattle.port_facts.proofs.Keyed.{on_both, on_each}
+use Rattle.world_model.specs.Words.{Greeting, Party, End, PortNo, Instance, Mark, next_control, next_instance, with_control, Answer, Quiet, Send, Open, Step, is_estab, ticked, gsmp_answer, gsmp_received, Cell, Routed, Crossbar, queue_of, on_channel_of, routed, switched_on, Move, Request, PortRow, Frame, PoolFull, Loss, payload_of, Journal, noted, frame_cells, made, last_mark, payload_in, tested_by, Reassembly, marks_of, most_cells, passed_over, without_slot, too_long, Setup, Switch, control_port, gsmp_channel, numbers_of, Changed, end_at, branch_request, branches_after, ports_after, inputs_on, asked_in, is_request, failure_of, handled, handled_asked, handled_by, replied, requested, read, gsmp_cell, switched_cell, tick_comes, restarted, default_channel, gsmp_of, gsmp_under}
+use Rattle.world_model.specs.adjacency_table.declared.message.Answer.TheVariants.{Reset}
+use Rattle.world_model.specs.crossbar_model.declared.branch.Branch.{Branch as Led}
+use Rattle.world_model.specs.crossbar_model.declared.routed.Routed.TheVariants as routes
+use Rattle.world_model.specs.crossbar_model.Crossbar.{input_of}
+use Rattle.world_model.specs.gsmp_wire.declared.fault.Fault.{Fault}
+use Rattle.world_model.specs.gsmp_wire.declared.message.Message.{Message}
+use Rattle.world_model.specs.gsmp_wire.declared.message.Message.TheVariants.{Adjacency, Branch, Port, AllPorts}
+use Rattle.world_model.specs.gsmp_wire.declared.request.Request.TheVariants as requests
+use Rattle.world_model.specs.gsmp_wire.Fields.{decoded}
+use Rattle.world_model.specs.gsmp_wire.Layout.{octets_of as message_octets}
+use Rattle.world_model.specs.frame_model.Frame.{octets_of}
+use Rattle.world_model.specs.frame_model.Reassembly.{Taken, joined}
+use Rattle.world_model.specs.frame_model.Sending.{Sent}
+use Rattle.frame_readings.specs.ordered_lists.Ordered.{Every}
+use Rattle.frame_readings.proofs.ordered_lists.Every.{every_join, every_map, every_mapped}
+use Rattle.world_model.specs.port_model.Messages.{is_up}
+use Rattle.frame_readings.specs.port_facts.Port.{IsShaped, asks_ports, empties_control, empties_port, opens_input, opens_output, leads_label, leads_grant, joins_label, parts_label, frees_label}
+use Rattle.frame_readings.proofs.port_facts.Keyed.{on_both, on_each}
 use Rattle.world_model.specs.declared.port.PortState.{PortState}
 use Rattle.world_model.specs.declared.request.Asked.{Asked}
 use Rattle.world_model.specs.declared.request.Failure.{Failure}
-use Rattle.world_model.specs.Switch.{Switch, Acted, control_port, gsmp_channel, free_slots, numbers_of, begun}
-use Rattle.world_model.specs.Requests.{Changed, end_at, branch_request, branches_after, ports_after, cleared, inputs_on, asked_in, is_request}
-use Rattle.world_model.specs.Failures.{failure_of}
-use Rattle.world_model.specs.Answers.{row_of, handled, handled_asked, handled_by}
-use Rattle.world_model.specs.Conduct.{with_cells, says, answers, steps, replied, requested, told, read, after_test, ends_frame, after_cell, gsmp_cell, passed as passed_cell, switched_cell, tick_comes, restarted}
-use Rattle.world_model.specs.Controller.{default_channel}
-use Rattle.world_model.specs.Ways.{gsmp_of, gsmp_under, told as heard}
-use Rattle.input_steps.specs.Asking.{IsReadable}
-use Rattle.input_steps.specs.Hearing.{IsEnded, LeadsAway, PassesTrue}
-use Rattle.input_steps.proofs.Handled.{all_ended_frames, moved_frames, ended_frames}
-use Rattle.input_premises.proofs.Asking.{shaped_asked}
+use Rattle.world_model.specs.Switch.{Acted, free_slots, begun}
+use Rattle.world_model.specs.Requests.{cleared}
+use Rattle.world_model.specs.Answers.{row_of}
+use Rattle.world_model.specs.Conduct.{with_cells, says, answers, steps, told, after_test, ends_frame, after_cell, passed as passed_cell}
+use Rattle.world_model.specs.Ways.{told as heard}
+use Rattle.input_events.specs.input_steps.Asking.{IsReadable}
+use Rattle.input_events.specs.input_steps.Hearing.{IsEnded, LeadsAway, PassesTrue}
+use Rattle.input_events.proofs.input_steps.Handled.{all_ended_frames, moved_frames, ended_frames}
+use Rattle.input_events.proofs.input_premises.Asking.{shaped_asked}
 use Rattle.input_events.specs.Coming.{TellsPorts, IsToSwitch}
 use Rattle.input_events.proofs.Answering.{answer_reads}
-use Rattle.shown_cells.proofs.Frames.{differ}
-use Rattle.shown_cells.proofs.Tested.{broken_frames, cut_frames, frame_is, last_is, passed_frames}
+use Rattle.frame_readings.proofs.shown_cells.Frames.{differ}
+use Rattle.frame_readings.proofs.shown_cells.Tested.{broken_frames, cut_frames, frame_is, last_is, passed_frames}
 use Rattle.running_worlds.specs.Mode.{AreUp}
 use Rattle.running_worlds.specs.New.{is_on_gsmp, TellsUp, SinceThen}
 use Rattle.running_worlds.specs.Calls.{IsTelling}

@@ -2,12 +2,10 @@
 
 use Rattle.std.proofs.Common.{◌≡◌, Bool, not, List, [], ◌∷◌, ◌++◌, length, refl, sym, ◌∙◌}
 use Rattle.std.specs.Prelude.{nat_le}
-use Rattle.atm_cells.specs.declared.cell.Cell.{Cell}
-use Rattle.link_model.specs.Notes.{Journal}
-use Rattle.frame_model.specs.Frame.{last_mark}
-use Rattle.frame_model.specs.Reassembly.{Reassembly, Taken, taken, most_cells, passed_over, without_slot, too_long, joined}
-use Rattle.port_facts.proofs.Keyed.{on_both}
-use Rattle.shown_cells.proofs.Tested.{last_is}
+use Rattle.world_model.specs.Words.{Cell, Journal, last_mark, Reassembly, most_cells, passed_over, without_slot, too_long}
+use Rattle.world_model.specs.frame_model.Reassembly.{Taken, taken, joined}
+use Rattle.frame_readings.proofs.port_facts.Keyed.{on_both}
+use Rattle.frame_readings.proofs.shown_cells.Tested.{last_is}
 
 abbrev EndsIn : Cell → List Cell → Type 0
 EndsIn cell [] = Unit {0}

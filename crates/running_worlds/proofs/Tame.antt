@@ -4,43 +4,29 @@ use Rattle.std.proofs.Common.{◌≡◌, ℕ, Bool, true, false, true≢false, n
 use Rattle.std.specs.Prelude.{◌+◌, ◌||◌, nat_le, nat_lt}
 use Rattle.std.specs.List.{list_any}
 use Rattle.std.specs.Option.{option_and_then}
-use Rattle.net_types.specs.declared.number.Mark.{Mark}
-use Rattle.net_types.specs.Label.{label_number_of}
-use Rattle.net_types.specs.Number.{GivenOut}
-use Rattle.atm_cells.specs.declared.cell.Cell.{Cell}
-use Rattle.crossbar_model.specs.Channels.{IsLinkPort}
-use Rattle.ordered_lists.specs.Ordered.{Every}
-use Rattle.ordered_lists.proofs.Every.{every_all, every_mapped}
-use Rattle.link_model.specs.declared.record.Record.{Record}
-use Rattle.link_model.specs.declared.record.Record.TheVariants.{Chance}
-use Rattle.link_model.specs.Ledger.{is_frame}
-use Rattle.link_model.specs.Notes.{Journal, noted}
-use Rattle.frame_model.specs.Frame.{octets_of, last_mark, payload_in, tested_by}
-use Rattle.frame_model.specs.Reassembly.{Reassembly, Taken, taken, most_cells, passed_over, without_slot, too_long, joined}
-use Rattle.port_model.specs.Setup.{Setup}
-use Rattle.port_model.specs.Labels.{Label, is_bound}
-use Rattle.port_model.specs.Port.{label_at}
-use Rattle.port_facts.proofs.Found.{by_number as label_there}
-use Rattle.world_model.specs.Controller.{Acted, Linked, free_slots, linked_at, chains_with, default_channel}
-use Rattle.world_model.specs.Opening.{setup_of}
-use Rattle.world_model.specs.Cells.{Taker, ForGsmp, ForDefault, ForLabel, port_on, on_link, same_channel, label_taker, taker_at, taker_of, reassembly_of, with_reassembly, frame_holds, ends_frame, after_test, after_cell, takes_cell, cell_comes}
-use Rattle.controller_facts.specs.Inputs.{takes_inputs}
-use Rattle.controller_facts.specs.Sound.{Opening, opened_by, setups_by}
-use Rattle.controller_facts.proofs.Laws.{always_sound, has_ports, moves_sound}
-use Rattle.controller_facts.proofs.Moves.{Found, found_at_own, gathering, moves_to}
-use Rattle.controller_law.specs.Law.{IsOpening}
-use Rattle.controller_law.proofs.Laws.{always_holds}
-use Rattle.controller_law.proofs.Whole.{Whole, chained_whole}
-use Rattle.controller_bindings.specs.Bindings.{noted_by_all}
-use Rattle.controller_facts.proofs.Unmet.{ports_apart}
-use Rattle.controller_facts.specs.Inputs.{Input}
+use Rattle.world_model.specs.Words.{Mark, label_number_of, GivenOut, Cell, IsLinkPort, Record, Chance, is_frame, Journal, noted, last_mark, payload_in, tested_by, Reassembly, most_cells, passed_over, without_slot, too_long, Setup, Label, is_bound, label_at, Linked, linked_at, chains_with, default_channel, setup_of, ForGsmp, ForDefault, ForLabel, port_on, on_link, same_channel, label_taker, taker_at, taker_of, reassembly_of, with_reassembly, frame_holds, takes_cell, Channel, is_wild, IsTame}
+use Rattle.frame_readings.specs.ordered_lists.Ordered.{Every}
+use Rattle.frame_readings.proofs.ordered_lists.Every.{every_all, every_mapped}
+use Rattle.world_model.specs.frame_model.Frame.{octets_of}
+use Rattle.world_model.specs.frame_model.Reassembly.{Taken, taken, joined}
+use Rattle.frame_readings.proofs.port_facts.Found.{by_number as label_there}
+use Rattle.world_model.specs.Controller.{Acted, free_slots}
+use Rattle.world_model.specs.Cells.{Taker, ends_frame, after_test, after_cell, cell_comes}
+use Rattle.frame_readings.specs.controller_facts.Inputs.{takes_inputs}
+use Rattle.frame_readings.specs.controller_facts.Sound.{Opening, opened_by, setups_by}
+use Rattle.frame_readings.proofs.controller_facts.Laws.{always_sound, has_ports, moves_sound}
+use Rattle.frame_readings.proofs.controller_facts.Moves.{Found, found_at_own, gathering, moves_to}
+use Rattle.input_events.specs.controller_law.Law.{IsOpening}
+use Rattle.input_events.proofs.controller_law.Laws.{always_holds}
+use Rattle.input_events.proofs.controller_law.Whole.{Whole, chained_whole}
+use Rattle.branch_shapes.specs.controller_bindings.Bindings.{noted_by_all}
+use Rattle.frame_readings.proofs.controller_facts.Unmet.{ports_apart}
+use Rattle.frame_readings.specs.controller_facts.Inputs.{Input}
 use Rattle.world_model.specs.declared.range.PortRange.{PortRange}
-use Rattle.net_types.specs.declared.channel.Channel.{Channel}
-use Rattle.controller_bindings.proofs.Tied.{Tied, NoCut, Settled, anew_tied}
-use Rattle.controller_bindings.proofs.Events.{IsTiedTo, IsTakerOf, inputs_told, frame_bound, gathered_bound}
-use Rattle.controller_bindings.proofs.Laws.{opened_at, opened_new}
-use Rattle.world_model.specs.Headline.{is_wild, IsTame}
-use Rattle.input_steps.specs.Hearing.{IsEnded, PassesTrue}
+use Rattle.branch_shapes.proofs.controller_bindings.Tied.{Tied, NoCut, Settled, anew_tied}
+use Rattle.branch_shapes.proofs.controller_bindings.Events.{IsTiedTo, IsTakerOf, inputs_told, frame_bound, gathered_bound}
+use Rattle.branch_shapes.proofs.controller_bindings.Laws.{opened_at, opened_new}
+use Rattle.input_events.specs.input_steps.Hearing.{IsEnded, PassesTrue}
 
 -- *A chance* stays among the records
 wild_front : (xs ys : List Record) → list_any is_wild xs ≡ true → list_any is_wild (xs ++ ys) ≡ true

@@ -3,51 +3,32 @@
 
 use Rattle.std.proofs.Common.{◌≡◌, ℕ, ◌<◌, List, [], ◌∷◌, Some, refl, sym, ap, subst, arith, fold}
 use Rattle.std.specs.Prelude.{◌^◌}
-use Rattle.net_types.specs.declared.channel.Channel.{Channel}
-use Rattle.net_types.specs.declared.channel.End.{End}
-use Rattle.net_types.specs.declared.node.PortNo.{PortNo}
-use Rattle.net_types.specs.declared.number.Mark.{Mark}
-use Rattle.net_types.specs.declared.prefix.Addr.{Addr}
-use Rattle.net_types.specs.Number.{next_control, with_control}
-use Rattle.ipv4_packet.specs.Packet.{ifmp_packet_of}
-use Rattle.flow_encaps.specs.Default.{default_payload}
-use Rattle.ifmp_wire.specs.declared.message.Message.{Message as IfmpMessage}
-use Rattle.ifmp_wire.specs.Message.{InRange, FitsMessage, octets_of as ifmp_octets}
-use Rattle.gsmp_wire.specs.Layout.{octets_of as gsmp_octets}
-use Rattle.gsmp_wire.specs.Range.{FitsRows}
-use Rattle.gsmp_wire.specs.declared.message.Message.{Message}
-use Rattle.link_model.specs.declared.frames.Frame.{Frame}
-use Rattle.link_model.specs.declared.record.Record.{Record}
-use Rattle.ordered_lists.specs.Ordered.{Every}
-use Rattle.keyed_lists.specs.Keyed.{at}
-use Rattle.port_model.specs.Desk.{Desk}
-use Rattle.port_model.specs.Setup.{Setup}
-use Rattle.port_model.specs.Port.{Work}
-use Rattle.port_facts.specs.Port.{setup_port, IsRanged}
-use Rattle.port_facts.proofs.Keyed.{at_key, at_every, put_every}
-use Rattle.port_widths.specs.Widths.{FitsSetup, FitsWork}
-use Rattle.world_model.specs.Controller.{Acted, Linked, port_key, linked_at, note, default_channel, default_home}
-use Rattle.world_model.specs.Sending.{sends, sends_control, says_gsmp, says_ifmp}
-use Rattle.world_model.specs.Asking.{withdraws_input}
-use Rattle.world_model.specs.Resets.{begins, with_work, cuts_label, resets_gsmp, node_resets}
-use Rattle.adjacency_table.specs.Side.{Side}
-use Rattle.net_types.specs.declared.adjacency.Party.{Party}
-use Rattle.crossbar_model.specs.Channels.{IsLinkPort}
-use Rattle.controller_facts.specs.Sound.{IsSound}
-use Rattle.controller_facts.specs.Said.{HasFlowsAt, HasFlowingPorts, IsAtWork}
-use Rattle.controller_facts.proofs.Moves.{Move, noting, taking_notes, sending, sending_control, asking, withdrawing, answering, meeting, ending_meeting, turning, placing, clearing, gathering, chaining, routing, popping, Moves, stays as rests, moves_to, further, moves_keep, moves_ports, HasPorts, found_setup, begun}
-use Rattle.controller_facts.proofs.Performing.{cuts_label_goes, node_resets_goes}
-use Rattle.controller_facts.proofs.Laws.{has_ports, moves_sound}
-use Rattle.controller_facts.proofs.Flows.{moves_flow}
-use Rattle.controller_facts.proofs.Numbers.{moves_never_fall}
-use Rattle.controller_views.proofs.Sends.{sent_cases}
-use Rattle.controller_lifts.proofs.Kept.{Of, Each, Goes, cuts_goes, node_resets_goes as node_keeps}
-use Rattle.controller_lifts.proofs.Ready.{Fits, fits_closed}
-use Rattle.controller_lifts.proofs.Unspent.{Unspent, unspent_closed}
-use Rattle.world_views.specs.Made.{IsMadeAs, told, said, AreMade}
-use Rattle.world_views.specs.Ready.{FitsSide}
+use Rattle.world_model.specs.Words.{Channel, End, PortNo, Mark, Addr, next_control, with_control, ifmp_packet_of, default_payload, InRange, FitsMessage, FitsRows, Frame, Record, at, Desk, Setup, Work, Linked, port_key, linked_at, default_channel, default_home, sends_control, says_gsmp, says_ifmp, withdraws_input, begins, with_work, cuts_label, resets_gsmp, node_resets, Side, Party, IsLinkPort}
+use Rattle.world_model.specs.ifmp_wire.declared.message.Message.{Message as IfmpMessage}
+use Rattle.world_model.specs.ifmp_wire.Message.{octets_of as ifmp_octets}
+use Rattle.world_model.specs.gsmp_wire.Layout.{octets_of as gsmp_octets}
+use Rattle.world_model.specs.gsmp_wire.declared.message.Message.{Message}
+use Rattle.frame_readings.specs.ordered_lists.Ordered.{Every}
+use Rattle.frame_readings.specs.port_facts.Port.{setup_port, IsRanged}
+use Rattle.frame_readings.proofs.port_facts.Keyed.{at_key, at_every, put_every}
+use Rattle.frame_readings.specs.port_widths.Widths.{FitsSetup, FitsWork}
+use Rattle.world_model.specs.Controller.{Acted, note}
+use Rattle.world_model.specs.Sending.{sends}
+use Rattle.frame_readings.specs.controller_facts.Sound.{IsSound}
+use Rattle.frame_readings.specs.controller_facts.Said.{HasFlowsAt, HasFlowingPorts, IsAtWork}
+use Rattle.frame_readings.proofs.controller_facts.Moves.{Move, noting, taking_notes, sending, sending_control, asking, withdrawing, answering, meeting, ending_meeting, turning, placing, clearing, gathering, chaining, routing, popping, Moves, stays as rests, moves_to, further, moves_keep, moves_ports, HasPorts, found_setup, begun}
+use Rattle.frame_readings.proofs.controller_facts.Performing.{cuts_label_goes, node_resets_goes}
+use Rattle.frame_readings.proofs.controller_facts.Laws.{has_ports, moves_sound}
+use Rattle.frame_readings.proofs.controller_facts.Flows.{moves_flow}
+use Rattle.frame_readings.proofs.controller_facts.Numbers.{moves_never_fall}
+use Rattle.frame_readings.proofs.controller_views.Sends.{sent_cases}
+use Rattle.frame_readings.proofs.controller_lifts.Kept.{Of, Each, Goes, cuts_goes, node_resets_goes as node_keeps}
+use Rattle.frame_readings.proofs.controller_lifts.Ready.{Fits, fits_closed}
+use Rattle.frame_readings.proofs.controller_lifts.Unspent.{Unspent, unspent_closed}
+use Rattle.frame_readings.specs.world_views.Made.{IsMadeAs, told, said, AreMade}
+use Rattle.frame_readings.specs.world_views.Ready.{FitsSide}
 use Rattle.running_worlds.proofs.Making.{made_more}
-use Rattle.input_premises.proofs.Written.{IsWritten}
+use Rattle.input_events.proofs.input_premises.Written.{IsWritten}
 use Rattle.running_worlds.proofs.Still.{IsStill, cuts_still, node_still}
 
 -- *Its address* stays

@@ -5,39 +5,27 @@ use Rattle.std.specs.Prelude.{nat_le, nat_lt}
 use Rattle.std.specs.Option.{option_map_or}
 use Rattle.std.specs.Str.{bytes_eq}
 use Rattle.std.proofs.lemmas.Slice.Eq.{bytes_eq-Decides}
-use Rattle.net_types.specs.declared.node.NodeId.{NodeId}
-use Rattle.net_types.specs.declared.node.Place.TheVariants.{Down, Up}
-use Rattle.net_types.specs.Number.{GivenOut}
-use Rattle.atm_cells.specs.declared.cell.Cell.{Cell}
-use Rattle.link_model.specs.Ledger.{payload_of}
-use Rattle.link_model.specs.Notes.{Journal}
-use Rattle.frame_model.specs.Frame.{octets_of, last_mark, payload_in}
-use Rattle.frame_model.specs.Reassembly.{Reassembly, Taken, most_cells, passed_over, without_slot, too_long, joined}
-use Rattle.port_facts.proofs.Keyed.{at_every}
+use Rattle.world_model.specs.Words.{NodeId, Down, Up, GivenOut, Cell, payload_of, Journal, last_mark, payload_in, Reassembly, most_cells, passed_over, without_slot, too_long, control_port, Controller, default_channel, same_channel, taker_of, reassembly_of, Topology, World, Site, site_key, site_at, with_site, controller_acts, switch_acts, queue_at, with_queue_in, with_queue_of, carries_head, next, put_away, world_after, past_of, IsTame}
+use Rattle.world_model.specs.frame_model.Frame.{octets_of}
+use Rattle.world_model.specs.frame_model.Reassembly.{Taken, joined}
+use Rattle.frame_readings.proofs.port_facts.Keyed.{at_every}
 use Rattle.world_model.specs.Switch as switches
-use Rattle.world_model.specs.Switch.{control_port}
 use Rattle.world_model.specs.Conduct as switch
-use Rattle.world_model.specs.Controller.{Controller, Acted, free_slots, default_channel}
-use Rattle.world_model.specs.Cells.{Taker, same_channel, taker_of, reassembly_of, cell_comes}
+use Rattle.world_model.specs.Controller.{Acted, free_slots}
+use Rattle.world_model.specs.Cells.{Taker, cell_comes}
 use Rattle.world_model.specs.declared.event.Event.{Event}
 use Rattle.world_model.specs.declared.event.Event.TheVariants.{Carry}
-use Rattle.world_model.specs.Topology.{Topology}
-use Rattle.world_model.specs.World.{World, Site, site_key, site_at, with_site, opened, controller_acts, switch_acts, at_controller, at_switch}
-use Rattle.world_model.specs.Places.{queue_at, with_queue_in, with_queue_of}
-use Rattle.world_model.specs.Step.{carries_head}
-use Rattle.world_model.specs.Run.{next, put_away, world_after}
-use Rattle.world_model.specs.Past.{past_of}
-use Rattle.world_model.specs.Headline.{IsTame}
-use Rattle.lifetimes.proofs.Opened.{IsFed, opening_fed}
-use Rattle.lifetimes.proofs.Runs.{run_fed}
+use Rattle.world_model.specs.World.{opened, at_controller, at_switch}
+use Rattle.branch_shapes.proofs.lifetimes.Opened.{IsFed, opening_fed}
+use Rattle.branch_shapes.proofs.lifetimes.Runs.{run_fed}
 use Rattle.branch_shapes.specs.Shapes.{ended_by}
 use Rattle.branch_shapes.proofs.Chance.{tame_passes}
-use Rattle.input_steps.specs.Hearing.{IsEnded, PassesTrue}
+use Rattle.input_events.specs.input_steps.Hearing.{IsEnded, PassesTrue}
 use Rattle.input_events.proofs.Sites.{put_at}
 use Rattle.frame_readings.specs.Reading.{MarksAreRead}
 use Rattle.run_facts.specs.Nodes.{RunsHaveNodes, RunsHaveRoom}
 use Rattle.run_facts.specs.Steps.{EventsAreSteps, RunsHaveFronts}
-use Rattle.shown_cells.proofs.Tested.{last_is}
+use Rattle.frame_readings.proofs.shown_cells.Tested.{last_is}
 use Rattle.running_worlds.specs.Running.{ChainsAreTrue, TameEventsAreTrue, EventsAreOrdinary}
 use Rattle.running_worlds.proofs.Tame.{chain_true}
 use Rattle.running_worlds.proofs.Sites.{steady_site, has_said, has_answered}

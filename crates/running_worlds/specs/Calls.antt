@@ -1,17 +1,13 @@
 -- What is so of a switch while it acts: all that it newly tells of its ports is that they are up, and they are
 
 use Rattle.std.specs.Prelude.{◌≡◌, ℕ, ◌≤◌, true, List, ◌∷◌, length, map, Contains}
-use Rattle.atm_cells.specs.declared.cell.Cell.{Cell}
-use Rattle.crossbar_model.specs.Crossbar.{queue_of}
-use Rattle.ordered_lists.specs.Ordered.{Every}
-use Rattle.link_model.specs.declared.frames.Frame.{Frame}
-use Rattle.port_model.specs.Setup.{Setup}
+use Rattle.world_model.specs.Words.{Cell, queue_of, Frame, Setup, control_port, numbers_of, tick_comes, restarted}
+use Rattle.frame_readings.specs.ordered_lists.Ordered.{Every}
 use Rattle.world_model.specs.declared.port.PortState.{PortState}
-use Rattle.world_model.specs.Switch.{Acted, control_port, numbers_of}
-use Rattle.world_model.specs.Conduct.{tick_comes, restarted}
+use Rattle.world_model.specs.Switch.{Acted}
 use Rattle.world_model.specs.Controller as controllers
 use Rattle.world_model.specs.Ticks.{ticks}
-use Rattle.input_premises.specs.Steady.{IsSteady}
+use Rattle.input_events.specs.input_premises.Steady.{IsSteady}
 use Rattle.running_worlds.specs.Mode.{Mode}
 use Rattle.running_worlds.specs.New.{TellsUp, SinceThen}
 use Rattle.running_worlds.specs.Fine.{IsFine}

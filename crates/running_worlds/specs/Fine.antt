@@ -1,18 +1,11 @@
 -- What is so of a controller while it acts: all that it newly asks has a shape, and once all ports are told to be up they stay so
 
 use Rattle.std.specs.Prelude.{ℕ, ◌≤◌, List, Contains}
-use Rattle.atm_cells.specs.declared.cell.Cell.{Cell}
-use Rattle.crossbar_model.specs.Channels.{IsLinkPort}
-use Rattle.gsmp_wire.specs.declared.request.Request.{Request}
-use Rattle.ordered_lists.specs.Ordered.{Every}
-use Rattle.link_model.specs.declared.frames.Frame.{Frame}
-use Rattle.port_model.specs.Desk.{last_transaction}
-use Rattle.port_model.specs.Setup.{Setup}
-use Rattle.port_facts.specs.Port.{IsShaped}
+use Rattle.world_model.specs.Words.{Cell, IsLinkPort, Request, Frame, last_transaction, Setup, asks, node_resets}
+use Rattle.frame_readings.specs.ordered_lists.Ordered.{Every}
+use Rattle.frame_readings.specs.port_facts.Port.{IsShaped}
 use Rattle.world_model.specs.Controller.{Acted}
-use Rattle.world_model.specs.Asking.{asks}
-use Rattle.world_model.specs.Resets.{node_resets}
-use Rattle.input_premises.specs.Read.{AreRead}
+use Rattle.input_events.specs.input_premises.Read.{AreRead}
 use Rattle.running_worlds.specs.Mode.{Mode, Told, Untold, IsMild, Knows}
 use Rattle.running_worlds.specs.New.{AsksShaped, SinceThen}
 

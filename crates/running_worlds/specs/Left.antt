@@ -1,22 +1,12 @@
 -- What an event leaves of what is said between a controller and its switch: nothing but what may be said
 
 use Rattle.std.specs.Prelude.{◌≡◌, ℕ, ◌≤◌, true, List, map, Some}
-use Rattle.net_types.specs.declared.node.PortNo.{PortNo}
-use Rattle.atm_cells.specs.declared.cell.Cell.{Cell}
-use Rattle.gsmp_wire.specs.declared.message.Message.TheVariants.{AllPorts}
-use Rattle.gsmp_wire.specs.declared.rows.PortRow.{PortRow}
-use Rattle.ordered_lists.specs.Ordered.{Every}
-use Rattle.link_model.specs.declared.frames.Frame.{Frame}
-use Rattle.crossbar_model.specs.Crossbar.{queue_of}
-use Rattle.port_model.specs.Desk.{Standing}
+use Rattle.world_model.specs.Words.{PortNo, Cell, PortRow, Frame, queue_of, Standing, control_port, Setup, Controller, Site, gsmp_under, copy_under}
+use Rattle.world_model.specs.gsmp_wire.declared.message.Message.TheVariants.{AllPorts}
+use Rattle.frame_readings.specs.ordered_lists.Ordered.{Every}
 use Rattle.world_model.specs.declared.port.PortState.{PortState}
-use Rattle.world_model.specs.Switch.{control_port}
-use Rattle.port_model.specs.Setup.{Setup}
-use Rattle.port_facts.specs.Port.{IsShaped}
-use Rattle.world_model.specs.Controller.{Controller}
-use Rattle.world_model.specs.World.{Site}
-use Rattle.world_model.specs.Ways.{gsmp_under, copy_under}
-use Rattle.world_views.specs.Between.{AreUp, setups_of}
+use Rattle.frame_readings.specs.port_facts.Port.{IsShaped}
+use Rattle.frame_readings.specs.world_views.Between.{AreUp, setups_of}
 use Rattle.running_worlds.specs.New.{AsksShaped, TellsUp, SinceThen}
 use Rattle.running_worlds.specs.Mode.{Mode, Knows}
 

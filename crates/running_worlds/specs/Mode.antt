@@ -1,15 +1,10 @@
 -- Before all ports are told to be up a controller hasn't met its switch, and no Delete All stands
 
 use Rattle.std.specs.Prelude.{◌≡◌, true, false, List, map}
-use Rattle.net_types.specs.declared.node.PortNo.{PortNo}
-use Rattle.gsmp_wire.specs.declared.rows.PortRow.{PortRow}
-use Rattle.port_model.specs.Messages.{is_up}
-use Rattle.gsmp_wire.specs.declared.request.Request.{Request}
-use Rattle.gsmp_wire.specs.declared.request.Request.TheVariants.{DeleteAll}
-use Rattle.ordered_lists.specs.Ordered.{Every}
-use Rattle.port_model.specs.Desk.{Standing}
-use Rattle.port_model.specs.Setup.{Setup}
-use Rattle.world_model.specs.Controller.{Controller}
+use Rattle.world_model.specs.Words.{PortNo, PortRow, Request, Standing, Setup, Controller}
+use Rattle.world_model.specs.port_model.Messages.{is_up}
+use Rattle.world_model.specs.gsmp_wire.declared.request.Request.TheVariants.{DeleteAll}
+use Rattle.frame_readings.specs.ordered_lists.Ordered.{Every}
 
 -- these records tell that the ports are up
 abbrev pub AreUp : List PortRow → List PortNo → Type 0

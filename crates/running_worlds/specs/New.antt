@@ -2,20 +2,10 @@
 
 use Rattle.std.specs.Prelude.{◌≡◌, ℕ, ◌≤◌, Bool, true, List, ◌⊎◌, Some}
 use Rattle.std.specs.Option.{option_and_then}
-use Rattle.net_types.specs.declared.node.PortNo.{PortNo}
-use Rattle.net_types.specs.declared.number.Mark.{Mark}
-use Rattle.atm_cells.specs.declared.cell.Cell.{Cell}
-use Rattle.gsmp_wire.specs.declared.message.Message.TheVariants.{AllPorts}
-use Rattle.gsmp_wire.specs.declared.rows.PortRow.{PortRow}
-use Rattle.ordered_lists.specs.Ordered.{Every}
-use Rattle.link_model.specs.declared.frames.Frame.{Frame}
-use Rattle.link_model.specs.Ledger.{payload_of}
-use Rattle.port_model.specs.Desk.{Standing}
-use Rattle.port_model.specs.Setup.{Setup}
-use Rattle.port_facts.specs.Port.{IsShaped}
-use Rattle.world_model.specs.Controller.{default_channel}
-use Rattle.world_model.specs.Cells.{same_channel}
-use Rattle.world_model.specs.Ways.{gsmp_of, copy_of}
+use Rattle.world_model.specs.Words.{PortNo, Mark, Cell, PortRow, Frame, payload_of, Standing, Setup, default_channel, same_channel, gsmp_of, copy_of}
+use Rattle.world_model.specs.gsmp_wire.declared.message.Message.TheVariants.{AllPorts}
+use Rattle.frame_readings.specs.ordered_lists.Ordered.{Every}
+use Rattle.frame_readings.specs.port_facts.Port.{IsShaped}
 use Rattle.running_worlds.specs.Mode.{AreUp}
 
 abbrev pub is_on_gsmp : Cell → Bool

@@ -1,25 +1,16 @@
 -- What is so of a network before each event of a run, so that the event is moves of the line of each input
 
 use Rattle.std.specs.Prelude.{◌≡◌, true, nat_lt, List, [], ◌∷◌, ◌++◌, Some}
-use Rattle.net_types.specs.declared.node.NodeId.{NodeId}
-use Rattle.net_types.specs.declared.node.Place.TheVariants.{Down, Up}
-use Rattle.atm_cells.specs.declared.cell.Cell.{Cell}
+use Rattle.world_model.specs.Words.{NodeId, Down, Up, Cell, Policy, default_channel, same_channel, taker_of, reassembly_of, Topology, World, Site, site_at, queue_at, next, past_of, IsTame}
 use Rattle.world_model.specs.Switch as switches
-use Rattle.port_model.specs.Setup.{Policy}
-use Rattle.world_model.specs.Controller.{free_slots, default_channel}
-use Rattle.world_model.specs.Cells.{Taker, same_channel, taker_of, reassembly_of}
+use Rattle.world_model.specs.Controller.{free_slots}
+use Rattle.world_model.specs.Cells.{Taker}
 use Rattle.world_model.specs.declared.event.Event.{Event}
 use Rattle.world_model.specs.declared.event.Event.TheVariants.{Carry}
-use Rattle.world_model.specs.Topology.{Topology}
-use Rattle.world_model.specs.World.{World, Site, site_at}
-use Rattle.world_model.specs.Places.{queue_at}
-use Rattle.world_model.specs.Run.{next}
-use Rattle.world_model.specs.Past.{past_of}
-use Rattle.world_model.specs.Headline.{IsTame}
-use Rattle.input_steps.specs.Hearing.{IsEnded, PassesTrue}
+use Rattle.input_events.specs.input_steps.Hearing.{IsEnded, PassesTrue}
 use Rattle.input_events.specs.Coming.{IsRunning, IsOrdinary}
-use Rattle.world_views.specs.Between.{IsWorld}
-use Rattle.world_views.specs.Kept.{Comes}
+use Rattle.frame_readings.specs.world_views.Between.{IsWorld}
+use Rattle.frame_readings.specs.world_views.Kept.{Comes}
 
 -- *A chain that the event ends* and that passes its test is the frame of its last cell: at a controller, whoever takes its
 -- cells there, and at a switch

@@ -25,8 +25,8 @@ ghost use Rattle.run_facts.specs.Steps.{EventsAreSteps, RunsHaveFronts};
 ghost use Rattle.running_worlds.specs.Running.{EventsAreOrdinary, TameEventsAreTrue};
 ghost use Rattle.running_worlds.specs.Fine.{RequestsKeepFine, ResetsKeepFine};
 ghost use Rattle.running_worlds.specs.Calls.{TicksAskShaped, TicksTellUp, RestartsTellUp};
-ghost use Rattle.world_views.specs.Between.{HasAllMade, HasAllReady, HasAllInputs, HasAllPortsUp, HasAllShapes};
-ghost use Rattle.world_views.specs.Kept.{Keeps, Begins};
+ghost use Rattle.frame_readings.specs.world_views.Between.{HasAllMade, HasAllReady, HasAllInputs, HasAllPortsUp, HasAllShapes};
+ghost use Rattle.frame_readings.specs.world_views.Kept.{Keeps, Begins};
 
 use frame_readings::frames_are_read;
 use run_facts::nodes_are_steady;

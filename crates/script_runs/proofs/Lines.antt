@@ -4,26 +4,17 @@ use Rattle.std.proofs.Common.{◌≡◌, ℕ, zero, suc, ◌+◌, ◌≤◌, ◌
 use Rattle.std.specs.Prelude.{is_some}
 use Rattle.std.specs.List.{repeat, range_with_len}
 use Rattle.std.proofs.lemmas.List.Concat.{flat_map-cons}
-use Rattle.net_types.specs.declared.node.NodeId.{NodeId}
-use Rattle.net_types.specs.declared.node.PortNo.{PortNo}
-use Rattle.net_types.specs.declared.node.Place.{Place}
-use Rattle.net_types.specs.declared.node.Place.TheVariants.{Out}
-use Rattle.ordered_lists.specs.Ordered.{Every}
-use Rattle.ordered_lists.proofs.Every.{every_join, every_mapped, every_map}
-use Rattle.port_facts.proofs.Keyed.{every_more}
-use Rattle.ipv4_forward.specs.declared.table.Next.TheVariants.{Local, Via}
+use Rattle.world_model.specs.Words.{NodeId, PortNo, Place, Out, Local, Via, Topology, Node, new_node, node_named, is_linked, changed_at, with_changed, changes_named, with_link, with_route, with_line, IsNode, IsPlace, IsEvent, World, Site, places_of, tick_of, switch_tick_of, tick_of_all, round}
+use Rattle.run_facts.specs.ordered_lists.Ordered.{Every}
+use Rattle.run_facts.proofs.ordered_lists.Every.{every_join, every_mapped, every_map}
+use Rattle.run_facts.proofs.port_facts.Keyed.{every_more}
 use Rattle.world_model.specs.Controller.{ports_of}
 use Rattle.world_model.specs.declared.event.Event.{Event}
 use Rattle.world_model.specs.declared.event.Event.TheVariants.{Carry, Tick, TickSwitch}
 use Rattle.world_model.specs.declared.line.TopologyLine.{TopologyLine}
 use Rattle.world_model.specs.declared.line.TopologyLine.TheVariants as lines
-use Rattle.world_model.specs.Topology.{Topology, Node, peer_of, new_node}
-use Rattle.world_model.specs.Lines.{node_named, is_linked, changed_at, with_changed, changes_named, with_link, with_route, with_line}
-use Rattle.world_model.specs.Conditions.{IsNode, IsPlace, IsEvent}
-use Rattle.world_model.specs.World.{World, Site}
-use Rattle.world_model.specs.Places.{places_of}
-use Rattle.world_model.specs.Run.{tick_of, switch_tick_of, tick_of_all, round}
-use Rattle.world_pace.specs.Running.{AreRunning, IsRunningSite, numbered}
+use Rattle.world_model.specs.Topology.{peer_of}
+use Rattle.run_facts.specs.world_pace.Running.{AreRunning, IsRunningSite, numbered}
 use Rattle.script_model.specs.Sayable.{HasTexts}
 
 -- *Addresses*

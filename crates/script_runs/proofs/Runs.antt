@@ -1,14 +1,10 @@
 -- events that can come one after the other make a run longer
 
 use Rattle.std.proofs.Common.{◌≡◌, ◌+◌, ◌<◌, List, [], ◌∷◌, ◌++◌, length, refl, sym, ap, subst, arith, append_assoc, append-nil}
-use Rattle.ordered_lists.specs.Ordered.{Every}
-use Rattle.port_model.specs.Setup.{Policy}
+use Rattle.run_facts.specs.ordered_lists.Ordered.{Every}
+use Rattle.world_model.specs.Words.{Policy, Topology, CanCome, World, next, world_after, IsRun}
 use Rattle.world_model.specs.declared.event.Event.{Event}
-use Rattle.world_model.specs.Topology.{Topology}
-use Rattle.world_model.specs.Conditions.{CanCome}
-use Rattle.world_model.specs.World.{World, opened}
-use Rattle.world_model.specs.Run.{next, world_after}
-use Rattle.world_model.specs.Headline.{IsRun}
+use Rattle.world_model.specs.World.{opened}
 use Rattle.script_runs.proofs.Lines.{IsMeant}
 
 -- each of them can come behind those before it

@@ -8,19 +8,14 @@ use Rattle.lab_text.specs.Line.{text_fault, line_fault}
 use Rattle.lab_text.specs.Lines.{lines_of}
 use Rattle.lab_text.specs.Text.{line_of}
 use Rattle.lab_text.specs.Words.{line_text}
-use Rattle.ordered_lists.specs.Ordered.{Every}
-use Rattle.port_model.specs.Setup.{Policy}
+use Rattle.run_facts.specs.ordered_lists.Ordered.{Every}
+use Rattle.world_model.specs.Words.{Policy, Topology, empty_topology, policy_of, with_line, IsTopology, IsEvent, World, Site, tick_of_all, round, world_after, IsRun}
 use Rattle.world_model.specs.declared.event.Event.{Event}
 use Rattle.world_model.specs.declared.line.TopologyLine.{TopologyLine}
-use Rattle.world_model.specs.Topology.{Topology, empty_topology, policy_of}
-use Rattle.world_model.specs.Lines.{with_line}
-use Rattle.world_model.specs.Conditions.{IsTopology, IsEvent}
-use Rattle.world_model.specs.World.{World, Site, opened}
-use Rattle.world_model.specs.Run.{tick_of_all, round, world_after}
-use Rattle.world_model.specs.Headline.{IsRun}
+use Rattle.world_model.specs.World.{opened}
 use Rattle.world_model.proofs.Kept.{line_keeps, empty_is}
-use Rattle.world_pace.specs.Running.{AreNumbered}
-use Rattle.world_pace.specs.Running.{AreRunning}
+use Rattle.run_facts.specs.world_pace.Running.{AreNumbered}
+use Rattle.run_facts.specs.world_pace.Running.{AreRunning}
 use Rattle.script_model.specs.declared.line.Line.{Line}
 use Rattle.script_model.specs.declared.line.Line.TheVariants.{Blank, Topology as TopologyIs, Event as EventComes, TickAll, Run}
 use Rattle.script_model.specs.declared.refusal.LineRefusal.{LineRefusal}

@@ -1,8 +1,7 @@
 -- A script is a run: of a topology that lines make, and of events of which each can come when it comes
 
-use Rattle.port_model.specs.Setup.{Policy}
-use Rattle.world_model.specs.Headline.{IsRun}
-use Rattle.world_views.specs.Kept.{HasAddresses}
+use Rattle.world_model.specs.Words.{Policy, IsRun}
+use Rattle.run_facts.specs.world_views.Kept.{HasAddresses}
 use Rattle.script_model.specs.Script.{Script}
 
 -- whatever the policy

@@ -5,21 +5,13 @@ use Rattle.std.specs.Prelude.{◌*◌, ◌==◌}
 use Rattle.std.specs.List.{range_with_len}
 use Rattle.std.proofs.lemmas.Bool.Decides.{nat_tests}
 use Rattle.std.proofs.lemmas.List.FromFn.{map-range_with_len_more}
-use Rattle.net_types.specs.declared.number.Mark.{Mark}
-use Rattle.net_types.specs.declared.channel.Channel.{Channel}
-use Rattle.net_types.specs.Label.{label_channel_of}
-use Rattle.atm_cells.specs.declared.cell.Cell.{Cell}
+use Rattle.world_model.specs.Words.{Mark, Channel, label_channel_of, Cell, Frame, payload_of, frame_cells, default_channel, same_channel}
 use Rattle.aal5_frames.specs.Frame.{cell_of, cells_for, pdu_of}
 use Rattle.aal5_frames.proofs.Cells.{cells_all, length-pdu_of}
-use Rattle.link_model.specs.declared.frames.Frame.{Frame}
-use Rattle.link_model.specs.Ledger.{payload_of}
-use Rattle.frame_model.specs.Frame.{frame_cells}
-use Rattle.ordered_lists.specs.Ordered.{Every}
-use Rattle.ordered_lists.proofs.Every.{every_join}
-use Rattle.label_line.specs.Cells as lines
-use Rattle.label_line.specs.Cells.{Role}
-use Rattle.world_model.specs.Controller.{default_channel}
-use Rattle.world_model.specs.Cells.{same_channel}
+use Rattle.port_views.specs.ordered_lists.Ordered.{Every}
+use Rattle.port_views.proofs.ordered_lists.Every.{every_join}
+use Rattle.port_views.specs.label_line.Cells as lines
+use Rattle.port_views.specs.label_line.Cells.{Role}
 use Rattle.port_views.specs.Link.{LinkLabel}
 use Rattle.shown_cells.specs.Seen.{Nothing, Word, nothing, hidden, word}
 use Rattle.shown_cells.specs.Label.{Where, seen_payload, on_label, seen, ShowsCells, channel_at}

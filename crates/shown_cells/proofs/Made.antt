@@ -1,17 +1,11 @@
 -- frames are made: what was made before stays, so what was shown stays
 
 use Rattle.std.proofs.Common.{◌≡◌, ◌≢◌, ℕ, ◌+◌, Bool, true, false, cond, List, [], ◌∷◌, ◌++◌, Option, None, Some, refl, ◌∙◌, ap, arith, if◌then◌else◌}
-use Rattle.net_types.specs.declared.number.Mark.{Mark}
-use Rattle.atm_cells.specs.declared.cell.Cell.{Cell}
-use Rattle.link_model.specs.declared.frames.Frame.{Frame}
-use Rattle.link_model.specs.Ledger.{payload_of, same_mark}
-use Rattle.link_model.proofs.Latest.{payload_of_push}
-use Rattle.link_model.proofs.Marks.{same_mark-Decides}
-use Rattle.label_line.specs.Cells as lines
-use Rattle.label_line.specs.Cells.{Role}
-use Rattle.net_types.specs.Label.{label_channel_of}
-use Rattle.world_model.specs.Controller.{default_channel}
-use Rattle.world_model.specs.Cells.{same_channel}
+use Rattle.world_model.specs.Words.{Mark, Cell, Frame, payload_of, same_mark, label_channel_of, default_channel, same_channel}
+use Rattle.world_model.proofs.link_model.Latest.{payload_of_push}
+use Rattle.world_model.proofs.link_model.Marks.{same_mark-Decides}
+use Rattle.port_views.specs.label_line.Cells as lines
+use Rattle.port_views.specs.label_line.Cells.{Role}
 use Rattle.port_views.specs.Link.{LinkLabel}
 use Rattle.shown_cells.specs.Seen.{Seen, Nothing, Unknown, Extends, IsUnmade}
 use Rattle.shown_cells.specs.Label.{Where, seen_payload, on_label, seen, ShowsCells, channel_at}

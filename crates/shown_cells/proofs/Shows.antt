@@ -1,8 +1,8 @@
 -- what more cells show, what the same cells show seen otherwise, and the first cell of what shows
 
 use Rattle.std.proofs.Common.{◌≡◌, ◌≢◌, List, [], ◌∷◌, ◌++◌, refl, ◌∙◌, subst, append-nil}
-use Rattle.atm_cells.specs.declared.cell.Cell.{Cell}
-use Rattle.ordered_lists.specs.Ordered.{Every}
+use Rattle.world_model.specs.Words.{Cell}
+use Rattle.port_views.specs.ordered_lists.Ordered.{Every}
 use Rattle.shown_cells.specs.Seen.{Seen, Nothing, Word, Unknown, Shows, nothing, hidden, word}
 
 -- *The first cell*: it shows nothing, and the words are of those behind it; or the first word

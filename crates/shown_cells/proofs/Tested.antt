@@ -6,16 +6,9 @@ use Rattle.std.specs.Prelude.{not, nat_le}
 use Rattle.std.specs.Str.{bytes_eq}
 use Rattle.std.specs.Option.{option_map_or}
 use Rattle.std.proofs.lemmas.Slice.Eq.{bytes_eq-Decides}
-use Rattle.net_types.specs.declared.number.Mark.{Mark}
-use Rattle.atm_cells.specs.declared.cell.Cell.{Cell}
-use Rattle.link_model.specs.declared.frames.Frame.{Frame}
-use Rattle.link_model.specs.declared.record.Record.{Record}
-use Rattle.link_model.specs.declared.record.Record.TheVariants.{Loss, Chance}
-use Rattle.link_model.specs.declared.record.Cause.TheVariants.{PoolFull, Broken, Cut}
-use Rattle.link_model.specs.Ledger.{payload_of, is_frame, has_entry}
-use Rattle.link_model.specs.Notes.{Journal, noted}
-use Rattle.frame_model.specs.Reassembly.{Reassembly, Taken, taken, passed_over, without_slot, too_long, joined, most_cells, marks_of, broken, noted_all, distinct, cut}
-use Rattle.frame_model.specs.Frame.{last_mark, passed, tested_by}
+use Rattle.world_model.specs.Words.{Mark, Cell, Frame, Record, Loss, Chance, PoolFull, Broken, Cut, payload_of, is_frame, has_entry, Journal, noted, Reassembly, passed_over, without_slot, too_long, most_cells, marks_of, broken, noted_all, distinct, cut, last_mark, tested_by}
+use Rattle.world_model.specs.frame_model.Reassembly.{Taken, taken, joined}
+use Rattle.world_model.specs.frame_model.Frame.{passed}
 
 -- *The frames stay*
 noted_frames : (notes : Journal) (items : List Record) → (noted_all notes items).frames ≡ notes.frames

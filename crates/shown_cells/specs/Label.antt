@@ -2,22 +2,11 @@
 
 use Rattle.std.specs.Prelude.{ℕ, Bool, ◌&&◌, ◌==◌, List, Option, None, Some, if◌then◌else◌}
 use Rattle.std.specs.Option.{option_map, option_and_then}
-use Rattle.net_types.specs.declared.prefix.Addr.{Addr}
-use Rattle.net_types.specs.declared.node.PortNo.{PortNo}
-use Rattle.net_types.specs.declared.channel.Channel.{Channel}
-use Rattle.net_types.specs.Label.{label_channel_of}
-use Rattle.net_types.specs.Channel.{channel_on_control}
-use Rattle.ipv4_packet.specs.Packet.{source_of}
-use Rattle.atm_cells.specs.declared.cell.Cell.{Cell}
-use Rattle.flow_encaps.specs.Unwrapped.{default_unwrapped}
-use Rattle.ifmp_wire.specs.declared.message.Message.{Message}
-use Rattle.link_model.specs.declared.frames.Frame.{Frame}
-use Rattle.link_model.specs.Ledger.{payload_of}
-use Rattle.label_line.specs.Cells as lines
-use Rattle.label_line.specs.Cells.{Role, Downstream, Upstream}
-use Rattle.world_model.specs.Controller.{default_channel}
-use Rattle.world_model.specs.Cells.{same_channel}
-use Rattle.world_model.specs.Ways.{told, ifmp_in}
+use Rattle.world_model.specs.Words.{Addr, PortNo, Channel, label_channel_of, channel_on_control, source_of, Cell, default_unwrapped, Frame, payload_of, default_channel, same_channel, ifmp_in}
+use Rattle.world_model.specs.ifmp_wire.declared.message.Message.{Message}
+use Rattle.port_views.specs.label_line.Cells as lines
+use Rattle.port_views.specs.label_line.Cells.{Role, Downstream, Upstream}
+use Rattle.world_model.specs.Ways.{told}
 use Rattle.port_views.specs.Link.{LinkLabel, other}
 use Rattle.port_views.specs.Heard.{heard_by, is_own}
 use Rattle.shown_cells.specs.Seen.{Seen, Nothing, Word, Unknown, Shows}

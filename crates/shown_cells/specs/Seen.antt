@@ -1,10 +1,7 @@
 -- What a list of cells shows, as words of any kind: some cells show nothing, and each other one a word
 
 use Rattle.std.specs.Prelude.{◌≡◌, ℕ, ◌<◌, List, [], ◌∷◌, None, Some}
-use Rattle.net_types.specs.declared.number.Mark.{Mark}
-use Rattle.atm_cells.specs.declared.cell.Cell.{Cell}
-use Rattle.link_model.specs.declared.frames.Frame.{Frame}
-use Rattle.link_model.specs.Ledger.{payload_of}
+use Rattle.world_model.specs.Words.{Mark, Cell, Frame, payload_of}
 
 -- what one cell shows. Of a cell that bears on a line and whose frame isn't known, or isn't in the words of its
 -- sender, nothing can be told: no list with such a cell shows anything

@@ -7,16 +7,9 @@
 #![tactic(auto)]
 
 ghost use Rattle.std.specs.Prelude.{◌≡◌, ◌≢◌, ◌∷◌, ◌++◌, [], List, Bool, true, false, replicate, ℕ};
-ghost use Rattle.net_types.specs.declared.channel.Channel.{Channel};
-ghost use Rattle.net_types.specs.declared.number.Mark.{Mark};
-ghost use Rattle.net_types.specs.Label.{label_channel_of};
-ghost use Rattle.atm_cells.specs.declared.cell.Cell.{Cell};
-ghost use Rattle.link_model.specs.declared.frames.Frame.{Frame};
-ghost use Rattle.link_model.specs.Ledger.{payload_of};
-ghost use Rattle.frame_model.specs.Frame.{frame_cells};
-ghost use Rattle.label_line.specs.Cells as lines;
-ghost use Rattle.label_line.specs.Cells.{Role};
-ghost use Rattle.world_model.specs.Controller.{default_channel};
+ghost use Rattle.world_model.specs.Words.{Channel, Mark, label_channel_of, Cell, Frame, payload_of, frame_cells, default_channel};
+ghost use Rattle.port_views.specs.label_line.Cells as lines;
+ghost use Rattle.port_views.specs.label_line.Cells.{Role};
 ghost use Rattle.port_views.specs.Link.{LinkLabel};
 ghost use Rattle.shown_cells.specs.Seen.{Nothing, Word, Extends};
 ghost use Rattle.shown_cells.specs.Label.{Where, channel_at, seen_payload, ShowsCells};

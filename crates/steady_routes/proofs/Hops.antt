@@ -1,18 +1,11 @@
 -- a packet's journey by the best route of the node where it is
 
 use Rattle.std.proofs.Common.{◌≡◌, ℕ, zero, suc, ◌≤◌, List, ◌∷◌, None, Some, refl, sym, ◌∙◌, ap, arith}
-use Rattle.net_types.specs.declared.node.NodeId.{NodeId}
-use Rattle.net_types.specs.declared.node.PortNo.{PortNo}
-use Rattle.ipv4_packet.specs.Packet.{ttl_of, destination_of}
-use Rattle.ipv4_forward.specs.Best.{best}
-use Rattle.ipv4_forward.specs.Hop.{onward}
-use Rattle.ipv4_forward.specs.declared.table.Next.TheVariants.{Local, Via}
-use Rattle.ipv4_forward.specs.declared.table.Route.{Route}
-use Rattle.link_model.specs.declared.record.DropCause.TheVariants.{NoRoute, Expired}
-use Rattle.world_model.specs.Fates.{Fate, IsDelivered, IsDropped, by_route}
+use Rattle.world_model.specs.Words.{NodeId, PortNo, ttl_of, destination_of, best, onward, Local, Via, Fate, IsDelivered, IsDropped, by_route, Topology, journey, journey_within, at_peer}
+use Rattle.world_model.specs.ipv4_forward.declared.table.Route.{Route}
+use Rattle.world_model.specs.link_model.declared.record.DropCause.TheVariants.{NoRoute, Expired}
 use Rattle.world_model.specs.declared.link.LinkEnd.{LinkEnd}
-use Rattle.world_model.specs.Topology.{Topology, peer_of}
-use Rattle.world_model.specs.Journey.{journey, journey_within, at_peer}
+use Rattle.world_model.specs.Topology.{peer_of}
 
 -- a packet that goes on has one less to live
 less_to_live : (packet : List ℕ) (left : ℕ) → ttl_of packet ≡ suc left → ttl_of (onward packet) ≡ left

@@ -3,22 +3,10 @@
 use Rattle.std.proofs.Common.{◌≡◌, ℕ, zero, suc, ◌<◌, List, [], ◌∷◌, length, slice_get, Contains, Some, inl, inr, refl, sym, ◌∙◌, ap, subst, arith}
 use Rattle.std.proofs.lemmas.List.Elements.{Contains-append_cases}
 use Rattle.std.proofs.lemmas.Option.{slice_get_within}
-use Rattle.net_types.specs.declared.node.NodeId.{NodeId}
-use Rattle.ipv4_packet.specs.Packet.{destination_of}
-use Rattle.ipv4_forward.specs.Best.{best}
-use Rattle.link_model.specs.declared.record.Record.{Record}
-use Rattle.link_model.specs.Notes.{Journal}
-use Rattle.port_model.specs.Setup.{Policy}
-use Rattle.world_model.specs.Fates.{Fate, IsDelivered, IsDropped, fate_record}
+use Rattle.world_model.specs.Words.{NodeId, destination_of, best, Record, Journal, Policy, Fate, IsDelivered, IsDropped, fate_record, Topology, Node, routes_of, World, empty_world, opens_each, with_opened, records_of, worlds_from, journey, Reaches, hops, IsFateAt, delivered, without_route, expired, Past, past_of, WasAccepted, AreTrueFates, IsTrueFate}
 use Rattle.world_model.specs.declared.event.Event.{Event}
-use Rattle.world_model.specs.Topology.{Topology, Node}
-use Rattle.world_model.specs.Lines.{routes_of}
-use Rattle.world_model.specs.World.{World, empty_world, opened, opens_each, with_opened}
-use Rattle.world_model.specs.Run.{records_of, worlds_from}
-use Rattle.world_model.specs.Journey.{journey}
-use Rattle.world_model.specs.Reached.{Reaches, taken, hops, IsFateAt, delivered, without_route, expired}
-use Rattle.world_model.specs.Past.{Past, past_of}
-use Rattle.world_model.specs.Headline.{WasAccepted, AreTrueFates, IsTrueFate}
+use Rattle.world_model.specs.World.{opened}
+use Rattle.world_model.specs.Reached.{taken}
 use Rattle.steady_routes.specs.Law.{ChangesNoRoute, IsJourneyOf, AreJourneys, FatesAreJourneys}
 use Rattle.steady_routes.proofs.Hops.{ends_delivered, ends_without_route, ends_expired, goes_on}
 use Rattle.steady_routes.proofs.Tables.{held_steady}

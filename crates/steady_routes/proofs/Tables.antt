@@ -4,40 +4,20 @@ use Rattle.std.proofs.Common.{◌≡◌, ◌≢◌, ℕ, zero, suc, ◌<◌, ◌
 use Rattle.std.specs.Prelude.{nat_eq}
 use Rattle.std.specs.List.{list_any}
 use Rattle.std.specs.Option.{option_map_or}
-use Rattle.net_types.specs.declared.node.NodeId.{NodeId}
-use Rattle.net_types.specs.declared.node.Place.{Place}
-use Rattle.net_types.specs.declared.node.Place.TheVariants.{Down, Up, Out}
-use Rattle.net_types.specs.declared.channel.Channel.{Channel}
-use Rattle.net_types.specs.Number.{next_control, with_control}
-use Rattle.atm_cells.specs.declared.cell.Cell.{Cell}
-use Rattle.ipv4_forward.specs.Change.{changed}
-use Rattle.ipv4_forward.specs.declared.change.RouteChange.{RouteChange}
-use Rattle.ipv4_forward.specs.declared.table.Route.{Route}
-use Rattle.link_model.specs.declared.record.Record.TheVariants.{Forged}
-use Rattle.link_model.specs.declared.record.Refusal.{Refusal}
-use Rattle.keyed_lists.specs.Keyed.{at, put}
-use Rattle.port_model.specs.Setup.{Policy}
+use Rattle.world_model.specs.Words.{NodeId, Place, Down, Up, Out, Channel, next_control, with_control, Cell, changed, RouteChange, Forged, Refusal, at, put, Policy, control_port, Controller, inject_refusal, injected, node_restarts, Topology, Node, routes_of, table_to_be, World, Site, site_key, site_at, controller_acts, switch_acts, empty_world, opened_site, with_opened, opens_each, place_node, queue_at, with_queue, with_queue_in, with_queue_of, injects, injects_by, arrives, arrives_at, carries_head, loses_head, forges, put_away, next, worlds_from, table_in, past_of}
+use Rattle.world_model.specs.ipv4_forward.declared.table.Route.{Route}
 use Rattle.world_model.specs.Switch as switches
-use Rattle.world_model.specs.Switch.{control_port}
 use Rattle.world_model.specs.Conduct as switch
-use Rattle.world_model.specs.Controller.{Controller, Acted}
+use Rattle.world_model.specs.Controller.{Acted}
 use Rattle.world_model.specs.Sending.{sends}
-use Rattle.world_model.specs.Packets.{inject_refusal, injected}
 use Rattle.world_model.specs.Cells as controller
 use Rattle.world_model.specs.Ticks.{ticks}
-use Rattle.world_model.specs.Resets.{node_restarts}
 use Rattle.world_model.specs.declared.event.Event.{Event}
 use Rattle.world_model.specs.declared.event.Event.TheVariants.{Inject, Carry, Lose, Tick, TickSwitch, Restart, RestartSwitch, Forge, Route as RouteComes}
 use Rattle.world_model.specs.declared.link.LinkEnd.{LinkEnd}
-use Rattle.world_model.specs.Topology.{Topology, Node, peer_of}
-use Rattle.world_model.specs.Lines.{routes_of}
-use Rattle.world_model.specs.Conditions.{table_to_be}
-use Rattle.world_model.specs.World.{World, Site, site_key, site_at, controller_acts, at_controller, switch_acts, at_switch, empty_world, opened, opened_site, with_opened, opens_each}
-use Rattle.world_model.specs.Places.{place_node, queue_at, with_queue, with_queue_in, with_queue_of}
-use Rattle.world_model.specs.Step.{note, injects, injects_by, arrives, arrives_at, carries_head, loses_head, forges, acts}
-use Rattle.world_model.specs.Run.{put_away, next, worlds_from}
-use Rattle.world_model.specs.Reached.{table_in}
-use Rattle.world_model.specs.Past.{past_of}
+use Rattle.world_model.specs.Topology.{peer_of}
+use Rattle.world_model.specs.World.{at_controller, at_switch, opened}
+use Rattle.world_model.specs.Step.{note, acts}
 use Rattle.world_model.proofs.Lists.{by_eq, at_key, at_put_same, at_put_other}
 use Rattle.actor_pace.specs.Pace.{changes_of}
 use Rattle.actor_pace.proofs.Paces.{Follows, follows, sends_paces}

@@ -2,15 +2,9 @@
 
 use Rattle.std.specs.Prelude.{◌≡◌, ℕ, Bool, true, false, List, Contains}
 use Rattle.std.specs.List.{list_any}
-use Rattle.port_model.specs.Setup.{Policy}
-use Rattle.world_model.specs.Fates.{Fate, fate_record}
+use Rattle.world_model.specs.Words.{Policy, Fate, fate_record, Topology, routes_of, journey, Past, past_of, WasAccepted, AreTrueFates}
 use Rattle.world_model.specs.declared.event.Event.{Event}
 use Rattle.world_model.specs.declared.event.Event.TheVariants.{Route}
-use Rattle.world_model.specs.Topology.{Topology}
-use Rattle.world_model.specs.Lines.{routes_of}
-use Rattle.world_model.specs.Journey.{journey}
-use Rattle.world_model.specs.Past.{Past, past_of}
-use Rattle.world_model.specs.Headline.{WasAccepted, AreTrueFates}
 
 -- an event that brings a change of a route
 abbrev pub changes_route : Event → Bool

@@ -2,12 +2,10 @@
 
 use Rattle.std.proofs.Common.{◌≡◌, ℕ, zero, suc, ◌≤◌, ◌+◌, List, [], ◌∷◌, ◌++◌, ap, arith}
 use Rattle.std.specs.Prelude.{slice_set, slice_index_or}
-use Rattle.net_types.specs.declared.node.NodeId.{NodeId}
-use Rattle.net_types.specs.declared.node.Place.{Place}
-use Rattle.atm_cells.specs.declared.cell.Cell.{Cell}
-use Rattle.quiet_model.specs.Costs.{total}
-use Rattle.quiet_model.specs.Weights.{place_at, queues_weight}
-use Rattle.port_weights.proofs.Sums.{total_join}
+use Rattle.world_model.specs.Words.{NodeId, Place, Cell}
+use Rattle.frame_weights.specs.quiet_model.Costs.{total}
+use Rattle.frame_weights.specs.quiet_model.Weights.{place_at, queues_weight}
+use Rattle.frame_weights.proofs.port_weights.Sums.{total_join}
 
 module _ (weigh : Place → Cell → ℕ) (node : NodeId) where
   pub joins_queue : (queues : List (List Cell)) (first port : ℕ) (cells : List Cell)

@@ -3,56 +3,34 @@
 use Rattle.std.proofs.Common.{◌≡◌, ℕ, ◌≤◌, ◌+◌, Bool, true, false, List, [], ◌∷◌, length, Option, None, Some, Result, Ok, Err, refl, sym, ◌∙◌, ap, subst, arith, if◌then◌else◌}
 use Rattle.std.specs.Prelude.{◌==◌, ◌&&◌, nat_lt, nat_le, zero, suc}
 use Rattle.std.specs.Option.{option_map}
-use Rattle.net_types.specs.declared.node.NodeId.{NodeId}
-use Rattle.net_types.specs.declared.node.PortNo.{PortNo}
-use Rattle.net_types.specs.declared.node.Place.{Place}
-use Rattle.net_types.specs.declared.node.Place.TheVariants.{Up}
-use Rattle.net_types.specs.declared.number.Mark.{Mark}
-use Rattle.net_types.specs.declared.channel.End.{End}
-use Rattle.net_types.specs.declared.adjacency.HelloKind.{HelloKind}
-use Rattle.net_types.specs.declared.adjacency.Party.{Party}
-use Rattle.net_types.specs.Number.{next_control, with_control}
-use Rattle.atm_cells.specs.declared.cell.Cell.{Cell}
-use Rattle.adjacency_table.specs.declared.message.Answer.{Answer}
-use Rattle.adjacency_table.specs.declared.message.Answer.TheVariants as answers_of
-use Rattle.adjacency_table.specs.declared.message.Said.{Said}
-use Rattle.adjacency_table.specs.Greeting.{same_party, heard_in, greeting_of, gsmp_answer, gsmp_received}
-use Rattle.adjacency_table.specs.Side.{Step, is_estab}
-use Rattle.gsmp_wire.specs.declared.message.Message.{Message}
-use Rattle.gsmp_wire.specs.declared.message.Message.TheVariants as messages
-use Rattle.gsmp_wire.specs.declared.request.Request.{Request}
-use Rattle.gsmp_wire.specs.declared.request.Request.TheVariants.{AddBranch, MoveBranch, DeleteTree, VerifyTree, DeleteAll, PortManagement, AllPorts}
-use Rattle.gsmp_wire.specs.declared.fault.Fault.{Fault}
-use Rattle.gsmp_wire.specs.Layout.{octets_of as message_octets}
-use Rattle.gsmp_wire.specs.Fields.{decoded}
-use Rattle.crossbar_model.specs.declared.branch.Branch.{Branch}
-use Rattle.crossbar_model.specs.Crossbar as crossbars
-use Rattle.crossbar_model.specs.Crossbar.{Crossbar, output_of, input_of, on_channel_of, queue_of, cut_by_move}
-use Rattle.link_model.specs.declared.frames.Frame.{Frame}
-use Rattle.link_model.specs.declared.record.Record.TheVariants.{Loss}
-use Rattle.link_model.specs.declared.record.Cause.TheVariants.{PoolFull}
-use Rattle.link_model.specs.Ledger.{payload_of}
-use Rattle.link_model.specs.Notes.{Journal, noted}
-use Rattle.frame_model.specs.Frame.{tested_by, frame_cells, made, octets_of, payload_in}
-use Rattle.frame_model.specs.Reassembly.{Taken, taken}
-use Rattle.frame_model.specs.Sending.{Sent}
+use Rattle.world_model.specs.Words.{NodeId, PortNo, Place, Up, Mark, End, HelloKind, Party, next_control, with_control, Cell, Answer, Said, same_party, heard_in, greeting_of, gsmp_answer, gsmp_received, Step, is_estab, Request, AddBranch, MoveBranch, DeleteTree, VerifyTree, PortManagement, Crossbar, on_channel_of, queue_of, cut_by_move, Frame, Loss, PoolFull, payload_of, Journal, noted, tested_by, frame_cells, made, payload_in, failure_of, Changed, noted_cut, ended_by, all_ended, moved_by, branches_after, inputs_on, is_request, asked_in, Handled, handled, handled_asked, handled_by, Switch, control_port, gsmp_channel, reset, replied, requested, read, gsmp_cell, switched_cell, is_gsmp, Topology}
+use Rattle.world_model.specs.adjacency_table.declared.message.Answer.TheVariants as answers_of
+use Rattle.world_model.specs.gsmp_wire.declared.message.Message.{Message}
+use Rattle.world_model.specs.gsmp_wire.declared.message.Message.TheVariants as messages
+use Rattle.world_model.specs.gsmp_wire.declared.request.Request.TheVariants.{DeleteAll, AllPorts}
+use Rattle.world_model.specs.gsmp_wire.declared.fault.Fault.{Fault}
+use Rattle.world_model.specs.gsmp_wire.Layout.{octets_of as message_octets}
+use Rattle.world_model.specs.gsmp_wire.Fields.{decoded}
+use Rattle.world_model.specs.crossbar_model.declared.branch.Branch.{Branch}
+use Rattle.world_model.specs.crossbar_model.Crossbar as crossbars
+use Rattle.world_model.specs.crossbar_model.Crossbar.{output_of, input_of}
+use Rattle.world_model.specs.frame_model.Frame.{octets_of}
+use Rattle.world_model.specs.frame_model.Reassembly.{Taken, taken}
+use Rattle.world_model.specs.frame_model.Sending.{Sent}
 use Rattle.std.specs.FinMap.{get}
 use Rattle.world_model.specs.declared.request.Asked.{Asked}
 use Rattle.world_model.specs.declared.request.Failure.{Failure}
-use Rattle.world_model.specs.Failures.{failure_of}
-use Rattle.world_model.specs.Requests.{Changed, noted_cut, ended_by, ended, all_ended, moved_by, branches_after, inputs_on, is_request, asked_in}
-use Rattle.world_model.specs.Answers.{Handled, handled, handled_asked, handled_by}
-use Rattle.world_model.specs.Switch.{Switch, Acted, free_slots, control_port, gsmp_channel}
-use Rattle.world_model.specs.Conduct.{with_cells, says, reset, answers, steps, replied, requested, told, read, after_test, ends_frame, gsmp_cell, passed, switched_cell, is_gsmp, cell_comes}
-use Rattle.world_model.specs.Topology.{Topology}
+use Rattle.world_model.specs.Requests.{ended}
+use Rattle.world_model.specs.Switch.{Acted, free_slots}
+use Rattle.world_model.specs.Conduct.{with_cells, says, answers, steps, told, after_test, ends_frame, passed, cell_comes}
 use Rattle.run_facts.proofs.Taking.{taken_frames, ended_by_last}
-use Rattle.shown_cells.specs.Seen.{Extends, IsUnmade}
-use Rattle.shown_cells.proofs.Made.{extends_self, extends_on, extends_made, made_is, unmade_next}
-use Rattle.shown_cells.proofs.Tested.{tested_frames}
-use Rattle.quiet_model.specs.Costs.{total, answer_weight, greeting_weight, asking_cost, answering_cost, if_said, switch_cost, controller_cost}
-use Rattle.quiet_model.specs.Weights.{Bound, ToController, ToSwitch, cost_of, hops_of, bearing_of, cell_weight, place_at, queues_weight}
-use Rattle.port_facts.proofs.Keyed.{on_both}
-use Rattle.port_weights.proofs.Below.{IsBelow, received_below}
+use Rattle.run_facts.specs.shown_cells.Seen.{Extends, IsUnmade}
+use Rattle.run_facts.proofs.shown_cells.Made.{extends_self, extends_on, extends_made, made_is, unmade_next}
+use Rattle.run_facts.proofs.shown_cells.Tested.{tested_frames}
+use Rattle.frame_weights.specs.quiet_model.Costs.{total, answer_weight, greeting_weight, asking_cost, answering_cost, if_said, switch_cost, controller_cost}
+use Rattle.frame_weights.specs.quiet_model.Weights.{Bound, ToController, ToSwitch, cost_of, hops_of, bearing_of, cell_weight, place_at, queues_weight}
+use Rattle.run_facts.proofs.port_facts.Keyed.{on_both}
+use Rattle.frame_weights.proofs.port_weights.Below.{IsBelow, received_below}
 use Rattle.frame_weights.proofs.Frames.{frame_total}
 use Rattle.frame_weights.proofs.Readings.{controller_reads}
 use Rattle.switch_weights.specs.Coming.{Passes, asking_weight, LeadsTo}

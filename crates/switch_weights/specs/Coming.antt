@@ -1,21 +1,14 @@
 -- A cell that comes to a switch in a run, as the measure sees it
 
 use Rattle.std.specs.Prelude.{◌≡◌, ℕ, ◌≤◌, ◌+◌, true, false, nat_lt, List, ◌∷◌, length, Some, if◌then◌else◌}
-use Rattle.net_types.specs.declared.node.NodeId.{NodeId}
-use Rattle.net_types.specs.declared.node.PortNo.{PortNo}
-use Rattle.net_types.specs.declared.number.Mark.{Mark}
-use Rattle.net_types.specs.declared.channel.End.{End}
-use Rattle.atm_cells.specs.declared.cell.Cell.{Cell}
-use Rattle.crossbar_model.specs.Crossbar.{output_of, input_of, on_channel_of}
-use Rattle.link_model.specs.declared.frames.Frame.{Frame}
-use Rattle.link_model.specs.Ledger.{payload_of}
-use Rattle.frame_model.specs.Frame.{octets_of, payload_in}
-use Rattle.frame_model.specs.Reassembly.{taken}
+use Rattle.world_model.specs.Words.{NodeId, PortNo, Mark, End, Cell, on_channel_of, Frame, payload_of, payload_in, is_gsmp, Topology}
+use Rattle.world_model.specs.crossbar_model.Crossbar.{output_of, input_of}
+use Rattle.world_model.specs.frame_model.Frame.{octets_of}
+use Rattle.world_model.specs.frame_model.Reassembly.{taken}
 use Rattle.world_model.specs.Switch.{Acted, free_slots}
-use Rattle.world_model.specs.Conduct.{is_gsmp, cell_comes}
-use Rattle.world_model.specs.Topology.{Topology}
-use Rattle.quiet_model.specs.Weights.{Bound, ToSwitch, cost_of, cell_weight, place_at, queues_weight}
-use Rattle.shown_cells.specs.Seen.{Extends, IsUnmade}
+use Rattle.world_model.specs.Conduct.{cell_comes}
+use Rattle.frame_weights.specs.quiet_model.Weights.{Bound, ToSwitch, cost_of, cell_weight, place_at, queues_weight}
+use Rattle.run_facts.specs.shown_cells.Seen.{Extends, IsUnmade}
 
 -- a chain that passes its test is the frame of its last cell
 abbrev pub Passes : Acted → Cell → Type 0

@@ -1,1 +1,2 @@
+pub use Rattle.frame_weights.specs.quiet_model as quiet_model
 pub mod Coming

@@ -3,11 +3,10 @@
 
 use Rattle.std.proofs.Common.{◌≡◌, Bool, true, false, true≢false, ◌&&◌, ◌||◌, not, List, [], ◌∷◌, ◌++◌, filter, fold, refl, sym, ◌∙◌, ap, subst, if◌then◌else◌}
 use Rattle.std.specs.List.{list_any}
-use Rattle.ipv4_forward.specs.declared.change.RouteChange.{RouteChange}
-use Rattle.port_facts.proofs.Keyed.{on_both, on_each}
-use Rattle.world_model.specs.Controller.{Controller, Acted}
-use Rattle.world_model.specs.Joins.{Join, joins_of}
-use Rattle.world_model.specs.Changes.{is_changed, changed_joins, takes_join_back, begins_change, takes_change, may_take, takes_each, change_comes}
+use Rattle.world_model.specs.Words.{RouteChange, Controller, joins_of, is_changed, changed_joins, takes_join_back, begins_change, takes_change, may_take, takes_each, change_comes}
+use Rattle.causes.proofs.port_facts.Keyed.{on_both, on_each}
+use Rattle.world_model.specs.Controller.{Acted}
+use Rattle.world_model.specs.Joins.{Join}
 use Rattle.told_tables.specs.Law.{stands_against, taken_at_once, IsHeldUp, IsBrought}
 use Rattle.told_tables.proofs.Taking.{begun_waits}
 

@@ -6,13 +6,9 @@ use Rattle.std.specs.List.{range_with_len, cons_option}
 use Rattle.std.proofs.lemmas.Bool.Decides.{nat_tests}
 use Rattle.std.proofs.lemmas.List.Elements.{filter_map-append}
 use Rattle.std.proofs.lemmas.List.Sums.{fold-append}
-use Rattle.net_types.specs.declared.node.NodeId.{NodeId}
-use Rattle.ipv4_forward.specs.Change.{changed}
-use Rattle.ipv4_forward.specs.declared.change.RouteChange.{RouteChange}
-use Rattle.ipv4_forward.specs.declared.table.Route.{Route}
-use Rattle.link_model.specs.declared.record.Record.TheVariants.{Routes}
-use Rattle.world_model.specs.Controller.{Controller, Acted}
-use Rattle.world_model.specs.Changes.{takes_change, change_comes}
+use Rattle.world_model.specs.Words.{NodeId, changed, RouteChange, Routes, Controller, takes_change, change_comes}
+use Rattle.world_model.specs.ipv4_forward.declared.table.Route.{Route}
+use Rattle.world_model.specs.Controller.{Acted}
 use Rattle.told_tables.specs.Law.{number_told, numbers_told}
 use Rattle.told_tables.proofs.Lists.{range_more}
 use Rattle.told_tables.proofs.Walk.{IsAlike}

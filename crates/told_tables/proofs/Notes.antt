@@ -4,17 +4,10 @@ use Rattle.std.proofs.Common.{◌≡◌, ℕ, List, [], ◌∷◌, ◌++◌, map
 use Rattle.std.specs.Prelude.{not, nat_le}
 use Rattle.std.specs.List.{cons_option}
 use Rattle.std.proofs.lemmas.List.Elements.{filter_map-append}
-use Rattle.net_types.specs.declared.node.NodeId.{NodeId}
-use Rattle.net_types.specs.declared.number.Mark.{Mark}
-use Rattle.atm_cells.specs.declared.cell.Cell.{Cell}
-use Rattle.link_model.specs.declared.record.Record.{Record}
-use Rattle.link_model.specs.declared.record.Record.TheVariants.{Loss, Chance}
-use Rattle.link_model.specs.declared.record.Cause.TheVariants.{PoolFull, Broken, Cut}
-use Rattle.link_model.specs.Ledger.{has_entry, is_frame}
-use Rattle.link_model.specs.Notes.{Journal, noted}
-use Rattle.frame_model.specs.Frame.{made, tested, tested_by, last_mark, payload_in, octets_of}
-use Rattle.frame_model.specs.Reassembly.{Reassembly, Taken, taken, passed_over, without_slot, too_long, joined, most_cells, broken, marks_of, distinct, noted_all, cut}
-use Rattle.port_facts.proofs.Keyed.{on_both}
+use Rattle.world_model.specs.Words.{NodeId, Mark, Cell, Record, Loss, Chance, PoolFull, Broken, Cut, has_entry, is_frame, Journal, noted, made, tested, tested_by, last_mark, payload_in, Reassembly, passed_over, without_slot, too_long, most_cells, broken, marks_of, distinct, noted_all, cut}
+use Rattle.world_model.specs.frame_model.Frame.{octets_of}
+use Rattle.world_model.specs.frame_model.Reassembly.{Taken, taken, joined}
+use Rattle.causes.proofs.port_facts.Keyed.{on_both}
 use Rattle.told_tables.specs.Law.{number_told, numbers_told}
 
 -- *A record of something else* than a change

@@ -3,10 +3,8 @@
 use Rattle.std.proofs.Common.{◌≡◌, ◌≢◌, ℕ, zero, suc, ◌<◌, ◌≤◌, ◌+◌, Bool, List, [], ◌∷◌, ◌++◌, Option, None, Some, slice_get, refl, sym, ◌∙◌, ap, subst, arith, if◌then◌else◌}
 use Rattle.std.specs.Prelude.{nat_eq}
 use Rattle.std.specs.Option.{option_map_or}
-use Rattle.keyed_lists.specs.Keyed.{at}
-use Rattle.port_model.specs.Setup.{Policy}
-use Rattle.world_model.specs.Topology.{Topology, Node, node_at}
-use Rattle.world_model.specs.World.{World, Site, site_key, empty_world, opened, opened_site, with_opened, opens_each}
+use Rattle.world_model.specs.Words.{at, Policy, Topology, Node, node_at, World, Site, site_key, empty_world, opened_site, with_opened, opens_each}
+use Rattle.world_model.specs.World.{opened}
 use Rattle.world_model.proofs.Lists.{by_eq}
 use Rattle.told_tables.proofs.Worlds.{IsSo, AreSo}
 

@@ -4,21 +4,11 @@ use Rattle.std.proofs.Common.{◌≡◌, ℕ, ◌+◌, ◌-◌, ◌≤◌, List,
 use Rattle.std.specs.List.{range_with_len}
 use Rattle.std.specs.Option.{option_map, option_map_or}
 use Rattle.std.proofs.lemmas.List.Sums.{fold-append}
-use Rattle.net_types.specs.declared.node.NodeId.{NodeId}
-use Rattle.ipv4_forward.specs.Change.{changed}
-use Rattle.ipv4_forward.specs.declared.change.RouteChange.{RouteChange}
-use Rattle.ipv4_forward.specs.declared.table.Route.{Route as RouteOf}
-use Rattle.keyed_lists.specs.Keyed.{at, put}
-use Rattle.port_model.specs.Setup.{Policy}
-use Rattle.world_model.specs.Controller.{Controller, Acted}
-use Rattle.world_model.specs.Changes.{change_comes}
-use Rattle.world_model.specs.Events.{changes_of}
+use Rattle.world_model.specs.Words.{NodeId, changed, RouteChange, at, put, Policy, Controller, change_comes, changes_of, Topology, Node, node_at, routes_of, World, Site, site_key, site_at, controller_acts, controller_at, put_away, next, worlds_from, world_after, table_in}
+use Rattle.world_model.specs.ipv4_forward.declared.table.Route.{Route as RouteOf}
+use Rattle.world_model.specs.Controller.{Acted}
 use Rattle.world_model.specs.declared.event.Event.{Event}
-use Rattle.world_model.specs.Topology.{Topology, Node, node_at}
-use Rattle.world_model.specs.Lines.{routes_of}
-use Rattle.world_model.specs.World.{World, Site, site_key, site_at, controller_acts, controller_at, opened}
-use Rattle.world_model.specs.Run.{put_away, next, worlds_from, world_after}
-use Rattle.world_model.specs.Reached.{table_in}
+use Rattle.world_model.specs.World.{opened}
 use Rattle.world_model.proofs.Lists.{at_key, at_put_same}
 use Rattle.told_tables.specs.Law.{HoldsTold, IsToldNode, changes_taken, numbers_told, IsBrought, world_at, AreToldTables, TablesAreTold}
 use Rattle.told_tables.proofs.Lists.{changes_split}

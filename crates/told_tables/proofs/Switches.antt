@@ -2,24 +2,13 @@
 
 use Rattle.std.proofs.Common.{ℕ, List, length, refl, sym, subst}
 use Rattle.std.specs.Prelude.{nat_le}
-use Rattle.net_types.specs.declared.node.PortNo.{PortNo}
-use Rattle.net_types.specs.declared.channel.Channel.{Channel}
-use Rattle.net_types.specs.declared.number.Mark.{Mark}
-use Rattle.net_types.specs.Number.{next_control, with_control}
-use Rattle.atm_cells.specs.declared.cell.Cell.{Cell}
-use Rattle.gsmp_wire.specs.Layout.{octets_of}
-use Rattle.crossbar_model.specs.declared.routed.Routed.{Routed}
-use Rattle.crossbar_model.specs.declared.routed.Routed.TheVariants as routes
-use Rattle.crossbar_model.specs.Crossbar.{routed}
-use Rattle.link_model.specs.declared.record.Record.{Record}
-use Rattle.link_model.specs.declared.record.Record.TheVariants.{Loss}
-use Rattle.link_model.specs.declared.record.Cause.TheVariants.{PoolFull, Unconnected}
-use Rattle.link_model.specs.Notes.{noted}
-use Rattle.frame_model.specs.Frame.{frame_cells, made}
-use Rattle.frame_model.specs.Sending.{Sent}
-use Rattle.port_facts.proofs.Keyed.{on_both}
-use Rattle.world_model.specs.Switch.{Switch, Acted, control_port, gsmp_channel, free_slots}
-use Rattle.world_model.specs.Conduct.{with_cells, sends, gsmp_cell, passed, switched_cell, is_gsmp, cell_comes, tick_comes, restarted}
+use Rattle.world_model.specs.Words.{PortNo, Channel, Mark, next_control, with_control, Cell, Routed, routed, Record, Loss, PoolFull, Unconnected, noted, frame_cells, made, Switch, control_port, gsmp_channel, gsmp_cell, switched_cell, is_gsmp, tick_comes, restarted}
+use Rattle.world_model.specs.gsmp_wire.Layout.{octets_of}
+use Rattle.world_model.specs.crossbar_model.declared.routed.Routed.TheVariants as routes
+use Rattle.world_model.specs.frame_model.Sending.{Sent}
+use Rattle.causes.proofs.port_facts.Keyed.{on_both}
+use Rattle.world_model.specs.Switch.{Acted, free_slots}
+use Rattle.world_model.specs.Conduct.{with_cells, sends, passed, cell_comes}
 use Rattle.way_words.proofs.Switching.{IsNoted, is_lost, is_bad, is_chance, Kept, gsmp_kept, tick_kept, restarted_kept}
 use Rattle.told_tables.proofs.Notes.{IsOther, TellsAlike, alike_then, noted_alike, full_alike}
 

@@ -3,38 +3,21 @@
 
 use Rattle.std.proofs.Common.{◌≡◌, ℕ, List, [], ◌∷◌, ◌++◌, map, drop, Option, None, Some, refl, ◌∙◌}
 use Rattle.std.specs.Prelude.{◌==◌, nat_lt, Result, Ok, Err}
-use Rattle.net_types.specs.declared.node.PortNo.{PortNo}
-use Rattle.net_types.specs.declared.number.Mark.{Mark}
-use Rattle.atm_cells.specs.declared.cell.Cell.{Cell}
-use Rattle.ipv4_packet.specs.Packet.{protocol_of, first_fault}
-use Rattle.ipv4_packet.specs.declared.validate.PacketFault.{PacketFault}
-use Rattle.ipv4_forward.specs.declared.change.RouteChange.{RouteChange}
-use Rattle.flow_encaps.specs.Unwrapped.{default_unwrapped, unwrapped}
-use Rattle.flow_encaps.specs.declared.default.EncapsFault.{EncapsFault}
-use Rattle.ifmp_wire.specs.Fields.{decoded as ifmp_decoded}
-use Rattle.gsmp_wire.specs.Fields.{decoded as gsmp_decoded}
-use Rattle.gsmp_wire.specs.declared.fault.Fault.{Fault as GsmpFault}
-use Rattle.gsmp_wire.specs.declared.request.Request.{Request}
-use Rattle.gsmp_wire.specs.declared.request.Request.TheVariants.{DeleteAll}
-use Rattle.gsmp_wire.specs.declared.message.Message.{Message}
-use Rattle.gsmp_wire.specs.declared.message.Message.TheVariants as messages
-use Rattle.adjacency_table.specs.Greeting.{gsmp_received}
-use Rattle.link_model.specs.declared.record.Record.TheVariants.{Bad, Loss}
-use Rattle.link_model.specs.declared.record.Cause.TheVariants.{Unbound}
-use Rattle.link_model.specs.declared.record.Layer.TheVariants as layers
-use Rattle.refusal_names.specs.Names.{encaps_refusal, packet_refusal, gsmp_refusal}
-use Rattle.frame_model.specs.Frame.{Tested, tested, last_mark}
-use Rattle.frame_model.specs.Reassembly.{Reassembly, Taken, taken}
-use Rattle.port_model.specs.DeskAnswers.{Answered, Unknown, Done, Ports, Failed, answered, after_answer}
-use Rattle.port_model.specs.Labels.{Label}
-use Rattle.port_facts.proofs.Keyed.{on_both}
-use Rattle.world_model.specs.Controller.{Acted, Linked, free_slots, with_desk}
-use Rattle.world_model.specs.Changes.{begins_change, takes_change, may_take, takes_each, takes_changes, change_comes}
-use Rattle.world_model.specs.Joins.{releases}
-use Rattle.world_model.specs.Meeting.{up_ports, causes, clears, done, takes_answer, answer_comes}
-use Rattle.world_model.specs.Gsmp.{told, gsmp_holds}
-use Rattle.world_model.specs.Packets.{routes, control_protocol}
-use Rattle.world_model.specs.Cells.{Taker, ForGsmp, ForDefault, ForLabel, taker_of, reassembly_of, with_reassembly, label_holds, ifmp_holds, counted_at, packet_holds, default_holds, frame_holds, opened_frame, ends_frame, takes_cell, cell_comes}
+use Rattle.world_model.specs.Words.{PortNo, Mark, Cell, protocol_of, PacketFault, RouteChange, default_unwrapped, unwrapped, EncapsFault, Request, gsmp_received, Bad, Loss, Unbound, encaps_refusal, packet_refusal, gsmp_refusal, Tested, tested, last_mark, Reassembly, Answered, Unknown, Done, Ports, Failed, answered, after_answer, Label, Linked, with_desk, begins_change, takes_change, may_take, takes_each, takes_changes, change_comes, releases, up_ports, causes, clears, takes_answer, answer_comes, gsmp_holds, routes, control_protocol, ForGsmp, ForDefault, ForLabel, taker_of, reassembly_of, with_reassembly, label_holds, ifmp_holds, counted_at, packet_holds, default_holds, frame_holds, takes_cell}
+use Rattle.world_model.specs.ipv4_packet.Packet.{first_fault}
+use Rattle.world_model.specs.ifmp_wire.Fields.{decoded as ifmp_decoded}
+use Rattle.world_model.specs.gsmp_wire.Fields.{decoded as gsmp_decoded}
+use Rattle.world_model.specs.gsmp_wire.declared.fault.Fault.{Fault as GsmpFault}
+use Rattle.world_model.specs.gsmp_wire.declared.request.Request.TheVariants.{DeleteAll}
+use Rattle.world_model.specs.gsmp_wire.declared.message.Message.{Message}
+use Rattle.world_model.specs.gsmp_wire.declared.message.Message.TheVariants as messages
+use Rattle.world_model.specs.link_model.declared.record.Layer.TheVariants as layers
+use Rattle.world_model.specs.frame_model.Reassembly.{Taken, taken}
+use Rattle.causes.proofs.port_facts.Keyed.{on_both}
+use Rattle.world_model.specs.Controller.{Acted, free_slots}
+use Rattle.world_model.specs.Meeting.{done}
+use Rattle.world_model.specs.Gsmp.{told}
+use Rattle.world_model.specs.Cells.{Taker, opened_frame, ends_frame, cell_comes}
 use Rattle.told_tables.proofs.Notes.{taken_alike, tested_alike}
 use Rattle.told_tables.proofs.Walk.{IsAlike, same, noted_kept, desk_kept, node_kept, asks_each_kept, begins_change_kept, releases_kept, causes_kept, clears_kept, steps_kept, routes_kept, used_kept, counted_kept, heard_kept}
 

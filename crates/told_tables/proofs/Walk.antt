@@ -3,72 +3,36 @@
 
 use Rattle.std.proofs.Common.{◌≡◌, ℕ, true, List, length, flat_map, Option, None, Some, refl, if◌then◌else◌, fold}
 use Rattle.std.specs.Prelude.{◌==◌, nat_le, Result, Ok, Err}
-use Rattle.net_types.specs.declared.node.PortNo.{PortNo}
-use Rattle.net_types.specs.declared.channel.Channel.{Channel}
-use Rattle.net_types.specs.declared.channel.End.{End}
-use Rattle.net_types.specs.declared.number.Mark.{Mark}
-use Rattle.net_types.specs.declared.adjacency.Party.{Party}
-use Rattle.net_types.specs.Label.{number_of_channel}
-use Rattle.net_types.specs.Number.{next_control, with_control}
-use Rattle.ipv4_forward.specs.declared.change.RouteChange.{RouteChange}
-use Rattle.ipv4_packet.specs.Packet.{source_of}
-use Rattle.ipv4_forward.specs.Hop.{hop_of, onward}
-use Rattle.ipv4_forward.specs.declared.outcome.Hop.{Hop}
-use Rattle.ipv4_forward.specs.declared.outcome.Hop.TheVariants.{Here, On, NoRoute, Expired}
-use Rattle.ipv4_packet.specs.Flow.{kind_of}
-use Rattle.flow_encaps.specs.Default.{default_payload}
-use Rattle.flow_encaps.specs.Labelled.{labelled_payload}
-use Rattle.ifmp_wire.specs.declared.message.Message.{Message as IfmpMessage}
-use Rattle.ifmp_wire.specs.declared.reader.Fault.{Fault as IfmpFault}
-use Rattle.ifmp_wire.specs.Fields.{decoded as ifmp_decoded}
-use Rattle.gsmp_wire.specs.declared.request.Request.{Request}
-use Rattle.gsmp_wire.specs.declared.request.Request.TheVariants.{AddBranch, MoveBranch, DeleteTree, VerifyTree, DeleteAll, PortManagement, AllPorts}
-use Rattle.gsmp_wire.specs.declared.message.Message.{Message}
-use Rattle.gsmp_wire.specs.declared.message.Message.TheVariants as messages
-use Rattle.adjacency_table.specs.declared.message.Answer.{Answer}
-use Rattle.adjacency_table.specs.declared.message.Answer.TheVariants.{Quiet, Send, Open, Reset}
-use Rattle.adjacency_table.specs.declared.message.Said.{Said}
-use Rattle.adjacency_table.specs.Side as sides
-use Rattle.adjacency_table.specs.Side.{is_estab, ticked}
-use Rattle.adjacency_table.specs.Greeting.{greeting_of, gsmp_answer}
-use Rattle.link_model.specs.declared.record.Record.{Record}
-use Rattle.link_model.specs.declared.record.Record.TheVariants.{Delivered, Dropped, Bad, Loss, Part}
-use Rattle.link_model.specs.declared.record.Cause.TheVariants.{PoolFull}
-use Rattle.link_model.specs.declared.record.DropCause.TheVariants as drop_causes
-use Rattle.link_model.specs.declared.record.Layer.TheVariants as layers
-use Rattle.refusal_names.specs.Names.{ifmp_refusal}
-use Rattle.link_model.specs.Notes.{noted}
-use Rattle.frame_model.specs.Frame.{frame_cells, made, next_mark}
-use Rattle.frame_model.specs.Sending.{Sent}
-use Rattle.port_model.specs.Desk.{Desk, Standing, asked, withdrawn, is_led_home, message_at, last_transaction, empty_desk, sent_again}
-use Rattle.port_model.specs.declared.action.Action.{Action}
-use Rattle.port_model.specs.declared.action.Action.TheVariants as actions
-use Rattle.port_model.specs.Setup.{home_of, control_end}
-use Rattle.port_model.specs.Grants.{Grant}
-use Rattle.port_model.specs.Port.{Work}
-use Rattle.port_model.specs.Counting.{counts, used}
-use Rattle.port_model.specs.Hearing.{hears}
-use Rattle.port_model.specs.Answers as port_answers
-use Rattle.port_model.specs.Joins as port_joins
-use Rattle.port_model.specs.Resets.{resets, restarts, cleared}
-use Rattle.port_model.specs.Saying.{closes}
-use Rattle.port_model.specs.Ticks as port_ticks
-use Rattle.port_facts.proofs.Keyed.{on_both}
-use Rattle.controller_facts.proofs.Lifetimes.{decoded_lives}
+use Rattle.world_model.specs.Words.{PortNo, Channel, End, Mark, Party, number_of_channel, next_control, with_control, RouteChange, source_of, hop_of, onward, Hop, Here, On, kind_of, default_payload, labelled_payload, Request, AddBranch, MoveBranch, DeleteTree, VerifyTree, PortManagement, Answer, Quiet, Send, Open, Said, is_estab, ticked, greeting_of, gsmp_answer, Record, Delivered, Dropped, Bad, Loss, Part, PoolFull, ifmp_refusal, noted, frame_cells, made, next_mark, Desk, Standing, withdrawn, is_led_home, last_transaction, empty_desk, sent_again, Action, home_of, control_end, Grant, Work, counts, used, hears, resets, restarts, closes, Controller, Linked, linked_at, with_linked, with_desk, chain_of, default_end, default_home, sends_control, says_gsmp, sends_request, asks_next, asks, takes_back, cuts_of, cuts_label, cuts_default_of, cuts_default, cuts_gsmp, begins, with_work, closes_by, port_restarts_of, port_restarts, resets_gsmp, node_resets, node_restarts, does, does_in_estab, resets_of, performs, performs_in_estab, Rule, works, at_port, join_of, parts, gives_back, releases_join, releases_input, released_inputs, resets_spent, releases, enters_grant, enters_label, tries_joins, changed_joins, takes_join_back, begins_change, meets, up_ports, default_branches, ends_meeting, has_emptied, tells_port, behind_delete_all, causes_in_estab, causes, may_clear, clears_of, clears_port, clears, is_control, sends_next, goes_by, grant_by, routes, ifmp_holds, counted_at, sends_again, ticks_port, ticks_ports, ticks_by}
+use Rattle.world_model.specs.ipv4_forward.declared.outcome.Hop.TheVariants.{NoRoute, Expired}
+use Rattle.world_model.specs.ifmp_wire.declared.message.Message.{Message as IfmpMessage}
+use Rattle.world_model.specs.ifmp_wire.declared.reader.Fault.{Fault as IfmpFault}
+use Rattle.world_model.specs.ifmp_wire.Fields.{decoded as ifmp_decoded}
+use Rattle.world_model.specs.gsmp_wire.declared.request.Request.TheVariants.{DeleteAll, AllPorts}
+use Rattle.world_model.specs.gsmp_wire.declared.message.Message.{Message}
+use Rattle.world_model.specs.gsmp_wire.declared.message.Message.TheVariants as messages
+use Rattle.world_model.specs.adjacency_table.declared.message.Answer.TheVariants.{Reset}
+use Rattle.world_model.specs.adjacency_table.Side as sides
+use Rattle.world_model.specs.link_model.declared.record.DropCause.TheVariants as drop_causes
+use Rattle.world_model.specs.link_model.declared.record.Layer.TheVariants as layers
+use Rattle.world_model.specs.frame_model.Sending.{Sent}
+use Rattle.world_model.specs.port_model.Desk.{asked, message_at}
+use Rattle.world_model.specs.port_model.declared.action.Action.TheVariants as actions
+use Rattle.world_model.specs.port_model.Answers as port_answers
+use Rattle.world_model.specs.port_model.Joins as port_joins
+use Rattle.world_model.specs.port_model.Resets.{cleared}
+use Rattle.world_model.specs.port_model.Ticks as port_ticks
+use Rattle.causes.proofs.port_facts.Keyed.{on_both}
+use Rattle.causes.proofs.controller_facts.Lifetimes.{decoded_lives}
 use Rattle.causes.proofs.Noting.{AllowsNotes, AllowsBinding, IsCalmAction, Calm, hears_calm, ticks_calm, done_calm, used_calm, counts_calm, closes_calm, joined_calm, parted_calm, lent_calm, given_back_calm, resets_calm, restarts_calm}
 use Rattle.causes.proofs.Rules.{fold_kept, fold_each, tries_joins_kept}
-use Rattle.world_model.specs.Controller.{Controller, Acted, Linked, free_slots, linked_at, ports_of, with_linked, with_desk, note, chain_of, default_end, default_home}
-use Rattle.world_model.specs.Sending.{with_cells, sends, sends_control, says_gsmp}
-use Rattle.world_model.specs.Asking.{sends_request, asks_next, asks, takes_back}
-use Rattle.world_model.specs.Resets.{cuts_of, cuts_label, cuts_default_of, cuts_default, cuts_gsmp, begins, with_work, closes_by, port_restarts_of, port_restarts, resets_gsmp, node_resets, node_restarts}
-use Rattle.world_model.specs.Performing.{does, does_in_estab, resets_of, performs, performs_in_estab, Rule, works, at_port}
-use Rattle.world_model.specs.Joins.{Join, join_of, parts, gives_back, releases_join, releases_input, released_inputs, resets_spent, releases, enters_grant, output_of, enters_label, tries_joins}
-use Rattle.world_model.specs.Changes.{changed_joins, takes_join_back, begins_change}
-use Rattle.world_model.specs.Meeting.{meets, up_ports, default_branches, ends_meeting, has_emptied, port_of, tells_port, behind_delete_all, causes_in_estab, causes, may_clear, clears_of, clears_port, clears}
+use Rattle.world_model.specs.Controller.{Acted, free_slots, ports_of, note}
+use Rattle.world_model.specs.Sending.{with_cells, sends}
+use Rattle.world_model.specs.Joins.{Join, output_of}
+use Rattle.world_model.specs.Meeting.{port_of}
 use Rattle.world_model.specs.Gsmp.{answers, steps}
-use Rattle.world_model.specs.Packets.{is_control, sends_next, goes_by, grant_by, forwarded, routes}
-use Rattle.world_model.specs.Cells.{ifmp_holds, counted_at}
-use Rattle.world_model.specs.Ticks.{sends_again, ticks_port, ticks_ports, ticks_by, ticks}
+use Rattle.world_model.specs.Packets.{forwarded}
+use Rattle.world_model.specs.Ticks.{ticks}
 use Rattle.told_tables.proofs.Notes.{IsOther, TellsAlike, noted_alike, cut_alike, full_alike}
 
 -- *The same* table and changes, in the controller and in what is recorded

@@ -2,39 +2,20 @@
 
 use Rattle.std.proofs.Common.{◌≡◌, ◌≢◌, ℕ, ◌+◌, Bool, true, false, List, [], ◌∷◌, ◌++◌, append-nil, Option, None, Some, refl, sym, ◌∙◌, ap, subst, if◌then◌else◌}
 use Rattle.std.specs.Prelude.{nat_eq}
-use Rattle.net_types.specs.declared.node.NodeId.{NodeId}
-use Rattle.net_types.specs.declared.node.Place.{Place}
-use Rattle.net_types.specs.declared.node.Place.TheVariants.{Down, Up, Out}
-use Rattle.net_types.specs.declared.channel.Channel.{Channel}
-use Rattle.net_types.specs.declared.number.Mark.{Mark}
-use Rattle.net_types.specs.Number.{next_control, with_control}
-use Rattle.atm_cells.specs.declared.cell.Cell.{Cell}
-use Rattle.ipv4_forward.specs.declared.change.RouteChange.{RouteChange}
-use Rattle.ipv4_forward.specs.declared.table.Route.{Route as RouteOf}
-use Rattle.link_model.specs.declared.record.Record.{Record}
-use Rattle.link_model.specs.declared.record.Record.TheVariants.{Refused, Loss, Forged}
-use Rattle.link_model.specs.declared.record.Cause.TheVariants.{Lost}
-use Rattle.link_model.specs.declared.record.Refusal.{Refusal}
-use Rattle.keyed_lists.specs.Keyed.{at, put}
+use Rattle.world_model.specs.Words.{NodeId, Place, Down, Up, Out, Channel, Mark, next_control, with_control, Cell, RouteChange, Record, Refused, Loss, Forged, Lost, Refusal, at, put, control_port, inject_refusal, injected, node_restarts, change_comes, changes_of, Topology, Node, node_at, routes_of, World, Site, site_key, site_at, controller_acts, switch_acts, place_node, queue_at, with_queue_in, with_queue_of, with_queue, injects_by, arrives_at, arrives, carries_head, loses_head, forges_at}
+use Rattle.world_model.specs.ipv4_forward.declared.table.Route.{Route as RouteOf}
 use Rattle.world_model.specs.Switch as switches
-use Rattle.world_model.specs.Switch.{control_port}
 use Rattle.world_model.specs.Conduct as switch
 use Rattle.world_model.specs.Controller.{Acted}
 use Rattle.world_model.specs.Sending.{sends}
-use Rattle.world_model.specs.Packets.{inject_refusal, injected}
 use Rattle.world_model.specs.Cells as controller
 use Rattle.world_model.specs.Ticks.{ticks}
-use Rattle.world_model.specs.Resets.{node_restarts}
-use Rattle.world_model.specs.Changes.{change_comes}
-use Rattle.world_model.specs.Events.{changes_of}
 use Rattle.world_model.specs.declared.event.Event.{Event}
 use Rattle.world_model.specs.declared.event.Event.TheVariants.{Inject, Carry, Lose, Tick, TickSwitch, Restart, RestartSwitch, Forge, Route}
 use Rattle.world_model.specs.declared.link.LinkEnd.{LinkEnd}
-use Rattle.world_model.specs.Topology.{Topology, Node, node_at, peer_of}
-use Rattle.world_model.specs.Lines.{routes_of}
-use Rattle.world_model.specs.World.{World, Site, site_key, site_at, controller_acts, at_controller, switch_acts, at_switch}
-use Rattle.world_model.specs.Places.{place_node, queue_at, with_queue_in, with_queue_of, with_queue}
-use Rattle.world_model.specs.Step.{note, injects_by, arrives_at, arrives, carries_head, loses_head, forges_at, acts}
+use Rattle.world_model.specs.Topology.{peer_of}
+use Rattle.world_model.specs.World.{at_controller, at_switch}
+use Rattle.world_model.specs.Step.{note, acts}
 use Rattle.world_model.proofs.Lists.{by_eq, at_key, at_put_same, at_put_other}
 use Rattle.told_tables.specs.Law.{numbers_told}
 use Rattle.told_tables.proofs.Notes.{IsOther, noted_alike}

@@ -3,24 +3,10 @@
 use Rattle.std.specs.Prelude.{◌≡◌, ℕ, ◌+◌, ◌-◌, ◌==◌, ◌≤◌, Bool, true, false, List, [], ◌∷◌, ◌++◌, length, take, drop, fold, filter_map, Option, None, Some, if◌then◌else◌}
 use Rattle.std.specs.List.{list_any, range_with_len}
 use Rattle.std.specs.Option.{option_map_or}
-use Rattle.net_types.specs.declared.node.NodeId.{NodeId}
-use Rattle.ipv4_forward.specs.Change.{changed}
-use Rattle.ipv4_forward.specs.declared.change.RouteChange.{RouteChange}
-use Rattle.link_model.specs.declared.record.Record.{Record}
-use Rattle.link_model.specs.declared.record.Record.TheVariants.{Routes}
-use Rattle.port_model.specs.Setup.{Policy}
-use Rattle.world_model.specs.Changes.{is_changed}
-use Rattle.world_model.specs.Conditions.{table_to_be}
-use Rattle.world_model.specs.Controller.{Controller}
-use Rattle.world_model.specs.Events.{changes_of, table_after}
-use Rattle.world_model.specs.Joins.{joins_of}
-use Rattle.world_model.specs.Lines.{routes_of}
+use Rattle.world_model.specs.Words.{NodeId, changed, RouteChange, Record, Routes, Policy, is_changed, table_to_be, Controller, changes_of, table_after, joins_of, routes_of, Topology, Node, node_at, World, controller_at, next, world_after, past_of}
 use Rattle.world_model.specs.declared.event.Event.{Event}
 use Rattle.world_model.specs.declared.event.Event.TheVariants.{Route}
-use Rattle.world_model.specs.Topology.{Topology, Node, node_at}
-use Rattle.world_model.specs.World.{World, controller_at, opened}
-use Rattle.world_model.specs.Run.{next, world_after}
-use Rattle.world_model.specs.Past.{past_of}
+use Rattle.world_model.specs.World.{opened}
 
 -- *A node after some events*: of the changes that they told it, in their order, it has taken so many, and the others wait.
 -- Its table is that of the topology, changed by those that it took; with the others it will be that of all events

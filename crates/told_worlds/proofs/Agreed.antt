@@ -5,48 +5,29 @@ use Rattle.std.proofs.Common.{◌≡◌, ℕ, Bool, true, false, not, List, [], 
 use Rattle.std.specs.Prelude.{Contains, ◌&&◌, ◌==◌, nat_eq, nat_lt}
 use Rattle.std.specs.Option.{option_map, option_map_or, option_and_then}
 use Rattle.std.proofs.lemmas.Bool.Decides.{nat_tests}
-use Rattle.net_types.specs.declared.node.Place.TheVariants.{Up}
-use Rattle.net_types.specs.declared.number.Instance.{Instance}
-use Rattle.net_types.specs.Label.{label_channel_of}
-use Rattle.atm_cells.specs.declared.cell.Cell.{Cell}
-use Rattle.ipv4_packet.specs.Packet.{source_of}
-use Rattle.ipv4_packet.specs.Parts.{same_flow}
-use Rattle.ipv4_packet.specs.declared.flow.FlowId.{FlowId}
-use Rattle.flow_encaps.specs.Unwrapped.{default_unwrapped}
-use Rattle.ifmp_wire.specs.declared.message.Message.{Message}
-use Rattle.ifmp_wire.specs.declared.message.Message.TheVariants.{Redirect, Reclaim}
-use Rattle.link_model.specs.declared.frames.Frame.{Frame}
-use Rattle.link_model.specs.Ledger.{payload_of}
-use Rattle.ordered_lists.specs.Ordered.{Every}
-use Rattle.ordered_lists.proofs.Every.{every_left, every_right}
-use Rattle.keyed_lists.specs.Keyed.{at}
-use Rattle.port_model.specs.Setup.{Setup, is_in_range}
-use Rattle.port_model.specs.Grants.{Grant, GrantState, Idle, ByController, ByInput, Leaving, grant_label, Acceptance, New, Refreshed, OutOfRange, Taken, IsLeaving, GrantsFull, acceptance_of, acceptance_beside, is_leaving, most_grants}
-use Rattle.port_facts.proofs.Keyed.{on_both}
-use Rattle.crossbar_model.specs.Crossbar.{queue_of}
-use Rattle.world_model.specs.Switch.{control_port}
-use Rattle.world_model.specs.Controller.{Controller, Linked, linked_at, default_channel, default_home}
-use Rattle.world_model.specs.Cells.{same_channel}
+use Rattle.world_model.specs.Words.{Up, Instance, label_channel_of, Cell, source_of, same_flow, FlowId, default_unwrapped, Redirect, Reclaim, Frame, payload_of, at, Setup, is_in_range, Grant, GrantState, Idle, ByController, ByInput, Leaving, grant_label, Acceptance, New, Refreshed, IsLeaving, GrantsFull, acceptance_of, acceptance_beside, is_leaving, most_grants, queue_of, control_port, Controller, Linked, linked_at, default_channel, default_home, same_channel, Site, queue_at, queue_in, linked_end, ifmp_in, ifmp_of, ifmp_under, Past, frames_of}
+use Rattle.world_model.specs.ifmp_wire.declared.message.Message.{Message}
+use Rattle.frame_readings.specs.ordered_lists.Ordered.{Every}
+use Rattle.frame_readings.proofs.ordered_lists.Every.{every_left, every_right}
+use Rattle.world_model.specs.port_model.Grants.{OutOfRange, Taken}
+use Rattle.frame_readings.proofs.port_facts.Keyed.{on_both}
 use Rattle.label_line.specs.Cells as lines
 use Rattle.label_line.specs.Cells.{Role, Downstream, Upstream}
 use Rattle.label_line.specs.Line.{Line}
 use Rattle.label_line.specs.Law.{IsOfFlow, IsGrantOf, UsersHaveItsFlow}
 use Rattle.label_line.proofs.Read.{reached, users_flow}
-use Rattle.world_model.specs.World.{Site}
-use Rattle.world_model.specs.Places.{queue_at, queue_in}
-use Rattle.world_model.specs.Ways.{linked_end, ifmp_in, ifmp_of, ifmp_under, told}
-use Rattle.world_model.specs.Past.{Past, frames_of}
-use Rattle.port_views.specs.Link.{LinkLabel}
-use Rattle.port_views.specs.Flows.{flow_number}
-use Rattle.port_views.specs.Heard.{is_own, heard_by, names}
-use Rattle.port_views.specs.Shown.{granted, grant_in, GrantShows}
-use Rattle.port_views.proofs.Flows.{same_numbers}
-use Rattle.port_views.proofs.Recalling.{names_own}
-use Rattle.shown_cells.specs.Seen.{Nothing, Word, Unknown, hidden, word}
-use Rattle.shown_cells.specs.Label.{Told, told_in, told_of, seen_payload, seen_packet, seen_message, Where, OnControl, channel_at, on_label, seen, erased, ShowsCells}
-use Rattle.world_views.specs.Shown.{end_of, WorldShows}
-use Rattle.world_views.specs.Pairs.{IsLike}
-use Rattle.world_views.specs.Between.{IsWorld, IsLinkLabel, HasLabelLine}
+use Rattle.world_model.specs.Ways.{told}
+use Rattle.frame_readings.specs.port_views.Link.{LinkLabel}
+use Rattle.frame_readings.specs.port_views.Flows.{flow_number}
+use Rattle.frame_readings.specs.port_views.Heard.{is_own, heard_by, names}
+use Rattle.frame_readings.specs.port_views.Shown.{granted, grant_in, GrantShows}
+use Rattle.frame_readings.proofs.port_views.Flows.{same_numbers}
+use Rattle.frame_readings.proofs.port_views.Recalling.{names_own}
+use Rattle.frame_readings.specs.shown_cells.Seen.{Nothing, Word, Unknown, hidden, word}
+use Rattle.frame_readings.specs.shown_cells.Label.{Told, told_in, told_of, seen_payload, seen_packet, seen_message, Where, OnControl, channel_at, on_label, seen, erased, ShowsCells}
+use Rattle.frame_readings.specs.world_views.Shown.{end_of, WorldShows}
+use Rattle.frame_readings.specs.world_views.Pairs.{IsLike}
+use Rattle.frame_readings.specs.world_views.Between.{IsWorld, IsLinkLabel, HasLabelLine}
 use Rattle.unused_labels.proofs.Seen.{every_contained}
 
 -- *A cell of which a list shows* nothing, or a word of one flow

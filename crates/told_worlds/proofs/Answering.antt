@@ -3,46 +3,28 @@
 use Rattle.std.proofs.Common.{◌≡◌, ℕ, Bool, true, false, List, ◌∷◌, Option, Some, Ok, refl, sym, ◌∙◌, ap, subst}
 use Rattle.std.specs.Prelude.{nat_lt}
 use Rattle.std.specs.Option.{option_and_then}
-use Rattle.net_types.specs.declared.channel.End.{End}
-use Rattle.net_types.specs.declared.node.NodeId.{NodeId}
-use Rattle.net_types.specs.declared.node.PortNo.{PortNo}
-use Rattle.net_types.specs.declared.node.Place.TheVariants.{Up}
-use Rattle.net_types.specs.declared.number.Mark.{Mark}
-use Rattle.atm_cells.specs.declared.cell.Cell.{Cell}
-use Rattle.ipv4_packet.specs.declared.flow.FlowId.{FlowId}
-use Rattle.ipv4_packet.specs.Parts.{flow_destination}
-use Rattle.gsmp_wire.specs.declared.message.Message.{Message}
-use Rattle.gsmp_wire.specs.Fields.{decoded as gsmp_decoded}
-use Rattle.link_model.specs.Ledger.{payload_of, is_frame}
-use Rattle.frame_model.specs.Frame.{tested, tested_by, payload_in, octets_of}
-use Rattle.frame_model.specs.Reassembly.{taken}
-use Rattle.port_model.specs.Desk.{Standing}
-use Rattle.port_model.specs.Requests.{leads_home}
-use Rattle.port_model.specs.DeskAnswers.{Done, answered, after_answer}
-use Rattle.port_model.specs.Setup.{Policy, home_of}
-use Rattle.world_model.specs.Controller.{Controller, Acted, free_slots, with_desk}
-use Rattle.world_model.specs.Meeting.{is_deleting, has_emptied}
-use Rattle.world_model.specs.Cells.{ForGsmp, ForDefault, ForLabel, taker_of}
-use Rattle.controller_facts.specs.Sound.{IsSound}
-use Rattle.controller_facts.proofs.Moves.{moves_to, further, gathering, answering}
-use Rattle.controller_facts.proofs.Laws.{has_ports, moves_sound}
-use Rattle.controller_law.specs.Match.{lent_at}
+use Rattle.world_model.specs.Words.{End, NodeId, PortNo, Up, Mark, Cell, FlowId, flow_destination, payload_of, is_frame, tested, tested_by, payload_in, Standing, leads_home, Done, answered, after_answer, Policy, home_of, Controller, with_desk, is_deleting, has_emptied, ForGsmp, ForDefault, ForLabel, taker_of, Topology, IsTopology, Site, site_at, queue_at, gsmp_of, gsmp_under, Past, past_of, last_bound}
+use Rattle.world_model.specs.gsmp_wire.declared.message.Message.{Message}
+use Rattle.world_model.specs.gsmp_wire.Fields.{decoded as gsmp_decoded}
+use Rattle.world_model.specs.frame_model.Frame.{octets_of}
+use Rattle.world_model.specs.frame_model.Reassembly.{taken}
+use Rattle.world_model.specs.Controller.{Acted, free_slots}
+use Rattle.frame_readings.specs.controller_facts.Sound.{IsSound}
+use Rattle.frame_readings.proofs.controller_facts.Moves.{moves_to, further, gathering, answering}
+use Rattle.frame_readings.proofs.controller_facts.Laws.{has_ports, moves_sound}
+use Rattle.run_facts.specs.controller_law.Match.{lent_at}
 use Rattle.lasting_joins.proofs.Lent.{Keeps}
-use Rattle.controller_bindings.proofs.Lasts.{tested_grows, some_same}
-use Rattle.shown_cells.proofs.Tested.{last_is}
+use Rattle.run_facts.proofs.controller_bindings.Lasts.{tested_grows, some_same}
+use Rattle.frame_readings.proofs.shown_cells.Tested.{last_is}
 use Rattle.run_facts.proofs.Taking.{tested_frames}
-use Rattle.input_steps.proofs.SwitchCells.{frame_is}
+use Rattle.running_worlds.proofs.input_steps.SwitchCells.{frame_is}
 use Rattle.world_model.specs.declared.link.LinkEnd.{LinkEnd}
 use Rattle.world_model.specs.declared.event.Event.{Event}
 use Rattle.world_model.specs.declared.event.Event.TheVariants.{Carry}
-use Rattle.world_model.specs.Topology.{Topology, peer_of}
-use Rattle.world_model.specs.Conditions.{IsTopology}
-use Rattle.world_model.specs.World.{Site, site_at}
-use Rattle.world_model.specs.Places.{queue_at}
-use Rattle.world_model.specs.Ways.{gsmp_of, gsmp_under, told}
-use Rattle.world_model.specs.Past.{Past, past_of, last_bound}
-use Rattle.world_views.specs.Between.{IsWorld}
-use Rattle.world_views.specs.Ready.{setups_of}
+use Rattle.world_model.specs.Topology.{peer_of}
+use Rattle.world_model.specs.Ways.{told}
+use Rattle.frame_readings.specs.world_views.Between.{IsWorld}
+use Rattle.frame_readings.specs.world_views.Ready.{setups_of}
 use Rattle.frame_readings.specs.Reading.{FramesAreRead}
 use Rattle.run_facts.specs.Nodes.{IsNodeOfRun}
 use Rattle.running_worlds.specs.Running.{ChainsAreTrue}

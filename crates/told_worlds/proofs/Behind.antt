@@ -3,34 +3,22 @@
 use Rattle.std.proofs.Common.{◌≡◌, ◌≢◌, ℕ, ◌≤◌, Bool, true, false, List, [], Option, None, Some, refl, sym, ◌∙◌, ap, subst, arith, inl, inr}
 use Rattle.std.specs.Prelude.{Contains, ◌⊎◌, ◌+◌, ◌*◌}
 use Rattle.std.specs.Option.{option_map_or}
-use Rattle.net_types.specs.declared.node.NodeId.{NodeId}
-use Rattle.net_types.specs.declared.node.PortNo.{PortNo}
-use Rattle.net_types.specs.declared.node.Place.TheVariants.{Down, Up, Out}
-use Rattle.net_types.specs.declared.channel.Channel.{Channel}
-use Rattle.net_types.specs.declared.channel.End.{End}
-use Rattle.net_types.specs.Label.{label_channel_of}
-use Rattle.atm_cells.specs.declared.cell.Cell.{Cell}
-use Rattle.ordered_lists.specs.Ordered.{Every}
-use Rattle.port_facts.proofs.Keyed.{at_key, at_every}
-use Rattle.port_facts.specs.Port.{IsLabelEnd}
-use Rattle.port_model.specs.Setup.{Setup, home_of}
-use Rattle.world_model.specs.Controller.{Acted, Linked, linked_at, port_key, default_channel, default_home}
-use Rattle.world_model.specs.Cells.{same_channel}
+use Rattle.world_model.specs.Words.{NodeId, PortNo, Down, Up, Out, Channel, End, label_channel_of, Cell, Setup, home_of, Linked, linked_at, port_key, default_channel, default_home, same_channel, World, Site, site_at, site_key, with_site, queue_at, queue_in, linked_end, chain_at, on_channel, Past}
+use Rattle.frame_readings.specs.ordered_lists.Ordered.{Every}
+use Rattle.frame_readings.proofs.port_facts.Keyed.{at_key, at_every}
+use Rattle.frame_readings.specs.port_facts.Port.{IsLabelEnd}
+use Rattle.world_model.specs.Controller.{Acted}
 use Rattle.world_model.specs.declared.link.LinkEnd.{LinkEnd}
 use Rattle.world_model.specs.Topology.{peer_of}
-use Rattle.world_model.specs.World.{World, Site, site_at, site_key, with_site}
-use Rattle.world_model.specs.Places.{queue_at, queue_in}
-use Rattle.world_model.specs.Ways.{linked_end, chain_at, on_channel}
-use Rattle.world_model.specs.Past.{Past}
-use Rattle.world_views.specs.Between.{IsPortEnd, default, label, IsShapedBranch, home, out, joined}
-use Rattle.world_views.proofs.Labels.{in_range_label}
-use Rattle.causes.proofs.Shown.{IsPeer}
+use Rattle.frame_readings.specs.world_views.Between.{IsPortEnd, default, label, IsShapedBranch, home, out, joined}
+use Rattle.frame_readings.proofs.world_views.Labels.{in_range_label}
+use Rattle.running_worlds.proofs.causes.Shown.{IsPeer}
 use Rattle.port_words.specs.Words.{Terms, IsSteadyAt, IsSent, IsNoted, IsSteadily}
 use Rattle.unused_labels.proofs.Seen.{every_contained}
 use Rattle.unused_labels.proofs.Reading.{filtered, above_32}
 use Rattle.told_worlds.specs.Before.{end_at, quiet_terms, gsmp_terms, was_own}
 use Rattle.told_worlds.proofs.Ways.{OnWay, in_chain, in_up, in_out, in_down, Less, less_way, queue_then, linked_then}
-use Rattle.controller_law.proofs.Ordering.{same_number}
+use Rattle.run_facts.proofs.controller_law.Ordering.{same_number}
 
 -- *The words of an event* of a node, by whether a cell of GSMP comes there
 abbrev pub event_terms : (of_gsmp : Bool) → Past → NodeId → Site → Terms

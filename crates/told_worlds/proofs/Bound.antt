@@ -1,45 +1,25 @@
 -- what an event notes of bindings: each is of a label that was being wired
 
 use Rattle.std.proofs.Common.{◌≡◌, ◌≢◌, ℕ, ◌<◌, ◌^◌, Bool, true, false, List, ◌∷◌, Option, None, Some, refl, sym, ◌∙◌, subst, inl, inr}
-use Rattle.net_types.specs.declared.node.NodeId.{NodeId}
-use Rattle.net_types.specs.declared.node.PortNo.{PortNo}
-use Rattle.net_types.specs.declared.node.Place.TheVariants.{Up}
-use Rattle.adjacency_table.specs.declared.State.{State}
-use Rattle.adjacency_table.specs.declared.State.TheVariants.{Clearing, SynSent, SynRcvd, Estab}
-use Rattle.adjacency_table.specs.Side.{is_estab}
-use Rattle.atm_cells.specs.declared.cell.Cell.{Cell}
-use Rattle.ipv4_packet.specs.declared.flow.FlowId.{FlowId}
-use Rattle.link_model.specs.declared.record.Record.{Record}
-use Rattle.link_model.specs.declared.record.Record.TheVariants as kinds
-use Rattle.link_model.specs.declared.record.Record.TheVariants.{Bind}
-use Rattle.ordered_lists.proofs.Every.{every_map}
-use Rattle.port_model.specs.Setup.{Policy}
-use Rattle.world_model.specs.Controller.{Acted, Linked, linked_at}
-use Rattle.controller_facts.proofs.Moves.{Found}
-use Rattle.port_facts.specs.Port.{IsPort}
-use Rattle.ipv4_forward.specs.declared.change.RouteChange.{RouteChange}
-use Rattle.world_model.specs.Cells.{Taker, ForGsmp, ForDefault, ForLabel, taker_of, cell_comes}
+use Rattle.world_model.specs.Words.{NodeId, PortNo, Up, State, Clearing, SynSent, SynRcvd, Estab, is_estab, Cell, FlowId, Record, Bind, Policy, Linked, linked_at, RouteChange, ForGsmp, ForDefault, ForLabel, taker_of, node_restarts, change_comes, injected, Topology, IsTopology, World, Site, site_at, queue_at, Past, past_of, WasCleared, WaitsAs}
+use Rattle.world_model.specs.link_model.declared.record.Record.TheVariants as kinds
+use Rattle.frame_readings.proofs.ordered_lists.Every.{every_map}
+use Rattle.world_model.specs.Controller.{Acted}
+use Rattle.frame_readings.proofs.controller_facts.Moves.{Found}
+use Rattle.frame_readings.specs.port_facts.Port.{IsPort}
+use Rattle.world_model.specs.Cells.{Taker, cell_comes}
 use Rattle.world_model.specs.Ticks.{ticks}
-use Rattle.world_model.specs.Resets.{node_restarts}
-use Rattle.world_model.specs.Changes.{change_comes}
-use Rattle.world_model.specs.Packets.{injected}
-use Rattle.controller_facts.proofs.Joining.{each_there}
+use Rattle.frame_readings.proofs.controller_facts.Joining.{each_there}
 use Rattle.world_model.specs.declared.event.Event.{Event}
 use Rattle.world_model.specs.declared.event.Event.TheVariants.{Carry}
-use Rattle.world_model.specs.Topology.{Topology}
-use Rattle.world_model.specs.Conditions.{IsTopology}
-use Rattle.world_model.specs.World.{World, Site, site_at}
-use Rattle.world_model.specs.Places.{queue_at}
-use Rattle.world_model.specs.Past.{Past, past_of}
-use Rattle.world_model.specs.Owned.{WasCleared, WaitsAs}
-use Rattle.world_views.specs.Between.{IsWorld}
-use Rattle.world_views.specs.Ready.{setups_of}
-use Rattle.world_views.specs.Shown.{acting}
-use Rattle.world_views.specs.Made.{IsFit}
+use Rattle.frame_readings.specs.world_views.Between.{IsWorld}
+use Rattle.frame_readings.specs.world_views.Ready.{setups_of}
+use Rattle.frame_readings.specs.world_views.Shown.{acting}
+use Rattle.frame_readings.specs.world_views.Made.{IsFit}
 use Rattle.frame_readings.specs.Reading.{FramesAreRead}
 use Rattle.run_facts.specs.Nodes.{IsNodeOfRun}
 use Rattle.running_worlds.specs.Running.{ChainsAreTrue}
-use Rattle.way_words.proofs.Switching.{BindsNone}
+use Rattle.packet_worlds.proofs.way_words.Switching.{BindsNone}
 use Rattle.port_words.specs.Words.{Terms, IsNoted, IsSteadily}
 use Rattle.port_words.proofs.Events.{IsHeeded, cell_h, gsmp_cell_h, ticks_h, routes_h}
 use Rattle.port_words.proofs.Events as words

@@ -1,46 +1,29 @@
 -- the hop of each join that a tick enters, by what was so before it
 
-use Rattle.port_model.specs.Ticks as port_ticks
+use Rattle.world_model.specs.port_model.Ticks as port_ticks
 use Rattle.std.proofs.Common.{◌≡◌, ℕ, Bool, true, false, List, Option, None, Some, refl, sym, ◌∙◌, subst, if◌then◌else◌, ap, length}
 use Rattle.std.specs.Prelude.{◌&&◌, not, nat_lt, is_none}
 use Rattle.std.specs.Option.{option_map, option_and_then}
-use Rattle.net_types.specs.declared.node.PortNo.{PortNo}
-use Rattle.net_types.specs.declared.channel.End.{End}
-use Rattle.net_types.specs.Label.{number_of_channel}
-use Rattle.adjacency_table.specs.Side.{ticked}
-use Rattle.ipv4_forward.specs.Best.{best}
-use Rattle.ipv4_packet.specs.declared.flow.FlowId.{FlowId}
-use Rattle.ipv4_packet.specs.Flow.{next_hop_of}
-use Rattle.ipv4_packet.specs.Parts.{flow_destination, same_flow}
-use Rattle.port_model.specs.Desk.{on_input, most_asked}
-use Rattle.port_model.specs.Setup.{label_end}
-use Rattle.port_model.specs.Labels.{Label, Offered, label_number}
-use Rattle.port_model.specs.Grants.{Grant, is_by_controller, grant_for}
-use Rattle.port_model.specs.Port.{label_at, labels_of}
-use Rattle.port_facts.proofs.Keyed.{at_key, at_every}
-use Rattle.port_facts.proofs.Found.{find_passes}
-use Rattle.port_facts.proofs.Rules.{and_first, and_second}
-use Rattle.world_model.specs.Controller.{Acted, Linked, port_key, linked_at, ports_of}
-use Rattle.world_model.specs.Resets.{begins}
-use Rattle.world_model.specs.Joins.{Join, port_by, join_through, join_by, join_for, may_join, output_of, label_on, tries_join, is_offered}
+use Rattle.world_model.specs.Words.{PortNo, End, number_of_channel, ticked, best, FlowId, next_hop_of, flow_destination, same_flow, on_input, most_asked, label_end, Label, Offered, label_number, Grant, is_by_controller, grant_for, label_at, labels_of, Linked, port_key, linked_at, begins, port_by, join_through, join_by, join_for, may_join, label_on, tries_join, is_offered, sends_again, ticks_port, Next, Local, Via, route_stays}
+use Rattle.frame_readings.proofs.port_facts.Keyed.{at_key, at_every}
+use Rattle.frame_readings.proofs.port_facts.Found.{find_passes}
+use Rattle.frame_readings.proofs.port_facts.Rules.{and_first, and_second}
+use Rattle.world_model.specs.Controller.{Acted, ports_of}
+use Rattle.world_model.specs.Joins.{Join, output_of}
 use Rattle.port_words.specs.Words.{Terms, IsGranted, IsSteady, IsSteadily, Stands, StandsAs}
 use Rattle.port_words.proofs.Rules.{ticks_v}
 use Rattle.port_words.proofs.Sending.{found_h, fold_h}
 use Rattle.port_words.proofs.Performing.{at_port_h}
 use Rattle.world_model.specs.Gsmp.{steps}
-use Rattle.world_model.specs.Ticks.{sends_again, ticks_port}
-use Rattle.ipv4_forward.specs.declared.table.Next.{Next}
-use Rattle.ipv4_forward.specs.declared.table.Next.TheVariants.{Local, Via}
-use Rattle.ipv4_forward.specs.declared.table.Route.{Route}
-use Rattle.world_model.specs.Routes.{route_stays}
-use Rattle.controller_facts.proofs.Entering.{is_offered_by}
-use Rattle.controller_bindings.proofs.Flows.{one_flow}
-use Rattle.quiet_controllers.specs.Quiet.{Enters, here, later, entered, entered_for}
-use Rattle.quiet_controllers.specs.Law.{before_joins}
-use Rattle.actor_pace.proofs.Controllers.{tries_label_paces}
+use Rattle.world_model.specs.ipv4_forward.declared.table.Route.{Route}
+use Rattle.frame_readings.proofs.controller_facts.Entering.{is_offered_by}
+use Rattle.run_facts.proofs.controller_bindings.Flows.{one_flow}
+use Rattle.lasting_joins.specs.quiet_controllers.Quiet.{Enters, here, later, entered, entered_for}
+use Rattle.lasting_joins.specs.quiet_controllers.Law.{before_joins}
+use Rattle.run_facts.proofs.actor_pace.Controllers.{tries_label_paces}
 use Rattle.port_words.proofs.Joining.{grant_for_there, tries_label_h}
 use Rattle.port_words.proofs.Events.{steps_h, again_h}
-use Rattle.controller_law.proofs.Ordering.{same_number}
+use Rattle.run_facts.proofs.controller_law.Ordering.{same_number}
 
 -- *One hop*: an input's label that is held for a flow, the route of its destination, and a grant of the next hop's flow
 pub record IsHop (t : Terms) (table : List Route) (input output : End) : Type 0 where

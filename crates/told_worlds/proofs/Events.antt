@@ -3,58 +3,41 @@
 use Rattle.std.proofs.Common.{◌≡◌, ℕ, zero, true, false, List, [], ◌∷◌, Option, None, Some, refl, sym, ◌∙◌, ap, subst, arith, inl}
 use Rattle.std.specs.Prelude.{Contains, ◌+◌}
 use Rattle.std.specs.Option.{option_map_or}
-use Rattle.net_types.specs.declared.node.NodeId.{NodeId}
-use Rattle.net_types.specs.declared.node.PortNo.{PortNo}
-use Rattle.net_types.specs.declared.node.Place.{Place}
-use Rattle.net_types.specs.declared.node.Place.TheVariants.{Down, Up, Out}
-use Rattle.net_types.specs.declared.channel.Channel.{Channel}
-use Rattle.atm_cells.specs.declared.cell.Cell.{Cell}
-use Rattle.crossbar_model.specs.Crossbar.{queue_of, output_of, input_of}
-use Rattle.link_model.specs.declared.record.Refusal.{Refusal}
-use Rattle.ordered_lists.specs.Ordered.{Every}
-use Rattle.port_model.specs.Setup.{Policy}
-use Rattle.world_model.specs.Controller.{Acted, default_channel, default_home}
-use Rattle.world_model.specs.Cells.{cell_comes, same_channel}
+use Rattle.world_model.specs.Words.{NodeId, PortNo, Place, Down, Up, Out, Channel, Cell, queue_of, Refusal, Policy, default_channel, default_home, same_channel, node_restarts, change_comes, injected, inject_refusal, control_port, Topology, IsTopology, World, Tally, Site, site_at, with_site, controller_acts, switch_acts, queue_at, queue_in, place_node, with_queue, with_queue_of, with_queue_in, arrives_at, carries_head, loses_head, injects_by, next, put_away, Past, past_of, IsTame, Linked}
+use Rattle.world_model.specs.crossbar_model.Crossbar.{output_of, input_of}
+use Rattle.frame_readings.specs.ordered_lists.Ordered.{Every}
+use Rattle.world_model.specs.Controller.{Acted}
+use Rattle.world_model.specs.Cells.{cell_comes}
 use Rattle.world_model.specs.Ticks.{ticks}
-use Rattle.world_model.specs.Resets.{node_restarts}
-use Rattle.world_model.specs.Changes.{change_comes}
-use Rattle.world_model.specs.Packets.{injected, inject_refusal}
-use Rattle.shown_cells.proofs.Frames.{same_self}
-use Rattle.world_model.specs.Switch.{control_port}
+use Rattle.frame_readings.proofs.shown_cells.Frames.{same_self}
 use Rattle.world_model.specs.Switch as switches
 use Rattle.world_model.specs.Conduct as switch
 use Rattle.world_model.specs.declared.link.LinkEnd.{LinkEnd}
 use Rattle.world_model.specs.declared.event.Event.{Event}
 use Rattle.world_model.specs.declared.event.Event.TheVariants.{Inject, Carry, Lose, Tick, TickSwitch, Restart, RestartSwitch, Forge, Route}
-use Rattle.world_model.specs.Topology.{Topology, peer_of}
-use Rattle.world_model.specs.Conditions.{IsTopology}
-use Rattle.world_model.specs.World.{World, Tally, Site, site_at, with_site, at_controller, controller_acts, at_switch, switch_acts}
-use Rattle.world_model.specs.Places.{queue_at, queue_in, place_node, with_queue, with_queue_of, with_queue_in}
-use Rattle.world_model.specs.Step.{acts, arrives_at, carries_head, loses_head, injects_by}
-use Rattle.world_model.specs.Run.{next, put_away}
-use Rattle.world_model.specs.Past.{Past, past_of}
-use Rattle.world_model.specs.Headline.{IsTame}
-use Rattle.world_views.specs.Between.{IsWorld}
-use Rattle.world_views.specs.Kept.{Comes, behind}
-use Rattle.world_views.specs.Ready.{setups_of}
-use Rattle.world_views.specs.Shown.{acting}
-use Rattle.causes.proofs.Shown.{IsPeer, peer_back}
+use Rattle.world_model.specs.Topology.{peer_of}
+use Rattle.world_model.specs.World.{at_controller, at_switch}
+use Rattle.world_model.specs.Step.{acts}
+use Rattle.frame_readings.specs.world_views.Between.{IsWorld}
+use Rattle.frame_readings.specs.world_views.Kept.{Comes, behind}
+use Rattle.frame_readings.specs.world_views.Ready.{setups_of}
+use Rattle.frame_readings.specs.world_views.Shown.{acting}
+use Rattle.running_worlds.proofs.causes.Shown.{IsPeer, peer_back}
 use Rattle.frame_readings.specs.Reading.{FramesAreRead}
 use Rattle.run_facts.proofs.Forged.{none_forged}
 use Rattle.run_facts.specs.Nodes.{RunsHaveNodes, IsNodeOfRun}
 use Rattle.run_facts.specs.Steps.{EventsAreSteps, RunsHaveFronts}
 use Rattle.running_worlds.specs.Running.{TameEventsAreTrue}
-use Rattle.way_words.proofs.Switching.{BindsNone, IsPassed, of_gsmp, crossed, Waits, waits_kept, comes, tick_kept, restarted_kept}
-use Rattle.way_words.proofs.Switching as switching
-use Rattle.input_events.proofs.Sites.{put_at}
+use Rattle.packet_worlds.proofs.way_words.Switching.{BindsNone, IsPassed, of_gsmp, crossed, Waits, waits_kept, comes, tick_kept, restarted_kept}
+use Rattle.packet_worlds.proofs.way_words.Switching as switching
+use Rattle.running_worlds.proofs.input_events.Sites.{put_at}
 use Rattle.port_words.specs.Words.{IsSteadily}
-use Rattle.world_model.specs.Controller.{Linked}
 use Rattle.told_worlds.proofs.Wired.{then_is, tame, node_of, fit}
 use Rattle.told_worlds.proofs.Bound.{ticks_so, restarts_so, changes_so, injects_so, CellSo, on_gsmp, elsewhere, cell_so}
 use Rattle.told_worlds.proofs.Ways.{OnWay, in_chain, in_up, in_out, in_down, Less, popped_less}
 use Rattle.told_worlds.proofs.Behind.{event_terms, EndSo, still, acted, CellSo as CellBehind, was, sent, IsBehind, less_behind, controller_behind}
 use Rattle.told_worlds.proofs.Switched.{waiting_behind, passed_behind}
-use Rattle.controller_bindings.proofs.Lasts.{some_same}
+use Rattle.run_facts.proofs.controller_bindings.Lasts.{some_same}
 
 -- the count of events and the tally are no part of it
 counted : (past : Past) (x : World) (events : ℕ) (tally : Tally) → IsBehind past x → IsBehind past (record x { events = events; tally = tally })

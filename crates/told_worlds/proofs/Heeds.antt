@@ -6,52 +6,29 @@ use Rattle.std.proofs.lemmas.Bool.Decides.{nat_tests}
 use Rattle.std.specs.Prelude.{◌*◌, ◌+◌, ◌/◌, ◌%◌}
 use Rattle.std.specs.Option.{option_and_then}
 use Rattle.std.proofs.lemmas.List.Elements.{Contains-append_left, Contains-append_right}
-use Rattle.net_types.specs.declared.node.NodeId.{NodeId}
-use Rattle.net_types.specs.declared.node.PortNo.{PortNo}
-use Rattle.net_types.specs.declared.node.Place.TheVariants.{Up}
-use Rattle.net_types.specs.declared.channel.Channel.{Channel}
-use Rattle.net_types.specs.declared.number.Mark.{Mark}
-use Rattle.net_types.specs.Label.{label_number_of, label_channel_of, number_of_channel, is_label_channel, is_label_number}
-use Rattle.atm_cells.specs.declared.cell.Cell.{Cell}
-use Rattle.ipv4_packet.specs.declared.flow.FlowId.{FlowId}
-use Rattle.flow_encaps.specs.Unwrapped.{default_unwrapped}
-use Rattle.ipv4_packet.specs.Packet.{protocol_of}
-use Rattle.ifmp_wire.specs.declared.message.Message.{Message}
-use Rattle.ifmp_wire.specs.declared.message.Message.TheVariants.{Adjacency, Redirect, Reclaim, ReclaimAck, LabelRange, Error}
-use Rattle.ifmp_wire.specs.Fields.{decoded}
-use Rattle.link_model.specs.Ledger.{payload_of, is_frame}
-use Rattle.frame_model.specs.Frame.{payload_in, octets_of}
-use Rattle.port_model.specs.Setup.{Policy}
-use Rattle.ipv4_packet.specs.Parts.{same_flow}
-use Rattle.keyed_lists.specs.Keyed.{at}
-use Rattle.port_model.specs.Setup.{is_in_range}
-use Rattle.port_model.specs.Grants.{Grant, grant_label, grant_on}
-use Rattle.port_facts.proofs.Keyed.{on_each, at_key, at_every}
-use Rattle.port_facts.specs.Port.{IsPort, IsGrant}
-use Rattle.world_model.specs.Controller.{Acted, Linked, linked_at, free_slots, default_home}
-use Rattle.world_model.specs.Cells.{Taker, ForGsmp, ForDefault, ForLabel, port_on, same_channel, taker_of, reassembly_of}
-use Rattle.world_model.specs.Packets.{control_protocol}
-use Rattle.controller_facts.proofs.Moves.{found_port, found_at_own}
-use Rattle.lifetimes.proofs.Events.{taker_belongs}
+use Rattle.world_model.specs.Words.{NodeId, PortNo, Up, Channel, Mark, label_number_of, label_channel_of, number_of_channel, is_label_channel, is_label_number, Cell, FlowId, default_unwrapped, protocol_of, Redirect, Reclaim, ReclaimAck, LabelRange, Error, payload_of, is_frame, payload_in, Policy, same_flow, at, is_in_range, Grant, grant_label, grant_on, Linked, linked_at, default_home, ForGsmp, ForDefault, ForLabel, port_on, same_channel, taker_of, reassembly_of, control_protocol, Topology, IsTopology, World, Site, site_at, queue_at, linked_end, ifmp_in, ifmp_of, ifmp_under, chain_at, on_channel, on_default_channel, Past, past_of, last_bound, frames_of, WasCleared, Way}
+use Rattle.world_model.specs.ifmp_wire.declared.message.Message.{Message}
+use Rattle.world_model.specs.ifmp_wire.declared.message.Message.TheVariants.{Adjacency}
+use Rattle.world_model.specs.ifmp_wire.Fields.{decoded}
+use Rattle.world_model.specs.frame_model.Frame.{octets_of}
+use Rattle.frame_readings.proofs.port_facts.Keyed.{on_each, at_key, at_every}
+use Rattle.frame_readings.specs.port_facts.Port.{IsPort, IsGrant}
+use Rattle.world_model.specs.Controller.{Acted, free_slots}
+use Rattle.world_model.specs.Cells.{Taker}
+use Rattle.frame_readings.proofs.controller_facts.Moves.{found_port, found_at_own}
+use Rattle.run_facts.proofs.lifetimes.Events.{taker_belongs}
 use Rattle.run_facts.proofs.Takers.{default_of}
-use Rattle.shown_cells.proofs.Tested.{last_is}
-use Rattle.input_steps.proofs.SwitchCells.{frame_is}
+use Rattle.frame_readings.proofs.shown_cells.Tested.{last_is}
+use Rattle.running_worlds.proofs.input_steps.SwitchCells.{frame_is}
 use Rattle.world_model.specs.declared.link.LinkEnd.{LinkEnd}
 use Rattle.world_model.specs.declared.event.Event.{Event}
 use Rattle.world_model.specs.declared.event.Event.TheVariants.{Carry}
-use Rattle.world_model.specs.Topology.{Topology}
-use Rattle.world_model.specs.Conditions.{IsTopology}
-use Rattle.world_model.specs.World.{World, Site, site_at}
-use Rattle.world_model.specs.Places.{queue_at}
-use Rattle.world_model.specs.Ways.{linked_end, ifmp_in, ifmp_of, ifmp_under, told, chain_at, on_channel, on_default_channel}
-use Rattle.world_model.specs.Past.{Past, past_of, last_bound, frames_of}
-use Rattle.world_model.specs.Owned.{WasCleared}
-use Rattle.world_model.specs.Users.{Way}
-use Rattle.port_views.specs.Link.{LinkLabel}
-use Rattle.world_views.specs.Made.{IsFit}
-use Rattle.world_views.specs.Between.{IsWorld, IsLinkLabel}
-use Rattle.world_views.specs.Ready.{setups_of}
-use Rattle.world_views.specs.Shown.{acting}
+use Rattle.world_model.specs.Ways.{told}
+use Rattle.frame_readings.specs.port_views.Link.{LinkLabel}
+use Rattle.frame_readings.specs.world_views.Made.{IsFit}
+use Rattle.frame_readings.specs.world_views.Between.{IsWorld, IsLinkLabel}
+use Rattle.frame_readings.specs.world_views.Ready.{setups_of}
+use Rattle.frame_readings.specs.world_views.Shown.{acting}
 use Rattle.frame_readings.specs.Reading.{FramesAreRead, Holds, sent, told as told_frame}
 use Rattle.run_facts.specs.Nodes.{IsNodeOfRun}
 use Rattle.running_worlds.specs.Running.{ChainsAreTrue}
@@ -64,7 +41,7 @@ use Rattle.told_worlds.specs.Before.{end_at, OfPeer, terms}
 use Rattle.running_worlds.proofs.MadeTame.{IsWhole, whole_chain}
 use Rattle.told_worlds.proofs.Start.{Peered, peered, to_is, way_to, from_is, way_from, linked_is, started}
 use Rattle.told_worlds.proofs.Agreed.{redirect_agrees, reclaim_agrees, IsTaken, taken_is}
-use Rattle.controller_bindings.proofs.Lasts.{some_same}
+use Rattle.run_facts.proofs.controller_bindings.Lasts.{some_same}
 
 first_true : (a b : Bool) → (a && b) ≡ true → a ≡ true
 first_true true b e = refl

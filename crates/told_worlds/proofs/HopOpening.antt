@@ -1,7 +1,7 @@
 -- as a run opens nothing is joined
 
-use Rattle.world_views.specs.Between.{HasAllHops}
-use Rattle.world_views.specs.Kept.{Begins}
+use Rattle.frame_readings.specs.world_views.Between.{HasAllHops}
+use Rattle.frame_readings.specs.world_views.Kept.{Begins}
 use Rattle.pairs.proofs.Opening.{none_joined}
 
 pub hops_begin : Begins HasAllHops

@@ -3,75 +3,38 @@
 use Rattle.std.proofs.Common.{◌≡◌, ℕ, suc, ◌<◌, Bool, true, false, List, [], ◌∷◌, ◌++◌, Option, None, Some, refl, sym, ◌∙◌, ap, subst, arith, inl, inr, if◌then◌else◌}
 use Rattle.std.specs.Prelude.{Contains, is_some, flat_map, nat_eq}
 use Rattle.std.specs.Option.{option_map, option_map_or, option_and_then}
-use Rattle.net_types.specs.declared.channel.Channel.{Channel}
-use Rattle.net_types.specs.declared.channel.End.{End}
-use Rattle.net_types.specs.declared.node.NodeId.{NodeId}
-use Rattle.net_types.specs.declared.node.PortNo.{PortNo}
-use Rattle.net_types.specs.declared.node.Place.TheVariants.{Down, Up}
-use Rattle.net_types.specs.Label.{is_label_channel, is_label_number, label_channel_of, label_number_of, number_of_channel}
-use Rattle.net_types.proofs.Labels.{number_of_channel-label_channel_of}
-use Rattle.adjacency_table.specs.declared.State.{State}
-use Rattle.adjacency_table.specs.declared.State.TheVariants.{Clearing, SynSent, SynRcvd, Estab}
-use Rattle.adjacency_table.specs.Side.{is_estab, ticked}
-use Rattle.atm_cells.specs.declared.cell.Cell.{Cell}
-use Rattle.ipv4_packet.specs.declared.flow.FlowId.{FlowId}
-use Rattle.ipv4_packet.specs.Parts.{flow_destination}
-use Rattle.gsmp_wire.specs.declared.message.Message.{Message}
-use Rattle.ipv4_forward.specs.Best.{best}
-use Rattle.ipv4_forward.specs.declared.change.RouteChange.{RouteChange}
-use Rattle.ipv4_forward.specs.declared.table.Next.TheVariants.{Via}
-use Rattle.ipv4_forward.specs.declared.table.Route.{Route as TableRoute}
-use Rattle.link_model.specs.declared.record.Record.{Record}
-use Rattle.link_model.specs.declared.record.Record.TheVariants.{Bind}
-use Rattle.ordered_lists.specs.Ordered.{Every}
-use Rattle.keyed_lists.specs.Keyed.{at}
-use Rattle.crossbar_model.specs.Crossbar.{queue_of}
-use Rattle.port_model.specs.Desk.{Standing}
-use Rattle.port_model.specs.DeskAnswers.{Done, answered}
-use Rattle.world_model.specs.Switch.{control_port}
-use Rattle.port_model.specs.Setup.{Policy, label_end}
-use Rattle.port_model.specs.Labels.{Label, label_number}
-use Rattle.port_model.specs.Grants as grants
-use Rattle.port_model.specs.Grants.{Grant, grant_label}
-use Rattle.port_model.specs.Port.{Session, labels_of}
-use Rattle.port_facts.specs.Port.{IsPort, IsLabel, IsLabelEnd}
-use Rattle.port_facts.proofs.Keyed.{at_every, at_key}
-use Rattle.port_facts.proofs.Rules.{and_first}
-use Rattle.world_model.specs.Controller.{Controller, Acted, Linked, port_key, linked_at}
-use Rattle.world_model.specs.Joins.{inputs_at, tries_join}
-use Rattle.world_model.specs.Cells.{ForGsmp, taker_of, cell_comes, same_channel}
-use Rattle.world_model.specs.Controller.{default_channel}
-use Rattle.world_model.specs.Changes.{change_comes}
-use Rattle.world_model.specs.Meeting.{is_clearing}
+use Rattle.world_model.specs.Words.{Channel, End, NodeId, PortNo, Down, Up, is_label_channel, is_label_number, label_channel_of, label_number_of, number_of_channel, State, Clearing, SynSent, SynRcvd, Estab, is_estab, ticked, Cell, FlowId, flow_destination, best, RouteChange, Via, Record, Bind, at, queue_of, Standing, Done, answered, control_port, Policy, label_end, Label, label_number, Grant, grant_label, Session, labels_of, Controller, Linked, port_key, linked_at, inputs_at, tries_join, ForGsmp, taker_of, same_channel, default_channel, change_comes, is_clearing, Topology, World, Site, site_at, controller_acts, queue_at, queue_in, table_in, next, put_away, grants_at, requests_chain_at, on_channel, gsmp_under, Past, past_of, last_bound, ByBranch, ByRequest, User, Uses, connected, copied, StandsForLast, IsTame, sends_again, ticks_port}
+use Rattle.world_model.proofs.net_types.Labels.{number_of_channel-label_channel_of}
+use Rattle.world_model.specs.gsmp_wire.declared.message.Message.{Message}
+use Rattle.world_model.specs.ipv4_forward.declared.table.Route.{Route as TableRoute}
+use Rattle.frame_readings.specs.ordered_lists.Ordered.{Every}
+use Rattle.world_model.specs.port_model.Grants as grants
+use Rattle.frame_readings.specs.port_facts.Port.{IsPort, IsLabel, IsLabelEnd}
+use Rattle.frame_readings.proofs.port_facts.Keyed.{at_every, at_key}
+use Rattle.frame_readings.proofs.port_facts.Rules.{and_first}
+use Rattle.world_model.specs.Controller.{Acted}
+use Rattle.world_model.specs.Cells.{cell_comes}
 use Rattle.world_model.specs.Ticks.{ticks}
-use Rattle.controller_facts.specs.Sound.{IsShutLinked}
-use Rattle.controller_facts.proofs.Moves.{found_port}
-use Rattle.controller_law.specs.Match.{lent_in, lent_at, joined_in}
-use Rattle.controller_bindings.proofs.Flows.{next_destination}
-use Rattle.controller_bindings.proofs.Lasts.{some_same}
+use Rattle.frame_readings.specs.controller_facts.Sound.{IsShutLinked}
+use Rattle.frame_readings.proofs.controller_facts.Moves.{found_port}
+use Rattle.run_facts.specs.controller_law.Match.{lent_in, lent_at, joined_in}
+use Rattle.run_facts.proofs.controller_bindings.Flows.{next_destination}
+use Rattle.run_facts.proofs.controller_bindings.Lasts.{some_same}
 use Rattle.label_line.specs.Cells.{Downstream, Upstream}
 use Rattle.lasting_joins.proofs.Tries.{mid_ports, tries_ends}
-use Rattle.quiet_controllers.specs.Quiet.{Enters, here, later}
-use Rattle.quiet_controllers.specs.Law.{TickEnters, before_joins}
+use Rattle.lasting_joins.specs.quiet_controllers.Quiet.{Enters, here, later}
+use Rattle.lasting_joins.specs.quiet_controllers.Law.{TickEnters, before_joins}
 use Rattle.world_model.specs.declared.event.Event.{Event}
 use Rattle.world_model.specs.declared.event.Event.TheVariants.{Inject, Carry, Lose, Tick, TickSwitch, Restart, RestartSwitch, Forge, Route}
 use Rattle.world_model.specs.declared.link.LinkEnd.{LinkEnd}
-use Rattle.world_model.specs.Topology.{Topology, peer_of}
-use Rattle.world_model.specs.World.{World, Site, site_at, controller_acts}
-use Rattle.world_model.specs.Places.{queue_at, queue_in}
-use Rattle.world_model.specs.Reached.{table_in}
-use Rattle.world_model.specs.Run.{next, put_away}
-use Rattle.world_model.specs.Ways.{grants_at, requests_chain_at, on_channel, gsmp_under}
-use Rattle.world_model.specs.Past.{Past, past_of, last_bound}
-use Rattle.world_model.specs.Users.{ByBranch, ByRequest, User, Uses, connected, asked, copied}
-use Rattle.world_model.specs.Owned.{StandsForLast}
-use Rattle.world_model.specs.Headline.{IsTame}
-use Rattle.causes.proofs.Shown.{peer_back}
-use Rattle.port_views.specs.Link.{LinkLabel}
-use Rattle.world_views.specs.Shown.{acting, end_of, way_of}
-use Rattle.world_views.specs.Pairs.{Pairs, by_branch, by_desk, by_copy, IsLike, IsJoin}
-use Rattle.world_views.specs.Between.{IsWorld, IsLinkLabel, setups_of}
-use Rattle.world_views.specs.Kept.{Comes, behind, BindsUnusedAt}
+use Rattle.world_model.specs.Topology.{peer_of}
+use Rattle.world_model.specs.Users.{asked}
+use Rattle.running_worlds.proofs.causes.Shown.{peer_back}
+use Rattle.frame_readings.specs.port_views.Link.{LinkLabel}
+use Rattle.frame_readings.specs.world_views.Shown.{acting, end_of, way_of}
+use Rattle.frame_readings.specs.world_views.Pairs.{Pairs, by_branch, by_desk, by_copy, IsLike, IsJoin}
+use Rattle.frame_readings.specs.world_views.Between.{IsWorld, IsLinkLabel, setups_of}
+use Rattle.frame_readings.specs.world_views.Kept.{Comes, behind, BindsUnusedAt}
 use Rattle.frame_readings.specs.Reading.{FramesAreRead}
 use Rattle.running_worlds.specs.Running.{TameEventsAreTrue}
 use Rattle.run_facts.specs.Nodes.{IsNodeOfRun}
@@ -95,12 +58,11 @@ use Rattle.told_worlds.proofs.Tables.{cell_routed}
 use Rattle.told_worlds.proofs.Answering.{Kept, stays}
 use Rattle.packet_worlds.proofs.Bound.{bound_stays, none_own}
 use Rattle.told_worlds.proofs.Worlds.{stays_routed}
-use Rattle.actor_pace.proofs.Paces.{Paces, paces_then, paces_fold, at_port_paces}
-use Rattle.actor_pace.proofs.Controllers.{steps_paces, sends_again_paces}
-use Rattle.world_model.specs.Ticks.{sends_again, ticks_port}
+use Rattle.run_facts.proofs.actor_pace.Paces.{Paces, paces_then, paces_fold, at_port_paces}
+use Rattle.run_facts.proofs.actor_pace.Controllers.{steps_paces, sends_again_paces}
 use Rattle.world_model.specs.Gsmp.{steps}
 use Rattle.world_model.specs.Controller.{ports_of}
-use Rattle.port_model.specs.Ticks as port_ticks
+use Rattle.world_model.specs.port_model.Ticks as port_ticks
 
 node_is : (m n : NodeId) → m.0 ≡ n.0 → m ≡ n
 node_is m n e = ap (λ (k : ℕ). record { 0 = k }) e

@@ -4,58 +4,27 @@ use Rattle.std.proofs.Common.{◌≡◌, ℕ, suc, ◌<◌, ◌^◌, Bool, true,
 use Rattle.std.specs.Prelude.{Contains, ◌&&◌, ◌==◌, not, nat_lt, nat_le, slice_get}
 use Rattle.std.specs.Option.{option_map, option_map_or, option_or}
 use Rattle.std.proofs.lemmas.Bool.Decides.{nat_tests}
-use Rattle.net_types.specs.declared.node.NodeId.{NodeId}
-use Rattle.net_types.specs.declared.node.PortNo.{PortNo}
-use Rattle.net_types.specs.declared.node.Place.TheVariants.{Down}
-use Rattle.net_types.specs.declared.prefix.Addr.{Addr}
-use Rattle.net_types.specs.declared.channel.Channel.{Channel}
-use Rattle.net_types.specs.declared.number.Mark.{Mark}
-use Rattle.net_types.specs.declared.number.Instance.{Instance}
-use Rattle.net_types.specs.declared.adjacency.Peer.{Peer}
-use Rattle.net_types.specs.declared.adjacency.HelloKind.{HelloKind}
-use Rattle.net_types.specs.declared.adjacency.HelloKind.TheVariants.{Syn, Synack, Rstack, Ack}
-use Rattle.net_types.specs.Label.{is_label_number, label_channel_of, number_of_channel}
-use Rattle.net_types.proofs.Labels.{number_of_channel-label_channel_of}
-use Rattle.adjacency_table.specs.declared.State.TheVariants.{Clearing}
-use Rattle.adjacency_table.specs.Side.{Side}
-use Rattle.atm_cells.specs.declared.cell.Cell.{Cell}
-use Rattle.ipv4_packet.specs.declared.flow.FlowId.{FlowId}
-use Rattle.ifmp_wire.specs.declared.message.Message.{Message}
-use Rattle.ifmp_wire.specs.declared.message.Message.TheVariants.{Adjacency, Redirect, Reclaim, ReclaimAck, LabelRange, Error}
-use Rattle.ifmp_wire.specs.Message.{names_of, octets_of, op_code, hello_code, FitsMessage, InRange}
-use Rattle.link_model.specs.declared.frames.Frame.{Frame}
-use Rattle.link_model.specs.declared.record.Record.{Record}
-use Rattle.link_model.specs.declared.record.Record.TheVariants.{Bind}
-use Rattle.link_model.specs.Ledger.{payload_of}
-use Rattle.port_model.specs.Setup.{Policy}
-use Rattle.port_model.specs.Grants.{Grant}
-use Rattle.port_model.specs.Labels.{Label}
-use Rattle.port_model.specs.Port.{Session}
-use Rattle.world_model.specs.Controller.{Linked, default_home}
-use Rattle.world_model.specs.Cells.{same_channel}
-use Rattle.controller_bindings.proofs.Lasts.{last_more, some_same}
-use Rattle.controller_views.specs.Lifted.{payload_by, IsProper}
+use Rattle.world_model.specs.Words.{NodeId, PortNo, Down, Addr, Channel, Mark, Instance, Peer, HelloKind, Syn, Synack, Rstack, Ack, is_label_number, label_channel_of, number_of_channel, Clearing, Side, Cell, FlowId, Redirect, Reclaim, ReclaimAck, LabelRange, Error, names_of, op_code, hello_code, FitsMessage, InRange, Frame, Record, Bind, payload_of, Policy, Grant, Label, Session, Linked, default_home, same_channel, Topology, IsTopology, World, Site, queue_at, linked_end, side_at, grants_at, ifmp_under, on_default_channel, Past, past_of, last_bound, Way, IsWay, WasCleared, WaitsAs, IsClearedAs, IsSpareOrWired, IsWired as IsWiredLabel, held}
+use Rattle.world_model.proofs.net_types.Labels.{number_of_channel-label_channel_of}
+use Rattle.world_model.specs.ifmp_wire.declared.message.Message.{Message}
+use Rattle.world_model.specs.ifmp_wire.declared.message.Message.TheVariants.{Adjacency}
+use Rattle.world_model.specs.ifmp_wire.Message.{octets_of}
+use Rattle.run_facts.proofs.controller_bindings.Lasts.{last_more, some_same}
+use Rattle.frame_readings.specs.controller_views.Lifted.{payload_by, IsProper}
 use Rattle.label_line.specs.Cells.{Role, Downstream, Upstream}
 use Rattle.label_line.specs.Law.{Always, SpareIsUnused}
 use Rattle.world_model.specs.declared.link.LinkEnd.{LinkEnd}
 use Rattle.world_model.specs.declared.event.Event.{Event}
-use Rattle.world_model.specs.Topology.{Topology, peer_of}
-use Rattle.world_model.specs.Conditions.{IsTopology}
-use Rattle.world_model.specs.World.{World, Site}
-use Rattle.world_model.specs.Places.{queue_at}
-use Rattle.world_model.specs.Ways.{linked_end, side_at, grants_at, ifmp_under, on_default_channel}
-use Rattle.world_model.specs.Past.{Past, past_of, last_bound}
-use Rattle.world_model.specs.Users.{Way, IsWay}
-use Rattle.world_model.specs.Owned.{WasCleared, WaitsAs, IsClearedAs, IsSpareOrWired, IsWired as IsWiredLabel, held}
-use Rattle.port_views.specs.Link.{LinkLabel}
-use Rattle.world_views.specs.Shown.{end_of}
-use Rattle.world_views.specs.Tied.{HasUsersOfLast, HasClearedInstances, HasClearedEnds, tells_its_own, is_rstack}
-use Rattle.world_views.specs.Made.{AreMade}
-use Rattle.world_views.specs.Between.{IsWorld, IsLinkLabel, HasAllMade, HasAllCleared, HasAllUsers}
-use Rattle.world_views.specs.Kept.{Comes, behind, Keeps}
-use Rattle.shown_cells.specs.Seen.{Extends}
-use Rattle.shown_cells.proofs.Frames.{same_is}
-use Rattle.causes.proofs.Shown.{IsPeer, peer_back}
+use Rattle.world_model.specs.Topology.{peer_of}
+use Rattle.frame_readings.specs.port_views.Link.{LinkLabel}
+use Rattle.frame_readings.specs.world_views.Shown.{end_of}
+use Rattle.frame_readings.specs.world_views.Tied.{HasUsersOfLast, HasClearedInstances, HasClearedEnds, tells_its_own, is_rstack}
+use Rattle.frame_readings.specs.world_views.Made.{AreMade}
+use Rattle.frame_readings.specs.world_views.Between.{IsWorld, IsLinkLabel, HasAllMade, HasAllCleared, HasAllUsers}
+use Rattle.frame_readings.specs.world_views.Kept.{Comes, behind, Keeps}
+use Rattle.frame_readings.specs.shown_cells.Seen.{Extends}
+use Rattle.frame_readings.proofs.shown_cells.Frames.{same_is}
+use Rattle.running_worlds.proofs.causes.Shown.{IsPeer, peer_back}
 use Rattle.frame_readings.specs.Reading.{FramesAreRead, MarksAreRead, HasTold}
 use Rattle.run_facts.specs.Nodes.{RunsHaveNodes}
 use Rattle.run_facts.specs.Steps.{EventsAreSteps, RunsHaveFronts, PastsAreWhole, PastsStay, FramesStay, Stays}

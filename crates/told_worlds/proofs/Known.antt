@@ -4,34 +4,19 @@ use Rattle.std.proofs.Common.{◌≡◌, ◌≢◌, ℕ, zero, suc, Bool, true, 
 use Rattle.std.specs.Prelude.{Contains, ◌&&◌, ◌==◌, slice_get}
 use Rattle.std.specs.Option.{option_map, option_map_or, option_and_then, option_or}
 use Rattle.std.proofs.lemmas.Bool.Decides.{nat_tests}
-use Rattle.net_types.specs.declared.node.Place.{Place}
-use Rattle.net_types.specs.declared.node.Place.TheVariants.{Down, Up, Out}
-use Rattle.net_types.specs.declared.number.Mark.{Mark}
-use Rattle.net_types.specs.Label.{label_channel_of}
-use Rattle.atm_cells.specs.declared.cell.Cell.{Cell}
-use Rattle.ipv4_packet.specs.declared.flow.FlowId.{FlowId}
-use Rattle.ifmp_wire.specs.declared.message.Message.{Message}
-use Rattle.link_model.specs.declared.frames.Frame.{Frame}
-use Rattle.link_model.specs.declared.record.Record.{Record}
-use Rattle.link_model.specs.declared.record.Record.TheVariants as kinds
-use Rattle.link_model.specs.declared.record.Record.TheVariants.{Bind}
-use Rattle.link_model.specs.Ledger.{payload_of}
-use Rattle.ordered_lists.specs.Ordered.{Every}
-use Rattle.world_model.specs.Controller.{Controller, Linked, linked_at, default_channel}
-use Rattle.world_model.specs.Cells.{same_channel}
+use Rattle.world_model.specs.Words.{Place, Down, Up, Out, Mark, label_channel_of, Cell, FlowId, Frame, Record, Bind, payload_of, Controller, Linked, linked_at, default_channel, same_channel, World, Site, site_at, queue_at, queue_in, place_node, linked_end, chain_at, ifmp_of, ifmp_under, Past, frames_of, last_bound, bound_by}
+use Rattle.world_model.specs.ifmp_wire.declared.message.Message.{Message}
+use Rattle.world_model.specs.link_model.declared.record.Record.TheVariants as kinds
+use Rattle.frame_readings.specs.ordered_lists.Ordered.{Every}
 use Rattle.label_line.specs.Cells as lines
 use Rattle.label_line.specs.Cells.{Role}
 use Rattle.world_model.specs.declared.link.LinkEnd.{LinkEnd}
-use Rattle.world_model.specs.World.{World, Site, site_at}
-use Rattle.world_model.specs.Places.{queue_at, queue_in, place_node}
-use Rattle.world_model.specs.Ways.{linked_end, chain_at, ifmp_of, ifmp_under}
-use Rattle.world_model.specs.Past.{Past, frames_of, last_bound, bound_by}
-use Rattle.port_views.specs.Link.{LinkLabel, other}
-use Rattle.shown_cells.specs.Seen.{Nothing, Unknown, hidden, word, Extends}
-use Rattle.shown_cells.specs.Label.{seen_payload, Where, OnLink, OnControl, ShowsCells, seen, on_label, channel_at}
-use Rattle.world_views.specs.Shown.{end_of, WorldShows}
-use Rattle.world_views.specs.Pairs.{IsLike}
-use Rattle.world_views.specs.Between.{IsWorld, IsLinkLabel}
+use Rattle.frame_readings.specs.port_views.Link.{LinkLabel, other}
+use Rattle.frame_readings.specs.shown_cells.Seen.{Nothing, Unknown, hidden, word, Extends}
+use Rattle.frame_readings.specs.shown_cells.Label.{seen_payload, Where, OnLink, OnControl, ShowsCells, seen, on_label, channel_at}
+use Rattle.frame_readings.specs.world_views.Shown.{end_of, WorldShows}
+use Rattle.frame_readings.specs.world_views.Pairs.{IsLike}
+use Rattle.frame_readings.specs.world_views.Between.{IsWorld, IsLinkLabel}
 use Rattle.unused_labels.proofs.Seen.{every_contained}
 use Rattle.told_worlds.proofs.Ways.{OnWay, in_chain, in_up, in_out, in_down}
 

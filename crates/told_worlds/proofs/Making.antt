@@ -3,58 +3,36 @@
 use Rattle.std.proofs.Common.{◌≡◌, ℕ, suc, List, [], ◌∷◌, ◌++◌, length, Option, None, Some, refl, sym, subst, arith}
 use Rattle.std.specs.Prelude.{Contains, ◌+◌, nat_le}
 use Rattle.std.specs.Option.{option_map_or}
-use Rattle.net_types.specs.declared.node.NodeId.{NodeId}
-use Rattle.net_types.specs.declared.node.PortNo.{PortNo}
-use Rattle.net_types.specs.declared.node.Place.{Place}
-use Rattle.net_types.specs.declared.node.Place.TheVariants.{Down, Up, Out}
-use Rattle.net_types.specs.Number.{next_control}
-use Rattle.atm_cells.specs.declared.cell.Cell.{Cell}
-use Rattle.gsmp_wire.specs.declared.message.Message.{Message}
-use Rattle.gsmp_wire.specs.Layout.{octets_of}
-use Rattle.crossbar_model.specs.declared.routed.Routed.{Routed}
-use Rattle.crossbar_model.specs.declared.routed.Routed.TheVariants as routes
-use Rattle.crossbar_model.specs.Crossbar.{routed}
-use Rattle.link_model.specs.declared.frames.Frame.{Frame}
-use Rattle.link_model.specs.declared.record.Record.TheVariants.{Loss}
-use Rattle.link_model.specs.declared.record.Cause.TheVariants.{PoolFull}
-use Rattle.link_model.specs.declared.record.Refusal.{Refusal}
-use Rattle.link_model.specs.Notes.{Journal, noted}
-use Rattle.frame_model.specs.Frame.{made, frame_cells}
-use Rattle.frame_model.specs.Sending.{Sent}
-use Rattle.ordered_lists.specs.Ordered.{Every}
-use Rattle.ordered_lists.proofs.Every.{every_map}
-use Rattle.port_facts.proofs.Keyed.{on_both, every_more}
-use Rattle.port_model.specs.Setup.{Policy}
+use Rattle.world_model.specs.Words.{NodeId, PortNo, Place, Down, Up, Out, next_control, Cell, Routed, routed, Frame, Loss, PoolFull, Refusal, Journal, noted, made, frame_cells, Policy, node_restarts, change_comes, injected, inject_refusal, Switch, control_port, gsmp_channel, Topology, Node, IsTopology, World, Site, site_at, with_site, controller_acts, switch_acts, empty_world, with_opened, opens_each, queue_at, queue_in, place_node, with_queue, with_queue_of, with_queue_in, arrives_at, carries_head, loses_head, injects_by, next, put_away, Past, past_of, IsTame}
+use Rattle.world_model.specs.gsmp_wire.declared.message.Message.{Message}
+use Rattle.world_model.specs.gsmp_wire.Layout.{octets_of}
+use Rattle.world_model.specs.crossbar_model.declared.routed.Routed.TheVariants as routes
+use Rattle.world_model.specs.frame_model.Sending.{Sent}
+use Rattle.frame_readings.specs.ordered_lists.Ordered.{Every}
+use Rattle.frame_readings.proofs.ordered_lists.Every.{every_map}
+use Rattle.frame_readings.proofs.port_facts.Keyed.{on_both, every_more}
 use Rattle.world_model.specs.Controller.{Acted}
 use Rattle.world_model.specs.Cells.{cell_comes}
 use Rattle.world_model.specs.Ticks.{ticks}
-use Rattle.world_model.specs.Resets.{node_restarts}
-use Rattle.world_model.specs.Changes.{change_comes}
-use Rattle.world_model.specs.Packets.{injected, inject_refusal}
-use Rattle.world_model.specs.Switch.{Switch, control_port, gsmp_channel, free_slots}
+use Rattle.world_model.specs.Switch.{free_slots}
 use Rattle.world_model.specs.Switch as switches
 use Rattle.world_model.specs.Conduct as switch
 use Rattle.world_model.specs.declared.link.LinkEnd.{LinkEnd}
 use Rattle.world_model.specs.declared.event.Event.{Event}
 use Rattle.world_model.specs.declared.event.Event.TheVariants.{Inject, Carry, Lose, Tick, TickSwitch, Restart, RestartSwitch, Forge, Route}
-use Rattle.world_model.specs.Topology.{Topology, Node, peer_of}
-use Rattle.world_model.specs.Conditions.{IsTopology}
-use Rattle.world_model.specs.World.{World, Site, site_at, with_site, at_controller, controller_acts, switch_acts, empty_world, with_opened, opens_each}
-use Rattle.world_model.specs.Places.{queue_at, queue_in, place_node, with_queue, with_queue_of, with_queue_in}
-use Rattle.world_model.specs.Step.{acts, arrives_at, carries_head, loses_head, injects_by}
-use Rattle.world_model.specs.Run.{next, put_away}
-use Rattle.world_model.specs.Past.{Past, past_of}
-use Rattle.world_model.specs.Headline.{IsTame}
-use Rattle.world_views.specs.Between.{IsWorld}
-use Rattle.world_views.specs.Kept.{Comes, behind}
-use Rattle.world_views.specs.Shown.{acting}
+use Rattle.world_model.specs.Topology.{peer_of}
+use Rattle.world_model.specs.World.{at_controller}
+use Rattle.world_model.specs.Step.{acts}
+use Rattle.frame_readings.specs.world_views.Between.{IsWorld}
+use Rattle.frame_readings.specs.world_views.Kept.{Comes, behind}
+use Rattle.frame_readings.specs.world_views.Shown.{acting}
 use Rattle.frame_readings.specs.Reading.{FramesAreRead}
-use Rattle.input_events.proofs.Sites.{put_at}
+use Rattle.running_worlds.proofs.input_events.Sites.{put_at}
 use Rattle.run_facts.proofs.Forged.{none_forged}
 use Rattle.run_facts.specs.Nodes.{RunsHaveNodes, IsNodeOfRun}
 use Rattle.run_facts.specs.Steps.{EventsAreSteps, RunsHaveFronts}
 use Rattle.running_worlds.specs.Running.{TameEventsAreTrue, ChainsAreTrue}
-use Rattle.way_words.proofs.Switching.{Kept, gsmp_kept, tick_kept, restarted_kept}
+use Rattle.packet_worlds.proofs.way_words.Switching.{Kept, gsmp_kept, tick_kept, restarted_kept}
 use Rattle.unused_labels.proofs.Seen.{every_contained}
 use Rattle.port_words.specs.Words.{IsMade, IsSteadily}
 use Rattle.told_worlds.specs.Before.{quiet_terms}

@@ -4,23 +4,14 @@ use Rattle.std.proofs.Common.{◌≡◌, ℕ, ◌<◌, ◌^◌, List, ◌∷◌,
 use Rattle.std.specs.Prelude.{drop, take, slice_index_or}
 use Rattle.std.proofs.lemmas.Nat.{from_be_bytes-to_be_bytes_4}
 use Rattle.std.specs.Int.{w16, w32, to_be_bytes, from_be_bytes}
-use Rattle.net_types.specs.declared.prefix.Addr.{Addr}
-use Rattle.net_types.specs.declared.channel.Channel.{Channel}
-use Rattle.net_types.specs.declared.number.Instance.{Instance}
-use Rattle.net_types.specs.declared.number.Mark.{Mark}
-use Rattle.net_types.specs.declared.adjacency.HelloKind.{HelloKind}
-use Rattle.net_types.specs.declared.adjacency.HelloKind.TheVariants.{Syn, Synack, Rstack, Ack}
-use Rattle.ipv4_packet.specs.declared.flow.FlowId.{FlowId}
-use Rattle.ipv4_packet.specs.Flow.{IsFlow, kind_of}
-use Rattle.ipv4_packet.specs.Identifier.{FitsFields, identifier}
-use Rattle.ifmp_wire.specs.declared.message.Message.{Message}
-use Rattle.ifmp_wire.specs.declared.message.Message.TheVariants.{Adjacency, Redirect, Reclaim, ReclaimAck, LabelRange, Error}
-use Rattle.ifmp_wire.specs.Message.{octets_of, names_of, op_code, hello_code, flow_type, flow_words, flow_octets, label_octets, with_checksum, with_names, FitsMessage, InRange}
-use Rattle.ifmp_wire.specs.Fields.{decoded}
-use Rattle.ipv4_packet.specs.Packet.{ifmp_packet_of}
-use Rattle.wire_laws.proofs.Packets.{message_is}
-use Rattle.controller_views.specs.Lifted.{payload_by}
-use Rattle.shown_cells.specs.Label.{Told}
+use Rattle.world_model.specs.Words.{Addr, Channel, Instance, Mark, HelloKind, Syn, Synack, Rstack, Ack, FlowId, IsFlow, kind_of, FitsFields, identifier, Redirect, Reclaim, ReclaimAck, LabelRange, Error, names_of, op_code, hello_code, flow_type, flow_words, flow_octets, label_octets, with_checksum, with_names, FitsMessage, InRange, ifmp_packet_of}
+use Rattle.world_model.specs.ifmp_wire.declared.message.Message.{Message}
+use Rattle.world_model.specs.ifmp_wire.declared.message.Message.TheVariants.{Adjacency}
+use Rattle.world_model.specs.ifmp_wire.Message.{octets_of}
+use Rattle.world_model.specs.ifmp_wire.Fields.{decoded}
+use Rattle.frame_readings.proofs.wire_laws.Packets.{message_is}
+use Rattle.frame_readings.specs.controller_views.Lifted.{payload_by}
+use Rattle.frame_readings.specs.shown_cells.Label.{Told}
 use Rattle.frame_readings.specs.Reading.{FramesAreRead, IsToldAs}
 
 pub same_octets : (address source : Addr) (said heard : Message) → payload_by address said ≡ payload_by source heard → octets_of said ≡ octets_of heard

@@ -3,32 +3,18 @@
 use Rattle.std.proofs.Common.{◌≡◌, ℕ, suc, ◌+◌, List, [], ◌∷◌, Option, None, Some, refl, sym, ◌∙◌, ap, subst, arith}
 use Rattle.std.specs.Prelude.{Contains}
 use Rattle.std.specs.Option.{option_map, option_map_or, option_and_then}
-use Rattle.net_types.specs.declared.number.Mark.{Mark}
-use Rattle.net_types.specs.declared.adjacency.Peer.{Peer}
-use Rattle.adjacency_table.specs.declared.State.TheVariants.{Clearing}
-use Rattle.adjacency_table.specs.Side.{Side, fresh}
-use Rattle.adjacency_table.specs.Ends.{router}
-use Rattle.ifmp_wire.specs.declared.message.Message.{Message}
-use Rattle.link_model.specs.declared.frames.Frame.{Frame}
-use Rattle.ordered_lists.specs.Ordered.{Every}
-use Rattle.port_facts.proofs.Keyed.{at_every, every_more}
-use Rattle.port_model.specs.Setup.{Policy, Setup}
-use Rattle.port_model.specs.Grants.{Grant}
+use Rattle.world_model.specs.Words.{Mark, Peer, Clearing, Side, fresh, router, Frame, Policy, Setup, Grant, Controller, Linked, port_key, linked_at, setup_of, opens_ports, Topology, Node, ranges_of, timers_of, World, Site, site_key, site_at, empty_world, opened_site, with_opened, opens_each, linked_end, side_at, grants_at, ifmp_under, past_of, label_channel_of, Redirect}
+use Rattle.world_model.specs.ifmp_wire.declared.message.Message.{Message}
+use Rattle.frame_readings.specs.ordered_lists.Ordered.{Every}
+use Rattle.frame_readings.proofs.port_facts.Keyed.{at_every, every_more}
 use Rattle.world_model.specs.declared.range.PortRange.{PortRange}
-use Rattle.world_model.specs.Controller.{Controller, Linked, port_key, linked_at}
-use Rattle.world_model.specs.Opening.{setup_of, opens_ports}
 use Rattle.world_model.specs.declared.link.LinkEnd.{LinkEnd}
-use Rattle.world_model.specs.Topology.{Topology, Node, ranges_of, timers_of}
-use Rattle.world_model.specs.World.{World, Site, site_key, site_at, empty_world, opened, opened_site, with_opened, opens_each}
-use Rattle.world_model.specs.Ways.{linked_end, side_at, grants_at, ifmp_under}
-use Rattle.world_model.specs.Past.{past_of}
-use Rattle.world_views.specs.Tied.{HasClearedInstances}
-use Rattle.world_views.specs.Between.{HasAllCleared, HasAllUsers}
-use Rattle.world_views.specs.Kept.{Begins}
-use Rattle.world_views.specs.Shown.{end_of}
+use Rattle.world_model.specs.World.{opened}
+use Rattle.frame_readings.specs.world_views.Tied.{HasClearedInstances}
+use Rattle.frame_readings.specs.world_views.Between.{HasAllCleared, HasAllUsers}
+use Rattle.frame_readings.specs.world_views.Kept.{Begins}
+use Rattle.frame_readings.specs.world_views.Shown.{end_of}
 use Rattle.label_line.specs.Cells.{Upstream}
-use Rattle.net_types.specs.Label.{label_channel_of}
-use Rattle.ifmp_wire.specs.declared.message.Message.TheVariants.{Redirect}
 
 -- *A port* in its opening state
 record IsNewPort (linked : Linked) : Type 0 where

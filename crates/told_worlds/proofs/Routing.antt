@@ -3,31 +3,20 @@
 use Rattle.std.proofs.Common.{◌≡◌, ℕ, Bool, true, false, List, [], ◌∷◌, Option, Some, refl, sym, ◌∙◌, ap, subst, inl, inr}
 use Rattle.std.specs.Prelude.{not}
 use Rattle.std.specs.List.{list_any}
-use Rattle.net_types.specs.declared.node.PortNo.{PortNo}
-use Rattle.net_types.specs.declared.channel.End.{End}
-use Rattle.ipv4_packet.specs.Parts.{flow_destination}
-use Rattle.ipv4_forward.specs.Best.{best}
-use Rattle.ipv4_forward.specs.Change.{changed}
-use Rattle.ipv4_forward.specs.declared.change.RouteChange.{RouteChange}
-use Rattle.ipv4_forward.specs.declared.table.Next.{Next}
-use Rattle.ipv4_forward.specs.declared.table.Next.TheVariants.{Via}
-use Rattle.ipv4_forward.specs.declared.table.Route.{Route}
-use Rattle.ordered_lists.specs.Ordered.{Every}
-use Rattle.port_model.specs.Grants.{Grant, input_of, grant_label}
-use Rattle.port_facts.proofs.Keyed.{on_each, at_every}
-use Rattle.port_facts.proofs.Rules.{and_second, and_first}
-use Rattle.world_model.specs.Controller.{Acted, Linked, port_key, Controller}
-use Rattle.world_model.specs.Joins.{Join, joins_of}
-use Rattle.world_model.specs.Routes.{same_next, differs}
-use Rattle.world_model.specs.Changes.{is_changed, begins_change, takes_change, may_take, takes_each, takes_changes}
-use Rattle.controller_facts.proofs.TakenBack.{Stays, begins_stay}
-use Rattle.controller_facts.proofs.Moves.{begun}
-use Rattle.controller_bindings.proofs.Flows.{same_via}
-use Rattle.controller_bindings.proofs.Joining.{by_grants}
-use Rattle.controller_law.proofs.Lists.{any_each}
-use Rattle.net_types.specs.declared.prefix.Addr.{Addr}
-use Rattle.keyed_lists.specs.Keyed.{at}
-use Rattle.actor_pace.proofs.Controllers.{begins_change_paces}
+use Rattle.world_model.specs.Words.{PortNo, End, flow_destination, best, changed, RouteChange, Next, Via, Grant, grant_label, Linked, port_key, Controller, joins_of, same_next, differs, is_changed, begins_change, takes_change, may_take, takes_each, takes_changes, Addr, at}
+use Rattle.world_model.specs.ipv4_forward.declared.table.Route.{Route}
+use Rattle.frame_readings.specs.ordered_lists.Ordered.{Every}
+use Rattle.world_model.specs.port_model.Grants.{input_of}
+use Rattle.frame_readings.proofs.port_facts.Keyed.{on_each, at_every}
+use Rattle.frame_readings.proofs.port_facts.Rules.{and_second, and_first}
+use Rattle.world_model.specs.Controller.{Acted}
+use Rattle.world_model.specs.Joins.{Join}
+use Rattle.frame_readings.proofs.controller_facts.TakenBack.{Stays, begins_stay}
+use Rattle.frame_readings.proofs.controller_facts.Moves.{begun}
+use Rattle.run_facts.proofs.controller_bindings.Flows.{same_via}
+use Rattle.run_facts.proofs.controller_bindings.Joining.{by_grants}
+use Rattle.run_facts.proofs.controller_law.Lists.{any_each}
+use Rattle.run_facts.proofs.actor_pace.Controllers.{begins_change_paces}
 
 -- *A grant that is lent*, of a destination
 pub record IsLent (ports : List Linked) (q m : ℕ) (destination : Addr) : Type 0 where

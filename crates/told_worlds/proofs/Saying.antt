@@ -5,36 +5,23 @@ use Rattle.std.specs.Prelude.{◌==◌, ◌||◌, nat_le, slice_index}
 use Rattle.std.specs.List.{list_any}
 use Rattle.std.specs.Option.{option_and_then}
 use Rattle.std.proofs.lemmas.Bool.Decides.{nat_tests}
-use Rattle.net_types.specs.declared.adjacency.Hello.{Hello}
-use Rattle.net_types.specs.declared.adjacency.HelloKind.{HelloKind}
-use Rattle.net_types.specs.declared.adjacency.HelloKind.TheVariants.{Syn, Synack, Rstack, Ack}
-use Rattle.net_types.specs.declared.prefix.Addr.{Addr}
-use Rattle.ipv4_packet.specs.Packet.{protocol_of, total_length_of, ifmp_packet_of, IsPacket}
-use Rattle.ipv4_packet.specs.declared.flow.FlowKind.{FlowKind}
-use Rattle.ipv4_packet.specs.declared.flow.FlowKind.TheVariants.{One as ConnectionKind, Two as HostsKind}
-use Rattle.ipv4_packet.proofs.HeaderLemmas.{on_header}
-use Rattle.ipv4_forward.specs.Hop.{onward}
-use Rattle.flow_encaps.specs.declared.default.EncapsFault.{EncapsFault}
-use Rattle.flow_encaps.specs.Default.{default_payload}
-use Rattle.flow_encaps.specs.Labelled.{labelled_payload}
-use Rattle.flow_encaps.specs.Unwrapped.{default_unwrapped}
-use Rattle.gsmp_wire.specs.declared.message.Message.{Message as GsmpMessage}
-use Rattle.gsmp_wire.specs.Layout.{octets_of as gsmp_octets}
-use Rattle.ifmp_wire.specs.declared.message.Message.{Message}
-use Rattle.ifmp_wire.specs.declared.message.Message.TheVariants.{Adjacency, Redirect, Reclaim, ReclaimAck, LabelRange, Error}
-use Rattle.ifmp_wire.specs.declared.reader.Fault.{Fault}
-use Rattle.ifmp_wire.specs.Message.{octets_of, hello_code}
-use Rattle.ifmp_wire.specs.Tests.{first_fault}
-use Rattle.ifmp_wire.specs.Fields.{hello_at, instance_at, redirection_at, message_at, decoded_by, decoded}
-use Rattle.octet_fields.specs.Fields.{u32_at}
-use Rattle.link_model.specs.declared.frames.Frame.{Frame}
-use Rattle.wire_laws.proofs.Packets.{message_is, unwrapped_again}
-use Rattle.world_model.specs.Packets.{control_protocol}
-use Rattle.world_model.specs.Ways.{told, ifmp_in, ifmp_of}
-use Rattle.world_model.specs.Headline.{is_disowning}
-use Rattle.ordered_lists.specs.Ordered.{Every}
-use Rattle.controller_views.specs.Lifted.{payload_by}
-use Rattle.world_views.specs.Made.{IsFit}
+use Rattle.world_model.specs.Words.{Hello, HelloKind, Syn, Synack, Rstack, Ack, Addr, protocol_of, total_length_of, ifmp_packet_of, IsPacket, FlowKind, onward, EncapsFault, default_payload, labelled_payload, default_unwrapped, Redirect, Reclaim, ReclaimAck, LabelRange, Error, hello_code, hello_at, instance_at, redirection_at, Frame, control_protocol, ifmp_in, ifmp_of, is_disowning}
+use Rattle.world_model.specs.ipv4_packet.declared.flow.FlowKind.TheVariants.{One as ConnectionKind, Two as HostsKind}
+use Rattle.world_model.proofs.ipv4_packet.HeaderLemmas.{on_header}
+use Rattle.world_model.specs.gsmp_wire.declared.message.Message.{Message as GsmpMessage}
+use Rattle.world_model.specs.gsmp_wire.Layout.{octets_of as gsmp_octets}
+use Rattle.world_model.specs.ifmp_wire.declared.message.Message.{Message}
+use Rattle.world_model.specs.ifmp_wire.declared.message.Message.TheVariants.{Adjacency}
+use Rattle.world_model.specs.ifmp_wire.declared.reader.Fault.{Fault}
+use Rattle.world_model.specs.ifmp_wire.Message.{octets_of}
+use Rattle.world_model.specs.ifmp_wire.Tests.{first_fault}
+use Rattle.world_model.specs.ifmp_wire.Fields.{message_at, decoded_by, decoded}
+use Rattle.frame_readings.specs.octet_fields.Fields.{u32_at}
+use Rattle.frame_readings.proofs.wire_laws.Packets.{message_is, unwrapped_again}
+use Rattle.world_model.specs.Ways.{told}
+use Rattle.frame_readings.specs.ordered_lists.Ordered.{Every}
+use Rattle.frame_readings.specs.controller_views.Lifted.{payload_by}
+use Rattle.frame_readings.specs.world_views.Made.{IsFit}
 use Rattle.frame_readings.proofs.Apart.{default_is, not_default, snaps_apart, gsmp_taken}
 use Rattle.frame_readings.proofs.Packets.{is_forwarded}
 use Rattle.running_worlds.proofs.Making.{fit_packet, fit_onward}

@@ -3,52 +3,28 @@
 use Rattle.std.proofs.Common.{◌≡◌, ◌≢◌, ℕ, zero, suc, Bool, true, false, List, [], ◌∷◌, Option, None, Some, refl, sym, ◌∙◌, ap, subst, arith, inl}
 use Rattle.std.specs.Prelude.{Contains, is_some, ◌&&◌}
 use Rattle.std.specs.Option.{option_map, option_map_or, option_and_then}
-use Rattle.net_types.specs.declared.node.NodeId.{NodeId}
-use Rattle.net_types.specs.declared.node.PortNo.{PortNo}
-use Rattle.net_types.specs.declared.node.Place.TheVariants.{Down}
-use Rattle.net_types.specs.Label.{is_label_number}
-use Rattle.adjacency_table.specs.declared.State.{State}
-use Rattle.adjacency_table.specs.declared.State.TheVariants.{Clearing}
-use Rattle.adjacency_table.specs.Side.{is_estab}
-use Rattle.ipv4_packet.specs.declared.flow.FlowId.{FlowId}
-use Rattle.link_model.specs.declared.frames.Frame.{Frame}
-use Rattle.ordered_lists.specs.Ordered.{Every, InOrder}
-use Rattle.ordered_lists.proofs.Every.{every_all, every_map, every_mapped, every_unmapped}
-use Rattle.keyed_lists.specs.Keyed.{at}
-use Rattle.port_model.specs.Setup.{Setup}
-use Rattle.port_model.specs.Labels.{Label, LabelState, Wiring, Offered, Recalled, Wired, label_number}
-use Rattle.port_model.specs.Grants.{Grant}
-use Rattle.port_model.specs.Port.{Session, labels_of}
-use Rattle.port_facts.specs.Port.{IsPort, IsLabel, IsBefore, IsGrant, HasFlows}
-use Rattle.ipv4_packet.specs.Flow.{IsFlow}
-use Rattle.port_facts.proofs.Keyed.{at_every, each_found}
-use Rattle.port_facts.proofs.Rules.{and_first}
-use Rattle.port_widths.specs.Widths.{FitsLabel}
-use Rattle.world_model.specs.Controller.{Controller, Acted, Linked, linked_at, port_key}
-use Rattle.world_model.specs.Opening.{setup_of}
-use Rattle.controller_facts.proofs.Moves.{Found}
-use Rattle.controller_facts.proofs.Joining.{each_there}
-use Rattle.controller_bindings.specs.Bindings.{IsBoundLast}
-use Rattle.controller_bindings.proofs.Lasts.{some_same}
-use Rattle.controller_views.specs.Ready.{IsReadyPort}
+use Rattle.world_model.specs.Words.{NodeId, PortNo, Down, is_label_number, State, Clearing, is_estab, FlowId, Frame, at, Setup, Label, LabelState, Wiring, Offered, Recalled, Wired, label_number, Grant, Session, labels_of, IsFlow, Controller, Linked, linked_at, port_key, setup_of, Topology, timers_of, IsTopology, World, Site, site_at, queue_in, put_away, linked_end, side_at, Past, past_of, last_bound, Way, IsWay, WasCleared, held, Policy}
+use Rattle.frame_readings.specs.ordered_lists.Ordered.{Every, InOrder}
+use Rattle.frame_readings.proofs.ordered_lists.Every.{every_all, every_map, every_mapped, every_unmapped}
+use Rattle.frame_readings.specs.port_facts.Port.{IsPort, IsLabel, IsBefore, IsGrant, HasFlows}
+use Rattle.frame_readings.proofs.port_facts.Keyed.{at_every, each_found}
+use Rattle.frame_readings.proofs.port_facts.Rules.{and_first}
+use Rattle.frame_readings.specs.port_widths.Widths.{FitsLabel}
+use Rattle.world_model.specs.Controller.{Acted}
+use Rattle.frame_readings.proofs.controller_facts.Moves.{Found}
+use Rattle.frame_readings.proofs.controller_facts.Joining.{each_there}
+use Rattle.run_facts.specs.controller_bindings.Bindings.{IsBoundLast}
+use Rattle.run_facts.proofs.controller_bindings.Lasts.{some_same}
+use Rattle.frame_readings.specs.controller_views.Ready.{IsReadyPort}
 use Rattle.world_model.specs.declared.link.LinkEnd.{LinkEnd}
 use Rattle.world_model.specs.declared.event.Event.{Event}
-use Rattle.world_model.specs.Topology.{Topology, peer_of, timers_of}
-use Rattle.world_model.specs.Conditions.{IsTopology}
-use Rattle.world_model.specs.World.{World, Site, site_at}
-use Rattle.world_model.specs.Places.{queue_in}
-use Rattle.world_model.specs.Run.{put_away}
-use Rattle.world_model.specs.Ways.{linked_end, side_at}
-use Rattle.world_model.specs.Past.{Past, past_of, last_bound}
-use Rattle.world_model.specs.Users.{Way, IsWay}
-use Rattle.world_model.specs.Owned.{WasCleared, held}
-use Rattle.port_model.specs.Setup.{Policy}
-use Rattle.world_views.specs.Ready.{setups_of}
-use Rattle.world_views.specs.Shown.{acting}
-use Rattle.world_views.specs.Tied.{HasClearedEnds}
-use Rattle.world_views.specs.Between.{IsWorld}
+use Rattle.world_model.specs.Topology.{peer_of}
+use Rattle.frame_readings.specs.world_views.Ready.{setups_of}
+use Rattle.frame_readings.specs.world_views.Shown.{acting}
+use Rattle.frame_readings.specs.world_views.Tied.{HasClearedEnds}
+use Rattle.frame_readings.specs.world_views.Between.{IsWorld}
 use Rattle.run_facts.specs.Nodes.{IsNodeOfRun}
-use Rattle.causes.proofs.Shown.{IsPeer, peer_back}
+use Rattle.running_worlds.proofs.causes.Shown.{IsPeer, peer_back}
 use Rattle.unused_labels.proofs.Seen.{every_contained}
 use Rattle.unused_labels.proofs.Links.{link_of, link_is}
 use Rattle.port_words.specs.Words.{Terms, Stands, StandsAs, IsGranted, IsSteadyAt, IsMade, was_made, IsSent, IsSteadily, waited}

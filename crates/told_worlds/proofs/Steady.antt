@@ -2,20 +2,12 @@
 
 use Rattle.std.proofs.Common.{◌≡◌, ℕ, Option, None, Some, refl, ap, subst}
 use Rattle.std.specs.Option.{option_and_then}
-use Rattle.net_types.specs.declared.node.PortNo.{PortNo}
-use Rattle.net_types.specs.declared.channel.End.{End}
-use Rattle.ipv4_packet.specs.declared.flow.FlowId.{FlowId}
-use Rattle.ipv4_packet.specs.Parts.{flow_destination}
-use Rattle.gsmp_wire.specs.declared.request.Request.{Request}
-use Rattle.keyed_lists.specs.Keyed.{at}
-use Rattle.port_model.specs.Grants as grants
-use Rattle.port_model.specs.Grants.{Grant, grant_label}
-use Rattle.port_facts.proofs.Keyed.{at_every, at_key}
-use Rattle.world_model.specs.Controller.{Acted, Linked, port_key, linked_at, ports_of}
-use Rattle.world_model.specs.Joins.{releases}
-use Rattle.world_model.specs.Meeting.{causes, clears}
-use Rattle.controller_law.specs.Match.{lent_in, lent_at}
-use Rattle.controller_law.proofs.Ordering.{same_number}
+use Rattle.world_model.specs.Words.{PortNo, End, FlowId, flow_destination, Request, at, Grant, grant_label, Linked, port_key, linked_at, releases, causes, clears}
+use Rattle.world_model.specs.port_model.Grants as grants
+use Rattle.frame_readings.proofs.port_facts.Keyed.{at_every, at_key}
+use Rattle.world_model.specs.Controller.{Acted, ports_of}
+use Rattle.run_facts.specs.controller_law.Match.{lent_in, lent_at}
+use Rattle.run_facts.proofs.controller_law.Ordering.{same_number}
 use Rattle.port_words.specs.Words.{Terms, IsGranted, IsSteady, IsSteadily}
 use Rattle.port_words.proofs.Sending.{found_h}
 use Rattle.port_words.proofs.Joining.{releases_h, clears_h}

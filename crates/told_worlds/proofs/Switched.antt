@@ -3,34 +3,19 @@
 use Rattle.std.proofs.Common.{◌≡◌, ℕ, ◌≤◌, true, List, [], Option, None, Some, refl, sym, ◌∙◌, ap, subst, arith, inl, inr}
 use Rattle.std.specs.Prelude.{Contains, ◌⊎◌, is_some}
 use Rattle.std.specs.Option.{option_map, option_map_or, option_and_then}
-use Rattle.net_types.specs.declared.node.NodeId.{NodeId}
-use Rattle.net_types.specs.declared.node.PortNo.{PortNo}
-use Rattle.net_types.specs.declared.node.Place.TheVariants.{Down, Up, Out}
-use Rattle.net_types.specs.declared.channel.Channel.{Channel}
-use Rattle.net_types.specs.declared.channel.End.{End}
-use Rattle.atm_cells.specs.declared.cell.Cell.{Cell}
-use Rattle.crossbar_model.specs.Channels.{IsLinkPort}
-use Rattle.crossbar_model.specs.Crossbar.{queue_of, output_of, input_of}
-use Rattle.ordered_lists.specs.Ordered.{Every}
-use Rattle.world_model.specs.Switch.{control_port, gsmp_channel}
+use Rattle.world_model.specs.Words.{NodeId, PortNo, Down, Up, Out, Channel, End, Cell, IsLinkPort, queue_of, control_port, gsmp_channel, at, Setup, Controller, Linked, linked_at, default_channel, default_home, same_channel, World, Site, site_at, with_site, queue_at, queue_in, linked_end, Past}
+use Rattle.world_model.specs.crossbar_model.Crossbar.{output_of, input_of}
+use Rattle.frame_readings.specs.ordered_lists.Ordered.{Every}
 use Rattle.world_model.specs.Switch as switches
-use Rattle.keyed_lists.specs.Keyed.{at}
-use Rattle.port_facts.proofs.Keyed.{at_key, at_every}
-use Rattle.port_facts.specs.Port.{setup_port}
-use Rattle.port_model.specs.Setup.{Setup}
-use Rattle.world_model.specs.Controller.{Controller, Linked, linked_at, default_channel, default_home}
-use Rattle.world_model.specs.Cells.{same_channel}
-use Rattle.shown_cells.proofs.Frames.{same_is}
+use Rattle.frame_readings.proofs.port_facts.Keyed.{at_key, at_every}
+use Rattle.frame_readings.specs.port_facts.Port.{setup_port}
+use Rattle.frame_readings.proofs.shown_cells.Frames.{same_is}
 use Rattle.world_model.specs.declared.link.LinkEnd.{LinkEnd}
 use Rattle.world_model.specs.Topology.{peer_of}
-use Rattle.world_model.specs.World.{World, Site, site_at, with_site}
-use Rattle.world_model.specs.Places.{queue_at, queue_in}
-use Rattle.world_model.specs.Ways.{linked_end}
-use Rattle.world_model.specs.Past.{Past}
-use Rattle.world_views.specs.Between.{IsPortEnd, default, label, IsShapedBranch}
-use Rattle.causes.proofs.Shown.{IsPeer}
-use Rattle.way_words.proofs.Switching.{IsPassed, of_gsmp, crossed}
-use Rattle.way_words.proofs.Switching as switching
+use Rattle.frame_readings.specs.world_views.Between.{IsPortEnd, default, label, IsShapedBranch}
+use Rattle.running_worlds.proofs.causes.Shown.{IsPeer}
+use Rattle.packet_worlds.proofs.way_words.Switching.{IsPassed, of_gsmp, crossed}
+use Rattle.packet_worlds.proofs.way_words.Switching as switching
 use Rattle.told_worlds.proofs.Ways.{OnWay, in_chain, in_up, in_out, in_down, Less, queue_then, linked_then}
 use Rattle.told_worlds.proofs.Behind.{still, CellSo, was, IsBehind, led_home, led_out}
 

@@ -2,35 +2,22 @@
 
 use Rattle.std.proofs.Common.{◌≡◌, ℕ, true, List, [], ◌∷◌, Option, None, Some, Result, Ok, Err, refl, ◌∙◌, ap, arith}
 use Rattle.std.specs.Prelude.{nat_lt, ◌+◌, map}
-use Rattle.net_types.specs.declared.node.PortNo.{PortNo}
-use Rattle.net_types.specs.declared.number.Mark.{Mark}
-use Rattle.net_types.specs.declared.prefix.Addr.{Addr}
-use Rattle.adjacency_table.specs.Greeting.{gsmp_received}
-use Rattle.atm_cells.specs.declared.cell.Cell.{Cell}
-use Rattle.flow_encaps.specs.Unwrapped.{default_unwrapped, unwrapped}
-use Rattle.ipv4_forward.specs.Best.{best}
-use Rattle.ipv4_forward.specs.declared.table.Next.TheVariants.{Via}
-use Rattle.ipv4_forward.specs.declared.table.Route.{Route}
-use Rattle.gsmp_wire.specs.declared.fault.Fault.{Fault as GsmpFault}
-use Rattle.gsmp_wire.specs.declared.message.Message.{Message}
-use Rattle.gsmp_wire.specs.declared.message.Message.TheVariants as messages
-use Rattle.gsmp_wire.specs.declared.request.Request.TheVariants.{DeleteAll}
-use Rattle.gsmp_wire.specs.Fields.{decoded as gsmp_decoded}
-use Rattle.frame_model.specs.Frame.{tested_by, payload_in, octets_of, last_mark}
-use Rattle.frame_model.specs.Reassembly.{Taken, taken}
-use Rattle.port_model.specs.Desk.{Standing}
-use Rattle.port_model.specs.DeskAnswers.{Answered, Unknown, Done, Ports, Failed, answered, after_answer}
-use Rattle.world_model.specs.Controller.{Acted, free_slots, ports_of, with_desk}
-use Rattle.world_model.specs.Asking.{asks}
-use Rattle.world_model.specs.Resets.{node_resets}
-use Rattle.world_model.specs.Joins.{releases}
-use Rattle.world_model.specs.Meeting.{up_ports, clears, clears_port, causes, done, takes_answer, answer_comes}
-use Rattle.world_model.specs.Gsmp.{steps, told, gsmp_holds}
-use Rattle.world_model.specs.Cells.{Taker, ForGsmp, ForDefault, ForLabel, taker_of, takes_cell, reassembly_of, with_reassembly, label_holds, default_holds, frame_holds, opened_frame, ends_frame, cell_comes}
-use Rattle.actor_pace.proofs.Paces.{Paces, paces_then, paces_fold, asks_paces, node_resets_paces}
-use Rattle.actor_pace.proofs.Controllers.{releases_paces, causes_paces, clears_of_paces, steps_paces, label_holds_paces, default_paces, with_reassembly_paces, noted_paces}
+use Rattle.world_model.specs.Words.{PortNo, Mark, Addr, gsmp_received, Cell, default_unwrapped, unwrapped, best, Via, tested_by, payload_in, last_mark, Standing, Answered, Unknown, Done, Ports, Failed, answered, after_answer, with_desk, asks, node_resets, releases, up_ports, clears, clears_port, causes, takes_answer, answer_comes, gsmp_holds, ForGsmp, ForDefault, ForLabel, taker_of, takes_cell, reassembly_of, with_reassembly, label_holds, default_holds, frame_holds, linked_at}
+use Rattle.world_model.specs.ipv4_forward.declared.table.Route.{Route}
+use Rattle.world_model.specs.gsmp_wire.declared.fault.Fault.{Fault as GsmpFault}
+use Rattle.world_model.specs.gsmp_wire.declared.message.Message.{Message}
+use Rattle.world_model.specs.gsmp_wire.declared.message.Message.TheVariants as messages
+use Rattle.world_model.specs.gsmp_wire.declared.request.Request.TheVariants.{DeleteAll}
+use Rattle.world_model.specs.gsmp_wire.Fields.{decoded as gsmp_decoded}
+use Rattle.world_model.specs.frame_model.Frame.{octets_of}
+use Rattle.world_model.specs.frame_model.Reassembly.{Taken, taken}
+use Rattle.world_model.specs.Controller.{Acted, free_slots, ports_of}
+use Rattle.world_model.specs.Meeting.{done}
+use Rattle.world_model.specs.Gsmp.{steps, told}
+use Rattle.world_model.specs.Cells.{Taker, opened_frame, ends_frame, cell_comes}
+use Rattle.run_facts.proofs.actor_pace.Paces.{Paces, paces_then, paces_fold, asks_paces, node_resets_paces}
+use Rattle.run_facts.proofs.actor_pace.Controllers.{releases_paces, causes_paces, clears_of_paces, steps_paces, label_holds_paces, default_paces, with_reassembly_paces, noted_paces}
 use Rattle.told_worlds.proofs.Routing.{IsLent, changes_keep}
-use Rattle.world_model.specs.Controller.{linked_at}
 
 module _ (q m : ℕ) (d : Addr) (port : PortNo) where
   abbrev pub Routed : Acted → Type 0

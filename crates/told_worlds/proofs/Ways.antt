@@ -4,24 +4,12 @@ use Rattle.std.proofs.Common.{◌≡◌, ℕ, suc, true, List, [], ◌∷◌, �
 use Rattle.std.specs.Prelude.{Contains, slice_index_or}
 use Rattle.std.specs.Option.{option_map, option_map_or, option_and_then}
 use Rattle.std.proofs.lemmas.List.Elements.{Contains-append_cases, Contains-append_left, Contains-append_right}
-use Rattle.net_types.specs.declared.node.NodeId.{NodeId}
-use Rattle.net_types.specs.declared.node.PortNo.{PortNo}
-use Rattle.net_types.specs.declared.node.Place.{Place}
-use Rattle.net_types.specs.declared.node.Place.TheVariants.{Down, Up, Out}
-use Rattle.atm_cells.specs.declared.cell.Cell.{Cell}
-use Rattle.crossbar_model.specs.Crossbar.{queue_of}
-use Rattle.world_model.specs.Switch.{control_port}
-use Rattle.port_facts.proofs.Keyed.{by_eq}
-use Rattle.world_model.specs.Controller.{Controller, Linked, linked_at, default_channel, default_home}
-use Rattle.world_model.specs.Cells.{same_channel}
+use Rattle.world_model.specs.Words.{NodeId, PortNo, Place, Down, Up, Out, Cell, queue_of, control_port, Controller, Linked, linked_at, default_channel, default_home, same_channel, World, Site, site_at, with_site, queue_at, queue_in, place_node, with_queue_in, put_away, linked_end, chain_at, on_channel, on_default_channel}
+use Rattle.frame_readings.proofs.port_facts.Keyed.{by_eq}
 use Rattle.world_model.specs.declared.link.LinkEnd.{LinkEnd}
-use Rattle.world_model.specs.World.{World, Site, site_at, with_site}
-use Rattle.world_model.specs.Places.{queue_at, queue_in, place_node, with_queue_in}
-use Rattle.world_model.specs.Run.{put_away}
-use Rattle.world_model.specs.Ways.{linked_end, chain_at, on_channel, on_default_channel}
-use Rattle.input_events.proofs.Sites.{put_at}
+use Rattle.running_worlds.proofs.input_events.Sites.{put_at}
 use Rattle.unused_labels.proofs.Reading.{filtered, filtered_back}
-use Rattle.way_words.proofs.Switching.{in_set}
+use Rattle.packet_worlds.proofs.way_words.Switching.{in_set}
 
 -- *On a default channel*
 pub data OnWay (w : World) (from to : LinkEnd) (c : Cell) : Type 0 where

@@ -3,59 +3,35 @@
 use Rattle.std.proofs.Common.{◌≡◌, ℕ, Bool, true, false, List, [], ◌∷◌, Option, None, Some, refl, sym, subst, arith, inl}
 use Rattle.std.specs.Prelude.{Contains, ◌+◌, ◌&&◌}
 use Rattle.std.specs.Option.{option_map, option_map_or, option_and_then}
-use Rattle.net_types.specs.declared.node.NodeId.{NodeId}
-use Rattle.net_types.specs.declared.node.PortNo.{PortNo}
-use Rattle.net_types.specs.declared.node.Place.{Place}
-use Rattle.net_types.specs.declared.node.Place.TheVariants.{Down, Up, Out}
-use Rattle.net_types.specs.Label.{is_label_number}
-use Rattle.atm_cells.specs.declared.cell.Cell.{Cell}
-use Rattle.ipv4_packet.specs.declared.flow.FlowId.{FlowId}
-use Rattle.link_model.specs.declared.record.Record.{Record}
-use Rattle.link_model.specs.declared.record.Record.TheVariants.{Bind, Loss}
-use Rattle.link_model.specs.declared.record.Cause.TheVariants.{Lost}
-use Rattle.link_model.specs.declared.record.Refusal.{Refusal}
-use Rattle.ordered_lists.specs.Ordered.{Every}
-use Rattle.ordered_lists.proofs.Every.{every_map}
-use Rattle.port_facts.proofs.Keyed.{every_more, at_every, at_key}
-use Rattle.port_facts.specs.Port.{IsPort, IsLabel}
-use Rattle.port_model.specs.Setup.{Policy}
-use Rattle.port_model.specs.Labels.{label_number}
-use Rattle.port_model.specs.Port.{Session}
-use Rattle.world_model.specs.Controller.{Controller, Acted, Linked, linked_at}
+use Rattle.world_model.specs.Words.{NodeId, PortNo, Place, Down, Up, Out, is_label_number, Cell, FlowId, Record, Bind, Loss, Lost, Refusal, Policy, label_number, Session, Controller, Linked, linked_at, node_restarts, change_comes, injected, inject_refusal, control_port, Topology, IsTopology, IsEvent, World, Site, site_at, with_site, controller_acts, switch_acts, queue_at, queue_in, place_node, with_queue, with_queue_of, with_queue_in, arrives_at, carries_head, loses_head, injects_by, next, put_away, past_of, IsSpareOrWired, IsWired as IsWiredLabel, Way, IsWay, IsUnused, IsTame}
+use Rattle.frame_readings.specs.ordered_lists.Ordered.{Every}
+use Rattle.frame_readings.proofs.ordered_lists.Every.{every_map}
+use Rattle.frame_readings.proofs.port_facts.Keyed.{every_more, at_every, at_key}
+use Rattle.frame_readings.specs.port_facts.Port.{IsPort, IsLabel}
+use Rattle.world_model.specs.Controller.{Acted}
 use Rattle.world_model.specs.Cells.{cell_comes}
 use Rattle.world_model.specs.Ticks.{ticks}
-use Rattle.world_model.specs.Resets.{node_restarts}
-use Rattle.world_model.specs.Changes.{change_comes}
-use Rattle.world_model.specs.Packets.{injected, inject_refusal}
-use Rattle.controller_facts.proofs.Moves.{found_port}
-use Rattle.world_model.specs.Switch.{control_port}
+use Rattle.frame_readings.proofs.controller_facts.Moves.{found_port}
 use Rattle.world_model.specs.Switch as switches
 use Rattle.world_model.specs.Conduct as switch
 use Rattle.world_model.specs.declared.link.LinkEnd.{LinkEnd}
 use Rattle.world_model.specs.declared.event.Event.{Event}
 use Rattle.world_model.specs.declared.event.Event.TheVariants.{Inject, Carry, Lose, Tick, TickSwitch, Restart, RestartSwitch, Forge, Route}
-use Rattle.world_model.specs.Topology.{Topology, peer_of}
-use Rattle.world_model.specs.Conditions.{IsTopology, IsEvent}
-use Rattle.world_model.specs.World.{World, Site, site_at, with_site, at_controller, controller_acts, switch_acts}
-use Rattle.world_model.specs.Places.{queue_at, queue_in, place_node, with_queue, with_queue_of, with_queue_in}
-use Rattle.world_model.specs.Step.{acts, arrives_at, carries_head, loses_head, injects_by}
-use Rattle.world_model.specs.Run.{next, put_away}
-use Rattle.world_model.specs.Past.{past_of}
-use Rattle.world_model.specs.Owned.{IsSpareOrWired, IsWired as IsWiredLabel}
-use Rattle.world_model.specs.Users.{Way, IsWay, IsUnused}
-use Rattle.world_model.specs.Headline.{IsTame}
-use Rattle.world_views.specs.Made.{IsFit}
-use Rattle.world_views.specs.Between.{IsWorld}
-use Rattle.world_views.specs.Kept.{Comes, behind}
-use Rattle.world_views.specs.Ready.{setups_of}
-use Rattle.world_views.specs.Shown.{acting}
+use Rattle.world_model.specs.Topology.{peer_of}
+use Rattle.world_model.specs.World.{at_controller}
+use Rattle.world_model.specs.Step.{acts}
+use Rattle.frame_readings.specs.world_views.Made.{IsFit}
+use Rattle.frame_readings.specs.world_views.Between.{IsWorld}
+use Rattle.frame_readings.specs.world_views.Kept.{Comes, behind}
+use Rattle.frame_readings.specs.world_views.Ready.{setups_of}
+use Rattle.frame_readings.specs.world_views.Shown.{acting}
 use Rattle.frame_readings.specs.Reading.{FramesAreRead}
-use Rattle.input_events.proofs.Sites.{put_at}
+use Rattle.running_worlds.proofs.input_events.Sites.{put_at}
 use Rattle.run_facts.proofs.Forged.{none_forged}
 use Rattle.run_facts.specs.Nodes.{RunsHaveNodes, IsNodeOfRun}
 use Rattle.run_facts.specs.Steps.{EventsAreSteps, RunsHaveFronts}
 use Rattle.running_worlds.specs.Running.{TameEventsAreTrue}
-use Rattle.way_words.proofs.Switching.{BindsNone, Waits, waits_kept, comes, tick_kept, restarted_kept}
+use Rattle.packet_worlds.proofs.way_words.Switching.{BindsNone, Waits, waits_kept, comes, tick_kept, restarted_kept}
 use Rattle.port_words.specs.Words.{IsNoted, IsSteadily}
 use Rattle.unused_labels.specs.Unused.{HasOwnChannels, SpareLabelsAreUnused}
 use Rattle.unused_labels.proofs.Seen.{every_contained}

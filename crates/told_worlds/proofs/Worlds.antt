@@ -4,42 +4,25 @@
 use Rattle.std.proofs.Common.{◌≡◌, ◌≢◌, ℕ, List, [], ◌∷◌, Option, None, Some, refl, sym, ◌∙◌, ap, subst, arith}
 use Rattle.std.specs.Prelude.{◌+◌}
 use Rattle.std.specs.Option.{option_map_or}
-use Rattle.net_types.specs.declared.node.NodeId.{NodeId}
-use Rattle.net_types.specs.declared.node.PortNo.{PortNo}
-use Rattle.net_types.specs.declared.node.Place.{Place}
-use Rattle.net_types.specs.declared.node.Place.TheVariants.{Down, Up, Out}
-use Rattle.net_types.specs.declared.prefix.Addr.{Addr}
-use Rattle.atm_cells.specs.declared.cell.Cell.{Cell}
-use Rattle.ipv4_forward.specs.Best.{best}
-use Rattle.ipv4_forward.specs.declared.change.RouteChange.{RouteChange}
-use Rattle.ipv4_forward.specs.declared.table.Next.TheVariants.{Via}
-use Rattle.ipv4_forward.specs.declared.table.Route.{Route as TableRoute}
-use Rattle.link_model.specs.declared.record.Refusal.{Refusal}
-use Rattle.port_facts.proofs.Keyed.{by_eq}
+use Rattle.world_model.specs.Words.{NodeId, PortNo, Place, Down, Up, Out, Addr, Cell, best, RouteChange, Via, Refusal, node_restarts, change_comes, injected, inject_refusal, control_port, Topology, World, Site, site_at, with_site, controller_acts, switch_acts, queue_at, queue_in, place_node, with_queue, with_queue_of, with_queue_in, arrives_at, carries_head, loses_head, injects_by, next, put_away, table_in, IsTame}
+use Rattle.world_model.specs.ipv4_forward.declared.table.Route.{Route as TableRoute}
+use Rattle.frame_readings.proofs.port_facts.Keyed.{by_eq}
 use Rattle.world_model.specs.Controller.{Acted}
 use Rattle.world_model.specs.Cells.{cell_comes}
 use Rattle.world_model.specs.Ticks.{ticks}
-use Rattle.world_model.specs.Resets.{node_restarts}
-use Rattle.world_model.specs.Changes.{change_comes}
-use Rattle.world_model.specs.Packets.{injected, inject_refusal}
-use Rattle.world_model.specs.Switch.{control_port}
 use Rattle.world_model.specs.Switch as switches
 use Rattle.world_model.specs.Conduct as switch
 use Rattle.world_model.specs.declared.link.LinkEnd.{LinkEnd}
 use Rattle.world_model.specs.declared.event.Event.{Event}
 use Rattle.world_model.specs.declared.event.Event.TheVariants.{Inject, Carry, Lose, Tick, TickSwitch, Restart, RestartSwitch, Forge, Route}
-use Rattle.world_model.specs.Topology.{Topology, peer_of}
-use Rattle.world_model.specs.World.{World, Site, site_at, with_site, at_controller, controller_acts, switch_acts}
-use Rattle.world_model.specs.Places.{queue_at, queue_in, place_node, with_queue, with_queue_of, with_queue_in}
-use Rattle.world_model.specs.Step.{acts, arrives_at, carries_head, loses_head, injects_by}
-use Rattle.world_model.specs.Run.{next, put_away}
-use Rattle.world_model.specs.Reached.{table_in}
-use Rattle.world_model.specs.Headline.{IsTame}
-use Rattle.world_views.specs.Shown.{acting}
-use Rattle.input_events.proofs.Sites.{put_at}
+use Rattle.world_model.specs.Topology.{peer_of}
+use Rattle.world_model.specs.World.{at_controller}
+use Rattle.world_model.specs.Step.{acts}
+use Rattle.frame_readings.specs.world_views.Shown.{acting}
+use Rattle.running_worlds.proofs.input_events.Sites.{put_at}
 use Rattle.run_facts.proofs.Forged.{none_forged}
-use Rattle.actor_pace.proofs.Paces.{Paces}
-use Rattle.actor_pace.proofs.Controllers.{cell_follows, injected_paces, ticks_paces, restarts_paces, change_changes}
+use Rattle.run_facts.proofs.actor_pace.Paces.{Paces}
+use Rattle.run_facts.proofs.actor_pace.Controllers.{cell_follows, injected_paces, ticks_paces, restarts_paces, change_changes}
 
 node_is : (m n : NodeId) → m.0 ≡ n.0 → m ≡ n
 node_is m n e = ap (λ (k : ℕ). record { 0 = k }) e

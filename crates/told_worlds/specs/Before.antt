@@ -1,24 +1,9 @@
 -- What was so before an event of a run, by the ports of a node: the words of port_words for it
 
 use Rattle.std.specs.Prelude.{◌≡◌, ℕ, true, ◌<◌, ◌^◌, ◌⊎◌, Contains, Some}
-use Rattle.net_types.specs.declared.node.NodeId.{NodeId}
-use Rattle.net_types.specs.declared.node.PortNo.{PortNo}
-use Rattle.net_types.specs.declared.node.Place.TheVariants.{Down, Up}
-use Rattle.net_types.specs.declared.prefix.Addr.{Addr}
-use Rattle.ipv4_packet.specs.declared.flow.FlowId.{FlowId}
-use Rattle.ipv4_packet.specs.Identifier.{FitsFields}
-use Rattle.ipv4_packet.specs.Flow.{IsFlow}
-use Rattle.net_types.specs.Label.{is_label_number}
-use Rattle.port_model.specs.Labels.{Label, Wiring}
-use Rattle.port_model.specs.Port.{Session}
-use Rattle.world_model.specs.Controller.{default_home}
+use Rattle.world_model.specs.Words.{NodeId, PortNo, Down, Up, Addr, FlowId, FitsFields, IsFlow, is_label_number, Label, Wiring, Session, default_home, World, queue_at, session_at, side_at, chain_at, on_channel, Past, last_bound, held, WasCleared, WaitsAs}
 use Rattle.world_model.specs.declared.link.LinkEnd.{LinkEnd}
 use Rattle.world_model.specs.Topology.{peer_of}
-use Rattle.world_model.specs.World.{World}
-use Rattle.world_model.specs.Places.{queue_at}
-use Rattle.world_model.specs.Ways.{session_at, side_at, chain_at, on_channel}
-use Rattle.world_model.specs.Past.{Past, last_bound}
-use Rattle.world_model.specs.Owned.{held, WasCleared, WaitsAs}
 use Rattle.port_words.specs.Words.{Terms}
 
 abbrev pub end_at : NodeId → PortNo → LinkEnd

@@ -1,17 +1,10 @@
 -- What is so of a label when an event binds it
 
 use Rattle.std.specs.Prelude.{ℕ, List, Contains}
-use Rattle.net_types.specs.declared.node.NodeId.{NodeId}
-use Rattle.net_types.specs.declared.node.PortNo.{PortNo}
-use Rattle.ipv4_packet.specs.declared.flow.FlowId.{FlowId}
-use Rattle.link_model.specs.declared.record.Record.TheVariants.{Bind}
-use Rattle.port_model.specs.Setup.{Policy}
+use Rattle.world_model.specs.Words.{NodeId, PortNo, FlowId, Bind, Policy, Topology, past_of, Way, IsWay, IsUnused}
 use Rattle.world_model.specs.declared.event.Event.{Event}
-use Rattle.world_model.specs.Topology.{Topology}
-use Rattle.world_model.specs.Past.{past_of}
-use Rattle.world_model.specs.Users.{Way, IsWay, IsUnused}
-use Rattle.world_views.specs.Between.{IsWorld}
-use Rattle.world_views.specs.Kept.{Comes, behind}
+use Rattle.frame_readings.specs.world_views.Between.{IsWorld}
+use Rattle.frame_readings.specs.world_views.Kept.{Comes, behind}
 use Rattle.unused_labels.specs.Unused.{HasOwnChannels}
 use Rattle.told_worlds.specs.Before.{end_at, IsWiringAt}
 

@@ -2,15 +2,10 @@
 
 use Rattle.std.specs.Prelude.{◌≡◌, false, List}
 use Rattle.std.specs.List.{list_any}
-use Rattle.link_model.specs.declared.frames.Frame.{Frame}
-use Rattle.port_model.specs.Setup.{Policy}
+use Rattle.world_model.specs.Words.{Frame, Policy, Topology, ifmp_of, Past, past_of, is_disowning}
 use Rattle.world_model.specs.declared.event.Event.{Event}
-use Rattle.world_model.specs.Topology.{Topology}
-use Rattle.world_model.specs.Ways.{ifmp_of}
-use Rattle.world_model.specs.Past.{Past, past_of}
-use Rattle.world_model.specs.Headline.{is_disowning}
-use Rattle.world_views.specs.Between.{IsWorld}
-use Rattle.world_views.specs.Kept.{Comes, Begins, behind}
+use Rattle.frame_readings.specs.world_views.Between.{IsWorld}
+use Rattle.frame_readings.specs.world_views.Kept.{Comes, Begins, behind}
 
 -- *Nothing disowns* a label, of all that was made so far
 abbrev pub DisownsNothing : Past → Type 0

@@ -1,12 +1,10 @@
 -- That the flow bound last to an output is one hop further than that of its input, behind each event of a run
 
 use Rattle.std.specs.Prelude.{List}
-use Rattle.port_model.specs.Setup.{Policy}
+use Rattle.world_model.specs.Words.{Policy, Topology, past_of}
 use Rattle.world_model.specs.declared.event.Event.{Event}
-use Rattle.world_model.specs.Topology.{Topology}
-use Rattle.world_model.specs.Past.{past_of}
-use Rattle.world_views.specs.Between.{IsWorld, HasAllHops}
-use Rattle.world_views.specs.Kept.{Comes, behind, BindsUnusedAt}
+use Rattle.frame_readings.specs.world_views.Between.{IsWorld, HasAllHops}
+use Rattle.frame_readings.specs.world_views.Kept.{Comes, behind, BindsUnusedAt}
 
 abbrev pub RunsLeadOn : Type 0
 RunsLeadOn = (policy : Policy) (topology : Topology) (before : List Event) (event : Event) → Comes policy topology before event

@@ -17,8 +17,8 @@
 
 ghost use Rattle.run_facts.specs.Nodes.{RunsHaveNodes};
 ghost use Rattle.run_facts.specs.Steps.{EventsAreSteps, RunsHaveFronts};
-ghost use Rattle.world_views.specs.Between.{HasAllCleared, HasAllHops, HasAllUsers};
-ghost use Rattle.world_views.specs.Kept.{Begins, Keeps};
+ghost use Rattle.frame_readings.specs.world_views.Between.{HasAllCleared, HasAllHops, HasAllUsers};
+ghost use Rattle.frame_readings.specs.world_views.Kept.{Begins, Keeps};
 ghost use Rattle.pairs.specs.Asked.{AnswersSettle};
 ghost use Rattle.pairs.specs.Past.{RunsMakeNoPairs};
 ghost use Rattle.told_worlds.specs.Bound.{BindsAreWired, BoundLabelsAreUnused};

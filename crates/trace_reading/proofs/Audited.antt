@@ -7,26 +7,25 @@ use Rattle.std.proofs.lemmas.Bool.{and_parts}
 use Rattle.std.proofs.lemmas.Bool.Decides.{nat_tests}
 use Rattle.std.proofs.lemmas.List.{length-append, take_all}
 use Rattle.std.proofs.lemmas.List.Concat.{flat_map-cons}
-use Rattle.ipv4_packet.specs.Identifier.{identifier}
-use Rattle.lab_text.specs.Forms.{is_name, is_name_octet}
-use Rattle.lab_text.specs.Line.{input_limit, holds_octet, text_fault}
-use Rattle.lab_text.specs.declared.line.LineFault.TheVariants.{ScriptTooLong}
-use Rattle.lab_text.specs.Lines.{lines_of, begun_with}
-use Rattle.lab_text.specs.Text.{line_of}
-use Rattle.lab_text.specs.Words.{line_text}
-use Rattle.ordered_lists.specs.Ordered.{Every}
-use Rattle.script_model.specs.Texts.{name_of}
-use Rattle.trace_model.specs.declared.line.TraceLine.{TraceLine}
-use Rattle.trace_model.specs.declared.line.TraceLine.TheVariants as traces
-use Rattle.trace_model.specs.declared.refusal.TraceRefusal.{TraceRefusal}
-use Rattle.trace_model.specs.declared.verdict.Step.TheVariants.{Good}
-use Rattle.trace_model.specs.Audit.{Past, nothing_read, judged_said, with_said, outcome_by, audit_from, audit_of}
-use Rattle.trace_model.specs.Judgement.{judged}
-use Rattle.trace_model.specs.Known.{known}
-use Rattle.trace_model.specs.Lines.{after, line_says, fault_name, says_by, text_says}
+use Rattle.world_model.specs.Words.{identifier, Topology}
+use Rattle.trace_truth.specs.lab_text.Forms.{is_name, is_name_octet}
+use Rattle.trace_truth.specs.lab_text.Line.{input_limit, holds_octet, text_fault}
+use Rattle.trace_truth.specs.lab_text.declared.line.LineFault.TheVariants.{ScriptTooLong}
+use Rattle.trace_truth.specs.lab_text.Lines.{lines_of, begun_with}
+use Rattle.trace_truth.specs.lab_text.Text.{line_of}
+use Rattle.trace_truth.specs.lab_text.Words.{line_text}
+use Rattle.passing_laws.specs.ordered_lists.Ordered.{Every}
+use Rattle.trace_truth.specs.script_model.Texts.{name_of}
+use Rattle.trace_truth.specs.trace_model.declared.line.TraceLine.{TraceLine}
+use Rattle.trace_truth.specs.trace_model.declared.line.TraceLine.TheVariants as traces
+use Rattle.trace_truth.specs.trace_model.declared.refusal.TraceRefusal.{TraceRefusal}
+use Rattle.trace_truth.specs.trace_model.declared.verdict.Step.TheVariants.{Good}
+use Rattle.trace_truth.specs.trace_model.Audit.{Past, nothing_read, judged_said, with_said, outcome_by, audit_from, audit_of}
+use Rattle.trace_truth.specs.trace_model.Judgement.{judged}
+use Rattle.trace_truth.specs.trace_model.Known.{known}
+use Rattle.trace_truth.specs.trace_model.Lines.{after, line_says, fault_name, says_by, text_says}
 use Rattle.true_lines.proofs.Texts.{IsText, AreTexts, IsLine, text_join, decimal_text, hex_digits_text, line_is}
 use Rattle.world_model.specs.declared.link.LinkEnd.{LinkEnd}
-use Rattle.world_model.specs.Topology.{Topology}
 use Rattle.network_trace.specs.Passages.{Passage, Linked, Taken, Lost, Framed, Put, Bound, line_said, end_word, passage_words, passage_line, passage_lines}
 use Rattle.network_trace.specs.Reading.{IsSayable, PassagesAreRead}
 use Rattle.trace_truth.specs.Told.{lines_said}

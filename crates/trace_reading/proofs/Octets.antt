@@ -2,17 +2,14 @@
 
 use Rattle.std.proofs.Common.{◌≡◌, ℕ, List, [], ◌∷◌, ◌++◌, codes, None, refl, sym, ◌∙◌, ap, ap₂}
 use Rattle.std.proofs.lemmas.Grind.{flat_map-append}
-use Rattle.lab_text.specs.Text.{line_of}
-use Rattle.net_types.specs.declared.number.Mark.{Mark}
-use Rattle.port_model.specs.Setup.{Policy}
-use Rattle.script_model.specs.Reports.{last_line_by}
-use Rattle.script_model.specs.Script.{script_of}
-use Rattle.telling_model.specs.Placed.{Placed, events_in, placed_of}
-use Rattle.telling_model.specs.Tale.{told}
-use Rattle.telling_model.proofs.Scripts.{events_of_script}
-use Rattle.world_model.specs.Run.{next}
-use Rattle.world_model.specs.Topology.{Topology}
-use Rattle.world_model.specs.World.{World, opened}
+use Rattle.trace_truth.specs.lab_text.Text.{line_of}
+use Rattle.world_model.specs.Words.{Mark, Policy, next, Topology, World}
+use Rattle.trace_truth.specs.script_model.Reports.{last_line_by}
+use Rattle.trace_truth.specs.script_model.Script.{script_of}
+use Rattle.passing_laws.specs.telling_model.Placed.{Placed, events_in, placed_of}
+use Rattle.passing_laws.specs.telling_model.Tale.{told}
+use Rattle.passing_laws.proofs.telling_model.Scripts.{events_of_script}
+use Rattle.world_model.specs.World.{opened}
 use Rattle.network_trace.specs.Passages.{passage_line, passage_lines}
 use Rattle.network_trace.specs.Trace.{links_told, event_told, trace_tale}
 use Rattle.trace_truth.specs.Told.{events_told, run_told}

@@ -6,35 +6,22 @@ use Rattle.std.specs.Int.{w16, to_be_bytes}
 use Rattle.std.specs.Option.{option_map_or, option_or}
 use Rattle.std.proofs.lemmas.Bool.{and_parts}
 use Rattle.std.proofs.lemmas.Bool.Decides.{nat_tests}
-use Rattle.net_types.specs.declared.node.Place.{Place}
-use Rattle.net_types.specs.declared.node.Place.TheVariants.{Down, Up, Out}
-use Rattle.net_types.specs.declared.number.Mark.{Mark}
-use Rattle.net_types.specs.Label.{is_label_channel}
-use Rattle.atm_cells.specs.declared.cell.Cell.{Cell}
-use Rattle.ipv4_packet.specs.declared.flow.FlowKind.{FlowKind}
-use Rattle.ipv4_packet.specs.declared.flow.FlowKind.TheVariants.{One as ConnectionKind, Two as HostsKind}
-use Rattle.ipv4_packet.specs.declared.flow.FlowId.{FlowId}
-use Rattle.ipv4_packet.specs.Flow.{kind_of}
-use Rattle.flow_encaps.specs.declared.default.EncapsFault.{EncapsFault}
-use Rattle.flow_encaps.specs.declared.default.EncapsFault.TheVariants as faults
-use Rattle.flow_encaps.specs.Labelled.{Carries, labelled_payload, checksum_at_ttl_zero, head_size, left_out, has_zeros, said_length, layout_fault, checksum_fault}
-use Rattle.flow_encaps.proofs.CarryLemmas.{unwrap_fault-carried}
-use Rattle.octet_fields.proofs.FieldLemmas.{AreOctets-take, AreOctets-drop}
-use Rattle.link_model.specs.declared.frames.Frame.{Frame}
-use Rattle.link_model.specs.Ledger.{payload_of}
-use Rattle.lab_text.specs.Forms.{is_name}
-use Rattle.ordered_lists.specs.Ordered.{Every}
-use Rattle.ordered_lists.proofs.Every.{every_join}
+use Rattle.world_model.specs.Words.{Place, Down, Up, Out, Mark, is_label_channel, Cell, FlowKind, FlowId, kind_of, EncapsFault, Carries, labelled_payload, checksum_at_ttl_zero, head_size, left_out, said_length, layout_fault, checksum_fault, Frame, payload_of, IsTopology, IsLink, IsWithin, AreOctets, IsEvent, Topology, Node, Link, node_in, World}
+use Rattle.world_model.specs.ipv4_packet.declared.flow.FlowKind.TheVariants.{One as ConnectionKind, Two as HostsKind}
+use Rattle.world_model.specs.flow_encaps.declared.default.EncapsFault.TheVariants as faults
+use Rattle.world_model.specs.flow_encaps.Labelled.{has_zeros}
+use Rattle.world_model.proofs.flow_encaps.CarryLemmas.{unwrap_fault-carried}
+use Rattle.run_facts.proofs.octet_fields.FieldLemmas.{AreOctets-take, AreOctets-drop}
+use Rattle.trace_truth.specs.lab_text.Forms.{is_name}
+use Rattle.passing_laws.specs.ordered_lists.Ordered.{Every}
+use Rattle.passing_laws.proofs.ordered_lists.Every.{every_join}
 use Rattle.packet_worlds.proofs.Worlds.{port_above}
-use Rattle.port_facts.proofs.Keyed.{on_each}
-use Rattle.trace_model.specs.Forms.{greatest_payload, is_cell_channel}
+use Rattle.run_facts.proofs.port_facts.Keyed.{on_each}
+use Rattle.trace_truth.specs.trace_model.Forms.{greatest_payload, is_cell_channel}
 use Rattle.world_model.specs.declared.event.Event.{Event}
 use Rattle.world_model.specs.declared.event.Event.TheVariants.{Inject, Carry, Lose, Tick, TickSwitch, Restart, RestartSwitch, Forge, Route}
 use Rattle.world_model.specs.declared.link.LinkEnd.{LinkEnd}
-use Rattle.world_model.specs.Conditions.{IsTopology, IsLink, IsWithin, AreOctets, IsEvent}
-use Rattle.world_model.specs.Topology.{Topology, Node, Link, node_in}
-use Rattle.world_model.specs.World.{World}
-use Rattle.telling_model.specs.declared.standing.Standing.{Standing}
+use Rattle.passing_laws.specs.telling_model.declared.standing.Standing.{Standing}
 use Rattle.network_trace.specs.Passages.{Linked, Put}
 use Rattle.network_trace.specs.Reading.{IsEnd, FitsMark, IsSayable}
 use Rattle.network_trace.specs.Trace.{Told, port_end, taken_told, is_due, framed_by, frame_told, cell_told, cells_told, links_told}

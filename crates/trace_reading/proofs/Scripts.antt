@@ -1,29 +1,26 @@
 -- no port has two links in what lines make of a network
 
 use Rattle.std.proofs.Common.{◌≡◌, ℕ, zero, suc, Bool, true, false, ◌||◌, List, [], ◌∷◌, ◌++◌, take, append_assoc, append-nil, is_some, Option, None, Some, Result, Ok, Err, refl, sym, subst, slice_get, option_and_then, All, arith, if◌then◌else◌}
-use Rattle.lab_text.specs.Forms.{is_name}
-use Rattle.lab_text.specs.Line.{line_fault}
-use Rattle.lab_text.specs.Lines.{lines_of}
-use Rattle.lab_text.specs.Words.{line_text}
-use Rattle.net_types.specs.declared.node.NodeId.{NodeId}
-use Rattle.net_types.specs.declared.node.PortNo.{PortNo}
-use Rattle.ipv4_forward.specs.declared.table.Next.TheVariants.{Local, Via}
+use Rattle.trace_truth.specs.lab_text.Forms.{is_name}
+use Rattle.trace_truth.specs.lab_text.Line.{line_fault}
+use Rattle.trace_truth.specs.lab_text.Lines.{lines_of}
+use Rattle.trace_truth.specs.lab_text.Words.{line_text}
+use Rattle.world_model.specs.Words.{NodeId, PortNo, Local, Via, Topology, Node, Link, peer_among, node_named, is_linked, with_changed, changes_named, with_link, with_route, with_line, line_refusal, link_refusal, of_named}
 use Rattle.world_model.specs.declared.line.TopologyLine.{TopologyLine}
 use Rattle.world_model.specs.declared.line.TopologyLine.TheVariants as lines
 use Rattle.world_model.specs.declared.link.LinkEnd.{LinkEnd}
 use Rattle.world_model.specs.declared.refusal.TopologyRefusal.{TopologyRefusal}
 use Rattle.world_model.specs.declared.refusal.TopologyRefusal.TheVariants.{SelfLink, PortTaken}
-use Rattle.world_model.specs.Topology.{Topology, Node, Link, peer_of, peer_among}
-use Rattle.world_model.specs.Lines.{node_named, is_linked, with_changed, changes_named, with_link, with_route, with_line, line_refusal, link_refusal, of_named}
-use Rattle.script_model.specs.declared.line.Line.{Line}
-use Rattle.script_model.specs.declared.line.Line.TheVariants.{Blank, Topology as TopologyIs, Event as EventComes, TickAll, Run}
-use Rattle.script_model.specs.declared.refusal.LineRefusal.{LineRefusal}
-use Rattle.script_model.specs.Limits.{input_limit}
-use Rattle.script_model.specs.Reading.{fault_name, says_by, text_says, line_says, state_after}
-use Rattle.script_model.specs.Sayable.{IsSayable}
-use Rattle.script_model.specs.Script.{Script, script_from, script_by, script_of}
-use Rattle.script_model.specs.State.{ScriptState, nothing_read}
-use Rattle.script_model.proofs.ReadLines.{text_is}
+use Rattle.world_model.specs.Topology.{peer_of}
+use Rattle.trace_truth.specs.script_model.declared.line.Line.{Line}
+use Rattle.trace_truth.specs.script_model.declared.line.Line.TheVariants.{Blank, Topology as TopologyIs, Event as EventComes, TickAll, Run}
+use Rattle.trace_truth.specs.script_model.declared.refusal.LineRefusal.{LineRefusal}
+use Rattle.trace_truth.specs.script_model.Limits.{input_limit}
+use Rattle.trace_truth.specs.script_model.Reading.{fault_name, says_by, text_says, line_says, state_after}
+use Rattle.trace_truth.specs.script_model.Sayable.{IsSayable}
+use Rattle.trace_truth.specs.script_model.Script.{Script, script_from, script_by, script_of}
+use Rattle.trace_truth.specs.script_model.State.{ScriptState, nothing_read}
+use Rattle.trace_truth.proofs.script_model.ReadLines.{text_is}
 use Rattle.trace_truth.specs.Law.{HasLinksOnce, HasNames}
 
 -- *Links*, each free behind those before it

@@ -4,43 +4,26 @@ use Rattle.std.proofs.Common.{◌≡◌, ◌≢◌, inl, ℕ, ◌+◌, ◌*◌, 
 use Rattle.std.specs.Prelude.{Contains, nat_lt}
 use Rattle.std.specs.List.{list_any}
 use Rattle.std.proofs.lemmas.Bool.Decides.{nat_tests}
-use Rattle.net_types.specs.declared.node.NodeId.{NodeId}
-use Rattle.net_types.specs.declared.node.PortNo.{PortNo}
-use Rattle.net_types.specs.declared.node.Place.{Place}
-use Rattle.net_types.specs.declared.node.Place.TheVariants.{Down, Up, Out}
-use Rattle.net_types.specs.declared.number.Mark.{Mark}
-use Rattle.net_types.specs.Label.{is_label_channel}
-use Rattle.atm_cells.specs.declared.cell.Cell.{Cell}
-use Rattle.link_model.specs.declared.record.Record.{Record}
-use Rattle.link_model.specs.declared.record.Record.TheVariants as kinds
-use Rattle.link_model.specs.Ledger.{payload_of}
-use Rattle.ordered_lists.specs.Ordered.{Every}
-use Rattle.ordered_lists.proofs.Every.{every_join, every_right}
+use Rattle.world_model.specs.Words.{NodeId, PortNo, Place, Down, Up, Out, Mark, is_label_channel, Cell, Record, payload_of, Policy, same_channel, default_channel, IsTopology, IsWithin, AreOctets, is_wild, IsRun, IsTame, Past, past_of, queue_at, places, next, Topology, World}
+use Rattle.world_model.specs.link_model.declared.record.Record.TheVariants as kinds
+use Rattle.passing_laws.specs.ordered_lists.Ordered.{Every}
+use Rattle.passing_laws.proofs.ordered_lists.Every.{every_join, every_right}
 use Rattle.packet_worlds.proofs.Nets.{world_net}
 use Rattle.packet_worlds.proofs.Opening.{no_cells}
 use Rattle.packet_worlds.proofs.Worlds.{IsNet}
-use Rattle.port_model.specs.Setup.{Policy}
-use Rattle.quiet_controllers.proofs.Beginning.{every_contained, contained}
+use Rattle.label_worlds.proofs.quiet_controllers.Beginning.{every_contained, contained}
 use Rattle.run_facts.specs.Nodes.{RunsHaveRoom}
-use Rattle.trace_model.specs.Forms.{greatest_payload, is_cell_channel}
-use Rattle.trace_model.specs.Trace.{Trace, first_put}
-use Rattle.true_runs.proofs.Fronts.{front_run}
-use Rattle.true_runs.proofs.Walk.{holds_at, comes_at}
-use Rattle.true_runs.specs.Runs.{IsWhole}
-use Rattle.world_model.specs.Cells.{same_channel}
-use Rattle.world_model.specs.Controller.{default_channel}
+use Rattle.trace_truth.specs.trace_model.Forms.{greatest_payload, is_cell_channel}
+use Rattle.trace_truth.specs.trace_model.Trace.{Trace, first_put}
+use Rattle.trace_truth.proofs.true_runs.Fronts.{front_run}
+use Rattle.trace_truth.proofs.true_runs.Walk.{holds_at, comes_at}
+use Rattle.trace_truth.specs.true_runs.Runs.{IsWhole}
 use Rattle.world_model.specs.declared.event.Event.{Event}
-use Rattle.world_model.specs.Conditions.{IsTopology, IsWithin, AreOctets}
-use Rattle.world_model.specs.Headline.{is_wild, IsRun, IsTame}
-use Rattle.world_model.specs.Past.{Past, past_of}
-use Rattle.world_model.specs.Places.{queue_at, places}
-use Rattle.world_model.specs.Run.{next}
-use Rattle.world_model.specs.Topology.{Topology}
-use Rattle.world_model.specs.World.{World, opened}
-use Rattle.world_views.specs.Kept.{HasAddresses, Comes, behind}
-use Rattle.world_views.specs.Marks.{Means, heading_at, early, control, local, plain, labelled}
-use Rattle.telling_model.specs.declared.standing.Standing.{Standing}
-use Rattle.telling_model.specs.Passing.{standing, left, put, put_at, taken}
+use Rattle.world_model.specs.World.{opened}
+use Rattle.run_facts.specs.world_views.Kept.{HasAddresses, Comes, behind}
+use Rattle.run_facts.specs.world_views.Marks.{Means, heading_at, early, control, local, plain, labelled}
+use Rattle.passing_laws.specs.telling_model.declared.standing.Standing.{Standing}
+use Rattle.passing_laws.specs.telling_model.Passing.{standing, left, put, put_at, taken}
 use Rattle.network_trace.specs.Reading.{FitsMark, IsSayable}
 use Rattle.network_trace.specs.Trace.{Told, port_end, taken_told, cells_told, bind_told, event_told, links_told}
 use Rattle.trace_truth.specs.Told.{events_told, run_told}

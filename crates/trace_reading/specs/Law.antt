@@ -1,14 +1,12 @@
 -- The trace of every script is good, and an audit of it says yes
 
 use Rattle.std.specs.Prelude.{◌≡◌, ℕ, ◌<◌, List, [], length, None}
-use Rattle.lab_text.specs.Line.{input_limit}
-use Rattle.port_model.specs.Setup.{Policy}
-use Rattle.script_model.specs.Script.{Script, script_of}
-use Rattle.telling_model.specs.Placed.{placed_of}
-use Rattle.telling_model.specs.Tale.{account}
-use Rattle.trace_model.specs.Audit.{Outcome, Yes, audit_of}
-use Rattle.world_model.specs.Headline.{IsTame}
-use Rattle.world_model.specs.Past.{past_of}
+use Rattle.trace_truth.specs.lab_text.Line.{input_limit}
+use Rattle.world_model.specs.Words.{Policy, IsTame, past_of}
+use Rattle.trace_truth.specs.script_model.Script.{Script, script_of}
+use Rattle.passing_laws.specs.telling_model.Placed.{placed_of}
+use Rattle.passing_laws.specs.telling_model.Tale.{account}
+use Rattle.trace_truth.specs.trace_model.Audit.{Outcome, Yes, audit_of}
 use Rattle.network_trace.specs.Trace.{trace_tale}
 use Rattle.trace_truth.specs.Told.{trace_told}
 use Rattle.trace_truth.specs.Law.{AreGood}

@@ -6,16 +6,8 @@ use Rattle.std.specs.Option.{option_or, option_map_or}
 use Rattle.std.proofs.lemmas.Bool.{and_parts}
 use Rattle.std.proofs.lemmas.Bool.Decides.{nat_tests}
 use Rattle.std.proofs.lemmas.List.Concat.{flat_map-cons}
-use Rattle.net_types.specs.declared.channel.Channel.{Channel}
-use Rattle.net_types.specs.declared.node.NodeId.{NodeId}
-use Rattle.net_types.specs.declared.node.PortNo.{PortNo}
-use Rattle.net_types.specs.declared.number.Mark.{Mark}
-use Rattle.net_types.specs.Label.{is_label_channel, number_of_channel, label_channel_of}
-use Rattle.atm_cells.specs.declared.cell.Cell.{Cell}
-use Rattle.ipv4_packet.specs.declared.flow.FlowId.{FlowId}
-use Rattle.link_model.specs.declared.frames.Frame.{Frame}
-use Rattle.link_model.specs.declared.record.Record.{Record}
-use Rattle.link_model.specs.declared.record.Record.TheVariants as records
+use Rattle.world_model.specs.Words.{Channel, NodeId, PortNo, Mark, is_label_channel, number_of_channel, label_channel_of, Cell, FlowId, Frame, Record, IsTopology, bound_by, last_bound, Topology}
+use Rattle.world_model.specs.link_model.declared.record.Record.TheVariants as records
 use Rattle.trace_model.specs.declared.end.TraceEnd.{TraceEnd}
 use Rattle.trace_model.specs.declared.line.TraceLine.{TraceLine}
 use Rattle.trace_model.specs.declared.verdict.Breach.TheVariants as breach
@@ -25,15 +17,13 @@ use Rattle.trace_model.specs.Judgement.{judged, stands_on}
 use Rattle.trace_model.specs.Known.{known}
 use Rattle.trace_model.specs.Trace.{Trace, queue_of}
 use Rattle.world_model.specs.declared.link.LinkEnd.{LinkEnd}
-use Rattle.world_model.specs.Conditions.{IsTopology}
-use Rattle.world_model.specs.Past.{bound_by, last_bound}
-use Rattle.world_model.specs.Topology.{Topology, peer_of}
+use Rattle.world_model.specs.Topology.{peer_of}
 use Rattle.run_facts.proofs.Frames.{bound_then}
 use Rattle.network_trace.specs.Passages.{Bound, line_said, end_said}
 use Rattle.network_trace.specs.Trace.{port_end, bind_told}
-use Rattle.causes.proofs.Shown.{peer_back}
-use Rattle.ordered_lists.specs.Ordered.{Every}
-use Rattle.port_facts.proofs.Keyed.{by_eq}
+use Rattle.running_worlds.proofs.causes.Shown.{peer_back}
+use Rattle.passing_laws.specs.ordered_lists.Ordered.{Every}
+use Rattle.run_facts.proofs.port_facts.Keyed.{by_eq}
 use Rattle.trace_truth.specs.Law.{HasNames}
 use Rattle.trace_truth.proofs.Lines.{queue_is, holds_beside, is_good, allowed}
 use Rattle.trace_truth.proofs.Ends.{same_said}

@@ -3,36 +3,23 @@
 use Rattle.std.proofs.Common.{◌≡◌, ◌≢◌, ◌⊎◌, inl, inr, ℕ, zero, suc, ◌≤◌, ◌==◌, ◌&&◌, Bool, true, false, List, [], ◌∷◌, ◌++◌, length, drop, slice_index_or, Option, None, Some, refl, sym, ◌∙◌, ap, subst, arith, append-nil, eqb-true, if◌then◌else◌}
 use Rattle.std.specs.Option.{option_map_or, option_and_then}
 use Rattle.std.proofs.lemmas.Bool.{and_parts}
-use Rattle.net_types.specs.declared.node.NodeId.{NodeId}
-use Rattle.net_types.specs.declared.node.PortNo.{PortNo}
-use Rattle.net_types.specs.declared.node.Place.{Place}
-use Rattle.net_types.specs.declared.node.Place.TheVariants.{Down, Up, Out}
-use Rattle.net_types.specs.declared.channel.End.{End}
-use Rattle.atm_cells.specs.declared.cell.Cell.{Cell}
-use Rattle.keyed_lists.specs.Keyed.{at, put}
-use Rattle.crossbar_model.specs.Crossbar.{output_of, input_of, queue_of}
-use Rattle.link_model.specs.Notes.{Journal}
-use Rattle.ordered_lists.specs.Ordered.{Every}
-use Rattle.port_facts.proofs.Keyed.{by_eq, at_key, at_put_same, at_put_other}
-use Rattle.way_words.proofs.Switching as ways
-use Rattle.way_words.proofs.Switching.{BindsNone}
+use Rattle.world_model.specs.Words.{NodeId, PortNo, Place, Down, Up, Out, End, Cell, at, put, queue_of, Journal, control_port, IsTopology, IsPlace, IsEvent, IsTame, place_node, queue_in, queue_at, with_queue, with_queue_of, with_queue_in, queue_number, same_queue, next, put_away, arrives_at, arrives, carries_head, Topology, output_at, World, Site, site_key, site_at, switch_acts}
+use Rattle.world_model.specs.crossbar_model.Crossbar.{output_of, input_of}
+use Rattle.passing_laws.specs.ordered_lists.Ordered.{Every}
+use Rattle.run_facts.proofs.port_facts.Keyed.{by_eq, at_key, at_put_same, at_put_other}
+use Rattle.packet_worlds.proofs.way_words.Switching as ways
+use Rattle.packet_worlds.proofs.way_words.Switching.{BindsNone}
 use Rattle.world_model.specs.Switch as switches
-use Rattle.world_model.specs.Switch.{control_port}
 use Rattle.world_model.specs.Conduct as conduct
-use Rattle.world_model.specs.Conditions.{IsTopology, IsPlace, IsEvent}
 use Rattle.world_model.specs.declared.event.Event.{Event}
 use Rattle.world_model.specs.declared.event.Event.TheVariants.{Inject, Carry, Lose, Tick, TickSwitch, Restart, RestartSwitch, Forge, Route}
 use Rattle.world_model.specs.declared.link.LinkEnd.{LinkEnd}
-use Rattle.world_model.specs.Headline.{IsTame}
-use Rattle.world_model.specs.Places.{place_node, queue_in, queue_at, with_queue, with_queue_of, with_queue_in, queue_number, same_queue}
-use Rattle.world_model.specs.Run.{next, put_away}
-use Rattle.world_model.specs.Step.{arrives_at, arrives, carries_head, acts}
-use Rattle.world_model.specs.Topology.{Topology, peer_of}
-use Rattle.world_model.specs.Ways.{output_at}
-use Rattle.world_model.specs.World.{World, Site, site_key, site_at, switch_acts, at_switch}
+use Rattle.world_model.specs.Step.{acts}
+use Rattle.world_model.specs.Topology.{peer_of}
+use Rattle.world_model.specs.World.{at_switch}
 use Rattle.run_facts.proofs.Forged.{none_forged}
-use Rattle.causes.proofs.Shown.{peer_back}
-use Rattle.telling_model.specs.Passing.{left, put_at}
+use Rattle.running_worlds.proofs.causes.Shown.{peer_back}
+use Rattle.passing_laws.specs.telling_model.Passing.{left, put_at}
 use Rattle.passing_laws.specs.Law.{QueuesAreTheActors}
 use Rattle.passing_laws.specs.Reached.{owns, reached, carried_to, switch_at}
 use Rattle.packet_worlds.proofs.Worlds.{IsNet, HasSiteAt, site_there, low}

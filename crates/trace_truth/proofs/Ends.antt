@@ -7,17 +7,14 @@ use Rattle.std.specs.Option.{option_map_or}
 use Rattle.std.proofs.lemmas.Bool.{and_parts, and_from}
 use Rattle.std.proofs.lemmas.Bool.Decides.{nat_tests}
 use Rattle.std.proofs.lemmas.Slice.Eq.{bytes_eq-Decides}
-use Rattle.net_types.specs.declared.node.NodeId.{NodeId}
+use Rattle.world_model.specs.Words.{NodeId, IsTopology, IsNode, node_named, Topology, Node, node_in, same_link_end}
 use Rattle.lab_text.specs.Forms.{is_name, is_name_octet}
-use Rattle.port_facts.proofs.Keyed.{by_eq}
+use Rattle.run_facts.proofs.port_facts.Keyed.{by_eq}
 use Rattle.script_model.specs.Texts.{name_of}
 use Rattle.trace_model.specs.Ends.{same_node, same_end}
 use Rattle.trace_model.specs.Forms.{name_of as padded}
 use Rattle.trace_model.proofs.Same.{same_node-is}
 use Rattle.world_model.specs.declared.link.LinkEnd.{LinkEnd}
-use Rattle.world_model.specs.Conditions.{IsTopology, IsNode}
-use Rattle.world_model.specs.Lines.{node_named}
-use Rattle.world_model.specs.Topology.{Topology, Node, node_in, same_link_end}
 use Rattle.network_trace.specs.Passages.{end_said}
 use Rattle.trace_truth.specs.Law.{HasNames}
 

@@ -2,34 +2,19 @@
 
 use Rattle.std.proofs.Common.{◌≡◌, ℕ, List, ◌++◌, flat_map, Some, sym, ◌∙◌, ap, subst}
 use Rattle.std.specs.Prelude.{Contains}
-use Rattle.net_types.specs.declared.node.NodeId.{NodeId}
-use Rattle.net_types.specs.declared.node.PortNo.{PortNo}
-use Rattle.net_types.specs.declared.node.Place.TheVariants.{Out}
-use Rattle.net_types.specs.declared.number.Mark.{Mark}
-use Rattle.atm_cells.specs.declared.cell.Cell.{Cell}
-use Rattle.ipv4_packet.specs.declared.flow.FlowId.{FlowId}
-use Rattle.link_model.specs.declared.frames.Frame.{Frame}
-use Rattle.link_model.specs.declared.record.Record.TheVariants as kinds
-use Rattle.link_model.specs.Ledger.{payload_of}
-use Rattle.ordered_lists.specs.Ordered.{Every}
+use Rattle.world_model.specs.Words.{NodeId, PortNo, Out, Mark, Cell, FlowId, Frame, payload_of, Policy, IsTopology, IsEvent, Past, frames_of, places, next, Topology, Way, IsWay, IsUnused, World}
+use Rattle.world_model.specs.link_model.declared.record.Record.TheVariants as kinds
+use Rattle.passing_laws.specs.ordered_lists.Ordered.{Every}
 use Rattle.packet_worlds.proofs.Worlds.{IsNet, port_above}
-use Rattle.port_model.specs.Setup.{Policy}
 use Rattle.run_facts.specs.Nodes.{IsNodeOfRun}
-use Rattle.shown_cells.specs.Seen.{Extends}
+use Rattle.run_facts.specs.shown_cells.Seen.{Extends}
 use Rattle.told_worlds.specs.Before.{end_at, IsWiringAt}
 use Rattle.trace_model.specs.Trace.{Trace}
 use Rattle.world_model.specs.declared.event.Event.{Event}
 use Rattle.world_model.specs.declared.link.LinkEnd.{LinkEnd}
-use Rattle.world_model.specs.Conditions.{IsTopology, IsEvent}
-use Rattle.world_model.specs.Past.{Past, frames_of}
-use Rattle.world_model.specs.Places.{places}
-use Rattle.world_model.specs.Run.{next}
-use Rattle.world_model.specs.Topology.{Topology}
-use Rattle.world_model.specs.Users.{Way, IsWay, IsUnused}
-use Rattle.world_model.specs.World.{World}
-use Rattle.world_views.specs.Between.{EachSite, HasMeanings}
-use Rattle.telling_model.specs.declared.standing.Standing.{Standing}
-use Rattle.telling_model.specs.Passing.{left, put, put_at, taken}
+use Rattle.run_facts.specs.world_views.Between.{EachSite, HasMeanings}
+use Rattle.passing_laws.specs.telling_model.declared.standing.Standing.{Standing}
+use Rattle.passing_laws.specs.telling_model.Passing.{left, put, put_at, taken}
 use Rattle.passing_laws.specs.Law.{QueuesChangeByPassing}
 use Rattle.network_trace.specs.Trace.{Told, taken_told, cells_told, bind_told, event_told}
 use Rattle.trace_truth.specs.Law.{HasNames}

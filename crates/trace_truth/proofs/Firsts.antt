@@ -6,43 +6,23 @@ use Rattle.std.specs.Option.{option_and_then}
 use Rattle.std.proofs.lemmas.Bool.{and_parts}
 use Rattle.std.proofs.lemmas.Bool.Decides.{nat_tests}
 use Rattle.std.proofs.lemmas.List.Elements.{Contains-append_cases}
-use Rattle.net_types.specs.declared.channel.Channel.{Channel}
-use Rattle.net_types.specs.declared.channel.End.{End}
-use Rattle.net_types.specs.declared.node.NodeId.{NodeId}
-use Rattle.net_types.specs.declared.node.PortNo.{PortNo}
-use Rattle.net_types.specs.declared.node.Place.{Place}
-use Rattle.net_types.specs.declared.node.Place.TheVariants.{Down, Up, Out}
-use Rattle.net_types.specs.declared.number.Mark.{Mark}
-use Rattle.net_types.specs.Label.{is_label_channel}
-use Rattle.atm_cells.specs.declared.cell.Cell.{Cell}
-use Rattle.crossbar_model.specs.Crossbar.{output_of, input_of}
-use Rattle.link_model.specs.Ledger.{payload_of}
-use Rattle.ordered_lists.specs.Ordered.{Every}
-use Rattle.ordered_lists.proofs.Every.{every_join, every_right, every_map, every_map2}
+use Rattle.world_model.specs.Words.{Channel, End, NodeId, PortNo, Place, Down, Up, Out, Mark, is_label_channel, Cell, payload_of, Policy, home_of, port_on, on_link, same_channel, default_channel, control_port, IsTopology, IsNode, IsPlace, IsEvent, is_linked, Past, queue_at, places, next, Topology, same_link_end, World, Site, site_at}
+use Rattle.world_model.specs.crossbar_model.Crossbar.{output_of, input_of}
+use Rattle.passing_laws.specs.ordered_lists.Ordered.{Every}
+use Rattle.passing_laws.proofs.ordered_lists.Every.{every_join, every_right, every_map, every_map2}
 use Rattle.packet_worlds.proofs.Headings.{port_is, link_is}
 use Rattle.packet_worlds.proofs.Worlds.{port_above}
 use Rattle.packet_worlds.specs.Channels.{HasChannels}
-use Rattle.port_facts.proofs.Keyed.{by_eq}
-use Rattle.port_model.specs.Setup.{Policy, home_of}
-use Rattle.quiet_controllers.proofs.Beginning.{every_contained, contained}
+use Rattle.run_facts.proofs.port_facts.Keyed.{by_eq}
+use Rattle.label_worlds.proofs.quiet_controllers.Beginning.{every_contained, contained}
 use Rattle.trace_model.specs.declared.end.TraceLabel.{TraceLabel}
 use Rattle.trace_model.specs.Trace.{Trace, first_put}
-use Rattle.world_model.specs.Cells.{port_on, on_link, same_channel}
-use Rattle.world_model.specs.Controller.{default_channel}
-use Rattle.world_model.specs.Switch.{control_port}
 use Rattle.world_model.specs.declared.event.Event.{Event}
 use Rattle.world_model.specs.declared.link.LinkEnd.{LinkEnd}
-use Rattle.world_model.specs.Conditions.{IsTopology, IsNode, IsPlace, IsEvent}
-use Rattle.world_model.specs.Lines.{is_linked}
-use Rattle.world_model.specs.Past.{Past}
-use Rattle.world_model.specs.Places.{queue_at, places}
-use Rattle.world_model.specs.Run.{next}
-use Rattle.world_model.specs.Topology.{Topology, same_link_end}
-use Rattle.world_model.specs.World.{World, Site, site_at}
-use Rattle.world_views.specs.Between.{EachSite, HasShapes, HasMeanings, setups_of}
-use Rattle.world_views.specs.Marks.{Means, heading_at, early, control, local, plain, labelled}
-use Rattle.telling_model.specs.declared.standing.Standing.{Standing}
-use Rattle.telling_model.specs.Passing.{standing, left, put, put_at, taken}
+use Rattle.run_facts.specs.world_views.Between.{EachSite, HasShapes, HasMeanings, setups_of}
+use Rattle.run_facts.specs.world_views.Marks.{Means, heading_at, early, control, local, plain, labelled}
+use Rattle.passing_laws.specs.telling_model.declared.standing.Standing.{Standing}
+use Rattle.passing_laws.specs.telling_model.Passing.{standing, left, put, put_at, taken}
 use Rattle.passing_laws.specs.Law.{QueuesChangeByPassing}
 use Rattle.network_trace.specs.Passages.{Passage}
 use Rattle.network_trace.specs.Trace.{Told, port_end, taken_told, cells_told, bind_told, event_told}

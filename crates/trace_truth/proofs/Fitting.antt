@@ -7,50 +7,29 @@ use Rattle.std.specs.Option.{option_and_then, option_map}
 use Rattle.std.proofs.lemmas.Bool.{and_parts}
 use Rattle.std.proofs.lemmas.Bool.Decides.{nat_tests}
 use Rattle.std.proofs.lemmas.List.Concat.{flat_map-cons}
-use Rattle.net_types.specs.declared.channel.Channel.{Channel}
-use Rattle.net_types.specs.declared.node.NodeId.{NodeId}
-use Rattle.net_types.specs.declared.node.PortNo.{PortNo}
-use Rattle.net_types.specs.declared.node.Place.{Place}
-use Rattle.net_types.specs.declared.node.Place.TheVariants.{Down, Up, Out}
-use Rattle.net_types.specs.declared.number.Mark.{Mark}
-use Rattle.net_types.specs.Label.{is_label_channel, number_of_channel, label_channel_of}
-use Rattle.atm_cells.specs.declared.cell.Cell.{Cell}
-use Rattle.ipv4_packet.specs.declared.flow.FlowId.{FlowId}
-use Rattle.flow_encaps.proofs.CarryLemmas.{unwrap_fault-carried}
-use Rattle.link_model.specs.declared.frames.Frame.{Frame}
-use Rattle.link_model.specs.declared.record.Record.{Record}
-use Rattle.link_model.specs.declared.record.Record.TheVariants as kinds
-use Rattle.ordered_lists.specs.Ordered.{Every}
-use Rattle.ordered_lists.proofs.Every.{every_right}
-use Rattle.port_facts.proofs.Keyed.{on_both, on_each}
-use Rattle.port_model.specs.Setup.{Policy}
-use Rattle.port_model.specs.Port.{Session}
-use Rattle.quiet_controllers.proofs.Beginning.{every_contained, contained}
-use Rattle.quiet_rounds.proofs.Sites.{all_found}
-use Rattle.way_words.proofs.Switching.{BindsNone}
+use Rattle.world_model.specs.Words.{Channel, NodeId, PortNo, Place, Down, Up, Out, Mark, is_label_channel, number_of_channel, label_channel_of, Cell, FlowId, Frame, Record, Policy, Session, same_channel, Controller, Linked, default_channel, linked_at, IsTopology, IsNode, is_linked, Past, frames_of, bound_by, last_bound, queue_at, same_queue, places, places_of, next, Topology, Way, IsWay, IsUnused, ByCell, on_the_link, session_at, World, Site, site_at}
+use Rattle.world_model.proofs.flow_encaps.CarryLemmas.{unwrap_fault-carried}
+use Rattle.world_model.specs.link_model.declared.record.Record.TheVariants as kinds
+use Rattle.passing_laws.specs.ordered_lists.Ordered.{Every}
+use Rattle.passing_laws.proofs.ordered_lists.Every.{every_right}
+use Rattle.run_facts.proofs.port_facts.Keyed.{on_both, on_each}
+use Rattle.label_worlds.proofs.quiet_controllers.Beginning.{every_contained, contained}
+use Rattle.true_runs.proofs.quiet_rounds.Sites.{all_found}
+use Rattle.packet_worlds.proofs.way_words.Switching.{BindsNone}
 use Rattle.packet_worlds.proofs.Bound.{bound_stays, none_own}
 use Rattle.packet_worlds.proofs.Worlds.{IsNet, port_above}
-use Rattle.causes.proofs.Shown.{peer_back}
+use Rattle.running_worlds.proofs.causes.Shown.{peer_back}
 use Rattle.run_facts.specs.Nodes.{IsNodeOfRun}
 use Rattle.told_worlds.specs.Before.{end_at, IsWiringAt}
-use Rattle.world_model.specs.Cells.{same_channel}
-use Rattle.world_model.specs.Controller.{Controller, Linked, default_channel, linked_at, ports_of}
+use Rattle.world_model.specs.Controller.{ports_of}
 use Rattle.world_model.specs.declared.event.Event.{Event}
 use Rattle.world_model.specs.declared.link.LinkEnd.{LinkEnd}
-use Rattle.world_model.specs.Conditions.{IsTopology, IsNode}
-use Rattle.world_model.specs.Lines.{is_linked}
-use Rattle.world_model.specs.Past.{Past, frames_of, bound_by, last_bound}
-use Rattle.world_model.specs.Places.{queue_at, same_queue, places, places_of}
-use Rattle.world_model.specs.Run.{next}
 use Rattle.world_model.specs.Topology as topologies
-use Rattle.world_model.specs.Topology.{Topology, peer_of}
-use Rattle.world_model.specs.Users.{Way, IsWay, IsUnused, ByCell, on_the_link}
-use Rattle.world_model.specs.Ways.{session_at}
-use Rattle.world_model.specs.World.{World, Site, site_at}
-use Rattle.world_views.specs.Between.{EachSite, HasMeanings}
-use Rattle.world_views.specs.Marks.{Means, heading_at, early, control, local, plain, labelled}
-use Rattle.telling_model.specs.declared.standing.Standing.{Standing}
-use Rattle.telling_model.specs.Passing.{standing, left, left_of, source_of, put_at}
+use Rattle.world_model.specs.Topology.{peer_of}
+use Rattle.run_facts.specs.world_views.Between.{EachSite, HasMeanings}
+use Rattle.run_facts.specs.world_views.Marks.{Means, heading_at, early, control, local, plain, labelled}
+use Rattle.passing_laws.specs.telling_model.declared.standing.Standing.{Standing}
+use Rattle.passing_laws.specs.telling_model.Passing.{standing, left, left_of, source_of, put_at}
 use Rattle.passing_laws.specs.Law.{QueuesChangeByPassing}
 use Rattle.network_trace.specs.Trace.{port_end}
 use Rattle.trace_truth.specs.Law.{HasNames}

@@ -4,50 +4,31 @@ use Rattle.std.proofs.Common.{◌≡◌, ◌≢◌, inr, ℕ, ◌+◌, ◌<◌, 
 use Rattle.std.specs.Prelude.{Contains}
 use Rattle.std.specs.Option.{option_map_or}
 use Rattle.std.proofs.lemmas.Bool.Decides.{nat_tests}
-use Rattle.net_types.specs.declared.channel.Channel.{Channel}
-use Rattle.net_types.specs.declared.node.NodeId.{NodeId}
-use Rattle.net_types.specs.declared.node.Place.{Place}
-use Rattle.net_types.specs.declared.node.Place.TheVariants.{Down, Up, Out}
-use Rattle.net_types.specs.declared.number.Mark.{Mark}
-use Rattle.actor_pace.proofs.Controllers.{cell_follows, injected_paces, ticks_paces, restarts_paces, change_changes}
-use Rattle.atm_cells.specs.declared.cell.Cell.{Cell}
-use Rattle.frame_model.specs.Frame.{next_mark}
-use Rattle.frame_model.specs.Reassembly.{Reassembly, Taken, taken}
-use Rattle.keyed_lists.specs.Keyed.{at, put}
-use Rattle.link_model.specs.declared.frames.Frame.{Frame}
-use Rattle.link_model.specs.declared.record.Refusal.{Refusal}
-use Rattle.link_model.specs.Ledger.{payload_of}
-use Rattle.link_model.specs.Notes.{Journal}
-use Rattle.ordered_lists.specs.Ordered.{Every}
+use Rattle.world_model.specs.Words.{Channel, NodeId, Place, Down, Up, Out, Mark, Cell, next_mark, Reassembly, at, put, Frame, Refusal, payload_of, Journal, reassembly_of, change_comes, IsTopology, IsNode, IsEvent, IsTame, inject_refusal, injected, is_control, Past, queue_in, queue_at, with_queue, with_queue_of, node_restarts, next, put_away, injects_by, carries_head, Topology, World, Site, site_key, site_at, controller_acts}
+use Rattle.passing_laws.proofs.actor_pace.Controllers.{cell_follows, injected_paces, ticks_paces, restarts_paces, change_changes}
+use Rattle.world_model.specs.frame_model.Reassembly.{Taken, taken}
+use Rattle.passing_laws.specs.ordered_lists.Ordered.{Every}
 use Rattle.packet_worlds.proofs.Walk.{node_restarts_kept, change_comes_kept, ticks_kept}
 use Rattle.packet_worlds.proofs.Worlds.{IsNet, site_there, low}
 use Rattle.passed_cells.proofs.Sending.{Any}
-use Rattle.port_facts.proofs.Keyed.{at_key, at_put_same}
+use Rattle.run_facts.proofs.port_facts.Keyed.{at_key, at_put_same}
 use Rattle.running_worlds.proofs.Taken.{ended_mark}
-use Rattle.way_words.proofs.Switching.{taken_cases}
+use Rattle.packet_worlds.proofs.way_words.Switching.{taken_cases}
 use Rattle.world_model.proofs.Queues.{set_queue}
 use Rattle.world_model.specs.Cells as cells_of
-use Rattle.world_model.specs.Cells.{Taker, reassembly_of}
-use Rattle.world_model.specs.Changes.{change_comes}
-use Rattle.world_model.specs.Conditions.{IsTopology, IsNode, IsEvent}
+use Rattle.world_model.specs.Cells.{Taker}
 use Rattle.world_model.specs.Controller.{Acted, free_slots}
-use Rattle.world_model.specs.Headline.{IsTame}
-use Rattle.world_model.specs.Packets.{inject_refusal, injected, is_control}
-use Rattle.world_model.specs.Past.{Past}
-use Rattle.world_model.specs.Places.{queue_in, queue_at, with_queue, with_queue_of}
-use Rattle.world_model.specs.Resets.{node_restarts}
-use Rattle.world_model.specs.Run.{next, put_away}
-use Rattle.world_model.specs.Step.{injects_by, carries_head, acts}
+use Rattle.world_model.specs.Step.{acts}
 use Rattle.world_model.specs.Ticks.{ticks}
-use Rattle.world_model.specs.Topology.{Topology, peer_of}
+use Rattle.world_model.specs.Topology.{peer_of}
 use Rattle.world_model.specs.declared.event.Event.{Event}
 use Rattle.world_model.specs.declared.event.Event.TheVariants.{Inject, Carry, Lose, Tick, TickSwitch, Restart, RestartSwitch, Forge, Route}
 use Rattle.world_model.specs.declared.link.LinkEnd.{LinkEnd}
-use Rattle.world_model.specs.World.{World, Site, site_key, site_at, controller_acts, at_controller}
-use Rattle.world_views.specs.Between.{HasNumbers, HasMeanings, HasPacketsOnce}
-use Rattle.world_views.specs.Marks.{Means, heading_at, early, control, local, plain, labelled, IsNewest}
+use Rattle.world_model.specs.World.{at_controller}
+use Rattle.run_facts.specs.world_views.Between.{HasNumbers, HasMeanings, HasPacketsOnce}
+use Rattle.run_facts.specs.world_views.Marks.{Means, heading_at, early, control, local, plain, labelled, IsNewest}
 use Rattle.run_facts.proofs.Forged.{none_forged}
-use Rattle.telling_model.specs.Passing.{left, put_at}
+use Rattle.passing_laws.specs.telling_model.Passing.{left, put_at}
 use Rattle.passing_laws.specs.Law.{QueuesAreTheActors}
 use Rattle.passing_laws.specs.Reached.{owns, reached, carried_to, switch_at}
 use Rattle.trace_truth.proofs.Crossing.{put_more, still_there}

@@ -5,35 +5,18 @@ use Rattle.std.specs.Prelude.{slice_get}
 use Rattle.std.specs.Option.{option_and_then, option_map, option_map_or}
 use Rattle.std.proofs.lemmas.Bool.{and_parts, and_from}
 use Rattle.std.proofs.lemmas.Bool.Decides.{nat_tests}
-use Rattle.net_types.specs.declared.channel.Channel.{Channel}
-use Rattle.net_types.specs.declared.channel.End.{End}
-use Rattle.net_types.specs.declared.node.NodeId.{NodeId}
-use Rattle.net_types.specs.declared.node.PortNo.{PortNo}
-use Rattle.net_types.specs.declared.node.Place.{Place}
-use Rattle.net_types.specs.declared.node.Place.TheVariants.{Down, Up, Out}
-use Rattle.net_types.specs.declared.number.Mark.{Mark}
-use Rattle.net_types.specs.declared.prefix.Addr.{Addr}
-use Rattle.net_types.specs.Label.{is_label_channel, number_of_channel, label_channel_of}
-use Rattle.net_types.proofs.Labels.{label_channel_of-number_of_channel}
-use Rattle.atm_cells.specs.declared.cell.Cell.{Cell}
-use Rattle.ipv4_packet.specs.declared.flow.FlowId.{FlowId}
-use Rattle.ipv4_packet.specs.declared.flow.FlowId.TheVariants.{One, Two}
-use Rattle.ipv4_packet.specs.Flow.{next_hop_of}
-use Rattle.ipv4_packet.specs.Parts.{same_flow}
-use Rattle.crossbar_model.specs.Channels.{IsLinkPort}
-use Rattle.crossbar_model.specs.Crossbar.{output_of, input_of}
-use Rattle.keyed_lists.specs.Keyed.{at}
-use Rattle.label_line.specs.Cells.{Role, Downstream, Upstream}
-use Rattle.link_model.specs.declared.frames.Frame.{Frame}
-use Rattle.link_model.specs.Ledger.{same_mark}
-use Rattle.ordered_lists.specs.Ordered.{Every}
+use Rattle.world_model.specs.Words.{Channel, End, NodeId, PortNo, Place, Down, Up, Out, Mark, Addr, is_label_channel, number_of_channel, label_channel_of, Cell, FlowId, next_hop_of, same_flow, IsLinkPort, at, Frame, same_mark, Policy, Setup, home_of, label_end, port_on, on_link, control_port, IsTopology, IsNode, IsPlace, IsEvent, is_linked, StandsForLast, Past, last_bound, queue_at, places, next, Topology, Node, node_at, LeadsOn, output_at, World, Site, site_at}
+use Rattle.world_model.proofs.net_types.Labels.{label_channel_of-number_of_channel}
+use Rattle.world_model.specs.ipv4_packet.declared.flow.FlowId.TheVariants.{One, Two}
+use Rattle.world_model.specs.crossbar_model.Crossbar.{output_of, input_of}
+use Rattle.run_facts.specs.label_line.Cells.{Role, Downstream, Upstream}
+use Rattle.passing_laws.specs.ordered_lists.Ordered.{Every}
 use Rattle.packet_worlds.proofs.Headings.{port_is, link_is}
 use Rattle.packet_worlds.proofs.Worlds.{port_above}
-use Rattle.port_facts.proofs.Keyed.{at_key, at_every}
-use Rattle.port_facts.specs.Port.{setup_port}
-use Rattle.port_model.specs.Setup.{Policy, Setup, home_of, label_end}
-use Rattle.port_views.specs.Link.{LinkLabel}
-use Rattle.causes.proofs.Shown.{peer_back}
+use Rattle.run_facts.proofs.port_facts.Keyed.{at_key, at_every}
+use Rattle.run_facts.specs.port_facts.Port.{setup_port}
+use Rattle.run_facts.specs.port_views.Link.{LinkLabel}
+use Rattle.running_worlds.proofs.causes.Shown.{peer_back}
 use Rattle.trace_model.specs.declared.cell.Taken.{Taken}
 use Rattle.trace_model.specs.declared.cell.TraceCell.{TraceCell}
 use Rattle.trace_model.specs.declared.end.TraceEnd.{TraceEnd}
@@ -44,26 +27,15 @@ use Rattle.trace_model.specs.Judgement.{misses_hop, misses_hop_from, is_at_node,
 use Rattle.trace_model.specs.Known.{known}
 use Rattle.trace_model.specs.Trace.{Trace, first_put, taken_last, flow_at}
 use Rattle.trace_model.proofs.Same.{same_end-is, same_channel-is}
-use Rattle.world_model.specs.Cells.{port_on, on_link}
-use Rattle.world_model.specs.Switch.{control_port}
 use Rattle.world_model.specs.declared.event.Event.{Event}
 use Rattle.world_model.specs.declared.event.Event.TheVariants.{Carry}
 use Rattle.world_model.specs.declared.link.LinkEnd.{LinkEnd}
-use Rattle.world_model.specs.Conditions.{IsTopology, IsNode, IsPlace, IsEvent}
-use Rattle.world_model.specs.Lines.{is_linked}
-use Rattle.world_model.specs.Owned.{StandsForLast}
-use Rattle.world_model.specs.Past.{Past, last_bound}
-use Rattle.world_model.specs.Places.{queue_at, places}
-use Rattle.world_model.specs.Run.{next}
-use Rattle.world_model.specs.Topology.{Topology, Node, node_at, peer_of}
-use Rattle.world_model.specs.Users.{LeadsOn}
-use Rattle.world_model.specs.Ways.{output_at}
-use Rattle.world_model.specs.World.{World, Site, site_at}
-use Rattle.world_views.specs.Between.{EachSite, HasShapes, IsShapedBranch, home, out, joined, IsPortEnd, default, label, HasAllHops, IsLinkLabel, HasAddress, setups_of}
-use Rattle.world_views.specs.Shown.{way_of}
-use Rattle.world_views.specs.Pairs.{by_branch}
-use Rattle.telling_model.specs.declared.standing.Standing.{Standing}
-use Rattle.telling_model.specs.Passing.{standing, put_at, taken}
+use Rattle.world_model.specs.Topology.{peer_of}
+use Rattle.run_facts.specs.world_views.Between.{EachSite, HasShapes, IsShapedBranch, home, out, joined, IsPortEnd, default, label, HasAllHops, IsLinkLabel, HasAddress, setups_of}
+use Rattle.run_facts.specs.world_views.Shown.{way_of}
+use Rattle.run_facts.specs.world_views.Pairs.{by_branch}
+use Rattle.passing_laws.specs.telling_model.declared.standing.Standing.{Standing}
+use Rattle.passing_laws.specs.telling_model.Passing.{standing, put_at, taken}
 use Rattle.network_trace.specs.Passages.{end_said}
 use Rattle.network_trace.specs.Trace.{port_end, taken_told}
 use Rattle.trace_truth.specs.Law.{HasNames}

@@ -3,16 +3,8 @@
 use Rattle.std.proofs.Common.{◌≡◌, ℕ, ◌||◌, Bool, true, false, List, [], ◌∷◌, ◌++◌, drop, map, Option, None, Some, Ok, refl, sym, ◌∙◌, ap, subst, is_some, if◌then◌else◌}
 use Rattle.std.specs.List.{list_any}
 use Rattle.std.specs.Option.{option_or}
-use Rattle.net_types.specs.declared.channel.Channel.{Channel}
-use Rattle.net_types.specs.declared.node.Place.{Place}
-use Rattle.net_types.specs.declared.node.Place.TheVariants.{Out}
-use Rattle.net_types.specs.declared.number.Mark.{Mark}
-use Rattle.net_types.specs.Label.{is_label_channel, number_of_channel}
-use Rattle.atm_cells.specs.declared.cell.Cell.{Cell}
-use Rattle.link_model.specs.declared.frames.Frame.{Frame}
-use Rattle.link_model.specs.declared.record.Record.{Record}
-use Rattle.link_model.specs.Ledger.{payload_of, same_mark}
-use Rattle.link_model.proofs.Marks.{same_mark-Decides}
+use Rattle.world_model.specs.Words.{Channel, Place, Out, Mark, is_label_channel, number_of_channel, Cell, Frame, Record, payload_of, same_mark, IsTopology, IsNode, is_linked, last_bound, Topology, same_link_end}
+use Rattle.world_model.proofs.link_model.Marks.{same_mark-Decides}
 use Rattle.trace_model.specs.declared.cell.TraceCell.{TraceCell}
 use Rattle.trace_model.specs.declared.end.TraceEnd.{TraceEnd}
 use Rattle.trace_model.specs.declared.end.TraceLabel.{TraceLabel}
@@ -26,11 +18,8 @@ use Rattle.trace_model.specs.Known.{known}
 use Rattle.trace_model.specs.Trace as traces
 use Rattle.trace_model.specs.Trace.{Trace, queue_of, flow_at, payload_at, has_ended, taken_last, first_put}
 use Rattle.world_model.specs.declared.link.LinkEnd.{LinkEnd}
-use Rattle.world_model.specs.Conditions.{IsTopology, IsNode}
-use Rattle.world_model.specs.Lines.{is_linked}
-use Rattle.world_model.specs.Past.{last_bound}
-use Rattle.world_model.specs.Topology.{Topology, peer_of, same_link_end}
-use Rattle.telling_model.specs.declared.standing.Standing.{Standing}
+use Rattle.world_model.specs.Topology.{peer_of}
+use Rattle.passing_laws.specs.telling_model.declared.standing.Standing.{Standing}
 use Rattle.network_trace.specs.Passages.{Passage, line_said, end_said}
 use Rattle.network_trace.specs.Trace.{port_end}
 use Rattle.trace_truth.specs.Law.{AreGood, HasNames}

@@ -1,3 +1,5 @@
+pub use Rattle.script_model.proofs as script_model
+pub use Rattle.true_runs.proofs as true_runs
 pub mod Lines
 pub mod Ends
 pub mod Knows

@@ -3,8 +3,7 @@
 use Rattle.std.proofs.Common.{◌≡◌, ◌==◌, ◌&&◌, ◌||◌, Bool, true, false, List, [], ◌∷◌, ◌++◌, length, map, Option, None, Some, Ok, refl, sym, ◌∙◌, ap, ap₂, subst, append_assoc, append-nil, is_some, if◌then◌else◌}
 use Rattle.std.specs.Prelude.{slice_get}
 use Rattle.std.specs.Option.{option_or, option_map}
-use Rattle.net_types.specs.declared.number.Mark.{Mark}
-use Rattle.link_model.specs.declared.frames.Frame.{Frame}
+use Rattle.world_model.specs.Words.{Mark, Frame, IsTopology, IsLink, IsNode, Topology, Link, peer_on, peer_among, same_link_end}
 use Rattle.trace_model.specs.declared.end.TraceEnd.{TraceEnd}
 use Rattle.trace_model.specs.declared.end.TraceLabel.{TraceLabel}
 use Rattle.trace_model.specs.declared.line.TraceLine.{TraceLine}
@@ -17,8 +16,6 @@ use Rattle.trace_model.specs.Known.{known}
 use Rattle.trace_model.specs.Trace as traces
 use Rattle.trace_model.specs.Trace.{Trace, flow_at, payload_at, first_put, has_ended, has_begun, taken_last}
 use Rattle.world_model.specs.declared.link.LinkEnd.{LinkEnd}
-use Rattle.world_model.specs.Conditions.{IsTopology, IsLink, IsNode}
-use Rattle.world_model.specs.Topology.{Topology, Link, peer_on, peer_among, same_link_end}
 use Rattle.network_trace.specs.Passages.{Linked, line_said, end_said}
 use Rattle.trace_truth.specs.Law.{HasNames, HasLinksOnce}
 use Rattle.trace_truth.proofs.Lines.{Holds, holds_none, holds_beside, is_good}

@@ -7,21 +7,12 @@ use Rattle.std.proofs.lemmas.Bool.{and_parts, and_from}
 use Rattle.std.proofs.lemmas.Bool.Decides.{nat_tests}
 use Rattle.std.proofs.lemmas.List.Concat.{flat_map-cons}
 use Rattle.std.proofs.lemmas.Grind.{flat_map-append}
-use Rattle.net_types.specs.declared.node.NodeId.{NodeId}
-use Rattle.net_types.specs.declared.node.PortNo.{PortNo}
-use Rattle.net_types.specs.declared.node.Place.{Place}
-use Rattle.net_types.specs.declared.node.Place.TheVariants.{Down, Up, Out}
-use Rattle.atm_cells.specs.declared.cell.Cell.{Cell}
-use Rattle.keyed_lists.specs.Keyed.{at}
-use Rattle.crossbar_model.specs.Channels.{ArePorts}
-use Rattle.port_facts.proofs.Keyed.{by_eq}
+use Rattle.world_model.specs.Words.{NodeId, PortNo, Place, Down, Up, Out, Cell, at, ArePorts, same_queue, places_of, places, AreShaped, IsShaped, IsPlaceOf, IsPlaceIn, same_link_end, World, Site, site_key}
+use Rattle.run_facts.proofs.port_facts.Keyed.{by_eq}
 use Rattle.world_model.specs.declared.link.LinkEnd.{LinkEnd}
 use Rattle.world_model.specs.Controller.{ports_of}
-use Rattle.world_model.specs.Places.{same_queue, places_of, places, AreShaped, IsShaped, IsPlaceOf, IsPlaceIn}
-use Rattle.world_model.specs.Topology.{same_link_end}
-use Rattle.world_model.specs.World.{World, Site, site_key}
-use Rattle.telling_model.specs.declared.standing.Standing.{Standing}
-use Rattle.telling_model.specs.Passing.{standing}
+use Rattle.passing_laws.specs.telling_model.declared.standing.Standing.{Standing}
+use Rattle.passing_laws.specs.telling_model.Passing.{standing}
 use Rattle.network_trace.specs.Trace.{port_end}
 use Rattle.trace_truth.proofs.Ends.{ends_are}
 use Rattle.trace_truth.proofs.Knows.{on_end, all_on}

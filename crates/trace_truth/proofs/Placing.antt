@@ -3,25 +3,17 @@
 use Rattle.std.proofs.Common.{◌≡◌, ◌≢◌, ℕ, Bool, true, false, List, [], ◌∷◌, ◌++◌, flat_map, Option, None, Some, refl, sym, ◌∙◌, ap, ap₂, subst, if◌then◌else◌}
 use Rattle.std.specs.Option.{option_or}
 use Rattle.std.proofs.lemmas.List.Concat.{flat_map-cons}
-use Rattle.net_types.specs.declared.channel.Channel.{Channel}
-use Rattle.net_types.specs.declared.node.Place.{Place}
-use Rattle.net_types.specs.declared.node.Place.TheVariants.{Down, Up, Out}
-use Rattle.net_types.specs.declared.number.Mark.{Mark}
-use Rattle.atm_cells.specs.declared.cell.Cell.{Cell}
-use Rattle.link_model.specs.declared.frames.Frame.{Frame}
-use Rattle.link_model.specs.declared.record.Record.{Record}
-use Rattle.link_model.specs.declared.record.Record.TheVariants as kinds
-use Rattle.link_model.specs.Ledger.{payload_of, same_mark}
-use Rattle.link_model.proofs.Marks.{same_mark-Decides}
-use Rattle.ordered_lists.specs.Ordered.{Every}
-use Rattle.ordered_lists.proofs.Every.{every_join}
-use Rattle.port_facts.proofs.Keyed.{on_both}
+use Rattle.world_model.specs.Words.{Channel, Place, Down, Up, Out, Mark, Cell, Frame, Record, payload_of, same_mark, Topology}
+use Rattle.world_model.specs.link_model.declared.record.Record.TheVariants as kinds
+use Rattle.world_model.proofs.link_model.Marks.{same_mark-Decides}
+use Rattle.passing_laws.specs.ordered_lists.Ordered.{Every}
+use Rattle.passing_laws.proofs.ordered_lists.Every.{every_join}
+use Rattle.run_facts.proofs.port_facts.Keyed.{on_both}
 use Rattle.trace_model.specs.declared.end.TraceLabel.{TraceLabel}
 use Rattle.trace_model.specs.Trace.{Trace, first_put}
 use Rattle.world_model.specs.declared.event.Event.{Event}
 use Rattle.world_model.specs.declared.event.Event.TheVariants.{Inject, Carry, Lose, Tick, TickSwitch, Restart, RestartSwitch, Forge, Route}
-use Rattle.world_model.specs.Topology.{Topology}
-use Rattle.telling_model.specs.declared.standing.Standing.{Standing}
+use Rattle.passing_laws.specs.telling_model.declared.standing.Standing.{Standing}
 use Rattle.network_trace.specs.Passages.{Passage, Linked, Taken, Lost, Framed, Put, Bound, line_said}
 use Rattle.network_trace.specs.Trace.{Told, port_end, taken_told, is_due, framed_by, frame_told, cell_told, cells_told, bind_told}
 use Rattle.trace_truth.proofs.Knows.{label_said, after_told}

@@ -4,19 +4,7 @@ use Rattle.std.proofs.Common.{◌≡◌, ℕ, ◌==◌, ◌&&◌, ◌||◌, not,
 use Rattle.std.specs.List.{list_any}
 use Rattle.std.specs.Option.{option_and_then, option_map_or}
 use Rattle.std.proofs.lemmas.Bool.{and_parts, and_from}
-use Rattle.net_types.specs.declared.node.NodeId.{NodeId}
-use Rattle.net_types.specs.declared.node.PortNo.{PortNo}
-use Rattle.net_types.specs.declared.node.Place.{Place}
-use Rattle.net_types.specs.declared.node.Place.TheVariants.{Down, Up, Out}
-use Rattle.net_types.specs.declared.number.Mark.{Mark}
-use Rattle.net_types.specs.Label.{is_label_channel, number_of_channel}
-use Rattle.atm_cells.specs.declared.cell.Cell.{Cell}
-use Rattle.ipv4_packet.specs.declared.flow.FlowId.{FlowId}
-use Rattle.flow_encaps.specs.Labelled.{unwrap_fault}
-use Rattle.flow_encaps.specs.declared.default.EncapsFault.{EncapsFault}
-use Rattle.link_model.specs.declared.frames.Frame.{Frame}
-use Rattle.link_model.specs.declared.record.Record.{Record}
-use Rattle.link_model.specs.Ledger.{payload_of, same_mark}
+use Rattle.world_model.specs.Words.{NodeId, PortNo, Place, Down, Up, Out, Mark, is_label_channel, number_of_channel, Cell, FlowId, unwrap_fault, EncapsFault, Frame, Record, payload_of, same_mark, IsTopology, last_bound, Topology, same_link_end}
 use Rattle.trace_model.specs.declared.cell.TraceCell.{TraceCell}
 use Rattle.trace_model.specs.declared.end.TraceEnd.{TraceEnd}
 use Rattle.trace_model.specs.declared.line.TraceLine.{TraceLine}
@@ -27,15 +15,13 @@ use Rattle.trace_model.specs.Judgement.{judged, breach_of, labelled_breach, flow
 use Rattle.trace_model.specs.Known.{known}
 use Rattle.trace_model.specs.Trace.{Trace, flow_at, payload_at, taken_last}
 use Rattle.world_model.specs.declared.link.LinkEnd.{LinkEnd}
-use Rattle.world_model.specs.Conditions.{IsTopology}
-use Rattle.world_model.specs.Past.{last_bound}
-use Rattle.world_model.specs.Topology.{Topology, peer_of, same_link_end}
-use Rattle.telling_model.specs.declared.standing.Standing.{Standing}
+use Rattle.world_model.specs.Topology.{peer_of}
+use Rattle.passing_laws.specs.telling_model.declared.standing.Standing.{Standing}
 use Rattle.network_trace.specs.Passages.{Framed, Put, line_said, end_said}
 use Rattle.network_trace.specs.Trace.{Told, port_end, is_due, framed_by, frame_told, cell_told, cells_told}
-use Rattle.causes.proofs.Shown.{peer_back}
-use Rattle.ordered_lists.specs.Ordered.{Every}
-use Rattle.port_facts.proofs.Keyed.{on_each}
+use Rattle.running_worlds.proofs.causes.Shown.{peer_back}
+use Rattle.passing_laws.specs.ordered_lists.Ordered.{Every}
+use Rattle.run_facts.proofs.port_facts.Keyed.{on_each}
 use Rattle.trace_truth.specs.Law.{HasNames}
 use Rattle.trace_truth.proofs.Lines.{Holds, holds_put, is_good, allowed}
 use Rattle.trace_truth.proofs.Ends.{same_said}

@@ -3,22 +3,15 @@
 use Rattle.std.proofs.Common.{◌≡◌, ◌≢◌, inl, Bool, true, false, List, [], ◌∷◌, ◌++◌, map, append_assoc, append-nil, None, refl, sym, ◌∙◌, ap, subst, arith}
 use Rattle.std.specs.Prelude.{◌||◌, Contains}
 use Rattle.std.specs.List.{list_any}
-use Rattle.net_types.specs.declared.node.NodeId.{NodeId}
-use Rattle.net_types.specs.declared.node.Place.TheVariants.{Down, Out}
-use Rattle.net_types.specs.declared.number.Mark.{Mark}
-use Rattle.net_types.specs.Label.{is_label_channel}
-use Rattle.atm_cells.specs.declared.cell.Cell.{Cell}
-use Rattle.link_model.specs.declared.frames.Frame.{Frame}
-use Rattle.link_model.specs.declared.record.Record.{Record}
-use Rattle.ordered_lists.specs.Ordered.{Every}
+use Rattle.world_model.specs.Words.{NodeId, Down, Out, Mark, is_label_channel, Cell, Frame, Record, Policy, on_link, IsTopology, IsNode, is_wild, IsRun, IsTame, Past, past_of, frames_of, queue_at, next, Topology, World}
+use Rattle.passing_laws.specs.ordered_lists.Ordered.{Every}
 use Rattle.packet_worlds.proofs.Nets.{world_net}
 use Rattle.packet_worlds.proofs.Opening.{no_cells}
 use Rattle.packet_worlds.proofs.Worlds.{IsNet}
-use Rattle.port_model.specs.Setup.{Policy}
 use Rattle.run_facts.specs.Nodes.{RunsHaveNodes, RunsKeepNodes}
 use Rattle.run_facts.specs.Steps.{EventsAreSteps, FramesStay}
 use Rattle.told_worlds.specs.Bound.{BindsAreWired}
-use Rattle.telling_model.proofs.Told.{opened_notes}
+use Rattle.passing_laws.proofs.telling_model.Told.{opened_notes}
 use Rattle.trace_model.specs.declared.line.TraceLine.{TraceLine}
 use Rattle.trace_model.specs.declared.line.TraceLine.TheVariants as said
 use Rattle.trace_model.specs.Trace.{Trace, first_put, has_ended}
@@ -26,16 +19,9 @@ use Rattle.true_runs.proofs.Fronts.{front_run}
 use Rattle.true_runs.proofs.Quiet.{BindsUnusedInRuns}
 use Rattle.true_runs.proofs.Walk.{holds_at, comes_at}
 use Rattle.true_runs.specs.Runs.{IsWhole, HoldsInRuns}
-use Rattle.world_model.specs.Cells.{on_link}
 use Rattle.world_model.specs.declared.event.Event.{Event}
-use Rattle.world_model.specs.Conditions.{IsTopology, IsNode}
-use Rattle.world_model.specs.Headline.{is_wild, IsRun, IsTame}
-use Rattle.world_model.specs.Past.{Past, past_of, frames_of}
-use Rattle.world_model.specs.Places.{queue_at}
-use Rattle.world_model.specs.Run.{next}
-use Rattle.world_model.specs.Topology.{Topology}
-use Rattle.world_model.specs.World.{World, opened}
-use Rattle.world_views.specs.Kept.{HasAddresses, Comes, behind}
+use Rattle.world_model.specs.World.{opened}
+use Rattle.run_facts.specs.world_views.Kept.{HasAddresses, Comes, behind}
 use Rattle.passing_laws.specs.Law.{QueuesChangeByPassing, QueuesAreTheActors}
 use Rattle.network_trace.specs.Passages.{Passage, line_said}
 use Rattle.network_trace.specs.Trace.{Told, links_told, event_told}

@@ -4,27 +4,19 @@ use Rattle.std.proofs.Common.{◌≡◌, ℕ, zero, suc, List, [], ◌∷◌, �
 use Rattle.std.specs.Prelude.{nat_le}
 use Rattle.std.specs.FinMap.{get}
 use Rattle.std.specs.Option.{option_map}
-use Rattle.net_types.specs.declared.node.PortNo.{PortNo}
-use Rattle.net_types.specs.declared.channel.End.{End}
-use Rattle.net_types.specs.Number.{next_control, with_control}
-use Rattle.atm_cells.specs.declared.cell.Cell.{Cell}
-use Rattle.gsmp_wire.specs.declared.message.Message.{Message}
-use Rattle.gsmp_wire.specs.Layout.{octets_of}
-use Rattle.crossbar_model.specs.declared.branch.Branch.{Branch}
-use Rattle.crossbar_model.specs.declared.routed.Routed.{Routed}
-use Rattle.crossbar_model.specs.declared.routed.Routed.TheVariants as routes
-use Rattle.crossbar_model.specs.Crossbar.{queue_of, output_of, input_of, routed, switched_on, on_channel_of}
-use Rattle.frame_model.specs.Frame.{made, frame_cells}
-use Rattle.frame_model.specs.Sending.{Sent}
-use Rattle.link_model.specs.declared.record.Record.TheVariants.{Loss}
-use Rattle.link_model.specs.declared.record.Cause.TheVariants.{PoolFull}
-use Rattle.link_model.specs.Notes.{noted}
-use Rattle.ordered_lists.specs.Ordered.{Every}
-use Rattle.port_facts.proofs.Keyed.{on_both}
-use Rattle.way_words.proofs.Switching.{Kept, gsmp_kept, tick_kept, restarted_kept}
-use Rattle.world_model.specs.Switch.{Switch, Acted, control_port, gsmp_channel, free_slots}
+use Rattle.world_model.specs.Words.{PortNo, End, next_control, with_control, Cell, Routed, queue_of, routed, switched_on, on_channel_of, made, frame_cells, Loss, PoolFull, noted, Switch, control_port, gsmp_channel, gsmp_cell, tick_comes, restarted}
+use Rattle.world_model.specs.gsmp_wire.declared.message.Message.{Message}
+use Rattle.world_model.specs.gsmp_wire.Layout.{octets_of}
+use Rattle.world_model.specs.crossbar_model.declared.branch.Branch.{Branch}
+use Rattle.world_model.specs.crossbar_model.declared.routed.Routed.TheVariants as routes
+use Rattle.world_model.specs.crossbar_model.Crossbar.{output_of, input_of}
+use Rattle.world_model.specs.frame_model.Sending.{Sent}
+use Rattle.passing_laws.specs.ordered_lists.Ordered.{Every}
+use Rattle.run_facts.proofs.port_facts.Keyed.{on_both}
+use Rattle.packet_worlds.proofs.way_words.Switching.{Kept, gsmp_kept, tick_kept, restarted_kept}
+use Rattle.world_model.specs.Switch.{Acted, free_slots}
 use Rattle.world_model.specs.Conduct as conduct
-use Rattle.world_model.specs.Conduct.{with_cells, says, gsmp_cell, tick_comes, restarted}
+use Rattle.world_model.specs.Conduct.{with_cells, says}
 
 -- the queue of a port of a link
 abbrev pub queue_above : Acted → (q : ℕ) → List Cell

@@ -4,25 +4,14 @@ use Rattle.std.proofs.Common.{◌≡◌, ℕ, suc, ◌≤◌, ◌==◌, ◌&&◌
 use Rattle.std.specs.Prelude.{slice_get}
 use Rattle.std.specs.Option.{option_map}
 use Rattle.std.proofs.lemmas.Bool.{and_parts}
-use Rattle.net_types.specs.declared.node.NodeId.{NodeId}
-use Rattle.net_types.specs.declared.node.PortNo.{PortNo}
-use Rattle.net_types.specs.declared.node.Place.{Place}
-use Rattle.net_types.specs.declared.node.Place.TheVariants.{Down, Up, Out}
-use Rattle.net_types.specs.declared.number.Mark.{Mark}
-use Rattle.atm_cells.specs.declared.cell.Cell.{Cell}
-use Rattle.link_model.specs.declared.frames.Frame.{Frame}
-use Rattle.link_model.specs.declared.record.Record.{Record}
-use Rattle.port_facts.proofs.Keyed.{by_eq}
+use Rattle.world_model.specs.Words.{NodeId, PortNo, Place, Down, Up, Out, Mark, Cell, Frame, Record, IsTopology, IsEvent, place_node, queue_at, queue_number, same_queue, Topology, World}
+use Rattle.run_facts.proofs.port_facts.Keyed.{by_eq}
 use Rattle.trace_model.specs.Trace.{Trace}
 use Rattle.world_model.specs.declared.event.Event.{Event}
 use Rattle.world_model.specs.declared.event.Event.TheVariants.{Inject, Carry, Lose, Tick, TickSwitch, Restart, RestartSwitch, Forge, Route}
 use Rattle.world_model.specs.declared.link.LinkEnd.{LinkEnd}
-use Rattle.world_model.specs.Conditions.{IsTopology, IsEvent}
-use Rattle.world_model.specs.Places.{place_node, queue_at, queue_number, same_queue}
-use Rattle.world_model.specs.Topology.{Topology}
-use Rattle.world_model.specs.World.{World}
 use Rattle.packet_worlds.proofs.Worlds.{port_above}
-use Rattle.telling_model.specs.Passing.{standing, taken, left}
+use Rattle.passing_laws.specs.telling_model.Passing.{standing, taken, left}
 use Rattle.network_trace.specs.Passages.{Taken, Lost, line_said}
 use Rattle.network_trace.specs.Trace.{port_end, taken_told}
 use Rattle.trace_truth.specs.Law.{HasNames}

@@ -2,17 +2,14 @@
 
 use Rattle.std.specs.Prelude.{◌≡◌, true, List, [], ◌∷◌, ◌++◌, All, None, Ok}
 use Rattle.lab_text.specs.Forms.{is_name}
-use Rattle.port_model.specs.Setup.{Policy}
+use Rattle.world_model.specs.Words.{Policy, IsRun, IsTame, past_of, Topology, Node, Link, peer_among}
 use Rattle.trace_model.specs.declared.line.TraceLine.{TraceLine}
 use Rattle.trace_model.specs.declared.verdict.Step.TheVariants.{Good}
 use Rattle.trace_model.specs.Judgement.{judged}
 use Rattle.trace_model.specs.Known.{known}
 use Rattle.trace_model.specs.Trace.{Trace}
 use Rattle.world_model.specs.declared.event.Event.{Event}
-use Rattle.world_model.specs.Headline.{IsRun, IsTame}
-use Rattle.world_model.specs.Past.{past_of}
-use Rattle.world_model.specs.Topology.{Topology, Node, Link, peer_among}
-use Rattle.world_views.specs.Kept.{HasAddresses}
+use Rattle.run_facts.specs.world_views.Kept.{HasAddresses}
 use Rattle.trace_truth.specs.Told.{trace_told}
 
 -- *Lines are good*, each by those before it

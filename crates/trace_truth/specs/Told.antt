@@ -1,14 +1,11 @@
 -- The trace of a run, line by line
 
 use Rattle.std.specs.Prelude.{List, [], ◌∷◌, ◌++◌, map}
-use Rattle.net_types.specs.declared.number.Mark.{Mark}
-use Rattle.port_model.specs.Setup.{Policy}
+use Rattle.world_model.specs.Words.{Mark, Policy, next, Topology, World}
 use Rattle.trace_model.specs.declared.line.TraceLine.{TraceLine}
 use Rattle.trace_model.specs.declared.line.TraceLine.TheVariants as said
 use Rattle.world_model.specs.declared.event.Event.{Event}
-use Rattle.world_model.specs.Run.{next}
-use Rattle.world_model.specs.Topology.{Topology}
-use Rattle.world_model.specs.World.{World, opened}
+use Rattle.world_model.specs.World.{opened}
 use Rattle.network_trace.specs.Passages.{Passage, line_said}
 use Rattle.network_trace.specs.Trace.{links_told, event_told}
 

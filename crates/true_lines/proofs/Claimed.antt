@@ -4,16 +4,10 @@ use Rattle.std.proofs.Common.{◌≡◌, ℕ, zero, suc, ◌<◌, Bool, true, fa
 use Rattle.std.specs.Prelude.{◌||◌, Contains, slice_index_or}
 use Rattle.std.specs.List.{list_any}
 use Rattle.std.proofs.lemmas.List.Concat.{flat_map-cons}
-use Rattle.link_model.specs.declared.record.Cause.TheVariants.{Lost, Unconnected, PoolFull, Cut, Unbound, Broken}
-use Rattle.link_model.specs.declared.record.Record.{Record}
-use Rattle.link_model.specs.declared.record.Record.TheVariants.{Delivered, Dropped, Refused, Loss, Chance, Bad, Opened, Closed, Bind, Free, Join, Part, Forged, Routes}
-use Rattle.port_model.specs.Setup.{Policy}
+use Rattle.world_model.specs.Words.{Lost, Unconnected, PoolFull, Cut, Unbound, Broken, Record, Delivered, Dropped, Refused, Loss, Chance, Bad, Opened, Closed, Bind, Free, Part, Forged, Routes, Policy, Topology, World, next, worlds_from, world_after, records_of, Past, past_of, IsTame, IsTrueToRouting, is_bad}
+use Rattle.world_model.specs.link_model.declared.record.Record.TheVariants.{Join}
 use Rattle.world_model.specs.declared.event.Event.{Event}
-use Rattle.world_model.specs.Topology.{Topology}
-use Rattle.world_model.specs.World.{World, opened}
-use Rattle.world_model.specs.Run.{next, worlds_from, world_after, records_of}
-use Rattle.world_model.specs.Past.{Past, past_of}
-use Rattle.world_model.specs.Headline.{IsTame, IsTrueToRouting, is_bad}
+use Rattle.world_model.specs.World.{opened}
 use Rattle.script_model.specs.Script.{Script}
 use Rattle.true_lines.specs.Claims.{Claims}
 use Rattle.true_lines.specs.Law.{IsTrueOf}

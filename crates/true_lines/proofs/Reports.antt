@@ -4,14 +4,11 @@ use Rattle.std.proofs.Common.{◌≡◌, ℕ, suc, List, [], ◌∷◌, ◌++◌
 use Rattle.std.specs.Prelude.{Contains}
 use Rattle.std.proofs.lemmas.List.Concat.{flat_map-cons}
 use Rattle.lab_text.specs.Lines.{lines_of}
-use Rattle.link_model.specs.declared.record.Record.{Record}
+use Rattle.world_model.specs.Words.{Record, Policy, Topology, Node, World, opens_each, with_opened, empty_world, next, worlds_from, world_after, run, records_of}
 use Rattle.ordered_lists.specs.Ordered.{Every}
 use Rattle.ordered_lists.proofs.Every.{every_join}
-use Rattle.port_model.specs.Setup.{Policy}
 use Rattle.world_model.specs.declared.event.Event.{Event}
-use Rattle.world_model.specs.Topology.{Topology, Node}
-use Rattle.world_model.specs.World.{World, opened, opens_each, with_opened, empty_world}
-use Rattle.world_model.specs.Run.{next, worlds_from, world_after, run, records_of}
+use Rattle.world_model.specs.World.{opened}
 use Rattle.script_model.specs.Records.{record_line}
 use Rattle.script_model.specs.Reports.{last_line}
 use Rattle.script_model.specs.Script.{Script}

@@ -2,31 +2,16 @@
 
 use Rattle.std.proofs.Common.{◌≡◌, ℕ, zero, suc, ◌==◌, List, [], ◌∷◌, Option, None, Some, decimal, codes, refl, slice_get}
 use Rattle.std.specs.Option.{option_map_or}
-use Rattle.net_types.specs.declared.node.NodeId.{NodeId}
-use Rattle.net_types.specs.declared.node.PortNo.{PortNo}
-use Rattle.net_types.specs.declared.node.Place.{Place}
-use Rattle.net_types.specs.declared.node.Place.TheVariants.{Down, Up, Out}
-use Rattle.net_types.specs.declared.number.Mark.{Mark}
-use Rattle.net_types.specs.declared.channel.Channel.{Channel}
-use Rattle.net_types.specs.Label.{label_channel_of}
-use Rattle.ipv4_packet.specs.Identifier.{identifier}
-use Rattle.link_model.specs.declared.record.Cause.{Cause}
-use Rattle.link_model.specs.declared.record.Cause.TheVariants as cause
-use Rattle.link_model.specs.declared.record.DropCause.{DropCause}
-use Rattle.link_model.specs.declared.record.DropCause.TheVariants as drops
-use Rattle.link_model.specs.declared.record.Layer.{Layer}
-use Rattle.link_model.specs.declared.record.Layer.TheVariants as layer
-use Rattle.link_model.specs.declared.record.Refusal.{Refusal}
-use Rattle.link_model.specs.declared.record.Refusal.TheVariants as refusal
-use Rattle.link_model.specs.declared.record.Record.{Record}
-use Rattle.link_model.specs.declared.record.Record.TheVariants.{Delivered, Dropped, Refused, Loss, Chance, Bad, Opened, Closed, Bind, Free, Join, Part, Forged, Routes}
+use Rattle.world_model.specs.Words.{NodeId, PortNo, Place, Down, Up, Out, Mark, Channel, label_channel_of, identifier, Cause, DropCause, Layer, Refusal, Record, Delivered, Dropped, Refused, Loss, Chance, Bad, Opened, Closed, Bind, Free, Part, Forged, Routes, Policy, Topology, Node, node_in, Counts}
+use Rattle.world_model.specs.link_model.declared.record.Cause.TheVariants as cause
+use Rattle.world_model.specs.link_model.declared.record.DropCause.TheVariants as drops
+use Rattle.world_model.specs.link_model.declared.record.Layer.TheVariants as layer
+use Rattle.world_model.specs.link_model.declared.record.Refusal.TheVariants as refusal
+use Rattle.world_model.specs.link_model.declared.record.Record.TheVariants.{Join}
 use Rattle.lab_text.specs.Names.{cause_text, drop_text, layer_text, refusal_text}
 use Rattle.rule_model.specs.declared.refusal.RuleRefusal.{RuleRefusal}
 use Rattle.rule_model.specs.declared.refusal.RuleRefusal.TheVariants as rules
 use Rattle.rule_model.specs.Names.{rule_refusal_name}
-use Rattle.port_model.specs.Setup.{Policy}
-use Rattle.world_model.specs.Topology.{Topology, Node, node_in}
-use Rattle.world_model.specs.World.{Counts}
 use Rattle.script_model.specs.declared.refusal.LineRefusal.{LineRefusal}
 use Rattle.script_model.specs.declared.refusal.LineRefusal.TheVariants as line
 use Rattle.script_model.specs.declared.refusal.DocumentRefusal.{DocumentRefusal}

@@ -1,22 +1,10 @@
 -- What the line of a record claims of the run that it is of
 
 use Rattle.std.specs.Prelude.{◌≡◌, ℕ, ◌≤◌, List, [], ◌∷◌, ◌++◌, length, slice_get, Some}
-use Rattle.net_types.specs.declared.number.Mark.{Mark}
-use Rattle.link_model.specs.declared.entries.Entry.{Entry}
-use Rattle.link_model.specs.declared.record.Cause.TheVariants.{Broken}
-use Rattle.link_model.specs.declared.record.Record.{Record}
-use Rattle.link_model.specs.declared.record.Record.TheVariants.{Delivered, Dropped, Loss, Bad, Bind}
-use Rattle.port_model.specs.Setup.{Policy}
-use Rattle.world_model.specs.Causes.{HasCause}
-use Rattle.world_model.specs.Fates.{Fate, IsDelivered, IsDropped}
+use Rattle.world_model.specs.Words.{Mark, Entry, Broken, Record, Delivered, Dropped, Loss, Bad, Bind, Policy, HasCause, Fate, IsDelivered, IsDropped, Topology, World, next, world_after, Past, past_of, IsTrueFate, fates_of, IsWay, IsUnused}
 use Rattle.world_model.specs.declared.event.Event.{Event}
 use Rattle.world_model.specs.declared.link.LinkEnd.{LinkEnd}
-use Rattle.world_model.specs.Topology.{Topology}
-use Rattle.world_model.specs.World.{World, opened}
-use Rattle.world_model.specs.Run.{next, world_after}
-use Rattle.world_model.specs.Past.{Past, past_of}
-use Rattle.world_model.specs.Headline.{IsTrueFate, fates_of}
-use Rattle.world_model.specs.Users.{IsWay, IsUnused}
+use Rattle.world_model.specs.World.{opened}
 
 -- *The end of a packet*: it is of an accepted packet, one that routing hop by hop, by the tables that the nodes held, can
 -- have made by this event, and the packet's only end so far

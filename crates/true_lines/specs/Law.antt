@@ -1,12 +1,8 @@
 -- Each line of a report is true: of each front of it, where the run is true to routing
 
 use Rattle.std.specs.Prelude.{◌≡◌, ℕ, List, ◌++◌, slice_get, Some}
-use Rattle.port_model.specs.Setup.{Policy}
+use Rattle.world_model.specs.Words.{Policy, Topology, Node, past_of, HasCauses, IsTame, Headline, IsInHarmony}
 use Rattle.world_model.specs.declared.event.Event.{Event}
-use Rattle.world_model.specs.Topology.{Topology, Node}
-use Rattle.world_model.specs.Past.{past_of}
-use Rattle.world_model.specs.Causes.{HasCauses}
-use Rattle.world_model.specs.Headline.{IsTame, Headline, IsInHarmony}
 use Rattle.script_model.specs.Sayable.{IsName}
 use Rattle.script_model.specs.Reports.{report_under, last_line}
 use Rattle.script_model.specs.Script.{Script, script_of}

@@ -2,13 +2,9 @@
 
 use Rattle.std.specs.Prelude.{◌≡◌, ℕ, List, [], ◌∷◌, ◌++◌, All, Contains, codes}
 use Rattle.lab_text.specs.Lines.{lines_of}
-use Rattle.link_model.specs.declared.record.Record.{Record}
-use Rattle.port_model.specs.Setup.{Policy}
+use Rattle.world_model.specs.Words.{Record, Policy, next, world_after, past_of, IsTame}
 use Rattle.world_model.specs.declared.event.Event.{Event}
 use Rattle.world_model.specs.World.{opened}
-use Rattle.world_model.specs.Run.{next, world_after}
-use Rattle.world_model.specs.Past.{past_of}
-use Rattle.world_model.specs.Headline.{IsTame}
 use Rattle.script_model.specs.Records.{record_line}
 use Rattle.script_model.specs.Reports.{last_line}
 use Rattle.script_model.specs.Script.{Script}

@@ -3,17 +3,11 @@
 use Rattle.std.specs.Prelude.{not, nat_le}
 use Rattle.std.proofs.Common.{◌≡◌, ◌==◌, ◌&&◌, ℕ, Bool, true, false, List, [], ◌∷◌, ◌++◌, length, Option, None, Some, refl, sym, ◌∙◌, ap, subst, if◌then◌else◌}
 use Rattle.std.specs.Option.{option_map_or, option_and_then}
-use Rattle.net_types.specs.declared.channel.Channel.{Channel}
-use Rattle.net_types.specs.Label.{label_number_of}
-use Rattle.atm_cells.specs.declared.cell.Cell.{Cell}
-use Rattle.frame_model.specs.Reassembly.{Reassembly, Taken, nothing_taken, taken, passed_over, without_slot, too_long, joined, most_cells}
-use Rattle.link_model.specs.Notes.{Journal}
-use Rattle.port_facts.proofs.Keyed.{on_both}
-use Rattle.keyed_lists.specs.Keyed.{at, put}
-use Rattle.port_model.specs.Labels.{Label, is_bound}
-use Rattle.port_model.specs.Port.{label_at}
-use Rattle.world_model.specs.Controller.{Controller, Acted, Linked, LabelChain, port_key, linked_at, chain_of, chains_with, default_channel}
-use Rattle.world_model.specs.Cells.{with_reassembly, Taker, ForGsmp, ForDefault, ForLabel, port_on, on_link, same_channel, label_taker, taker_at, taker_of}
+use Rattle.world_model.specs.Words.{Channel, label_number_of, Cell, Reassembly, nothing_taken, passed_over, without_slot, too_long, most_cells, Journal, at, put, Label, is_bound, label_at, Controller, Linked, LabelChain, port_key, linked_at, chain_of, chains_with, default_channel, with_reassembly, ForGsmp, ForDefault, ForLabel, port_on, on_link, same_channel, label_taker, taker_at, taker_of}
+use Rattle.world_model.specs.frame_model.Reassembly.{Taken, taken, joined}
+use Rattle.causes.proofs.port_facts.Keyed.{on_both}
+use Rattle.world_model.specs.Controller.{Acted}
+use Rattle.world_model.specs.Cells.{Taker}
 use Rattle.world_model.proofs.Lists.{by_eq, at_key}
 use Rattle.causes.proofs.Ends.{put_same, put_new, chain_here, chain_there}
 use Rattle.true_losses.specs.Cut.{Holder, OfBranch, OfSwitch, OfGsmp, OfDefault, OfLabel, same_holder, holder_of}

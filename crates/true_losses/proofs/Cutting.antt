@@ -7,18 +7,8 @@ use Rattle.std.proofs.lemmas.List.Concat.{flat_map-cons}
 use Rattle.std.proofs.lemmas.Grind.{flat_map-append}
 use Rattle.std.proofs.lemmas.List.Elements.{filter-append}
 use Rattle.std.proofs.lemmas.Bool.Decides.{nat_tests}
-use Rattle.net_types.specs.declared.number.Mark.{Mark}
-use Rattle.net_types.specs.declared.node.PortNo.{PortNo}
-use Rattle.net_types.specs.declared.channel.End.{End}
-use Rattle.atm_cells.specs.declared.cell.Cell.{Cell}
-use Rattle.crossbar_model.specs.Crossbar.{same_end}
-use Rattle.link_model.specs.declared.entries.Entry.{Entry}
-use Rattle.link_model.specs.declared.record.Record.{Record}
-use Rattle.link_model.specs.declared.record.Record.TheVariants.{Loss, Chance}
-use Rattle.link_model.specs.declared.record.Cause.TheVariants.{Cut, Broken, PoolFull}
-use Rattle.link_model.specs.Notes.{Journal, losses_of, noted}
-use Rattle.frame_model.specs.Reassembly.{Reassembly, taken, marks_of, distinct, noted_all, cut}
-use Rattle.frame_model.specs.Frame.{tested}
+use Rattle.world_model.specs.Words.{Mark, PortNo, End, Cell, same_end, Entry, Record, Loss, Chance, Cut, Broken, PoolFull, Journal, losses_of, noted, Reassembly, marks_of, distinct, noted_all, cut, tested}
+use Rattle.world_model.specs.frame_model.Reassembly.{taken}
 use Rattle.world_model.proofs.Lists.{count_append, count_here, count_there}
 use Rattle.true_losses.specs.Cut.{Holder, OfBranch, OfSwitch, OfGsmp, OfDefault, OfLabel, same_holder, is_nothing, is_of_cut, cut_entry}
 use Rattle.true_losses.proofs.Notes.{losses_more, tested_each, taken_each}

@@ -4,14 +4,7 @@ use Rattle.std.proofs.Common.{◌≡◌, ◌≢◌, ◌==◌, ◌&&◌, ℕ, suc
 use Rattle.std.specs.Prelude.{not, count_by}
 use Rattle.std.specs.Option.{option_map_or}
 use Rattle.std.proofs.lemmas.List.Folds.{flat_map-map}
-use Rattle.net_types.specs.declared.node.NodeId.{NodeId}
-use Rattle.net_types.specs.declared.node.Place.{Place}
-use Rattle.net_types.specs.declared.node.Place.TheVariants.{Down, Up, Out}
-use Rattle.atm_cells.specs.declared.cell.Cell.{Cell}
-use Rattle.link_model.specs.declared.entries.Entry.{Entry}
-use Rattle.keyed_lists.specs.Keyed.{at, put}
-use Rattle.world_model.specs.World.{World, Site, site_key, site_at}
-use Rattle.world_model.specs.Places.{place_node, with_queue, with_queue_in, with_queue_of}
+use Rattle.world_model.specs.Words.{NodeId, Place, Down, Up, Out, Cell, Entry, at, put, World, Site, site_key, site_at, place_node, with_queue, with_queue_in, with_queue_of}
 use Rattle.world_model.proofs.Lists.{by_eq, at_key, at_put_same, at_put_other, count_here, count_there}
 use Rattle.true_losses.specs.Cut.{Holder, OfBranch, OfSwitch, OfGsmp, OfDefault, OfLabel, same_holder, held_in, is_nothing, is_over, is_given_up, Held, same_held, at_node, cut_entry, cut_entries}
 use Rattle.true_losses.proofs.Cutting.{cuts_in}

@@ -4,18 +4,10 @@ use Rattle.std.proofs.Common.{◌≡◌, ◌≢◌, ◌<◌, ◌==◌, ◌&&◌,
 use Rattle.std.specs.Prelude.{nat_lt}
 use Rattle.std.specs.Option.{option_map_or}
 use Rattle.std.proofs.lemmas.Bool.Decides.{nat_tests}
-use Rattle.net_types.specs.declared.node.NodeId.{NodeId}
-use Rattle.net_types.specs.declared.node.PortNo.{PortNo}
-use Rattle.net_types.specs.declared.node.Place.{Place}
-use Rattle.net_types.specs.declared.node.Place.TheVariants.{Down, Up, Out}
-use Rattle.atm_cells.specs.declared.cell.Cell.{Cell}
-use Rattle.link_model.specs.declared.entries.Entry.{Entry}
-use Rattle.keyed_lists.specs.Keyed.{at}
+use Rattle.world_model.specs.Words.{NodeId, PortNo, Place, Down, Up, Out, Cell, Entry, at, control_port, World, Site, site_key, site_at, controller_acts, switch_acts, place_node, queue_in, queue_at, same_queue, Journal}
 use Rattle.world_model.specs.Switch as switches
-use Rattle.world_model.specs.Switch.{control_port}
 use Rattle.world_model.specs.Controller as controllers
-use Rattle.world_model.specs.World.{World, Site, site_key, site_at, controller_acts, at_controller, switch_acts, at_switch}
-use Rattle.world_model.specs.Places.{place_node, queue_in, queue_at, same_queue}
+use Rattle.world_model.specs.World.{at_controller, at_switch}
 use Rattle.world_model.proofs.Lists.{by_eq, at_key}
 use Rattle.passing_laws.proofs.Queues.{now_at, then_at, elsewhere}
 use Rattle.true_losses.specs.Sent.{put_in, rooms_in, rooms_at, has_queue_in, has_queue}
@@ -23,7 +15,6 @@ use Rattle.true_losses.proofs.Notes.{Counts}
 use Rattle.true_losses.proofs.Sent.{Sends, sends_as}
 use Rattle.true_losses.proofs.Steps as steps
 use Rattle.true_losses.proofs.Switches.{Grown, put_on}
-use Rattle.link_model.specs.Notes.{Journal}
 use Rattle.passing_laws.proofs.Queues.{waits}
 use Rattle.true_losses.specs.Cut.{Holder, Held, at_node}
 use Rattle.true_losses.proofs.Cutting.{cuts_in}

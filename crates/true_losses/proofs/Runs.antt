@@ -2,17 +2,10 @@
 
 use Rattle.std.proofs.Common.{◌≡◌, ℕ, suc, true, length, map, flat_map, Option, None, Some, List, [], ◌∷◌, ◌++◌, append-nil, append_assoc, refl, sym, ◌∙◌, ap, subst}
 use Rattle.std.proofs.lemmas.List.Concat.{flat_map-cons}
-use Rattle.atm_cells.specs.declared.cell.Cell.{Cell}
-use Rattle.link_model.specs.declared.entries.Entry.{Entry}
-use Rattle.link_model.specs.declared.record.Record.{Record}
-use Rattle.link_model.specs.Notes.{losses_of}
-use Rattle.port_model.specs.Setup.{Policy}
+use Rattle.world_model.specs.Words.{Cell, Entry, Record, losses_of, Policy, Topology, Node, World, Site, site_key, site_at, opened_site, empty_world, with_opened, opens_each, place_node, queue_at, with_queue, with_queue_of, put_away, next, worlds_from, world_after, records_of, NodeId, at, Place}
 use Rattle.world_model.specs.declared.event.Event.{Event}
 use Rattle.world_model.specs.declared.event.Event.TheVariants.{Inject, Carry, Lose, Tick, TickSwitch, Restart, RestartSwitch, Forge, Route}
-use Rattle.world_model.specs.Topology.{Topology, Node}
-use Rattle.world_model.specs.World.{World, Site, site_key, site_at, opened_site, empty_world, with_opened, opens_each, opened}
-use Rattle.world_model.specs.Places.{place_node, queue_at, with_queue, with_queue_of}
-use Rattle.world_model.specs.Run.{put_away, next, worlds_from, world_after, records_of}
+use Rattle.world_model.specs.World.{opened}
 use Rattle.true_losses.specs.Way.{carried_from, lost_on_way}
 use Rattle.true_losses.specs.Sent.{rooms_in, rooms_at, frame_of, cells_of, entry_of, put_in, has_queue, queue_for, switched_head, switched}
 use Rattle.true_losses.specs.Law.{EntersLosses, world_at, LossesAreTrue}
@@ -21,11 +14,8 @@ use Rattle.true_losses.specs.Cut.{Held, same_held, fed_at, fed, is_given_up}
 use Rattle.true_losses.proofs.Worlds.{Came, carried_alike, switched_alike, fed_alike, event_told}
 use Rattle.std.specs.Option.{option_map_or}
 use Rattle.std.specs.Prelude.{not, nat_eq, ◌&&◌, Bool, false, if◌then◌else◌}
-use Rattle.net_types.specs.declared.node.NodeId.{NodeId}
-use Rattle.keyed_lists.specs.Keyed.{at}
-use Rattle.port_facts.proofs.Keyed.{on_both}
-use Rattle.telling_model.specs.Passing.{left, left_of, source_of}
-use Rattle.net_types.specs.declared.node.Place.{Place}
+use Rattle.causes.proofs.port_facts.Keyed.{on_both}
+use Rattle.passing_laws.specs.telling_model.Passing.{left, left_of, source_of}
 use Rattle.world_model.specs.Step.{acts}
 use Rattle.std.proofs.Math.Seq.{drop-append_seam}
 use Rattle.std.specs.Prelude.{drop}

@@ -3,16 +3,7 @@
 use Rattle.std.proofs.Common.{◌≡◌, ℕ, Bool, true, false, List, [], ◌∷◌, ◌++◌, map, flat_map, append-nil, append_assoc, refl, sym, ◌∙◌, ap, subst}
 use Rattle.std.proofs.lemmas.Grind.{flat_map-append}
 use Rattle.std.proofs.lemmas.List.{map-append}
-use Rattle.net_types.specs.declared.channel.Channel.{Channel}
-use Rattle.net_types.specs.declared.number.Mark.{Mark}
-use Rattle.atm_cells.specs.declared.cell.Cell.{Cell}
-use Rattle.link_model.specs.declared.entries.Entry.{Entry}
-use Rattle.link_model.specs.declared.frames.Frame.{Frame}
-use Rattle.link_model.specs.declared.record.Record.{Record}
-use Rattle.link_model.specs.declared.record.Record.TheVariants.{Loss}
-use Rattle.link_model.specs.declared.record.Cause.TheVariants.{PoolFull}
-use Rattle.link_model.specs.Notes.{Journal, noted}
-use Rattle.frame_model.specs.Frame.{made, frame_cells}
+use Rattle.world_model.specs.Words.{Channel, Mark, Cell, Entry, Frame, Record, Loss, PoolFull, Journal, noted, made, frame_cells}
 use Rattle.true_losses.specs.Sent.{Sending, frame_of, cells_of, entry_of}
 use Rattle.true_losses.proofs.Notes.{IsElsewhere, Counts, noted_more, noted_other, made_kept}
 

@@ -6,14 +6,7 @@ use Rattle.std.specs.Option.{option_map_or}
 use Rattle.std.specs.FinMap.{get}
 use Rattle.std.proofs.lemmas.Grind.{flat_map-append}
 use Rattle.std.proofs.lemmas.List.Folds.{flat_map-map}
-use Rattle.net_types.specs.declared.channel.End.{End}
-use Rattle.atm_cells.specs.declared.cell.Cell.{Cell}
-use Rattle.frame_model.specs.Reassembly.{Reassembly, marks_of, distinct, cut}
-use Rattle.link_model.specs.declared.entries.Entry.{Entry}
-use Rattle.link_model.specs.Notes.{Journal}
-use Rattle.world_model.specs.Controller.{Controller}
-use Rattle.world_model.specs.Switch.{Switch}
-use Rattle.world_model.specs.World.{Site}
+use Rattle.world_model.specs.Words.{End, Cell, Reassembly, marks_of, distinct, cut, Entry, Journal, Controller, Switch, Site}
 use Rattle.world_model.proofs.Lists.{count_append, count_here, count_there}
 use Rattle.true_losses.specs.Cut.{Holder, OfBranch, OfSwitch, OfGsmp, OfDefault, OfLabel, same_holder, chain_in, held_in, is_nothing, is_given_up, cut_entry}
 use Rattle.true_losses.proofs.Cutting.{CutsOf, chain_entries, cuts_in, cuts_chain, same_on, same_itself}

@@ -2,28 +2,12 @@
 
 use Rattle.std.proofs.Common.{◌≡◌, ◌++◌, ◌∙◌, ap, sym, subst, filter, [], append-nil, append_assoc, ℕ, List, length, Option, None, Some, refl, if◌then◌else◌}
 use Rattle.std.specs.Prelude.{nat_le}
-use Rattle.net_types.specs.declared.node.PortNo.{PortNo}
-use Rattle.net_types.specs.declared.channel.Channel.{Channel}
-use Rattle.net_types.specs.declared.number.Mark.{Mark}
-use Rattle.link_model.specs.declared.record.Record.{Record}
-use Rattle.link_model.specs.declared.record.Record.TheVariants.{Loss}
-use Rattle.link_model.specs.declared.record.Cause.TheVariants.{PoolFull}
-use Rattle.link_model.specs.Notes.{noted}
-use Rattle.frame_model.specs.Frame.{frame_cells, made}
-use Rattle.frame_model.specs.Sending as frames
-use Rattle.frame_model.specs.Reassembly.{Reassembly, cut}
-use Rattle.link_model.specs.declared.frames.Frame.{Frame}
-use Rattle.atm_cells.specs.declared.cell.Cell.{Cell}
-use Rattle.port_facts.proofs.Keyed.{on_both}
-use Rattle.world_model.specs.Controller.{Controller, Acted, Linked, free_slots, linked_at, with_linked, note, chain_of}
+use Rattle.world_model.specs.Words.{PortNo, Channel, Mark, Record, Loss, PoolFull, noted, frame_cells, made, Reassembly, cut, Frame, Cell, Controller, Linked, linked_at, with_linked, chain_of, cuts_of, cuts_label, cuts_default_of, cuts_default, cuts_gsmp, Entry, at, put, Journal, nothing_taken, port_key, chains_with}
+use Rattle.world_model.specs.frame_model.Sending as frames
+use Rattle.causes.proofs.port_facts.Keyed.{on_both}
+use Rattle.world_model.specs.Controller.{Acted, free_slots, note}
 use Rattle.world_model.specs.Sending.{with_cells, sends}
-use Rattle.world_model.specs.Resets.{cuts_of, cuts_label, cuts_default_of, cuts_default, cuts_gsmp}
-use Rattle.link_model.specs.declared.entries.Entry.{Entry}
-use Rattle.keyed_lists.specs.Keyed.{at, put}
-use Rattle.port_model.specs.Port.{Port}
-use Rattle.link_model.specs.Notes.{Journal}
-use Rattle.frame_model.specs.Reassembly.{nothing_taken}
-use Rattle.world_model.specs.Controller.{port_key, chains_with}
+use Rattle.world_model.specs.port_model.Port.{Port}
 use Rattle.world_model.proofs.Lists.{at_key}
 use Rattle.true_losses.specs.Way.{is_on_way}
 use Rattle.true_losses.specs.Cut.{Holder, OfGsmp, OfDefault, OfLabel, same_holder, is_of_cut}

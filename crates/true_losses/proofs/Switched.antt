@@ -3,33 +3,18 @@
 use Rattle.std.proofs.Common.{◌≡◌, ◌≢◌, ◌∙◌, ap, sym, subst, ℕ, zero, suc, Bool, true, false, List, [], length, Option, None, Some, refl, inl, inr, ◌⊎◌, if◌then◌else◌}
 use Rattle.std.specs.Prelude.{nat_le, option_map}
 use Rattle.std.specs.FinMap.{get, insert}
-use Rattle.net_types.specs.declared.node.PortNo.{PortNo}
-use Rattle.net_types.specs.declared.channel.Channel.{Channel}
-use Rattle.net_types.specs.declared.channel.End.{End}
-use Rattle.net_types.specs.declared.number.Mark.{Mark}
-use Rattle.net_types.specs.declared.adjacency.Party.{Party}
-use Rattle.net_types.specs.Number.{GivenOut, next_control, with_control}
-use Rattle.atm_cells.specs.declared.cell.Cell.{Cell}
-use Rattle.adjacency_table.specs.declared.message.Answer.{Answer}
-use Rattle.adjacency_table.specs.declared.message.Answer.TheVariants.{Quiet, Send, Open, Reset}
-use Rattle.adjacency_table.specs.declared.message.Said.{Said}
-use Rattle.adjacency_table.specs.Side.{ticked}
-use Rattle.adjacency_table.specs.Greeting.{greeting_of, gsmp_answer}
-use Rattle.gsmp_wire.specs.declared.message.Message.{Message}
-use Rattle.gsmp_wire.specs.declared.message.Message.TheVariants as messages
-use Rattle.gsmp_wire.specs.Layout.{octets_of}
-use Rattle.crossbar_model.specs.declared.branch.Branch.{Branch}
-use Rattle.crossbar_model.specs.Crossbar.{Branches, input_of, route_on, output_of, unfinished_after, switched_on, switched}
-use Rattle.link_model.specs.Notes.{Journal, noted}
-use Rattle.link_model.specs.declared.record.Record.TheVariants.{Loss}
-use Rattle.link_model.specs.declared.record.Cause.TheVariants.{PoolFull, Unconnected}
-use Rattle.frame_model.specs.Frame.{made, frame_cells}
-use Rattle.frame_model.specs.Sending as frames
-use Rattle.port_facts.proofs.Keyed.{on_both}
+use Rattle.world_model.specs.Words.{PortNo, Channel, End, Mark, Party, GivenOut, next_control, with_control, Cell, Answer, Quiet, Send, Open, Said, ticked, greeting_of, gsmp_answer, Branches, route_on, unfinished_after, switched_on, switched, Journal, noted, Loss, PoolFull, Unconnected, made, frame_cells, Switch, control_port, gsmp_channel, switched_cell, is_gsmp, gsmp_cell, tick_comes, restarted, Site}
+use Rattle.world_model.specs.adjacency_table.declared.message.Answer.TheVariants.{Reset}
+use Rattle.world_model.specs.gsmp_wire.declared.message.Message.{Message}
+use Rattle.world_model.specs.gsmp_wire.declared.message.Message.TheVariants as messages
+use Rattle.world_model.specs.gsmp_wire.Layout.{octets_of}
+use Rattle.world_model.specs.crossbar_model.declared.branch.Branch.{Branch}
+use Rattle.world_model.specs.crossbar_model.Crossbar.{input_of, output_of}
+use Rattle.world_model.specs.frame_model.Sending as frames
+use Rattle.causes.proofs.port_facts.Keyed.{on_both}
 use Rattle.causes.proofs.Maps.{same_input, insert_here, insert_away}
-use Rattle.world_model.specs.Switch.{Switch, Acted, control_port, gsmp_channel, free_slots}
-use Rattle.world_model.specs.Conduct.{with_cells, sends, says, answers, passed, switched_cell, is_gsmp, gsmp_cell, cell_comes, tick_comes, restarted}
-use Rattle.world_model.specs.World.{Site}
+use Rattle.world_model.specs.Switch.{Acted, free_slots}
+use Rattle.world_model.specs.Conduct.{with_cells, sends, says, answers, passed, cell_comes}
 use Rattle.true_losses.specs.Cut.{Holder, OfSwitch, fed_switch}
 use Rattle.true_losses.proofs.Cutting.{cuts_in, cuts_other}
 use Rattle.true_losses.proofs.Branches.{none_left, uncut, sends_cuts, tick_cuts, gsmp_cuts, restart_cuts}

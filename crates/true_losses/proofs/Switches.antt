@@ -3,59 +3,31 @@
 use Rattle.std.proofs.Common.{◌≡◌, ◌<◌, ◌++◌, ◌∙◌, ap, sym, subst, append-nil, append_assoc, filter, slice_set, slice_index_or, ℕ, suc, ◌==◌, ◌&&◌, Bool, true, false, List, [], ◌∷◌, length, Option, None, Some, refl}
 use Rattle.std.specs.Prelude.{nat_lt, nat_le, Result, Ok, Err}
 use Rattle.std.specs.FinMap.{get, keys}
-use Rattle.net_types.specs.declared.node.PortNo.{PortNo}
-use Rattle.net_types.specs.declared.channel.End.{End}
-use Rattle.net_types.specs.declared.number.Mark.{Mark}
-use Rattle.net_types.specs.declared.adjacency.Party.{Party}
-use Rattle.net_types.specs.Number.{next_control, with_control}
-use Rattle.atm_cells.specs.declared.cell.Cell.{Cell}
-use Rattle.adjacency_table.specs.declared.message.Answer.{Answer}
-use Rattle.adjacency_table.specs.declared.message.Answer.TheVariants.{Quiet, Send, Open, Reset}
-use Rattle.adjacency_table.specs.declared.message.Said.{Said}
-use Rattle.adjacency_table.specs.Side.{Step, is_estab, ticked}
-use Rattle.adjacency_table.specs.Greeting.{greeting_of, gsmp_answer, gsmp_received}
-use Rattle.gsmp_wire.specs.declared.message.Message.{Message}
-use Rattle.gsmp_wire.specs.declared.message.Message.TheVariants as messages
-use Rattle.gsmp_wire.specs.declared.fault.Fault.{Fault}
-use Rattle.gsmp_wire.specs.declared.request.Request.{Request}
-use Rattle.gsmp_wire.specs.declared.request.Request.TheVariants.{AddBranch, MoveBranch, DeleteTree, VerifyTree, DeleteAll, PortManagement, AllPorts}
-use Rattle.gsmp_wire.specs.Layout.{octets_of}
-use Rattle.gsmp_wire.specs.Fields.{decoded}
-use Rattle.crossbar_model.specs.declared.branch.Branch.{Branch}
-use Rattle.crossbar_model.specs.Crossbar.{cut_by_move}
-use Rattle.link_model.specs.declared.record.Record.TheVariants.{Bad, Loss}
-use Rattle.link_model.specs.declared.record.Layer.TheVariants.{Gsmp}
-use Rattle.link_model.specs.declared.record.Cause.TheVariants.{PoolFull, Cut}
-use Rattle.link_model.specs.Notes.{Journal, losses_of, noted}
-use Rattle.refusal_names.specs.Names.{gsmp_refusal}
-use Rattle.frame_model.specs.Frame.{made, frame_cells}
-use Rattle.frame_model.specs.Reassembly.{Taken, taken}
-use Rattle.frame_model.specs.Sending as frames
-use Rattle.port_facts.proofs.Keyed.{on_both}
+use Rattle.world_model.specs.Words.{PortNo, End, Mark, Party, next_control, with_control, Cell, Answer, Quiet, Send, Open, Said, Step, is_estab, ticked, greeting_of, gsmp_answer, gsmp_received, Request, AddBranch, MoveBranch, DeleteTree, VerifyTree, PortManagement, cut_by_move, Bad, Loss, Gsmp, PoolFull, Cut, Journal, losses_of, noted, gsmp_refusal, made, frame_cells, Changed, noted_cut, moved_by, ended_by, all_ended, inputs_on, branches_after, asked_in, is_request, failure_of, Handled, handled_by, handled_asked, handled, Switch, control_port, gsmp_channel, replied, requested, read, gsmp_cell, tick_comes, restarted, Channel, route_on, Entry, Unconnected, Tested, tested, is_gsmp, Frame, Record, Cause, cut, on_channel_of, switched_on, switched, switched_cell}
+use Rattle.world_model.specs.adjacency_table.declared.message.Answer.TheVariants.{Reset}
+use Rattle.world_model.specs.gsmp_wire.declared.message.Message.{Message}
+use Rattle.world_model.specs.gsmp_wire.declared.message.Message.TheVariants as messages
+use Rattle.world_model.specs.gsmp_wire.declared.fault.Fault.{Fault}
+use Rattle.world_model.specs.gsmp_wire.declared.request.Request.TheVariants.{DeleteAll, AllPorts}
+use Rattle.world_model.specs.gsmp_wire.Layout.{octets_of}
+use Rattle.world_model.specs.gsmp_wire.Fields.{decoded}
+use Rattle.world_model.specs.crossbar_model.declared.branch.Branch.{Branch}
+use Rattle.world_model.specs.frame_model.Reassembly.{Taken, taken}
+use Rattle.world_model.specs.frame_model.Sending as frames
+use Rattle.causes.proofs.port_facts.Keyed.{on_both}
 use Rattle.world_model.specs.declared.request.Asked.{Asked}
 use Rattle.world_model.specs.declared.request.Failure.{Failure}
-use Rattle.world_model.specs.Requests.{Changed, noted_cut, moved_by, ended_by, ended, all_ended, inputs_on, cleared, branches_after, asked_in, is_request}
-use Rattle.world_model.specs.Failures.{failure_of}
-use Rattle.world_model.specs.Answers.{Handled, handled_by, handled_asked, handled}
-use Rattle.world_model.specs.Switch.{Switch, Acted, control_port, gsmp_channel, free_slots}
-use Rattle.world_model.specs.Conduct.{with_cells, says, answers, steps, replied, requested, told, read, after_test, ends_frame, gsmp_cell, tick_comes, restarted}
+use Rattle.world_model.specs.Requests.{ended, cleared}
+use Rattle.world_model.specs.Switch.{Acted, free_slots}
+use Rattle.world_model.specs.Conduct.{with_cells, says, answers, steps, told, after_test, ends_frame}
 use Rattle.std.specs.Prelude.{zero, if◌then◌else◌}
-use Rattle.net_types.specs.declared.channel.Channel.{Channel}
-use Rattle.crossbar_model.specs.Crossbar.{input_of, route_on}
-use Rattle.link_model.specs.declared.entries.Entry.{Entry}
-use Rattle.link_model.specs.declared.record.Cause.TheVariants.{Unconnected}
-use Rattle.frame_model.specs.Frame.{Tested, tested}
-use Rattle.world_model.specs.Conduct.{sends, opened_frame, passed, is_gsmp, cell_comes}
+use Rattle.world_model.specs.crossbar_model.Crossbar.{input_of}
+use Rattle.world_model.specs.Conduct.{sends, opened_frame, passed, cell_comes}
 use Rattle.true_losses.specs.Way.{is_on_way, at_chain, at_branch}
 use Rattle.true_losses.proofs.Notes.{IsElsewhere, Counts, noted_more, cut_kept, cut_frames, taken_told, taken_frames, tested_kept, tested_frames}
 use Rattle.true_losses.proofs.Sent.{Sends, sends_none, sends_still, sends_noted, sends_put, sends_full}
 use Rattle.world_model.proofs.Lists.{by_eq, index_set, index_here, length_set}
-use Rattle.link_model.specs.declared.frames.Frame.{Frame}
-use Rattle.link_model.specs.declared.record.Record.{Record}
-use Rattle.link_model.specs.declared.record.Cause.{Cause}
-use Rattle.frame_model.specs.Reassembly.{cut}
-use Rattle.crossbar_model.specs.Crossbar.{on_channel_of, forwarded, switched_on, switched}
-use Rattle.world_model.specs.Conduct.{switched_cell}
+use Rattle.world_model.specs.crossbar_model.Crossbar.{forwarded}
 
 -- what the queue of a port gets
 abbrev pub put_on : PortNo → (i : ℕ) → List Cell → List Cell

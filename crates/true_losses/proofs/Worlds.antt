@@ -4,43 +4,25 @@
 use Rattle.std.proofs.Common.{◌≡◌, ℕ, ◌+◌, Bool, true, false, List, [], ◌∷◌, ◌++◌, length, map, flat_map, Option, None, Some, refl, sym, ◌∙◌, ap, subst, if◌then◌else◌}
 use Rattle.std.specs.Prelude.{drop, nat_lt}
 use Rattle.std.specs.Option.{option_map_or}
-use Rattle.net_types.specs.declared.node.NodeId.{NodeId}
-use Rattle.net_types.specs.declared.node.PortNo.{PortNo}
-use Rattle.net_types.specs.declared.node.Place.{Place}
-use Rattle.net_types.specs.declared.node.Place.TheVariants.{Down, Up, Out}
-use Rattle.net_types.specs.declared.channel.Channel.{Channel}
-use Rattle.net_types.specs.declared.number.Mark.{Mark}
-use Rattle.net_types.specs.Number.{next_control, with_control}
-use Rattle.atm_cells.specs.declared.cell.Cell.{Cell}
-use Rattle.crossbar_model.specs.declared.branch.Branch.{Branch}
-use Rattle.crossbar_model.specs.Crossbar.{input_of}
+use Rattle.world_model.specs.Words.{NodeId, PortNo, Place, Down, Up, Out, Channel, Mark, next_control, with_control, Cell, Entry, Refused, Loss, Forged, Lost, Refusal, at, control_port, is_gsmp, inject_refusal, injected, node_restarts, change_comes, Topology, World, Site, site_key, site_at, place_node, queue_at, with_queue_of, with_queue, with_queue_in, injects_by, arrives_at, arrives, carries_head, loses_head, forges_at, Journal, GivenOut}
+use Rattle.world_model.specs.crossbar_model.declared.branch.Branch.{Branch}
+use Rattle.world_model.specs.crossbar_model.Crossbar.{input_of}
 use Rattle.std.specs.FinMap.{get}
 use Rattle.std.specs.Prelude.{zero, suc}
-use Rattle.link_model.specs.declared.entries.Entry.{Entry}
-use Rattle.link_model.specs.declared.record.Record.TheVariants.{Refused, Loss, Forged}
-use Rattle.link_model.specs.declared.record.Cause.TheVariants.{Lost}
-use Rattle.link_model.specs.declared.record.Refusal.{Refusal}
-use Rattle.keyed_lists.specs.Keyed.{at}
 use Rattle.world_model.specs.Switch as switches
-use Rattle.world_model.specs.Switch.{control_port}
 use Rattle.world_model.specs.Conduct as switch
-use Rattle.world_model.specs.Conduct.{is_gsmp}
 use Rattle.world_model.specs.Controller as controllers
 use Rattle.world_model.specs.Sending.{sends}
-use Rattle.world_model.specs.Packets.{inject_refusal, injected}
 use Rattle.world_model.specs.Cells as controller
 use Rattle.world_model.specs.Ticks.{ticks}
-use Rattle.world_model.specs.Resets.{node_restarts}
-use Rattle.world_model.specs.Changes.{change_comes}
 use Rattle.world_model.specs.declared.event.Event.{Event}
 use Rattle.world_model.specs.declared.event.Event.TheVariants.{Inject, Carry, Lose, Tick, TickSwitch, Restart, RestartSwitch, Forge, Route}
 use Rattle.world_model.specs.declared.link.LinkEnd.{LinkEnd}
-use Rattle.world_model.specs.Topology.{Topology, peer_of}
-use Rattle.world_model.specs.World.{World, Site, site_key, site_at, at_controller, at_switch}
-use Rattle.world_model.specs.Places.{place_node, queue_at, with_queue_of, with_queue, with_queue_in}
-use Rattle.world_model.specs.Step.{note, injects_by, arrives_at, arrives, carries_head, loses_head, forges_at, acts}
+use Rattle.world_model.specs.Topology.{peer_of}
+use Rattle.world_model.specs.World.{at_controller, at_switch}
+use Rattle.world_model.specs.Step.{note, acts}
 use Rattle.world_model.proofs.Lists.{by_eq, at_key, at_put_same, at_put_other, length_set}
-use Rattle.telling_model.specs.Passing.{left_of, source_of}
+use Rattle.passing_laws.specs.telling_model.Passing.{left_of, source_of}
 use Rattle.passing_laws.specs.Reached as passing
 use Rattle.passing_laws.specs.Reached.{led_to, switch_at}
 use Rattle.passing_laws.proofs.Queues.{by_queue, one_queue, taken_is}
@@ -54,8 +36,6 @@ use Rattle.true_losses.proofs.Steps as steps
 use Rattle.true_losses.proofs.Walk as walk
 use Rattle.true_losses.proofs.Arriving as arriving
 use Rattle.true_losses.proofs.Switches as switching
-use Rattle.link_model.specs.Notes.{Journal}
-use Rattle.net_types.specs.Number.{GivenOut}
 use Rattle.true_losses.specs.Cut.{Held, at_node, fed_switch, fed_controller, fed_far, fed_to, fed_at, fed}
 use Rattle.true_losses.proofs.Cutting.{cuts_in, cuts_other}
 use Rattle.true_losses.proofs.Sites.{SiteCuts}

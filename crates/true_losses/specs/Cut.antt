@@ -2,29 +2,13 @@
 
 use Rattle.std.specs.Prelude.{◌≡◌, ℕ, ◌==◌, ◌&&◌, Bool, true, false, not, List, [], ◌∷◌, count_by, map, Option, None, Some, option_map, if◌then◌else◌}
 use Rattle.std.specs.Option.{option_map_or}
-use Rattle.net_types.specs.declared.channel.End.{End}
-use Rattle.net_types.specs.declared.node.NodeId.{NodeId}
-use Rattle.net_types.specs.declared.node.PortNo.{PortNo}
-use Rattle.net_types.specs.declared.node.Place.{Place}
-use Rattle.net_types.specs.declared.node.Place.TheVariants.{Down, Up, Out}
-use Rattle.net_types.specs.declared.number.Mark.{Mark}
-use Rattle.atm_cells.specs.declared.cell.Cell.{Cell}
-use Rattle.crossbar_model.specs.Crossbar.{same_end, output_of, unfinished_on}
-use Rattle.frame_model.specs.Reassembly.{marks_of, distinct}
-use Rattle.link_model.specs.declared.entries.Entry.{Entry}
-use Rattle.link_model.specs.declared.record.Cause.{Cause}
-use Rattle.link_model.specs.declared.record.Cause.TheVariants.{Cut}
-use Rattle.world_model.specs.Switch.{control_port}
-use Rattle.world_model.specs.Conduct.{is_gsmp}
-use Rattle.world_model.specs.Controller.{linked_at, chain_of}
-use Rattle.world_model.specs.Cells.{Taker, ForGsmp, ForDefault, ForLabel, taker_of}
+use Rattle.world_model.specs.Words.{End, NodeId, PortNo, Place, Down, Up, Out, Mark, Cell, same_end, unfinished_on, marks_of, distinct, Entry, Cause, Cut, control_port, is_gsmp, linked_at, chain_of, ForGsmp, ForDefault, ForLabel, taker_of, Topology, World, Site, site_at, queue_at, with_queue, next}
+use Rattle.world_model.specs.crossbar_model.Crossbar.{output_of}
+use Rattle.world_model.specs.Cells.{Taker}
 use Rattle.world_model.specs.declared.event.Event.{Event}
 use Rattle.world_model.specs.declared.event.Event.TheVariants.{Carry}
 use Rattle.world_model.specs.declared.link.LinkEnd.{LinkEnd}
-use Rattle.world_model.specs.Topology.{Topology, peer_of}
-use Rattle.world_model.specs.World.{World, Site, site_at}
-use Rattle.world_model.specs.Places.{queue_at, with_queue}
-use Rattle.world_model.specs.Run.{next}
+use Rattle.world_model.specs.Topology.{peer_of}
 
 -- *What holds open frames* at a node: the branch of an input of its switch, the chain of the switch's GSMP channel, and those
 -- of its controller's GSMP channel, of the default channel of a port, and of a label's channel

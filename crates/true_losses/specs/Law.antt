@@ -1,13 +1,9 @@
 -- Which losses an event is. The ledger has an entry of each, and no other entry of these causes
 
 use Rattle.std.specs.Prelude.{◌≡◌, List, ◌∷◌, ◌++◌, filter, flat_map}
-use Rattle.net_types.specs.declared.node.NodeId.{NodeId}
-use Rattle.link_model.specs.Notes.{losses_of}
-use Rattle.port_model.specs.Setup.{Policy}
+use Rattle.world_model.specs.Words.{NodeId, losses_of, Policy, Topology, World, run, next, world_after, records_of}
 use Rattle.world_model.specs.declared.event.Event.{Event}
-use Rattle.world_model.specs.Topology.{Topology}
-use Rattle.world_model.specs.World.{World, opened}
-use Rattle.world_model.specs.Run.{run, next, world_after, records_of}
+use Rattle.world_model.specs.World.{opened}
 use Rattle.true_losses.specs.Way.{is_on_way, lost_on_way}
 use Rattle.true_losses.specs.Sent.{Sending, entry_of, rooms_at, AreSent}
 use Rattle.true_losses.specs.Cut.{Held, AreCut, is_of_cut, cut_entries}

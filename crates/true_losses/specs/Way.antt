@@ -3,28 +3,16 @@
 
 use Rattle.std.specs.Prelude.{zero, suc, ◌||◌, Bool, true, false, nat_lt, ℕ, List, [], ◌∷◌, Option, None, Some, if◌then◌else◌}
 use Rattle.std.specs.FinMap.{get}
-use Rattle.net_types.specs.declared.node.Place.{Place}
-use Rattle.net_types.specs.declared.node.Place.TheVariants.{Down, Up, Out}
-use Rattle.net_types.specs.declared.node.PortNo.{PortNo}
-use Rattle.net_types.specs.declared.number.Mark.{Mark}
-use Rattle.atm_cells.specs.declared.cell.Cell.{Cell}
-use Rattle.crossbar_model.specs.declared.branch.Branch.{Branch}
-use Rattle.crossbar_model.specs.Crossbar.{input_of}
-use Rattle.frame_model.specs.Reassembly.{Reassembly}
-use Rattle.link_model.specs.declared.entries.Entry.{Entry}
-use Rattle.link_model.specs.declared.record.Cause.{Cause}
-use Rattle.link_model.specs.declared.record.Cause.TheVariants.{Lost, Unconnected, PoolFull, Unbound}
+use Rattle.world_model.specs.Words.{Place, Down, Up, Out, PortNo, Mark, Cell, Reassembly, Entry, Cause, Lost, Unconnected, PoolFull, Unbound, control_port, is_gsmp, Controller, taker_of, reassembly_of, Topology, World, Site, site_at, queue_at, with_queue}
+use Rattle.world_model.specs.crossbar_model.declared.branch.Branch.{Branch}
+use Rattle.world_model.specs.crossbar_model.Crossbar.{input_of}
 use Rattle.world_model.specs.Switch as switch
-use Rattle.world_model.specs.Switch.{control_port}
-use Rattle.world_model.specs.Conduct.{is_gsmp}
-use Rattle.world_model.specs.Controller.{Controller, free_slots}
-use Rattle.world_model.specs.Cells.{Taker, taker_of, reassembly_of}
+use Rattle.world_model.specs.Controller.{free_slots}
+use Rattle.world_model.specs.Cells.{Taker}
 use Rattle.world_model.specs.declared.event.Event.{Event}
 use Rattle.world_model.specs.declared.event.Event.TheVariants.{Carry, Lose}
 use Rattle.world_model.specs.declared.link.LinkEnd.{LinkEnd}
-use Rattle.world_model.specs.Topology.{Topology, peer_of}
-use Rattle.world_model.specs.World.{World, Site, site_at}
-use Rattle.world_model.specs.Places.{queue_at, with_queue}
+use Rattle.world_model.specs.Topology.{peer_of}
 
 -- *Four causes* are of a cell on its way, the last of them of a frame too that finds no slots. The others are of a chain
 abbrev pub is_of_way : Cause → Bool

@@ -5,14 +5,9 @@ use Rattle.std.specs.Prelude.{◌==◌, ◌&&◌}
 use Rattle.std.specs.List.{list_all, sum_by}
 use Rattle.std.proofs.lemmas.Bool.Decides.{nat_tests}
 use Rattle.std.proofs.lemmas.List.Sums.{sum_by-cons}
-use Rattle.net_types.specs.declared.node.Place.{Place}
-use Rattle.atm_cells.specs.declared.cell.Cell.{Cell}
-use Rattle.world_model.specs.World.{World}
-use Rattle.world_model.specs.Places.{places, queue_at}
-use Rattle.world_model.specs.Past.{Past}
-use Rattle.world_model.specs.Headline.{HasFatesWhole}
-use Rattle.world_views.specs.Marks.{ends_in}
-use Rattle.world_views.specs.Between.{HasPacketsOnce}
+use Rattle.world_model.specs.Words.{Place, Cell, World, places, queue_at, Past, HasFatesWhole}
+use Rattle.run_facts.specs.world_views.Marks.{ends_in}
+use Rattle.run_facts.specs.world_views.Between.{HasPacketsOnce}
 
 -- *Links that are empty* hold no last cell
 no_cells : (k : ℕ) (cells : List Cell) → (length cells == 0) ≡ true → ends_in k cells ≡ 0

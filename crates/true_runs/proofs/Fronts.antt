@@ -4,13 +4,9 @@ use Rattle.std.proofs.Common.{◌≡◌, Bool, true, false, List, [], ◌∷◌,
 use Rattle.std.specs.Prelude.{◌||◌}
 use Rattle.std.specs.List.{list_any}
 use Rattle.std.proofs.lemmas.Grind.{flat_map-append}
-use Rattle.port_model.specs.Setup.{Policy}
+use Rattle.world_model.specs.Words.{Policy, Topology, World, next, worlds_from, records_of, run, past_of, is_wild, IsTame, IsRun}
 use Rattle.world_model.specs.declared.event.Event.{Event}
-use Rattle.world_model.specs.Topology.{Topology}
-use Rattle.world_model.specs.World.{World, opened}
-use Rattle.world_model.specs.Run.{next, worlds_from, records_of, run}
-use Rattle.world_model.specs.Past.{past_of}
-use Rattle.world_model.specs.Headline.{is_wild, IsTame, IsRun}
+use Rattle.world_model.specs.World.{opened}
 
 -- *The worlds of a front* are a front of the worlds
 later : Topology → World → (before after : List Event) → List World

@@ -2,10 +2,8 @@
 
 use Rattle.std.proofs.Common.{◌≡◌, false, List, [], ◌++◌, sym, ap, subst}
 use Rattle.std.specs.List.{list_any}
-use Rattle.link_model.specs.declared.record.Record.{Record}
-use Rattle.world_model.specs.Past.{past_of}
-use Rattle.world_model.specs.Headline.{is_bad, IsInHarmony}
-use Rattle.world_views.specs.Kept.{Begins, behind}
+use Rattle.world_model.specs.Words.{Record, past_of, is_bad, IsInHarmony}
+use Rattle.run_facts.specs.world_views.Kept.{Begins, behind}
 use Rattle.run_facts.specs.Steps.{EventsAreSteps}
 use Rattle.packet_worlds.proofs.Lists.{none_join}
 use Rattle.packet_worlds.proofs.Fated.{opened_notes}

@@ -1,13 +1,10 @@
 -- the parts of what is so of every network, put together: each is kept from all of them
 
 use Rattle.std.specs.Prelude.{List}
-use Rattle.port_model.specs.Setup.{Policy}
+use Rattle.world_model.specs.Words.{Policy, Topology, Past, past_of, IsInHarmony}
 use Rattle.world_model.specs.declared.event.Event.{Event}
-use Rattle.world_model.specs.Topology.{Topology}
-use Rattle.world_model.specs.Past.{Past, past_of}
-use Rattle.world_model.specs.Headline.{IsInHarmony}
-use Rattle.world_views.specs.Between.{HasAllShapes, HasAllPortsUp, HasAllNumbers, HasAllReady, HasAllMade, HasAllLabels, HasAllInputs, HasAllUsers, HasAllCleared, HasAllJoins, HasAllLedOnce, HasAllHops, HasAllPassed}
-use Rattle.world_views.specs.Kept.{Comes, Keeps, Begins, behind}
+use Rattle.run_facts.specs.world_views.Between.{HasAllShapes, HasAllPortsUp, HasAllNumbers, HasAllReady, HasAllMade, HasAllLabels, HasAllInputs, HasAllUsers, HasAllCleared, HasAllJoins, HasAllLedOnce, HasAllHops, HasAllPassed}
+use Rattle.run_facts.specs.world_views.Kept.{Comes, Keeps, Begins, behind}
 use Rattle.packet_worlds.specs.Law.{HasPackets}
 use Rattle.passed_cells.specs.Passed.{HasRequests}
 use Rattle.ownership.specs.Places.{HasPlaces}

@@ -1,3 +1,4 @@
+pub use Rattle.quiet_links.proofs.quiet_rounds as quiet_rounds
 pub mod Fronts
 pub mod Walk
 pub mod Fates

@@ -1,13 +1,11 @@
 -- from each world of a run on, carrying empties all queues, and then each accepted packet has its fate or an entry in the ledger
 
 use Rattle.std.proofs.Common.{List, ◌∷◌, refl}
-use Rattle.port_model.specs.Setup.{Policy}
+use Rattle.world_model.specs.Words.{Policy, Topology, past_of}
 use Rattle.world_model.specs.declared.event.Event.{Event}
 use Rattle.world_model.specs.declared.event.Event.TheVariants.{Carry}
-use Rattle.world_model.specs.Topology.{Topology}
-use Rattle.world_model.specs.Past.{past_of}
-use Rattle.world_views.specs.Kept.{HasAddresses, Comes, BindsUnusedAt}
-use Rattle.quiet_model.specs.Law.{GoesOn, IsQuiet, PacketsEndFrom, carried, in_rounds}
+use Rattle.run_facts.specs.world_views.Kept.{HasAddresses, Comes, BindsUnusedAt}
+use Rattle.quiet_links.specs.quiet_model.Law.{GoesOn, IsQuiet, PacketsEndFrom, carried, in_rounds}
 use Rattle.quiet_links.specs.Law.{CarriesWeighLess, CarriesOf, CarriesFind, RoundsMakeLighter, RoundsEmptyQueues, PacketsEnd}
 use Rattle.true_runs.specs.Runs.{IsWhole, HoldsInRuns}
 use Rattle.true_runs.proofs.Walk.{holds_at, comes_at}

@@ -1,16 +1,12 @@
 -- what is kept in every run gives what is true of it
 
 use Rattle.std.proofs.Common.{◌≡◌, List, ◌∷◌, ◌++◌, subst}
-use Rattle.port_model.specs.Setup.{Policy}
+use Rattle.world_model.specs.Words.{Policy, Topology, past_of, HasCauses, IsRun, IsTame, Headline, AreOwned, IsInHarmony, HasFatesOnce}
 use Rattle.world_model.specs.declared.event.Event.{Event}
-use Rattle.world_model.specs.Topology.{Topology}
-use Rattle.world_model.specs.Past.{past_of}
-use Rattle.world_model.specs.Causes.{HasCauses}
-use Rattle.world_model.specs.Headline.{IsRun, IsTame, Headline, AreOwned, IsInHarmony, HasFatesOnce}
 use Rattle.lifetimes.specs.Run.{IsSetInRuns, EndsInRuns, SendsNoMoreInRuns, IsLedBackInRuns, IsEndedByResetInRuns}
 use Rattle.run_facts.specs.Nodes.{RunsHaveNodes}
-use Rattle.world_views.specs.Between.{IsWorld, HasPacketsOnce}
-use Rattle.world_views.specs.Kept.{HasAddresses}
+use Rattle.run_facts.specs.world_views.Between.{IsWorld, HasPacketsOnce}
+use Rattle.run_facts.specs.world_views.Kept.{HasAddresses}
 use Rattle.told_tables.specs.Law.{TablesAreTold}
 use Rattle.true_losses.specs.Law.{LossesAreTrue}
 use Rattle.steady_routes.specs.Law.{ChangesNoRoute, AreJourneys, FatesAreJourneys}

@@ -1,12 +1,9 @@
 -- what holds at the opening of a run and is kept by each event holds in every run
 
 use Rattle.std.proofs.Common.{◌≡◌, List, [], ◌∷◌, ◌++◌, append_assoc, append-nil, sym, subst, ◌∙◌}
-use Rattle.port_model.specs.Setup.{Policy}
+use Rattle.world_model.specs.Words.{Policy, Topology, Past, past_of, IsRun, IsTame}
 use Rattle.world_model.specs.declared.event.Event.{Event}
-use Rattle.world_model.specs.Topology.{Topology}
-use Rattle.world_model.specs.Past.{Past, past_of}
-use Rattle.world_model.specs.Headline.{IsRun, IsTame}
-use Rattle.world_views.specs.Kept.{HasAddresses, Comes, Begins, behind}
+use Rattle.run_facts.specs.world_views.Kept.{HasAddresses, Comes, Begins, behind}
 use Rattle.true_runs.specs.Runs.{HoldsInRuns}
 use Rattle.true_runs.proofs.Fronts.{front_run, front_tame}
 

@@ -1,30 +1,17 @@
 -- What is true of every run of a network, whatever its policy: the headline, and what stands beside it
 
 use Rattle.std.specs.Prelude.{◌≡◌, ℕ, ◌+◌, ◌≤◌, true, List, [], ◌∷◌, ◌++◌, Some}
-use Rattle.net_types.specs.declared.node.NodeId.{NodeId}
-use Rattle.net_types.specs.declared.node.PortNo.{PortNo}
-use Rattle.net_types.specs.declared.node.Place.TheVariants.{Down}
-use Rattle.net_types.specs.declared.channel.End.{End}
-use Rattle.port_model.specs.Setup.{Policy, control_end}
-use Rattle.port_model.specs.Grants.{Grant, ByInput}
+use Rattle.world_model.specs.Words.{NodeId, PortNo, Down, End, Policy, control_end, Grant, ByInput, Topology, World, controller_at, queue_at, next, world_after, Past, past_of, CountsAsItsFrame, HasCauses, IsRun, IsTame, Headline, AreOwned, IsInHarmony, OffersNothing, BindsNothing, Controller}
 use Rattle.world_model.specs.declared.event.Event.{Event}
 use Rattle.world_model.specs.declared.event.Event.TheVariants.{Tick}
-use Rattle.world_model.specs.Topology.{Topology}
-use Rattle.world_model.specs.World.{World, controller_at, opened}
-use Rattle.world_model.specs.Places.{queue_at}
-use Rattle.world_model.specs.Run.{next, world_after}
-use Rattle.world_model.specs.Past.{Past, past_of}
-use Rattle.world_model.specs.Stretches.{CountsAsItsFrame}
-use Rattle.world_model.specs.Causes.{HasCauses}
-use Rattle.world_model.specs.Headline.{IsRun, IsTame, Headline, AreOwned, IsInHarmony, OffersNothing, BindsNothing}
-use Rattle.world_model.specs.Controller.{Controller}
-use Rattle.world_views.specs.Kept.{HasAddresses}
+use Rattle.world_model.specs.World.{opened}
+use Rattle.run_facts.specs.world_views.Kept.{HasAddresses}
 use Rattle.ownership.specs.Owning.{AreInOrder}
 use Rattle.ownership.specs.Copies.{AreAllCopiesInOrder}
 use Rattle.told_tables.specs.Law.{AreToldTables}
 use Rattle.true_losses.specs.Law.{AreTrueLosses}
 use Rattle.steady_routes.specs.Law.{ChangesNoRoute, AreJourneys}
-use Rattle.quiet_model.specs.Law.{IsQuiet, PacketsEndFrom}
+use Rattle.quiet_links.specs.quiet_model.Law.{IsQuiet, PacketsEndFrom}
 use Rattle.lifetimes.specs.Aging.{HasEnded}
 use Rattle.lifetimes.specs.Law.{SendsNone, EndsByReset}
 use Rattle.lifetimes.specs.Run.{IsCountedIn, SetsIn, IsSetIn, acted_in, grant_in, comes_to, NotSetIn, IsConductIn, stays_in, IsLedIn, reaches_in}

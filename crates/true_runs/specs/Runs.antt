@@ -1,13 +1,10 @@
 -- What holds of every run before the first frame that was forged or passed its test by chance
 
 use Rattle.std.specs.Prelude.{List}
-use Rattle.port_model.specs.Setup.{Policy}
+use Rattle.world_model.specs.Words.{Policy, Topology, Past, past_of, IsRun, IsTame, IsInHarmony}
 use Rattle.world_model.specs.declared.event.Event.{Event}
-use Rattle.world_model.specs.Topology.{Topology}
-use Rattle.world_model.specs.Past.{Past, past_of}
-use Rattle.world_model.specs.Headline.{IsRun, IsTame, IsInHarmony}
-use Rattle.world_views.specs.Between.{IsWorld}
-use Rattle.world_views.specs.Kept.{HasAddresses}
+use Rattle.run_facts.specs.world_views.Between.{IsWorld}
+use Rattle.run_facts.specs.world_views.Kept.{HasAddresses}
 use Rattle.packet_worlds.specs.Channels.{HasChannels}
 use Rattle.passed_cells.specs.Passed.{HasRequests}
 use Rattle.ownership.specs.Places.{HasPlaces}

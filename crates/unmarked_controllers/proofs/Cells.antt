@@ -3,13 +3,10 @@
 use Rattle.std.proofs.Common.{◌≡◌, ℕ, ◌/◌, Bool, true, false, List, [], ◌∷◌, ◌++◌, length, map, Option, None, Some, refl, sym, ◌∙◌, ap, subst, if◌then◌else◌}
 use Rattle.std.specs.Prelude.{not, nat_le}
 use Rattle.std.specs.List.{range_with_len}
-use Rattle.net_types.specs.declared.channel.Channel.{Channel}
-use Rattle.net_types.specs.declared.number.Mark.{Mark}
-use Rattle.atm_cells.specs.declared.cell.Cell.{Cell}
+use Rattle.world_model.specs.Words.{Channel, Mark, Cell, Journal, frame_cells, payload_in, tested, tested_by, Reassembly, passed_over, without_slot, too_long, most_cells}
 use Rattle.aal5_frames.specs.Frame.{cells_with, cell_of, pdu_of}
-use Rattle.link_model.specs.Notes.{Journal}
-use Rattle.frame_model.specs.Frame.{frame_cells, octets_of, payload_in, tested, tested_by}
-use Rattle.frame_model.specs.Reassembly.{Reassembly, Taken, taken, passed_over, without_slot, too_long, joined, most_cells}
+use Rattle.world_model.specs.frame_model.Frame.{octets_of}
+use Rattle.world_model.specs.frame_model.Reassembly.{Taken, taken, joined}
 use Rattle.unmarked_controllers.specs.Unmarked.{no_mark, unmarked_cell, unmarked_cells, unmarked_reassembly}
 use Rattle.unmarked_controllers.proofs.Lists.{length_same, map_join, map_then}
 

@@ -4,25 +4,11 @@ use Rattle.std.proofs.Common.{◌≡◌, ℕ, ◌+◌, ◌-◌, Bool, true, fals
 use Rattle.std.specs.Prelude.{nat_le, nat_lt, flat_map}
 use Rattle.std.specs.Option.{option_map, option_and_then, option_map_or}
 use Rattle.std.proofs.lemmas.List.Folds.{flat_map-map}
-use Rattle.net_types.specs.declared.node.PortNo.{PortNo}
-use Rattle.net_types.specs.declared.channel.Channel.{Channel}
-use Rattle.net_types.specs.declared.channel.End.{End}
-use Rattle.net_types.specs.declared.number.Mark.{Mark}
-use Rattle.ipv4_packet.specs.declared.flow.FlowId.{FlowId}
-use Rattle.net_types.specs.Label.{number_of_channel}
-use Rattle.net_types.specs.Number.{next_control, with_control}
-use Rattle.atm_cells.specs.declared.cell.Cell.{Cell}
-use Rattle.link_model.specs.Notes.{noted}
-use Rattle.link_model.specs.declared.record.Record.TheVariants.{Loss}
-use Rattle.link_model.specs.declared.record.Cause.TheVariants.{PoolFull}
-use Rattle.frame_model.specs.Frame.{frame_cells, made}
-use Rattle.frame_model.specs.Reassembly.{Reassembly, nothing_taken}
-use Rattle.frame_model.specs.Sending.{Sent}
-use Rattle.port_model.specs.Port.{label_at}
-use Rattle.world_model.specs.Controller.{Controller, Acted, Linked, LabelChain, free_slots, chain_slots, port_slots, port_key, chain_key, linked_at, ports_of, chain_of, chains_with, with_linked}
-use Rattle.world_model.specs.Sending.{with_cells, sends, sends_control}
-use Rattle.world_model.specs.Joins.{Join, joins_of, joins_at, end_le, join_by, join_through, label_on, inputs_at}
-use Rattle.keyed_lists.specs.Keyed.{at, without, entered, key_le, in_order}
+use Rattle.world_model.specs.Words.{PortNo, Channel, End, Mark, FlowId, number_of_channel, next_control, with_control, Cell, noted, Loss, PoolFull, frame_cells, made, Reassembly, nothing_taken, label_at, Controller, Linked, LabelChain, chain_slots, port_slots, port_key, chain_key, linked_at, chain_of, chains_with, with_linked, sends_control, joins_of, joins_at, end_le, join_by, join_through, label_on, inputs_at, at, without, entered, key_le, in_order}
+use Rattle.world_model.specs.frame_model.Sending.{Sent}
+use Rattle.world_model.specs.Controller.{Acted, free_slots, ports_of}
+use Rattle.world_model.specs.Sending.{with_cells, sends}
+use Rattle.world_model.specs.Joins.{Join}
 use Rattle.unmarked_controllers.specs.Unmarked.{no_mark, unmarked_cell, unmarked_cells, unmarked_numbers, unmarked_reassembly, unmarked_chain, unmarked_linked, unmarked_controller, shown, bare}
 use Rattle.unmarked_controllers.proofs.Lists.{length_same, map_join, map_then, sum_same, at_same, put_same, without_same, entered_same}
 use Rattle.unmarked_controllers.proofs.Notes.{shown_twice, entered_shown}

@@ -4,45 +4,21 @@ use Rattle.std.proofs.Common.{◌≡◌, ℕ, ◌+◌, ◌&&◌, true, false, no
 use Rattle.std.specs.Prelude.{find, filter, flat_map}
 use Rattle.std.specs.List.{list_any}
 use Rattle.std.specs.Option.{option_map}
-use Rattle.net_types.specs.declared.node.PortNo.{PortNo}
-use Rattle.net_types.specs.declared.channel.End.{End}
-use Rattle.net_types.specs.declared.adjacency.Party.{Party}
-use Rattle.net_types.specs.declared.adjacency.Greeting.{Greeting}
-use Rattle.net_types.specs.Label.{number_of_channel}
-use Rattle.ipv4_forward.specs.declared.change.RouteChange.{RouteChange}
-use Rattle.ipv4_forward.specs.Change.{changed}
-use Rattle.gsmp_wire.specs.declared.request.Request.{Request}
-use Rattle.gsmp_wire.specs.declared.request.Request.TheVariants.{AddBranch, MoveBranch, DeleteTree, VerifyTree, DeleteAll, PortManagement, AllPorts}
-use Rattle.gsmp_wire.specs.declared.message.Message.{Message}
-use Rattle.gsmp_wire.specs.declared.message.Message.TheVariants as messages
-use Rattle.adjacency_table.specs.declared.message.Answer.{Answer}
-use Rattle.adjacency_table.specs.declared.message.Answer.TheVariants.{Quiet, Send, Open, Reset}
-use Rattle.adjacency_table.specs.declared.message.Said.{Said}
-use Rattle.adjacency_table.specs.Side.{Step, is_estab, ticked}
-use Rattle.adjacency_table.specs.Greeting.{gsmp_answer, gsmp_received}
-use Rattle.port_model.specs.Desk.{empty_desk, sent_again}
-use Rattle.port_model.specs.DeskAnswers.{Answered, Unknown, Done, Ports, Failed, answered, after_answer}
-use Rattle.port_model.specs.Labels.{Label}
-use Rattle.port_model.specs.Requests.{leads_home}
-use Rattle.port_model.specs.Messages.{is_up}
-use Rattle.crossbar_model.specs.Crossbar.{same_end}
-use Rattle.port_model.specs.Answers as port_answers
-use Rattle.port_model.specs.Joins as port_joins
-use Rattle.port_model.specs.Resets.{cleared}
-use Rattle.port_model.specs.Saying.{closes}
-use Rattle.port_model.specs.Setup.{home_of}
-use Rattle.port_model.specs.Ticks as port_ticks
-use Rattle.link_model.specs.declared.record.Record.TheVariants.{Part, Routes}
-use Rattle.link_model.specs.declared.record.Record.{Record}
-use Rattle.world_model.specs.Controller.{Acted, Linked, linked_at, ports_of, with_linked, with_desk, note, default_end, default_home}
-use Rattle.world_model.specs.Sending.{says_gsmp}
-use Rattle.world_model.specs.Asking.{sends_request, asks}
-use Rattle.world_model.specs.Performing.{at_port}
-use Rattle.world_model.specs.Joins.{Join, join_of, parts, gives_back, releases_join, releases_input, released_inputs, resets_spent, releases, join_for, may_join, enters_grant, output_of, enters_label, joins, tries_label, label_on, tries_join, inputs_at, tries_joins}
-use Rattle.world_model.specs.Changes.{is_changed, changed_joins, takes_join_back, begins_change, takes_change, may_take, takes_each, takes_changes, change_comes}
-use Rattle.world_model.specs.Meeting.{meets, up_ports, empties, default_branches, ends_meeting, has_emptied, port_of, tells_port, behind_delete_all, causes_in_estab, causes, may_clear, clears_of, clears_port, clears, done, answers_desk, answer_comes}
+use Rattle.world_model.specs.Words.{PortNo, End, Party, Greeting, number_of_channel, RouteChange, changed, Request, AddBranch, MoveBranch, DeleteTree, VerifyTree, PortManagement, Answer, Quiet, Send, Open, Said, Step, is_estab, ticked, gsmp_answer, gsmp_received, empty_desk, sent_again, Answered, Unknown, Done, Ports, Failed, answered, after_answer, Label, leads_home, same_end, closes, home_of, Part, Routes, Record, Linked, linked_at, with_linked, with_desk, default_end, default_home, says_gsmp, sends_request, asks, at_port, join_of, parts, gives_back, releases_join, releases_input, released_inputs, resets_spent, releases, join_for, may_join, enters_grant, enters_label, joins, tries_label, label_on, tries_join, inputs_at, tries_joins, is_changed, changed_joins, takes_join_back, begins_change, takes_change, may_take, takes_each, takes_changes, change_comes, meets, up_ports, empties, default_branches, ends_meeting, has_emptied, tells_port, behind_delete_all, causes_in_estab, causes, may_clear, clears_of, clears_port, clears, answers_desk, answer_comes, sends_again, ticks_port, ticks_ports, ticks_by}
+use Rattle.world_model.specs.gsmp_wire.declared.request.Request.TheVariants.{DeleteAll, AllPorts}
+use Rattle.world_model.specs.gsmp_wire.declared.message.Message.{Message}
+use Rattle.world_model.specs.gsmp_wire.declared.message.Message.TheVariants as messages
+use Rattle.world_model.specs.adjacency_table.declared.message.Answer.TheVariants.{Reset}
+use Rattle.world_model.specs.port_model.Messages.{is_up}
+use Rattle.world_model.specs.port_model.Answers as port_answers
+use Rattle.world_model.specs.port_model.Joins as port_joins
+use Rattle.world_model.specs.port_model.Resets.{cleared}
+use Rattle.world_model.specs.port_model.Ticks as port_ticks
+use Rattle.world_model.specs.Controller.{Acted, ports_of, note}
+use Rattle.world_model.specs.Joins.{Join, output_of}
+use Rattle.world_model.specs.Meeting.{port_of, done}
 use Rattle.world_model.specs.Gsmp.{answers, steps, told}
-use Rattle.world_model.specs.Ticks.{sends_again, ticks_port, ticks_ports, ticks_by, ticks}
+use Rattle.world_model.specs.Ticks.{ticks}
 use Rattle.unmarked_controllers.specs.Unmarked.{unmarked_linked, bare}
 use Rattle.unmarked_controllers.proofs.Controllers.{linked_twice, linked_same, ports_same, joins_same, inputs_same, label_same, join_for_same, placed}
 use Rattle.unmarked_controllers.proofs.Rules.{Blind, once, noted_alike, behind, folded, folded_over, each_port, by_read, chosen, node_blind, said_blind, request_blind, asks_blind, takes_back_blind, at_port_blind}

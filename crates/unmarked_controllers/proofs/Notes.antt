@@ -4,15 +4,10 @@ use Rattle.std.proofs.Common.{◌≡◌, ℕ, Bool, true, false, not, List, [], 
 use Rattle.std.specs.Prelude.{nat_le}
 use Rattle.std.specs.List.{cons_option}
 use Rattle.std.proofs.lemmas.List.Elements.{filter_map-append}
-use Rattle.net_types.specs.declared.number.Mark.{Mark}
-use Rattle.atm_cells.specs.declared.cell.Cell.{Cell}
-use Rattle.link_model.specs.declared.record.Record.{Record}
-use Rattle.link_model.specs.declared.record.Record.TheVariants.{Delivered, Dropped, Refused, Loss, Chance, Bad, Opened, Closed, Bind, Free, Join, Part, Forged, Routes}
-use Rattle.link_model.specs.declared.record.Cause.TheVariants.{PoolFull, Broken, Cut}
-use Rattle.link_model.specs.Ledger.{has_entry, is_frame}
-use Rattle.link_model.specs.Notes.{Journal, noted}
-use Rattle.frame_model.specs.Frame.{tested, tested_by, last_mark, payload_in, octets_of}
-use Rattle.frame_model.specs.Reassembly.{Reassembly, taken, passed_over, without_slot, too_long, most_cells, broken, marks_of, distinct, noted_all, cut}
+use Rattle.world_model.specs.Words.{Mark, Cell, Record, Delivered, Dropped, Refused, Loss, Chance, Bad, Opened, Closed, Bind, Free, Part, Forged, Routes, PoolFull, Broken, Cut, has_entry, is_frame, Journal, noted, tested, tested_by, last_mark, payload_in, Reassembly, passed_over, without_slot, too_long, most_cells, broken, marks_of, distinct, noted_all, cut}
+use Rattle.world_model.specs.link_model.declared.record.Record.TheVariants.{Join}
+use Rattle.world_model.specs.frame_model.Frame.{octets_of}
+use Rattle.world_model.specs.frame_model.Reassembly.{taken}
 use Rattle.unmarked_controllers.specs.Unmarked.{unmarked_record, unmarked_records, shown}
 
 -- *The notes*, taken twice

@@ -3,26 +3,12 @@
 use Rattle.std.proofs.Common.{◌≡◌, ℕ, Bool, true, false, List, [], ◌∷◌, map, fold, Option, None, Some, refl, sym, ◌∙◌, ap, if◌then◌else◌}
 use Rattle.std.specs.Prelude.{◌==◌}
 use Rattle.std.specs.Option.{option_map}
-use Rattle.net_types.specs.declared.node.PortNo.{PortNo}
-use Rattle.net_types.specs.declared.channel.End.{End}
-use Rattle.gsmp_wire.specs.declared.request.Request.{Request}
-use Rattle.gsmp_wire.specs.declared.request.Request.TheVariants.{MoveBranch}
-use Rattle.gsmp_wire.specs.declared.message.Message.{Message}
-use Rattle.gsmp_wire.specs.Layout.{octets_of as gsmp_octets}
-use Rattle.adjacency_table.specs.Side.{is_estab}
-use Rattle.link_model.specs.declared.record.Record.{Record}
-use Rattle.frame_model.specs.Reassembly.{Reassembly, nothing_taken, cut}
-use Rattle.port_model.specs.Desk.{Desk, Standing, asked, withdrawn, is_led_home, message_at, last_transaction}
-use Rattle.port_model.specs.declared.action.Action.{Action}
-use Rattle.port_model.specs.declared.action.Action.TheVariants as actions
-use Rattle.port_model.specs.Setup.{home_of}
-use Rattle.port_model.specs.Port.{Work}
-use Rattle.port_model.specs.Resets.{resets, restarts}
-use Rattle.world_model.specs.Controller.{Acted, Linked, LabelChain, linked_at, ports_of, chain_of, chains_with, with_desk, note, default_channel}
-use Rattle.world_model.specs.Sending.{says_gsmp}
-use Rattle.world_model.specs.Asking.{sends_request, asks_next, asks, takes_back}
-use Rattle.world_model.specs.Resets.{cuts_of, cuts_label, cuts_default_of, cuts_default, cuts_gsmp, begins, with_work, closes_by, port_restarts_of, port_restarts, resets_gsmp, node_resets, node_restarts}
-use Rattle.world_model.specs.Performing.{does, does_in_estab, resets_of, resets_port, performs, performs_in_estab, Rule, works, at_port}
+use Rattle.world_model.specs.Words.{PortNo, End, Request, MoveBranch, is_estab, Record, Reassembly, nothing_taken, cut, Desk, Standing, withdrawn, is_led_home, last_transaction, Action, home_of, Work, resets, restarts, Linked, LabelChain, linked_at, chain_of, chains_with, with_desk, default_channel, says_gsmp, sends_request, asks_next, asks, takes_back, cuts_of, cuts_label, cuts_default_of, cuts_default, cuts_gsmp, begins, with_work, closes_by, port_restarts_of, port_restarts, resets_gsmp, node_resets, node_restarts, does, does_in_estab, resets_of, resets_port, performs, performs_in_estab, Rule, works, at_port}
+use Rattle.world_model.specs.gsmp_wire.declared.message.Message.{Message}
+use Rattle.world_model.specs.gsmp_wire.Layout.{octets_of as gsmp_octets}
+use Rattle.world_model.specs.port_model.Desk.{asked, message_at}
+use Rattle.world_model.specs.port_model.declared.action.Action.TheVariants as actions
+use Rattle.world_model.specs.Controller.{Acted, ports_of, note}
 use Rattle.unmarked_controllers.proofs.Notes.{shown_twice, noted_same, cut_shown}
 use Rattle.unmarked_controllers.specs.Unmarked.{unmarked_record, unmarked_reassembly, unmarked_chain, unmarked_linked, shown, bare}
 use Rattle.unmarked_controllers.proofs.Controllers.{chains_twice, linked_twice, bare_twice, linked_same, ports_same, chains_same, placed, control_same}

@@ -1,17 +1,11 @@
 -- A controller reads no mark and no note
 
 use Rattle.std.specs.Prelude.{◌≡◌, ℕ, List}
-use Rattle.net_types.specs.declared.channel.Channel.{Channel}
-use Rattle.net_types.specs.declared.number.Mark.{Mark}
-use Rattle.ipv4_forward.specs.declared.change.RouteChange.{RouteChange}
-use Rattle.atm_cells.specs.declared.cell.Cell.{Cell}
+use Rattle.world_model.specs.Words.{Channel, Mark, RouteChange, Cell, injected, node_restarts, change_comes}
 use Rattle.world_model.specs.Controller.{Acted}
 use Rattle.world_model.specs.Sending.{sends}
-use Rattle.world_model.specs.Packets.{injected}
 use Rattle.world_model.specs.Cells.{cell_comes}
 use Rattle.world_model.specs.Ticks.{ticks}
-use Rattle.world_model.specs.Resets.{node_restarts}
-use Rattle.world_model.specs.Changes.{change_comes}
 use Rattle.unmarked_controllers.specs.Unmarked.{unmarked_cell, bare}
 
 -- *Alike*: two that differ in marks and in what is the ledger's alone

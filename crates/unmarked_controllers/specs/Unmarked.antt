@@ -2,18 +2,9 @@
 
 use Rattle.std.specs.Prelude.{List, [], map, filter_map, Option, None, Some}
 use Rattle.std.specs.FinMap.{entries, from_sorted}
-use Rattle.net_types.specs.declared.number.Mark.{Mark}
-use Rattle.net_types.specs.Number.{GivenOut}
-use Rattle.atm_cells.specs.declared.cell.Cell.{Cell}
-use Rattle.link_model.specs.declared.record.Record.{Record}
-use Rattle.link_model.specs.declared.record.Record.TheVariants.{Delivered, Dropped, Refused, Loss, Chance}
-use Rattle.link_model.specs.Notes.{Journal}
-use Rattle.frame_model.specs.Reassembly.{Reassembly}
-use Rattle.crossbar_model.specs.declared.branch.Branch.{Branch}
-use Rattle.crossbar_model.specs.Crossbar.{Branches, Crossbar}
-use Rattle.world_model.specs.Switch.{Switch}
-use Rattle.world_model.specs.Controller.{LabelChain, Linked, Controller, Acted}
-use Rattle.world_model.specs.World.{World, Site, no_tally}
+use Rattle.world_model.specs.Words.{Mark, GivenOut, Cell, Record, Delivered, Dropped, Refused, Loss, Chance, Journal, Reassembly, Branches, Crossbar, Switch, LabelChain, Linked, Controller, World, Site, no_tally}
+use Rattle.world_model.specs.crossbar_model.declared.branch.Branch.{Branch}
+use Rattle.world_model.specs.Controller.{Acted}
 
 -- *Cells* under one mark, whichever frames they are of
 abbrev pub no_mark : Mark

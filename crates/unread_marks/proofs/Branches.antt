@@ -9,26 +9,17 @@ use Rattle.std.specs.Ordering.{nat_cmp, ordering_then, eq_by_cmp, is_lt}
 use Rattle.std.specs.Cmp.{IsTotalOrder, then_total, on_total, nat_cmp_total}
 use Rattle.std.specs.FinMap.{get, insert, remove, keys, entries, entries_sorted, same_entries_map, same_map, get-entries, get-insert, get-remove, entries-from_sorted, nat_cmp-IsAntisymmetric, is_sorted}
 use Rattle.std.specs.FinMap.Entries.{find as find_key, below_all}
-use Rattle.net_types.specs.declared.node.PortNo.{PortNo}
-use Rattle.net_types.specs.declared.channel.End.{End}
-use Rattle.gsmp_wire.specs.declared.request.Request.{Request}
-use Rattle.gsmp_wire.specs.declared.request.Request.TheVariants.{AddBranch, MoveBranch, DeleteTree, VerifyTree, DeleteAll, PortManagement, AllPorts}
-use Rattle.gsmp_wire.specs.declared.message.Message.{Message}
-use Rattle.gsmp_wire.specs.declared.message.Message.TheVariants as messages
-use Rattle.net_types.specs.declared.number.Mark.{Mark}
-use Rattle.link_model.specs.declared.record.Record.TheVariants.{Loss}
-use Rattle.link_model.specs.declared.record.Cause.TheVariants.{Cut}
-use Rattle.link_model.specs.Notes.{Journal}
-use Rattle.crossbar_model.specs.declared.branch.Branch.{Branch}
-use Rattle.crossbar_model.specs.Channels.{end_cmp}
-use Rattle.crossbar_model.specs.Crossbar.{Branches, new_branch, output_of, same_end, cut_by_move}
+use Rattle.world_model.specs.Words.{PortNo, End, Request, AddBranch, MoveBranch, DeleteTree, VerifyTree, PortManagement, Mark, Loss, Cut, Journal, end_cmp, Branches, new_branch, same_end, cut_by_move, Changed, noted_cut, moved_to, end_at, added_by, moved_by, ended_by, all_ended, inputs_on, branches_after, leads_elsewhere, is_busy, lacks_branch, applies, failure_of, branch_of, branch_answer, told_output, count_of, success_answer}
+use Rattle.world_model.specs.gsmp_wire.declared.request.Request.TheVariants.{DeleteAll, AllPorts}
+use Rattle.world_model.specs.gsmp_wire.declared.message.Message.{Message}
+use Rattle.world_model.specs.gsmp_wire.declared.message.Message.TheVariants as messages
+use Rattle.world_model.specs.crossbar_model.declared.branch.Branch.{Branch}
+use Rattle.world_model.specs.crossbar_model.Crossbar.{output_of}
 use Rattle.world_model.specs.declared.port.PortState.{PortState}
 use Rattle.world_model.specs.declared.request.Asked.{Asked}
 use Rattle.world_model.specs.declared.request.Failure.{Failure}
 use Rattle.world_model.specs.declared.request.Failure.TheVariants.{NoPort, BadSession, PortDown, OutOfRange, Busy, NoConnection, SessionsSpent}
-use Rattle.world_model.specs.Requests.{Changed, noted_cut, moved_to, end_at, added_by, moved_by, ended_by, ended, all_ended, inputs_on, cleared, branches_after}
-use Rattle.world_model.specs.Failures.{leads_elsewhere, is_busy, lacks_branch, applies, failure_of}
-use Rattle.world_model.specs.Answers.{branch_of, branch_answer, told_output, count_of, success_answer}
+use Rattle.world_model.specs.Requests.{ended, cleared}
 use Rattle.unmarked_controllers.specs.Unmarked.{unmarked_branch, unmarked_branches, shown}
 use Rattle.unmarked_controllers.proofs.Notes.{entered_shown}
 use Rattle.unmarked_controllers.proofs.Lists.{map_then}

@@ -4,46 +4,22 @@ use Rattle.std.proofs.Common.{◌≡◌, ℕ, zero, suc, ◌+◌, ◌-◌, ◌&&
 use Rattle.std.specs.Prelude.{nat_le, nat_lt, Result, Ok, Err}
 use Rattle.std.specs.Option.{option_map}
 use Rattle.std.specs.FinMap.{get, insert, keys}
-use Rattle.net_types.specs.declared.node.PortNo.{PortNo}
-use Rattle.net_types.specs.declared.channel.Channel.{Channel}
-use Rattle.net_types.specs.declared.channel.End.{End}
-use Rattle.net_types.specs.declared.number.Mark.{Mark}
-use Rattle.net_types.specs.declared.number.Instance.{Instance}
-use Rattle.net_types.specs.declared.adjacency.Party.{Party}
-use Rattle.net_types.specs.declared.adjacency.Greeting.{Greeting}
-use Rattle.net_types.specs.Number.{next_control, with_control, next_instance, with_instance}
-use Rattle.atm_cells.specs.declared.cell.Cell.{Cell}
-use Rattle.adjacency_table.specs.declared.State.TheVariants.{SynSent}
-use Rattle.adjacency_table.specs.declared.message.Answer.{Answer}
-use Rattle.adjacency_table.specs.declared.message.Answer.TheVariants.{Quiet, Send, Open, Reset}
-use Rattle.adjacency_table.specs.Side.{Step, fresh, is_estab, ticked}
-use Rattle.adjacency_table.specs.Greeting.{gsmp_answer, gsmp_received}
-use Rattle.gsmp_wire.specs.declared.fault.Fault.{Fault}
-use Rattle.gsmp_wire.specs.declared.message.Message.{Message}
-use Rattle.gsmp_wire.specs.declared.message.Message.TheVariants as messages
-use Rattle.gsmp_wire.specs.declared.request.Request.{Request}
-use Rattle.gsmp_wire.specs.Layout.{octets_of}
-use Rattle.gsmp_wire.specs.Fields.{decoded}
-use Rattle.link_model.specs.Notes.{Journal, noted}
-use Rattle.link_model.specs.declared.record.Record.{Record}
-use Rattle.link_model.specs.declared.record.Record.TheVariants.{Loss, Bad}
-use Rattle.link_model.specs.declared.record.Cause.TheVariants.{PoolFull, Unconnected}
-use Rattle.link_model.specs.declared.record.Layer.TheVariants.{Gsmp}
-use Rattle.refusal_names.specs.Names.{gsmp_refusal}
-use Rattle.frame_model.specs.Frame.{Tested, tested, frame_cells, made}
-use Rattle.frame_model.specs.Reassembly.{Taken, taken, nothing_taken, cut}
-use Rattle.frame_model.specs.Sending.{Sent}
-use Rattle.crossbar_model.specs.declared.branch.Branch.{Branch}
-use Rattle.crossbar_model.specs.declared.routed.Routed.{Routed}
-use Rattle.crossbar_model.specs.declared.routed.Routed.TheVariants as routes
-use Rattle.crossbar_model.specs.Crossbar.{Branches, Crossbar, queue_of, sent, on_channel_of, unfinished_after, route_on, input_of, routed, switched_on, switched}
+use Rattle.world_model.specs.Words.{PortNo, Channel, End, Mark, Instance, Party, Greeting, next_control, with_control, next_instance, with_instance, Cell, SynSent, Answer, Quiet, Send, Open, Step, fresh, is_estab, ticked, gsmp_answer, gsmp_received, Request, Journal, noted, Record, Loss, Bad, PoolFull, Unconnected, Gsmp, gsmp_refusal, Tested, tested, frame_cells, made, nothing_taken, cut, Routed, Branches, Crossbar, queue_of, sent, on_channel_of, unfinished_after, route_on, routed, switched_on, switched, Changed, is_request, asked_in, all_ended, branches_after, ports_after, failure_of, Handled, success_answer, handled_by, handled_asked, handled, Switch, control_port, gsmp_channel, reset, replied, requested, read, gsmp_cell, switched_cell, is_gsmp, tick_comes, restarted}
+use Rattle.world_model.specs.adjacency_table.declared.message.Answer.TheVariants.{Reset}
+use Rattle.world_model.specs.gsmp_wire.declared.fault.Fault.{Fault}
+use Rattle.world_model.specs.gsmp_wire.declared.message.Message.{Message}
+use Rattle.world_model.specs.gsmp_wire.declared.message.Message.TheVariants as messages
+use Rattle.world_model.specs.gsmp_wire.Layout.{octets_of}
+use Rattle.world_model.specs.gsmp_wire.Fields.{decoded}
+use Rattle.world_model.specs.frame_model.Reassembly.{Taken, taken}
+use Rattle.world_model.specs.frame_model.Sending.{Sent}
+use Rattle.world_model.specs.crossbar_model.declared.branch.Branch.{Branch}
+use Rattle.world_model.specs.crossbar_model.declared.routed.Routed.TheVariants as routes
+use Rattle.world_model.specs.crossbar_model.Crossbar.{input_of}
 use Rattle.world_model.specs.declared.request.Asked.{Asked}
 use Rattle.world_model.specs.declared.request.Failure.{Failure}
-use Rattle.world_model.specs.Requests.{Changed, is_request, asked_in, all_ended, branches_after, ports_after}
-use Rattle.world_model.specs.Failures.{failure_of}
-use Rattle.world_model.specs.Answers.{Handled, success_answer, handled_by, handled_asked, handled}
-use Rattle.world_model.specs.Switch.{Switch, Acted, control_port, gsmp_channel, free_slots, begun}
-use Rattle.world_model.specs.Conduct.{with_cells, sends, says, reset, answers, steps, replied, requested, told, read, opened_frame, ends_frame, after_cell, gsmp_cell, counted, passed, switched_cell, is_gsmp, cell_comes, tick_comes, restarted}
+use Rattle.world_model.specs.Switch.{Acted, free_slots, begun}
+use Rattle.world_model.specs.Conduct.{with_cells, sends, says, answers, steps, told, opened_frame, ends_frame, after_cell, counted, passed, cell_comes}
 use Rattle.unmarked_controllers.specs.Unmarked.{no_mark, unmarked_record, unmarked_cell, unmarked_cells, unmarked_numbers, unmarked_reassembly, unmarked_branch, unmarked_branches, unmarked_crossbar, unmarked_switch, shown}
 use Rattle.unmarked_controllers.proofs.Lists.{length_same, map_join, sum_same, index_same, set_same}
 use Rattle.unmarked_controllers.proofs.Notes.{shown_twice, noted_same, entered_shown, cut_shown, tested_shown, taken_shown}

@@ -2,38 +2,19 @@
 
 use Rattle.std.proofs.Common.{◌≡◌, ℕ, ◌+◌, List, [], ◌∷◌, drop, map, slice_set, slice_index_or, Option, None, Some, refl, sym, ◌∙◌, ap}
 use Rattle.std.specs.Option.{option_map, option_map_or, unwrap_or}
-use Rattle.net_types.specs.declared.node.NodeId.{NodeId}
-use Rattle.net_types.specs.declared.node.PortNo.{PortNo}
-use Rattle.net_types.specs.declared.node.Place.{Place}
-use Rattle.net_types.specs.declared.node.Place.TheVariants.{Down, Up, Out}
-use Rattle.net_types.specs.declared.channel.Channel.{Channel}
-use Rattle.net_types.specs.declared.number.Mark.{Mark}
-use Rattle.net_types.specs.Number.{next_control, with_control}
-use Rattle.atm_cells.specs.declared.cell.Cell.{Cell}
-use Rattle.link_model.specs.declared.record.Record.{Record}
-use Rattle.link_model.specs.declared.record.Record.TheVariants.{Refused, Loss, Forged}
-use Rattle.link_model.specs.declared.record.Cause.TheVariants.{Lost}
-use Rattle.link_model.specs.declared.record.Refusal.{Refusal}
-use Rattle.keyed_lists.specs.Keyed.{at, put}
-use Rattle.crossbar_model.specs.Crossbar.{Crossbar}
+use Rattle.world_model.specs.Words.{NodeId, PortNo, Place, Down, Up, Out, Channel, Mark, next_control, with_control, Cell, Record, Refused, Loss, Forged, Lost, Refusal, at, put, Crossbar, control_port, inject_refusal, injected, node_restarts, change_comes, Topology, World, Site, site_key, site_at, controller_acts, switch_acts, place_node, queue_in, queue_at, with_port_queue, with_queue_in, with_queue_of, with_queue, injects, injects_by, arrives_at, arrives, carries_head, loses_head, forges_at, put_away, next}
 use Rattle.world_model.specs.Switch as switches
-use Rattle.world_model.specs.Switch.{control_port}
 use Rattle.world_model.specs.Conduct as switch
 use Rattle.world_model.specs.Controller as controllers
 use Rattle.world_model.specs.Sending.{sends}
-use Rattle.world_model.specs.Packets.{inject_refusal, injected}
 use Rattle.world_model.specs.Cells as controller
 use Rattle.world_model.specs.Ticks.{ticks}
-use Rattle.world_model.specs.Resets.{node_restarts}
-use Rattle.world_model.specs.Changes.{change_comes}
 use Rattle.world_model.specs.declared.event.Event.{Event}
 use Rattle.world_model.specs.declared.event.Event.TheVariants.{Inject, Carry, Lose, Tick, TickSwitch, Restart, RestartSwitch, Forge, Route}
 use Rattle.world_model.specs.declared.link.LinkEnd.{LinkEnd}
-use Rattle.world_model.specs.Topology.{Topology, peer_of}
-use Rattle.world_model.specs.World.{World, Site, site_key, site_at, controller_acts, at_controller, switch_acts, at_switch}
-use Rattle.world_model.specs.Places.{place_node, queue_in, queue_at, with_port_queue, with_queue_in, with_queue_of, with_queue}
-use Rattle.world_model.specs.Step.{note, injects, injects_by, arrives_at, arrives, carries_head, loses_head, forges_at, acts}
-use Rattle.world_model.specs.Run.{put_away, next}
+use Rattle.world_model.specs.Topology.{peer_of}
+use Rattle.world_model.specs.World.{at_controller, at_switch}
+use Rattle.world_model.specs.Step.{note, acts}
 use Rattle.unmarked_controllers.specs.Unmarked.{no_notes, unmarked_record, unmarked_cell, unmarked_cells, unmarked_crossbar, unmarked_site, unmarked, shown}
 use Rattle.unread_marks.specs.Law.{AreAlike, EventsReadNoMark, EventsTellNoMark, RunsReadNoMark, MarksMayBeTaken}
 use Rattle.unmarked_controllers.proofs.Lists.{map_then, at_same, put_same, set_same}

@@ -2,9 +2,7 @@
 
 use Rattle.std.specs.Prelude.{◌≡◌, List}
 use Rattle.world_model.specs.declared.event.Event.{Event}
-use Rattle.world_model.specs.Topology.{Topology}
-use Rattle.world_model.specs.World.{World}
-use Rattle.world_model.specs.Run.{next, world_after}
+use Rattle.world_model.specs.Words.{Topology, World, next, world_after}
 use Rattle.unmarked_controllers.specs.Unmarked.{unmarked, unmarked_records}
 
 -- *Alike*: two worlds that differ in marks and notes alone

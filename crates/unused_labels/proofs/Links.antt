@@ -3,14 +3,10 @@
 use Rattle.std.proofs.Common.{◌≡◌, ℕ, ◌<◌, ◌≤◌, zero, suc, true, List, [], ◌∷◌, length, Option, refl, arith}
 use Rattle.std.specs.Prelude.{slice_get}
 use Rattle.std.specs.Option.{option_map_or}
-use Rattle.net_types.specs.declared.prefix.Addr.{Addr}
-use Rattle.net_types.specs.Label.{is_label_number}
+use Rattle.world_model.specs.Words.{Addr, is_label_number, Topology, Node, node_at, node_in, IsTopology, Way, IsWay}
 use Rattle.label_line.specs.Cells.{Role, Downstream, Upstream}
-use Rattle.world_model.specs.Topology.{Topology, Node, node_at, node_in}
-use Rattle.world_model.specs.Conditions.{IsTopology}
-use Rattle.world_model.specs.Users.{Way, IsWay}
-use Rattle.port_views.specs.Link.{LinkLabel}
-use Rattle.controller_views.specs.Lifted.{IsProper}
+use Rattle.world_views.specs.port_views.Link.{LinkLabel}
+use Rattle.world_views.specs.controller_views.Lifted.{IsProper}
 use Rattle.world_views.specs.Between.{HasAddress, IsLinkLabel}
 use Rattle.causes.proofs.Shown.{IsPeer, peer_back}
 

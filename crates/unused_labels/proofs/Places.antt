@@ -3,33 +3,18 @@
 use Rattle.std.proofs.Common.{◌≡◌, ℕ, true, [], ◌++◌, Option, Some, refl, sym, ◌∙◌, ap, subst}
 use Rattle.std.specs.Prelude.{Contains, is_some}
 use Rattle.std.specs.Option.{option_map, option_map_or, option_and_then}
-use Rattle.net_types.specs.declared.node.Place.{Place}
-use Rattle.net_types.specs.declared.node.Place.TheVariants.{Down, Up, Out}
-use Rattle.adjacency_table.specs.declared.State.TheVariants.{Clearing, SynSent, SynRcvd, Estab}
-use Rattle.adjacency_table.specs.declared.State.{State}
-use Rattle.adjacency_table.specs.Side.{is_estab}
-use Rattle.atm_cells.specs.declared.cell.Cell.{Cell}
-use Rattle.ordered_lists.specs.Ordered.{Every}
-use Rattle.ordered_lists.proofs.Every.{every_left, every_right}
-use Rattle.keyed_lists.specs.Keyed.{at}
-use Rattle.port_model.specs.Labels.{label_number}
-use Rattle.port_model.specs.Port.{Session}
-use Rattle.world_model.specs.Controller.{Controller, Linked, linked_at}
-use Rattle.crossbar_model.specs.Crossbar.{queue_of}
+use Rattle.world_model.specs.Words.{Place, Down, Up, Out, Clearing, SynSent, SynRcvd, Estab, State, is_estab, Cell, at, label_number, Session, Controller, Linked, linked_at, queue_of, World, Site, site_at, queue_at, queue_in, place_node, linked_end, session_at, chain_at, Past, held}
+use Rattle.world_views.specs.ordered_lists.Ordered.{Every}
+use Rattle.world_views.proofs.ordered_lists.Every.{every_left, every_right}
 use Rattle.label_line.specs.Cells as lines
 use Rattle.label_line.specs.Cells.{Role, Downstream, Upstream}
 use Rattle.label_line.specs.Line.{Line}
 use Rattle.label_line.specs.Law as laws
 use Rattle.label_line.specs.Law.{on_the_way}
-use Rattle.world_model.specs.World.{World, Site, site_at}
-use Rattle.world_model.specs.Places.{queue_at, queue_in, place_node}
-use Rattle.world_model.specs.Ways.{linked_end, session_at, chain_at}
-use Rattle.world_model.specs.Past.{Past}
-use Rattle.world_model.specs.Owned.{held}
-use Rattle.port_views.specs.Link.{LinkLabel, other}
-use Rattle.port_views.specs.Shown.{label_of}
-use Rattle.shown_cells.specs.Label.{OnLink, OnControl}
-use Rattle.controller_views.specs.Ends as views
+use Rattle.world_views.specs.port_views.Link.{LinkLabel, other}
+use Rattle.world_views.specs.port_views.Shown.{label_of}
+use Rattle.world_views.specs.shown_cells.Label.{OnLink, OnControl}
+use Rattle.world_views.specs.controller_views.Ends as views
 use Rattle.world_views.specs.Shown.{end_of, WorldShows}
 use Rattle.world_views.specs.Pairs.{IsLike}
 use Rattle.world_views.specs.Between.{HasLabelLine}

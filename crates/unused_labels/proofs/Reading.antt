@@ -5,49 +5,29 @@ use Rattle.std.specs.Prelude.{Contains, nat_lt, nat_le, ◌&&◌}
 use Rattle.std.proofs.Common.{inl, inr}
 use Rattle.std.specs.Option.{option_map_or}
 use Rattle.std.proofs.lemmas.List.Elements.{Contains-append_cases, Contains-append_left, Contains-append_right}
-use Rattle.net_types.specs.declared.channel.Channel.{Channel}
-use Rattle.net_types.specs.declared.channel.End.{End}
-use Rattle.net_types.specs.declared.node.Place.TheVariants.{Down, Up, Out}
-use Rattle.net_types.specs.Label.{is_label_channel, label_channel_of}
-use Rattle.atm_cells.specs.declared.cell.Cell.{Cell}
-use Rattle.ipv4_packet.specs.declared.flow.FlowId.{FlowId}
-use Rattle.ordered_lists.specs.Ordered.{Every}
-use Rattle.keyed_lists.specs.Keyed.{at}
-use Rattle.port_model.specs.Desk.{Standing}
-use Rattle.port_model.specs.Setup.{label_end, control_end}
-use Rattle.port_model.specs.Labels.{Label, LabelState, Wiring, Offered, Recalled, Wired}
-use Rattle.port_model.specs.Grants.{Grant, GrantState, Idle, ByController, ByInput, Leaving, grant_label}
-use Rattle.port_model.specs.Port.{Session}
-use Rattle.world_model.specs.Controller.{Linked, default_channel, default_home}
-use Rattle.world_model.specs.Cells.{same_channel}
+use Rattle.world_model.specs.Words.{Channel, End, Down, Up, Out, is_label_channel, label_channel_of, Cell, FlowId, at, Standing, label_end, control_end, Label, LabelState, Wiring, Offered, Recalled, Wired, Grant, GrantState, Idle, ByController, ByInput, Leaving, grant_label, Session, Linked, default_channel, default_home, same_channel, World, queue_at, session_at, grants_at, chain_at, to_switch, requests_chain_at, on_channel, on_default_channel, copy_under, ifmp_under, Instance, Redirect, Past, User, Uses, leads, on_the_link, off_the_link, granted, connected, copied, from_controller, IsUnused, IsSpareOrWired, held}
+use Rattle.world_views.specs.ordered_lists.Ordered.{Every}
 use Rattle.label_line.specs.Cells.{Role, Downstream, Upstream}
 use Rattle.label_line.specs.Line as line_specs
 use Rattle.label_line.specs.Line.{Line}
 use Rattle.label_line.specs.Law as laws
 use Rattle.label_line.specs.Law.{Always, SpareIsUnused, HasNoUser, IsNoUser}
-use Rattle.world_model.specs.World.{World}
-use Rattle.world_model.specs.Places.{queue_at}
-use Rattle.world_model.specs.Ways.{session_at, grants_at, chain_at, to_switch, requests_chain_at, on_channel, on_default_channel, copy_under, ifmp_under}
-use Rattle.net_types.specs.declared.number.Instance.{Instance}
-use Rattle.ifmp_wire.specs.declared.message.Message.TheVariants.{Redirect}
-use Rattle.world_model.specs.Past.{Past}
-use Rattle.world_model.specs.Users.{User, Uses, leads, on_the_link, off_the_link, granted, connected, asked, copied, redirected, from_controller, IsUnused}
-use Rattle.world_model.specs.Owned.{IsSpareOrWired, held}
+use Rattle.world_model.specs.Users.{asked, redirected}
 use Rattle.world_model.specs.Owned as owned
-use Rattle.port_views.specs.Flows.{flow_number}
+use Rattle.world_views.specs.port_views.Flows.{flow_number}
 use Rattle.std.proofs.lemmas.Bool.Decides.{nat_tests}
-use Rattle.port_facts.proofs.Keyed.{by_eq, on_each}
+use Rattle.world_views.proofs.port_facts.Keyed.{by_eq, on_each}
 use Rattle.std.specs.Prelude.{◌==◌}
-use Rattle.shown_cells.proofs.Frames.{differ}
-use Rattle.port_views.specs.Link.{LinkLabel}
-use Rattle.port_views.specs.Shown.{label_of, IsLent, GrantShows}
-use Rattle.port_views.specs.Shown as shown_specs
-use Rattle.shown_cells.specs.Label.{OnLink, OnControl, channel_at}
-use Rattle.controller_views.specs.Lifted.{IsProper}
+use Rattle.world_views.proofs.shown_cells.Frames.{differ}
+use Rattle.world_views.specs.port_views.Link.{LinkLabel}
+use Rattle.world_views.specs.port_views.Shown.{label_of, IsLent, GrantShows}
+use Rattle.world_views.specs.port_views.Shown as shown_specs
+use Rattle.world_views.specs.shown_cells.Label.{OnLink, OnControl, channel_at}
+use Rattle.world_views.specs.controller_views.Lifted.{IsProper}
 use Rattle.world_views.specs.Shown.{end_of, way_of, WorldShows}
 use Rattle.world_views.specs.Pairs.{by_branch, by_desk, by_copy, IsLike}
 use Rattle.world_views.specs.Between.{IsWorld, IsLinkLabel, HasLabelLine}
-use Rattle.shown_cells.proofs.Frames.{same_self}
+use Rattle.world_views.proofs.shown_cells.Frames.{same_self}
 use Rattle.unused_labels.specs.Unused.{HasOwnChannels}
 use Rattle.unused_labels.proofs.Seen.{every_contained, IsQuiet, no_labelled, no_redirect}
 use Rattle.unused_labels.proofs.Places.{linked_is, label_is, is_open, on_out, on_up, on_down, in_chain}

@@ -3,29 +3,19 @@
 use Rattle.std.proofs.Common.{◌≡◌, ℕ, zero, suc, arith, Bool, true, false, List, [], ◌∷◌, Option, None, Some, refl, sym, ◌∙◌, ap, subst, if◌then◌else◌}
 use Rattle.std.specs.Prelude.{Contains, ◌&&◌, ◌==◌}
 use Rattle.std.specs.Option.{option_map, option_and_then}
-use Rattle.net_types.specs.declared.number.Instance.{Instance}
-use Rattle.net_types.specs.Label.{is_label_number, label_channel_of}
-use Rattle.atm_cells.specs.declared.cell.Cell.{Cell}
-use Rattle.ipv4_packet.specs.declared.flow.FlowId.{FlowId}
-use Rattle.flow_encaps.specs.Unwrapped.{default_unwrapped}
-use Rattle.ifmp_wire.specs.declared.message.Message.{Message}
-use Rattle.ifmp_wire.specs.declared.message.Message.TheVariants.{Redirect}
-use Rattle.ipv4_packet.specs.Packet.{source_of}
-use Rattle.link_model.specs.declared.frames.Frame.{Frame}
-use Rattle.link_model.specs.Ledger.{payload_of}
-use Rattle.ordered_lists.specs.Ordered.{Every}
-use Rattle.world_model.specs.Controller.{default_channel}
-use Rattle.world_model.specs.Cells.{same_channel}
+use Rattle.world_model.specs.Words.{Instance, is_label_number, label_channel_of, Cell, FlowId, default_unwrapped, Redirect, source_of, Frame, payload_of, default_channel, same_channel, ifmp_in, ifmp_of, ifmp_under}
+use Rattle.world_model.specs.ifmp_wire.declared.message.Message.{Message}
+use Rattle.world_views.specs.ordered_lists.Ordered.{Every}
 use Rattle.label_line.specs.Cells as lines
 use Rattle.label_line.specs.Cells.{Role, Downstream, Upstream}
 use Rattle.label_line.specs.Law.{IsNoUser}
-use Rattle.world_model.specs.Ways.{ifmp_in, ifmp_of, ifmp_under, told}
-use Rattle.port_views.specs.Link.{LinkLabel, other}
-use Rattle.port_views.specs.Heard.{is_own, heard_by}
-use Rattle.port_views.proofs.Recalling.{names_own}
-use Rattle.port_views.specs.Flows.{flow_number}
-use Rattle.shown_cells.specs.Seen.{Nothing, Word, Unknown, hidden, word}
-use Rattle.shown_cells.specs.Label.{Told, told_in, told_of, seen_payload, seen_packet, seen_message, Where, channel_at, on_label, seen, erased, ShowsCells}
+use Rattle.world_model.specs.Ways.{told}
+use Rattle.world_views.specs.port_views.Link.{LinkLabel, other}
+use Rattle.world_views.specs.port_views.Heard.{is_own, heard_by}
+use Rattle.world_views.proofs.port_views.Recalling.{names_own}
+use Rattle.world_views.specs.port_views.Flows.{flow_number}
+use Rattle.world_views.specs.shown_cells.Seen.{Nothing, Word, Unknown, hidden, word}
+use Rattle.world_views.specs.shown_cells.Label.{Told, told_in, told_of, seen_payload, seen_packet, seen_message, Where, channel_at, on_label, seen, erased, ShowsCells}
 
 -- what a list contains
 pub every_contained : {A : Type 0} (P : A → Type 0) (xs : List A) (x : A) → Every P xs → Contains xs x → P x

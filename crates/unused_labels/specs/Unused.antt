@@ -1,21 +1,7 @@
 -- A label that is spare or wired has no user, where what goes between controllers and switches is on its own channel
 
 use Rattle.std.specs.Prelude.{◌≡◌, ℕ, true, Contains, Some}
-use Rattle.net_types.specs.declared.node.Place.TheVariants.{Down}
-use Rattle.net_types.specs.Label.{is_label_number}
-use Rattle.atm_cells.specs.declared.cell.Cell.{Cell}
-use Rattle.ipv4_packet.specs.declared.flow.FlowId.{FlowId}
-use Rattle.port_model.specs.Desk.{Standing}
-use Rattle.port_model.specs.Port.{Session}
-use Rattle.world_model.specs.Controller.{default_channel}
-use Rattle.world_model.specs.Cells.{same_channel}
-use Rattle.world_model.specs.Conditions.{IsTopology}
-use Rattle.world_model.specs.World.{World}
-use Rattle.world_model.specs.Places.{queue_at}
-use Rattle.world_model.specs.Ways.{session_at, copy_under, on_the_way, on_default_channel}
-use Rattle.world_model.specs.Past.{Past}
-use Rattle.world_model.specs.Users.{Way, IsWay, IsRedirect, IsUnused}
-use Rattle.world_model.specs.Owned.{IsSpareOrWired, held}
+use Rattle.world_model.specs.Words.{Down, is_label_number, Cell, FlowId, Standing, Session, default_channel, same_channel, IsTopology, World, queue_at, session_at, copy_under, on_the_way, on_default_channel, Past, Way, IsWay, IsRedirect, IsUnused, IsSpareOrWired, held}
 use Rattle.world_views.specs.Between.{IsWorld}
 
 -- *Channels of their own*: each copy of a request waits for the switch on GSMP's channel, and each REDIRECT of a label

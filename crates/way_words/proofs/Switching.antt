@@ -3,63 +3,37 @@
 use Rattle.std.proofs.Common.{◌≡◌, ℕ, suc, ◌==◌, ◌&&◌, Bool, true, false, not, List, [], ◌∷◌, ◌++◌, length, Option, None, Some, refl, sym, ap, subst, arith, slice_set, slice_index_or, map}
 use Rattle.std.specs.Prelude.{nat_lt, nat_le, Result, Ok, Err}
 use Rattle.std.specs.FinMap.{get, keys}
-use Rattle.net_types.specs.declared.node.NodeId.{NodeId}
-use Rattle.net_types.specs.declared.node.PortNo.{PortNo}
-use Rattle.net_types.specs.declared.channel.End.{End}
-use Rattle.net_types.specs.declared.number.Mark.{Mark}
-use Rattle.net_types.specs.declared.adjacency.Party.{Party}
-use Rattle.net_types.specs.Number.{next_control, with_control}
-use Rattle.atm_cells.specs.declared.cell.Cell.{Cell}
-use Rattle.adjacency_table.specs.declared.message.Answer.{Answer}
-use Rattle.adjacency_table.specs.declared.message.Answer.TheVariants.{Quiet, Send, Open, Reset}
-use Rattle.adjacency_table.specs.declared.message.Said.{Said}
-use Rattle.adjacency_table.specs.Side.{Step, is_estab, ticked}
-use Rattle.adjacency_table.specs.Greeting.{greeting_of, gsmp_answer, gsmp_received}
-use Rattle.gsmp_wire.specs.declared.message.Message.{Message}
-use Rattle.gsmp_wire.specs.declared.message.Message.TheVariants as messages
-use Rattle.gsmp_wire.specs.declared.fault.Fault.{Fault}
-use Rattle.gsmp_wire.specs.declared.request.Request.{Request}
-use Rattle.gsmp_wire.specs.declared.request.Request.TheVariants.{AddBranch, MoveBranch, DeleteTree, VerifyTree, DeleteAll, PortManagement, AllPorts}
-use Rattle.gsmp_wire.specs.Layout.{octets_of}
-use Rattle.gsmp_wire.specs.Fields.{decoded}
-use Rattle.crossbar_model.specs.declared.branch.Branch.{Branch}
-use Rattle.crossbar_model.specs.Crossbar.{queue_of, on_channel_of, cut_by_move}
-use Rattle.link_model.specs.declared.record.Record.{Record}
-use Rattle.link_model.specs.declared.record.Record.TheVariants.{Bad, Loss, Chance}
-use Rattle.link_model.specs.declared.record.Layer.{Layer}
-use Rattle.link_model.specs.declared.record.Layer.TheVariants.{Gsmp}
-use Rattle.link_model.specs.declared.record.Refusal.{Refusal}
-use Rattle.link_model.specs.declared.record.Cause.{Cause}
-use Rattle.link_model.specs.declared.record.Cause.TheVariants.{PoolFull, Broken, Cut}
-use Rattle.link_model.specs.Ledger.{has_entry, is_frame}
-use Rattle.link_model.specs.Notes.{Journal, noted}
-use Rattle.refusal_names.specs.Names.{gsmp_refusal}
-use Rattle.frame_model.specs.Frame.{made, frame_cells, tested_by, passed as passed_notes, last_mark, payload_in, octets_of as cell_octets}
-use Rattle.frame_model.specs.Reassembly.{Reassembly, Taken, taken, passed_over, without_slot, too_long, joined, most_cells, broken, marks_of, distinct, noted_all, cut}
-use Rattle.frame_model.specs.Sending.{Sent}
-use Rattle.ordered_lists.specs.Ordered.{Every}
+use Rattle.world_model.specs.Words.{NodeId, PortNo, End, Mark, Party, next_control, with_control, Cell, Answer, Quiet, Send, Open, Said, Step, is_estab, ticked, greeting_of, gsmp_answer, gsmp_received, Request, AddBranch, MoveBranch, DeleteTree, VerifyTree, PortManagement, queue_of, on_channel_of, cut_by_move, Record, Bad, Loss, Chance, Layer, Gsmp, Refusal, Cause, PoolFull, Broken, Cut, has_entry, is_frame, Journal, noted, gsmp_refusal, made, frame_cells, tested_by, last_mark, payload_in, Reassembly, passed_over, without_slot, too_long, most_cells, broken, marks_of, distinct, noted_all, cut, Changed, noted_cut, moved_by, ended_by, all_ended, inputs_on, branches_after, asked_in, is_request, failure_of, Handled, handled_by, handled_asked, handled, Switch, control_port, gsmp_channel, reset, replied, requested, read, gsmp_cell, tick_comes, restarted, Channel, Routed, routed, switched_on}
+use Rattle.world_model.specs.adjacency_table.declared.message.Answer.TheVariants.{Reset}
+use Rattle.world_model.specs.gsmp_wire.declared.message.Message.{Message}
+use Rattle.world_model.specs.gsmp_wire.declared.message.Message.TheVariants as messages
+use Rattle.world_model.specs.gsmp_wire.declared.fault.Fault.{Fault}
+use Rattle.world_model.specs.gsmp_wire.declared.request.Request.TheVariants.{DeleteAll, AllPorts}
+use Rattle.world_model.specs.gsmp_wire.Layout.{octets_of}
+use Rattle.world_model.specs.gsmp_wire.Fields.{decoded}
+use Rattle.world_model.specs.crossbar_model.declared.branch.Branch.{Branch}
+use Rattle.world_model.specs.frame_model.Frame.{passed as passed_notes, octets_of as cell_octets}
+use Rattle.world_model.specs.frame_model.Reassembly.{Taken, taken, joined}
+use Rattle.world_model.specs.frame_model.Sending.{Sent}
+use Rattle.port_facts.specs.ordered_lists.Ordered.{Every}
 use Rattle.port_facts.proofs.Keyed.{on_both}
 use Rattle.world_model.specs.declared.request.Asked.{Asked}
 use Rattle.world_model.specs.declared.request.Failure.{Failure}
-use Rattle.world_model.specs.Requests.{Changed, noted_cut, moved_by, ended_by, ended, all_ended, inputs_on, cleared, branches_after, asked_in, is_request}
-use Rattle.world_model.specs.Failures.{failure_of}
-use Rattle.world_model.specs.Answers.{Handled, handled_by, handled_asked, handled}
-use Rattle.world_model.specs.Switch.{Switch, Acted, control_port, gsmp_channel, free_slots}
-use Rattle.world_model.specs.Conduct.{with_cells, says, reset, answers, steps, replied, requested, told, read, after_test, ends_frame, after_cell, gsmp_cell, tick_comes, restarted}
+use Rattle.world_model.specs.Requests.{ended, cleared}
+use Rattle.world_model.specs.Switch.{Acted, free_slots}
+use Rattle.world_model.specs.Conduct.{with_cells, says, answers, steps, told, after_test, ends_frame, after_cell}
 use Rattle.std.specs.Prelude.{◌⊎◌, Contains, slice_set, slice_index_or, zero, suc}
 use Rattle.std.proofs.Common.{inl, inr}
 use Rattle.std.specs.Option.{option_map}
 use Rattle.std.proofs.lemmas.List.Elements.{Contains-append_cases, Contains-push_cases}
 use Rattle.aal5_frames.specs.Frame.{cell_of, cells_with, pdu_of}
-use Rattle.net_types.specs.declared.channel.Channel.{Channel}
-use Rattle.crossbar_model.specs.declared.routed.Routed.{Routed}
-use Rattle.crossbar_model.specs.declared.routed.Routed.TheVariants as routes
-use Rattle.crossbar_model.specs.Crossbar.{output_of, input_of, routed, switched_on}
-use Rattle.link_model.specs.declared.record.Record.TheVariants as kinds
-use Rattle.link_model.specs.declared.record.Cause.TheVariants as causes
+use Rattle.world_model.specs.crossbar_model.declared.routed.Routed.TheVariants as routes
+use Rattle.world_model.specs.crossbar_model.Crossbar.{output_of, input_of}
+use Rattle.world_model.specs.link_model.declared.record.Record.TheVariants as kinds
+use Rattle.world_model.specs.link_model.declared.record.Cause.TheVariants as causes
 use Rattle.world_model.specs.Conduct as conduct
 use Rattle.port_facts.proofs.Keyed.{on_each, every_more}
-use Rattle.ordered_lists.proofs.Every.{every_mapped, every_all}
+use Rattle.port_facts.proofs.ordered_lists.Every.{every_mapped, every_all}
 use Rattle.std.specs.List.{range_with_len}
 use Rattle.std.specs.Prelude.{◌/◌}
 

@@ -1,3 +1,13 @@
+pub use Rattle.ipv4_packet.specs as ipv4_packet
+pub use Rattle.ipv4_forward.specs as ipv4_forward
+pub use Rattle.flow_encaps.specs as flow_encaps
+pub use Rattle.ifmp_wire.specs as ifmp_wire
+pub use Rattle.gsmp_wire.specs as gsmp_wire
+pub use Rattle.adjacency_table.specs as adjacency_table
+pub use Rattle.crossbar_model.specs as crossbar_model
+pub use Rattle.link_model.specs as link_model
+pub use Rattle.frame_model.specs as frame_model
+pub use Rattle.port_model.specs as port_model
 pub mod Fates
 pub mod Beside
 pub mod Controller
@@ -38,3 +48,4 @@ pub mod Sent
 pub mod Stretches
 pub mod Causes
 pub mod Headline
+pub mod Words

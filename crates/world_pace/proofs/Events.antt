@@ -1,31 +1,18 @@
 -- each event keeps what is so of a world in a run
 
 use Rattle.std.proofs.Common.{◌≡◌, ℕ, ◌+◌, ◌≤◌, List, [], ◌∷◌, length, Option, None, Some, refl, sym, ◌∙◌, ap, subst, arith}
-use Rattle.net_types.specs.declared.node.NodeId.{NodeId}
-use Rattle.net_types.specs.declared.node.PortNo.{PortNo}
-use Rattle.net_types.specs.declared.node.Place.{Place}
-use Rattle.net_types.specs.declared.node.Place.TheVariants.{Down, Up, Out}
-use Rattle.net_types.specs.declared.channel.Channel.{Channel}
-use Rattle.net_types.specs.Number.{GivenOut, next_control, with_control}
-use Rattle.atm_cells.specs.declared.cell.Cell.{Cell}
-use Rattle.link_model.specs.declared.record.Record.TheVariants.{Forged}
-use Rattle.link_model.specs.declared.record.Refusal.{Refusal}
-use Rattle.world_model.specs.Switch.{control_port}
+use Rattle.world_model.specs.Words.{NodeId, PortNo, Place, Down, Up, Out, Channel, GivenOut, next_control, with_control, Cell, Forged, Refusal, control_port, inject_refusal, injected, node_restarts, change_comes, queue_at, with_queue, arrives, arrives_at, carries_head, forges, injects, injects_by, loses_head, Topology, World}
 use Rattle.world_model.specs.Conduct as switch
 use Rattle.world_model.specs.Controller as controllers
 use Rattle.world_model.specs.Sending.{sends}
-use Rattle.world_model.specs.Packets.{inject_refusal, injected}
 use Rattle.world_model.specs.Cells as controller
 use Rattle.world_model.specs.Ticks.{ticks}
-use Rattle.world_model.specs.Resets.{node_restarts}
-use Rattle.world_model.specs.Changes.{change_comes}
 use Rattle.world_model.specs.declared.event.Event.{Event}
 use Rattle.world_model.specs.declared.event.Event.TheVariants.{Inject, Carry, Lose, Tick, TickSwitch, Restart, RestartSwitch, Forge, Route}
 use Rattle.world_model.specs.declared.link.LinkEnd.{LinkEnd}
-use Rattle.world_model.specs.Places.{queue_at, with_queue}
-use Rattle.world_model.specs.Step.{acts, arrives, arrives_at, carries_head, forges, injects, injects_by, loses_head, note}
-use Rattle.world_model.specs.Topology.{Topology, peer_of}
-use Rattle.world_model.specs.World.{World, at_controller, at_switch}
+use Rattle.world_model.specs.Step.{acts, note}
+use Rattle.world_model.specs.Topology.{peer_of}
+use Rattle.world_model.specs.World.{at_controller, at_switch}
 use Rattle.actor_pace.proofs.Paces as controller_pace
 use Rattle.actor_pace.proofs.Controllers.{cell_follows, injected_paces, ticks_paces, restarts_paces, change_changes}
 use Rattle.actor_pace.proofs.Switches as switch_pace

@@ -4,15 +4,11 @@ use Rattle.std.proofs.Common.{◌≡◌, ℕ, suc, ◌≤◌, ◌<◌, ◌==◌,
 use Rattle.std.specs.List.{list_any, range_with_len}
 use Rattle.std.specs.Option.{option_or}
 use Rattle.std.proofs.lemmas.Bool.Decides.{nat_tests}
-use Rattle.net_types.specs.declared.node.NodeId.{NodeId}
-use Rattle.net_types.specs.declared.node.PortNo.{PortNo}
+use Rattle.world_model.specs.Words.{NodeId, PortNo, has_port, numbers_of, IsLink, IsNode, IsPort, IsTopology, is_linked, Topology, Link, peer_among, same_link_end}
 use Rattle.world_model.specs.declared.port.PortState.{PortState}
-use Rattle.world_model.specs.Switch.{has_port, numbers_of}
 use Rattle.world_model.specs.declared.link.LinkEnd.{LinkEnd}
-use Rattle.world_model.specs.Conditions.{IsLink, IsNode, IsPort, IsTopology}
-use Rattle.world_model.specs.Lines.{is_linked}
 use Rattle.world_model.specs.Topology as topologies
-use Rattle.world_model.specs.Topology.{Topology, Link, peer_among, peer_of, same_link_end}
+use Rattle.world_model.specs.Topology.{peer_of}
 use Rattle.world_model.proofs.Lists.{by_eq}
 
 -- *A port of a link* is one of a node's ports, and the other end is of another node

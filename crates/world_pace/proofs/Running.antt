@@ -3,19 +3,12 @@
 use Rattle.std.proofs.Common.{◌≡◌, ℕ, zero, suc, ◌+◌, ◌≤◌, Bool, true, List, [], ◌∷◌, ◌++◌, length, map, slice_set, Option, None, Some, refl, sym, ◌∙◌, ap, subst, arith, flat_map, if◌then◌else◌}
 use Rattle.std.proofs.lemmas.List.Concat.{flat_map-cons}
 use Rattle.std.specs.Option.{option_map_or}
-use Rattle.net_types.specs.declared.node.NodeId.{NodeId}
-use Rattle.net_types.specs.declared.node.Place.{Place}
-use Rattle.net_types.specs.declared.node.Place.TheVariants.{Down, Up, Out}
-use Rattle.atm_cells.specs.declared.cell.Cell.{Cell}
-use Rattle.keyed_lists.specs.Keyed.{at, put}
+use Rattle.world_model.specs.Words.{NodeId, Place, Down, Up, Out, Cell, at, put, numbers_of, Controller, place_node, queue_in, queue_at, with_queue, with_queue_in, with_queue_of, places_of, Topology, World, Site, site_key, site_at, controller_acts, switch_acts}
 use Rattle.world_model.specs.Switch as switches
-use Rattle.world_model.specs.Switch.{numbers_of}
 use Rattle.world_model.specs.Controller as controllers
-use Rattle.world_model.specs.Controller.{Controller, ports_of}
-use Rattle.world_model.specs.Places.{place_node, queue_in, queue_at, with_queue, with_queue_in, with_queue_of, places_of}
+use Rattle.world_model.specs.Controller.{ports_of}
 use Rattle.world_model.specs.Topology as topologies
-use Rattle.world_model.specs.Topology.{Topology}
-use Rattle.world_model.specs.World.{World, Site, site_key, site_at, controller_acts, at_controller, switch_acts, at_switch}
+use Rattle.world_model.specs.World.{at_controller, at_switch}
 use Rattle.world_model.proofs.Lists.{by_eq, at_key}
 use Rattle.actor_pace.specs.Pace.{AreUpTo, AreAllUpTo, changes_of}
 use Rattle.actor_pace.proofs.Cells.{every_less, all_less, every_set, every_at}

@@ -1,1 +1,2 @@
+pub use Rattle.actor_pace.specs as actor_pace
 pub mod Running

@@ -2,15 +2,11 @@
 -- gave out, and those of its frames and changes of routes, are no more than its events can have needed
 
 use Rattle.std.specs.Prelude.{◌≡◌, ℕ, suc, ◌+◌, ◌*◌, ◌≤◌, List, [], ◌∷◌, length, slice_index_or, Option, None}
-use Rattle.net_types.specs.declared.node.NodeId.{NodeId}
-use Rattle.net_types.specs.declared.node.PortNo.{PortNo}
-use Rattle.world_model.specs.Switch.{control_port, numbers_of}
+use Rattle.world_model.specs.Words.{NodeId, PortNo, control_port, numbers_of, IsTopology, Topology, World, Site, site_key}
 use Rattle.world_model.specs.Controller.{ports_of}
 use Rattle.world_model.specs.declared.link.LinkEnd.{LinkEnd}
-use Rattle.world_model.specs.Conditions.{IsTopology}
 use Rattle.world_model.specs.Topology as topologies
-use Rattle.world_model.specs.Topology.{Topology, peer_of}
-use Rattle.world_model.specs.World.{World, Site, site_key}
+use Rattle.world_model.specs.Topology.{peer_of}
 use Rattle.actor_pace.specs.Pace.{AreUpTo, AreAllUpTo, changes_of}
 
 abbrev pub numbered : ℕ → NodeId

@@ -2,8 +2,7 @@
 
 use Rattle.std.proofs.Common.{◌≡◌, ℕ, Bool, true, false, refl}
 use Rattle.std.specs.Prelude.{◌&&◌}
-use Rattle.net_types.specs.Label.{is_label_number}
-use Rattle.port_model.specs.Setup.{Setup, is_in_range}
+use Rattle.world_model.specs.Words.{is_label_number, Setup, is_in_range}
 
 pub in_range_label : (setup : Setup) (number : ℕ) → is_in_range setup number ≡ true → is_label_number number ≡ true
 in_range_label setup number e = first (is_label_number number) _ e

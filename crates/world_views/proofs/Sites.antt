@@ -1,18 +1,17 @@
 -- the whole network: its sites in a list, of which two are the ends of a link, or act for others
 
 use Rattle.std.proofs.Common.{◌≡◌, ◌≢◌, ℕ, [], ◌++◌, Option, None, Some, refl, sym, ◌∙◌, ap, subst}
-use Rattle.net_types.specs.declared.node.NodeId.{NodeId}
-use Rattle.keyed_lists.specs.Keyed.{at, put}
-use Rattle.port_facts.proofs.Keyed.{by_eq, at_key, at_put_same, at_put_other}
-use Rattle.label_line.specs.Cells.{Role, Downstream, Upstream}
-use Rattle.label_line.specs.Line.{Line}
-use Rattle.label_line.specs.Moves.{run}
-use Rattle.world_model.specs.Controller.{Controller, Acted}
-use Rattle.world_model.specs.World.{World, Site, site_key, site_at, with_site, controller_acts, at_controller}
-use Rattle.port_views.specs.Link.{LinkLabel, other}
-use Rattle.port_views.proofs.Reach.{run_join}
-use Rattle.shown_cells.specs.Label.{OnLink, OnControl}
-use Rattle.shown_cells.proofs.Made.{shows_more}
+use Rattle.world_model.specs.Words.{NodeId, at, put, Controller, World, Site, site_key, site_at, with_site, controller_acts}
+use Rattle.controller_views.proofs.port_facts.Keyed.{by_eq, at_key, at_put_same, at_put_other}
+use Rattle.controller_views.specs.label_line.Cells.{Role, Downstream, Upstream}
+use Rattle.controller_views.specs.label_line.Line.{Line}
+use Rattle.controller_views.specs.label_line.Moves.{run}
+use Rattle.world_model.specs.Controller.{Acted}
+use Rattle.world_model.specs.World.{at_controller}
+use Rattle.controller_views.specs.port_views.Link.{LinkLabel, other}
+use Rattle.controller_views.proofs.port_views.Reach.{run_join}
+use Rattle.controller_views.specs.shown_cells.Label.{OnLink, OnControl}
+use Rattle.controller_views.proofs.shown_cells.Made.{shows_more}
 use Rattle.controller_views.specs.Ends.{Pieces, Net, Goes, EndLeads, Grows, idle, put_at, asking, placed}
 use Rattle.controller_views.proofs.Parts.{both, end_later, net_goes, net_less}
 use Rattle.controller_views.specs.Lifted.{Growing}

@@ -2,41 +2,20 @@
 -- forged or passed its test by chance
 
 use Rattle.std.specs.Prelude.{◌≡◌, ℕ, ◌+◌, ◌<◌, ◌≤◌, true, false, List, ◌∷◌, ◌++◌, Contains, Option, None, Some}
-use Rattle.net_types.specs.declared.channel.End.{End}
-use Rattle.net_types.specs.declared.node.NodeId.{NodeId}
-use Rattle.net_types.specs.declared.node.PortNo.{PortNo}
-use Rattle.net_types.specs.declared.node.Place.{Place}
-use Rattle.net_types.specs.declared.prefix.Addr.{Addr}
-use Rattle.net_types.specs.Label.{is_label_number}
-use Rattle.atm_cells.specs.declared.cell.Cell.{Cell}
-use Rattle.gsmp_wire.specs.declared.message.Message.TheVariants.{AllPorts}
-use Rattle.gsmp_wire.specs.declared.rows.PortRow.{PortRow}
-use Rattle.ordered_lists.specs.Ordered.{Every}
-use Rattle.link_model.specs.Ledger.{payload_of}
-use Rattle.world_model.specs.Fates.{has_loss_of}
-use Rattle.crossbar_model.specs.Crossbar.{output_of}
-use Rattle.port_model.specs.Desk.{Standing, all_on}
-use Rattle.port_model.specs.Messages.{is_up}
+use Rattle.world_model.specs.Words.{End, NodeId, PortNo, Place, Addr, is_label_number, Cell, PortRow, payload_of, has_loss_of, Standing, all_on, control_port, numbers_of, Setup, home_of, Controller, Linked, default_channel, default_home, same_channel, Topology, Node, node_at, World, Site, site_at, queue_at, IsPlace, gsmp_to_switch, gsmp_to_controller, requests_chain_at, answers_chain_at, chain_at, gsmp_under, copy_under, Past, frames_of, Way, IsWay, WasAccepted, fates_of, AreTrueFates}
+use Rattle.world_model.specs.gsmp_wire.declared.message.Message.TheVariants.{AllPorts}
+use Rattle.controller_views.specs.ordered_lists.Ordered.{Every}
+use Rattle.world_model.specs.crossbar_model.Crossbar.{output_of}
+use Rattle.world_model.specs.port_model.Messages.{is_up}
 use Rattle.world_model.specs.declared.port.PortState.{PortState}
-use Rattle.world_model.specs.Switch.{control_port, numbers_of}
-use Rattle.port_model.specs.Setup.{Setup, home_of}
-use Rattle.port_facts.specs.Port.{IsLinked, IsLabelEnd, IsShaped}
-use Rattle.world_model.specs.Controller.{Controller, Linked, ports_of, default_channel, default_home}
-use Rattle.world_model.specs.Cells.{same_channel}
-use Rattle.label_line.specs.Cells.{Role}
-use Rattle.label_line.specs.Line as labels
-use Rattle.label_line.specs.Law as labels_law
-use Rattle.world_model.specs.Topology.{Topology, Node, node_at}
+use Rattle.controller_views.specs.port_facts.Port.{IsLinked, IsLabelEnd, IsShaped}
+use Rattle.world_model.specs.Controller.{ports_of}
+use Rattle.controller_views.specs.label_line.Cells.{Role}
+use Rattle.controller_views.specs.label_line.Line as labels
+use Rattle.controller_views.specs.label_line.Law as labels_law
 use Rattle.world_model.specs.declared.link.LinkEnd.{LinkEnd}
-use Rattle.world_model.specs.World.{World, Site, site_at}
-use Rattle.world_model.specs.Places.{queue_at}
-use Rattle.world_model.specs.Conditions.{IsPlace}
-use Rattle.world_model.specs.Ways.{gsmp_to_switch, gsmp_to_controller, requests_chain_at, answers_chain_at, chain_at, gsmp_under, copy_under}
-use Rattle.world_model.specs.Past.{Past, frames_of}
-use Rattle.world_model.specs.Users.{Way, IsWay}
-use Rattle.world_model.specs.Headline.{WasAccepted, fates_of, AreTrueFates}
-use Rattle.port_views.specs.Link.{LinkLabel}
-use Rattle.shown_cells.specs.Seen.{IsUnmade}
+use Rattle.controller_views.specs.port_views.Link.{LinkLabel}
+use Rattle.controller_views.specs.shown_cells.Seen.{IsUnmade}
 use Rattle.input_views.specs.Reaching.{ReachedAs, Anything}
 use Rattle.world_views.specs.Pairs.{IsLike}
 use Rattle.world_views.specs.Shown.{way_of, WorldShows}

@@ -1,15 +1,8 @@
 -- What each event of a run keeps, before the first frame that was forged or passed its test by chance
 
 use Rattle.std.specs.Prelude.{ℕ, ◌<◌, ◌^◌, List, [], ◌∷◌, ◌++◌, All, Contains}
-use Rattle.ipv4_packet.specs.declared.flow.FlowId.{FlowId}
-use Rattle.link_model.specs.declared.record.Record.TheVariants.{Bind}
-use Rattle.port_model.specs.Setup.{Policy}
+use Rattle.world_model.specs.Words.{FlowId, Bind, Policy, Topology, Node, IsTopology, Past, past_of, Way, IsWay, IsUnused, IsRun, IsTame}
 use Rattle.world_model.specs.declared.event.Event.{Event}
-use Rattle.world_model.specs.Topology.{Topology, Node}
-use Rattle.world_model.specs.Conditions.{IsTopology}
-use Rattle.world_model.specs.Past.{Past, past_of}
-use Rattle.world_model.specs.Users.{Way, IsWay, IsUnused}
-use Rattle.world_model.specs.Headline.{IsRun, IsTame}
 use Rattle.world_views.specs.Between.{IsWorld}
 
 -- the addresses of nodes have 32 bits

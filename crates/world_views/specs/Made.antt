@@ -1,22 +1,12 @@
 -- What was made in a network: the frames of packets, on a default channel or under a label, and of messages
 
 use Rattle.std.specs.Prelude.{◌≡◌, ◌≢◌, ℕ, ◌<◌, ◌^◌, List, Some, None}
-use Rattle.net_types.specs.declared.number.Mark.{Mark}
-use Rattle.net_types.specs.declared.prefix.Addr.{Addr}
-use Rattle.ipv4_packet.specs.declared.flow.FlowId.{FlowId}
-use Rattle.flow_encaps.specs.Default.{default_payload}
-use Rattle.flow_encaps.specs.Labelled.{Carries}
-use Rattle.ifmp_wire.specs.declared.message.Message.{Message as IfmpMessage}
-use Rattle.ifmp_wire.specs.Message.{InRange, FitsMessage}
-use Rattle.gsmp_wire.specs.declared.message.Message.{Message as GsmpMessage}
-use Rattle.gsmp_wire.specs.Layout.{octets_of as gsmp_octets}
-use Rattle.gsmp_wire.specs.Range.{Fits}
+use Rattle.world_model.specs.Words.{Mark, Addr, FlowId, default_payload, Carries, InRange, FitsMessage, Fits, Frame, payload_of, inject_refusal, AreOctets}
+use Rattle.world_model.specs.ifmp_wire.declared.message.Message.{Message as IfmpMessage}
+use Rattle.world_model.specs.gsmp_wire.declared.message.Message.{Message as GsmpMessage}
+use Rattle.world_model.specs.gsmp_wire.Layout.{octets_of as gsmp_octets}
 use Rattle.gsmp_reading.specs.Said.{IsSaid}
-use Rattle.link_model.specs.declared.frames.Frame.{Frame}
-use Rattle.link_model.specs.Ledger.{payload_of}
-use Rattle.world_model.specs.Packets.{inject_refusal}
 use Rattle.controller_views.specs.Lifted.{payload_by}
-use Rattle.world_model.specs.Conditions.{AreOctets}
 
 -- *A packet that may be in the network*: one that a node would accept
 pub record IsFit (packet : List ℕ) : Type 0 where

@@ -2,30 +2,11 @@
 
 use Rattle.std.specs.Prelude.{◌≡◌, ◌≢◌, ℕ, ◌<◌, ◌==◌, ◌&&◌, Bool, true, false, List, length, count_by, Option, None, Some, if◌then◌else◌}
 use Rattle.std.specs.List.{sum_by}
-use Rattle.net_types.specs.declared.node.NodeId.{NodeId}
-use Rattle.net_types.specs.declared.node.PortNo.{PortNo}
-use Rattle.net_types.specs.declared.node.Place.{Place}
-use Rattle.net_types.specs.declared.node.Place.TheVariants.{Down, Up, Out}
-use Rattle.net_types.specs.declared.prefix.Addr.{Addr}
-use Rattle.net_types.specs.declared.channel.Channel.{Channel}
-use Rattle.net_types.specs.declared.number.Mark.{Mark}
-use Rattle.net_types.specs.Label.{number_of_channel}
-use Rattle.atm_cells.specs.declared.cell.Cell.{Cell}
-use Rattle.ipv4_packet.specs.declared.flow.FlowId.{FlowId}
-use Rattle.flow_encaps.specs.Default.{default_payload}
-use Rattle.flow_encaps.specs.Labelled.{Carries}
-use Rattle.ifmp_wire.specs.declared.message.Message.{Message}
-use Rattle.link_model.specs.declared.frames.Frame.{Frame}
-use Rattle.link_model.specs.Ledger.{payload_of}
-use Rattle.world_model.specs.Controller.{default_channel}
-use Rattle.world_model.specs.Cells.{same_channel, port_on, on_link}
+use Rattle.world_model.specs.Words.{NodeId, PortNo, Place, Down, Up, Out, Addr, Channel, Mark, number_of_channel, Cell, FlowId, default_payload, Carries, Frame, payload_of, default_channel, same_channel, port_on, on_link, Topology, World, places, queue_at, Reaches, Past, frames_of, last_bound}
+use Rattle.world_model.specs.ifmp_wire.declared.message.Message.{Message}
 use Rattle.controller_views.specs.Lifted.{payload_by}
 use Rattle.world_model.specs.declared.link.LinkEnd.{LinkEnd}
-use Rattle.world_model.specs.Topology.{Topology, peer_of}
-use Rattle.world_model.specs.World.{World}
-use Rattle.world_model.specs.Places.{places, queue_at}
-use Rattle.world_model.specs.Reached.{Reaches}
-use Rattle.world_model.specs.Past.{Past, frames_of, last_bound}
+use Rattle.world_model.specs.Topology.{peer_of}
 use Rattle.world_views.specs.Made.{IsFit}
 
 -- *Headings*: the end of a link that a cell goes to, if any, and its channel on the link

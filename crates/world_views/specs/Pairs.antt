@@ -1,20 +1,10 @@
 -- The joins of a switch: two labels of its ports that are joined, or that a request may join
 
 use Rattle.std.specs.Prelude.{◌≡◌, ◌<◌, Contains, Some}
-use Rattle.net_types.specs.declared.channel.End.{End}
-use Rattle.net_types.specs.declared.node.NodeId.{NodeId}
-use Rattle.net_types.specs.Label.{number_of_channel}
-use Rattle.atm_cells.specs.declared.cell.Cell.{Cell}
-use Rattle.keyed_lists.specs.Keyed.{at}
-use Rattle.port_model.specs.Desk.{Standing}
-use Rattle.port_model.specs.Setup.{label_end}
-use Rattle.port_model.specs.Grants.{Grant, grant_label, input_of}
-use Rattle.world_model.specs.Controller.{Controller, Linked, linked_at}
-use Rattle.label_line.specs.Cells.{Upstream}
-use Rattle.world_model.specs.World.{World}
-use Rattle.world_model.specs.Ways.{standing_at, output_at, gsmp_to_switch, copy_under}
-use Rattle.world_model.specs.Users.{leads}
-use Rattle.port_views.specs.Link.{LinkLabel}
+use Rattle.world_model.specs.Words.{End, NodeId, number_of_channel, Cell, at, Standing, label_end, Grant, grant_label, Controller, Linked, linked_at, World, standing_at, output_at, gsmp_to_switch, copy_under, leads}
+use Rattle.world_model.specs.port_model.Grants.{input_of}
+use Rattle.controller_views.specs.label_line.Cells.{Upstream}
+use Rattle.controller_views.specs.port_views.Link.{LinkLabel}
 
 -- a branch of the switch leads from the input to the output, or a request that stands or has a cell on the way makes one
 pub data Pairs (w : World) (node : NodeId) (input output : End) : Type 0 where

@@ -1,14 +1,9 @@
 -- What the numbers of controllers and switches have to be so that what they say can be read
 
 use Rattle.std.specs.Prelude.{List, map, Option, None, Some}
-use Rattle.net_types.specs.declared.adjacency.Party.{Party}
-use Rattle.adjacency_table.specs.Side.{Side}
-use Rattle.gsmp_wire.specs.Range.{FitsParty, FitsRows}
+use Rattle.world_model.specs.Words.{Party, Side, FitsParty, FitsRows, Controller, Linked, Setup, Site}
 use Rattle.world_model.specs.Answers.{row_of}
-use Rattle.world_model.specs.Controller.{Controller, Linked}
-use Rattle.port_model.specs.Setup.{Setup}
 use Rattle.controller_views.specs.Ready.{IsReady}
-use Rattle.world_model.specs.World.{Site}
 
 abbrev pub setups_of : Controller → List Setup
 setups_of c = map (λ (linked : Linked). linked.setup) c.ports

@@ -1,16 +1,13 @@
 -- What a network shows of the line of a label of a link
 
 use Rattle.std.specs.Prelude.{◌≡◌, ◌≢◌, List, Some}
-use Rattle.crossbar_model.specs.Crossbar.{queue_of}
-use Rattle.world_model.specs.Switch.{control_port}
-use Rattle.label_line.specs.Cells.{Role, Downstream, Upstream}
-use Rattle.label_line.specs.Line.{Line}
-use Rattle.label_line.specs.Moves.{Move, run}
+use Rattle.world_model.specs.Words.{queue_of, control_port, World, Site, site_at, Way}
+use Rattle.controller_views.specs.label_line.Cells.{Role, Downstream, Upstream}
+use Rattle.controller_views.specs.label_line.Line.{Line}
+use Rattle.controller_views.specs.label_line.Moves.{Move, run}
 use Rattle.world_model.specs.Controller.{Acted}
 use Rattle.world_model.specs.declared.link.LinkEnd.{LinkEnd}
-use Rattle.world_model.specs.World.{World, Site, site_at}
-use Rattle.world_model.specs.Users.{Way}
-use Rattle.port_views.specs.Link.{LinkLabel}
+use Rattle.controller_views.specs.port_views.Link.{LinkLabel}
 use Rattle.controller_views.specs.Ends.{Pieces, Net, idle}
 
 abbrev pub end_of : Role → LinkLabel → LinkEnd

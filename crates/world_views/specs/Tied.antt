@@ -2,33 +2,12 @@
 -- what is joined
 
 use Rattle.std.specs.Prelude.{◌≡◌, ℕ, ◌<◌, Bool, true, false, not, List, [], ◌∷◌, ◌++◌, Contains, Some}
-use Rattle.net_types.specs.declared.channel.End.{End}
-use Rattle.net_types.specs.declared.node.NodeId.{NodeId}
-use Rattle.net_types.specs.declared.node.Place.TheVariants.{Down}
-use Rattle.net_types.specs.declared.number.Instance.{Instance}
-use Rattle.net_types.specs.declared.adjacency.Peer.{Peer}
-use Rattle.net_types.specs.declared.adjacency.HelloKind.{HelloKind}
-use Rattle.net_types.specs.declared.adjacency.HelloKind.TheVariants.{Rstack}
-use Rattle.net_types.specs.Label.{label_channel_of}
-use Rattle.adjacency_table.specs.declared.State.TheVariants.{Clearing}
-use Rattle.adjacency_table.specs.Side.{Side}
-use Rattle.atm_cells.specs.declared.cell.Cell.{Cell}
-use Rattle.ipv4_packet.specs.declared.flow.FlowId.{FlowId}
-use Rattle.ifmp_wire.specs.declared.message.Message.{Message}
-use Rattle.ifmp_wire.specs.declared.message.Message.TheVariants.{Adjacency, Redirect}
-use Rattle.ifmp_wire.specs.Message.{names_of}
-use Rattle.port_model.specs.Desk.{Standing}
-use Rattle.port_model.specs.Setup.{home_of, label_end}
-use Rattle.port_model.specs.Grants.{Grant}
-use Rattle.label_line.specs.Cells.{Downstream, Upstream}
+use Rattle.world_model.specs.Words.{End, NodeId, Down, Instance, Peer, HelloKind, Rstack, label_channel_of, Clearing, Side, Cell, FlowId, Redirect, names_of, Standing, home_of, label_end, Grant, World, Site, queue_at, ifmp_under, copy_under, grants_at, side_at, output_at, on_channel, on_default_channel, requests_chain_at, Past, frames_of, last_bound, Way, ByBranch, leads, WasCleared, StandsForLast}
+use Rattle.world_model.specs.ifmp_wire.declared.message.Message.{Message}
+use Rattle.world_model.specs.ifmp_wire.declared.message.Message.TheVariants.{Adjacency}
+use Rattle.controller_views.specs.label_line.Cells.{Downstream, Upstream}
 use Rattle.world_model.specs.declared.link.LinkEnd.{LinkEnd}
-use Rattle.world_model.specs.World.{World, Site}
-use Rattle.world_model.specs.Places.{queue_at}
-use Rattle.world_model.specs.Ways.{ifmp_under, copy_under, grants_at, side_at, output_at, on_channel, on_default_channel, requests_chain_at}
-use Rattle.world_model.specs.Past.{Past, frames_of, last_bound}
-use Rattle.world_model.specs.Users.{Way, ByBranch, leads}
-use Rattle.world_model.specs.Owned.{WasCleared, StandsForLast}
-use Rattle.port_views.specs.Link.{LinkLabel}
+use Rattle.controller_views.specs.port_views.Link.{LinkLabel}
 use Rattle.world_views.specs.Pairs.{Pairs, IsJoin}
 use Rattle.world_views.specs.Shown.{end_of, way_of}
 

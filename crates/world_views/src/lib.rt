@@ -7,12 +7,12 @@
 #![tactic(auto)]
 
 ghost use Rattle.std.specs.Prelude.{◌≡◌, [], Some};
-ghost use Rattle.net_types.specs.declared.node.NodeId.{NodeId};
-ghost use Rattle.label_line.specs.Cells.{Role};
-ghost use Rattle.label_line.specs.Line.{Line};
+ghost use Rattle.world_model.specs.Words.{NodeId, World, Site, site_at};
+ghost use Rattle.controller_views.specs.label_line.Cells.{Role};
+ghost use Rattle.controller_views.specs.label_line.Line.{Line};
 ghost use Rattle.world_model.specs.Controller.{Acted};
-ghost use Rattle.world_model.specs.World.{World, Site, site_at, at_controller};
-ghost use Rattle.port_views.specs.Link.{LinkLabel};
+ghost use Rattle.world_model.specs.World.{at_controller};
+ghost use Rattle.controller_views.specs.port_views.Link.{LinkLabel};
 ghost use Rattle.controller_views.specs.Ends.{EndLeads};
 ghost use Rattle.controller_views.specs.Lifted.{Growing};
 ghost use Rattle.world_views.specs.Shown.{WorldShows, WorldGoes, AreApart, acting};

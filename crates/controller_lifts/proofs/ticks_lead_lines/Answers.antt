@@ -1,4 +1,4 @@
-use Rattle.controller_facts.proofs.Laws.{has_ports}
+use Rattle.arrival_views.proofs.controller_facts.Laws.{has_ports}
 use Rattle.controller_lifts.proofs.Ticking.{ticks_lead, ticks_grow, ticks_node}
 use Rattle.controller_lifts.proofs.ticks_lead_lines.Goals as goal
 

@@ -1,6 +1,6 @@
 -- the laws are proved over definitions alone
 
-use Rattle.causes.proofs.Runs.{breaks_have_causes}
+use Rattle.branch_shapes.proofs.causes.Runs.{breaks_have_causes}
 use Rattle.fed_worlds.proofs.Asked.{asked_are_joined}
 use Rattle.fed_worlds.proofs.Led.{joins_lead_once}
 use Rattle.fed_worlds.proofs.Laws.{fed_in_runs, causes_in_runs}

@@ -1,5 +1,5 @@
-use Rattle.port_facts.proofs.Hearings.{hears_goes}
-use Rattle.world_model.specs.Resets.{begins}
+use Rattle.controller_law.proofs.port_facts.Hearings.{hears_goes}
+use Rattle.world_model.specs.Words.{begins, hears}
 use Rattle.controller_law.proofs.Whole.{holds_of}
 use Rattle.input_premises.proofs.Reading.{are_read}
 use Rattle.input_premises.proofs.Steady.{steady_whole, steady_read}
@@ -7,7 +7,6 @@ use Rattle.input_premises.proofs.Working.{can_work}
 use Rattle.input_premises.proofs.Finishing.{can_finish}
 use Rattle.input_premises.proofs.Changing.{can_take_each}
 use Rattle.input_premises.proofs.Ticking.{can_tick}
-use Rattle.port_model.specs.Hearing.{hears}
 use Rattle.std.specs.Prelude.{[]}
 use Rattle.std.proofs.Common.{refl}
 use Rattle.input_premises.proofs.calls_may_be_made.Goals as goal

@@ -1,4 +1,4 @@
-use Rattle.input_views.specs.Shown.{controller_of, switch_of}
+use Rattle.input_steps.specs.input_views.Shown.{controller_of, switch_of}
 use Rattle.input_premises.proofs.Reading.{controller_fits, switch_fits, greeting_read}
 use Rattle.input_premises.proofs.greetings_are_read.Goals as goal
 

@@ -1,6 +1,6 @@
 use Rattle.std.proofs.Common.{◌≡◌, List, ◌∷◌, sym, subst}
-use Rattle.atm_cells.specs.declared.cell.Cell.{Cell}
-use Rattle.ordered_lists.proofs.Parts.{IsPart, left, part_whole}
+use Rattle.world_model.specs.Words.{Cell}
+use Rattle.input_views.proofs.ordered_lists.Parts.{IsPart, left, part_whole}
 use Rattle.input_steps.proofs.Queues.{queue_loses, back_loses}
 use Rattle.input_steps.proofs.SwitchCells.{gsmp_cell_comes}
 use Rattle.input_steps.proofs.ControllerCells.{cell_comes_back}

@@ -1,7 +1,6 @@
 -- the law is proved over definitions alone
 
-use Rattle.world_model.specs.Changes.{change_comes}
-use Rattle.world_model.specs.Resets.{node_restarts}
+use Rattle.world_model.specs.Words.{change_comes, node_restarts}
 use Rattle.world_model.specs.Ticks.{ticks}
 use Rattle.unmarked_controllers.proofs.Controllers.{sends_same}
 use Rattle.unmarked_controllers.proofs.Rules.{behind, node_restarts_blind}

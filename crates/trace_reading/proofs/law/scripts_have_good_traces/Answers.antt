@@ -1,6 +1,6 @@
 -- the laws that are called, put together
 
-use Rattle.script_model.specs.Script.{script_of}
+use Rattle.trace_truth.specs.script_model.Script.{script_of}
 use Rattle.trace_reading.proofs.Scripts.{scripts_once, names_by_place}
 use Rattle.trace_reading.proofs.law.scripts_have_good_traces.Goals as goal
 

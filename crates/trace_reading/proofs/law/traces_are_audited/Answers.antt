@@ -1,21 +1,21 @@
 -- the laws that are called, put together
 
 use Rattle.std.proofs.Common.{ℕ, ◌<◌, List, [], ◌∷◌, length, sym, subst}
-use Rattle.world_model.specs.Past.{past_of}
-use Rattle.world_views.specs.Between.{HasAllShapes, HasAllPortsUp, HasAllNumbers, HasAllReady, HasAllMade, HasAllLabels, HasAllInputs, HasAllUsers, HasAllCleared, HasAllJoins, HasAllLedOnce}
-use Rattle.world_views.specs.Kept.{Keeps}
-use Rattle.pairs.specs.Past.{RunsMakeNoPairs}
-use Rattle.pairs.specs.Asked.{AnswersSettle}
+use Rattle.world_model.specs.Words.{past_of}
+use Rattle.run_facts.specs.world_views.Between.{HasAllShapes, HasAllPortsUp, HasAllNumbers, HasAllReady, HasAllMade, HasAllLabels, HasAllInputs, HasAllUsers, HasAllCleared, HasAllJoins, HasAllLedOnce}
+use Rattle.run_facts.specs.world_views.Kept.{Keeps}
+use Rattle.label_worlds.specs.pairs.Past.{RunsMakeNoPairs}
+use Rattle.label_worlds.specs.pairs.Asked.{AnswersSettle}
 use Rattle.ownership.proofs.Own.{own_channels}
-use Rattle.true_runs.specs.Runs.{IsWhole, HoldsInRuns}
-use Rattle.true_runs.proofs.Fronts.{front_run}
-use Rattle.true_runs.proofs.Harmony.{harmony_kept, harmony_begins}
-use Rattle.true_runs.proofs.Kept.{whole_of, whole_kept, whole_begins}
-use Rattle.true_runs.proofs.Quiet.{BindsUnusedInRuns}
-use Rattle.true_runs.proofs.Reading.{own_ways}
-use Rattle.true_runs.proofs.Walk.{holds_in_runs}
-use Rattle.script_model.specs.Script.{script_of}
-use Rattle.trace_model.specs.Audit.{audit_of}
+use Rattle.trace_truth.specs.true_runs.Runs.{IsWhole, HoldsInRuns}
+use Rattle.trace_truth.proofs.true_runs.Fronts.{front_run}
+use Rattle.trace_truth.proofs.true_runs.Harmony.{harmony_kept, harmony_begins}
+use Rattle.trace_truth.proofs.true_runs.Kept.{whole_of, whole_kept, whole_begins}
+use Rattle.trace_truth.proofs.true_runs.Quiet.{BindsUnusedInRuns}
+use Rattle.trace_truth.proofs.true_runs.Reading.{own_ways}
+use Rattle.trace_truth.proofs.true_runs.Walk.{holds_in_runs}
+use Rattle.trace_truth.specs.script_model.Script.{script_of}
+use Rattle.trace_truth.specs.trace_model.Audit.{audit_of}
 use Rattle.trace_truth.specs.Told.{run_told}
 use Rattle.trace_truth.proofs.Run.{StandsOn}
 use Rattle.trace_reading.specs.Law.{SaysYes}
@@ -24,7 +24,7 @@ use Rattle.trace_reading.proofs.Audited.{audited}
 use Rattle.trace_reading.proofs.Octets.{octets_are}
 use Rattle.trace_reading.proofs.Whole.{run_sayable}
 use Rattle.trace_reading.proofs.law.traces_are_audited.Goals as goal
-use Rattle.lab_text.specs.Line.{input_limit}
+use Rattle.trace_truth.specs.lab_text.Line.{input_limit}
 
 pub returns : goal.returns
 returns c policy octets accepted tame low =

@@ -1,14 +1,12 @@
 -- the laws that are called, put together
 
 use Rattle.std.proofs.Common.{List, [], ◌∷◌}
-use Rattle.port_model.specs.Setup.{Policy}
+use Rattle.world_model.specs.Words.{Policy, Topology, past_of}
 use Rattle.world_model.specs.declared.event.Event.{Event}
-use Rattle.world_model.specs.Topology.{Topology}
-use Rattle.world_model.specs.Past.{past_of}
-use Rattle.world_views.specs.Between.{HasAllShapes, HasAllPortsUp, HasAllNumbers, HasAllReady, HasAllMade, HasAllLabels, HasAllInputs, HasAllUsers, HasAllCleared, HasAllJoins, HasAllLedOnce}
-use Rattle.world_views.specs.Kept.{Comes, Keeps, BindsUnusedAt}
-use Rattle.pairs.specs.Past.{RunsMakeNoPairs}
-use Rattle.pairs.specs.Asked.{AnswersSettle}
+use Rattle.run_facts.specs.world_views.Between.{HasAllShapes, HasAllPortsUp, HasAllNumbers, HasAllReady, HasAllMade, HasAllLabels, HasAllInputs, HasAllUsers, HasAllCleared, HasAllJoins, HasAllLedOnce}
+use Rattle.run_facts.specs.world_views.Kept.{Comes, Keeps, BindsUnusedAt}
+use Rattle.label_worlds.specs.pairs.Past.{RunsMakeNoPairs}
+use Rattle.label_worlds.specs.pairs.Asked.{AnswersSettle}
 use Rattle.ownership.proofs.Own.{own_channels}
 use Rattle.true_runs.specs.Runs.{IsWhole}
 use Rattle.true_runs.proofs.Fronts.{front_run}

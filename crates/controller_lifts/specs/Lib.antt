@@ -1,0 +1,12 @@
+pub use Rattle.label_steps.specs.octet_fields as octet_fields
+pub use Rattle.arrival_views.specs.aal5_frames as aal5_frames
+pub use Rattle.label_steps.specs.ordered_lists as ordered_lists
+pub use Rattle.label_steps.specs.port_facts as port_facts
+pub use Rattle.arrival_views.specs.controller_facts as controller_facts
+pub use Rattle.label_steps.specs.label_line as label_line
+pub use Rattle.arrival_views.specs.port_widths as port_widths
+pub use Rattle.label_steps.specs.port_views as port_views
+pub use Rattle.label_steps.specs as label_steps
+pub use Rattle.arrival_views.specs.shown_cells as shown_cells
+pub use Rattle.arrival_views.specs.controller_views as controller_views
+pub use Rattle.arrival_views.specs as arrival_views
