@@ -1,3 +1,4 @@
 pub mod Held
 pub mod Table
 pub mod Places
+pub mod Tags

@@ -10,6 +10,7 @@ ghost use Rattle.grant_table.specs.Places.{IsPlaceOf};
 
 use crate::grant::{Grant, Idle};
 use crate::held::Held;
+use crate::tags::{first_of, flow_tag};
 use ipv4_packet::FlowId;
 use net_types::OutOfMemory;
 use std::alloc::Global;
@@ -25,34 +26,32 @@ fn place_of(held: &[Held], label: u16) -> Option<usize>
     held.iter().position(|grant| grant.label() == label)
 }
 
-/// The first grant under which the controller sends a flow.
-fn first_of<'a>(held: &'a [Held], flow: &FlowId) -> Option<&'a Held>
-    ensures { option_map (λ h. h.now) result ≡ find (λ h. is_by_controller (shown h).state && same_flow (shown h).flow flow.now) held.now }
-{
-    held.iter().find(|grant| grant.carries(flow))
-}
-
 /// Grants in the order in which they were accepted, with room for 256.
 #[must_use]
 #[derive(Debug)]
 pub(crate) struct Grants {
     held: Vec<Held>,
+    /// The tag of each.
+    tags: Vec<u8>,
 }
 
 impl Model for Grants {
-    ghost use Rattle.std.specs.Prelude.{◌≤◌, List, length, map};
+    ghost use Rattle.std.specs.Prelude.{◌≡◌, ◌≤◌, List, length, map};
     ghost use Rattle.std.specs.Vec.{vec_capacity};
     ghost use Rattle.port_model.specs.Grants.{Grant};
 
     ghost Value = { List Grant };
 
     ghost use Rattle.grant_table.specs.Held.{shown};
+    ghost use Rattle.grant_table.specs.Tags.{held_tag};
 
     ghost view = { λ g. map shown g.held.items };
 
     ghost invariant = { λ g. record {
       few : length g.held.items ≤ 256;
       room : 256 ≤ vec_capacity g.held;
+      tagged : g.tags.items ≡ map held_tag g.held.items;
+      tags_room : 256 ≤ vec_capacity g.tags;
     } };
 }
 
@@ -63,6 +62,7 @@ impl Grants {
     {
         Ok(Grants {
             held: Vec::with_capacity(alloc, MOST_GRANTS)?,
+            tags: Vec::with_capacity(alloc, MOST_GRANTS)?,
         })
     }
 
@@ -104,7 +104,7 @@ impl Grants {
     pub(crate) fn first_of(&self, flow: &FlowId) -> Option<u16>
         ensures { result ≡ option_map grant_label (grant_for self.now flow.now) }
     {
-        match first_of(&self.held, flow) {
+        match first_of(&self.held, &self.tags, flow) {
             Some(grant) => Some(grant.label()),
             None => None,
         }
@@ -115,6 +115,8 @@ impl Grants {
         requires { length self.old < 256 }
         ensures { self.new ≡ self.old ++ shown (Held.Idle grant) ∷ [] }
     {
+        let tagged = self.tags.push(flow_tag(&grant.flow));
+        let Ok(()) = tagged else { unreachable!() };
         let pushed = self.held.push(Held::Idle(grant));
         let Ok(()) = pushed else { unreachable!() };
     }
@@ -126,6 +128,7 @@ impl Grants {
         ensures rest { self.new ≡ remove self.old place }
         ensures room { length self.new < 256 }
     {
+        self.tags.remove(place);
         self.held.remove(place)
     }
 
@@ -135,6 +138,8 @@ impl Grants {
         requires room { length self.old < 256 }
         ensures { self.new ≡ insert self.old place (shown grant) }
     {
+        let tagged = self.tags.insert(place, flow_tag(&grant.flow()));
+        let Ok(()) = tagged else { unreachable!() };
         let inserted = self.held.insert(place, grant);
         let Ok(()) = inserted else { unreachable!() };
     }
@@ -146,12 +151,13 @@ impl Grants {
         while let Some(held) = self.held.pop() {
             held.end();
         }
+        self.tags.clear();
     }
 
     /// Gives the list up, with its grants.
     pub(crate) fn abandon(mut self) {
         self.clear();
-        let Grants { held } = self;
+        let Grants { held, tags: _ } = self;
         held.destroy_empty();
     }
 }

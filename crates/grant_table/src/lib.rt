@@ -7,6 +7,7 @@ mod grants;
 mod held;
 mod laws;
 mod table;
+mod tags;
 
 pub use laws::tables_are_the_ports;
 pub use table::{AcceptFault, Accepted, GrantState, GrantTable, GrantView};

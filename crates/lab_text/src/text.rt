@@ -3,14 +3,17 @@
 ghost use Rattle.std.specs.Prelude.{◌≡◌, ◌++◌, [], ◌<◌, ◌*◌, length, OnOk, OnErr, decimal};
 ghost use Rattle.lab_text.specs.Text.{hex_digits, hex_digit};
 
+use itoa::Buffer;
 use net_types::{Octets, OutOfMemory};
 use std::alloc::Global;
 use std::marker::Model;
 
+/// How many octets a text has room for from the first on: most lines have no more.
+const LINE_ROOM: usize = 128;
+
 /// Text that grows at its end. Where memory is wanting it stays as it was.
 #[derive(Debug, Drop)]
 pub struct Text {
-    alloc: Global,
     octets: Vec<u8>,
 }
 
@@ -44,6 +47,26 @@ fn write_hex(octets: &[u8], digits: &mut [u8])
     }
 }
 
+/// Takes the room for a line where there is none.
+fn take_room(octets: &mut Vec<u8>) -> Result<(), OutOfMemory>
+    ensures { octets.new.items ≡ octets.old.items }
+{
+    if octets.capacity() == 0 {
+        octets.reserve(LINE_ROOM)?;
+    }
+    Ok(())
+}
+
+/// Appends `octets`.
+fn push(out: &mut Vec<u8>, octets: &[u8]) -> Result<(), OutOfMemory>
+    ensures ok { OnOk result (out.new.items ≡ out.old.items ++ octets.now) }
+    ensures err { OnErr result (out.new.items ≡ out.old.items) }
+{
+    take_room(out)?;
+    out.extend_from_slice(octets)?;
+    Ok(())
+}
+
 fn push_hex(out: &mut Vec<u8>, octets: &[u8]) -> Result<(), OutOfMemory>
     ensures ok { OnOk result (out.new.items ≡ out.old.items ++ hex_digits octets.now) }
     ensures err { OnErr result (out.new.items ≡ out.old.items) }
@@ -62,7 +85,6 @@ impl Text {
         ensures { result ≡ [] }
     {
         Text {
-            alloc,
             octets: Vec::new(alloc),
         }
     }
@@ -78,7 +100,7 @@ impl Text {
     pub fn into_octets(self) -> Octets
         ensures { result ≡ self }
     {
-        let Text { alloc: _, octets } = self;
+        let Text { octets } = self;
         Octets::new(octets)
     }
 
@@ -87,8 +109,7 @@ impl Text {
         ensures ok { OnOk result (self.new ≡ self.old ++ text.now) }
         ensures err { OnErr result (self.new ≡ self.old) }
     {
-        self.octets.extend_from_slice(text.as_bytes())?;
-        Ok(())
+        push(&mut self.octets, text.as_bytes())
     }
 
     /// Appends `octets` as they are.
@@ -96,8 +117,7 @@ impl Text {
         ensures ok { OnOk result (self.new ≡ self.old ++ octets.now) }
         ensures err { OnErr result (self.new ≡ self.old) }
     {
-        self.octets.extend_from_slice(octets)?;
-        Ok(())
+        push(&mut self.octets, octets)
     }
 
     /// Appends `number` in decimal.
@@ -105,9 +125,7 @@ impl Text {
         ensures ok { OnOk result (self.new ≡ self.old ++ decimal number) }
         ensures err { OnErr result (self.new ≡ self.old) }
     {
-        let digits = format!(in self.alloc; "{number}")?;
-        self.octets.extend_from_slice(digits.as_bytes())?;
-        Ok(())
+        push(&mut self.octets, Buffer::new().format(number).as_bytes())
     }
 
     /// Appends `octets` in lower-case hexadecimal.

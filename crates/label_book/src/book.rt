@@ -9,7 +9,7 @@ ghost use Rattle.port_model.specs.Labels.{label_for, label_number};
 use crate::held::Held;
 use crate::index::{Flows, enter, number_at, remove_flow, remove_number};
 use crate::places::Places;
-use crate::view::{HeldLabel, LabelView};
+use crate::view::{HeldLabel, HeldState, LabelView};
 use branch_desk::BranchDone;
 use indexmap::IndexMap;
 use ipv4_packet::FlowId;
@@ -41,7 +41,7 @@ impl Model for LabelBook {
 }
 
 impl LabelBook {
-    ghost use Rattle.label_book.specs.Read.{label_of, view_of};
+    ghost use Rattle.label_book.specs.Read.{label_of, state_from, view_of};
     ghost use Rattle.label_book.specs.Book.{held, state_of, with_new_label, changed, in_state, without_label, wiring, holds_recalled, holds_passed, reclaimed, acknowledged, IsOfBook, IsBook, IsInRange};
 
     /// A book of the labels from `least` to `greatest`, by their numbers, for the pool of an adjacency
@@ -116,6 +116,14 @@ impl LabelBook {
     {
         self.places.are_in_order();
         self.places.get(number)
+    }
+
+    /// The state of the label of this number; none exactly where it isn't held. No more of the label is
+    /// read.
+    pub fn state_at(&self, number: u16) -> Option<HeldState>
+        ensures { option_map state_from result ≡ state_of self.now number }
+    {
+        self.places.state(number)
     }
 
     /// The number of the label that is bound to a flow or is being wired for it; none exactly where

@@ -140,6 +140,13 @@ impl Held {
         self.stage.flow()
     }
 
+    /// Its state as it is read.
+    pub(crate) fn state(&self) -> HeldState
+        ensures { state_from result ≡ (shown self.now).state }
+    {
+        self.stage.state()
+    }
+
     /// As it is read.
     pub(crate) fn read(&self) -> HeldLabel
         ensures { label_of result ≡ shown self.now }

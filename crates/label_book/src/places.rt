@@ -4,11 +4,11 @@ ghost use Rattle.std.specs.Prelude.{◌≡◌, ◌<◌, ◌≤◌, ◌+◌, [], 
 ghost use Rattle.std.specs.List.{AllByRecursion};
 ghost use Rattle.std.specs.Vec.{vec_len};
 ghost use Rattle.port_model.specs.Labels as model;
-ghost use Rattle.label_book.specs.Read.{label_of};
+ghost use Rattle.label_book.specs.Read.{label_of, state_from};
 ghost use Rattle.label_book.specs.Held.{shown, number_in, instance_in};
 
 use crate::held::Held;
-use crate::view::HeldLabel;
+use crate::view::{HeldLabel, HeldState};
 use net_types::{Instance, OutOfMemory};
 use std::alloc::Global;
 use std::marker::Model;
@@ -80,7 +80,7 @@ impl Model for Places {
 
 impl Places {
     ghost use Rattle.label_book.specs.Held.{HasPlaceFor};
-    ghost use Rattle.label_book.specs.Book.{held, with_label, with_new_label, without_label, IsInRange, Rises};
+    ghost use Rattle.label_book.specs.Book.{held, state_of, with_label, with_new_label, without_label, IsInRange, Rises};
 
     /// The places of a range, with no label.
     pub(crate) fn open(
@@ -101,17 +101,33 @@ impl Places {
         })
     }
 
-    /// The label of a number as it is read, where it is held.
-    pub(crate) fn get(&self, number: u16) -> Option<HeldLabel>
-        ensures { option_map label_of result ≡ held self.now number }
+    /// The label of a number, where it is held.
+    fn find(&self, number: u16) -> Option<&Held>
+        ensures { option_map (λ h. shown h.now) result ≡ held self.now number }
     {
         if number < self.least || number > self.greatest {
             return None;
         }
         match &self.held[(number - self.least) as usize] {
-            Some(held) => Some(held.read()),
+            Some(held) => Some(held),
             None => None,
         }
+    }
+
+    /// The label of a number as it is read, where it is held.
+    pub(crate) fn get(&self, number: u16) -> Option<HeldLabel>
+        ensures { option_map label_of result ≡ held self.now number }
+    {
+        let held = self.find(number)?;
+        Some(held.read())
+    }
+
+    /// The state of the label of a number as it is read, where it is held.
+    pub(crate) fn state(&self, number: u16) -> Option<HeldState>
+        ensures { option_map state_from result ≡ state_of self.now number }
+    {
+        let held = self.find(number)?;
+        Some(held.state())
     }
 
     /// Takes a label out.

@@ -1,2 +1,1 @@
 pub use Rattle.quiet_controllers.specs as quiet_controllers
-

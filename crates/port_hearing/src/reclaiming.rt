@@ -265,6 +265,9 @@ fn recall_outside<P: Policy>(
     ensures work { (n : ℕ) → Ends result state.new.port out.new n (recalls_outside (setup_of P.meaning state.old.fixed) (begun state.old.port out.old n) number) }
     ensures numbers { numbers_of state.new.port ≡ numbers_of state.old.port }
 {
+    let Some(HeldState::Offered) = state.state_at(number) else {
+        return Ok(());
+    };
     let Some(label) = state.label_at(number) else {
         return Ok(());
     };

@@ -7,7 +7,7 @@ ghost use Rattle.net_types.specs.Label.{is_label_number, label_channel_of};
 ghost use Rattle.keyed_lists.specs.Keyed.{at, entered, key_le, without};
 ghost use Rattle.label_pool.specs.Label.{wires, unwires};
 ghost use Rattle.label_book.specs.Book.{IsBook, reclaimed, acknowledged, is_passed, is_recalled, wiring};
-ghost use Rattle.label_book.specs.Read.{label_of};
+ghost use Rattle.label_book.specs.Read.{label_of, state_from};
 ghost use Rattle.port_model.specs.Labels as model;
 ghost use Rattle.port_model.specs.Labels.{Label as LabelValue, label_for, label_number, lowest_spare};
 ghost use Rattle.port_model.specs.Counts.{counted_once, moved, packets_in};
@@ -249,6 +249,13 @@ impl Session {
         ensures number { IfSome result (λ label. label.number ≡ number) }
     {
         self.book.get(number)
+    }
+
+    /// The state of the label of this number, if it is held.
+    pub fn state_at(&self, number: u16) -> Option<HeldState>
+        ensures { option_map state_from result ≡ option_map (λ label. label.state) (at label_number number self.now.session.labels) }
+    {
+        self.book.state_at(number)
     }
 
     /// The label at this place among those that are held, the lowest first, counted from 0. None exactly

@@ -5,7 +5,7 @@ ghost use Rattle.std.specs.Option.{option_map_or};
 ghost use Rattle.net_types.specs.Label.{is_label_number};
 ghost use Rattle.keyed_lists.specs.Keyed.{without};
 ghost use Rattle.label_book.specs.Book.{acknowledged, is_passed, is_recalled, reclaimed};
-ghost use Rattle.label_book.specs.Read.{label_of};
+ghost use Rattle.label_book.specs.Read.{label_of, state_from};
 ghost use Rattle.label_pool.specs.Label.{unwires, wires};
 ghost use Rattle.port_model.specs.Counts.{counted_once, packets_in};
 ghost use Rattle.port_model.specs.Labels as labels;
@@ -55,6 +55,16 @@ impl<P: Policy> PortState<P> {
     {
         match &self.session {
             Some(session) => session.label_at(number),
+            None => None,
+        }
+    }
+
+    /// The state of the label of this number, if it is held.
+    pub fn state_at(&self, number: u16) -> Option<HeldState>
+        ensures { option_map state_from result ≡ option_map (λ label. label.state) (label_at self.now.port number) }
+    {
+        match &self.session {
+            Some(session) => session.state_at(number),
             None => None,
         }
     }

@@ -12,10 +12,12 @@ pub use Rattle.ipv4_forward.specs.declared.table.Next.TheVariants.{Local, Via}
 pub use Rattle.atm_cells.specs.declared.cell.Cell.{Cell}
 pub use Rattle.flow_encaps.specs.Default.{default_payload, llc_snap}
 pub use Rattle.flow_encaps.specs.Labelled.{Carries, checksum_at_ttl_zero, checksum_fault, head_size, labelled_payload, layout_fault, left_out, rebuilt, said_length, unwrap_fault}
-pub use Rattle.flow_encaps.specs.Unwrapped.{default_unwrapped, unwrapped, unwrapped_by}
+pub use Rattle.flow_encaps.specs.Unwrapped.{default_unwrapped, unwrapped_by}
+unfoldable pub use Rattle.flow_encaps.specs.Unwrapped.{unwrapped}
 pub use Rattle.flow_encaps.specs.declared.default.EncapsFault.{EncapsFault}
 pub use Rattle.flow_encaps.specs.declared.default.EncapsFault.TheVariants.{BadSnap}
-pub use Rattle.frame_model.specs.Frame.{Tested, frame_cells, last_mark, made, next_mark, payload_by, payload_in, tested, tested_by}
+pub use Rattle.frame_model.specs.Frame.{Tested, frame_cells, last_mark, made, next_mark, payload_by, tested, tested_by}
+unfoldable pub use Rattle.frame_model.specs.Frame.{payload_in}
 pub use Rattle.frame_model.specs.Reassembly.{Reassembly, broken, cut, distinct, marks_of, most_cells, noted_all, nothing_taken, passed_over, skipping_from, too_long, without_slot}
 pub use Rattle.frame_model.specs.Sending.{sent_frame}
 pub use Rattle.frame_model.specs.Stretch.{IsCut, Takes, Turn, open_stretch, stretch_from}

@@ -5,8 +5,8 @@ use Rattle.keyed_lists.specs.Keyed.{at}
 use Rattle.port_model.specs.Labels.{label_number}
 use Rattle.label_book.specs.Held.{labels_in, shown}
 use Rattle.label_book.proofs.InPlace.{absent_below, absent_past, found_in}
-use Rattle.label_book.proofs.places.Places.get.Goals as goal
-use Rattle.label_book.proofs.places.Places.get.Goals.{then-number-self-via-then-number-self, then-number-self-via-else-number-self+then-number-self-2}
+use Rattle.label_book.proofs.places.Places.find.Goals as goal
+use Rattle.label_book.proofs.places.Places.find.Goals.{then-number-self-via-then-number-self, then-number-self-via-else-number-self+then-number-self-2}
 
 pub returns-then-number-self : goal.returns-then-number-self
 returns-then-number-self c =
@@ -27,7 +27,7 @@ returns-in-Some c =
     slice_get_read items (length items) place c.index.result.now refl (omega (arith, c.if-number-self.false, c.if-number-self-2.false, c.self.invariant.sized)) c.index.ensures in
     let found : at label_number c.args.number (labels_in items) ≡ option_map shown c.index.result.now =
     found_in c.self.inside.instance c.self.inside.least c.args.number place items c.index.result.now c.self.invariant.placed (omega (arith, c.if-number-self.false)) there in
-    rw (← c.self.view_is) (ap Some c.read.ensures ∙ sym (found ∙ ap (option_map shown) c.in-Some.is))
+    rw (← c.self.view_is) (sym (found ∙ ap (option_map shown) c.in-Some.is))
 
 pub returns-in-None : goal.returns-in-None
 returns-in-None c =

@@ -1,0 +1,56 @@
+//! Tags: an octet for each grant, by which a search passes over those of other flows.
+
+ghost use Rattle.std.specs.Prelude.{◌≡◌, ◌&&◌, option_map, find, map};
+ghost use Rattle.ipv4_packet.specs.Parts.{same_flow};
+ghost use Rattle.port_model.specs.Grants.{is_by_controller};
+ghost use Rattle.grant_table.specs.Held.{shown};
+ghost use Rattle.grant_table.specs.Tags.{flow_tag, held_tag};
+
+use crate::held::Held;
+use ipv4_packet::FlowId;
+use memchr::memchr;
+
+/// The tag of a flow: the lowest octet of the sum of its addresses and ports.
+pub(crate) fn flow_tag(flow: &FlowId) -> u8
+    ensures { result ≡ flow_tag flow.now }
+{
+    let sum = match *flow {
+        FlowId::One {
+            source,
+            destination,
+            source_port,
+            destination_port,
+            ..
+        } => {
+            u64::from(source.0)
+                + u64::from(destination.0)
+                + u64::from(source_port)
+                + u64::from(destination_port)
+        }
+        FlowId::Two {
+            source,
+            destination,
+            ..
+        } => u64::from(source.0) + u64::from(destination.0),
+    };
+    (sum % 256) as u8
+}
+
+/// The first grant under which the controller sends a flow. Of the grants before it, only those whose tag is
+/// the flow's are looked at.
+pub(crate) fn first_of<'a>(held: &'a [Held], tags: &[u8], flow: &FlowId) -> Option<&'a Held>
+    requires { tags.now ≡ map held_tag held.now }
+    ensures { option_map (λ h. h.now) result ≡ find (λ h. is_by_controller (shown h).state && same_flow (shown h).flow flow.now) held.now }
+{
+    let tag = flow_tag(flow);
+    let mut from = 0;
+    while from < tags.len() {
+        let found = memchr(tag, &tags[from..])?;
+        let grant = &held[from + found];
+        if grant.carries(flow) {
+            return Some(grant);
+        }
+        from += found + 1;
+    }
+    None
+}
