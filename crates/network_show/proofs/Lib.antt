@@ -1,0 +1,5 @@
+pub mod Along
+pub mod Sums
+pub mod Waits
+pub mod Branches
+pub mod Sites
