@@ -3,3 +3,4 @@ pub mod Sums
 pub mod Waits
 pub mod Branches
 pub mod Sites
+pub mod Ends

@@ -1,7 +1,7 @@
 -- The nodes of a network in a run
 
-use Rattle.std.proofs.Common.{◌≡◌, ℕ, zero, suc, ◌+◌, ◌<◌, ◌≤◌, Bool, true, false, List, [], ◌∷◌, ◌++◌, append_assoc, length, map, filter, slice_get, Option, None, Some, refl, sym, ◌∙◌, ap, subst, arith, flat_map, cond}
-use Rattle.std.specs.List.{range_with_len}
+use Rattle.std.proofs.Common.{◌≡◌, ℕ, zero, suc, ◌+◌, ◌<◌, ◌≤◌, Bool, true, false, List, [], ◌∷◌, ◌++◌, append_assoc, length, map, min, filter, slice_get, Option, None, Some, refl, sym, ◌∙◌, ap, subst, arith, flat_map, cond}
+use Rattle.std.specs.List.{range_with_len, sum_by}
 use Rattle.std.specs.Prelude.{is_some}
 use Rattle.std.specs.Option.{option_map, option_map_or}
 use Rattle.std.proofs.lemmas.List.Concat.{flat_map-cons}
@@ -11,9 +11,11 @@ use Rattle.net_types.specs.declared.node.PortNo.{PortNo}
 use Rattle.net_types.specs.declared.node.Place.{Place}
 use Rattle.net_types.specs.declared.node.Place.TheVariants.{Down, Up, Out}
 use Rattle.atm_cells.specs.declared.cell.Cell.{Cell}
-use Rattle.world_model.specs.Controller.{Controller, ports_of}
-use Rattle.world_model.specs.Conditions.{IsNode}
-use Rattle.world_model.specs.Places.{place_node, queue_at, queue_in}
+use Rattle.world_model.specs.Controller.{Controller, Linked, ports_of}
+use Rattle.port_model.specs.Port.{labels_of}
+use Rattle.port_model.specs.Redirection.{greatest_tally}
+use Rattle.world_model.specs.Conditions.{IsNode, IsPlace}
+use Rattle.world_model.specs.Places.{place_node, queue_at, queue_in, queue_number}
 use Rattle.world_model.specs.Switch.{Switch}
 use Rattle.world_model.specs.Topology as topologies
 use Rattle.world_model.specs.Topology.{Topology, peer_of}
@@ -22,9 +24,11 @@ use Rattle.world.specs.declared.world.World.{World as Network}
 use Rattle.world.specs.Network.{IsNodeIn, no_notes, sites_of, world_of}
 use Rattle.world.specs.Running.{Runs}
 use Rattle.world.proofs.Acting.{at_numbered}
+use Rattle.world.proofs.Conditions.{place_in, queue_low}
+use Rattle.world.proofs.Places.{place_is}
 use Rattle.world_pace.specs.Running.{IsRunningSite, numbered}
 use Rattle.world_pace.proofs.Running.{are_numbered, site_runs}
-use Rattle.show_text.specs.Shown.{controller_lines, queue_line, queue_lines, site_lines}
+use Rattle.show_text.specs.Shown.{controller_lines, grants_in, labels_in, queue_line, queue_lines, site_lines}
 use Rattle.show_text.specs.Switch.{switch_lines}
 use Rattle.network_show.specs.Held.{port_queue_line}
 
@@ -147,3 +151,23 @@ site_written t site node c s node_is controller_is switch_is old one two new fir
     let two_is : two ≡ one ++ switches = second ∙ (λ i. one ++ switch_lines t (sym node_is i) (sym switch_is i)) in
     third ∙ ap (λ xs. xs ++ queue_lines t site) (two_is ∙ ap (λ xs. xs ++ switches) one_is)
     ∙ append_assoc (old ++ controllers) switches (queue_lines t site) ∙ append_assoc old controllers (switches ++ queue_lines t site)
+
+-- *Its labels and grants* are those of its controller
+pub labels_read : (site : Site) (c : Controller) → site.controller ≡ c → min greatest_tally (sum_by (λ (linked : Linked). length (labels_of linked.port)) c.ports) ≡ min greatest_tally (labels_in site)
+labels_read site c is = ap (λ (x : Controller). min greatest_tally (sum_by (λ (linked : Linked). length (labels_of linked.port)) x.ports)) (sym is)
+
+pub grants_read : (site : Site) (c : Controller) → site.controller ≡ c → min greatest_tally (sum_by (λ (linked : Linked). length linked.port.grants) c.ports) ≡ min greatest_tally (grants_in site)
+grants_read site c is = ap (λ (x : Controller). min greatest_tally (sum_by (λ (linked : Linked). length linked.port.grants) x.ports)) (sym is)
+
+-- *Each queue of a round* is one of the network's
+pub record IsKnown {C : Type 0} (n : Network C) (place : Place) : Type 0 where
+  pub node : IsNodeIn n (place_node place)
+  pub port : queue_number place ≤ 9
+
+pub place_known : {C : Type 0} (seen : C → Controller) (t : Topology) (n : Network C) → Runs seen t n → (i : ℕ) (place : Place) → slice_get n.round.items i ≡ Some place → IsKnown n place
+place_known seen t n runs i place is =
+    let sites : length (sites_of seen n.sites.items) ≡ length n.sites.items = length_mapped _ n.sites.items in
+    let nodes : length (sites_of seen n.sites.items) ≡ length t.nodes = runs.world.nodes in
+    let whole : IsPlace t place = place_is t n.events 1 (sites_of seen n.sites.items) runs.world.sites (omega arith) (omega (arith, nodes)) i place
+    (ap (λ (ps : List Place). slice_get ps i) (sym runs.round) ∙ is) in
+    record { node = place_in seen t n runs place whole; port = queue_low seen t n runs place whole }

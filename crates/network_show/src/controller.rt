@@ -1,6 +1,6 @@
 //! Controllers that show what they hold.
 
-ghost use Rattle.std.specs.Prelude.{◌≡◌, ◌++◌, slice_get, OnOk, Some};
+ghost use Rattle.std.specs.Prelude.{◌≡◌, ◌++◌, ◌<◌, length, slice_get, OnOk, Some};
 ghost use Rattle.std.specs.List.{flat_map};
 ghost use Rattle.joining_router.specs.Joining.{controller_of};
 ghost use Rattle.world_model.specs.Conditions.{IsNode};
@@ -59,12 +59,10 @@ fn write_port_at<E: ShownEngine>(
     controller: &Controller<E>,
     place: usize,
 ) -> Result<(), OutOfMemory>
+    requires { place < length (controller_of E.seen controller.now).ports }
     ensures { (linked : Linked) → slice_get (controller_of E.seen controller.now).ports place ≡ Some linked → OnOk result (out.new ≡ out.old ++ linked_lines names.now node linked) }
 {
-    if place < controller.ports() {
-        controller.link_at(place).write(out, names, node)?;
-    }
-    Ok(())
+    controller.link_at(place).write(out, names, node)
 }
 
 /// Appends the lines of all linked ports, ascending.

@@ -1,4 +1,4 @@
-use Rattle.std.proofs.Common.{◌≡◌, ◌++◌, ◌∙◌, ◌<◌, ◌≤◌, ℕ, List, length, slice_get, Some, arith, ap, refl, subst, sym}
+use Rattle.std.proofs.Common.{◌≡◌, ◌++◌, ◌∙◌, ◌<◌, ◌≤◌, ℕ, List, length, slice_get, Some, append-nil, arith, ap, refl, subst, sym}
 use Rattle.net_types.specs.declared.node.PortNo.{PortNo}
 use Rattle.net_types.specs.declared.node.Place.TheVariants.{Out}
 use Rattle.atm_cells.specs.declared.cell.Cell.{Cell}
@@ -23,7 +23,7 @@ write_queue_at-requires-clause-port g c =
     omega (arith, port_low t c.args.world.now.events c.args.node found.site c.loop-place.place c.port_at-port.result (site_is seen t c.args.world.now c.requires.runs c.args.node found.site found.found) port)
 
 pub loop-place-init : goal.loop-place-init
-loop-place-init g c = λ site found. grind (arith)
+loop-place-init g c = λ site found. sym (append-nil c.args.out.now)
 
 pub loop-place-preserved : goal.loop-place-preserved
 loop-place-preserved g c = λ site found.
