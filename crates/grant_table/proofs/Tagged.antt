@@ -1,9 +1,9 @@
 -- a search by tags finds the first grant under which the controller sends a flow
 
-use Rattle.std.proofs.Common.{◌≡◌, ◌≢◌, ℕ, zero, suc, ◌+◌, ◌<◌, ◌≤◌, ◌&&◌, nat_eq, Bool, true, false, List, [], ◌∷◌, length, map, drop, Option, None, Some, refl, sym, ap, ◌∙◌, arith, inl, inr}
-use Rattle.std.specs.Prelude.{find, slice_set, slice_get, get_or, ◌==◌}
+use Rattle.std.proofs.Common.{◌≡◌, ◌≢◌, ℕ, zero, suc, ◌+◌, ◌<◌, ◌≤◌, ◌&&◌, nat_eq, Bool, true, false, List, [], ◌∷◌, length, map, drop, None, Some, refl, sym, ap, ◌∙◌, arith, inl, inr}
+use Rattle.std.specs.Prelude.{find, slice_get, slice_index_or, slice_set, get_or}
 use Rattle.std.specs.List.{remove, insert, position_or_len}
-use Rattle.std.proofs.lemmas.Bool.{cases_eq, cases_Bool, eq-eqb, ne_eqb, eqb-true, false_from_ne_true, true≢false}
+use Rattle.std.proofs.lemmas.Bool.{cases_eq, eq-eqb, ne_eqb, eqb-true, false_from_ne_true}
 use Rattle.std.proofs.lemmas.List.Sums.{position_or_len_is}
 use Rattle.memchr.specs.Find.{IsFirstByte, is_byte}
 use Rattle.ipv4_packet.specs.declared.flow.FlowId.{FlowId}
@@ -47,7 +47,7 @@ other_tag : (flow : FlowId) (h : Held) → held_tag h ≢ flow_tag flow → carr
 other_tag flow h other = false_from_ne_true (carries flow h) (λ it. other (same_tag (shown h).flow flow (right (is_by_controller (shown h).state) _ it)))
 
 -- *The first place of the tag*: no grant before it carries the flow
-first_tag : FlowId → List Held → ℕ
+abbrev first_tag : FlowId → List Held → ℕ
 first_tag flow hs = position_or_len (is_byte (flow_tag flow)) (map held_tag hs)
 
 one_more : (n : ℕ) → 1 + n ≡ suc n
@@ -90,10 +90,10 @@ drop_tags [] (suc n) = refl
 drop_tags (h ∷ hs) (suc n) = drop_tags hs n
 
 drop_drop : (hs : List Held) (i j : ℕ) → drop j (drop i hs) ≡ drop (i + j) hs
-drop_drop hs zero j = refl
-drop_drop [] (suc i) zero = refl
-drop_drop [] (suc i) (suc j) = refl
-drop_drop (h ∷ hs) (suc i) j = drop_drop hs i j
+drop_drop hs zero j = let e : 0 + j ≡ j = omega arith in rw e refl
+drop_drop [] (suc i) zero = let e : suc i + 0 ≡ suc i = omega arith in rw e refl
+drop_drop [] (suc i) (suc j) = let e : suc i + suc j ≡ suc (i + suc j) = omega arith in rw e refl
+drop_drop (h ∷ hs) (suc i) j = let e : suc i + j ≡ suc (i + j) = omega arith in rw e (drop_drop hs i j)
 
 -- what a step of the search finds behind a place up to which no grant carries the flow
 pub none_behind : (flow : FlowId) (hs : List Held) (from : ℕ) → find (carries flow) hs ≡ find (carries flow) (drop from hs)
@@ -112,18 +112,24 @@ one_behind flow hs from place before found =
     let first : first_tag flow (drop from hs) ≡ place = found_place (is_byte (flow_tag flow)) (map held_tag (drop from hs)) place it in
     before ∙ (skipped flow (drop from hs) ∙ (ap (λ (n : ℕ). find (carries flow) (drop n (drop from hs))) first ∙ ap (find (carries flow)) (drop_drop hs from place)))
 
--- the grant there carries the flow, or the search goes on behind it
-pub here : (flow : FlowId) (hs : List Held) (place : ℕ) (h : Held) → slice_get hs place ≡ Some h → carries flow h ≡ true
-    → find (carries flow) (drop place hs) ≡ Some h
-here flow [] place h is on = absurd (cc is)
-here flow (x ∷ xs) zero h is on = let e : x ≡ h = cc in rw (e, on) refl
-here flow (x ∷ xs) (suc place) h is on = here flow xs place h is on
+-- a place that is found is one of the list
+pub inside : (test : ℕ → Bool) (hs : List Held) (from place : ℕ) → IsFirstByte test (drop from (map held_tag hs)) (Some place) → from + place < length hs
+inside test hs zero place found = omega (arith, found.0.high, length_tags hs)
+inside test [] (suc from) place found = absurd (omega (arith, found.0.high))
+inside test (h ∷ hs) (suc from) place found = let rest = inside test hs from place found in omega (arith, rest)
 
-pub behind : (flow : FlowId) (hs : List Held) (place : ℕ) (h : Held) → slice_get hs place ≡ Some h → carries flow h ≡ false
-    → find (carries flow) (drop place hs) ≡ find (carries flow) (drop (place + 1) hs)
-behind flow [] place h is off = absurd (cc is)
-behind flow (x ∷ xs) zero h is off = let e : x ≡ h = cc in rw (e, off) refl
-behind flow (x ∷ xs) (suc place) h is off = behind flow xs place h is off
+-- the grant there carries the flow, or the search goes on behind it
+pub here : (flow : FlowId) (hs : List Held) (place : ℕ) (d : Held) → place < length hs → carries flow (slice_index_or hs place d) ≡ true
+    → find (carries flow) (drop place hs) ≡ Some (slice_index_or hs place d)
+here flow [] place d within on = absurd (omega arith)
+here flow (x ∷ xs) zero d within on = rw on refl
+here flow (x ∷ xs) (suc place) d within on = here flow xs place d (omega arith) on
+
+pub behind : (flow : FlowId) (hs : List Held) (place : ℕ) (d : Held) → place < length hs → carries flow (slice_index_or hs place d) ≡ false
+    → find (carries flow) (drop place hs) ≡ find (carries flow) (drop (suc place) hs)
+behind flow [] place d within off = absurd (omega arith)
+behind flow (x ∷ xs) zero d within off = rw off refl
+behind flow (x ∷ xs) (suc place) d within off = behind flow xs place d (omega arith) off
 
 -- *Tags of a list that is changed*
 pub tags_removed : (hs : List Held) (i : ℕ) → map held_tag (remove hs i) ≡ remove (map held_tag hs) i
@@ -142,3 +148,9 @@ pub tags_kept : (hs : List Held) (i : ℕ) (h y : Held) → i < length hs → h 
 tags_kept [] i h y inside read same = absurd (omega arith)
 tags_kept (x ∷ hs) zero h y inside read same = let e : h ≡ x = read in ap (λ (n : ℕ). n ∷ map held_tag hs) (same ∙ ap held_tag e)
 tags_kept (x ∷ hs) (suc i) h y inside read same = ap (λ (t : List ℕ). held_tag x ∷ t) (tags_kept hs i h y (omega arith) read same)
+
+-- what is taken out of a place is what is seen there
+pub got : (hs : List Held) (i : ℕ) (r : Held) → i < length hs → r ≡ get_or hs i r → slice_get (map shown hs) i ≡ Some (shown r)
+got [] i r inside is = absurd (omega arith)
+got (x ∷ xs) zero r inside is = let e : r ≡ x = is in ap (λ (h : Held). Some (shown h)) (sym e)
+got (x ∷ xs) (suc i) r inside is = got xs i r (omega arith) is

@@ -60,9 +60,10 @@ impl Grants {
     pub(crate) fn open(alloc: Global) -> Result<Grants, OutOfMemory>
         ensures { IfOk result (λ grants. grants ≡ []) }
     {
+        let tags = Vec::with_capacity(alloc, MOST_GRANTS)?;
         Ok(Grants {
             held: Vec::with_capacity(alloc, MOST_GRANTS)?,
-            tags: Vec::with_capacity(alloc, MOST_GRANTS)?,
+            tags,
         })
     }
 
