@@ -3,3 +3,4 @@ pub mod Node
 pub mod Port
 pub mod Switch
 pub mod Shown
+pub mod Views

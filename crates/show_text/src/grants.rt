@@ -1,9 +1,7 @@
 //! Grants.
 
 ghost use Rattle.std.specs.Prelude.{◌≡◌, ◌++◌, OnOk, codes, decimal};
-ghost use Rattle.port_model.specs.Grants.{Grant};
-ghost use Rattle.grant_table.specs.Table.{view_of};
-ghost use Rattle.show_text.specs.Port.{grant_line, grant_state_text};
+ghost use Rattle.show_text.specs.Views.{view_line, word_by};
 
 use crate::labels::{write_flow_and_join, write_front};
 use crate::words::write_number;
@@ -13,7 +11,7 @@ use net_types::{NodeId, OutOfMemory, PortNo};
 use topology::Topology;
 
 fn state_word(state: GrantState, owed: bool) -> &'static str
-    ensures { (grant : Grant) → (view_of grant).state ≡ state → (view_of grant).owed ≡ owed → result.now ≡ grant_state_text grant.state }
+    ensures { result.now ≡ word_by state owed }
 {
     match state {
         GrantState::Idle => "idle",
@@ -31,14 +29,14 @@ fn state_word(state: GrantState, owed: bool) -> &'static str
 
 /// Appends the state of a grant, and how many ticks it has left to live.
 fn write_life(out: &mut Text, grant: &GrantView) -> Result<(), OutOfMemory>
-    ensures { (of : Grant) → grant.now ≡ view_of of → OnOk result (out.new ≡ out.old ++ (codes " " ++ (grant_state_text of.state ++ (codes " lifetime " ++ decimal of.lifetime)))) }
+    ensures { OnOk result (out.new ≡ out.old ++ (codes " " ++ (word_by grant.now.state grant.now.owed ++ (codes " lifetime " ++ decimal grant.now.lifetime)))) }
 {
     out.text(" ")?;
     out.text(state_word(grant.state, grant.owed))?;
     write_number(out, " lifetime ", u64::from(grant.lifetime))
 }
 
-/// Appends the line of a grant of a port.
+/// Appends the line of a grant of a port, as it is read.
 pub fn write_grant(
     out: &mut Text,
     names: &Topology,
@@ -46,7 +44,7 @@ pub fn write_grant(
     port: PortNo,
     grant: &GrantView,
 ) -> Result<(), OutOfMemory>
-    ensures { (of : Grant) → grant.now ≡ view_of of → OnOk result (out.new ≡ out.old ++ grant_line names.now node port of) }
+    ensures { OnOk result (out.new ≡ out.old ++ view_line names.now node port grant.now) }
 {
     write_front(out, "grant ", names, node, port, grant.label)?;
     write_life(out, grant)?;

@@ -1,8 +1,9 @@
 //! A node, and the requests that stand.
 
-ghost use Rattle.std.specs.Prelude.{◌≡◌, ◌++◌, OnOk};
+ghost use Rattle.std.specs.Prelude.{◌≡◌, ◌++◌, OnOk, codes};
 ghost use Rattle.world_model.specs.Conditions.{IsNode};
 ghost use Rattle.show_text.specs.Node.{address_of, node_line, request_line};
+ghost use Rattle.show_text.specs.Words.{slots_text, state_text};
 
 use crate::words::{state_word, write_slots};
 use adjacency_table::State;
@@ -19,6 +20,21 @@ fn write_address_of(out: &mut Text, names: &Topology, node: NodeId) -> Result<()
     ensures { OnOk result (out.new ≡ out.old ++ address_of names.now node) }
 {
     write_address(out, names.address(node))
+}
+
+/// Appends a state, how many slots are free, and the end of the line.
+fn write_condition(
+    out: &mut Text,
+    state: State,
+    free: usize,
+    cells: usize,
+) -> Result<(), OutOfMemory>
+    ensures { OnOk result (out.new ≡ out.old ++ (codes " " ++ (state_text state ++ (slots_text free cells ++ codes "\n")))) }
+{
+    out.text(" ")?;
+    out.text(state_word(state))?;
+    write_slots(out, free, cells)?;
+    out.text("\n")
 }
 
 /// Appends the line of a node: its name and its address, the state of its controller's side of the
@@ -38,10 +54,7 @@ pub fn write_node(
     write_name(out, names, node)?;
     out.text(" ")?;
     write_address_of(out, names, node)?;
-    out.text(" ")?;
-    out.text(state_word(state))?;
-    write_slots(out, free, cells)?;
-    out.text("\n")
+    write_condition(out, state, free, cells)
 }
 
 /// Appends the line of a request that stands, by its message.
