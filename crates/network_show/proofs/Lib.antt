@@ -4,3 +4,4 @@ pub mod Waits
 pub mod Branches
 pub mod Sites
 pub mod Ends
+pub mod Counts

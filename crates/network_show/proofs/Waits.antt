@@ -1,6 +1,7 @@
 -- Changes that wait: the first alone can be begun
 
 use Rattle.std.proofs.Common.{◌≡◌, ℕ, zero, suc, ◌+◌, ◌==◌, ◌&&◌, Bool, true, false, List, [], ◌∷◌, ◌++◌, append_assoc, append-nil, length, slice_get, take, Some, refl, sym, ◌∙◌, ap, arith}
+use Rattle.std.proofs.lemmas.Bool.Decides.{nat_tests}
 use Rattle.net_types.specs.declared.node.NodeId.{NodeId}
 use Rattle.ipv4_forward.specs.declared.change.RouteChange.{RouteChange}
 use Rattle.world_model.specs.Topology.{Topology}
@@ -16,12 +17,15 @@ module _ (t : Topology) (node : NodeId) where
   and_false true = refl
   and_false false = refl
 
+  not_first : (n : ℕ) → (suc n == 0) ≡ false
+  not_first n = grind (arith, nat_tests)
+
   push : (b : Bool) (xs : List RouteChange) (x : RouteChange) → waiting_lines t node b (xs ++ x ∷ []) ≡ waiting_lines t node b xs ++ waiting_line t node (b && (length xs == 0)) x
   push b [] x = append-nil (waiting_line t node b x) ∙ ap (λ (c : Bool). waiting_line t node c x) (sym (and_true b))
   push b (y ∷ xs) x =
       ap (λ rest. waiting_line t node b y ++ rest) (push false xs x)
       ∙ sym (append_assoc (waiting_line t node b y) (waiting_lines t node false xs) (waiting_line t node false x))
-      ∙ ap (λ (c : Bool). (waiting_line t node b y ++ waiting_lines t node false xs) ++ waiting_line t node c x) (sym (and_false b))
+      ∙ ap (λ (c : Bool). (waiting_line t node b y ++ waiting_lines t node false xs) ++ waiting_line t node c x) (sym (ap (λ (d : Bool). b && d) (not_first (length xs)) ∙ and_false b))
 
   so_far : (xs : List RouteChange) (i : ℕ) (x : RouteChange) → slice_get xs i ≡ Some x → length (take i xs) ≡ i
   so_far [] i x e = absurd (cc e)

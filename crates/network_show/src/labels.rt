@@ -18,7 +18,7 @@ pub(crate) fn write_session(
     peer: Option<Addr>,
     session: Option<&Session>,
 ) -> Result<(), OutOfMemory>
-    ensures { OnOk result (out.new ≡ out.old ++ session_text peer (option_map (λ s. s.now.session) session)) }
+    ensures { OnOk result (out.new ≡ out.old ++ session_text peer (option_map (λ s. s.now.session) session.entry)) }
 {
     match session {
         Some(session) => {
@@ -41,7 +41,8 @@ fn write_counts(
 ) -> Result<(), OutOfMemory>
     ensures { OnOk result (out.new ≡ out.old ++ count_lines names.now node port counted.now.counts) }
 {
-    for (flow, packets) in counted.flows() {
+    let mut flows = counted.flows();
+    while let Some((flow, packets)) = flows.next() {
         write_count(out, names, node, port, &flow, packets)?;
     }
     Ok(())
@@ -88,7 +89,7 @@ pub(crate) fn write_held(
     port: PortNo,
     session: Option<&Session>,
 ) -> Result<(), OutOfMemory>
-    ensures { OnOk result (out.new ≡ out.old ++ (count_lines names.now node port (counted_by (option_map (λ s. s.now.session) session)) ++ label_lines names.now node port (labels_by (option_map (λ s. s.now.session) session)))) }
+    ensures { OnOk result (out.new ≡ out.old ++ (count_lines names.now node port (counted_by (option_map (λ s. s.now.session) session.entry)) ++ label_lines names.now node port (labels_by (option_map (λ s. s.now.session) session.entry)))) }
 {
     match session {
         Some(session) => {
