@@ -58,14 +58,7 @@ pub(crate) fn tell_nodes<C: ShownController, K: Sink>(
     ensures faults { K.faults sink.new ≡ count_after (is_failed result) (K.faults sink.old) }
 {
     for place in 0..names.nodes() {
-        tell_node(
-            alloc,
-            names,
-            world,
-            NodeId(place as u8 + 1),
-            writer,
-            sink,
-        )?;
+        tell_node(alloc, names, world, NodeId(place as u8 + 1), writer, sink)?;
     }
     Ok(())
 }

@@ -17,13 +17,7 @@ fn state_word(state: GrantState, owed: bool) -> &'static str
         GrantState::Idle => "idle",
         GrantState::ByController => "own",
         GrantState::ByInput => "lent",
-        GrantState::Leaving => {
-            if owed {
-                "owed"
-            } else {
-                "leaving"
-            }
-        }
+        GrantState::Leaving => { if owed { "owed" } else { "leaving" } }
     }
 }
 

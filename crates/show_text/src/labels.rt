@@ -23,13 +23,7 @@ fn state_word(state: HeldState) -> &'static str
         HeldState::Recalled {
             last: _,
             acknowledged,
-        } => {
-            if acknowledged {
-                "returned"
-            } else {
-                "recalled"
-            }
-        }
+        } => { if acknowledged { "returned" } else { "recalled" } }
         HeldState::Wired => "quit",
     }
 }

@@ -43,12 +43,7 @@ pub fn write_route(
 }
 
 /// Appends a word, a name and a prefix.
-fn write_changed(
-    out: &mut Text,
-    word: &str,
-    name: &[u8],
-    prefix: Prefix,
-) -> Result<(), OutOfMemory>
+fn write_changed(out: &mut Text, word: &str, name: &[u8], prefix: Prefix) -> Result<(), OutOfMemory>
     ensures { OnOk result (out.new ≡ out.old ++ (word.now ++ (codes " " ++ (name.now ++ (codes " " ++ prefix_text prefix))))) }
 {
     out.text(word)?;

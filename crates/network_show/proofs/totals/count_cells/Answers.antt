@@ -20,6 +20,7 @@ loop-place-preserved g c =
     c.saturating_add-cells.ensures
     ∙ ap (λ (n : ℕ). min (c.loop-place.cells + n) greatest_tally) (c.queued.ensures c.args.names.now c.requires)
     ∙ sum_more (λ (place : Place). length (queue_at w place)) (places w) c.loop-place.place c.place.result greatest_tally c.loop-place.cells is c.loop-place.invariant
+
 pub returns : goal.returns
 returns g c =
     let w : World = world_of g.C.NodeController.seen c.args.world.now no_notes in
