@@ -63,7 +63,7 @@ module _ {C : Type 0} (seen : C → Controller) (t : Topology) (n : Network C) (
   site_is node site found = site_runs t n.events 1 node.0 shown_world.sites site runs.world.sites found
 
 same_node : (a b : NodeId) → a.0 ≡ b.0 → a ≡ b
-same_node a b e = ap (λ (k : ℕ). record { 0 = k }) e
+same_node a b e = ap numbered e
 
 pub node_is : (t : Topology) (events : ℕ) (node : NodeId) (site : Site) → IsRunningSite t events node.0 site → site.controller.node ≡ node
 node_is t events node site is = same_node site.controller.node node is.node

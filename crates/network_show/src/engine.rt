@@ -4,7 +4,7 @@ ghost use Rattle.std.specs.Prelude.{◌≡◌, ◌++◌, OnOk};
 ghost use Rattle.show_text.specs.Port.{port_line, port_lines};
 
 use crate::grants::write_grants;
-use crate::labels::{write_held, write_session};
+use crate::labels::{count_labels, write_held, write_session};
 use flow_classifier::Policy;
 use lab_text::Text;
 use net_types::{NodeId, OutOfMemory};
@@ -64,9 +64,6 @@ impl<P: Policy + Copy> ShownEngine for RouterPort<P> {
     }
 
     fn held(&self) -> usize {
-        match self.link().session() {
-            Some(session) => session.held(),
-            None => 0,
-        }
+        count_labels(self.link().session())
     }
 }

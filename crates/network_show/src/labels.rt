@@ -1,6 +1,6 @@
 //! What the session of a port holds.
 
-ghost use Rattle.std.specs.Prelude.{◌≡◌, ◌++◌, option_map, slice_get, OnOk, Some};
+ghost use Rattle.std.specs.Prelude.{◌≡◌, ◌++◌, length, option_map, slice_get, OnOk, Some};
 ghost use Rattle.port_model.specs.Labels.{Label};
 ghost use Rattle.show_text.specs.Port.{count_lines, counted_by, label_line, label_lines, session_text};
 ghost use Rattle.network_show.specs.Held.{labels_by};
@@ -97,5 +97,15 @@ pub(crate) fn write_held(
             write_labels(out, names, node, port, session)
         }
         None => Ok(()),
+    }
+}
+
+/// How many labels are held.
+pub(crate) fn count_labels(session: Option<&Session>) -> usize
+    ensures { result ≡ length (labels_by (option_map (λ s. s.now.session) session.entry)) }
+{
+    match session {
+        Some(session) => session.held(),
+        None => 0,
     }
 }
