@@ -11,8 +11,8 @@ use Rattle.network_show.proofs.Sites.{grants_read, its_controller, its_switch, l
 use Rattle.network_show.proofs.Sums.{sum_all, sum_more, sum_more_least}
 use Rattle.network_show.proofs.totals.count_all.Goals as goal
 
-pub controller-requires : goal.controller-requires
-controller-requires g c = node_in g.C.NodeController.seen c.args.names.now c.args.world.now c.requires c.loop-place.place (omega (arith, c.loop-place-test.true, c.nodes-nodes.ensures.len))
+pub controller-controller-requires : goal.controller-controller-requires
+controller-controller-requires g c = node_in g.C.NodeController.seen c.args.names.now c.args.world.now c.requires c.loop-place.place (omega (arith, c.loop-place-test.true, c.nodes-nodes.ensures.len))
 
 pub switch-requires : goal.switch-requires
 switch-requires g c = node_in g.C.NodeController.seen c.args.names.now c.args.world.now c.requires c.loop-place.place (omega (arith, c.loop-place-test.true, c.nodes-nodes.ensures.len))
