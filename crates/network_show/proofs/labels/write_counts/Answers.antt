@@ -8,13 +8,13 @@ loop-flow-init c =
 
 pub loop-flow-smaller : goal.loop-flow-smaller
 loop-flow-smaller c =
-    let step : c.loop-flow.flows ≡ (c.in-Some.flow, c.in-Some.packets) ∷ c.next.new.self = c.in-Some.ensures in
+    let step : c.loop-flow.flows ≡ (c.in-Some.flow, c.in-Some.packets) ∷ c.next.new.self = c.in-Some.ensures.steps in
     omega (arith, ap length step)
 
 pub loop-flow-preserved : goal.loop-flow-preserved
 loop-flow-preserved c =
     let t = c.args.names.now in
-    let step : c.loop-flow.flows ≡ (c.in-Some.flow, c.in-Some.packets) ∷ c.next.new.self = c.in-Some.ensures in
+    let step : c.loop-flow.flows ≡ (c.in-Some.flow, c.in-Some.packets) ∷ c.next.new.self = c.in-Some.ensures.steps in
     ap (λ xs. xs ++ pair_lines t c.args.node c.args.port c.next.new.self) c.in_ok-write_count.ensures
     ∙ append_assoc c.loop-flow.out _ _
     ∙ ap (λ xs. c.loop-flow.out ++ xs) (sym (next_count t c.args.node c.args.port c.loop-flow.flows c.next.new.self (c.in-Some.flow, c.in-Some.packets) step))
@@ -22,5 +22,5 @@ loop-flow-preserved c =
 
 pub returns : goal.returns
 returns c =
-    let none : c.loop-flow.flows ≡ [] = (rw c.in_default.is at c.next.ensures).0 in
+    let none : c.loop-flow.flows ≡ [] = (rw c.in_default.is at c.next.ensures).steps.0 in
     sym (append-nil c.loop-flow.out) ∙ ap (λ xs. c.loop-flow.out ++ xs) (sym (ap (pair_lines c.args.names.now c.args.node c.args.port) none)) ∙ c.loop-flow.invariant
