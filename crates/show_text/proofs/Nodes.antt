@@ -1,6 +1,6 @@
 -- The address of a node, as it is read
 
-use Rattle.std.proofs.Common.{◌≡◌, ℕ, List, [], Option, None, Some, ap, sym}
+use Rattle.std.proofs.Common.{◌≡◌, [], Option, None, Some, ap}
 use Rattle.std.specs.Option.{option_map, option_map_or}
 use Rattle.net_types.specs.declared.prefix.Addr.{Addr}
 use Rattle.world_model.specs.Topology.{Node}

@@ -1,6 +1,6 @@
 -- A grant as it is read has the grant's line
 
-use Rattle.std.proofs.Common.{◌≡◌, ◌++◌, ℕ, Bool, true, false, List, codes, refl, ap}
+use Rattle.std.proofs.Common.{◌≡◌, ◌++◌, ℕ, true, false, List, codes, refl, ap}
 use Rattle.std.specs.Prelude.{decimal}
 use Rattle.net_types.specs.declared.node.NodeId.{NodeId}
 use Rattle.net_types.specs.declared.node.PortNo.{PortNo}

@@ -8,7 +8,6 @@ use Rattle.net_types.specs.declared.channel.Channel.{Channel}
 use Rattle.net_types.specs.declared.adjacency.Peer.{Peer}
 use Rattle.net_types.specs.declared.node.NodeId.{NodeId}
 use Rattle.net_types.specs.declared.node.PortNo.{PortNo}
-use Rattle.adjacency_table.specs.declared.State.{State}
 use Rattle.adjacency_table.specs.Side.{Side}
 use Rattle.ipv4_packet.specs.declared.flow.FlowId.{FlowId}
 use Rattle.port_model.specs.Counts.{Counted, total}

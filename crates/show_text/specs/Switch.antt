@@ -1,6 +1,6 @@
 -- What a switch holds: its adjacency, its slots, its branches
 
-use Rattle.std.specs.Prelude.{ℕ, List, [], ◌++◌, codes, decimal}
+use Rattle.std.specs.Prelude.{ℕ, List, ◌++◌, codes, decimal}
 use Rattle.std.specs.List.{flat_map}
 use Rattle.std.specs.FinMap.{entries}
 use Rattle.net_types.specs.declared.channel.End.{End}

@@ -1,7 +1,6 @@
 -- Texts of what a network holds: states, flows, labels by their channels, slots
 
 use Rattle.std.specs.Prelude.{ℕ, ◌==◌, List, [], ◌∷◌, ◌++◌, codes, decimal, Option, None, Some, if◌then◌else◌}
-use Rattle.std.specs.Option.{option_map_or}
 use Rattle.net_types.specs.declared.prefix.Addr.{Addr}
 use Rattle.net_types.specs.declared.channel.Channel.{Channel}
 use Rattle.net_types.specs.declared.channel.End.{End}
