@@ -20,7 +20,10 @@ use Rattle.world_model.specs.Sending.{sends}
 use Rattle.world_model.specs.Packets.{forwarded}
 use Rattle.world_model.specs.Cells.{Taker, after_test, ends_frame, cell_comes}
 use Rattle.control_places.proofs.Notes.{AreFair, note_fair, taken_fair, tested_fair}
-use Rattle.control_places.proofs.RefusedWalks.{Has, sends_fair, control_fair, used_fair, counted_fair, ifmp_fair, told_fair}
+use Rattle.frame_readings.proofs.controller_facts.Lifetimes.{decoded_lives}
+use Rattle.rule_walks.proofs.Controllers.{ifmp_kept, used_kept, counted_kept}
+use Rattle.rule_walks.proofs.Changes.{told_kept}
+use Rattle.control_places.proofs.RefusedWalks.{Has, sends_fair, control_fair, fair, takes_fair}
 
 -- *A packet goes on*
 next_fair : (a : Acted) (came : Mark) (channel : Channel) (payload : List ℕ) → Has a → Has (sends_next a came channel payload)
@@ -70,21 +73,21 @@ CanBeRead (ForLabel linked label) payload = IsOfFlow label payload
 
 -- *A frame* that can be read
 gsmp_fair : (a : Acted) (payload : List ℕ) → IsOfGsmp payload → Has a → Has (gsmp_holds a (gsmp_decoded payload))
-gsmp_fair a payload can h = subst (λ (r : Result Message Fault). Has (gsmp_holds a r)) (sym can.read) (told_fair a can.message h)
+gsmp_fair a payload can h = subst (λ (r : Result Message Fault). Has (gsmp_holds a r)) (sym can.read) (told_kept fair takes_fair tt (λ b answer k. k) a can.message (λ greeting is. h) h)
 
 control_frame : (a : Acted) (port : PortNo) (packet : List ℕ) → IsOfIfmp packet → Has a → Has (ifmp_holds a port packet (ifmp_decoded (drop 20 packet)))
-control_frame a port packet can h = subst (λ (r : Result IfmpMessage IfmpFault). Has (ifmp_holds a port packet r)) (sym can.read) (ifmp_fair a port packet (drop 20 packet) can.message can.read h)
+control_frame a port packet can h = subst (λ (r : Result IfmpMessage IfmpFault). Has (ifmp_holds a port packet r)) (sym can.read) (ifmp_kept fair tt a port packet can.message (decoded_lives (drop 20 packet) can.message can.read) h)
 
 default_fair : (a : Acted) (port : PortNo) (mark : Mark) (payload : List ℕ) → IsWhole payload → Has a → Has (default_holds a port mark (default_unwrapped payload))
 default_fair a port mark payload can h =
     subst (λ (r : Result (List ℕ) EncapsFault). Has (default_holds a port mark r)) (sym can.unwraps)
     (subst (λ (o : Option PacketFault). Has (packet_holds a port mark can.packet o)) (sym can.whole)
     (on_each Has (protocol_of can.packet == control_protocol) (ifmp_holds a port can.packet (ifmp_decoded (drop 20 can.packet))) (counted_at (routes a mark can.packet) port can.packet)
-    (λ is. control_frame a port can.packet (can.told is) h) (λ other. counted_fair (routes a mark can.packet) port can.packet (routes_fair a mark can.packet h))))
+    (λ is. control_frame a port can.packet (can.told is) h) (λ other. counted_kept fair (routes a mark can.packet) port can.packet (routes_fair a mark can.packet h))))
 
 label_fair : (a : Acted) (linked : Linked) (label : Label) (mark : Mark) (payload : List ℕ) → IsOfFlow label payload → Has a → Has (label_holds a linked label mark (unwrapped label.flow payload))
 label_fair a linked label mark payload can h = subst (λ (r : Result (List ℕ) EncapsFault). Has (label_holds a linked label mark r)) (sym can.unwraps)
-    (used_fair (routes a mark can.packet) linked.setup.port label.number (routes_fair a mark can.packet h))
+    (used_kept fair (routes a mark can.packet) linked.setup.port label.number (routes_fair a mark can.packet h))
 
 frame_fair : (a : Acted) (taker : Taker) (mark : Mark) (payload : List ℕ) → CanBeRead taker payload → Has a → Has (frame_holds a taker mark payload)
 frame_fair a ForGsmp mark payload can h = gsmp_fair a payload can h

@@ -10,7 +10,6 @@ pub mod RefusedEvents
 pub mod Frames
 pub mod RefusedKept
 pub mod Notes
-pub mod Ports
 pub mod Readings
 pub mod RefusedSwitches
 pub mod RefusedWalks

@@ -20,7 +20,9 @@ use Rattle.world_model.specs.Step.{acts}
 use Rattle.frame_readings.specs.world_views.Shown.{acting}
 use Rattle.running_worlds.proofs.MadeSites.{put_found}
 use Rattle.control_places.proofs.Notes.{AreFair, note_fair}
-use Rattle.control_places.proofs.RefusedWalks.{ticks_fair, node_restarts_fair, change_comes_fair}
+use Rattle.rule_walks.proofs.Controllers.{ticks_kept, node_restarts_kept}
+use Rattle.rule_walks.proofs.Changes.{change_comes_kept}
+use Rattle.control_places.proofs.RefusedWalks.{fair, takes_fair}
 use Rattle.control_places.proofs.Frames.{EndsRight, taken_by, injected_fair, cell_fair}
 use Rattle.control_places.proofs.RefusedSwitches as switch
 use Rattle.running_worlds.proofs.input_events.Acting.{beside}
@@ -137,9 +139,9 @@ module _ (topology : Topology) (v : World) (h : AreFair v.notes) where
   event_fair (Inject node octets) right = enters node octets (inject_refusal octets)
   event_fair (Carry place) right = carries place right
   event_fair (Lose place) right = loses place (queue_at v place)
-  event_fair (Tick node) right = controller_fair v node ticks h (λ site found. ticks_fair (acting v site) h)
+  event_fair (Tick node) right = controller_fair v node ticks h (λ site found. ticks_kept fair tt (acting v site) h h)
   event_fair (TickSwitch node) right = switch_fair v node conduct.tick_comes h (λ site found. switch.ticks_fair (beside v site) h)
-  event_fair (Restart node) right = controller_fair v node node_restarts h (λ site found. node_restarts_fair (acting v site) h)
+  event_fair (Restart node) right = controller_fair v node node_restarts h (λ site found. node_restarts_kept fair (acting v site) h)
   event_fair (RestartSwitch node) right = switch_fair v node conduct.restarted h (λ site found. switch.restarts_fair (beside v site) h)
   event_fair (Forge place channel payload) right = absurd right
-  event_fair (Route node change) right = controller_fair v node (λ a. change_comes a change) h (λ site found. change_comes_fair (acting v site) change h)
+  event_fair (Route node change) right = controller_fair v node (λ a. change_comes a change) h (λ site found. change_comes_kept fair takes_fair (acting v site) change h)

@@ -8,7 +8,6 @@ use Rattle.world_model.specs.adjacency_table.Side as sides
 use Rattle.world_model.specs.frame_model.Sending.{Sent}
 use Rattle.world_model.specs.port_model.Resets.{cleared}
 use Rattle.controller_bindings.proofs.port_facts.Keyed.{on_both, by_eq, at_put_same, at_put_other}
-use Rattle.controller_bindings.proofs.port_facts.Instances.{goes_gave, closes_gave, parted_gave, joined_gave, lent_gave, given_back_gave}
 use Rattle.world_model.specs.Controller.{Acted, free_slots}
 use Rattle.world_model.specs.Sending.{with_cells, sends}
 use Rattle.controller_bindings.specs.controller_facts.Inputs.{Input, takes_input}
@@ -16,7 +15,8 @@ use Rattle.controller_bindings.specs.controller_facts.Sound.{IsSound, IsOwn}
 use Rattle.controller_bindings.proofs.controller_facts.Moves.{IsGsmpTurn, hears, ages, Worked, by_rule, by_closing, by_reset, by_restart, by_parting, by_joining, by_lending, by_giving_back, Move, noting, taking_notes, sending, sending_control, asking, withdrawing, answering, meeting, ending_meeting, turning, placing, clearing, gathering, chaining, routing, popping, moves_keep}
 use Rattle.controller_bindings.proofs.controller_facts.Laws.{input_goes}
 use Rattle.run_facts.proofs.Switches.{tick_own}
-use Rattle.run_facts.proofs.PortOwns.{goes_owns, closes_owns, parted_owns, joined_owns, lent_owns, given_back_owns}
+use Rattle.rule_walks.proofs.Ports as rules
+use Rattle.run_facts.proofs.PortOwns.{rule_owns}
 
 -- the own instance of a linked port, and of the port with a key
 abbrev pub port_own : Linked → ℕ
@@ -35,14 +35,14 @@ pub data IsDrawn (before behind : ℕ) (drawn : Option ℕ) : Type 0 where
 -- *What a port at work draws*: it keeps its instance, or has the next one
 pub worked_owns : (setups : List Setup) (setup : Setup) (desk : Desk) (w v : Work) → Worked setups setup desk w v
     → ((v.port.adjacency.own.instance.0 ≡ w.port.adjacency.own.instance.0) × (v.instances ≡ w.instances)) ⊎ ((v.port.adjacency.own.instance.0 ≡ w.instances + 1) × (v.instances ≡ w.instances + 1))
-worked_owns setups setup desk w v (by_rule u goes) = inl (goes_owns w.port.adjacency.own.instance.0 setup desk w u goes refl, goes_gave w.instances setup desk w u goes refl)
-worked_owns setups setup desk w v by_closing = inl (closes_owns w.port.adjacency.own.instance.0 w refl, closes_gave w.instances w refl)
+worked_owns setups setup desk w v (by_rule u goes) = inl (rule_owns setup desk w (rules.by_steps tt u goes))
+worked_owns setups setup desk w v by_closing = inl (rule_owns setup desk w rules.by_closing)
 worked_owns setups setup desk w v by_reset = inr (refl, refl)
 worked_owns setups setup desk w v by_restart = inr (refl, refl)
-worked_owns setups setup desk w v (by_parting number) = inl (parted_owns w.port.adjacency.own.instance.0 w number refl, parted_gave w.instances w number refl)
-worked_owns setups setup desk w v (by_joining number output end offered) = inl (joined_owns w.port.adjacency.own.instance.0 w number output refl, joined_gave w.instances w number output refl)
-worked_owns setups setup desk w v (by_lending grant input found is end) = inl (lent_owns w.port.adjacency.own.instance.0 w grant input refl, lent_gave w.instances w grant input refl)
-worked_owns setups setup desk w v (by_giving_back grant found) = inl (given_back_owns w.port.adjacency.own.instance.0 w grant refl, given_back_gave w.instances w grant refl)
+worked_owns setups setup desk w v (by_parting number) = inl (rule_owns setup desk w (rules.by_parting number))
+worked_owns setups setup desk w v (by_joining number output end offered) = inl (rule_owns setup desk w (rules.by_joining number output))
+worked_owns setups setup desk w v (by_lending grant input found is end) = inl (rule_owns setup desk w (rules.by_lending grant input))
+worked_owns setups setup desk w v (by_giving_back grant found) = inl (rule_owns setup desk w (rules.by_giving_back grant))
 
 turned_own : (side : Side Party) (step : sides.Step Party) → IsGsmpTurn side step → step.side.own ≡ side.own
 turned_own side step (hears greeting) = refl

@@ -127,7 +127,7 @@ module _ (e : List Entry) (a : Acted) (cell : Cell) (h : Counts e [] a.notes) (n
   unbound : Ends e (record { mark = cell.mark; cause = Unbound } ∷ []) None a (note a (Loss cell.mark Unbound))
   unbound = record {
     sends = sends_none e (record { mark = cell.mark; cause = Unbound } ∷ []) a.notes.frames (noted a.notes (Loss cell.mark Unbound)) (Holds (base_of a) a.controller.queue)
-        (noted_more e [] a.notes (Loss cell.mark Unbound) (record { mark = cell.mark; cause = Unbound } ∷ []) refl h) refl (sym (append-nil a.controller.queue));
+        (noted_more e [] a.notes (Loss cell.mark Unbound) (record { mark = cell.mark; cause = Unbound } ∷ []) refl refl h) refl (sym (append-nil a.controller.queue));
     cuts = cuts_of (all_chains a) (all_chains a) (noted a.notes (Loss cell.mark Unbound)) (cuts_none (all_chains a) (noted a.notes (Loss cell.mark Unbound)) (cuts_other a.notes (Loss cell.mark Unbound) refl ∙ none));
   }
 

@@ -38,7 +38,7 @@ output_by o = option_map (λ (b : Branch). b.output) o
 abbrev pub is_left : (before after : Option Branch) → Bool
 is_left before after = not (is_nothing (open_by before)) && not (leads_on (output_by before) (output_by after))
 
-same_itself : (e : End) → same_end e e ≡ true
+pub same_itself : (e : End) → same_end e e ≡ true
 same_itself e = grind (arith, nat_tests)
 
 pub and_false : (b : Bool) → (b && false) ≡ false

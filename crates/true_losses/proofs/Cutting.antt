@@ -7,10 +7,10 @@ use Rattle.std.proofs.lemmas.List.Concat.{flat_map-cons}
 use Rattle.std.proofs.lemmas.Grind.{flat_map-append}
 use Rattle.std.proofs.lemmas.List.Elements.{filter-append}
 use Rattle.std.proofs.lemmas.Bool.Decides.{nat_tests}
-use Rattle.world_model.specs.Words.{Mark, PortNo, End, Cell, same_end, Entry, Record, Loss, Chance, Cut, Broken, PoolFull, Journal, losses_of, noted, Reassembly, marks_of, distinct, noted_all, cut, tested}
+use Rattle.world_model.specs.Words.{Mark, PortNo, End, Cell, same_end, Entry, Record, Loss, Chance, Cut, Broken, PoolFull, same_mark, Journal, losses_of, noted, Reassembly, marks_of, distinct, noted_all, cut, tested}
 use Rattle.world_model.specs.frame_model.Reassembly.{taken}
 use Rattle.world_model.proofs.Lists.{count_append, count_here, count_there}
-use Rattle.true_losses.specs.Cut.{Holder, OfBranch, OfSwitch, OfGsmp, OfDefault, OfLabel, same_holder, is_nothing, is_of_cut, cut_entry}
+use Rattle.true_losses.specs.Cut.{Holder, OfBranch, OfSwitch, OfGsmp, OfDefault, OfLabel, same_holder, is_nothing, each_once, marks_in, is_of_cut, cut_entry}
 use Rattle.true_losses.proofs.Notes.{losses_more, tested_each, taken_each}
 
 -- *The entries Cut* of an event
@@ -24,10 +24,10 @@ pub cuts_other : (notes : Journal) (item : Record) → filter is_of_cut (losses_
 cuts_other notes item other = cuts_noted notes item ∙ ap (λ (more : List Entry). cuts_in notes ++ more) other ∙ append-nil (cuts_in notes)
 
 pub tested_cuts : (notes : Journal) (cells : List Cell) → cuts_in (tested notes cells).notes ≡ cuts_in notes
-tested_cuts notes cells = tested_each (λ (more : Journal). cuts_in more ≡ cuts_in notes) (λ more mark h. cuts_other more (Loss mark Broken) refl ∙ h) (λ more mark h. cuts_other more (Chance mark) refl ∙ h) notes cells refl
+tested_cuts notes cells = tested_each (λ (more : Journal). cuts_in more ≡ cuts_in notes) (λ more mark none h. cuts_other more (Loss mark Broken) refl ∙ h) (λ more mark h. cuts_other more (Chance mark) refl ∙ h) notes cells refl
 
 pub taken_cuts : (notes : Journal) (has_slot : Bool) (r : Reassembly) (cell : Cell) → cuts_in (taken notes has_slot r cell).notes ≡ cuts_in notes
-taken_cuts notes has_slot r cell = taken_each (λ (more : Journal). cuts_in more ≡ cuts_in notes) (λ more mark h. cuts_other more (Loss mark Broken) refl ∙ h)
+taken_cuts notes has_slot r cell = taken_each (λ (more : Journal). cuts_in more ≡ cuts_in notes) (λ more mark none h. cuts_other more (Loss mark Broken) refl ∙ h)
     (λ more mark h. cuts_other more (Loss mark PoolFull) refl ∙ h) notes has_slot r cell refl
 
 cuts_all : (notes : Journal) (marks : List Mark) → cuts_in (noted_all notes (map (λ (mark : Mark). Loss mark Cut) marks)) ≡ cuts_in notes ++ map cut_entry marks
@@ -36,11 +36,15 @@ cuts_all notes (mark ∷ marks) = cuts_all (noted notes (Loss mark Cut)) marks
     ∙ ap (λ (more : List Entry). more ++ map cut_entry marks) (cuts_noted notes (Loss mark Cut))
     ∙ append_assoc (cuts_in notes) (cut_entry mark ∷ []) (map cut_entry marks)
 
+once_is : (marks : List Mark) → distinct marks ≡ each_once marks
+once_is [] = refl
+once_is (mark ∷ marks) = ap (λ (more : List Mark). mark ∷ filter (λ other. not (same_mark mark other)) more) (once_is marks)
+
 abbrev pub chain_entries : List Cell → List Entry
-chain_entries cells = map cut_entry (distinct (marks_of cells))
+chain_entries cells = map cut_entry (each_once (marks_in cells))
 
 pub cuts_chain : (notes : Journal) (r : Reassembly) → cuts_in (cut notes r) ≡ cuts_in notes ++ chain_entries r.chain
-cuts_chain notes r = cuts_all notes (distinct (marks_of r.chain))
+cuts_chain notes r = cuts_all notes (distinct (marks_of r.chain)) ∙ ap (λ (marks : List Mark). cuts_in notes ++ map cut_entry marks) (once_is (marks_of r.chain))
 
 -- *The same holder*
 pub same_ends : (one other : End) → same_end one other ≡ true → one ≡ other
@@ -161,7 +165,7 @@ module _ (before now after : Holder → List Cell) (notes : Journal) (r : Reasse
       by (cell ∷ cells) is = cut_one cell cells is
 
 -- *So each stands there once* that held cells and holds none
-pub once_given_up : (n : ℕ) (before now : List Cell) → Fares n before now → n ≡ (if not (is_nothing (distinct (marks_of before))) && is_nothing now then 1 else 0)
+pub once_given_up : (n : ℕ) (before now : List Cell) → Fares n before now → n ≡ (if not (is_nothing (each_once (marks_in before))) && is_nothing now then 1 else 0)
 once_given_up n [] now (stays none same) = none
 once_given_up n (cell ∷ cells) now (stays none same) = none ∙ ap (λ (chain : List Cell). if is_nothing chain then 1 else 0) (sym same)
 once_given_up n [] now (over one gone held) = absurd (cc held)
@@ -172,7 +176,7 @@ pub record CutsOf (fed : Option Holder) (before after : Holder → List Cell) (n
   pub cuts : List Holder
   pub entries : cuts_in notes ≡ flat_map (λ (h : Holder). chain_entries (before h)) cuts
   pub each : (h : Holder) → count_by (same_holder h) cuts
-      ≡ (if not (option_map_or (same_holder h) fed false) && (not (is_nothing (distinct (marks_of (before h)))) && is_nothing (after h)) then 1 else 0)
+      ≡ (if not (option_map_or (same_holder h) fed false) && (not (is_nothing (each_once (marks_in (before h)))) && is_nothing (after h)) then 1 else 0)
 
 pub cuts_of : (before after : Holder → List Cell) (notes : Journal) → Cuts before after notes → CutsOf None before after notes
 cuts_of before after notes c = record { cuts = c.cuts; entries = c.entries; each = λ h. once_given_up (count_by (same_holder h) c.cuts) (before h) (after h) (c.fares h) }
@@ -222,11 +226,11 @@ module _ (k : Holder) (before begun after : Holder → List Cell) (notes : Journ
       there h some false t = ap (λ (chain : List Cell). chain_entries chain) (elsewhere h t)
 
       by : (h : Holder) (b : Bool) → same_holder h k ≡ b
-          → count_by (same_holder h) c.cuts ≡ (if not (same_holder h k) && (not (is_nothing (distinct (marks_of (before h)))) && is_nothing (after h)) then 1 else 0)
-      by h true t = not_fed h t ∙ sym (ap {B = ℕ} (λ (b : Bool). if not b && (not (is_nothing (distinct (marks_of (before h)))) && is_nothing (after h)) then 1 else 0) t)
+          → count_by (same_holder h) c.cuts ≡ (if not (same_holder h k) && (not (is_nothing (each_once (marks_in (before h)))) && is_nothing (after h)) then 1 else 0)
+      by h true t = not_fed h t ∙ sym (ap {B = ℕ} (λ (b : Bool). if not b && (not (is_nothing (each_once (marks_in (before h)))) && is_nothing (after h)) then 1 else 0) t)
       by h false t = once_given_up (count_by (same_holder h) c.cuts) (before h) (after h)
           (subst (λ (chain : List Cell). Fares (count_by (same_holder h) c.cuts) chain (after h)) (elsewhere h t) (c.fares h))
-          ∙ sym (ap {B = ℕ} (λ (b : Bool). if not b && (not (is_nothing (distinct (marks_of (before h)))) && is_nothing (after h)) then 1 else 0) t)
+          ∙ sym (ap {B = ℕ} (λ (b : Bool). if not b && (not (is_nothing (each_once (marks_in (before h)))) && is_nothing (after h)) then 1 else 0) t)
 
 -- or went on
 pub kept_cuts : (k : Holder) (before after : Holder → List Cell) (notes : Journal) (now : List Cell) → cuts_in notes ≡ [] → ((h : Holder) → after h ≡ (if same_holder h k then now else before h)) → CutsOf (Some k) before after notes
@@ -236,7 +240,7 @@ kept_cuts k before after notes now none kept = record {
   each = λ h. by h (same_holder h k) refl;
 }
   where
-    by : (h : Holder) (b : Bool) → same_holder h k ≡ b → ◌≡◌ {A = ℕ} 0 (if not (same_holder h k) && (not (is_nothing (distinct (marks_of (before h)))) && is_nothing (after h)) then 1 else 0)
-    by h true t = sym (ap {B = ℕ} (λ (b : Bool). if not b && (not (is_nothing (distinct (marks_of (before h)))) && is_nothing (after h)) then 1 else 0) t)
+    by : (h : Holder) (b : Bool) → same_holder h k ≡ b → ◌≡◌ {A = ℕ} 0 (if not (same_holder h k) && (not (is_nothing (each_once (marks_in (before h)))) && is_nothing (after h)) then 1 else 0)
+    by h true t = sym (ap {B = ℕ} (λ (b : Bool). if not b && (not (is_nothing (each_once (marks_in (before h)))) && is_nothing (after h)) then 1 else 0) t)
     by h false t = once_given_up 0 (before h) (after h) (stays refl (kept h ∙ ap (λ (b : Bool). if b then now else before h) t))
-        ∙ sym (ap {B = ℕ} (λ (b : Bool). if not b && (not (is_nothing (distinct (marks_of (before h)))) && is_nothing (after h)) then 1 else 0) t)
+        ∙ sym (ap {B = ℕ} (λ (b : Bool). if not b && (not (is_nothing (each_once (marks_in (before h)))) && is_nothing (after h)) then 1 else 0) t)

@@ -11,5 +11,7 @@ pub mod Sites
 pub mod Switched
 pub mod Held
 pub mod Puts
+pub mod Opens
+pub mod Opened
 pub mod Worlds
 pub mod Runs

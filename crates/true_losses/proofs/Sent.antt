@@ -69,7 +69,7 @@ module _ (e x : List Entry) (f : List Frame) (notes : Journal) where
     sends_full stays = record {
       sendings = h.sendings ++ sending false ∷ [];
       counts = subst (λ (told : List Entry). Counts e told (noted (made notes mark payload) (Loss mark PoolFull))) (sym (more_told (sending false)))
-          (noted_more e (x ++ flat_map entry_of h.sendings) (made notes mark payload) (Loss mark PoolFull) (record { mark = mark; cause = PoolFull } ∷ []) refl
+          (noted_more e (x ++ flat_map entry_of h.sendings) (made notes mark payload) (Loss mark PoolFull) (record { mark = mark; cause = PoolFull } ∷ []) refl refl
           (made_kept e (x ++ flat_map entry_of h.sendings) notes mark payload h.counts));
       frames = more_frames (sending false);
       cells = subst Other (sym (append-nil (flat_map cells_of h.sendings)) ∙ sym (flat_map-append cells_of h.sendings (sending false ∷ [])))

@@ -9,9 +9,8 @@ use Rattle.world_model.specs.Controller.{Acted, free_slots, note}
 use Rattle.world_model.specs.Sending.{with_cells, sends}
 use Rattle.world_model.specs.port_model.Port.{Port}
 use Rattle.world_model.proofs.Lists.{at_key}
-use Rattle.true_losses.specs.Way.{is_on_way}
 use Rattle.true_losses.specs.Cut.{Holder, OfGsmp, OfDefault, OfLabel, same_holder, is_of_cut}
-use Rattle.true_losses.proofs.Notes.{IsOther, Counts, cut_kept, cut_frames}
+use Rattle.true_losses.proofs.Notes.{IsOther, other_elsewhere, Counts, cut_kept, cut_frames}
 use Rattle.true_losses.proofs.Cutting.{Cuts, cuts_in, cuts_other, cuts_none, cuts_as, cuts_more}
 use Rattle.true_losses.proofs.Chains.{chains, placed_chains, label_chain, label_emptied, default_chain, default_emptied, gsmp_emptied}
 use Rattle.true_losses.proofs.Sent.{Sends, sends_none, sends_still, sends_noted, sends_put, sends_full}
@@ -60,7 +59,7 @@ module _ (e x : List Entry) (base : Base) where
 
   pub noted_kept : (a : Acted) (item : Record) → IsOther item → P a → P (note a item)
   noted_kept a item other h = record {
-    sends = sends_noted e x base.frames a.notes item (Holds base a.controller.queue) (ap (filter is_on_way) other) h.sends;
+    sends = sends_noted e x base.frames a.notes item (Holds base a.controller.queue) (other_elsewhere item other) h.sends;
     cuts = cuts_as begun (chains a.controller.reassembly a.controller.ports) (chains a.controller.reassembly a.controller.ports) a.notes (noted a.notes item) (cuts_other a.notes item (ap (filter is_of_cut) other)) (λ k. refl) h.cuts;
   }
 

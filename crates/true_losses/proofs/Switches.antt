@@ -24,7 +24,7 @@ use Rattle.std.specs.Prelude.{zero, if◌then◌else◌}
 use Rattle.world_model.specs.crossbar_model.Crossbar.{input_of}
 use Rattle.world_model.specs.Conduct.{sends, opened_frame, passed, cell_comes}
 use Rattle.true_losses.specs.Way.{is_on_way, at_chain, at_branch}
-use Rattle.true_losses.proofs.Notes.{IsElsewhere, Counts, noted_more, cut_kept, cut_frames, taken_told, taken_frames, tested_kept, tested_frames}
+use Rattle.true_losses.proofs.Notes.{IsUnbroken, IsElsewhere, Counts, noted_more, cut_kept, cut_frames, taken_told, taken_frames, tested_kept, tested_frames}
 use Rattle.true_losses.proofs.Sent.{Sends, sends_none, sends_still, sends_noted, sends_put, sends_full}
 use Rattle.world_model.proofs.Lists.{by_eq, index_set, index_here, length_set}
 use Rattle.world_model.specs.crossbar_model.Crossbar.{forwarded}
@@ -111,7 +111,7 @@ module _ (e x : List Entry) (f : List Frame) (q : List (List Cell)) where
   -- *Branches end, or are moved*
   mark_kept : (a : Acted) (notes : Journal) (o : Option Mark) → P (record a { notes = notes }) → P (record a { notes = noted_cut notes o })
   mark_kept a notes None h = h
-  mark_kept a notes (Some mark) h = noted_kept (record a { notes = notes }) (Loss mark Cut) refl h
+  mark_kept a notes (Some mark) h = noted_kept (record a { notes = notes }) (Loss mark Cut) (refl, refl) h
 
   ended_kept : (a : Acted) (c : Changed) (input : End) (o : Option Branch) → P (record a { notes = c.notes }) → P (record a { notes = (ended_by c input o).notes })
   ended_kept a c input None h = h
@@ -175,7 +175,7 @@ module _ (e x : List Entry) (f : List Frame) (q : List (List Cell)) where
   -- *Frames and cells*
   read_kept : (a : Acted) (r : Result Message Fault) → P a → P (read a r)
   read_kept a (Ok m) h = told_kept a m h
-  read_kept a (Err fault) h = noted_kept a (Bad a.switch.node Gsmp (gsmp_refusal fault)) refl h
+  read_kept a (Err fault) h = noted_kept a (Bad a.switch.node Gsmp (gsmp_refusal fault)) (refl, refl) h
 
   test_kept : (a : Acted) (test : Tested) → P (record a { notes = test.notes }) → P (after_test a test)
   test_kept a test h = by_payload test.payload
@@ -235,10 +235,10 @@ module _ (e : List Entry) (a : Acted) (port : PortNo) (cell : Cell) (h : Counts 
       ends_kept e told a.notes.frames q b t.ended
       (sends_none e told a.notes.frames t.notes (Holds q control_port a) (taken_told e a.notes has_slot a.switch.reassembly cell h) (taken_frames a.notes has_slot a.switch.reassembly cell) (as_they_were q control_port))
 
-  noted_told : (cause : Cause) → filter is_on_way (losses_of (Loss cell.mark cause ∷ [])) ≡ record { mark = cell.mark; cause = cause } ∷ []
+  noted_told : (cause : Cause) → filter is_on_way (losses_of (Loss cell.mark cause ∷ [])) ≡ record { mark = cell.mark; cause = cause } ∷ [] → IsUnbroken (Loss cell.mark cause)
       → Came (record { mark = cell.mark; cause = cause } ∷ []) nothing (record a { notes = noted a.notes (Loss cell.mark cause) })
-  noted_told cause is = sends_none e (record { mark = cell.mark; cause = cause } ∷ []) a.notes.frames (noted a.notes (Loss cell.mark cause)) (Holds q control_port a)
-      (noted_more e [] a.notes (Loss cell.mark cause) (record { mark = cell.mark; cause = cause } ∷ []) is h) refl (as_they_were q control_port)
+  noted_told cause is unbroken = sends_none e (record { mark = cell.mark; cause = cause } ∷ []) a.notes.frames (noted a.notes (Loss cell.mark cause)) (Holds q control_port a)
+      (noted_more e [] a.notes (Loss cell.mark cause) (record { mark = cell.mark; cause = cause } ∷ []) is unbroken h) refl (as_they_were q control_port)
 
   goes_through : (b : Branch) (free : ℕ) → Grown q (through (Some b) (suc free) cell) control_port (forwarded a.switch.crossbar (input_of port cell) b cell).queues []
   goes_through b free = record {
@@ -250,8 +250,8 @@ module _ (e : List Entry) (a : Acted) (port : PortNo) (cell : Cell) (h : Counts 
 
   branch_told : (o : Option Branch) (free : ℕ) → get a.switch.crossbar.branches (input_of port cell) ≡ o → free_slots a.switch ≡ free
       → Came (at_branch o free cell.mark) (through o free cell) (passed a port cell (route_on o free))
-  branch_told None free found is = noted_told Unconnected refl
-  branch_told (Some b) zero found is = noted_told PoolFull refl
+  branch_told None free found is = noted_told Unconnected refl refl
+  branch_told (Some b) zero found is = noted_told PoolFull refl refl
   branch_told (Some b) (suc free) found is = sends_none e [] a.notes.frames a.notes (Grown q (through (Some b) (suc free) cell) control_port (switched a.switch.crossbar (free_slots a.switch) port cell).queues)
       h refl (subst (λ (o : Option Branch). Grown q (through (Some b) (suc free) cell) control_port (switched_on a.switch.crossbar (input_of port cell) o (free_slots a.switch) cell).queues []) (sym found)
       (subst (λ (n : ℕ). Grown q (through (Some b) (suc free) cell) control_port (switched_on a.switch.crossbar (input_of port cell) (Some b) n cell).queues []) (sym is) (goes_through b free)))

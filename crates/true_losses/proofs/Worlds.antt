@@ -210,11 +210,11 @@ module _ (t : Topology) (e : List Entry) where
         let k : Begins e v.notes = taken_begins place cells in
         came_behind e (lost_from (cell ∷ cells)) w place cell cells (loses_head w place (cell ∷ cells)) (λ to. []) None None is
         (told_nothing e (lost_from (cell ∷ cells)) v (loses_head w place (cell ∷ cells)) None None
-        (noted_more e [] v.notes (Loss cell.mark Lost) (lost_from (cell ∷ cells)) refl k.counts) (cuts_other v.notes (Loss cell.mark Lost) refl ∙ k.uncut) refl refl)
+        (noted_more e [] v.notes (Loss cell.mark Lost) (lost_from (cell ∷ cells)) refl refl k.counts) (cuts_other v.notes (Loss cell.mark Lost) refl ∙ k.uncut) refl refl)
 
     injects_told : (node : NodeId) (octets : List ℕ) (o : Option Refusal) → Told e [] w (injects_by (record w { sent = w.sent + 1 }) node octets o) (λ place. []) (Some (Down node)) None
     injects_told node octets (Some name) = told_nothing e [] w (injects_by (record w { sent = w.sent + 1 }) node octets (Some name)) (Some (Down node)) None
-        (noted_other e [] w.notes (Refused node (w.sent + 1) name) refl h.counts) (cuts_other w.notes (Refused node (w.sent + 1) name) refl ∙ h.uncut) refl refl
+        (noted_other e [] w.notes (Refused node (w.sent + 1) name) (refl, refl) h.counts) (cuts_other w.notes (Refused node (w.sent + 1) name) refl ∙ h.uncut) refl refl
     injects_told node octets None = told_as (rule_told (record w { sent = w.sent + 1 }) node (λ a. injected a (w.sent + 1) octets)
         (λ x base a k. walk.routes_kept e x base a (record { packet = w.sent + 1; frame = 0 }) octets k) (λ a. (injected_adds a (w.sent + 1) octets).node) h)
       where
@@ -237,7 +237,7 @@ module _ (t : Topology) (e : List Entry) where
     forge_told place channel payload =
         let v : World = record (note w (Forged place)) { numbers = with_control w.numbers } in
         let k : Told e [] v (acts t w (Forge place channel payload)) (λ to. []) (Some place) None = forges_told v
-        (record { counts = noted_other e [] w.notes (Forged place) refl h.counts; uncut = cuts_other w.notes (Forged place) refl ∙ h.uncut }) place channel (next_control w.numbers) payload in
+        (record { counts = noted_other e [] w.notes (Forged place) (refl, refl) h.counts; uncut = cuts_other w.notes (Forged place) refl ∙ h.uncut }) place channel (next_control w.numbers) payload in
         came_of e [] w v None (acts t w (Forge place channel payload)) (λ to. []) (Some place) None refl (λ to has. has) (λ to. refl)
         (record { cuts = k.cuts.cuts; entries = k.cuts.entries; each = k.cuts.each }) (λ node. refl) k
 

@@ -1,8 +1,8 @@
 -- Which frames an event cuts: those that are open on a branch which ends or is moved, or in a chain which is given up
 
-use Rattle.std.specs.Prelude.{◌≡◌, ℕ, ◌==◌, ◌&&◌, Bool, true, false, not, List, [], ◌∷◌, count_by, map, Option, None, Some, option_map, if◌then◌else◌}
+use Rattle.std.specs.Prelude.{◌≡◌, ℕ, ◌==◌, ◌&&◌, Bool, true, false, not, List, [], ◌∷◌, count_by, filter, map, Option, None, Some, option_map, if◌then◌else◌}
 use Rattle.std.specs.Option.{option_map_or}
-use Rattle.world_model.specs.Words.{End, NodeId, PortNo, Place, Down, Up, Out, Mark, Cell, same_end, unfinished_on, marks_of, distinct, Entry, Cause, Cut, control_port, is_gsmp, linked_at, chain_of, ForGsmp, ForDefault, ForLabel, taker_of, Topology, World, Site, site_at, queue_at, with_queue, next}
+use Rattle.world_model.specs.Words.{End, NodeId, PortNo, Place, Down, Up, Out, Mark, Cell, same_end, unfinished_on, same_mark, Entry, Cause, Cut, control_port, is_gsmp, linked_at, chain_of, ForGsmp, ForDefault, ForLabel, taker_of, Topology, World, Site, site_at, queue_at, with_queue, next}
 use Rattle.world_model.specs.crossbar_model.Crossbar.{output_of}
 use Rattle.world_model.specs.Cells.{Taker}
 use Rattle.world_model.specs.declared.event.Event.{Event}
@@ -35,14 +35,21 @@ chain_in site (OfDefault port) = option_map_or (λ linked. linked.reassembly.cha
 chain_in site (OfLabel port label) = option_map_or (λ linked. (chain_of linked.chains label).chain) (linked_at site.controller port) []
 
 -- *The marks of the frames* that are open there, each once. On a branch it is that of the last cell which went over it, where
--- that wasn't the frame's last
+-- that wasn't the frame's last (`open_behind`)
+abbrev pub each_once : List Mark → List Mark
+each_once [] = []
+each_once (mark ∷ marks) = mark ∷ filter (λ other. not (same_mark mark other)) (each_once marks)
+
+abbrev pub marks_in : List Cell → List Mark
+marks_in cells = map (λ cell. cell.mark) cells
+
 abbrev pub open_on : Option Mark → List Mark
 open_on None = []
 open_on (Some mark) = mark ∷ []
 
 abbrev pub held_in : Site → Holder → List Mark
 held_in site (OfBranch input) = open_on (unfinished_on site.switch.crossbar.branches input)
-held_in site holder = distinct (marks_of (chain_in site holder))
+held_in site holder = each_once (marks_in (chain_in site holder))
 
 -- *It is over* with a branch that is there no more or leads elsewhere, and with a chain that has no cell
 abbrev pub leads_on : (before after : Option End) → Bool
