@@ -3,7 +3,7 @@
 //! a function of the run, in `specs/`, and the lines are those of `show_text`.
 #![tactic(auto)]
 
-mod controller;
+mod shown_controller;
 mod desk;
 mod engine;
 mod grants;
@@ -15,6 +15,6 @@ mod tell;
 mod teller;
 mod totals;
 
-pub use controller::ShownController;
+pub use shown_controller::ShownController;
 pub use engine::ShownEngine;
 pub use teller::ShowTeller;

@@ -10,7 +10,7 @@ ghost use Rattle.world.specs.Running.{Runs};
 ghost use Rattle.show_text.specs.Shown.{queue_line, queue_lines, site_lines};
 ghost use Rattle.network_show.specs.Held.{port_queue_line};
 
-use crate::controller::ShownController;
+use crate::shown_controller::ShownController;
 use crate::switch::write_lines;
 use lab_text::Text;
 use net_types::{NodeId, OutOfMemory, Place, PortNo};

@@ -9,7 +9,7 @@ ghost use Rattle.world_model.specs.World.{Site, site_at};
 ghost use Rattle.world.specs.Network.{IsNodeIn, no_notes, world_of};
 ghost use Rattle.world.specs.Running.{Runs};
 
-use crate::controller::ShownController;
+use crate::shown_controller::ShownController;
 use crate::site::write_site;
 use crate::totals::count_all;
 use lab_io::{ReportWriter, Sink};

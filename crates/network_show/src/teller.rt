@@ -1,6 +1,6 @@
 //! Who shows a network.
 
-use crate::controller::ShownController;
+use crate::shown_controller::ShownController;
 use crate::tell::{tell_last, tell_nodes};
 use lab_io::{ReportWriter, Sink};
 use link_model::Notes;

@@ -7,7 +7,7 @@ ghost use Rattle.world.specs.Network.{no_notes, world_of};
 ghost use Rattle.world.specs.Running.{Runs};
 ghost use Rattle.show_text.specs.Shown.{totals_of};
 
-use crate::controller::ShownController;
+use crate::shown_controller::ShownController;
 use crate::switch::count_branches;
 use net_types::NodeId;
 use show_text::Totals;

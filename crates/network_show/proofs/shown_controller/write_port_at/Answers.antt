@@ -2,7 +2,7 @@ use Rattle.std.proofs.Common.{◌≡◌, ◌++◌, ◌∙◌, List, ℕ, ap, sub
 use Rattle.std.specs.Prelude.{OnOk, slice_get}
 use Rattle.joining_router.specs.Joining.{controller_of}
 use Rattle.network_show.proofs.Ends.{lines_are}
-use Rattle.network_show.proofs.controller.write_port_at.Goals as goal
+use Rattle.network_show.proofs.shown_controller.write_port_at.Goals as goal
 
 pub returns : goal.returns
 returns g c = λ linked found.

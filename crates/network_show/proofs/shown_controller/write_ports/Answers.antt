@@ -3,7 +3,7 @@ use Rattle.joining_router.specs.Joining.{controller_of}
 use Rattle.world_model.specs.Controller.{Linked}
 use Rattle.show_text.specs.Shown.{linked_lines}
 use Rattle.network_show.proofs.Along.{Item, item_at, line_put}
-use Rattle.network_show.proofs.controller.write_ports.Goals as goal
+use Rattle.network_show.proofs.shown_controller.write_ports.Goals as goal
 
 pub loop-place-preserved : goal.loop-place-preserved
 loop-place-preserved g c =

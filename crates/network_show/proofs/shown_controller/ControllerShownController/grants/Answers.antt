@@ -6,7 +6,7 @@ use Rattle.world_model.specs.Controller.{Linked}
 use Rattle.network_show.proofs.Along.{Item, item_at}
 use Rattle.network_show.proofs.Ends.{grants_are}
 use Rattle.network_show.proofs.Sums.{sum_all, sum_more}
-use Rattle.network_show.proofs.controller.ControllerShownController.grants.Goals as goal
+use Rattle.network_show.proofs.shown_controller.ControllerShownController.grants.Goals as goal
 
 pub loop-place-preserved : goal.loop-place-preserved
 loop-place-preserved g c =
@@ -15,7 +15,7 @@ loop-place-preserved g c =
     let i = c.loop-place.place in
     let found : Item ports i = item_at ports i (omega (arith, c.loop-place-test.true, c.ports-place-end.ensures)) in
     c.saturating_add-grants.ensures
-    ∙ ap (λ (n : ℕ). min (c.loop-place.grants + n) greatest_tally) (c.len.ensures ∙ ap length c.grants.ensures ∙ grants_are (slice_get ports i) found.item (seen c.link_at.result.now) found.is c.link_at.ensures)
+    ∙ ap (λ (n : ℕ). min (c.loop-place.grants + n) greatest_tally) (c.len.ensures.len ∙ ap length c.grants.ensures ∙ grants_are (slice_get ports i) found.item (seen c.link_at.result.now) found.is c.link_at.ensures)
     ∙ sum_more (λ (linked : Linked). length linked.port.grants) ports i found.item greatest_tally c.loop-place.grants found.is c.loop-place.invariant
 
 pub returns : goal.returns

@@ -6,7 +6,7 @@ use Rattle.world_model.specs.Controller.{Linked}
 use Rattle.network_show.proofs.Along.{Item, item_at}
 use Rattle.network_show.proofs.Ends.{labels_are}
 use Rattle.network_show.proofs.Sums.{sum_all, sum_more}
-use Rattle.network_show.proofs.controller.ControllerShownController.labels.Goals as goal
+use Rattle.network_show.proofs.shown_controller.ControllerShownController.labels.Goals as goal
 
 pub loop-place-preserved : goal.loop-place-preserved
 loop-place-preserved g c =
