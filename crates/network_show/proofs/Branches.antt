@@ -1,6 +1,6 @@
 -- Branches, taken one by one
 
-use Rattle.std.proofs.Common.{◌≡◌, ℕ, suc, ◌+◌, ◌<◌, List, [], ◌∷◌, ◌++◌, append_assoc, append-nil, length, map, Option, None, Some, refl, sym, ◌∙◌, ap, arith, flat_map}
+use Rattle.std.proofs.Common.{◌≡◌, ℕ, suc, List, [], ◌∷◌, ◌++◌, length, map, Option, None, Some, refl, ◌∙◌, ap, flat_map}
 use Rattle.std.proofs.lemmas.List.Concat.{flat_map-cons}
 use Rattle.std.proofs.lemmas.List.Folds.{flat_map-map}
 use Rattle.std.specs.FinMap.{entries}
@@ -8,7 +8,7 @@ use Rattle.net_types.specs.declared.channel.End.{End}
 use Rattle.net_types.specs.declared.node.NodeId.{NodeId}
 use Rattle.crossbar_model.specs.declared.branch.Branch.{Branch}
 use Rattle.crossbar_model.specs.Crossbar.{Branches}
-use Rattle.fabric.specs.Following.{branch_behind, branches_of}
+use Rattle.fabric.specs.Following.{branch_behind}
 use Rattle.fabric.proofs.Behind.{behind_all, behind_end, behind_next, branches_behind}
 use Rattle.world_model.specs.Topology.{Topology}
 use Rattle.show_text.specs.Switch.{branch_line, branch_lines}

@@ -1,6 +1,6 @@
 -- The engine of a port is the port that a controller has
 
-use Rattle.std.proofs.Common.{◌≡◌, ◌++◌, ◌∙◌, ℕ, List, length, Option, Some, ap, sym}
+use Rattle.std.proofs.Common.{◌≡◌, ◌∙◌, length, Option, Some, ap, sym}
 use Rattle.std.specs.Option.{option_map}
 use Rattle.net_types.specs.declared.node.NodeId.{NodeId}
 use Rattle.gsmp_client.specs.Client.{PortEnd}

@@ -19,7 +19,7 @@ use Rattle.world_model.specs.Places.{place_node, queue_at, queue_in, queue_numbe
 use Rattle.world_model.specs.Switch.{Switch}
 use Rattle.world_model.specs.Topology as topologies
 use Rattle.world_model.specs.Topology.{Topology, peer_of}
-use Rattle.world_model.specs.World.{World, Site, site_key, site_at}
+use Rattle.world_model.specs.World.{World, Site, site_at}
 use Rattle.world.specs.declared.world.World.{World as Network}
 use Rattle.world.specs.Network.{IsNodeIn, no_notes, sites_of, world_of}
 use Rattle.world.specs.Running.{Runs}

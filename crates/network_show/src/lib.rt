@@ -3,18 +3,18 @@
 //! a function of the run, in `specs/`, and the lines are those of `show_text`.
 #![tactic(auto)]
 
-mod shown_controller;
 mod desk;
 mod engine;
 mod grants;
 mod labels;
 mod routes;
+mod shown_controller;
 mod site;
 mod switch;
 mod tell;
 mod teller;
 mod totals;
 
-pub use shown_controller::ShownController;
 pub use engine::ShownEngine;
+pub use shown_controller::ShownController;
 pub use teller::ShowTeller;

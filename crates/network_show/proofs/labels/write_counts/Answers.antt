@@ -1,4 +1,4 @@
-use Rattle.std.proofs.Common.{◌≡◌, ◌++◌, ◌∙◌, ◌<◌, ◌∷◌, [], append_assoc, append-nil, arith, length, ap, sym}
+use Rattle.std.proofs.Common.{◌≡◌, ◌++◌, ◌∙◌, ◌∷◌, [], append_assoc, append-nil, arith, length, ap, sym}
 use Rattle.network_show.proofs.Counts.{all_counts, next_count, pair_lines}
 use Rattle.network_show.proofs.labels.write_counts.Goals as goal
 

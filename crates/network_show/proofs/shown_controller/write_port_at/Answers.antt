@@ -1,4 +1,4 @@
-use Rattle.std.proofs.Common.{◌≡◌, ◌++◌, ◌∙◌, List, ℕ, ap, subst}
+use Rattle.std.proofs.Common.{◌≡◌, ◌++◌, List, ℕ, subst}
 use Rattle.std.specs.Prelude.{OnOk, slice_get}
 use Rattle.joining_router.specs.Joining.{controller_of}
 use Rattle.network_show.proofs.Ends.{lines_are}

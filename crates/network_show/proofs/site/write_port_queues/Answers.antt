@@ -1,9 +1,8 @@
-use Rattle.std.proofs.Common.{◌≡◌, ◌++◌, ◌∙◌, ◌<◌, ◌≤◌, ℕ, List, length, slice_get, Some, append-nil, arith, ap, refl, subst, sym}
+use Rattle.std.proofs.Common.{◌≡◌, ◌++◌, ◌∙◌, List, length, slice_get, Some, append-nil, arith, ap, subst, sym}
 use Rattle.net_types.specs.declared.node.PortNo.{PortNo}
 use Rattle.net_types.specs.declared.node.Place.TheVariants.{Out}
 use Rattle.atm_cells.specs.declared.cell.Cell.{Cell}
 use Rattle.world_model.specs.Controller.{Controller, ports_of}
-use Rattle.world_model.specs.Places.{queue_at, queue_in}
 use Rattle.world_model.specs.World.{World, site_at}
 use Rattle.world.specs.Network.{no_notes, world_of}
 use Rattle.show_text.specs.Shown.{queue_line}

@@ -1,4 +1,3 @@
-use Rattle.std.proofs.Common.{◌≡◌, ◌++◌, ◌∙◌, sym}
 use Rattle.std.proofs.lemmas.Result.{on_ok_weaker}
 use Rattle.net_types.specs.declared.node.Place.TheVariants.{Down, Up}
 use Rattle.world_model.specs.Places.{queue_at}

@@ -1,4 +1,4 @@
-use Rattle.std.proofs.Common.{◌≡◌, ◌∙◌, ◌+◌, ◌<◌, arith, length, None, Some, sym}
+use Rattle.std.proofs.Common.{◌≡◌, ◌∙◌, arith, None, Some, sym}
 use Rattle.fabric.specs.Following.{branch_behind}
 use Rattle.network_show.proofs.Branches.{all_counted, next_counted, none_counted}
 use Rattle.network_show.proofs.switch.count_branches.Goals as goal

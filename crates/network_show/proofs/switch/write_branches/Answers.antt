@@ -1,5 +1,4 @@
-use Rattle.std.proofs.Common.{◌≡◌, ◌++◌, ◌∙◌, ◌<◌, append_assoc, append-nil, arith, length, None, Some, ap, sym}
-use Rattle.net_types.specs.declared.channel.End.{End}
+use Rattle.std.proofs.Common.{◌≡◌, ◌++◌, ◌∙◌, append_assoc, append-nil, arith, None, Some, ap, sym}
 use Rattle.fabric.specs.Following.{branch_behind}
 use Rattle.network_show.proofs.Branches.{all_lines, lines_behind, next_branch, next_counted, no_branch}
 use Rattle.network_show.proofs.switch.write_branches.Goals as goal

@@ -1,4 +1,4 @@
-use Rattle.std.proofs.Common.{◌≡◌, ◌++◌, ◌∙◌, List, ℕ, ap, subst}
+use Rattle.std.proofs.Common.{◌≡◌, ◌++◌, ◌∙◌, ap, subst}
 use Rattle.lab_io.specs.Report.{IsPut}
 use Rattle.network_run.specs.declared.stop.Stop.TheVariants.{Failed}
 use Rattle.network_run.specs.Telling.{Puts}

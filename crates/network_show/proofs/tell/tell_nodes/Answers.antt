@@ -1,4 +1,4 @@
-use Rattle.std.proofs.Common.{◌≡◌, ◌∙◌, ◌+◌, ◌<◌, ℕ, suc, List, drop, length, refl, subst, take, arith, flat_map}
+use Rattle.std.proofs.Common.{◌∙◌, suc, List, drop, refl, subst, take, arith, flat_map}
 use Rattle.lab_io.specs.Report.{IsPut}
 use Rattle.network_run.specs.Telling.{Puts}
 use Rattle.network_run.proofs.Telling.{nothing_put, put_then, stays, stays_then, stops_at}

@@ -1,11 +1,10 @@
-use Rattle.std.proofs.Common.{◌≡◌, ◌+◌, ◌<◌, ◌≤◌, ◌∙◌, ℕ, List, length, min, slice_get, Some, arith, ap, sym}
+use Rattle.std.proofs.Common.{◌≡◌, ◌+◌, ◌∙◌, ℕ, length, min, Some, arith, ap, sym}
 use Rattle.std.specs.FinMap.{entries}
 use Rattle.port_model.specs.Redirection.{greatest_tally}
-use Rattle.world_model.specs.Controller.{Controller}
 use Rattle.world_model.specs.Switch.{Switch}
-use Rattle.world_model.specs.World.{Site, World, site_at}
+use Rattle.world_model.specs.World.{World, site_at}
 use Rattle.world.specs.Network.{no_notes, world_of}
-use Rattle.show_text.specs.Shown.{branches_in, grants_in, labels_in, totals_of}
+use Rattle.show_text.specs.Shown.{branches_in, grants_in, labels_in}
 use Rattle.network_show.proofs.Along.{Item, item_at}
 use Rattle.network_show.proofs.Sites.{grants_read, its_controller, its_switch, labels_read, node_in, nodes_are, site_found}
 use Rattle.network_show.proofs.Sums.{sum_all, sum_more, sum_more_least}

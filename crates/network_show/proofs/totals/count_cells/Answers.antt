@@ -1,4 +1,4 @@
-use Rattle.std.proofs.Common.{◌≡◌, ◌+◌, ◌<◌, ◌≤◌, ◌∙◌, ℕ, List, length, min, slice_get, Some, arith, ap, sym}
+use Rattle.std.proofs.Common.{◌≡◌, ◌+◌, ◌∙◌, ℕ, List, length, min, slice_get, Some, arith, ap, sym}
 use Rattle.net_types.specs.declared.node.Place.{Place}
 use Rattle.port_model.specs.Redirection.{greatest_tally}
 use Rattle.world_model.specs.Places.{places, queue_at}

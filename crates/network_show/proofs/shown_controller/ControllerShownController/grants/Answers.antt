@@ -1,6 +1,5 @@
-use Rattle.std.proofs.Common.{◌≡◌, ◌+◌, ◌∙◌, ℕ, List, length, min, slice_get, arith, ap}
+use Rattle.std.proofs.Common.{◌+◌, ◌∙◌, ℕ, List, length, min, slice_get, arith, ap}
 use Rattle.joining_router.specs.Joining.{controller_of}
-use Rattle.port_model.specs.Port.{labels_of}
 use Rattle.port_model.specs.Redirection.{greatest_tally}
 use Rattle.world_model.specs.Controller.{Linked}
 use Rattle.network_show.proofs.Along.{Item, item_at}

@@ -1,6 +1,5 @@
 use Rattle.std.proofs.Common.{◌≡◌, length, min, take}
 use Rattle.std.specs.List.{sum_by}
-use Rattle.port_model.specs.Port.{labels_of}
 use Rattle.port_model.specs.Redirection.{greatest_tally}
 use Rattle.joining_router.specs.Joining.{controller_of}
 use Rattle.network_show.proofs.shown_controller.ControllerShownController.grants.Given as goal

@@ -1,4 +1,4 @@
-use Rattle.std.proofs.Common.{◌≡◌, ◌+◌, ◌∙◌, ℕ, List, length, min, slice_get, arith, ap}
+use Rattle.std.proofs.Common.{◌+◌, ◌∙◌, ℕ, List, length, min, slice_get, arith, ap}
 use Rattle.joining_router.specs.Joining.{controller_of}
 use Rattle.port_model.specs.Port.{labels_of}
 use Rattle.port_model.specs.Redirection.{greatest_tally}

@@ -1,5 +1,4 @@
-use Rattle.std.proofs.Common.{◌≡◌, ◌++◌, ◌∙◌, sym, ap, subst}
-use Rattle.network_run.proofs.Telling.{left_before, nothing_put, puts_then, stays_then, stops_at}
+use Rattle.network_run.proofs.Telling.{nothing_put, puts_then, stays_then, stops_at}
 use Rattle.script_model.specs.Reports.{last_line_by}
 use Rattle.world_model.specs.World.{World}
 use Rattle.world.specs.Network.{no_notes, world_of}
