@@ -14,12 +14,12 @@ use Rattle.clap.specs.Values.{kind_of}
 use Rattle.clap.specs.declared.error.Error.{Error}
 use Rattle.lab_text.specs.Forms.{number_in}
 use Rattle.command_line.specs.declared.command.Command.{Command}
-use Rattle.command_line.specs.declared.command.Command.TheVariants.{Replay, ReplayToml, Ideal, Rules, DecodeIfmp, DecodeGsmp, Drill, Audit, Console, Trace, Journal, Capture}
+use Rattle.command_line.specs.declared.command.Command.TheVariants.{Replay, ReplayToml, Ideal, Rules, DecodeIfmp, DecodeGsmp, Drill, Audit, Console, Trace, Show, Journal, Capture}
 use Rattle.command_line.specs.Commands.{words_of, HasItsNumber, AskFor, IsReading}
 use Rattle.command_line.specs.Grammar.{grammar_app}
 use Rattle.command_line.specs.Reading.{drill, behind_replay, behind_decode, worded, alone, asked, command_in, is_barred, RefusedBy}
 use Rattle.command_line.proofs.Numbers.{drill_told, drill_read, drill_passes}
-use Rattle.command_line.proofs.Parting.{spelled, taken_of, IsGiven, replay_given, ideal_given, rules_given, audit_given, console_given, trace_given, journal_given, capture_given, replay_word_given, decode_given, drill_given}
+use Rattle.command_line.proofs.Parting.{spelled, taken_of, IsGiven, replay_given, ideal_given, rules_given, audit_given, console_given, trace_given, show_given, journal_given, capture_given, replay_word_given, decode_given, drill_given}
 
 is_text : (xs ys : Text) → bytes_eq xs ys ≡ true → xs ≡ ys
 is_text xs ys test = (bytes_eq-Decides xs ys).0 test
@@ -33,8 +33,9 @@ alone_asked name command e =
     (is_named (codes "audit") Audit _ refl tt
     (is_named (codes "console") Console _ refl tt
     (is_named (codes "trace") Trace _ refl tt
+    (is_named (codes "show") Show _ refl tt
     (is_named (codes "journal") Journal _ refl tt
-    (is_named (codes "capture") Capture _ refl tt (λ none. absurd (cc))))))))) e
+    (is_named (codes "capture") Capture _ refl tt (λ none. absurd (cc)))))))))) e
   where
     -- the name is this command's, or what comes else is asked
     is_named : (known : Text) (asks : Command) (other : Option Command) → words_of asks ≡ known ∷ [] → HasItsNumber asks
@@ -124,6 +125,7 @@ given_words DecodeGsmp has = decode_given (codes "gsmp") refl
 given_words Audit has = audit_given
 given_words Console has = console_given
 given_words Trace has = trace_given
+given_words Show has = show_given
 given_words Journal has = journal_given
 given_words Capture has = capture_given
 given_words (Drill number) has =

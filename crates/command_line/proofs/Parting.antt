@@ -45,6 +45,10 @@ is_trace : IsName (codes "trace") (bare_leaf (codes "trace"))
 unfolding clap_on_literals
 is_trace = record { met = refl; passes = refl; found = refl }
 
+is_show : IsName (codes "show") (bare_leaf (codes "show"))
+unfolding clap_on_literals
+is_show = record { met = refl; passes = refl; found = refl }
+
 is_journal : IsName (codes "journal") (bare_leaf (codes "journal"))
 unfolding clap_on_literals
 is_journal = record { met = refl; passes = refl; found = refl }
@@ -135,22 +139,23 @@ module _ (word : Text) (rest : List Text) (plain : are_plain (word ∷ rest) ≡
       let same : name ≡ word = (bytes_eq-Decides name word).0 test in
       subst (λ v. IsTaken (v ∷ rest)) same (take behind (ap (λ v. fault_of grammar_app (v ∷ rest)) same ∙ free))
 
-  taken_by : (a b c d e f g h i j : Bool) → bytes_eq (codes "replay") word ≡ a → bytes_eq (codes "ideal") word ≡ b
+  taken_by : (a b c d e f g h i j k : Bool) → bytes_eq (codes "replay") word ≡ a → bytes_eq (codes "ideal") word ≡ b
       → bytes_eq (codes "decode") word ≡ c → bytes_eq (codes "drill") word ≡ d → bytes_eq (codes "rules") word ≡ e
       → bytes_eq (codes "audit") word ≡ f → bytes_eq (codes "console") word ≡ g → bytes_eq (codes "trace") word ≡ h
-      → bytes_eq (codes "journal") word ≡ i → bytes_eq (codes "capture") word ≡ j → IsTaken (word ∷ rest)
-  taken_by true b c d e f g h i j replay ideal decode drill rules audit console trace journal capture = named (codes "replay") replay (take_worded (codes "replay") false is_replay rest)
-  taken_by false true c d e f g h i j replay ideal decode drill rules audit console trace journal capture = named (codes "ideal") ideal (take_bare (codes "ideal") is_ideal rest)
-  taken_by false false true d e f g h i j replay ideal decode drill rules audit console trace journal capture = named (codes "decode") decode (take_worded (codes "decode") true is_decode rest)
-  taken_by false false false true e f g h i j replay ideal decode drill rules audit console trace journal capture = named (codes "drill") drill (take_worded (codes "drill") true is_drill rest)
-  taken_by false false false false true f g h i j replay ideal decode drill rules audit console trace journal capture = named (codes "rules") rules (take_bare (codes "rules") is_rules rest)
-  taken_by false false false false false true g h i j replay ideal decode drill rules audit console trace journal capture = named (codes "audit") audit (take_bare (codes "audit") is_audit rest)
-  taken_by false false false false false false true h i j replay ideal decode drill rules audit console trace journal capture = named (codes "console") console (take_bare (codes "console") is_console rest)
-  taken_by false false false false false false false true i j replay ideal decode drill rules audit console trace journal capture = named (codes "trace") trace (take_bare (codes "trace") is_trace rest)
-  taken_by false false false false false false false false true j replay ideal decode drill rules audit console trace journal capture = named (codes "journal") journal (take_bare (codes "journal") is_journal rest)
-  taken_by false false false false false false false false false true replay ideal decode drill rules audit console trace journal capture = named (codes "capture") capture (take_bare (codes "capture") is_capture rest)
-  taken_by false false false false false false false false false false replay ideal decode drill rules audit console trace journal capture =
-      let none : subcommand_met names idle word ≡ None = rw (replay, ideal, decode, drill, rules, audit, console, trace, journal, capture) refl in
+      → bytes_eq (codes "show") word ≡ i → bytes_eq (codes "journal") word ≡ j → bytes_eq (codes "capture") word ≡ k → IsTaken (word ∷ rest)
+  taken_by true b c d e f g h i j k replay ideal decode drill rules audit console trace show journal capture = named (codes "replay") replay (take_worded (codes "replay") false is_replay rest)
+  taken_by false true c d e f g h i j k replay ideal decode drill rules audit console trace show journal capture = named (codes "ideal") ideal (take_bare (codes "ideal") is_ideal rest)
+  taken_by false false true d e f g h i j k replay ideal decode drill rules audit console trace show journal capture = named (codes "decode") decode (take_worded (codes "decode") true is_decode rest)
+  taken_by false false false true e f g h i j k replay ideal decode drill rules audit console trace show journal capture = named (codes "drill") drill (take_worded (codes "drill") true is_drill rest)
+  taken_by false false false false true f g h i j k replay ideal decode drill rules audit console trace show journal capture = named (codes "rules") rules (take_bare (codes "rules") is_rules rest)
+  taken_by false false false false false true g h i j k replay ideal decode drill rules audit console trace show journal capture = named (codes "audit") audit (take_bare (codes "audit") is_audit rest)
+  taken_by false false false false false false true h i j k replay ideal decode drill rules audit console trace show journal capture = named (codes "console") console (take_bare (codes "console") is_console rest)
+  taken_by false false false false false false false true i j k replay ideal decode drill rules audit console trace show journal capture = named (codes "trace") trace (take_bare (codes "trace") is_trace rest)
+  taken_by false false false false false false false false true j k replay ideal decode drill rules audit console trace show journal capture = named (codes "show") show (take_bare (codes "show") is_show rest)
+  taken_by false false false false false false false false false true k replay ideal decode drill rules audit console trace show journal capture = named (codes "journal") journal (take_bare (codes "journal") is_journal rest)
+  taken_by false false false false false false false false false false true replay ideal decode drill rules audit console trace show journal capture = named (codes "capture") capture (take_bare (codes "capture") is_capture rest)
+  taken_by false false false false false false false false false false false replay ideal decode drill rules audit console trace show journal capture =
+      let none : subcommand_met names idle word ≡ None = rw (replay, ideal, decode, drill, rules, audit, console, trace, show, journal, capture) refl in
       absurd (stray_fault_of word rest (or_false (is_dash word) (are_plain rest) plain).0 none free)
 
 nothing_fails : fault_of grammar_app [] ≡ [] → ⊥
@@ -159,7 +164,7 @@ nothing_fails e = cc
 
 taken : (words : List Text) → are_plain words ≡ false → fault_of grammar_app words ≡ [] → IsTaken words
 taken [] plain free = absurd (nothing_fails free)
-taken (word ∷ rest) plain free = taken_by word rest plain free _ _ _ _ _ _ _ _ _ _ refl refl refl refl refl refl refl refl refl refl
+taken (word ∷ rest) plain free = taken_by word rest plain free _ _ _ _ _ _ _ _ _ _ _ refl refl refl refl refl refl refl refl refl refl refl
 
 are_plain_of : (words : List Text) → list_any is_barred words ≡ false → are_plain words ≡ false
 are_plain_of [] none = refl
@@ -206,6 +211,9 @@ console_given = bare_given (codes "console") is_console refl
 
 pub trace_given : IsGiven (spelled (codes "trace") None) (asked (codes "trace") None)
 trace_given = bare_given (codes "trace") is_trace refl
+
+pub show_given : IsGiven (spelled (codes "show") None) (asked (codes "show") None)
+show_given = bare_given (codes "show") is_show refl
 
 pub journal_given : IsGiven (spelled (codes "journal") None) (asked (codes "journal") None)
 journal_given = bare_given (codes "journal") is_journal refl

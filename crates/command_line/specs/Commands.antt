@@ -2,7 +2,7 @@
 
 use Rattle.std.specs.Prelude.{◌≡◌, ℕ, ◌≤◌, List, [], ◌∷◌, codes, decimal, Option, Some}
 use Rattle.command_line.specs.declared.command.Command.{Command}
-use Rattle.command_line.specs.declared.command.Command.TheVariants.{Replay, ReplayToml, Ideal, Rules, DecodeIfmp, DecodeGsmp, Drill, Audit, Console, Trace, Journal, Capture}
+use Rattle.command_line.specs.declared.command.Command.TheVariants.{Replay, ReplayToml, Ideal, Rules, DecodeIfmp, DecodeGsmp, Drill, Audit, Console, Trace, Show, Journal, Capture}
 
 abbrev pub words_of : Command → List (List ℕ)
 words_of Replay = codes "replay" ∷ []
@@ -15,6 +15,7 @@ words_of (Drill number) = codes "drill" ∷ decimal number ∷ []
 words_of Audit = codes "audit" ∷ []
 words_of Console = codes "console" ∷ []
 words_of Trace = codes "trace" ∷ []
+words_of Show = codes "show" ∷ []
 words_of Journal = codes "journal" ∷ []
 words_of Capture = codes "capture" ∷ []
 

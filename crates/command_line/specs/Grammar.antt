@@ -31,6 +31,7 @@ grammar_app =
     (with_subcommand
     (with_subcommand
     (with_subcommand
+    (with_subcommand
     (with_subcommand top_app (worded (codes "replay") false))
     (bare (codes "ideal")))
     (worded (codes "decode") true))
@@ -39,5 +40,6 @@ grammar_app =
     (bare (codes "audit")))
     (bare (codes "console")))
     (bare (codes "trace")))
+    (bare (codes "show")))
     (bare (codes "journal")))
     (bare (codes "capture"))

@@ -9,7 +9,7 @@ use Rattle.clap.specs.declared.error.kind.ErrorKind.{ErrorKind}
 use Rattle.clap.specs.declared.error.kind.ErrorKind.TheVariants.{OutOfMemory}
 use Rattle.lab_text.specs.Forms.{number_in}
 use Rattle.command_line.specs.declared.command.Command.{Command}
-use Rattle.command_line.specs.declared.command.Command.TheVariants.{Replay, ReplayToml, Ideal, Rules, DecodeIfmp, DecodeGsmp, Drill, Audit, Console, Trace, Journal, Capture}
+use Rattle.command_line.specs.declared.command.Command.TheVariants.{Replay, ReplayToml, Ideal, Rules, DecodeIfmp, DecodeGsmp, Drill, Audit, Console, Trace, Show, Journal, Capture}
 
 -- *Barred words*: they begin with a hyphen, or are `help`
 abbrev pub is_barred : List ℕ → Bool
@@ -41,8 +41,9 @@ alone name =
     else (if bytes_eq name (codes "audit") then Some Audit
     else (if bytes_eq name (codes "console") then Some Console
     else (if bytes_eq name (codes "trace") then Some Trace
+    else (if bytes_eq name (codes "show") then Some Show
     else (if bytes_eq name (codes "journal") then Some Journal
-    else (if bytes_eq name (codes "capture") then Some Capture else None)))))))
+    else (if bytes_eq name (codes "capture") then Some Capture else None))))))))
 
 abbrev pub asked : (name : List ℕ) → (word : Option (List ℕ)) → Option Command
 asked name (Some word) = worded name word

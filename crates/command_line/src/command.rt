@@ -30,6 +30,8 @@ pub enum Command {
     Console,
     /// `trace`: tells the cells that pass on the links of a script's run.
     Trace,
+    /// `show`: tells what the network of a script holds behind its last event.
+    Show,
     /// `journal`: tells each event of a script's run as a line of JSON.
     Journal,
     /// `capture`: tells the frames on the links of a script's run as a file of pcapng.
@@ -100,6 +102,7 @@ fn alone(name: &str) -> Option<Command>
         "audit" => Some(Command::Audit),
         "console" => Some(Command::Console),
         "trace" => Some(Command::Trace),
+        "show" => Some(Command::Show),
         "journal" => Some(Command::Journal),
         "capture" => Some(Command::Capture),
         _ => None,

@@ -50,6 +50,7 @@ pub fn grammar<'a>(alloc: Global) -> Result<Command<'a>, AllocError>
         .subcommand(bare(alloc, "audit"))?
         .subcommand(bare(alloc, "console"))?
         .subcommand(bare(alloc, "trace"))?
+        .subcommand(bare(alloc, "show"))?
         .subcommand(bare(alloc, "journal"))?
         .subcommand(bare(alloc, "capture"))
 }

@@ -8,7 +8,7 @@ use Rattle.command_line.specs.Commands.{AskFor}
 use Rattle.commands.specs.declared.task.Task.{Task}
 use Rattle.commands.specs.declared.task.Task.TheVariants.{Replay, View, Document, Drill, Whole, Lined}
 use Rattle.commands.specs.declared.task.Lined.TheVariants.{Audit, Console}
-use Rattle.commands.specs.declared.task.View.TheVariants.{Trace, Journal, Capture}
+use Rattle.commands.specs.declared.task.View.TheVariants.{Trace, Show, Journal, Capture}
 use Rattle.commands.specs.declared.task.Whole.TheVariants.{Ideal, Decode, Rules}
 
 -- what a command does
@@ -23,6 +23,7 @@ task_of (command.Drill number) = Drill number
 task_of command.Audit = Lined Audit
 task_of command.Console = Lined Console
 task_of command.Trace = View Trace
+task_of command.Show = View Show
 task_of command.Journal = View Journal
 task_of command.Capture = View Capture
 
@@ -38,7 +39,7 @@ AskForNone words = (task : Task) → AskForTask words task → ⊥
 
 -- what is written then
 abbrev pub usage_line : List ℕ
-usage_line = codes "usage: ipswitch replay|replay toml|ideal|decode ifmp|decode gsmp|drill N|rules|trace|audit|console|journal|capture\n"
+usage_line = codes "usage: ipswitch replay|replay toml|ideal|decode ifmp|decode gsmp|drill N|rules|trace|audit|console|show|journal|capture\n"
 
 -- *What is read of words*: the task that they ask for, and none exactly where they ask for none
 pub record IsTaskOf (words : List (List ℕ)) (found : Option Task) : Type 0 where

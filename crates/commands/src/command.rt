@@ -26,7 +26,7 @@ use std::alloc::Global;
 use world::Meter;
 
 const USAGE_LINE: &str =
-    "usage: ipswitch replay|replay toml|ideal|decode ifmp|decode gsmp|drill N|rules|trace|audit|console|journal|capture\n";
+    "usage: ipswitch replay|replay toml|ideal|decode ifmp|decode gsmp|drill N|rules|trace|audit|console|show|journal|capture\n";
 
 fn write_usage<K: Sink>(sink: &mut K) -> Result<(), Failed>
     ensures faults { K.faults sink.new ≡ count_after (is_err result) (K.faults sink.old) }

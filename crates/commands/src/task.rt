@@ -33,6 +33,8 @@ pub enum Lined {
 pub enum View {
     /// What passes on the links, line by line.
     Trace,
+    /// What the network holds at last.
+    Show,
     /// Each event, as a line of JSON.
     Journal,
     /// The frames on the links, as a file of pcapng.
@@ -71,6 +73,7 @@ fn task_of(command: Command) -> Task
         Command::Audit => Task::Lined(Lined::Audit),
         Command::Console => Task::Lined(Lined::Console),
         Command::Trace => Task::View(View::Trace),
+        Command::Show => Task::View(View::Show),
         Command::Journal => Task::View(View::Journal),
         Command::Capture => Task::View(View::Capture),
     }

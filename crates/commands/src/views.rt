@@ -15,6 +15,7 @@ use line_by_line::Ending;
 use named_replay::tell_script;
 use network_capture::CaptureTeller;
 use network_journal::JournalTeller;
+use network_show::ShowTeller;
 use network_trace::TraceTeller;
 use std::alloc::Global;
 use world::Meter;
@@ -36,6 +37,7 @@ pub fn run_view<S: Source, K: Sink>(
 {
     let refused = match view {
         View::Trace => tell_script(alloc, TraceTeller::new(alloc), source, sink, meter)?,
+        View::Show => tell_script(alloc, ShowTeller::new(alloc), source, sink, meter)?,
         View::Journal => tell_script(alloc, JournalTeller::new(alloc), source, sink, meter)?,
         View::Capture => tell_script(alloc, CaptureTeller::new(alloc), source, sink, meter)?,
     };

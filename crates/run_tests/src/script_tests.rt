@@ -323,10 +323,10 @@ fn long_lines(rt: HostRuntime) -> Result<(), Fail> {
 }
 
 pub const USAGE: &str =
-    "usage: ipswitch replay|replay toml|ideal|decode ifmp|decode gsmp|drill N|rules|trace|audit|console|journal|capture\n";
+    "usage: ipswitch replay|replay toml|ideal|decode ifmp|decode gsmp|drill N|rules|trace|audit|console|show|journal|capture\n";
 
 /// Words that ask for nothing.
-const OTHER_WORDS: [&[&str]; 12] = [
+const OTHER_WORDS: [&[&str]; 13] = [
     &[],
     &["replay", "x"],
     &["replay", "toml", "x"],
@@ -339,6 +339,7 @@ const OTHER_WORDS: [&[&str]; 12] = [
     &["decode", "ifmp", "gsmp"],
     &["audit", "x"],
     &["console", "x"],
+    &["show", "x"],
 ];
 
 /// Words that ask for nothing get the usage line.

@@ -48,6 +48,7 @@ said_is (command.Drill number) has = ap (option_map (λ (n : ℕ). command.Drill
 said_is command.Audit has = refl
 said_is command.Console has = refl
 said_is command.Trace has = refl
+said_is command.Show has = refl
 said_is command.Journal has = refl
 said_is command.Capture has = refl
 

@@ -33,7 +33,10 @@ abbrev eighth_app : App
 eighth_app = with_subcommand seventh_app (bare (codes "trace"))
 
 abbrev ninth_app : App
-ninth_app = with_subcommand eighth_app (bare (codes "journal"))
+ninth_app = with_subcommand eighth_app (bare (codes "show"))
+
+abbrev tenth_app : App
+tenth_app = with_subcommand ninth_app (bare (codes "journal"))
 
 pub returns : goal.returns
 returns c =
@@ -55,6 +58,8 @@ returns c =
     c.in_ok-subcommand-8.ensures.shape c.bare-5.ensures.local ∙ ap₂ with_subcommand seventh (ap top_of c.bare-5.ensures.app) in
     let ninth : app_of c.in_ok-subcommand-9.field-0 ≡ ninth_app =
     c.in_ok-subcommand-9.ensures.shape c.bare-6.ensures.local ∙ ap₂ with_subcommand eighth (ap top_of c.bare-6.ensures.app) in
-    IfOk-weaker c.subcommand-10.result _ _
-    (λ r h. h.shape c.bare-7.ensures.local ∙ ap₂ with_subcommand ninth (ap top_of c.bare-7.ensures.app))
-    c.subcommand-10.ensures
+    let tenth : app_of c.in_ok-subcommand-10.field-0 ≡ tenth_app =
+    c.in_ok-subcommand-10.ensures.shape c.bare-7.ensures.local ∙ ap₂ with_subcommand ninth (ap top_of c.bare-7.ensures.app) in
+    IfOk-weaker c.subcommand-11.result _ _
+    (λ r h. h.shape c.bare-8.ensures.local ∙ ap₂ with_subcommand tenth (ap top_of c.bare-8.ensures.app))
+    c.subcommand-11.ensures

@@ -1,0 +1,10 @@
+use Rattle.std.proofs.Common.{◌≡◌, ◌++◌, List, ℕ, subst}
+use Rattle.std.specs.Prelude.{OnOk}
+use Rattle.world_model.specs.Topology.{node_at}
+use Rattle.show_text.proofs.Nodes.{address_read}
+use Rattle.show_text.proofs.node.write_address_of.Goals as goal
+
+pub returns : goal.returns
+returns c =
+    subst (λ (text : List ℕ). OnOk c.write_address.result (c.write_address.new.out ≡ c.args.out.now ++ text))
+    (address_read (node_at c.args.names.now c.args.node) c.address.result c.address.ensures) c.write_address.ensures.ok

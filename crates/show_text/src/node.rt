@@ -1,0 +1,74 @@
+//! A node, and the requests that stand.
+
+ghost use Rattle.std.specs.Prelude.{◌≡◌, ◌++◌, OnOk, codes};
+ghost use Rattle.world_model.specs.Conditions.{IsNode};
+ghost use Rattle.show_text.specs.Node.{address_of, node_line, request_line};
+ghost use Rattle.show_text.specs.Words.{slots_text, state_text};
+
+use crate::words::{state_word, write_slots};
+use adjacency_table::State;
+use gsmp_wire::Message;
+use lab_text::Text;
+use message_text::write_gsmp;
+use net_types::{NodeId, OutOfMemory};
+use topology::Topology;
+use value_text::{write_address, write_name};
+
+/// Appends the address of a node.
+fn write_address_of(out: &mut Text, names: &Topology, node: NodeId) -> Result<(), OutOfMemory>
+    requires { IsNode names.now node }
+    ensures { OnOk result (out.new ≡ out.old ++ address_of names.now node) }
+{
+    write_address(out, names.address(node))
+}
+
+/// Appends a state, how many slots are free, and the end of the line.
+fn write_condition(
+    out: &mut Text,
+    state: State,
+    free: usize,
+    cells: usize,
+) -> Result<(), OutOfMemory>
+    ensures { OnOk result (out.new ≡ out.old ++ (codes " " ++ (state_text state ++ (slots_text free cells ++ codes "\n")))) }
+{
+    out.text(" ")?;
+    out.text(state_word(state))?;
+    write_slots(out, free, cells)?;
+    out.text("\n")
+}
+
+/// Appends the line of a node: its name and its address, the state of its controller's side of the
+/// adjacency with its switch, and how many of the controller's slots are free.
+pub fn write_node(
+    out: &mut Text,
+    names: &Topology,
+    node: NodeId,
+    state: State,
+    free: usize,
+    cells: usize,
+) -> Result<(), OutOfMemory>
+    requires { IsNode names.now node }
+    ensures { OnOk result (out.new ≡ out.old ++ node_line names.now node state free cells) }
+{
+    out.text("node ")?;
+    write_name(out, names, node)?;
+    out.text(" ")?;
+    write_address_of(out, names, node)?;
+    write_condition(out, state, free, cells)
+}
+
+/// Appends the line of a request that stands, by its message.
+pub fn write_request(
+    out: &mut Text,
+    names: &Topology,
+    node: NodeId,
+    message: &Message,
+) -> Result<(), OutOfMemory>
+    ensures { OnOk result (out.new ≡ out.old ++ request_line names.now node message.now) }
+{
+    out.text("request ")?;
+    write_name(out, names, node)?;
+    out.text(" ")?;
+    write_gsmp(out, message)?;
+    out.text("\n")
+}
