@@ -45,6 +45,9 @@ planned input flow table port grants =
 abbrev pub undoing : Join → Request
 undoing join = MoveBranch join.input join.output (home_of join.input)
 
--- a join of the controller
+-- *A join of the controller*: to a grant of a port, and as it is planned
+abbrev pub join_at : (input : End) → PortNo → Grant → controller.Join
+join_at input port grant = record { input = input; port = port; grant = grant }
+
 abbrev pub shown : controller.Join → Join
 shown join = record { input = join.input; output = output_of join }
