@@ -13,7 +13,7 @@ use Rattle.ipv4_packet.specs.Parts.{flow_destination}
 use Rattle.keyed_lists.specs.Keyed.{at}
 use Rattle.port_model.specs.Grants.{Grant, grant_for}
 use Rattle.world_model.specs.Controller.{Controller, Linked, linked_at, port_key}
-use Rattle.world_model.specs.Joins.{join_by, join_for, join_through, port_by}
+use Rattle.world_model.specs.Joins.{join_by, join_for, port_by}
 use Rattle.cut_through.specs.Plan.{join_at, join_under, leads_to, onward_grant, planned, shown, way_of}
 
 -- a linked port is the one that was looked for
