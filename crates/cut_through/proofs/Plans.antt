@@ -1,6 +1,6 @@
 -- the plan of a join is the join that a controller makes
 
-use Rattle.std.proofs.Common.{◌≡◌, ℕ, true, false, List, [], ◌∷◌, Option, None, Some, refl, sym, ap, ◌∙◌, inl, inr, arith}
+use Rattle.std.proofs.Common.{◌≡◌, ℕ, true, false, List, [], ◌∷◌, Option, None, Some, refl, sym, ap, ◌∙◌, inl, inr, arith, if◌then◌else◌}
 use Rattle.std.specs.Prelude.{nat_le}
 use Rattle.std.specs.Option.{option_map, option_and_then}
 use Rattle.std.proofs.lemmas.Bool.{cases_lt, cases_eq, cases_Bool, eqb-true, eq-eqb, ne_eqb, le-leb, true≢false}
@@ -13,8 +13,8 @@ use Rattle.ipv4_packet.specs.Parts.{flow_destination}
 use Rattle.keyed_lists.specs.Keyed.{at}
 use Rattle.port_model.specs.Grants.{Grant, grant_for}
 use Rattle.world_model.specs.Controller.{Controller, Linked, linked_at, port_key}
-use Rattle.world_model.specs.Joins.{join_by, join_for, join_through, port_by}
-use Rattle.cut_through.specs.Plan.{join_under, leads_to, planned, shown, way_of}
+use Rattle.world_model.specs.Joins.{join_by, join_for, port_by}
+use Rattle.cut_through.specs.Plan.{join_at, join_under, leads_to, onward_grant, planned, shown, way_of}
 
 -- a linked port is the one that was looked for
 port_found : (n : ℕ) (ports : List Linked) (linked : Linked) → at port_key n ports ≡ Some linked → linked.setup.port.0 ≡ n
@@ -29,13 +29,6 @@ port_found n (first ∷ rest) linked is = elim (cases_eq (port_key first) n) [
 
 same_port : (p q : PortNo) → p.0 ≡ q.0 → p ≡ q
 same_port p q e = λ i. record { 0 = e i }
-
-through : (input : End) (port : PortNo) (linked : Linked) (next : FlowId) → linked.setup.port ≡ port
-    → option_map shown (join_through input next (Some linked)) ≡ option_map (join_under input port) (grant_for linked.port.grants next)
-through input port linked next same = by (grant_for linked.port.grants next) where
-  by : (o : Option Grant) → option_map shown (option_map (λ grant. record { input = input; port = linked.setup.port; grant = grant }) o) ≡ option_map (join_under input port) o
-  by None = refl
-  by (Some grant) = rw same refl
 
 -- where packets don't live long enough there is no flow one hop further
 last_hop : (flow : FlowId) → nat_le 2 (flow_ttl flow) ≡ false → next_hop_of flow ≡ None
@@ -66,28 +59,38 @@ way_is c flow way is = elim (cases_Bool (nat_le 2 (flow_ttl flow))) [
   | inr short ↦ (let none : None ≡ Some way = rw short at is in absurd (cc none))
 ]
 
-leads_there : (c : Controller) (flow : FlowId) (port : PortNo) → leads_to (way_of c.table flow) port ≡ true → port_by (best c.table (flow_destination flow)) ≡ Some port
-leads_there c flow port leads = by (way_of c.table flow) refl leads where
-  by : (o : Option PortNo) → way_of c.table flow ≡ o → leads_to o port ≡ true → port_by (best c.table (flow_destination flow)) ≡ Some port
-  by None is h = absurd (cc h)
-  by (Some way) is h = way_is c flow way is ∙ ap Some (same_port way port (eqb-true way.0 port.0 h))
+leads_by : (o : Option PortNo) (port : PortNo) → leads_to o port ≡ true → o ≡ Some port
+leads_by None port h = absurd (cc h)
+leads_by (Some way) port h = ap Some (same_port way port (eqb-true way.0 port.0 h))
 
 pub unlinked : (c : Controller) (input : End) (flow : FlowId) (port : PortNo) → leads_to (way_of c.table flow) port ≡ true → linked_at c port ≡ None
     → join_for c input flow ≡ None
 unlinked c input flow port leads none =
-    rw (leads_there c flow port leads) (by (next_hop_of flow))
+    rw (way_is c flow port (leads_by (way_of c.table flow) port leads)) (by (next_hop_of flow))
   where
     by : (o : Option FlowId) → join_by c input (Some port) o ≡ None
     by None = refl
     by (Some next) = rw none refl
 
+-- the join is to the grant of the flow one hop further at the linked port of its way
+pub to_grant : (c : Controller) (input : End) (flow : FlowId) (port : PortNo) (linked : Linked) → way_of c.table flow ≡ Some port → linked_at c port ≡ Some linked
+    → join_for c input flow ≡ option_map (join_at input port) (onward_grant linked.port.grants flow)
+to_grant c input flow port linked way found =
+    let same : linked.setup.port ≡ port = same_port linked.setup.port port (port_found port.0 c.ports linked found) in
+    rw (way_is c flow port way) (by same (next_hop_of flow))
+  where
+    by : linked.setup.port ≡ port → (o : Option FlowId)
+        → join_by c input (Some port) o ≡ option_map (join_at input port) (option_and_then (grant_for linked.port.grants) o)
+    by same None = refl
+    by same (Some next) = rw found (ap (λ (p : PortNo). option_map (join_at input p) (grant_for linked.port.grants next)) same)
+
+shown_at : (input : End) (port : PortNo) (o : Option Grant) → option_map shown (option_map (join_at input port) o) ≡ option_map (join_under input port) o
+shown_at input port None = refl
+shown_at input port (Some grant) = refl
+
 pub joins : (c : Controller) (input : End) (flow : FlowId) (port : PortNo) (linked : Linked) → leads_to (way_of c.table flow) port ≡ true
     → linked_at c port ≡ Some linked → option_map shown (join_for c input flow) ≡ planned input flow c.table port linked.port.grants
 joins c input flow port linked leads found =
-    let same : linked.setup.port ≡ port = same_port linked.setup.port port (port_found port.0 c.ports linked found) in
-    rw (leads, leads_there c flow port leads) (by same (next_hop_of flow))
-  where
-    by : linked.setup.port ≡ port → (o : Option FlowId)
-        → option_map shown (join_by c input (Some port) o) ≡ option_map (join_under input port) (option_and_then (grant_for linked.port.grants) o)
-    by same None = refl
-    by same (Some next) = rw found (through input port linked next same)
+    ap (option_map shown) (to_grant c input flow port linked (leads_by (way_of c.table flow) port leads) found)
+    ∙ shown_at input port (onward_grant linked.port.grants flow)
+    ∙ sym (ap (λ b. if b then option_map (join_under input port) (onward_grant linked.port.grants flow) else None) leads)

@@ -30,17 +30,24 @@ leads_to (Some other) port = other.0 == port.0
 abbrev pub join_under : (input : End) → PortNo → Grant → Join
 join_under input port grant = record { input = input; output = label_end port grant.label }
 
--- to the first grant there of the flow one hop further, where the flow's route leads by the port
+-- the first grant of a port under which the controller sends a flow one hop further
+abbrev pub onward_grant : List Grant → FlowId → Option Grant
+onward_grant grants flow = option_and_then (grant_for grants) (next_hop_of flow)
+
+-- to that grant, where the flow's route leads by the port
 abbrev pub planned : (input : End) → FlowId → List Route → PortNo → List Grant → Option Join
 planned input flow table port grants =
     if leads_to (way_of table flow) port
-    then option_map (join_under input port) (option_and_then (grant_for grants) (next_hop_of flow))
+    then option_map (join_under input port) (onward_grant grants flow)
     else None
 
 -- its input is led back to the control link
 abbrev pub undoing : Join → Request
 undoing join = MoveBranch join.input join.output (home_of join.input)
 
--- a join of the controller
+-- *A join of the controller*: to a grant of a port, and as it is planned
+abbrev pub join_at : (input : End) → PortNo → Grant → controller.Join
+join_at input port grant = record { input = input; port = port; grant = grant }
+
 abbrev pub shown : controller.Join → Join
 shown join = record { input = join.input; output = output_of join }

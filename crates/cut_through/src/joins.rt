@@ -1,8 +1,10 @@
 //! Joins of an input to an output.
 
-ghost use Rattle.std.specs.Prelude.{◌≡◌, ◌<◌, ◌≤◌};
+ghost use Rattle.std.specs.Prelude.{◌≡◌, ◌<◌, ◌≤◌, option_map, IfSome, IsTrue};
+ghost use Rattle.net_types.specs.Label.{is_label_number};
 ghost use Rattle.ipv4_packet.specs.Parts.{flow_destination};
-ghost use Rattle.cut_through.specs.Plan.{planned, undoing, way_of};
+ghost use Rattle.port_model.specs.Grants.{grant_label};
+ghost use Rattle.cut_through.specs.Plan.{onward_grant, planned, undoing, way_of};
 
 use grant_table::GrantTable;
 use gsmp_wire::Request;
@@ -44,6 +46,17 @@ pub fn route_of(flow: &FlowId, table: &Table) -> Option<PortNo>
     }
 }
 
+/// The number of the label of the first grant under which the controller sends a flow one hop further;
+/// `grants` are those of the port of the flow's route. There is none exactly where the flow has no hop
+/// further, or there is no such grant.
+pub fn planned_label(flow: &FlowId, grants: &GrantTable) -> Option<u16>
+    ensures planned { result ≡ option_map grant_label (onward_grant grants.now.grants flow.now) }
+    ensures label { IfSome result (λ number. IsTrue (is_label_number number)) }
+{
+    let further = next_hop(flow)?;
+    grants.by_flow(&further)
+}
+
 /// The join of an input, on which a flow comes, to the label of the first grant of a port under which
 /// the controller sends the flow one hop further; `grants` are those of the port. There is none exactly
 /// where [`route_of`] isn't the port, or there is no such grant.
@@ -60,11 +73,10 @@ pub fn plan(
     if way != port {
         return None;
     }
-    let further = next_hop(flow)?;
-    let number = grants.by_flow(&further)?;
+    let label = planned_label(flow, grants)?;
     let output = End {
         port,
-        channel: label_channel(number),
+        channel: label_channel(label),
     };
     Some(Join { input, output })
 }

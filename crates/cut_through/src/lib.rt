@@ -6,5 +6,5 @@
 mod joins;
 mod laws;
 
-pub use joins::{Join, plan, route_of, undo};
+pub use joins::{Join, plan, planned_label, route_of, undo};
 pub use laws::plans_are_the_controllers;

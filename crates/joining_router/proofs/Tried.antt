@@ -1,7 +1,7 @@
 -- A join that is found for a label is entered.
 
 use Rattle.std.proofs.Common.{◌≡◌, ℕ, Bool, true, false, not, List, [], ◌∷◌, find, length, Option, Some, None, refl, sym, ap, subst, ◌∙◌, ◌&&◌, arith, if◌then◌else◌}
-use Rattle.std.specs.Prelude.{nat_le, nat_lt, is_none}
+use Rattle.std.specs.Prelude.{nat_lt, is_none}
 use Rattle.std.specs.List.{list_any}
 use Rattle.std.specs.Option.{option_map, option_and_then}
 use Rattle.net_types.specs.declared.channel.End.{End}
@@ -9,7 +9,7 @@ use Rattle.net_types.specs.declared.node.PortNo.{PortNo}
 use Rattle.net_types.specs.Label.{label_channel_of, number_of_channel}
 use Rattle.ipv4_forward.specs.Best.{best}
 use Rattle.ipv4_packet.specs.declared.flow.FlowId.{FlowId}
-use Rattle.ipv4_packet.specs.Flow.{flow_ttl, next_hop_of}
+use Rattle.ipv4_packet.specs.Flow.{next_hop_of}
 use Rattle.ipv4_packet.specs.Parts.{flow_destination, same_flow}
 use Rattle.gsmp_wire.specs.declared.request.Request.TheVariants.{MoveBranch}
 use Rattle.ordered_lists.specs.Ordered.{InOrder}
@@ -21,18 +21,17 @@ use Rattle.port_model.specs.Joins as port_joins
 use Rattle.port_model.specs.Labels.{Label, LabelState, Wiring, Offered, Recalled, Wired}
 use Rattle.port_model.specs.Port.{label_at}
 use Rattle.world_model.specs.Asking.{asks}
-use Rattle.world_model.specs.Controller.{Acted, Controller, Linked, linked_at, port_key}
+use Rattle.world_model.specs.Controller.{Acted, Controller, Linked, linked_at}
 use Rattle.world_model.specs.Joins.{Join, enters_grant, enters_label, is_offered, join_by, join_for, join_through, joins, label_on, may_join, output_of, port_by, tries_join, tries_label}
 use Rattle.world_model.specs.Performing.{at_port}
 use Rattle.world_model.specs.Routes.{route_stays}
-use Rattle.cut_through.specs.Plan.{way_of}
+use Rattle.cut_through.specs.Plan.{join_at, onward_grant}
 use Rattle.join_list.specs.Joined.{joined_of}
 use Rattle.join_list.specs.declared.places.Joined.{Joined}
 use Rattle.join_facts.specs.Joins.{Differ, joined_in}
 use Rattle.join_facts.proofs.Comes.{is_for}
 use Rattle.join_facts.proofs.Enters.{Entered, IsSent, both_enter, grant_enters, none_joined, same_labels}
 use Rattle.join_facts.proofs.Lasts.{AreDifferent, Lasts, asks_lasts}
-use Rattle.join_facts.proofs.Splits.{key_of}
 use Rattle.router.specs.Conditions.{CanAsk}
 use Rattle.router.specs.Engine.{IsFree}
 use Rattle.joining_router.specs.Conditions.{CanTryJoin, IsGrantOf, IsPlanned, entered}
@@ -103,32 +102,22 @@ module _ (a : Acted) (number : ℕ) (joined : Joined) (p : IsPlanned a number jo
       ((λ i. at grant_label (sym e i).label (sym linked i).port.grants) ∙ p.can.grant.granted) grant.granted in
       λ i. record { input = (e i).input; port = (e i).port; grant = g i }
 
-port_is : (p q : PortNo) → p.0 ≡ q.0 → p ≡ q
-port_is p q e = λ i. record { 0 = e i }
+-- *The join of a flow*: to the grant of the planned label, at the port of its route
+pub join_is : (c : Controller) (input : End) (flow : FlowId) (port : PortNo) (grants : List Grant) (label : ℕ)
+    → ((linked : Linked) → linked_at c port ≡ Some linked → join_for c input flow ≡ option_map (join_at input port) (onward_grant linked.port.grants flow))
+    → option_map (λ (l : Linked). l.port.grants) (linked_at c port) ≡ Some grants → Some label ≡ option_map grant_label (onward_grant grants flow)
+    → Some (record { input = input; port = port; label = label }) ≡ option_map joined_of (join_for c input flow)
+join_is c input flow port grants label planned lends its = at_linked (linked_at c port) refl lends where
+  at_grant : (o : Option Grant) → Some label ≡ option_map grant_label o → Some (record { input = input; port = port; label = label }) ≡ option_map joined_of (option_map (join_at input port) o)
+  at_grant None e = absurd (cc e)
+  at_grant (Some grant) e = (let same : label ≡ grant.label = cc e in λ i. Some (record { input = input; port = port; label = same i }))
 
--- *The join of a flow*: to the first grant at the port of its route
-way : (b : Bool) (o : Option PortNo) (port : PortNo) → Some port ≡ (if b then o else None) → o ≡ Some port
-way true o port e = sym e
-way false o port e = absurd (cc e)
-
-pub join_is : (c : Controller) (input : End) (flow further : FlowId) (port : PortNo) (grants : List Grant) (label : ℕ) → Some port ≡ way_of c.table flow → option_map (λ (l : Linked). l.port.grants) (linked_at c port) ≡ Some grants
-    → Some further ≡ next_hop_of flow → Some label ≡ option_map grant_label (grant_for grants further) → Some (record { input = input; port = port; label = label }) ≡ option_map joined_of (join_for c input flow)
-join_is c input flow further port grants label leads lends hop first =
-    at_linked (linked_at c port) refl lends
-    ∙ sym (λ i. option_map joined_of (join_by c input (way (nat_le 2 (flow_ttl flow)) (port_by (best c.table (flow_destination flow))) port leads i) (sym hop i))) where
-      at_grant : (linked : Linked) → linked_at c port ≡ Some linked → (o : Option Grant) → Some label ≡ option_map grant_label o
-          → Some (record { input = input; port = port; label = label }) ≡ option_map joined_of (option_map (λ (grant : Grant). record { input = input; port = linked.setup.port; grant = grant }) o)
-      at_grant linked found None e = absurd (cc e)
-      at_grant linked found (Some grant) e =
-          let its : label ≡ grant.label = cc e in
-          let own : linked.setup.port.0 ≡ port.0 = key_of port_key port.0 c.ports linked found in
-          λ i. Some (record { input = input; port = port_is port linked.setup.port (sym own) i; label = its i })
-
-      at_linked : (o : Option Linked) → linked_at c port ≡ o → option_map (λ (l : Linked). l.port.grants) o ≡ Some grants → Some (record { input = input; port = port; label = label }) ≡ option_map joined_of (join_through input further o)
-      at_linked None found e = absurd (cc e)
-      at_linked (Some linked) found e =
-          let same : linked.port.grants ≡ grants = cc e in
-          at_grant linked found (grant_for linked.port.grants further) (first ∙ ap (λ (gs : List Grant). option_map grant_label (grant_for gs further)) (sym same))
+  at_linked : (o : Option Linked) → linked_at c port ≡ o → option_map (λ (l : Linked). l.port.grants) o ≡ Some grants → Some (record { input = input; port = port; label = label }) ≡ option_map joined_of (join_for c input flow)
+  at_linked None found e = absurd (cc e)
+  at_linked (Some linked) found e =
+      let same : linked.port.grants ≡ grants = cc e in
+      at_grant (onward_grant linked.port.grants flow) (its ∙ ap (λ (gs : List Grant). option_map grant_label (onward_grant gs flow)) (sym same))
+      ∙ sym (ap (option_map joined_of) (planned linked found))
 
 -- its grant is one under which the router sends
 record IsFor (input : End) (join : Join) : Type 0 where

@@ -14,10 +14,10 @@ ghost use Rattle.joining_router.specs.Joining.{AreJoined, acted, controller_of};
 
 use crate::changing::output_of;
 use crate::joining::JoiningRouter;
-use cut_through::{plans_are_the_controllers, route_of};
+use cut_through::{planned_label, plans_are_the_controllers, route_of};
 use gsmp_client::{home_of, label_end};
 use gsmp_wire::Request;
-use ipv4_packet::{FlowId, next_hop};
+use ipv4_packet::FlowId;
 use join_list::Joined;
 use label_book::{HeldLabel, HeldState};
 use link_model::Notes;
@@ -39,8 +39,7 @@ impl<E: PortEngine> JoiningRouter<E> {
         plans_are_the_controllers();
         let port = route_of(flow, self.router.routes().table())?;
         let grants = self.router.grants_at(port)?;
-        let further = next_hop(flow)?;
-        let label = grants.by_flow(&further)?;
+        let label = planned_label(flow, grants)?;
         Some(Joined { input, port, label })
     }
 
