@@ -62,7 +62,7 @@ module _ {Binds : Type 0} {P : Acted → Type 0} {K : Setup → Desk → Work �
       on_both P (may_take begun.controller change) (takes_each (takes_change begun change later) later) begun
       (takes_each_kept (takes_change begun change later) later refl (takes begun change later (begins_change_kept (waits (change ∷ later)) a change e) b)) b
 
-  takes_changes_kept : (a : Acted) → P a → P (takes_changes a)
+  pub takes_changes_kept : (a : Acted) → P a → P (takes_changes a)
   takes_changes_kept a h = on_both P a.controller.has_met (takes_each a a.controller.waiting) a (takes_each_kept a a.controller.waiting refl h) h
 
   -- it waits behind the others

@@ -27,7 +27,7 @@ use Rattle.world_model.specs.Joins.{Join, output_of}
 use Rattle.world_model.specs.Meeting.{port_of}
 use Rattle.world_model.specs.Gsmp.{answers, steps}
 use Rattle.world_model.specs.Ticks.{ticks}
-use Rattle.rule_walks.proofs.Ports.{AsksOnly, asks_only, Rule, by_steps, by_using, by_counting, by_closing, by_parting, by_joining, by_lending, by_giving_back, Worked, by_rule, by_reset, by_restart, worked_kept}
+use Rattle.rule_walks.proofs.Ports.{AsksOnly, asks_only, Draws, draws, draws_more, Rule, by_steps, by_using, by_counting, by_closing, by_parting, by_joining, by_lending, by_giving_back, Worked, by_rule, by_reset, by_restart, worked_kept}
 
 -- *A linked port* of a controller
 abbrev pub Found : Acted → Linked → Type 0
@@ -67,6 +67,13 @@ AsksOnlyAt Binds setup desk w = AsksOnly Binds setup w
 pub asks_only_works : {Binds : Type 0} (setup : Setup) (desk : Desk) (w v : Work) → Worked Binds setup desk w v → AsksOnly Binds setup w → AsksOnly Binds setup v
 asks_only_works {Binds} setup desk w v worked h = worked_kept (asks_only Binds setup) (λ u q. q) worked h
 
+-- *Ports that give no instance back*
+abbrev pub DrawsAt : ℕ → Setup → Desk → Work → Type 0
+DrawsAt least setup desk w = Draws least w
+
+pub draws_works : {Binds : Type 0} (least : ℕ) (setup : Setup) (desk : Desk) (w v : Work) → Worked Binds setup desk w v → Draws least w → Draws least v
+draws_works least setup desk w v worked h = worked_kept (draws setup least) (λ u q. draws_more least u.instances q) worked h
+
 pub fold_kept : {X : Type 0} (P : Acted → Type 0) (f : Acted → X → Acted) → ((a : Acted) (x : X) → P a → P (f a x)) → (xs : List X) (a : Acted) → P a → P (fold f a xs)
 fold_kept P f each [] a h = h
 fold_kept P f each (x ∷ xs) a h = fold_kept P f each xs (f a x) (each a x h)
@@ -77,19 +84,25 @@ fold_each P Q f each (x ∷ xs) all a h = fold_each P Q f each xs all.1 (f a x) 
 
 module _ {Binds : Type 0} {P : Acted → Type 0} {K : Setup → Desk → Work → Type 0} {A : Setup → Action → Type 0} (k : Keeps Binds P K A) where
   -- *What is done at a port*, where it is linked
-  at_linked : (f : Option Linked → Acted) (a : Acted) (port : PortNo) → P (f None) → ((linked : Linked) → Found a linked → P (f (Some linked))) → P (f (linked_at a.controller port))
-  at_linked f a port none some = by (linked_at a.controller port) refl
+  at_linked_as : (f : Option Linked → Acted) (a : Acted) (port : PortNo) → P (f None) → ((linked : Linked) → linked_at a.controller port ≡ Some linked → Found a linked → P (f (Some linked))) → P (f (linked_at a.controller port))
+  at_linked_as f a port none some = by (linked_at a.controller port) refl
     where
       by : (o : Option Linked) → linked_at a.controller port ≡ o → P (f o)
       by None e = none
-      by (Some linked) e = some linked (subst (λ n. at port_key n a.controller.ports ≡ Some linked) (sym (at_key port_key port.0 a.controller.ports linked e)) e)
+      by (Some linked) e = some linked e (subst (λ n. at port_key n a.controller.ports ≡ Some linked) (sym (at_key port_key port.0 a.controller.ports linked e)) e)
 
-  -- a port is put back as its rule left it, and what it asked is done
+  at_linked : (f : Option Linked → Acted) (a : Acted) (port : PortNo) → P (f None) → ((linked : Linked) → Found a linked → P (f (Some linked))) → P (f (linked_at a.controller port))
+  at_linked f a port none some = at_linked_as f a port none (λ linked is found. some linked found)
+
+  -- a port is put back as it was left, and what it asked is done
+  placed : (f : PortNo → Acted → Action → Acted) → ((setup : Setup) (a : Acted) (action : Action) → A setup action → P a → P (f setup.port a action))
+      → (a : Acted) (linked : Linked) (w : Work) → Found a linked → K linked.setup a.controller.desk w → P a → P (fold (f linked.setup.port) (with_work a linked w) w.actions)
+  placed f each a linked w found kept h = fold_each P (A linked.setup) (f linked.setup.port) (each linked.setup) w.actions (k.asking linked.setup a.controller.desk w kept) (with_work a linked w) (k.placing a linked w found kept h)
+
+  -- as one of its rules left it
   worked : (f : PortNo → Acted → Action → Acted) → ((setup : Setup) (a : Acted) (action : Action) → A setup action → P a → P (f setup.port a action))
       → (a : Acted) (linked : Linked) (w : Work) → Found a linked → Worked Binds linked.setup a.controller.desk (begins a linked) w → P a → P (fold (f linked.setup.port) (with_work a linked w) w.actions)
-  worked f each a linked w found by_port h =
-      let kept : K linked.setup a.controller.desk w = k.working linked.setup a.controller.desk (begins a linked) w by_port (k.beginning a linked found h) in
-      fold_each P (A linked.setup) (f linked.setup.port) (each linked.setup) w.actions (k.asking linked.setup a.controller.desk w kept) (with_work a linked w) (k.placing a linked w found kept h)
+  worked f each a linked w found by_port h = placed f each a linked w found (k.working linked.setup a.controller.desk (begins a linked) w by_port (k.beginning a linked found h)) h
 
   cut_label_kept : (port : PortNo) (a : Acted) (label : ℕ) → P a → P (cuts_label port a label)
   cut_label_kept port a label h = at_linked (cuts_of a label) a port h (λ linked found. k.cutting_label a linked label found h)
@@ -117,7 +130,7 @@ module _ {Binds : Type 0} {P : Acted → Type 0} {K : Setup → Desk → Work �
   node_restarts_kept a h = fold_kept P cuts_default cut_default_kept (ports_of a.controller) (cuts_gsmp (node_resets a)) (k.cutting_gsmp (node_resets a) (node_resets_kept a h))
 
   -- *Asking*
-  request_kept : (a : Acted) (s : Standing) → P a → P (sends_request a s)
+  pub request_kept : (a : Acted) (s : Standing) → P a → P (sends_request a s)
   request_kept a s h = k.telling a (message_at a.controller.desk s) h
 
   pub asks_kept : (a : Acted) (request : Request) → P a → P (asks a request)
@@ -128,7 +141,7 @@ module _ {Binds : Type 0} {P : Acted → Type 0} {K : Setup → Desk → Work �
   pub asks_each_kept : (requests : List Request) (a : Acted) → P a → P (fold asks a requests)
   asks_each_kept requests a h = fold_kept P asks asks_kept requests a h
 
-  takes_back_kept : (a : Acted) (input output : End) → P a → P (takes_back a input output)
+  pub takes_back_kept : (a : Acted) (input output : End) → P a → P (takes_back a input output)
   takes_back_kept a input output h = on_both P (is_led_home a.controller.desk input (home_of input)) a (asks a (MoveBranch input output (home_of input))) h (asks_kept a (MoveBranch input output (home_of input)) h)
 
   -- *What a port asked*
@@ -156,8 +169,14 @@ module _ {Binds : Type 0} {P : Acted → Type 0} {K : Setup → Desk → Work �
   performs_kept setup a (actions.Withdraw input) is h = does_kept setup a (actions.Withdraw input) is h
   performs_kept setup a actions.Reset is h = resets_kept a setup.port h
 
-  performs_in_kept : (setup : Setup) (a : Acted) (action : Action) → A setup action → P a → P (performs_in_estab setup.port a action)
+  pub performs_in_kept : (setup : Setup) (a : Acted) (action : Action) → A setup action → P a → P (performs_in_estab setup.port a action)
   performs_in_kept setup a action is h = on_both P (is_estab a.controller.adjacency.state) (performs setup.port a action) a (performs_kept setup a action is h) h
+
+  -- what any rule makes of a port, where it leaves it at work as it must be
+  pub any_kept : (a : Acted) (port : PortNo) (rule : performing.Rule)
+      → ((linked : Linked) → linked_at a.controller port ≡ Some linked → Found a linked → K linked.setup a.controller.desk (rule linked.setup a.controller.desk (begins a linked))) → P a → P (at_port a port rule)
+  any_kept a port rule is h = at_linked_as (works a rule) a port h
+      (λ linked at_it found. placed performs_in_estab performs_in_kept a linked (rule linked.setup a.controller.desk (begins a linked)) found (is linked at_it found) h)
 
   pub at_port_kept : (a : Acted) (port : PortNo) (rule : performing.Rule) → ((setup : Setup) (desk : Desk) (w : Work) → Rule Binds setup desk w (rule setup desk w)) → P a → P (at_port a port rule)
   at_port_kept a port rule is h = at_linked (works a rule) a port h

@@ -1,3 +1,4 @@
 pub mod Ports
 pub mod Controllers
 pub mod Changes
+pub mod Cells

@@ -1,6 +1,6 @@
 -- What a few changes of a port at work keep, each of its rules keeps
 
-use Rattle.std.proofs.Common.{◌≡◌, ℕ, ◌+◌, refl, List, [], ◌∷◌, ◌++◌, map, flat_map, Option, None, Some, Bool, true, false, sym, subst, append_assoc, append-nil}
+use Rattle.std.proofs.Common.{◌≡◌, ℕ, ◌≤◌, ◌+◌, arith, refl, List, [], ◌∷◌, ◌++◌, map, flat_map, Option, None, Some, Bool, true, false, sym, subst, append_assoc, append-nil}
 use Rattle.std.specs.Prelude.{nat_lt, ◌&&◌, ◌||◌}
 use Rattle.std.specs.Option.{option_map, option_map_or}
 use Rattle.std.proofs.lemmas.List.Concat.{flat_map-cons}
@@ -272,3 +272,21 @@ asks_only Binds setup = record {
   granted = λ w grants h. h;
   accepted = λ w h. h;
 }
+
+-- *What a port draws*: it gives no instance back
+abbrev pub Draws : ℕ → Work → Type 0
+Draws least w = least ≤ w.instances
+
+pub draws : {Binds : Type 0} (setup : Setup) (least : ℕ) → Keeps Binds setup (Draws least)
+draws setup least = record {
+  asked = λ w action is other h. h;
+  halting = λ w live h. h;
+  turned = λ w step live turn h. h;
+  heard = λ w h. h;
+  session = λ w o h. h;
+  granted = λ w grants h. h;
+  accepted = λ w h. h;
+}
+
+pub draws_more : (least n : ℕ) → least ≤ n → least ≤ n + 1
+draws_more least n h = omega (arith, h)
