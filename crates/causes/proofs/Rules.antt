@@ -41,7 +41,10 @@ use Rattle.world_model.specs.Cells.{opened_frame, Taker}
 use Rattle.world_model.specs.Ticks.{ticks}
 use Rattle.causes.proofs.Sizes.{HasLength, IsShort, default_length, labelled_length, onward_short, fault_short, unwrapped_short, ifmp_length, request_length, HasName, greeting_length, decoded_names}
 use Rattle.causes.proofs.Calm.{IsCalm, calm_notes, calm_binding}
-use Rattle.causes.proofs.Noting.{IsCalmAction, Calm, hears_calm, ticks_calm, done_calm, used_calm, counts_calm, closes_calm, joined_calm, parted_calm, lent_calm, given_back_calm, resets_calm, restarts_calm}
+use Rattle.causes.proofs.Noting.{IsCalmAction, Calm, worked_calm}
+use Rattle.rule_walks.proofs.Ports.{by_rule, by_reset, by_restart, by_steps, by_using, by_counting, by_closing, by_parting, by_joining, by_lending, by_giving_back}
+use Rattle.controller_bindings.proofs.port_facts.Rules.{done_goes}
+use Rattle.controller_bindings.proofs.port_facts.Hearings.{hears_goes, ticks_goes}
 
 -- *The names of an adjacency* have 6 octets
 pub record IsNamed (side : Side Party) : Type 0 where
@@ -207,7 +210,7 @@ module _ (P : Acted → Type 0) (k : Kept P) where
   restarts_of_kept a None own h = h
   restarts_of_kept a (Some linked) own h =
       let w : Work = restarts linked.setup (begins a linked) in
-      fold_each P (IsCalmAction IsCalm) (closes_by linked.setup.port) (closes_kept linked.setup.port) w.actions (restarts_calm IsCalm calm_notes linked.setup (begins a linked) tt) (with_work a linked w) (work_kept a linked w (own linked refl) h)
+      fold_each P (IsCalmAction IsCalm) (closes_by linked.setup.port) (closes_kept linked.setup.port) w.actions (worked_calm IsCalm calm_notes linked.setup a.controller.desk (begins a linked) by_restart tt) (with_work a linked w) (work_kept a linked w (own linked refl) h)
 
   own_at : (a : Acted) (port : PortNo) (linked : Linked) → linked_at a.controller port ≡ Some linked → Own a linked
   own_at a port linked found = subst (λ n. at port_key n a.controller.ports ≡ Some linked) (sym (at_key port_key port.0 a.controller.ports linked found)) found
@@ -250,7 +253,7 @@ module _ (P : Acted → Type 0) (k : Kept P) where
   resets_of_kept a None own h = h
   resets_of_kept a (Some linked) own h =
       let w : Work = resets linked.setup (begins a linked) in
-      fold_each P (IsCalmAction IsCalm) (does_in_estab linked.setup.port) (does_in_kept linked.setup.port) w.actions (resets_calm IsCalm calm_notes linked.setup (begins a linked) tt) (with_work a linked w) (work_kept a linked w (own linked refl) h)
+      fold_each P (IsCalmAction IsCalm) (does_in_estab linked.setup.port) (does_in_kept linked.setup.port) w.actions (worked_calm IsCalm calm_notes linked.setup a.controller.desk (begins a linked) by_reset tt) (with_work a linked w) (work_kept a linked w (own linked refl) h)
 
   resets_kept : (a : Acted) (port : PortNo) → P a → P (resets_port a port)
   resets_kept a port h = resets_of_kept a (linked_at a.controller port) (own_at a port) h
@@ -279,10 +282,10 @@ module _ (P : Acted → Type 0) (k : Kept P) where
   -- *Joins*
   parts_kept : (a : Acted) (input : End) → P a → P (parts a input)
   parts_kept a input h = at_port_kept (note a (Part a.controller.node input.port (number_of_channel input.channel))) input.port (λ setup desk w. port_joins.parted w (number_of_channel input.channel))
-      (λ linked. parted_calm IsCalm calm_notes (begins (note a (Part a.controller.node input.port (number_of_channel input.channel))) linked) (number_of_channel input.channel) tt) (k.noted a _ refl h)
+      (λ linked. worked_calm IsCalm calm_notes linked.setup a.controller.desk (begins (note a (Part a.controller.node input.port (number_of_channel input.channel))) linked) (by_rule _ (by_parting (number_of_channel input.channel))) tt) (k.noted a _ refl h)
 
   gives_back_kept : (a : Acted) (join : Join) → P a → P (gives_back a join)
-  gives_back_kept a join h = at_port_kept a join.port (λ setup desk w. port_joins.given_back w join.grant) (λ linked. given_back_calm IsCalm calm_notes (begins a linked) join.grant tt) h
+  gives_back_kept a join h = at_port_kept a join.port (λ setup desk w. port_joins.given_back w join.grant) (λ linked. worked_calm IsCalm calm_notes linked.setup a.controller.desk (begins a linked) (by_rule _ (by_giving_back join.grant)) tt) h
 
   releases_input_kept : (a : Acted) (input : End) → P a → P (releases_input a input)
   releases_input_kept a input h = by_join (join_of a.controller input)
@@ -292,7 +295,7 @@ module _ (P : Acted → Type 0) (k : Kept P) where
       by_join (Some join) = gives_back_kept (parts a join.input) join (parts_kept a join.input h)
 
   resets_spent_kept : (a : Acted) (port : PortNo) → P a → P (resets_spent a port)
-  resets_spent_kept a port h = at_port_kept a port (λ setup desk w. closes w) (λ linked. closes_calm IsCalm calm_notes (begins a linked) tt) h
+  resets_spent_kept a port h = at_port_kept a port (λ setup desk w. closes w) (λ linked. worked_calm IsCalm calm_notes linked.setup a.controller.desk (begins a linked) (by_rule _ by_closing) tt) h
 
   releases_kept : (a : Acted) (request : Request) → P a → P (releases a request)
   releases_kept a request h =
@@ -300,10 +303,10 @@ module _ (P : Acted → Type 0) (k : Kept P) where
       fold_kept P resets_spent resets_spent_kept (ports_of released.controller) released (fold_kept P releases_input releases_input_kept (released_inputs a.controller request) a h)
 
   enters_grant_kept : (a : Acted) (join : Join) → P a → P (enters_grant a join)
-  enters_grant_kept a join h = at_port_kept a join.port (λ setup desk w. port_joins.lent w join.grant join.input) (λ linked. lent_calm IsCalm calm_notes (begins a linked) join.grant join.input tt) h
+  enters_grant_kept a join h = at_port_kept a join.port (λ setup desk w. port_joins.lent w join.grant join.input) (λ linked. worked_calm IsCalm calm_notes linked.setup a.controller.desk (begins a linked) (by_rule _ (by_lending join.grant join.input)) tt) h
 
   enters_label_kept : (a : Acted) (join : Join) → P a → P (enters_label a join)
-  enters_label_kept a join h = at_port_kept a join.input.port (λ setup desk w. port_joins.joined w (number_of_channel join.input.channel) (output_of join)) (λ linked. joined_calm IsCalm calm_notes (begins a linked) (number_of_channel join.input.channel) (output_of join) tt) h
+  enters_label_kept a join h = at_port_kept a join.input.port (λ setup desk w. port_joins.joined w (number_of_channel join.input.channel) (output_of join)) (λ linked. worked_calm IsCalm calm_notes linked.setup a.controller.desk (begins a linked) (by_rule _ (by_joining (number_of_channel join.input.channel) (output_of join))) tt) h
 
   -- *Changes of routes*
   begins_change_kept : (a : Acted) (change : RouteChange) → P a → P (begins_change a change)
@@ -344,7 +347,7 @@ module _ (P : Acted → Type 0) (k : Kept P) where
 
   tells_kept : (a : Acted) (request : Request) (o : Option PortNo) → P a → P (tells_port a request o)
   tells_kept a request None h = h
-  tells_kept a request (Some port) h = at_port_kept a port (λ setup desk w. port_answers.done setup w request) (λ linked. done_calm IsCalm calm_notes calm_binding linked.setup a.controller.desk (begins a linked) request tt) h
+  tells_kept a request (Some port) h = at_port_kept a port (λ setup desk w. port_answers.done setup w request) (λ linked. worked_calm IsCalm calm_notes linked.setup a.controller.desk (begins a linked) (by_rule _ (by_steps calm_binding _ (done_goes linked.setup a.controller.desk (begins a linked) request (λ tree. tt)))) tt) h
 
   behind_kept : (a : Acted) (port : PortNo) → P a → P (behind_delete_all a port)
   behind_kept a port h = on_both P a.controller.has_met (asks a (AddBranch (default_end port) (default_home port))) (if has_emptied a.controller then ends_meeting a else a)
@@ -416,15 +419,15 @@ module _ (P : Acted → Type 0) (k : Kept P) where
   -- *Frames*
   label_holds_kept : (a : Acted) (linked : Linked) (label : Label) (mark : Mark) (r : Result (List ℕ) EncapsFault) → ((packet : List ℕ) → r ≡ Ok packet → IsShort packet) → P a → P (label_holds a linked label mark r)
   label_holds_kept a linked label mark (Err fault) short h = k.noted a (Bad a.controller.node layers.Encaps (encaps_refusal fault)) refl h
-  label_holds_kept a linked label mark (Ok packet) short h = at_port_kept (routes a mark packet) linked.setup.port (λ setup desk w. used w label.number) (λ other. used_calm IsCalm calm_notes (begins (routes a mark packet) other) label.number tt) (routes_kept a mark packet (short packet refl) h)
+  label_holds_kept a linked label mark (Ok packet) short h = at_port_kept (routes a mark packet) linked.setup.port (λ setup desk w. used w label.number) (λ other. worked_calm IsCalm calm_notes other.setup a.controller.desk (begins (routes a mark packet) other) (by_rule _ (by_using label.number)) tt) (routes_kept a mark packet (short packet refl) h)
 
   ifmp_holds_kept : (a : Acted) (port : PortNo) (packet octets : List ℕ) (r : Result IfmpMessage IfmpFault) → ifmp_decoded octets ≡ r → P a → P (ifmp_holds a port packet r)
   ifmp_holds_kept a port packet octets (Err fault) is h = k.noted a (Bad a.controller.node layers.Ifmp (ifmp_refusal fault)) refl h
   ifmp_holds_kept a port packet octets (Ok message) is h = at_port_kept a port (λ setup desk w. hears setup desk w (source_of packet) message)
-      (λ linked. hears_calm IsCalm calm_notes calm_binding linked.setup a.controller.desk (begins a linked) (source_of packet) message refl (decoded_lives octets message is) tt) h
+      (λ linked. worked_calm IsCalm calm_notes linked.setup a.controller.desk (begins a linked) (by_rule _ (by_steps calm_binding _ (hears_goes linked.setup a.controller.desk (begins a linked) (source_of packet) message refl (decoded_lives octets message is)))) tt) h
 
   counted_kept : (a : Acted) (port : PortNo) (packet : List ℕ) → P a → P (counted_at a port packet)
-  counted_kept a port packet h = at_port_kept a port (λ setup desk w. counts setup desk w packet) (λ linked. counts_calm IsCalm calm_notes linked.setup a.controller.desk (begins a linked) packet tt) h
+  counted_kept a port packet h = at_port_kept a port (λ setup desk w. counts setup desk w packet) (λ linked. worked_calm IsCalm calm_notes linked.setup a.controller.desk (begins a linked) (by_rule _ (by_counting packet)) tt) h
 
   packet_holds_kept : (a : Acted) (port : PortNo) (mark : Mark) (packet : List ℕ) (o : Option PacketFault) → first_fault packet ≡ o → P a → P (packet_holds a port mark packet o)
   packet_holds_kept a port mark packet (Some fault) is h = k.noted a (Bad a.controller.node layers.Packet (packet_refusal fault)) refl h
@@ -466,7 +469,7 @@ module _ (P : Acted → Type 0) (k : Kept P) where
   again_kept a h = on_both P (is_estab a.controller.adjacency.state) (fold sends_request a (sent_again a.controller.desk)) a (fold_kept P sends_request request_kept (sent_again a.controller.desk) a h) h
 
   ticks_port_kept : (a : Acted) (port : PortNo) → P a → P (ticks_port a port)
-  ticks_port_kept a port h = at_port_kept a port port_ticks.ticks (λ linked. ticks_calm IsCalm calm_notes calm_binding linked.setup a.controller.desk (begins a linked) refl tt) h
+  ticks_port_kept a port h = at_port_kept a port port_ticks.ticks (λ linked. worked_calm IsCalm calm_notes linked.setup a.controller.desk (begins a linked) (by_rule _ (by_steps calm_binding _ (ticks_goes linked.setup a.controller.desk (begins a linked) refl))) tt) h
 
   ticks_on_kept : (a : Acted) (step : sides.Step Party) → IsNamed step.side → AnswersNamed step.answer → P a → P (tries_joins (ticks_ports (sends_again (steps a step))))
   ticks_on_kept a step named said h =

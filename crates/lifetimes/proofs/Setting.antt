@@ -284,7 +284,7 @@ module _ (setups : List Setup) (port : PortNo) (label lifetime : ℕ) where
         of_due (Some session) e = refl
 
     up_by_cell : UpOrNew a.numbers.instances (cell_comes a cell)
-    up_by_cell = set_goes (UpOrNew a.numbers.instances) (λ e. performed_up a.numbers.instances x.setup.port (with_work c x anew_work) (Ask branch false) (stood a up)) (λ grant is e. stood a up)
+    up_by_cell = set_goes (UpOrNew a.numbers.instances) (λ e. performed_up a.numbers.instances x.setup (with_work c x anew_work) (Ask branch false) (stood a up)) (λ grant is e. stood a up)
 
   pub set_granted : (a : Acted) (input : Input) → IsSound setups a.controller → Sets a input port label lifetime → has_switch (takes_input a input).controller ≡ true → HasLeft (grant_at (takes_input a input).controller port label) lifetime
   set_granted a input s sets = subst (λ (i : Input). InEstab setups (IsGranted a input s sets) (takes_input a i)) (sym sets.heard.comes) (granted_by_cell a input s sets)

@@ -1,34 +1,23 @@
 -- what a few changes of a controller keep, all that it does keeps, but for what it does with a packet
 
-use Rattle.std.proofs.Common.{◌≡◌, ℕ, true, false, List, [], ◌∷◌, map, flat_map, ◌+◌, ◌++◌, Option, None, Some, refl, if◌then◌else◌, fold}
-use Rattle.std.specs.Prelude.{◌==◌, Result, Ok, Err}
-use Rattle.world_model.specs.Words.{PortNo, End, Mark, Party, number_of_channel, source_of, changed, RouteChange, Request, AddBranch, MoveBranch, DeleteTree, VerifyTree, PortManagement, Answer, Quiet, Send, Open, Said, is_estab, said, ticked, greeting_of, gsmp_answer, gsmp_received, Record, Bad, Loss, Part, Routes, Cut, ifmp_refusal, gsmp_refusal, Reassembly, cut, noted_all, distinct, marks_of, Desk, Standing, withdrawn, is_led_home, last_transaction, empty_desk, sent_again, Answered, Unknown, Done, Ports, Failed, answered, after_answer, Action, home_of, Work, counts, used, hears, resets, restarts, closes, Linked, linked_at, with_linked, with_desk, chain_of, default_end, default_home, says_gsmp, says_ifmp, sends_request, asks_next, asks, takes_back, cuts_of, cuts_label, cuts_default_of, cuts_default, cuts_gsmp, begins, with_work, closes_by, port_restarts_of, port_restarts, resets_gsmp, node_resets, node_restarts, does, does_in_estab, resets_of, resets_port, performs, performs_in_estab, Rule, works, at_port, join_of, parts, gives_back, releases_join, releases_input, released_inputs, resets_spent, releases, enters_grant, enters_label, tries_joins, changed_joins, takes_join_back, begins_change, takes_change, may_take, takes_each, takes_changes, change_comes, meets, up_ports, default_branches, ends_meeting, has_emptied, tells_port, behind_delete_all, causes_in_estab, causes, may_clear, clears_of, clears_port, clears, takes_answer, answer_comes, gsmp_holds, ifmp_holds, counted_at, sends_again, ticks_port, ticks_ports, ticks_by}
+use Rattle.std.proofs.Common.{◌≡◌, ℕ, List, [], ◌∷◌, map, ◌+◌, ◌++◌, false, Some, Result, refl}
+use Rattle.std.specs.Prelude.{Ok, Err}
+use Rattle.world_model.specs.Words.{PortNo, Mark, number_of_channel, changed, RouteChange, ticked, gsmp_received, Record, Bad, Loss, Part, Routes, Cut, ifmp_refusal, gsmp_refusal, Reassembly, cut, noted_all, distinct, marks_of, after_answer, Setup, used, with_desk, chain_of, says_gsmp, says_ifmp, cuts_of, cuts_default_of, cuts_gsmp, node_restarts, at_port, takes_change, change_comes, gsmp_holds, ifmp_holds, counted_at}
 use Rattle.world_model.specs.ifmp_wire.declared.message.Message.{Message as IfmpMessage}
 use Rattle.world_model.specs.ifmp_wire.declared.reader.Fault.{Fault as IfmpFault}
 use Rattle.world_model.specs.ifmp_wire.Fields.{decoded as ifmp_decoded}
 use Rattle.world_model.specs.gsmp_wire.declared.fault.Fault.{Fault as GsmpFault}
 use Rattle.world_model.specs.gsmp_wire.declared.message.Message.{Message}
-use Rattle.world_model.specs.gsmp_wire.declared.message.Message.TheVariants as messages
-use Rattle.world_model.specs.gsmp_wire.declared.request.Request.TheVariants.{DeleteAll, AllPorts}
-use Rattle.world_model.specs.adjacency_table.declared.message.Answer.TheVariants.{Reset}
-use Rattle.world_model.specs.adjacency_table.Side as sides
 use Rattle.world_model.specs.link_model.declared.record.Layer.TheVariants as layers
-use Rattle.world_model.specs.port_model.Desk.{asked, message_at}
-use Rattle.world_model.specs.port_model.declared.action.Action.TheVariants as actions
-use Rattle.world_model.specs.port_model.Answers as port_answers
-use Rattle.world_model.specs.port_model.Joins as port_joins
-use Rattle.world_model.specs.port_model.Resets.{cleared}
-use Rattle.world_model.specs.port_model.Ticks as port_ticks
-use Rattle.arrival_views.proofs.port_facts.Keyed.{on_both}
 use Rattle.arrival_views.proofs.controller_facts.Lifetimes.{decoded_lives}
-use Rattle.world_model.specs.Controller.{Acted, ports_of, note}
-use Rattle.world_model.specs.Joins.{Join, output_of}
-use Rattle.world_model.specs.Meeting.{port_of, done}
-use Rattle.world_model.specs.Gsmp.{answers, steps, told}
+use Rattle.world_model.specs.Controller.{Acted, note}
 use Rattle.world_model.specs.Ticks.{ticks}
-use Rattle.packet_worlds.proofs.Quiet.{Allows, allows_notes}
-use Rattle.unused_labels.proofs.causes.Rules.{fold_kept, fold_each, tries_joins_kept}
-use Rattle.unused_labels.proofs.causes.Noting.{AllowsNotes, AllowsBinding, IsCalmAction, Calm, hears_calm, ticks_calm, done_calm, used_calm, counts_calm, closes_calm, joined_calm, parted_calm, lent_calm, given_back_calm, resets_calm, restarts_calm}
+use Rattle.rule_walks.proofs.Ports.{IsNoted, is_opened, is_closed, is_bound, is_freed, is_joined, IsAsked}
+use Rattle.rule_walks.proofs.Controllers.{Keeps, AsksOnlyAt, asks_only_works, ifmp_kept}
+use Rattle.rule_walks.proofs.Controllers as controllers
+use Rattle.rule_walks.proofs.Changes as route_changes
+use Rattle.packet_worlds.proofs.Quiet.{Allows}
+use Rattle.unused_labels.proofs.causes.Noting.{AllowsBinding}
 
 -- what bears on frames, queues and notes is the same
 pub record IsAlike (a b : Acted) : Type 0 where
@@ -44,14 +33,15 @@ pub record Kept (Q : Record → Type 0) (P : Acted → Type 0) : Type 0 where
   pub said : (port : PortNo) (a : Acted) (message : IfmpMessage) → P a → P (says_ifmp port a message)
 
 module _ (Q : Record → Type 0) (may : Allows Q) (P : Acted → Type 0) (k : Kept Q P) where
-  port_notes : AllowsNotes Q
-  port_notes = allows_notes Q may
+  port_notes : (setup : Setup) (item : Record) → IsNoted (AllowsBinding Q) setup item → Q item
+  port_notes setup _ is_opened = may _ refl refl
+  port_notes setup _ is_closed = may _ refl refl
+  port_notes setup _ (is_bound binds label flow) = binds setup.node setup.port label flow
+  port_notes setup _ (is_freed label) = may _ refl refl
+  port_notes setup _ (is_joined label to_port to_label) = may _ refl refl
 
   same : (a b : Acted) → b.controller.queue ≡ a.controller.queue → b.notes ≡ a.notes → b.numbers.controls ≡ a.numbers.controls → P a → P b
   same a b q n c h = k.alike a b (record { queue = q; notes = n; controls = c }) h
-
-  request_kept : (a : Acted) (s : Standing) → P a → P (sends_request a s)
-  request_kept a s h = k.told a (message_at a.controller.desk s) h
 
   -- *A chain is cut*
   marks_kept : (a : Acted) (marks : List Mark) → P a → P (record a { notes = noted_all a.notes (map (λ mark. Loss mark Cut) marks) })
@@ -61,272 +51,60 @@ module _ (Q : Record → Type 0) (may : Allows Q) (P : Acted → Type 0) (k : Ke
   cut_kept : (a : Acted) (r : Reassembly) → P a → P (record a { notes = cut a.notes r })
   cut_kept a r h = marks_kept a (distinct (marks_of r.chain)) h
 
-  cut_label : (port : PortNo) (a : Acted) (label : ℕ) → P a → P (cuts_label port a label)
-  cut_label port a label h = by_found (linked_at a.controller port)
-    where
-      by_found : (o : Option Linked) → P (cuts_of a label o)
-      by_found None = h
-      by_found (Some linked) = same (record a { notes = cut a.notes (chain_of linked.chains label) }) (cuts_of a label (Some linked)) refl refl refl (cut_kept a (chain_of linked.chains label) h)
-
-  cut_default : (a : Acted) (port : PortNo) → P a → P (cuts_default a port)
-  cut_default a port h = by_found (linked_at a.controller port)
-    where
-      by_found : (o : Option Linked) → P (cuts_default_of a o)
-      by_found None = h
-      by_found (Some linked) = same (record a { notes = cut a.notes linked.reassembly }) (cuts_default_of a (Some linked)) refl refl refl (cut_kept a linked.reassembly h)
-
-  cut_gsmp : (a : Acted) → P a → P (cuts_gsmp a)
-  cut_gsmp a h = same (record a { notes = cut a.notes a.controller.reassembly }) (cuts_gsmp a) refl refl refl (cut_kept a a.controller.reassembly h)
-
-  desk_kept : (a : Acted) (desk : Desk) → P a → P (with_desk a desk)
-  desk_kept a desk h = same a (with_desk a desk) refl refl refl h
-
-  -- *A port at work, put back*
-  work_kept : (a : Acted) (linked : Linked) (w : Work) → P a → P (with_work a linked w)
-  work_kept a linked w h = same a (with_work a linked w) refl refl refl h
-
-  -- *Node reset*
-  closes_kept : (port : PortNo) (a : Acted) (action : Action) → IsCalmAction Q action → P a → P (closes_by port a action)
-  closes_kept port a (actions.Say message) calm h = h
-  closes_kept port a (actions.Ask request needed) calm h = h
-  closes_kept port a (actions.Note item) calm h = k.noted a item calm h
-  closes_kept port a (actions.CutChain label) calm h = cut_label port a label h
-  closes_kept port a (actions.TakeBack input output) calm h = h
-  closes_kept port a (actions.Withdraw input) calm h = h
-  closes_kept port a actions.Reset calm h = h
-
-  restarts_of_kept : (a : Acted) (o : Option Linked) → P a → P (port_restarts_of a o)
-  restarts_of_kept a None h = h
-  restarts_of_kept a (Some linked) h =
-      let w : Work = restarts linked.setup (begins a linked) in
-      fold_each P (IsCalmAction Q) (closes_by linked.setup.port) (closes_kept linked.setup.port) w.actions (restarts_calm Q port_notes linked.setup (begins a linked) tt) (with_work a linked w) (work_kept a linked w h)
-
-  restarts_kept : (a : Acted) (port : PortNo) → P a → P (port_restarts a port)
-  restarts_kept a port h = restarts_of_kept a (linked_at a.controller port) h
-
-  node_kept : (a : Acted) → P a → P (node_resets a)
-  node_kept a h = fold_kept P port_restarts restarts_kept (ports_of a.controller) (resets_gsmp a) (same a (resets_gsmp a) refl refl refl h)
+  -- *Each change* of a controller
+  keeps : Keeps (AllowsBinding Q) P (AsksOnlyAt (AllowsBinding Q)) (IsAsked (AllowsBinding Q))
+  keeps = record {
+    beginning = λ a linked found h. tt;
+    working = asks_only_works;
+    asking = λ setup desk w asks. asks;
+    placing = λ a linked w found asks h. same a _ refl refl refl h;
+    clearing = λ a linked found may_clear h. same a _ refl refl refl h;
+    saying = λ setup a message is h. k.said setup.port a message h;
+    noting = λ setup a item is h. k.noted a item (port_notes setup item is) h;
+    withdrawing = λ setup a input is h. same a _ refl refl refl h;
+    parting = λ a input h. k.noted a (Part a.controller.node input.port (number_of_channel input.channel)) (may _ refl refl) h;
+    telling = k.told;
+    requesting = λ a request estab room h. same a _ refl refl refl h;
+    resetting = λ a h. same a _ refl refl refl h;
+    emptying = λ a h. same a _ refl refl refl h;
+    meeting = λ a h. same a _ refl refl refl h;
+    cutting_label = λ a linked label found h. same (record a { notes = cut a.notes (chain_of linked.chains label) }) (cuts_of a label (Some linked)) refl refl refl (cut_kept a (chain_of linked.chains label) h);
+    cutting_default = λ a linked found h. same (record a { notes = cut a.notes linked.reassembly }) (cuts_default_of a (Some linked)) refl refl refl (cut_kept a linked.reassembly h);
+    cutting_gsmp = λ a h. same (record a { notes = cut a.notes a.controller.reassembly }) (cuts_gsmp a) refl refl refl (cut_kept a a.controller.reassembly h);
+    changing = λ a h. same a _ refl refl refl h;
+  }
 
   pub node_restarts_kept : (a : Acted) → P a → P (node_restarts a)
-  node_restarts_kept a h = fold_kept P cuts_default cut_default (ports_of a.controller) (cuts_gsmp (node_resets a)) (cut_gsmp (node_resets a) (node_kept a h))
-
-  -- *Asking*
-  asks_kept : (a : Acted) (request : Request) → P a → P (asks a request)
-  asks_kept a request h = on_both P (is_estab a.controller.adjacency.state) (if a.controller.desk.next == last_transaction then node_resets a else asks_next a request) a
-      (on_both P (a.controller.desk.next == last_transaction) (node_resets a) (asks_next a request) (node_kept a h)
-      (request_kept (with_desk a (asked a.controller.desk request)) _ (desk_kept a (asked a.controller.desk request) h))) h
-
-  takes_back_kept : (a : Acted) (input output : End) → P a → P (takes_back a input output)
-  takes_back_kept a input output h = on_both P (is_led_home a.controller.desk input (home_of input)) a (asks a (MoveBranch input output (home_of input))) h (asks_kept a (MoveBranch input output (home_of input)) h)
-
-  -- *Actions*
-  does_kept : (port : PortNo) (a : Acted) (action : Action) → IsCalmAction Q action → P a → P (does port a action)
-  does_kept port a (actions.Say message) calm h = k.said port a message h
-  does_kept port a (actions.Ask request needed) calm h = asks_kept a request h
-  does_kept port a (actions.Note item) calm h = k.noted a item calm h
-  does_kept port a (actions.CutChain label) calm h = cut_label port a label h
-  does_kept port a (actions.TakeBack input output) calm h = takes_back_kept a input output h
-  does_kept port a (actions.Withdraw input) calm h = desk_kept a (withdrawn a.controller.desk input) h
-  does_kept port a actions.Reset calm h = h
-
-  does_in_kept : (port : PortNo) (a : Acted) (action : Action) → IsCalmAction Q action → P a → P (does_in_estab port a action)
-  does_in_kept port a action calm h = on_both P (is_estab a.controller.adjacency.state) (does port a action) a (does_kept port a action calm h) h
-
-  resets_of_kept : (a : Acted) (o : Option Linked) → P a → P (resets_of a o)
-  resets_of_kept a None h = h
-  resets_of_kept a (Some linked) h =
-      let w : Work = resets linked.setup (begins a linked) in
-      fold_each P (IsCalmAction Q) (does_in_estab linked.setup.port) (does_in_kept linked.setup.port) w.actions (resets_calm Q port_notes linked.setup (begins a linked) tt) (with_work a linked w) (work_kept a linked w h)
-
-  resets_kept : (a : Acted) (port : PortNo) → P a → P (resets_port a port)
-  resets_kept a port h = resets_of_kept a (linked_at a.controller port) h
-
-  performs_kept : (port : PortNo) (a : Acted) (action : Action) → IsCalmAction Q action → P a → P (performs port a action)
-  performs_kept port a (actions.Say message) calm h = does_kept port a (actions.Say message) calm h
-  performs_kept port a (actions.Ask request needed) calm h = does_kept port a (actions.Ask request needed) calm h
-  performs_kept port a (actions.Note item) calm h = does_kept port a (actions.Note item) calm h
-  performs_kept port a (actions.CutChain label) calm h = does_kept port a (actions.CutChain label) calm h
-  performs_kept port a (actions.TakeBack input output) calm h = does_kept port a (actions.TakeBack input output) calm h
-  performs_kept port a (actions.Withdraw input) calm h = does_kept port a (actions.Withdraw input) calm h
-  performs_kept port a actions.Reset calm h = resets_kept a port h
-
-  performs_in_kept : (port : PortNo) (a : Acted) (action : Action) → IsCalmAction Q action → P a → P (performs_in_estab port a action)
-  performs_in_kept port a action calm h = on_both P (is_estab a.controller.adjacency.state) (performs port a action) a (performs_kept port a action calm h) h
-
-  at_port_kept : (a : Acted) (port : PortNo) (rule : Rule) → ((linked : Linked) → Calm Q (rule linked.setup a.controller.desk (begins a linked))) → P a → P (at_port a port rule)
-  at_port_kept a port rule calm h = by_found (linked_at a.controller port)
-    where
-      by_found : (o : Option Linked) → P (works a rule o)
-      by_found None = h
-      by_found (Some linked) =
-          let w : Work = rule linked.setup a.controller.desk (begins a linked) in
-          fold_each P (IsCalmAction Q) (performs_in_estab linked.setup.port) (performs_in_kept linked.setup.port) w.actions (calm linked) (with_work a linked w) (work_kept a linked w h)
-
-  -- *Joins*
-  parts_kept : (a : Acted) (input : End) → P a → P (parts a input)
-  parts_kept a input h = at_port_kept (note a (Part a.controller.node input.port (number_of_channel input.channel))) input.port (λ setup desk w. port_joins.parted w (number_of_channel input.channel))
-      (λ linked. parted_calm Q port_notes (begins (note a (Part a.controller.node input.port (number_of_channel input.channel))) linked) (number_of_channel input.channel) tt) (k.noted a _ (may _ refl refl) h)
-
-  gives_back_kept : (a : Acted) (join : Join) → P a → P (gives_back a join)
-  gives_back_kept a join h = at_port_kept a join.port (λ setup desk w. port_joins.given_back w join.grant) (λ linked. given_back_calm Q port_notes (begins a linked) join.grant tt) h
-
-  releases_input_kept : (a : Acted) (input : End) → P a → P (releases_input a input)
-  releases_input_kept a input h = by_join (join_of a.controller input)
-    where
-      by_join : (o : Option Join) → P (releases_join a o)
-      by_join None = h
-      by_join (Some join) = gives_back_kept (parts a join.input) join (parts_kept a join.input h)
-
-  resets_spent_kept : (a : Acted) (port : PortNo) → P a → P (resets_spent a port)
-  resets_spent_kept a port h = at_port_kept a port (λ setup desk w. closes w) (λ linked. closes_calm Q port_notes (begins a linked) tt) h
-
-  releases_kept : (a : Acted) (request : Request) → P a → P (releases a request)
-  releases_kept a request h =
-      let released : Acted = fold releases_input a (released_inputs a.controller request) in
-      fold_kept P resets_spent resets_spent_kept (ports_of released.controller) released (fold_kept P releases_input releases_input_kept (released_inputs a.controller request) a h)
-
-  enters_grant_kept : (a : Acted) (join : Join) → P a → P (enters_grant a join)
-  enters_grant_kept a join h = at_port_kept a join.port (λ setup desk w. port_joins.lent w join.grant join.input) (λ linked. lent_calm Q port_notes (begins a linked) join.grant join.input tt) h
-
-  enters_label_kept : (a : Acted) (join : Join) → P a → P (enters_label a join)
-  enters_label_kept a join h = at_port_kept a join.input.port (λ setup desk w. port_joins.joined w (number_of_channel join.input.channel) (output_of join)) (λ linked. joined_calm Q port_notes (begins a linked) (number_of_channel join.input.channel) (output_of join) tt) h
+  node_restarts_kept a h = controllers.node_restarts_kept keeps a h
 
   -- *Changes of routes*
-  begins_change_kept : (a : Acted) (change : RouteChange) → P a → P (begins_change a change)
-  begins_change_kept a change h = on_both P a.controller.is_begun a _ h
-      (fold_kept P takes_join_back (λ b join q. takes_back_kept b join.input (output_of join) q) (changed_joins a.controller change) (record a { controller = record a.controller { is_begun = true } })
-      (same a (record a { controller = record a.controller { is_begun = true } }) refl refl refl h))
-
-  takes_change_kept : (a : Acted) (change : RouteChange) (later : List RouteChange) → P a → P (takes_change a change later)
-  takes_change_kept a change later h =
+  takes_change_kept : (a : Acted) (change : RouteChange) (later : List RouteChange) → a.controller.waiting ≡ change ∷ later → P a → P (takes_change a change later)
+  takes_change_kept a change later waits h =
       let taken : Acted = record a { controller = record a.controller { table = changed a.controller.table change; waiting = later; is_begun = false; changes = a.controller.changes + 1 } } in
       k.noted taken (Routes a.controller.node (a.controller.changes + 1)) (may _ refl refl) (same a taken refl refl refl h)
 
-  takes_each_kept : (a : Acted) (changes : List RouteChange) → P a → P (takes_each a changes)
-  takes_each_kept a [] h = h
-  takes_each_kept a (change ∷ later) h =
-      let begun : Acted = begins_change a change in
-      let b : P begun = begins_change_kept a change h in
-      on_both P (may_take begun.controller change) (takes_each (takes_change begun change later) later) begun (takes_each_kept (takes_change begun change later) later (takes_change_kept begun change later b)) b
-
-  takes_changes_kept : (a : Acted) → P a → P (takes_changes a)
-  takes_changes_kept a h = on_both P a.controller.has_met (takes_each a a.controller.waiting) a (takes_each_kept a a.controller.waiting h) h
-
   pub change_comes_kept : (a : Acted) (change : RouteChange) → P a → P (change_comes a change)
-  change_comes_kept a change h =
-      let waits : Acted = record a { controller = record a.controller { waiting = a.controller.waiting ++ change ∷ [] } } in
-      takes_changes_kept waits (same a waits refl refl refl h)
-
-  -- *Meeting and answers*
-  asks_each_kept : (requests : List Request) (a : Acted) → P a → P (fold asks a requests)
-  asks_each_kept requests a h = fold_kept P asks asks_kept requests a h
-
-  meets_kept : (a : Acted) → P a → P (meets a)
-  meets_kept a h = asks_kept (with_desk a empty_desk) AllPorts (desk_kept a empty_desk h)
-
-  ends_meeting_kept : (a : Acted) → P a → P (ends_meeting a)
-  ends_meeting_kept a h = asks_each_kept (flat_map default_branches (up_ports a.controller)) (record a { controller = record a.controller { has_met = true } })
-      (same a (record a { controller = record a.controller { has_met = true } }) refl refl refl h)
-
-  -- *The adjacency with the switch*
-  answers_kept : (a : Acted) (answer : Answer (Said Party) Party) → P a → P (answers a (gsmp_answer answer))
-  answers_kept a Quiet h = h
-  answers_kept a (Send m) h = k.told a (messages.Adjacency (greeting_of m)) h
-  answers_kept a (Open None own) h = meets_kept a h
-  answers_kept a (Open (Some m) own) h = meets_kept (says_gsmp a (messages.Adjacency (greeting_of m))) (k.told a (messages.Adjacency (greeting_of m)) h)
-  answers_kept a Reset h = node_kept a h
-
-  steps_kept : (a : Acted) (step : sides.Step Party) → P a → P (steps a step)
-  steps_kept a step h =
-      let turned : Acted = record a { controller = record a.controller { adjacency = step.side } } in
-      answers_kept turned step.answer (same a turned refl refl refl h)
+  change_comes_kept a change h = route_changes.change_comes_kept keeps takes_change_kept a change
+      (same a (record a { controller = record a.controller { waiting = a.controller.waiting ++ change ∷ [] } }) refl refl refl h)
 
   -- *Packets*: those of a label's channel are counted as its use, and others by their flows
   pub used_kept : (a : Acted) (port : PortNo) (label : ℕ) → P a → P (at_port a port (λ setup desk w. used w label))
-  used_kept a port label h = at_port_kept a port (λ setup desk w. used w label) (λ linked. used_calm Q port_notes (begins a linked) label tt) h
+  used_kept a port label h = controllers.used_kept keeps a port label h
 
   pub counted_kept : (a : Acted) (port : PortNo) (packet : List ℕ) → P a → P (counted_at a port packet)
-  counted_kept a port packet h = at_port_kept a port (λ setup desk w. counts setup desk w packet) (λ linked. counts_calm Q port_notes linked.setup a.controller.desk (begins a linked) packet tt) h
+  counted_kept a port packet h = controllers.counted_kept keeps a port packet h
 
   -- *Where labels are bound*
   module _ (binds : AllowsBinding Q) where
-    tells_kept : (a : Acted) (request : Request) (o : Option PortNo) → P a → P (tells_port a request o)
-    tells_kept a request None h = h
-    tells_kept a request (Some port) h = at_port_kept a port (λ setup desk w. port_answers.done setup w request) (λ linked. done_calm Q port_notes binds linked.setup a.controller.desk (begins a linked) request tt) h
-
-    behind_kept : (a : Acted) (port : PortNo) → P a → P (behind_delete_all a port)
-    behind_kept a port h = on_both P a.controller.has_met (asks a (AddBranch (default_end port) (default_home port))) (if has_emptied a.controller then ends_meeting a else a)
-        (asks_kept a (AddBranch (default_end port) (default_home port)) h)
-        (on_both P (has_emptied a.controller) (ends_meeting a) a (ends_meeting_kept a h) h)
-
-    causes_kept : (a : Acted) (request : Request) → P a → P (causes a request)
-    causes_kept a request h = on_both P (is_estab a.controller.adjacency.state) (causes_in_estab a request) a (by_request request) h
-      where
-        by_request : (request : Request) → P (causes_in_estab a request)
-        by_request (DeleteAll port) = behind_kept a port h
-        by_request (AddBranch input output) = tells_kept a (AddBranch input output) (port_of (AddBranch input output)) h
-        by_request (MoveBranch input from to) = tells_kept a (MoveBranch input from to) (port_of (MoveBranch input from to)) h
-        by_request (DeleteTree input) = tells_kept a (DeleteTree input) (port_of (DeleteTree input)) h
-        by_request (VerifyTree input) = tells_kept a (VerifyTree input) (port_of (VerifyTree input)) h
-        by_request (PortManagement port function) = tells_kept a (PortManagement port function) (port_of (PortManagement port function)) h
-        by_request AllPorts = tells_kept a AllPorts (port_of AllPorts) h
-
-    clears_kept : (a : Acted) (port : PortNo) → P a → P (clears_port a port)
-    clears_kept a port h = by_found (linked_at a.controller port)
-      where
-        by_found : (o : Option Linked) → P (clears_of a o)
-        by_found None = h
-        by_found (Some linked) = on_both P (may_clear a.controller linked) (with_linked a (record linked { port = cleared linked.port })) a (same a (with_linked a (record linked { port = cleared linked.port })) refl refl refl h) h
-
-    done_kept : (a : Acted) (request : Request) → P a → P (done a request)
-    done_kept a request h =
-        let caused : Acted = causes (releases a request) request in
-        takes_changes_kept (clears caused) (fold_kept P clears_port clears_kept (ports_of caused.controller) caused (causes_kept (releases a request) request (releases_kept a request h)))
-
-    answer_kept : (a : Acted) (message : Message) → P a → P (answer_comes a message)
-    answer_kept a message h = by_answer (answered a.controller.desk message)
-      where
-        by_answer : (answer : Answered) → P (takes_answer a answer)
-        by_answer Unknown = desk_kept a (after_answer a.controller.desk Unknown) h
-        by_answer (Done s) = done_kept (with_desk a (after_answer a.controller.desk (Done s))) s.request (desk_kept a (after_answer a.controller.desk (Done s)) h)
-        by_answer (Ports s rows) = (let b : Acted = with_desk a (after_answer a.controller.desk (Ports s rows)) in asks_each_kept (map DeleteAll (record { 0 = 0 } ∷ up_ports b.controller)) b (desk_kept a (after_answer a.controller.desk (Ports s rows)) h))
-        by_answer (Failed s code) = node_kept (with_desk a (after_answer a.controller.desk (Failed s code))) (desk_kept a (after_answer a.controller.desk (Failed s code)) h)
-
     pub ifmp_holds_kept : (a : Acted) (port : PortNo) (packet octets : List ℕ) (r : Result IfmpMessage IfmpFault) → ifmp_decoded octets ≡ r → P a → P (ifmp_holds a port packet r)
     ifmp_holds_kept a port packet octets (Err fault) is h = k.noted a (Bad a.controller.node layers.Ifmp (ifmp_refusal fault)) (may _ refl refl) h
-    ifmp_holds_kept a port packet octets (Ok message) is h = at_port_kept a port (λ setup desk w. hears setup desk w (source_of packet) message)
-        (λ linked. hears_calm Q port_notes binds linked.setup a.controller.desk (begins a linked) (source_of packet) message refl (decoded_lives octets message is) tt) h
-
-    told_kept : (a : Acted) (message : Message) → P a → P (told a message)
-    told_kept a (messages.Adjacency greeting) h = steps_kept a (gsmp_received a.controller.adjacency greeting) h
-    told_kept a (messages.Branch kind result code number session input_port input output_port output branches priority) h =
-        answer_kept a (messages.Branch kind result code number session input_port input output_port output branches priority) h
-    told_kept a (messages.Move result code number session input_port input output_port output target_port target branches priority) h =
-        answer_kept a (messages.Move result code number session input_port input output_port output target_port target branches priority) h
-    told_kept a (messages.Port result code number port session function) h = answer_kept a (messages.Port result code number port session function) h
-    told_kept a (messages.AllPorts result code number rows) h = answer_kept a (messages.AllPorts result code number rows) h
+    ifmp_holds_kept a port packet octets (Ok message) is h = ifmp_kept keeps binds a port packet message (decoded_lives octets message is) h
 
     pub gsmp_holds_kept : (a : Acted) (r : Result Message GsmpFault) → P a → P (gsmp_holds a r)
     gsmp_holds_kept a (Err fault) h = k.noted a (Bad a.controller.node layers.Gsmp (gsmp_refusal fault)) (may _ refl refl) h
-    gsmp_holds_kept a (Ok message) h = told_kept a message h
+    gsmp_holds_kept a (Ok message) h = route_changes.told_kept keeps takes_change_kept binds (λ b answer kept. same b (with_desk b (after_answer b.controller.desk answer)) refl refl refl kept) a message
+        (λ greeting is. same a (record a { controller = record a.controller { adjacency = (gsmp_received a.controller.adjacency greeting).side } }) refl refl refl h) h
 
     -- *Tick*
-    again_kept : (a : Acted) → P a → P (sends_again a)
-    again_kept a h = on_both P (is_estab a.controller.adjacency.state) (fold sends_request a (sent_again a.controller.desk)) a (fold_kept P sends_request request_kept (sent_again a.controller.desk) a h) h
-
-    ticks_port_kept : (a : Acted) (port : PortNo) → P a → P (ticks_port a port)
-    ticks_port_kept a port h = at_port_kept a port port_ticks.ticks (λ linked. ticks_calm Q port_notes binds linked.setup a.controller.desk (begins a linked) refl tt) h
-
-    ticks_on_kept : (a : Acted) (step : sides.Step Party) → P a → P (tries_joins (ticks_ports (sends_again (steps a step))))
-    ticks_on_kept a step h =
-        let again : Acted = sends_again (steps a step) in
-        tries_joins_kept P asks_kept enters_grant_kept enters_label_kept (ticks_ports again) (fold_kept P ticks_port ticks_port_kept (ports_of again.controller) again (again_kept (steps a step) (steps_kept a step h)))
-
-    ticks_by_kept : (a : Acted) (step : sides.Step Party) (answer : Answer (Said Party) Party) → P a → P (ticks_by a step answer)
-    ticks_by_kept a step Quiet h = ticks_on_kept a step h
-    ticks_by_kept a step (Send m) h = ticks_on_kept a step h
-    ticks_by_kept a step (Open m own) h = ticks_on_kept a step h
-    ticks_by_kept a step Reset h = node_kept a h
-
     pub ticks_kept : (a : Acted) → P a → P (ticks a)
-    ticks_kept a h = ticks_by_kept a (ticked a.controller.adjacency) (ticked a.controller.adjacency).answer h
+    ticks_kept a h = controllers.ticks_kept keeps binds a (same a (record a { controller = record a.controller { adjacency = (ticked a.controller.adjacency).side } }) refl refl refl h) h

@@ -1,23 +1,15 @@
 -- a cell that comes to a controller is entered as unbound exactly where nobody takes its channel, and as finding no slot where
 -- its chain needs one and none is free
 
-use Rattle.std.proofs.Common.{◌≡◌, ◌∙◌, ap, subst, append-nil, sym, ℕ, List, [], ◌∷◌, map, drop, Option, None, Some, refl}
-use Rattle.std.specs.Prelude.{◌==◌, ◌+◌, nat_lt, option_map, if◌then◌else◌, Result, Ok, Err}
-use Rattle.world_model.specs.Words.{PortNo, Mark, Cell, protocol_of, PacketFault, RouteChange, default_unwrapped, unwrapped, EncapsFault, Request, gsmp_received, Bad, Loss, Unbound, encaps_refusal, packet_refusal, gsmp_refusal, Tested, tested, last_mark, Reassembly, Answered, Unknown, Done, Ports, Failed, answered, after_answer, Label, Linked, with_desk, begins_change, takes_change, may_take, takes_each, takes_changes, releases, up_ports, causes, clears, takes_answer, answer_comes, gsmp_holds, routes, control_protocol, ForGsmp, ForDefault, ForLabel, taker_of, reassembly_of, with_reassembly, label_holds, ifmp_holds, counted_at, packet_holds, default_holds, frame_holds, takes_cell, Entry, Routes, Journal, noted}
-use Rattle.world_model.specs.ipv4_packet.Packet.{first_fault}
-use Rattle.world_model.specs.ifmp_wire.Fields.{decoded as ifmp_decoded}
-use Rattle.world_model.specs.gsmp_wire.Fields.{decoded as gsmp_decoded}
-use Rattle.world_model.specs.gsmp_wire.declared.fault.Fault.{Fault as GsmpFault}
-use Rattle.world_model.specs.gsmp_wire.declared.request.Request.TheVariants.{DeleteAll}
-use Rattle.world_model.specs.gsmp_wire.declared.message.Message.{Message}
-use Rattle.world_model.specs.gsmp_wire.declared.message.Message.TheVariants as messages
-use Rattle.world_model.specs.link_model.declared.record.Layer.TheVariants as layers
+use Rattle.std.proofs.Common.{◌≡◌, ◌∙◌, ap, subst, append-nil, sym, List, [], ◌∷◌, Option, None, Some, refl}
+use Rattle.std.specs.Prelude.{◌+◌, nat_lt, option_map, if◌then◌else◌}
+use Rattle.world_model.specs.Words.{Cell, RouteChange, Loss, Unbound, tested, Reassembly, takes_change, takes_changes, ForGsmp, ForDefault, ForLabel, taker_of, reassembly_of, with_reassembly, takes_cell, Entry, Routes, Journal, noted}
 use Rattle.world_model.specs.frame_model.Reassembly.{Taken, taken}
-use Rattle.causes.proofs.port_facts.Keyed.{on_both}
+use Rattle.causes.proofs.controller_facts.Lifetimes.{decoded_lives}
 use Rattle.world_model.specs.Controller.{Acted, free_slots, note}
-use Rattle.world_model.specs.Meeting.{done}
-use Rattle.world_model.specs.Gsmp.{told}
-use Rattle.world_model.specs.Cells.{Taker, opened_frame, ends_frame, cell_comes}
+use Rattle.world_model.specs.Cells.{Taker, ends_frame, cell_comes}
+use Rattle.rule_walks.proofs.Changes as route_changes
+use Rattle.rule_walks.proofs.Cells as frames
 use Rattle.true_losses.specs.Way.{at_taker}
 use Rattle.true_losses.proofs.Notes.{Counts, noted_more, taken_told, taken_frames, tested_kept, tested_frames}
 use Rattle.true_losses.specs.Cut.{Holder, same_holder, holder_of}
@@ -25,91 +17,25 @@ use Rattle.true_losses.proofs.Sent.{Sends, sends_none, sends_still}
 use Rattle.true_losses.proofs.Cutting.{CutsOf, cuts_in, cuts_other, cuts_none, cuts_as, cuts_of, ended_cuts, kept_cuts, taken_cuts, tested_cuts}
 use Rattle.true_losses.proofs.Chains.{chains, OwnTaker, own_taker, taker_set, EndsOr, goes_on, has_ended, ends_or}
 use Rattle.true_losses.proofs.Steps.{Base, base_of, Holds, Sent, noted_kept}
-use Rattle.true_losses.proofs.Walk.{desk_kept, node_kept, asks_each_kept, begins_change_kept, releases_kept, causes_kept, clears_kept, steps_kept, routes_kept, used_kept, counted_kept, heard_kept}
+use Rattle.true_losses.proofs.Walk.{keeps, forwards}
 
 module _ (e x : List Entry) (base : Base) where
   abbrev P : Acted → Type 0
   P a = Sent e x base a
 
-  -- *Changes of routes*
-  each_kept : (changes : List RouteChange) (a : Acted) → P a → P (takes_each a changes)
-  each_kept [] a h = h
-  each_kept (change ∷ later) a h =
-      let begun : Acted = begins_change a change in
-      let b : P begun = begins_change_kept e x base a change h in
-      on_both P (may_take begun.controller change) (takes_each (takes_change begun change later) later) begun
-      (each_kept later (takes_change begun change later) (noted_kept e x base begun (Routes begun.controller.node (begun.controller.changes + 1)) refl b)) b
+  takes : (a : Acted) (change : RouteChange) (later : List RouteChange) → P a → P (takes_change a change later)
+  takes a change later h = noted_kept e x base a (Routes a.controller.node (a.controller.changes + 1)) refl h
 
   pub changes_kept : (a : Acted) → P a → P (takes_changes a)
-  changes_kept a h = on_both P a.controller.has_met (takes_each a a.controller.waiting) a (each_kept a.controller.waiting a h) h
-
-  -- *Answers*
-  done_kept : (a : Acted) (request : Request) → P a → P (done a request)
-  done_kept a request h =
-      let released : Acted = releases a request in
-      let caused : Acted = causes released request in
-      changes_kept (clears caused) (clears_kept e x base caused (causes_kept e x base released request (releases_kept e x base a request h)))
-
-  answer_kept : (a : Acted) (message : Message) → P a → P (answer_comes a message)
-  answer_kept a message h = by_answer (answered a.controller.desk message)
-    where
-      at_desk : (answer : Answered) → P (with_desk a (after_answer a.controller.desk answer))
-      at_desk answer = desk_kept e x base a (after_answer a.controller.desk answer) h
-
-      by_answer : (answer : Answered) → P (takes_answer a answer)
-      by_answer Unknown = at_desk Unknown
-      by_answer (Done s) = done_kept (with_desk a (after_answer a.controller.desk (Done s))) s.request (at_desk (Done s))
-      by_answer (Ports s rows) = (let b : Acted = with_desk a (after_answer a.controller.desk (Ports s rows)) in
-          asks_each_kept e x base (map DeleteAll (record { 0 = 0 } ∷ up_ports b.controller)) b (at_desk (Ports s rows)))
-      by_answer (Failed s code) = node_kept e x base (with_desk a (after_answer a.controller.desk (Failed s code))) (at_desk (Failed s code))
-
-  told_kept : (a : Acted) (message : Message) → P a → P (told a message)
-  told_kept a (messages.Adjacency greeting) h = steps_kept e x base a (gsmp_received a.controller.adjacency greeting) h
-  told_kept a (messages.Branch kind result code number session input_port input output_port output branches priority) h =
-      answer_kept a (messages.Branch kind result code number session input_port input output_port output branches priority) h
-  told_kept a (messages.Move result code number session input_port input output_port output target_port target branches priority) h =
-      answer_kept a (messages.Move result code number session input_port input output_port output target_port target branches priority) h
-  told_kept a (messages.Port result code number port session function) h = answer_kept a (messages.Port result code number port session function) h
-  told_kept a (messages.AllPorts result code number rows) h = answer_kept a (messages.AllPorts result code number rows) h
-
-  -- *What a frame holds*
-  gsmp_kept : (a : Acted) (r : Result Message GsmpFault) → P a → P (gsmp_holds a r)
-  gsmp_kept a (Ok message) h = told_kept a message h
-  gsmp_kept a (Err fault) h = noted_kept e x base a (Bad a.controller.node layers.Gsmp (gsmp_refusal fault)) refl h
-
-  label_kept : (a : Acted) (linked : Linked) (label : Label) (mark : Mark) (r : Result (List ℕ) EncapsFault) → P a → P (label_holds a linked label mark r)
-  label_kept a linked label mark (Err fault) h = noted_kept e x base a (Bad a.controller.node layers.Encaps (encaps_refusal fault)) refl h
-  label_kept a linked label mark (Ok packet) h = used_kept e x base (routes a mark packet) linked.setup.port label.number (routes_kept e x base a mark packet h)
-
-  packet_kept : (a : Acted) (port : PortNo) (mark : Mark) (packet : List ℕ) (o : Option PacketFault) → P a → P (packet_holds a port mark packet o)
-  packet_kept a port mark packet (Some fault) h = noted_kept e x base a (Bad a.controller.node layers.Packet (packet_refusal fault)) refl h
-  packet_kept a port mark packet None h = on_both P (protocol_of packet == control_protocol) (ifmp_holds a port packet (ifmp_decoded (drop 20 packet))) (counted_at (routes a mark packet) port packet)
-      (heard_kept e x base a port packet (drop 20 packet) (ifmp_decoded (drop 20 packet)) refl h)
-      (counted_kept e x base (routes a mark packet) port packet (routes_kept e x base a mark packet h))
-
-  default_kept : (a : Acted) (port : PortNo) (mark : Mark) (r : Result (List ℕ) EncapsFault) → P a → P (default_holds a port mark r)
-  default_kept a port mark (Err fault) h = noted_kept e x base a (Bad a.controller.node layers.Encaps (encaps_refusal fault)) refl h
-  default_kept a port mark (Ok packet) h = packet_kept a port mark packet (first_fault packet) h
-
-  frame_kept : (a : Acted) (taker : Taker) (mark : Mark) (payload : List ℕ) → P a → P (frame_holds a taker mark payload)
-  frame_kept a ForGsmp mark payload h = gsmp_kept a (gsmp_decoded payload) h
-  frame_kept a (ForDefault linked) mark payload h = default_kept a linked.setup.port mark (default_unwrapped payload) h
-  frame_kept a (ForLabel linked label) mark payload h = label_kept a linked label mark (unwrapped label.flow payload) h
-
-  opened_kept : (a : Acted) (taker : Taker) (mark : Mark) (o : Option (List ℕ)) → P a → P (opened_frame a taker mark o)
-  opened_kept a taker mark None h = h
-  opened_kept a taker mark (Some payload) h = frame_kept a taker mark payload h
+  changes_kept a h = route_changes.takes_changes_kept (keeps e x base) (λ b change later waits. takes b change later) a h
 
   ends_kept : (a : Acted) (taker : Taker) (cells : List Cell) → P a → P (ends_frame a taker cells)
-  ends_kept a taker [] h = h
-  ends_kept a taker (cell ∷ cells) h =
-      let test : Tested = tested a.notes (cell ∷ cells) in
-      let b : Acted = record a { notes = test.notes } in
-      opened_kept b taker (last_mark (cell ∷ cells)) test.payload
-      (record {
-        sends = sends_still e x base.frames a.notes test.notes (Holds base a.controller.queue) (λ told. tested_kept e told a.notes (cell ∷ cells)) (tested_frames a.notes (cell ∷ cells)) h.sends;
-        cuts = cuts_as (chains base.reassembly base.ports) (chains a.controller.reassembly a.controller.ports) (chains a.controller.reassembly a.controller.ports) a.notes test.notes (tested_cuts a.notes (cell ∷ cells)) (λ k. refl) h.cuts;
-      })
+  ends_kept a taker cells h = frames.ends_kept (forwards e x base) (keeps e x base) tt decoded_lives
+      (λ b message k. route_changes.told_kept (keeps e x base) (λ c change later waits. takes c change later) tt (λ c answer kept. kept) b message (λ greeting is. k) k)
+      (λ b ended k. record {
+        sends = sends_still e x base.frames b.notes (tested b.notes ended).notes (Holds base b.controller.queue) (λ told. tested_kept e told b.notes ended) (tested_frames b.notes ended) k.sends;
+        cuts = cuts_as (chains base.reassembly base.ports) (chains b.controller.reassembly b.controller.ports) (chains b.controller.reassembly b.controller.ports) b.notes (tested b.notes ended).notes (tested_cuts b.notes ended) (λ holder. refl) k.cuts;
+      }) a taker cells h
 
 -- *What was sent and cut* since a rule began
 abbrev pub all_chains : Acted → Holder → List Cell

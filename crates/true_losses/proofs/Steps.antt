@@ -1,14 +1,13 @@
 -- what a controller does to its queue and its chains, step by step: frames are sent, and chains are cut
 
-use Rattle.std.proofs.Common.{◌≡◌, ◌++◌, ◌∙◌, ap, sym, subst, filter, [], append-nil, append_assoc, ℕ, List, length, Option, None, Some, refl, if◌then◌else◌}
+use Rattle.std.proofs.Common.{◌≡◌, ◌++◌, ◌∙◌, ap, sym, filter, [], append-nil, append_assoc, ℕ, List, length, Some, refl, if◌then◌else◌}
 use Rattle.std.specs.Prelude.{nat_le}
-use Rattle.world_model.specs.Words.{PortNo, Channel, Mark, Record, Loss, PoolFull, noted, frame_cells, made, Reassembly, cut, Frame, Cell, Controller, Linked, linked_at, with_linked, chain_of, cuts_of, cuts_label, cuts_default_of, cuts_default, cuts_gsmp, Entry, at, put, Journal, nothing_taken, port_key, chains_with}
+use Rattle.world_model.specs.Words.{Channel, Mark, Record, Loss, PoolFull, noted, frame_cells, made, Reassembly, cut, Frame, Cell, Controller, Linked, with_linked, chain_of, cuts_of, cuts_default_of, cuts_gsmp, Entry, at, put, Journal, nothing_taken, port_key, chains_with}
 use Rattle.world_model.specs.frame_model.Sending as frames
 use Rattle.causes.proofs.port_facts.Keyed.{on_both}
 use Rattle.world_model.specs.Controller.{Acted, free_slots, note}
 use Rattle.world_model.specs.Sending.{with_cells, sends}
 use Rattle.world_model.specs.port_model.Port.{Port}
-use Rattle.world_model.proofs.Lists.{at_key}
 use Rattle.true_losses.specs.Cut.{Holder, OfGsmp, OfDefault, OfLabel, same_holder, is_of_cut}
 use Rattle.true_losses.proofs.Notes.{IsOther, other_elsewhere, Counts, cut_kept, cut_frames}
 use Rattle.true_losses.proofs.Cutting.{Cuts, cuts_in, cuts_other, cuts_none, cuts_as, cuts_more}
@@ -44,11 +43,8 @@ begins_with e a h none = record {
 }
 
 -- a port that the controller has
-abbrev pub Own : Acted → Linked → Type 0
+abbrev Own : Acted → Linked → Type 0
 Own a linked = at port_key (port_key linked) a.controller.ports ≡ Some linked
-
-pub own_at : (a : Acted) (port : PortNo) (linked : Linked) → linked_at a.controller port ≡ Some linked → Own a linked
-own_at a port linked found = subst (λ (n : ℕ). at port_key n a.controller.ports ≡ Some linked) (sym (at_key port_key port.0 a.controller.ports linked found)) found
 
 module _ (e x : List Entry) (base : Base) where
   abbrev P : Acted → Type 0
@@ -102,27 +98,13 @@ module _ (e x : List Entry) (base : Base) where
       still more same = cuts_as begun (chains a.controller.reassembly a.controller.ports) (chains a.controller.reassembly a.controller.ports) a.notes more same (λ k. refl) h.cuts
 
   -- *A chain is cut*
-  pub cut_label : (port : PortNo) (a : Acted) (label : ℕ) → P a → P (cuts_label port a label)
-  cut_label port a label h = by_found (linked_at a.controller port) refl
-    where
-      by_found : (o : Option Linked) → linked_at a.controller port ≡ o → P (cuts_of a label o)
-      by_found None found = h
-      by_found (Some linked) found =
-          let new : Linked = record linked { chains = chains_with linked.chains label nothing_taken } in
-          chain_cut a (OfLabel linked.setup.port label) (chain_of linked.chains label) a.controller.reassembly (put port_key new a.controller.ports)
-          (label_chain a.controller.reassembly a.controller.ports linked (own_at a port linked found) label)
-          (label_emptied a.controller.reassembly a.controller.ports linked (own_at a port linked found) label) h
+  pub label_cut : (a : Acted) (linked : Linked) (label : ℕ) → Own a linked → P a → P (cuts_of a label (Some linked))
+  label_cut a linked label own h = chain_cut a (OfLabel linked.setup.port label) (chain_of linked.chains label) a.controller.reassembly (put port_key (record linked { chains = chains_with linked.chains label nothing_taken }) a.controller.ports)
+      (label_chain a.controller.reassembly a.controller.ports linked own label) (label_emptied a.controller.reassembly a.controller.ports linked own label) h
 
-  pub cut_default : (a : Acted) (port : PortNo) → P a → P (cuts_default a port)
-  cut_default a port h = by_found (linked_at a.controller port) refl
-    where
-      by_found : (o : Option Linked) → linked_at a.controller port ≡ o → P (cuts_default_of a o)
-      by_found None found = h
-      by_found (Some linked) found =
-          let new : Linked = record linked { reassembly = nothing_taken } in
-          chain_cut a (OfDefault linked.setup.port) linked.reassembly a.controller.reassembly (put port_key new a.controller.ports)
-          (default_chain a.controller.reassembly a.controller.ports linked (own_at a port linked found))
-          (default_emptied a.controller.reassembly a.controller.ports linked (own_at a port linked found)) h
+  pub default_cut : (a : Acted) (linked : Linked) → Own a linked → P a → P (cuts_default_of a (Some linked))
+  default_cut a linked own h = chain_cut a (OfDefault linked.setup.port) linked.reassembly a.controller.reassembly (put port_key (record linked { reassembly = nothing_taken }) a.controller.ports)
+      (default_chain a.controller.reassembly a.controller.ports linked own) (default_emptied a.controller.reassembly a.controller.ports linked own) h
 
   pub cut_gsmp : (a : Acted) → P a → P (cuts_gsmp a)
   cut_gsmp a h = chain_cut a OfGsmp a.controller.reassembly nothing_taken a.controller.ports refl (gsmp_emptied a.controller.reassembly a.controller.ports) h
