@@ -8,7 +8,8 @@ use crate::crc::crc32;
 use crate::segmentation::MAX_FRAME;
 use thiserror::Error;
 
-/// Why [`check_pdu`] refuses octets.
+/// An error of [`check_pdu`]: the first test that octets fail which aren't a CPCS-PDU (I.363.5
+/// 9.2). Its greatest size, 1536 octets, is this project's own.
 #[derive(Clone, Copy, Debug, PartialEq, Eq, Error)]
 pub enum FrameFault {
     /// There are none.

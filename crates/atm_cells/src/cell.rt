@@ -2,7 +2,8 @@
 
 use net_types::{Channel, Mark};
 
-/// What a cell's header says.
+/// An ATM cell header (I.361 2.2), as far as it differs from cell to cell: the virtual channel, and
+/// whether the Payload Type marks the last cell of a frame.
 #[derive(Clone, Copy, Debug, PartialEq, Eq)]
 pub struct Header {
     /// The virtual channel that the cell is on.
@@ -11,7 +12,8 @@ pub struct Header {
     pub last: bool,
 }
 
-/// A cell with the mark of the frame that it belongs to.
+/// An ATM cell (I.361): its header and 48 octets of payload, and beside them the mark of the
+/// frame that it belongs to, which is this project's own.
 #[derive(Clone, Copy, Debug, PartialEq, Eq)]
 pub struct Cell {
     /// Its header.

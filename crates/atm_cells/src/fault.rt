@@ -2,7 +2,8 @@
 
 use thiserror::Error;
 
-/// Why [`decode`](crate::decode) refuses 53 octets.
+/// An error of [`decode`](crate::decode): the first test that 53 octets fail which aren't a cell
+/// that is taken here (I.361 2.2, I.432.1 4.3.2).
 #[derive(Clone, Copy, Debug, PartialEq, Eq, Error)]
 pub enum CellFault {
     /// The fifth octet isn't the HEC of the four before it.

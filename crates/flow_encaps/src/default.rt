@@ -13,7 +13,8 @@ ghost use Rattle.flow_encaps.specs.Default.{default_payload, default_fault};
 
 use thiserror::Error;
 
-/// Why a payload isn't taken apart.
+/// A decapsulation error: the first test that the payload of a frame fails, of the default
+/// encapsulation (RFC 1483 4.1) or of a flow's (after RFC 1954).
 #[derive(Clone, Copy, Debug, PartialEq, Eq, Error)]
 pub enum EncapsFault {
     /// The payload has fewer octets than its encapsulation's header.

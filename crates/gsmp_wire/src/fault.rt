@@ -2,7 +2,8 @@
 
 use thiserror::Error;
 
-/// Why `decode` refuses, in the order of its tests.
+/// An error of `decode`: the first test that octets fail which aren't a GSMP message, in the order
+/// of the tests, which are this project's own.
 #[derive(Clone, Copy, Debug, PartialEq, Eq, Error)]
 pub enum Fault {
     /// Under 12 octets.

@@ -6,7 +6,8 @@ use net_types::{Channel, Greeting};
 /// The LLC/SNAP header in front of a message: LLC AA AA 03, OUI 0, protocol 88 0C.
 pub(crate) const SNAP_HEADER: [u8; 8] = [0xAA, 0xAA, 0x03, 0x00, 0x00, 0x00, 0x88, 0x0C];
 
-/// Which of the four messages about one branch, or all branches, of an input.
+/// A connection management message type (RFC 1987, Connection Management Messages): which of the
+/// four messages about one branch, or all branches, of an input.
 #[derive(Clone, Copy, Debug, PartialEq, Eq)]
 pub enum BranchKind {
     /// Adds a branch from an input channel to an output channel.
@@ -55,8 +56,8 @@ pub(crate) struct Connection {
     pub priority: u8,
 }
 
-/// A GSMP message. `result` is 2 in a request, 3 in a success answer and 4 in a failure answer;
-/// `code` is the cause of a failure, and 0 in the others.
+/// A GSMP message (RFC 1987). `result` is 2 in a request, 3 in a success answer and 4 in a failure
+/// answer; `code` is the cause of a failure, and 0 in the others.
 #[derive(Debug, Drop)]
 pub enum Message {
     /// An adjacency message.

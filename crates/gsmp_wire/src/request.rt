@@ -2,8 +2,8 @@
 
 use net_types::{End, PortNo};
 
-/// A request to a switch (RFC 1987), as plain data: what a message asks, without the session, the
-/// transaction and the numbers that an answer fills in.
+/// A GSMP request message (RFC 1987) as plain data: what it asks of a switch, without the session,
+/// the transaction and the numbers that an answer fills in.
 #[derive(Clone, Copy, Debug, PartialEq, Eq)]
 pub enum Request {
     /// Makes a branch.

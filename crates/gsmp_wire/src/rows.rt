@@ -7,7 +7,7 @@ use std::marker::Model;
 /// The most records that an answer has: those of the control port and of eight others.
 const MOST_ROWS: usize = 9;
 
-/// The record of one port.
+/// A port record of an All Ports Configuration message (RFC 1987): what a switch tells of one port.
 #[derive(Clone, Copy, Debug, PartialEq, Eq)]
 pub struct PortRow {
     /// The port.
@@ -31,7 +31,8 @@ const BLANK: PortRow = PortRow {
     greatest: 0,
 };
 
-/// At most nine records, seen as their list. It takes no memory.
+/// The port records of an All Ports Configuration message (RFC 1987): at most nine, seen as their
+/// list. It takes no memory.
 #[derive(Debug, Drop)]
 pub struct PortRows {
     rows: [PortRow; MOST_ROWS],

@@ -3,7 +3,8 @@
 use ipv4_packet::FlowId;
 use net_types::{Channel, Hello, Instance};
 
-/// A message of the Ipsilon Flow Management Protocol.
+/// An IFMP message (RFC 1953): one of the adjacency protocol, or one of the redirection protocol.
+/// Op codes and layout are this project's own.
 #[derive(Clone, Copy, Debug, PartialEq, Eq)]
 pub enum Message {
     /// Sets an adjacency up, or keeps it.

@@ -14,7 +14,8 @@ use net_types::{Addr, Channel, Hello, HelloKind, Instance};
 use octet_fields::{u16_at, u32_at};
 use thiserror::Error;
 
-/// Why octets aren't a message.
+/// An error of decoding an IFMP message: the first test that octets fail which aren't one. The
+/// tests are this project's own.
 #[derive(Clone, Copy, Debug, PartialEq, Eq, Error)]
 pub enum Fault {
     /// Under 4 octets.

@@ -10,7 +10,8 @@ use crate::table::{Next, Route, holds, is_of, longer};
 use net_types::{Addr, Prefix};
 use thiserror::Error;
 
-/// A change of one route: its prefix gets this next, or goes where there is none.
+/// A routing table update (a change of a route): its prefix gets this next hop, or loses its route
+/// where there is none. This project's own.
 #[derive(Debug, Clone, Copy)]
 pub struct RouteChange {
     /// The prefix.
@@ -19,7 +20,7 @@ pub struct RouteChange {
     pub next: Option<Next>,
 }
 
-/// Why a change isn't made.
+/// An error of a routing table update: why a change of a route isn't made.
 #[derive(Clone, Copy, Debug, PartialEq, Eq, Error)]
 pub enum ChangeFault {
     /// The prefix isn't there, and 256 are.

@@ -2,7 +2,7 @@
 
 use net_types::PortNo;
 
-/// What a router does with a packet.
+/// A forwarding decision (a hop): what a router does with a packet (RFC 1812 5.2.1).
 #[derive(Clone, Copy, Debug, PartialEq, Eq)]
 pub enum Hop {
     /// It is the packet's destination.

@@ -8,7 +8,7 @@ use std::alloc::Global;
 use std::marker::Model;
 use thiserror::Error;
 
-/// Where the packets of a prefix go.
+/// A next hop: where the packets of a prefix go (RFC 1812 5.2.4).
 #[derive(Clone, Copy, Debug, PartialEq, Eq)]
 pub enum Next {
     /// This node is their destination.
@@ -17,7 +17,8 @@ pub enum Next {
     Via(PortNo),
 }
 
-/// A prefix with where its packets go.
+/// A route, one entry of a routing table: a prefix with the next hop of its packets (RFC 1812
+/// 5.2.4).
 #[derive(Clone, Copy, Debug, PartialEq, Eq)]
 pub struct Route {
     /// The addresses that the route is for.
@@ -26,7 +27,7 @@ pub struct Route {
     pub next: Next,
 }
 
-/// Why [`Table::add`] refuses.
+/// An error of [`Table::add`]: why a route isn't entered.
 #[derive(Clone, Copy, Debug, PartialEq, Eq, Error)]
 pub enum AddFault {
     /// The table has a route for this prefix.
@@ -37,7 +38,8 @@ pub enum AddFault {
     TableFull,
 }
 
-/// At most 256 routes, in the order in which they were added; no two have the same prefix.
+/// A routing table (RFC 1812 5.2.4): at most 256 routes, in the order in which they were added; no
+/// two have the same prefix. The limit is this project's own.
 #[derive(Debug, Drop)]
 pub struct Table {
     routes: Vec<Route>,

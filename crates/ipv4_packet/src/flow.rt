@@ -8,7 +8,7 @@ use crate::{destination, fragment, protocol, source, tos, ttl};
 use net_types::Addr;
 use octet_fields::u16_at;
 
-/// What a flow tells apart.
+/// A flow type (RFC 1953, Flow Type): by which fields of a packet a flow is told apart.
 #[derive(Clone, Copy, Debug, PartialEq, Eq, Hash)]
 pub enum FlowKind {
     /// The ends of a TCP or UDP connection: flow type 1.
@@ -17,7 +17,8 @@ pub enum FlowKind {
     Two,
 }
 
-/// The fields that the packets of one flow share on one link.
+/// A flow identifier (RFC 1953, Flow Identifier; RFC 1954): the fields that the packets of one flow
+/// share on one link. Its layout in octets is this project's own.
 #[derive(Clone, Copy, Debug, PartialEq, Eq, Hash)]
 pub enum FlowId {
     /// Between two ports of two hosts.

@@ -20,7 +20,8 @@ use net_types::Addr;
 use octet_fields::{put_octets, put_u16, put_u32, u16_at, u32_at};
 use thiserror::Error;
 
-/// Why octets don't identify a flow.
+/// An error of reading a flow identifier: the first test that octets fail which identify no flow.
+/// The tests are this project's own.
 #[derive(Clone, Copy, Debug, PartialEq, Eq, Error)]
 pub enum FlowFault {
     /// Not 16 octets for type 1, or 12 for type 2.

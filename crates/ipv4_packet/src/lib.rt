@@ -1,6 +1,6 @@
 //! IPv4 packets with a header of 20 octets: which octets are one, their fields, and the two writes
-//! that a router makes; and their flows: which packets go one way together, and the octets that name
-//! them in messages.
+//! that a router makes; and their flows: which packets are forwarded alike, and the flow
+//! identifiers that name them in messages.
 //!
 //! | Octets | Field (RFC 791 3.1) |
 //! |---|---|

@@ -8,7 +8,9 @@ use crate::checksum::internet_sum;
 use octet_fields::u16_at;
 use thiserror::Error;
 
-/// Why octets aren't a packet that a router takes.
+/// An IPv4 header validation error (RFC 1812 5.2.2): the first test that octets fail which aren't a
+/// packet that a router takes. That options and more than 1500 octets are refused is this project's
+/// own.
 #[derive(Clone, Copy, Debug, PartialEq, Eq, Error)]
 pub enum PacketFault {
     /// Under 20 octets.

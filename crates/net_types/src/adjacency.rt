@@ -3,7 +3,8 @@
 use crate::number::Instance;
 use crate::prefix::Addr;
 
-/// The four adjacency messages.
+/// The message type of an adjacency protocol message: SYN, SYNACK, RSTACK or ACK, an op code of
+/// IFMP and a Code of GSMP (RFC 1953, IFMP Adjacency Protocol; RFC 1987, Adjacency Protocol).
 #[derive(Clone, Copy, Debug, PartialEq, Eq)]
 pub enum HelloKind {
     /// Offers a first instance.
@@ -16,7 +17,8 @@ pub enum HelloKind {
     Ack,
 }
 
-/// An IFMP adjacency message.
+/// An IFMP adjacency protocol message (a hello): its type, the sender's instance, and what the
+/// sender knows and expects of its peer (RFC 1953, IFMP Adjacency Protocol).
 #[derive(Clone, Copy, Debug, PartialEq, Eq)]
 pub struct Hello {
     /// Which of the four.
@@ -31,7 +33,8 @@ pub struct Hello {
     pub next: u32,
 }
 
-/// A router at one end of a link (RFC 1953, IFMP Adjacency Protocol).
+/// An IFMP peer (a party): the router at one end of a link, by its instance and its IPv4 address
+/// (RFC 1953, Peer Instance and Peer Identity).
 #[derive(Clone, Copy, Debug, PartialEq, Eq)]
 pub struct Peer {
     /// The instance of its adjacency.
@@ -40,7 +43,8 @@ pub struct Peer {
     pub address: Addr,
 }
 
-/// One party of a GSMP adjacency.
+/// The sender or the receiver of a GSMP adjacency protocol message (a party): a controller or a
+/// switch, by its name, its port and its instance (RFC 1987, Adjacency Protocol).
 #[derive(Clone, Copy, Debug, PartialEq, Eq)]
 pub struct Party {
     /// Its name, as an Ethernet address.
@@ -51,7 +55,8 @@ pub struct Party {
     pub instance: Instance,
 }
 
-/// A GSMP adjacency message.
+/// A GSMP adjacency protocol message (a greeting): its type, the party that sends it, and the party
+/// that it is for (RFC 1987, Adjacency Protocol).
 #[derive(Clone, Copy, Debug, PartialEq, Eq)]
 pub struct Greeting {
     /// Which of the four.

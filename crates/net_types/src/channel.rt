@@ -5,7 +5,8 @@ ghost use Rattle.net_types.specs.Channel.{channel_on_control};
 
 use crate::node::PortNo;
 
-/// A virtual channel of one link: VPI (0 to 255 in a cell at the UNI) and VCI.
+/// A virtual channel of one link (I.361 2.2): its VPI, 0 to 255 in a cell at the user-network
+/// interface, and its VCI of 16 bits.
 #[derive(Clone, Copy, Debug, PartialEq, Eq, Hash)]
 pub struct Channel {
     /// Virtual path identifier.
@@ -14,7 +15,8 @@ pub struct Channel {
     pub vci: u16,
 }
 
-/// A channel of one port of a switch.
+/// An input or an output of a connection through a switch (an end): a port and a virtual channel of
+/// it (RFC 1987, Connection Management Messages).
 #[derive(Clone, Copy, Debug, PartialEq, Eq, Hash)]
 pub struct End {
     /// The port.

@@ -1,5 +1,6 @@
-//! The values that every other crate speaks in: addresses and prefixes, nodes and ports, ATM
-//! channels, marks of frames, instances of adjacencies, and the greetings that two ends exchange.
+//! Addresses and prefixes, port numbers, virtual channels, instance numbers and adjacency protocol
+//! messages of an IP switch, with the numbers of nodes and the marks of frames: the values that
+//! every other crate speaks in.
 #![tactic(auto)]
 
 mod adjacency;

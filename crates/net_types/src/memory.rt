@@ -2,8 +2,8 @@
 
 use std::alloc::{AllocError, AllocFailed};
 
-/// No memory was there for what a call had to keep. It hands on what an allocator answered, and is
-/// made of nothing else. Each call says what it leaves.
+/// An out-of-memory error (want of memory): no memory was there for what a call had to keep. It
+/// hands on what an allocator answered, and is made of nothing else. Each call says what it leaves.
 #[derive(Clone, Copy, Debug, PartialEq, Eq)]
 pub struct OutOfMemory(AllocError);
 

@@ -1,14 +1,17 @@
 //! Nodes, ports and the queues between them.
 
-/// A node by its place in the script: `NodeId(i)` is that of the i-th `node` line, counted from 1.
+/// An IP switch of a network (a node), by its number: `NodeId(i)` is that of the i-th `node` line,
+/// counted from 1. This project's own.
 #[derive(Clone, Copy, Debug, PartialEq, Eq, Hash)]
 pub struct NodeId(pub u8);
 
-/// A port of a node: 0 is the control port, 1 to 8 are those that a link can name.
+/// A port number of a node's ATM switch (RFC 1987, Port): 0 is the control port, to which the
+/// controller is connected, and 1 to 8 are those that a link can name.
 #[derive(Clone, Copy, Debug, PartialEq, Eq, Hash)]
 pub struct PortNo(pub u8);
 
-/// A queue of cells.
+/// An output queue of cells in a network (a place), by the node and the side where it begins. This
+/// project's own.
 #[derive(Clone, Copy, Debug, PartialEq, Eq)]
 pub enum Place {
     /// From a node's controller to its switch.

@@ -4,11 +4,13 @@ ghost use Rattle.std.specs.Prelude.{◌≡◌, ◌-◌, ◌^◌, ◌<◌};
 
 use std::marker::Model;
 
-/// The instance of one end of an adjacency (RFC 1987, RFC 1953).
+/// An instance number of one end of an adjacency, of 32 bits: another one at each new beginning
+/// (RFC 1953 and RFC 1987, Sender Instance).
 #[derive(Clone, Copy, Debug, PartialEq, Eq, Hash)]
 pub struct Instance(pub u32);
 
-/// Which frame a cell belongs to. Marks stand beside the cells of a run; no octet on a link has one.
+/// A frame identifier for reports alone (a mark): which frame a cell belongs to. Marks stand beside
+/// the cells of a run; no octet on a link has one. This project's own.
 #[derive(Clone, Copy, Debug, PartialEq, Eq, Hash)]
 pub struct Mark {
     /// The packet, counted from 1 over the `send` lines; 0 for a control frame.
@@ -18,7 +20,8 @@ pub struct Mark {
     pub frame: u64,
 }
 
-/// The instances and the marks of control frames that a run has given out so far.
+/// A generator of identifiers: how many instance numbers, and how many marks of control frames, a
+/// run has given out so far. This project's own.
 #[derive(Debug, Drop)]
 pub struct Numbers {
     instances: u32,

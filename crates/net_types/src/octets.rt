@@ -4,8 +4,8 @@ ghost use Rattle.std.specs.Prelude.{◌≡◌, ℕ, List};
 
 use std::marker::Model;
 
-/// A list of octets, seen in contracts as that list. It is made from a `Vec` and gives it back
-/// without taking memory.
+/// A byte vector, seen in contracts as the list of its octets. It is made from a `Vec` and gives it
+/// back without taking memory.
 #[derive(Debug, Drop)]
 pub struct Octets {
     octets: Vec<u8>,

@@ -4,11 +4,11 @@ ghost use Rattle.std.specs.Prelude.{◌≡◌, ◌≢◌, ◌-◌, ◌^◌, ◌%
 
 use std::marker::Model;
 
-/// An IPv4 address as the number of its 32 bits, the first octet highest.
+/// An IPv4 address (RFC 791 3.1) as the number of its 32 bits, the first octet highest.
 #[derive(Clone, Copy, Debug, PartialEq, Eq, Hash)]
 pub struct Addr(pub u32);
 
-/// Why [`Prefix::new`] refuses.
+/// An error of [`Prefix::new`]: why an address and a length in bits make no prefix.
 #[derive(Clone, Copy, Debug, PartialEq, Eq)]
 pub enum PrefixFault {
     /// The length is above 32 bits.
@@ -17,7 +17,8 @@ pub enum PrefixFault {
     HostBits,
 }
 
-/// The addresses whose first `len` bits are those of `addr`, which has no bit set past them.
+/// An IPv4 prefix (RFC 4632 3.1): the addresses whose first `len` bits, 0 to 32, are those of
+/// `addr`, which has no bit set past them.
 #[derive(Clone, Copy, Debug, PartialEq, Eq)]
 pub struct Prefix {
     addr: Addr,

@@ -1,5 +1,5 @@
-//! Numbers of 16 and 32 bits among octets, the first octet highest (RFC 791, appendix B), and copies
-//! of octets from a place on.
+//! Reading and writing big-endian integers of 16 and 32 bits among octets, the first octet highest
+//! (RFC 791, appendix B), and copies of octets from an index on.
 #![tactic(auto)]
 
 ghost use Rattle.std.specs.Prelude.{◌≡◌, ◌+◌, ◌≤◌, length};

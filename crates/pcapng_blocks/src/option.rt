@@ -10,7 +10,7 @@ use net_types::OutOfMemory;
 /// The most octets of a value.
 const MOST_OCTETS: usize = 65_535;
 
-/// What an option tells.
+/// An option code of pcapng (draft-ietf-opsawg-pcapng): what an option of a block tells.
 #[derive(Clone, Copy, Debug, PartialEq, Eq)]
 pub enum OptionCode {
     /// A text on the block.
