@@ -11,8 +11,8 @@ use std::marker::Model;
 /// The greatest number of ticks in a row that a side in Estab hears nothing.
 const SILENCE_LIMIT: u8 = 3;
 
-/// One side of an adjacency between parties `P` (RFC 1987, Adjacency Protocol; RFC 1953, IFMP
-/// Adjacency Protocol).
+/// The adjacency protocol state machine: one side of an adjacency between parties `P` (RFC 1987,
+/// Adjacency Protocol; RFC 1953, IFMP Adjacency Protocol).
 #[derive(Debug, Drop)]
 pub struct Adjacency<P> {
     state: State,

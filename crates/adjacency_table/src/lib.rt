@@ -1,9 +1,10 @@
-//! The adjacency table that IFMP and GSMP share: what one side does at a message of its peer and
-//! at a tick. The table stands in `specs/Table.antt`, and what it makes of a side in
-//! `specs/Side.antt`; [`Adjacency`] is proved to follow both for parties of any kind, and the two
-//! protocols' adjacencies are this one at their own parties (`specs/Hello.antt`, `specs/Greeting.antt`).
-//! `specs/Instances.antt` is a side seen by instances alone, on which laws of whole runs stand;
-//! [`received_by_instances`] and [`ticked_by_instances`] say that such a side is one of the table.
+//! The adjacency protocol that IFMP and GSMP share (RFC 1953, RFC 1987), as a table: what one side
+//! does at a message of its peer and at a tick. The table stands in `specs/Table.antt`, and what it
+//! makes of a side in `specs/Side.antt`; [`Adjacency`] is proved to follow both for parties of any
+//! kind, and the two protocols' adjacencies are this one at their own parties (`specs/Hello.antt`,
+//! `specs/Greeting.antt`). `specs/Instances.antt` is a side seen by instances alone, on which laws
+//! of whole runs stand; [`received_by_instances`] and [`ticked_by_instances`] say that such a side
+//! is one of the table.
 #![tactic(auto)]
 
 ghost use Rattle.adjacency_table.specs.Ends.{router, entity, IfmpIsReceivedByInstances, GsmpIsReceivedByInstances, IsTickedByInstances};
@@ -16,7 +17,8 @@ mod message;
 pub use adjacency::Adjacency;
 pub use message::{Answer, Heard, Said};
 
-/// The state of one side of an adjacency.
+/// The adjacency protocol state of one side (RFC 1987, Adjacency Protocol; RFC 1953, IFMP Adjacency
+/// Protocol); `Clearing` is this project's own.
 #[derive(Clone, Copy, Debug, PartialEq, Eq)]
 pub enum State {
     /// Waits until its port is cleared; hears and says nothing. This project's own.

@@ -2,7 +2,8 @@
 
 use net_types::HelloKind;
 
-/// A message that comes to a side.
+/// A received adjacency protocol message: its type and both parties, as it names them (RFC 1987,
+/// Adjacency Protocol).
 #[derive(Clone, Copy, Debug, PartialEq, Eq)]
 pub struct Heard<P> {
     /// Which of the four.
@@ -13,7 +14,8 @@ pub struct Heard<P> {
     pub receiver: P,
 }
 
-/// A message that a side sends.
+/// A sent adjacency protocol message: its type and the parties that it names (RFC 1987, Adjacency
+/// Protocol).
 #[derive(Clone, Copy, Debug, PartialEq, Eq)]
 pub struct Said<P> {
     /// Which of the four.
@@ -24,8 +26,8 @@ pub struct Said<P> {
     pub receiver: Option<P>,
 }
 
-/// What a side answers to a message or a tick: messages `M`, and `K` for what it hands out on
-/// entering Estab.
+/// The action of an adjacency protocol state machine (an answer): what a side does at a message or
+/// a tick, with messages `M`, and `K` for what it hands out on entering Estab. This project's own.
 #[derive(Clone, Copy, Debug, PartialEq, Eq)]
 pub enum Answer<M, K> {
     /// Nothing.

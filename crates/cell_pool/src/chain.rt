@@ -12,7 +12,8 @@ use std::marker::Model;
 /// The most cells that a chain holds: those of the longest AAL5 frame in use, 1,536 octets.
 pub const CHAIN_CELLS: usize = 32;
 
-/// At most 32 slots of one region in order. It takes no memory, and it must be drained.
+/// A reassembly buffer (a chain): at most 32 slots of one region, in order, for the cells of one
+/// CPCS-PDU (I.363.5). It takes no memory, and it must be drained.
 #[must_use]
 #[derive(Debug)]
 pub struct Chain {

@@ -10,8 +10,8 @@ use net_types::{Channel, OutOfMemory};
 use std::alloc::Global;
 use std::marker::Model;
 
-/// One place of a region, taken from it. It must be spent: by [`Pool::put`], or by a push to a
-/// queue or chain.
+/// A cell buffer that was taken from the shared memory of a node (a slot of its region). It must be
+/// spent: by [`Pool::put`], or by a push to a queue or chain.
 #[must_use]
 #[derive(Debug)]
 pub struct Slot {
@@ -27,14 +27,14 @@ impl Model for Slot {
 }
 
 impl Slot {
-    /// The slot of a place that is out.
+    /// The slot of an index that is out.
     pub(crate) fn of_place(place: usize) -> Slot
         ensures { result ≡ place }
     {
         Slot { place }
     }
 
-    /// The place, where the slot ends.
+    /// The index, where the slot ends.
     pub(crate) fn into_place(self) -> usize
         ensures { result ≡ self }
     {
@@ -54,7 +54,7 @@ fn push<T: Drop>(list: &mut Vec<T>, value: T)
     };
 }
 
-/// Begins a place, for which the lists have room. It isn't inlined, since each place begins once.
+/// Begins a slot, for which the lists have room. It isn't inlined, since each slot begins once.
 #[inline(never)]
 fn begin(cells: &mut Vec<Cell>, next: &mut Vec<usize>, back: &mut Vec<usize>, cell: Cell)
     requires cells_room { vec_len cells.old < vec_capacity cells.old }
@@ -83,23 +83,23 @@ fn with_channel(cell: &Cell, channel: Channel) -> Cell
     Cell { header, ..*cell }
 }
 
-/// A region of slots, each with room for one cell. Memory for all of them is reserved at opening, and
-/// that of a place is first written when the place is first taken: the places of a region are taken in
-/// turn, and one that was put back before a new one.
+/// A shared cell buffer memory (a region of slots), with room for one cell in each slot. Memory for
+/// all of them is reserved at opening, and that of a slot is first written when the slot is first
+/// taken: slots are taken in turn, and one that was put back before a new one.
 #[derive(Debug, Drop)]
 pub struct Pool {
-    /// How many places the region has.
+    /// How many slots the region has.
     size: usize,
-    /// The cell in each place that was ever taken.
+    /// The cell in each slot that was ever taken.
     cells: Vec<Cell>,
-    /// The place to which each of these leads, in the free list or in a queue.
+    /// The slot to which each of these leads, in the free list or in a queue.
     next: Vec<usize>,
-    /// The place to which each of these leads back in a queue, where it isn't the first there: the one
+    /// The slot to which each of these leads back in a queue, where it isn't the first there: the one
     /// before it.
     back: Vec<usize>,
-    /// The place that was put back last of those in the free list, where there is one.
+    /// The slot that was put back last of those in the free list, where there is one.
     head: usize,
-    /// How many places are in the free list.
+    /// How many slots are in the free list.
     returned: usize,
 }
 
@@ -211,7 +211,7 @@ impl Pool {
         self.returned += 1;
     }
 
-    /// Lets the place `from` lead to the place `to`, and `to` lead back to `from`.
+    /// Lets the slot `from` lead to the slot `to`, and `to` lead back to `from`.
     pub(crate) fn link(&mut self, from: usize, to: usize)
         requires from { IsOut self.old from }
         requires to { IsOut self.old to }
@@ -229,7 +229,7 @@ impl Pool {
         self.back[to] = from;
     }
 
-    /// The place to which the place `from` leads.
+    /// The slot to which the slot `from` leads.
     pub(crate) fn after(&self, from: usize) -> usize
         requires { IsOut self.now from }
         ensures { result ≡ slice_index self.now.next from }
@@ -237,7 +237,7 @@ impl Pool {
         self.next[from]
     }
 
-    /// The place to which the place `from` leads back.
+    /// The slot to which the slot `from` leads back.
     pub(crate) fn before(&self, from: usize) -> usize
         requires { IsOut self.now from }
         ensures { result ≡ slice_index self.now.back from }
@@ -245,7 +245,7 @@ impl Pool {
         self.back[from]
     }
 
-    /// The cell in a place.
+    /// The cell in a slot.
     pub(crate) fn cell(&self, place: usize) -> Cell
         requires { IsOut self.now place }
         ensures { result ≡ cell_at self.now place }

@@ -9,15 +9,16 @@ use crate::pool::{Pool, Slot};
 use atm_cells::Cell;
 use std::marker::Model;
 
-/// A queue of slots of one region: first in, first out. It takes no memory, and it must be drained.
+/// A first-in, first-out queue of cells, as slots of one region. It takes no memory, and it must be
+/// drained.
 #[must_use]
 #[derive(Debug)]
 pub struct Queue {
-    /// The first place, where there is one; each leads to the next in the region.
+    /// The first slot, where there is one; each leads to the next in the region.
     head: usize,
-    /// The last place, where there is one.
+    /// The last slot, where there is one.
     tail: usize,
-    /// How many places the queue has.
+    /// How many slots the queue has.
     len: usize,
 }
 
@@ -73,7 +74,7 @@ impl Queue {
         Some(pool.cell(place))
     }
 
-    /// The place at an index, by the places before it.
+    /// The slot at an index, by the slots before it.
     fn place_from_front(&self, pool: &Pool, index: usize) -> usize
         requires line { IsLine pool.now self.now }
         requires within { index < len_of self.now }
@@ -86,7 +87,7 @@ impl Queue {
         place
     }
 
-    /// The place at an index, by the places behind it.
+    /// The slot at an index, by the slots behind it.
     fn place_from_end(&self, pool: &Pool, index: usize) -> usize
         requires line { IsLine pool.now self.now }
         requires within { index < len_of self.now }

@@ -10,14 +10,14 @@ use crate::chain::Chain;
 use crate::pool::Pool;
 use atm_cells::Cell;
 
-/// Something that holds a region of slots, in which others keep chains: a [`Pool`], or one with
-/// lines of its own in it. A chain of the region that shares no slot with those lines can grow and
-/// shrink there; all else that the store holds stays as it was.
+/// A store of cell buffers (a region of slots) in which others keep chains: a [`Pool`], or one with
+/// lists of slots of its own in it. A chain of the region that shares no slot with those lists can
+/// grow and shrink there; all else that the store holds stays as it was.
 pub trait ChainStore {
     /// The region.
     ghost region: { Self → Region };
 
-    /// The lines of the store's own.
+    /// The lists of slots of the store's own.
     ghost lines: { Self → List Line };
 
     /// What else a store is seen as.

@@ -3,7 +3,8 @@
 use atm_cells::Cell;
 use net_types::{End, Mark};
 
-/// Where the cells of one input go.
+/// A branch of a virtual channel connection (RFC 1987, Connection Management Messages): where the
+/// cells of one input go, and the mark of the frame that isn't whole there yet.
 #[derive(Clone, Copy, Debug)]
 pub struct Branch {
     /// Where they go.

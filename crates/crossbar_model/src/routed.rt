@@ -2,7 +2,7 @@
 
 use net_types::End;
 
-/// Where a cell went that came on a port.
+/// The switching of one cell: where it went that came on a port of a switch. This project's own.
 #[derive(Clone, Copy, Debug, PartialEq, Eq)]
 pub enum Routed {
     /// To the end of this output's queue.

@@ -22,8 +22,8 @@ use std::marker::Model;
 /// The ports of a fabric at most, port 0 among them.
 const PORTS: usize = 9;
 
-/// The branches of a switch, a queue for each of its ports, and the region of slots in which the
-/// queues live.
+/// A switch fabric: the branches of a switch (RFC 1987), an output queue of cells for each of its
+/// ports, and the region of slots in which the queues live.
 #[must_use]
 #[derive(Debug)]
 pub struct Fabric {

@@ -17,7 +17,8 @@ const MOST_CELLS: usize = 32;
 /// The most octets of a payload whose frame is short: its trailer takes 8 more.
 const SHORT_PAYLOAD: usize = 48 * FEW_CELLS - 8;
 
-/// Queues of cells in one region of slots, each named by a `Place`.
+/// A set of output queues in one region of slots, each named by a `Place`, to whose ends whole
+/// frames are put.
 pub trait Queues<Place> {
     ghost use Rattle.std.specs.Prelude.{◌≡◌, ◌≤◌, ◌↔◌, ℕ, List, length, IsTrue};
     ghost use Rattle.std.specs.Bool.{OnTrue, OnFalse};

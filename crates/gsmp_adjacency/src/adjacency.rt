@@ -16,10 +16,12 @@ const NOBODY: Party = Party {
     instance: Instance(0),
 };
 
-/// What an adjacency answers.
+/// The action of a GSMP adjacency protocol state machine (an answer): what a side does at a
+/// greeting or a tick.
 pub type Answer = table::Answer<Greeting, Established>;
 
-/// One side of a GSMP adjacency (RFC 1987, Adjacency Protocol).
+/// The GSMP adjacency protocol state machine: one side of an adjacency (RFC 1987, Adjacency
+/// Protocol).
 #[derive(Debug, Drop)]
 pub struct Adjacency {
     side: table::Adjacency<Party>,

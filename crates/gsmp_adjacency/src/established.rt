@@ -5,8 +5,8 @@ ghost use Rattle.std.specs.Prelude.{◌≡◌};
 use net_types::Party;
 use std::marker::Model;
 
-/// Shows that the adjacency of this own party entered Estab. It is handed out once at each
-/// entry, and has to be spent.
+/// A token of a GSMP adjacency that entered state ESTAB: it stands for the own party, is handed out
+/// once at each entry, and has to be spent. This project's own.
 #[must_use]
 #[derive(Debug)]
 pub struct Established {

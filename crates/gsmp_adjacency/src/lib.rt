@@ -1,6 +1,6 @@
-//! The adjacency of GSMP (RFC 1987, Adjacency Protocol): the adjacency table for a controller and
-//! a switch, each known by its name, port and instance. On entering Estab it hands out an
-//! [`Established`], which stands for the own party and has to be spent.
+//! The adjacency protocol of GSMP (RFC 1987, Adjacency Protocol): the adjacency table for a
+//! controller and a switch, each known by its name, port and instance. On entering Estab it hands
+//! out an [`Established`], which stands for the own party and has to be spent.
 #![tactic(auto)]
 
 mod adjacency;

@@ -10,10 +10,12 @@ use adjacency_table::{self as table, Heard, Said, State};
 use net_types::{Addr, Hello, HelloKind, Instance, Peer};
 use std::marker::Model;
 
-/// What an adjacency answers.
+/// The action of an IFMP adjacency protocol state machine (an answer): what a side does at a hello
+/// or a tick.
 pub type Answer = table::Answer<Hello, Established>;
 
-/// One side of an IFMP adjacency (RFC 1953, IFMP Adjacency Protocol).
+/// The IFMP adjacency protocol state machine: one side of an adjacency (RFC 1953, IFMP Adjacency
+/// Protocol).
 #[derive(Debug, Drop)]
 pub struct Adjacency {
     side: table::Adjacency<Peer>,

@@ -5,8 +5,8 @@ ghost use Rattle.std.specs.Prelude.{◌≡◌};
 use net_types::Instance;
 use std::marker::Model;
 
-/// Shows that the adjacency of this own instance entered Estab. It is handed out once at each
-/// entry, and has to be spent.
+/// A token of an IFMP adjacency that entered state ESTAB: it stands for the own instance, is handed
+/// out once at each entry, and has to be spent. This project's own.
 #[must_use]
 #[derive(Debug)]
 pub struct Established {

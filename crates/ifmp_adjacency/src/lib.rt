@@ -1,6 +1,6 @@
-//! The adjacency of IFMP (RFC 1953, IFMP Adjacency Protocol): the adjacency table for routers that
-//! are known by an instance and an address. On entering Estab it hands out an [`Established`],
-//! which stands for the own instance and has to be spent.
+//! The adjacency protocol of IFMP (RFC 1953, IFMP Adjacency Protocol): the adjacency table for
+//! routers that are known by an instance and an address. On entering Estab it hands out an
+//! [`Established`], which stands for the own instance and has to be spent.
 #![tactic(auto)]
 
 mod adjacency;

@@ -8,7 +8,8 @@ use net_types::{Mark, OutOfMemory};
 use std::alloc::Global;
 use std::marker::Model;
 
-/// An entry of the loss ledger.
+/// A drop with its drop reason (an entry of the loss ledger): the mark of a frame that may be gone,
+/// and the cause. This project's own.
 #[derive(Clone, Copy, Debug, PartialEq, Eq)]
 pub struct Entry {
     /// The frame that may be gone.
@@ -17,7 +18,7 @@ pub struct Entry {
     pub cause: Cause,
 }
 
-/// Entries in the order of their entering.
+/// A drop log: the entries of a loss ledger, in the order of their entering.
 #[derive(Drop)]
 pub struct Entries {
     list: Vec<Entry>,

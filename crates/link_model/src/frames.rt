@@ -7,7 +7,8 @@ use net_types::{Mark, Octets, OutOfMemory};
 use std::alloc::Global;
 use std::marker::Model;
 
-/// A frame that a run made.
+/// A CPCS-SDU that a run made (a frame; I.363.5): the octets that were segmented, under the frame's
+/// mark.
 #[derive(Debug, Drop)]
 pub struct Frame {
     /// Its mark.
@@ -16,7 +17,7 @@ pub struct Frame {
     pub payload: Octets,
 }
 
-/// Frames in the order of their making.
+/// A log of frames, in the order of their making.
 #[derive(Drop)]
 pub struct Frames {
     list: Vec<Frame>,

@@ -9,8 +9,8 @@ use net_types::{Mark, OutOfMemory};
 use std::alloc::Global;
 use std::marker::Model;
 
-/// The loss ledger of a run: a list of entries, each the mark of a frame and a cause. Beside it
-/// stand the payloads of the frames that the run made, each under its mark.
+/// The drop log of a run (its loss ledger): a list of entries, each the mark of a frame and a
+/// cause. Beside it stand the payloads of the frames that the run made, each under its mark.
 ///
 /// The look-ups go by a hash of the mark, whatever the number of entries and frames.
 #[derive(Drop)]

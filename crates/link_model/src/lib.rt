@@ -1,4 +1,5 @@
-//! The records of a run, its loss ledger, and the payloads of the frames that it made.
+//! The event log of a run (its records), its drop log (the loss ledger), and the payloads of the
+//! frames that it made.
 #![tactic(auto)]
 
 mod entries;

@@ -8,8 +8,8 @@ use net_types::{Mark, OutOfMemory};
 use std::alloc::Global;
 use std::marker::Model;
 
-/// What a run leaves behind: the records since they were last cleared, and the ledger and frames
-/// of the whole run.
+/// The history variables of a run (its notes): the records since they were last cleared, and the
+/// ledger and frames of the whole run. This project's own.
 #[derive(Drop)]
 pub struct Notes {
     records: Vec<Record>,

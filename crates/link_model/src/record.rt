@@ -3,7 +3,8 @@
 use ipv4_packet::FlowId;
 use net_types::{Mark, NodeId, Octets, Place, PortNo};
 
-/// Why a frame may be gone: the cause of an entry of the loss ledger.
+/// A drop reason of a frame: why it may be gone, as an entry of the loss ledger has it. This
+/// project's own.
 #[derive(Clone, Copy, Debug, PartialEq, Eq)]
 pub enum Cause {
     /// A link lost one of its cells.
@@ -20,7 +21,7 @@ pub enum Cause {
     Broken,
 }
 
-/// Why a router drops a packet (RFC 1812 5.2.4.3, 5.3.1).
+/// A drop reason of a packet: why a router drops it (RFC 1812 5.2.4.3, 5.3.1).
 #[derive(Clone, Copy, Debug, PartialEq, Eq)]
 pub enum DropCause {
     /// No route has its destination.
@@ -29,7 +30,7 @@ pub enum DropCause {
     Expired,
 }
 
-/// The part of a node that refuses what a frame holds.
+/// A protocol layer: the part of a node that refuses what a frame holds.
 #[derive(Clone, Copy, Debug, PartialEq, Eq)]
 pub enum Layer {
     /// The encapsulation of the frame (RFC 1483, RFC 1954).
@@ -42,7 +43,8 @@ pub enum Layer {
     Gsmp,
 }
 
-/// The name of a refusal that a record shows.
+/// The name of a decoding error (a refusal), as a record shows it. The names are this project's
+/// own.
 #[derive(Clone, Copy, Debug, PartialEq, Eq)]
 pub enum Refusal {
     /// Fewer octets than the header that should begin here has.
@@ -92,7 +94,8 @@ pub enum Refusal {
     FlowFields,
 }
 
-/// One record of a run.
+/// An entry of the event log of a run (a record): one thing that happened, as a line of the report
+/// tells it. This project's own.
 #[derive(Debug, Drop)]
 pub enum Record {
     /// A packet reached a node that is its destination.

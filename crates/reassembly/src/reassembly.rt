@@ -18,13 +18,14 @@ use link_model::{Cause, Notes, Record};
 use net_types::OutOfMemory;
 use std::marker::Model;
 
-/// The cells of one channel since its last end, in a chain of a region that somebody else holds; or
-/// a channel that skips. It must be abandoned.
+/// The reassembly of one virtual channel's cells into a frame (I.363.5 9.2): those since its last
+/// end, in a chain of a region that somebody else holds; or a channel that skips. It must be
+/// abandoned.
 ///
-/// Its conditions: the chain is a line of the store's region (`threaded`) and shares no slot with the
-/// store's own lines (`apart`). Each call keeps both, and leaves all else that the store holds, and
-/// every other chain of the region, as they were (`chain`, `lines`, `rest`), also where memory is
-/// wanting: it can then be abandoned.
+/// Its conditions: the chain is a list of slots of the store's region (`threaded`) and shares no
+/// slot with the store's own lists (`apart`). Each call keeps both, and leaves all else that the
+/// store holds, and every other chain of the region, as they were (`chain`, `lines`, `rest`), also
+/// where memory is wanting: it can then be abandoned.
 #[must_use]
 #[derive(Debug)]
 pub struct Reassembly {

@@ -1,5 +1,5 @@
-//! The name under which a record or a text shows why a packet, the payload of a frame, or a message is
-//! refused.
+//! The names of decoding errors: the one under which a record or a text shows why a packet, the
+//! payload of a frame, or a message is refused.
 #![tactic(auto)]
 
 ghost use Rattle.std.specs.Prelude.{◌≡◌};
