@@ -1,5 +1,5 @@
-//! The command that audits a trace: its lines are read from a source one by one up to the first that is
-//! refused or shows that the trace isn't good, and the verdict goes to a sink.
+//! The command that has a trace audited: its lines are read from a source one by one up to the
+//! first that is refused or shows that the trace isn't good, and the verdict goes to a sink.
 #![tactic(auto)]
 
 mod law;

@@ -2,11 +2,11 @@
 //! to the greatest number of 64 bits, and any other call keeps it. So who uses one can't claim a fault
 //! that it didn't meet, nor hide one that it met.
 
-/// A read or a write failed.
+/// An I/O error: a read or a write failed.
 #[derive(Clone, Copy, Debug, PartialEq, Eq)]
 pub struct Failed;
 
-/// Where octets come from.
+/// A reader of octets (a source), with a count of its failed reads.
 pub trait Source {
     ghost use Rattle.std.specs.Prelude.{◌≡◌, ◌<◌, ℕ, List, Option, length, is_err};
     ghost use Rattle.std.specs.Io.{ReadsAtMost};
@@ -28,7 +28,7 @@ pub trait Source {
         ensures faults { faults self.new ≡ count_after (is_err result) (faults self.old) };
 }
 
-/// Where octets go.
+/// A writer of octets (a sink), with a count of its failed writes.
 pub trait Sink {
     ghost use Rattle.std.specs.Prelude.{◌≡◌, ℕ, List, Option};
     ghost use Rattle.std.specs.Io.{WritesAtMost};

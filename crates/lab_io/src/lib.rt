@@ -1,6 +1,6 @@
-//! The edge of the program: where octets come from and where they go, each with a count of its
-//! faults; the two loops that move whole inputs and outputs over it; and what moves them as they
-//! come, the lines of an input and a report.
+//! Readers and writers of octets, the edge of the program: sources and sinks, each with a count of
+//! its faults; the two loops that move whole inputs and outputs over them; and what moves them as
+//! they come, the lines of an input and a report.
 #![tactic(auto)]
 
 mod edge;

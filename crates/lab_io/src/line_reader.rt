@@ -17,7 +17,7 @@ use std::marker::Model;
 /// The most octets without an LF that may yet be those of a line within the limit and its CR.
 const OPEN_LIMIT: usize = LINE_LIMIT + 2;
 
-/// What [`LineReader::next`] found.
+/// An item of a reader of lines: what [`LineReader::next`] found.
 #[derive(Clone, Copy, Debug, PartialEq, Eq)]
 pub enum NextLine {
     /// A line, with its LF where it has one.
@@ -35,7 +35,7 @@ pub enum NextLine {
     End,
 }
 
-/// A reader of lines. A line ends at an LF or where the source does.
+/// A buffered reader of lines of text. A line ends at an LF or where the source does.
 #[derive(Debug, Drop)]
 pub struct LineReader {
     buffer: Vec<u8>,

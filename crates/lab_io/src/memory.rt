@@ -24,7 +24,7 @@ fn is_listed(failing: &[u32], calls: u64) -> bool
     failing.iter().any(|call| *call as u64 == next)
 }
 
-/// A source of octets in memory that fails where it is told to.
+/// A reader of octets in memory (a source) that fails where it is told to, at reads counted from 1.
 #[derive(Debug, Drop)]
 pub struct MemSource {
     octets: SureSource,
@@ -95,7 +95,7 @@ impl Source for MemSource {
     }
 }
 
-/// A sink of octets in memory, with room for 16 MiB.
+/// A writer to octets in memory (a sink), with room for 16 MiB, that fails where it is told to.
 #[derive(Debug, Drop)]
 pub struct MemSink {
     taken: Vec<u8>,

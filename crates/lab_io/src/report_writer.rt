@@ -12,7 +12,7 @@ use net_types::OutOfMemory;
 use std::alloc::Global;
 use std::marker::Model;
 
-/// A writer that holds what it is given until it holds as much as it can.
+/// A buffered writer: it holds the octets that it is given until it holds as many as it can.
 #[derive(Debug, Drop)]
 pub struct ReportWriter {
     buffer: Vec<u8>,

@@ -6,7 +6,7 @@ use crate::edge::{Failed, Sink, Source};
 use std::io::{Read, Stdin, Stdout, Write};
 use std::marker::Model;
 
-/// Standard input, seen as its count of failed reads.
+/// A reader of standard input (a source), seen as its count of failed reads.
 #[derive(Drop)]
 pub struct StdSource {
     stdin: Stdin,
@@ -46,7 +46,7 @@ impl Source for StdSource {
     }
 }
 
-/// Standard output, seen as its count of failed writes.
+/// A writer to standard output (a sink), seen as its count of failed writes.
 #[derive(Drop)]
 pub struct StdSink {
     stdout: Stdout,

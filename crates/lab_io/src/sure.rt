@@ -20,7 +20,7 @@ fn give(buf: &mut [u8], octets: &[u8], piece: usize) -> usize
     count
 }
 
-/// A source of octets in memory.
+/// A reader of octets in memory (a source) that never fails.
 #[derive(Debug, Drop)]
 pub struct SureSource {
     octets: Vec<u8>,
@@ -74,7 +74,8 @@ impl Source for SureSource {
     }
 }
 
-/// A sink that takes all that it is offered and keeps only how many octets that were.
+/// A writer that never fails (a sink): it takes all that it is offered and keeps only how many
+/// octets that were.
 #[derive(Debug, Drop)]
 pub struct SureSink {
     taken: u64,

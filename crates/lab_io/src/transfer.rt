@@ -9,7 +9,7 @@ use crate::edge::{Failed, Sink, Source};
 use net_types::OutOfMemory;
 use std::alloc::Global;
 
-/// Why [`read_to_end`] gave no octets.
+/// An error of [`read_to_end`]: why it gave no octets.
 #[derive(Clone, Copy, Debug, PartialEq, Eq)]
 pub enum InputFault {
     /// A read failed.

@@ -1,6 +1,6 @@
 //! Lines of text: the lines of an input and the words of a line, the numbers and the hexadecimal
-//! octets that a word spells, lines that hold one word of hexadecimal, and text that is written: its
-//! numbers and octets, and the names of causes, layers and refusals.
+//! octets that a word spells, lines that hold one word of hexadecimal, and text that is written:
+//! its numbers and octets, and the names of causes, layers and refusals.
 #![tactic(auto)]
 
 mod hex_line;

@@ -11,7 +11,8 @@ use std::marker::Model;
 /// How many octets a text has room for from the first on: most lines have no more.
 const LINE_ROOM: usize = 256;
 
-/// Text that grows at its end. Where memory is wanting it stays as it was.
+/// A string builder (a text), in octets: it grows at its end. Where memory is wanting it stays as
+/// it was.
 #[derive(Debug, Drop)]
 pub struct Text {
     octets: Vec<u8>,

@@ -3,7 +3,8 @@
 use crate::stop::Stop;
 use net_types::OutOfMemory;
 
-/// What ends a task early. The first fault is the last.
+/// An error that ends a task early: a fault of reading, of writing or of memory. The first fault is
+/// the last.
 #[derive(Clone, Copy, Debug, PartialEq, Eq)]
 pub enum LineFault {
     /// A read failed.

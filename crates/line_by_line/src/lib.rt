@@ -1,4 +1,5 @@
-//! Tasks that take the lines of an input one by one and write their report as it grows.
+//! Processors of lines of text (tasks): they take the lines of an input one by one and write their
+//! report as it grows.
 #![tactic(auto)]
 
 mod fault;

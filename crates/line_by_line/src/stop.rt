@@ -3,7 +3,7 @@
 use lab_io::Failed;
 use net_types::OutOfMemory;
 
-/// What stops a task in the midst of a line. Afterwards it takes no further line.
+/// An error in the midst of a line: why a task stops there. Afterwards it takes no further line.
 #[derive(Clone, Copy, Debug, PartialEq, Eq)]
 pub enum Stop {
     /// A write of the report failed.

@@ -3,7 +3,7 @@
 use crate::stop::Stop;
 use lab_io::{ReportWriter, Sink};
 
-/// How the task of a command ends.
+/// The outcome of a command's task: how it ends, where no fault ended it.
 #[derive(Clone, Copy, Debug, PartialEq, Eq)]
 pub enum Ending {
     /// The input was read to its end, and nothing in it is refused.
@@ -14,7 +14,7 @@ pub enum Ending {
     Denied,
 }
 
-/// What a line leads to.
+/// The control flow behind a line: another one may follow, or the task ends with an outcome `O`.
 #[derive(Clone, Copy, Debug, PartialEq, Eq)]
 pub enum Step<O> {
     /// Another may follow.
@@ -23,10 +23,11 @@ pub enum Step<O> {
     Ends(O),
 }
 
-/// A task that takes the lines of an input one by one, up to the first that ends it, and puts its
-/// report as it goes: what each line causes, and one part at last. What it is is seen by what it makes
-/// of the lines that are still to come. After `Ends`, after [`LineTask::too_long`],
-/// [`LineTask::past_end`] and [`LineTask::end`], and after [`Stop`] it is told nothing more.
+/// A processor of lines of text (a task): it takes the lines of an input one by one, up to the
+/// first that ends it, and puts its report as it goes: what each line causes, and one part at last.
+/// What it is is seen by what it makes of the lines that are still to come. After `Ends`, after
+/// [`LineTask::too_long`], [`LineTask::past_end`] and [`LineTask::end`], and after [`Stop`] it is
+/// told nothing more.
 pub trait LineTask {
     ghost use Rattle.std.specs.Prelude.{◌≡◌, ◌+◌, ◌<◌, ◌≤◌, ℕ, List, [], Ok, length};
     ghost use Rattle.lab_io.specs.Fault.{count_after};

@@ -1,5 +1,6 @@
-//! IFMP and GSMP messages as text: the text of each message, the names of the refusals, and what the
-//! hexadecimal lines of an input are decoded to. The texts are functions of the message in `specs/`.
+//! The text of IFMP and GSMP messages (RFC 1953, RFC 1987), as a packet analyser shows them, the
+//! names of the refusals, and what the hexadecimal lines of an input are decoded to. The texts are
+//! functions of the message in `specs/`.
 #![tactic(auto)]
 
 mod fields;

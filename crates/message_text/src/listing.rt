@@ -14,7 +14,7 @@ use net_types::{Octets, OutOfMemory};
 use refusal_names::{gsmp_refusal, ifmp_refusal};
 use std::alloc::Global;
 
-/// What an input is decoded to, and whether a line of it was refused.
+/// A listing of decoded messages: the text of an input's lines, and whether a line was refused.
 #[derive(Debug, Drop)]
 pub struct Listed {
     /// The octets of the text.

@@ -18,9 +18,9 @@ use trace_model::{Breach, Step, Taken, TraceCell, TraceEnd, TraceLabel, TraceLin
 /// The most octets of a packet.
 const PACKET: usize = 1500;
 
-/// Judges a trace line by line. Each line costs a few look-ups, whatever came before. It keeps the cells
-/// that stand in queues, the frames and the first puts of marks, the bindings and the links, and nothing
-/// else.
+/// A runtime monitor of traces (an auditor): it judges a trace line by line. Each line costs a few
+/// look-ups, whatever came before. It keeps the cells that stand in queues, the frames and the
+/// first puts of marks, the bindings and the links, and nothing else.
 #[derive(Drop)]
 pub struct Auditor {
     alloc: Global,

@@ -6,7 +6,7 @@ ghost use Rattle.trace_audit.specs.declared.fault.AuditFault.TheVariants.{Refuse
 use net_types::OutOfMemory;
 use trace_model::TraceRefusal;
 
-/// Why a line isn't judged.
+/// An error of the auditor: why a line isn't judged.
 #[derive(Clone, Copy, Debug, PartialEq, Eq)]
 pub enum AuditFault {
     /// The line is refused.

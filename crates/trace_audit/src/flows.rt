@@ -6,7 +6,7 @@ ghost use Rattle.ipv4_packet.specs.Flow.{IsFlow};
 use ipv4_packet::FlowId;
 use std::marker::Model;
 
-/// A flow that packets can be of.
+/// A flow identifier (RFC 1953) of a flow that packets can be of.
 #[derive(Clone, Copy)]
 pub struct LabelFlow {
     flow: FlowId,

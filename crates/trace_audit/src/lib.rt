@@ -1,5 +1,5 @@
-//! The auditor of a trace: it reads line by line what passed on a network's links, and judges each line
-//! by those before it. It knows nothing of controllers and switches.
+//! A runtime monitor of traces (the auditor): it reads line by line what passed on a network's
+//! links, and judges each line by those before it. It knows nothing of controllers and switches.
 #![tactic(auto)]
 
 mod auditor;

@@ -15,16 +15,16 @@ use indexmap::IndexMap;
 use net_types::{Mark, Octets, OutOfMemory};
 use trace_model::{TraceEnd, TraceLabel};
 
-/// The other end of each port's link.
+/// A map of links: the other end of each port's link.
 pub type Peers = IndexMap<TraceEnd, TraceEnd>;
 
-/// The flow of each channel at the port that its cells come to.
+/// A map of label bindings: the flow of each channel at the port that its cells come to.
 pub type Flows = IndexMap<TraceLabel, LabelFlow>;
 
-/// The payload of each mark's frame.
+/// A map of frames: the payload of each mark's frame.
 pub type Payloads = IndexMap<Mark, Octets>;
 
-/// Where the first cell of each mark was put.
+/// A map of first puts: where the first cell of each mark was put.
 pub type Firsts = IndexMap<Mark, TraceLabel>;
 
 /// Keeps the other end of a port's link.

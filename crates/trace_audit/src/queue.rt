@@ -8,7 +8,7 @@ use std::collections::VecDeque;
 use std::marker::Model;
 use trace_model::TraceCell;
 
-/// Cells in the order of their puts.
+/// A first-in, first-out queue of the cells of a trace.
 #[derive(Drop)]
 pub struct Queue {
     cells: VecDeque<TraceCell>,

@@ -20,7 +20,7 @@ type Cells = IndexMap<TraceEnd, Queue>;
 /// How many cells of a channel stand in a queue.
 type Standing = IndexMap<TraceLabel, usize>;
 
-/// The queues of ports.
+/// The output queues of the ports of a trace, with how many cells of each channel stand in each.
 #[derive(Drop)]
 pub struct Queues {
     alloc: Global,

@@ -2,7 +2,7 @@
 
 ghost use Rattle.std.specs.Prelude.{◌+◌, ◌<◌, ◌≤◌};
 
-/// How many lines of a trace there are.
+/// The counters of an audit: how many lines of each kind a trace has.
 #[derive(Clone, Copy, Debug, PartialEq, Eq)]
 pub struct AuditCounts {
     /// Of `link`.
@@ -13,7 +13,7 @@ pub struct AuditCounts {
     pub binds: u64,
 }
 
-/// The octets of the lines so far, and how many lines of each kind these are: fewer than octets.
+/// A counter of the octets of the lines so far, and of how many of these lines are of each kind.
 #[derive(Clone, Copy)]
 pub struct Tally {
     octets: u32,

@@ -1,4 +1,5 @@
-//! What it means that the audit of a trace says yes, in words of the trace alone. No code that runs.
+//! What a monitor's verdict of yes on a trace means, in words of the trace alone. No code that
+//! runs.
 #![tactic(auto)]
 
 mod yes;

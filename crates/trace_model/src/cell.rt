@@ -3,7 +3,7 @@
 use crate::end::TraceEnd;
 use net_types::{Channel, Mark};
 
-/// A cell in a queue.
+/// A cell of a trace: one that stands in a queue, by its channel and the mark of its frame.
 #[derive(Clone, Copy, Debug, PartialEq, Eq)]
 pub struct TraceCell {
     /// Its channel.
@@ -12,7 +12,7 @@ pub struct TraceCell {
     pub mark: Mark,
 }
 
-/// A cell that was carried from a port to the other end of its link.
+/// A cell arrival of a trace: a cell that was carried from a port to the other end of its link.
 #[derive(Clone, Copy, Debug, PartialEq, Eq)]
 pub struct Taken {
     /// The port.

@@ -2,12 +2,13 @@
 
 use net_types::{Channel, PortNo};
 
-/// A node's name: its 1 to 16 lower-case letters and digits, a letter first, and zeros behind them up to
-/// 16 octets.
+/// The host name of an IP switch (a node's name): its 1 to 16 lower-case letters and digits, a
+/// letter first, and zeros behind them up to 16 octets. This project's own.
 #[derive(Clone, Copy, Debug, PartialEq, Eq, Hash)]
 pub struct NodeName(pub [u8; 16]);
 
-/// A port of a node: one end of a link, and the queue of the cells that go from there to the other end.
+/// An end of a link in a trace: a port of a node, and the output queue of the cells that go from
+/// there to the other end.
 #[derive(Clone, Copy, Debug, PartialEq, Eq, Hash)]
 pub struct TraceEnd {
     /// The node.
@@ -16,7 +17,7 @@ pub struct TraceEnd {
     pub port: PortNo,
 }
 
-/// A channel at a port.
+/// A label of a trace (RFC 1953): a channel at a port.
 #[derive(Clone, Copy, Debug, PartialEq, Eq, Hash)]
 pub struct TraceLabel {
     /// The port.

@@ -1,7 +1,7 @@
-//! Traces of the cells on a network's links, and when one is good. A trace tells line by line which
-//! ports are linked, which cell comes to which queue, which queue's first cell is carried or lost, what
-//! each frame's payload is, and which channel is bound to which flow. Definitions, in `specs/`, and laws
-//! of them; there is no code that runs.
+//! Event traces of the cells on a network's links, and when one is good. A trace tells line by line
+//! which ports are linked, which cell comes to which queue, which queue's first cell is carried or
+//! lost, what each frame's payload is, and which channel is bound to which flow. Definitions, in
+//! `specs/`, and laws of them; there is no code that runs.
 #![tactic(auto)]
 
 mod cell;

@@ -4,7 +4,7 @@ use crate::end::{TraceEnd, TraceLabel};
 use ipv4_packet::FlowId;
 use net_types::{Mark, Octets};
 
-/// A line of a trace that isn't blank.
+/// An entry of an event trace: a line that isn't blank. The language is this project's own.
 #[derive(Debug, Drop)]
 pub enum TraceLine {
     /// `link END END`: the two ports are linked.

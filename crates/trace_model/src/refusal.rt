@@ -1,6 +1,7 @@
 //! Why a line of a trace is refused.
 
-/// Why a line is refused, in the order of the tests.
+/// A parse error of a trace: why a line is refused, in the order of the tests, which are this
+/// project's own.
 #[derive(Clone, Copy, Debug, PartialEq, Eq)]
 pub enum TraceRefusal {
     /// The line holds the octet of the input numbered 16,777,217.

@@ -1,6 +1,7 @@
 //! What is wrong with a trace.
 
-/// What a line of a trace does that no line of a good one does, in the order of the tests.
+/// A violation that a monitor finds (a breach): what a line of a trace does that no line of a good
+/// one does, in the order of the tests. This project's own.
 #[derive(Clone, Copy, Debug, PartialEq, Eq)]
 pub enum Breach {
     /// A cell is carried from, or lost at, a queue that is empty.
@@ -18,7 +19,7 @@ pub enum Breach {
     Hop,
 }
 
-/// What a line of a trace that isn't refused is.
+/// The verdict of a monitor on one line of a trace that isn't refused. This project's own.
 #[derive(Clone, Copy, Debug, PartialEq, Eq)]
 pub enum Step {
     /// A line of a good trace.
