@@ -2,7 +2,7 @@
 
 use net_types::{End, PortNo};
 
-/// One of the two.
+/// A side of the control link (RFC 1987): the controller, here a console, or the switch.
 #[derive(Clone, Copy, Debug, PartialEq, Eq)]
 pub enum Side {
     /// The console, and the queue from it to the switch.
@@ -11,7 +11,8 @@ pub enum Side {
     Switch,
 }
 
-/// One event. Each end that it names has VPI 0 and a port 1 to 8.
+/// A transition of a controller and its switch (an event of a console's session). Each end that it
+/// names has VPI 0 and a port 1 to 8. This project's own.
 #[derive(Clone, Copy, Debug, PartialEq, Eq)]
 pub enum ConsoleEvent {
     /// The console is told to make a branch.

@@ -1,6 +1,7 @@
 //! Why a line is refused.
 
-/// Why a line is refused, in the order of the tests; `BadNumber` and `BadPlace` come from left to right.
+/// A parse error of a console's input: why a line is refused, in the order of the tests;
+/// `BadNumber` and `BadPlace` come from left to right. This project's own.
 #[derive(Clone, Copy, Debug, PartialEq, Eq)]
 pub enum ConsoleFault {
     /// The line holds the octet of the input numbered 16,777,217.

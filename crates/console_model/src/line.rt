@@ -2,7 +2,7 @@
 
 use crate::event::ConsoleEvent;
 
-/// A line.
+/// A statement of a console's input: what a line says. The language is this project's own.
 #[derive(Clone, Copy, Debug, PartialEq, Eq)]
 pub enum ConsoleLine {
     /// Nothing.

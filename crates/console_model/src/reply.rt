@@ -2,7 +2,8 @@
 
 use net_types::End;
 
-/// The answer of a command.
+/// The response to a command (a reply): what the switch answered to what the console asked (RFC
+/// 1987, Result and Code).
 #[derive(Clone, Copy, Debug, PartialEq, Eq)]
 pub enum Reply {
     /// It is done.

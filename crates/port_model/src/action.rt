@@ -5,7 +5,8 @@ use ifmp_wire::Message;
 use link_model::Record;
 use net_types::End;
 
-/// What a port asks of its controller, which does it in order.
+/// An action of a port's protocol engine: what it asks of its controller, which does it in order.
+/// This project's own.
 #[derive(Debug, Drop)]
 pub enum Action {
     /// Send this message to the other end of the link.

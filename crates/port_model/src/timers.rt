@@ -1,6 +1,7 @@
 //! The times of a port.
 
-/// How long labels, refreshes and counts last, in ticks.
+/// The protocol timers of a port, in ticks: the lifetime of a REDIRECT (RFC 1953), the time to its
+/// refresh, and the measuring interval of a flow classifier.
 #[derive(Clone, Copy, Debug, PartialEq, Eq)]
 pub struct Timers {
     /// How long a flow may use a label after a REDIRECT, 1 to 65,535.

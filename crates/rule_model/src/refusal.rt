@@ -1,6 +1,7 @@
 //! Why rules are refused.
 
-/// Why a line of rules is refused, in the order of the tests.
+/// A parse error of an access list: why a line of rules is refused, in the order of the tests. This
+/// project's own.
 #[derive(Clone, Copy, Debug, PartialEq, Eq)]
 pub enum RuleRefusal {
     /// The line has more than 4,096 octets.

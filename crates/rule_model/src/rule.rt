@@ -2,7 +2,8 @@
 
 use net_types::Prefix;
 
-/// Of which flows a rule is, by their type and protocol.
+/// The protocol of an access list entry: of which flows a rule is, by their flow type (RFC 1953)
+/// and protocol.
 #[derive(Clone, Copy, Debug, PartialEq, Eq)]
 pub enum Protocol {
     /// `udp`: flows of type 1 over UDP.
@@ -15,7 +16,7 @@ pub enum Protocol {
     Any,
 }
 
-/// The ports that a rule takes.
+/// The port match of an access list entry: the TCP or UDP ports that a rule takes.
 #[derive(Clone, Copy, Debug, PartialEq, Eq)]
 pub enum Ports {
     /// `any`: all, also where a flow has none.
@@ -29,7 +30,7 @@ pub enum Ports {
     },
 }
 
-/// What a rule decides of a flow.
+/// The action of an access list entry: what a rule decides of a flow.
 #[derive(Clone, Copy, Debug, PartialEq, Eq)]
 pub enum Decision {
     /// It is never offered a label.
@@ -43,7 +44,8 @@ pub enum Decision {
     },
 }
 
-/// A rule: the flows that it matches, and what it decides of them.
+/// An access list entry (a rule): the flows that it matches, and what it decides of them. This
+/// project's own.
 #[derive(Clone, Copy, Debug, PartialEq, Eq)]
 pub struct Rule {
     /// Their type and protocol.

@@ -1,6 +1,6 @@
-//! Scripts, documents and reports as functions of octets: the language of scripts, which lines are
-//! refused and why, and the texts of records. Definitions, in `specs/`, and laws of them; there is no
-//! code that runs.
+//! Scenarios (scripts), their TOML form (documents) and event logs (reports) as functions of
+//! octets: the language of scripts, which lines are refused and why, and the texts of records.
+//! Definitions, in `specs/`, and laws of them; there is no code that runs.
 #![tactic(auto)]
 
 mod keyword;

@@ -2,7 +2,7 @@
 
 use world_model::{Event, TopologyLine};
 
-/// A line, with the nodes of an event by their numbers.
+/// A statement of a script: what a line says, with the nodes of an event by their numbers.
 #[derive(Debug, Drop)]
 pub enum Line {
     /// Nothing.

@@ -2,7 +2,8 @@
 
 use rule_model::RuleRefusal;
 
-/// Why a line is refused, in the order of the tests.
+/// A parse error of a script: why a line is refused, in the order of the tests, which are this
+/// project's own.
 #[derive(Clone, Copy, Debug, PartialEq, Eq)]
 pub enum LineRefusal {
     /// The line holds the octet of the input numbered 16,777,217.
@@ -53,7 +54,7 @@ pub enum LineRefusal {
     TooMany,
 }
 
-/// Why a document is refused as a whole.
+/// A parse error of a TOML document: why it is refused as a whole.
 #[derive(Clone, Copy, Debug, PartialEq, Eq)]
 pub enum DocumentRefusal {
     /// It has more than 16,777,216 octets.
@@ -62,7 +63,7 @@ pub enum DocumentRefusal {
     Toml,
 }
 
-/// What ends a script before its end.
+/// An error with its line number: what ends a script before its end.
 #[derive(Clone, Copy, Debug, PartialEq, Eq)]
 pub enum Refused {
     /// A line.

@@ -2,7 +2,7 @@
 
 use script_model::Refused;
 
-/// How the reading of a script ended.
+/// The outcome of parsing a script: how many of its lines were events, and what was refused.
 #[derive(Clone, Copy, Debug, PartialEq, Eq)]
 pub struct Ended {
     /// How many lines were events.

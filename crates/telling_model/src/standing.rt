@@ -3,7 +3,7 @@
 use atm_cells::Cell;
 use net_types::Place;
 
-/// A cell that stands, or stood, in a queue.
+/// A queued cell: one that stands, or stood, in an output queue, with that queue.
 #[derive(Clone, Copy, Debug, PartialEq, Eq)]
 pub struct Standing {
     /// The queue.

@@ -3,7 +3,8 @@
 use ipv4_forward::RouteChange;
 use net_types::{Channel, NodeId, Octets, Place};
 
-/// One event. Each is of one actor, or of one cell between two.
+/// A transition of the network (an event): of one actor, or of one cell between two. This project's
+/// own.
 #[derive(Debug, Drop)]
 pub enum Event {
     /// A packet enters the network.

@@ -2,7 +2,8 @@
 
 use net_types::{Addr, Octets, PortNo, Prefix};
 
-/// One line. A name is kept as the octets of its text, labels by their numbers.
+/// A configuration statement: one line of a script on nodes, links, routes, labels or timers. A
+/// name is kept as the octets of its text, labels by their numbers. This project's own.
 #[derive(Debug, Drop)]
 pub enum TopologyLine {
     /// There is a node.

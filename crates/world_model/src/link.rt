@@ -2,7 +2,7 @@
 
 use net_types::{NodeId, PortNo};
 
-/// One end of a link: a port of a node.
+/// An interface: one end of a link, as a port of a node, 1 to 8.
 #[derive(Clone, Copy, Debug, PartialEq, Eq, Hash)]
 pub struct LinkEnd {
     /// The node.

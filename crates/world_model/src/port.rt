@@ -2,7 +2,8 @@
 
 use net_types::PortNo;
 
-/// What a switch knows of one of its ports (RFC 1987).
+/// The state of a switch port (RFC 1987, Port Management): whether it is up, and its Port Session
+/// Number.
 #[derive(Clone, Copy, Debug, PartialEq, Eq)]
 pub struct PortState {
     /// The port.

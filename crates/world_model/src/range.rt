@@ -2,7 +2,8 @@
 
 use net_types::PortNo;
 
-/// A linked port with the range of its labels.
+/// A label range (RFC 1953, Label Range): a linked port with the least and the greatest label that
+/// it hands out, by their numbers.
 #[derive(Clone, Copy, Debug, PartialEq, Eq)]
 pub struct PortRange {
     /// The port, 1 to 8.

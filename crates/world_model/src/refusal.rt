@@ -1,6 +1,6 @@
 //! Why a line of a script can't mean what it says.
 
-/// Why a line can't be added to a topology.
+/// A configuration error: why a line can't be added to a topology. This project's own.
 #[derive(Clone, Copy, Debug, PartialEq, Eq)]
 pub enum TopologyRefusal {
     /// A node has this name.
@@ -21,7 +21,8 @@ pub enum TopologyRefusal {
     TableFull,
 }
 
-/// Why an event can't come to the network of a topology.
+/// A semantic error of an event: why it can't come to the network of a topology. This project's
+/// own.
 #[derive(Clone, Copy, Debug, PartialEq, Eq)]
 pub enum EventRefusal {
     /// No node has this name.

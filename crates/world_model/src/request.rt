@@ -2,7 +2,7 @@
 
 use gsmp_wire::Request;
 
-/// A request with the session that it names.
+/// A GSMP request message (RFC 1987) with the Port Session Number that it names.
 #[derive(Clone, Copy, Debug, PartialEq, Eq)]
 pub struct Asked {
     /// The session of the input port, or of the port that is managed; 0 where none is named.
@@ -11,7 +11,8 @@ pub struct Asked {
     pub request: Request,
 }
 
-/// Why a switch refuses a request, in the order of its tests.
+/// The Code of a GSMP failure answer (RFC 1987): why a switch refuses a request, in the order of
+/// its tests. The causes are this project's own.
 #[derive(Clone, Copy, Debug, PartialEq, Eq)]
 pub enum Failure {
     /// A port that the request names isn't one of the switch.
