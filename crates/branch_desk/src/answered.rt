@@ -7,7 +7,8 @@ use crate::ticket::BranchDone;
 use gsmp_wire::PortRows;
 use std::marker::Model;
 
-/// The ports of a switch, at most nine, as its answer to All Ports told them.
+/// The port table of a switch: at most nine ports, as its answer to All Ports Configuration (RFC
+/// 1987) told them.
 #[derive(Debug, Drop)]
 pub struct Ports {
     rows: PortRows,
@@ -66,7 +67,8 @@ impl Ports {
     }
 }
 
-/// What a message of the switch means to a desk. A request that is answered stands no longer.
+/// The response to an outstanding request: what a message of the switch means to a desk. A request
+/// that is answered stands no longer.
 #[derive(Debug)]
 pub enum Answered {
     /// No standing request has its number and type, or it is no answer.

@@ -25,12 +25,14 @@ use std::marker::Model;
 /// Where so many stand, only needed requests are asked.
 const MOST_ASKED: usize = 1024;
 
-/// A request isn't asked: at least 1,024 stand.
+/// A queue-full error: a request isn't asked, since at least 1,024 are outstanding. The limit is
+/// this project's own.
 #[derive(Clone, Copy, Debug, PartialEq, Eq)]
 pub struct DeskFull;
 
-/// The requests that were asked of one switch and stand: each from its asking until it is answered
-/// or withdrawn. It must be given up by [`Desk::abandon`].
+/// The outstanding requests of a GSMP client (its desk; RFC 1987, Transaction Identifier): those
+/// that it asked of one switch, each from its asking until it is answered or withdrawn. It must be
+/// given up by [`Desk::abandon`].
 #[must_use]
 #[derive(Debug)]
 pub struct Desk {

@@ -1,6 +1,6 @@
-//! The desk of a GSMP client (RFC 1987): the requests that it asked of its switch and that aren't
-//! answered yet. What a request asks, when it is answered and what takes its place is defined in
-//! `port_model`.
+//! The outstanding requests of a GSMP client (its desk; RFC 1987): those that it asked of its
+//! switch and that aren't answered yet. What a request asks, when it is answered and what replaces
+//! it is defined in `port_model`.
 #![tactic(auto)]
 
 mod answered;

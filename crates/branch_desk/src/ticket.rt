@@ -6,8 +6,8 @@ use crate::entry::Entry;
 use gsmp_wire::Request;
 use std::marker::Model;
 
-/// Stands for a request that was asked. It must be spent: where the request is done by [`redeem`],
-/// and else by [`crate::Desk::withdraw`].
+/// The handle of an outstanding request (a ticket), by its Transaction Identifier (RFC 1987). It
+/// must be spent: where the request is done by [`redeem`], and else by [`crate::Desk::withdraw`].
 #[must_use]
 #[derive(Debug)]
 pub struct Ticket {
@@ -50,8 +50,8 @@ impl Ticket {
     }
 }
 
-/// Shows that the switch carried a request out. Only an answer makes it, and it must be spent by
-/// [`redeem`].
+/// A token of a success response (RFC 1987): it shows that the switch carried a request out. Only
+/// an answer makes it, and it must be spent by [`redeem`].
 #[must_use]
 #[derive(Debug)]
 pub struct BranchDone {

@@ -17,7 +17,8 @@ use std::num::NonZeroUsize;
 /// The most flows that are counted.
 const MOST_FLOWS: usize = 1024;
 
-/// How many packets of each flow came in the last ticks.
+/// The packet counters of a flow classifier (Newman, Minshall and Lyon): how many packets of each
+/// flow came in the last ticks.
 #[derive(Drop)]
 pub struct Classifier {
     window: usize,

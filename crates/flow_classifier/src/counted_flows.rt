@@ -6,9 +6,9 @@ use crate::tally::Tally;
 use ipv4_packet::FlowId;
 use std::marker::Model;
 
-/// The flows that are counted, each with how many of its packets came in the last `window` ticks;
-/// 4,294,967,295 where there are more. The flow whose last packet is the oldest comes first. A step
-/// looks at no other flow.
+/// An iterator over the flows that are counted, each with how many of its packets came in the last
+/// `window` ticks; 4,294,967,295 where there are more. The flow whose last packet is the oldest
+/// comes first. A step looks at no other flow.
 #[derive(Drop)]
 pub struct CountedFlows<'a> {
     pub(crate) ticks: u32,

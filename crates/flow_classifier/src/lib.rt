@@ -1,6 +1,6 @@
-//! When a flow gets a label of its own: the policies, and the counts of the packets of each flow on
-//! which they go (Newman, Minshall and Lyon, "IP Switching: ATM under IP": the X/Y classifier). How
-//! flows are counted is defined in `port_model`.
+//! Flow classifiers (policies), which say when a flow gets a label of its own, and the counts of
+//! the packets of each flow on which they go (Newman, Minshall and Lyon, "IP Switching: ATM under
+//! IP": the X/Y classifier). How flows are counted is defined in `port_model`.
 #![tactic(auto)]
 
 mod classifier;

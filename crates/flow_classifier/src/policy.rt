@@ -5,8 +5,8 @@ ghost use Rattle.flow_classifier.specs.Policies.{never, named, xy};
 
 use ipv4_packet::FlowId;
 
-/// When a flow is offered a label, and when an idle label is kept. Both answers depend on the
-/// arguments and the policy alone.
+/// A flow classifier (a policy; Newman, Minshall and Lyon): when a flow is offered a label, and
+/// when an idle label is kept. Both answers depend on the arguments and the policy alone.
 pub trait Policy {
     ghost use Rattle.std.specs.Prelude.{◌≡◌};
     ghost use Rattle.port_model.specs.Setup as setup;
@@ -23,7 +23,8 @@ pub trait Policy {
         ensures { result ≡ (meaning self.now).keeps flow.now idle };
 }
 
-/// Offers from `x` packets in the window on, and keeps for at most `idle` ticks.
+/// The X/Y flow classifier (Newman, Minshall and Lyon): it offers from `x` packets in the window
+/// on, and keeps for at most `idle` ticks, which is this project's own.
 #[derive(Clone, Copy, Debug, PartialEq, Eq)]
 pub struct XyPolicy {
     /// So many packets, 1 to 65,535.
@@ -44,7 +45,7 @@ impl Policy for XyPolicy {
     }
 }
 
-/// Offers nothing, and keeps nothing.
+/// The flow classifier that offers nothing, and keeps nothing.
 #[derive(Clone, Copy, Debug, PartialEq, Eq)]
 pub struct Never;
 
@@ -60,7 +61,7 @@ impl Policy for Never {
     }
 }
 
-/// A policy that a script can name.
+/// A flow classifier that a script can name.
 #[derive(Clone, Copy, Debug, PartialEq, Eq)]
 pub enum NamedPolicy {
     /// By counts.

@@ -9,8 +9,9 @@ use circular_buffer::HeapCircularBuffer;
 use net_types::OutOfMemory;
 use std::alloc::Global;
 
-/// The packets of a flow. A tick isn't noted in each flow: what came since the ring was last brought
-/// up to date are as many ticks without a packet.
+/// The packet counters of one flow, a ring with one for each tick of the window. A tick isn't noted
+/// in each flow: what came since the ring was last brought up to date are as many ticks without a
+/// packet.
 #[derive(Drop)]
 pub struct Tally {
     /// After so many ticks the ring was last brought up to date.

@@ -1,5 +1,6 @@
-//! The labels under which a port may send (RFC 1953), in the order in which they were accepted. What
-//! a grant is, and which is used for a packet, is defined in `port_model`.
+//! The outgoing labels of a port (its remote bindings, here grants): those under which it may send
+//! (RFC 1953), in the order in which they were accepted. What a grant is, and which is used for a
+//! packet, is defined in `port_model`.
 #![tactic(auto)]
 
 mod grant;

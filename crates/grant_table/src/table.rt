@@ -17,7 +17,7 @@ use std::alloc::Global;
 use std::marker::Model;
 use thiserror::Error;
 
-/// What a REDIRECT that is accepted makes.
+/// The outcome of a REDIRECT (RFC 1953) that is accepted: what it makes of the grants.
 #[derive(Clone, Copy, Debug, PartialEq, Eq)]
 pub enum Accepted {
     /// A new grant.
@@ -26,7 +26,8 @@ pub enum Accepted {
     Refreshed,
 }
 
-/// Why a REDIRECT isn't accepted.
+/// The cause of an IFMP Error message (RFC 1953): why a REDIRECT isn't accepted. The causes are
+/// this project's own.
 #[derive(Clone, Copy, Debug, PartialEq, Eq, Error)]
 pub enum AcceptFault {
     /// The label is outside the range of the port.
@@ -43,7 +44,7 @@ pub enum AcceptFault {
     GrantsFull,
 }
 
-/// The state of a grant.
+/// The state of an outgoing label (of a grant). This project's own.
 #[derive(Clone, Copy, Debug, PartialEq, Eq)]
 pub enum GrantState {
     /// Its branch from the controller is being made.
@@ -56,7 +57,8 @@ pub enum GrantState {
     Leaving,
 }
 
-/// A grant as it is read.
+/// An outgoing label (a remote binding, here a grant) as it is read: what the end that sends under
+/// a label holds of it (RFC 1953). Its lifetime is in ticks.
 #[derive(Clone, Copy, Debug, PartialEq, Eq)]
 pub struct GrantView {
     /// The number of its label.
@@ -80,8 +82,9 @@ fn is_label(number: u16) -> bool
     number / 1024 < 16 && number % 1024 >= 32
 }
 
-/// The labels under which a port may send, in the order in which they were accepted. It must be
-/// given up by [`GrantTable::abandon`].
+/// The outgoing labels of a port (its remote bindings, here grants): those under which it may send
+/// (RFC 1953), in the order in which they were accepted. It must be given up by
+/// [`GrantTable::abandon`].
 #[must_use]
 #[derive(Debug)]
 pub struct GrantTable {

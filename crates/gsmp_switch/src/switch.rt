@@ -48,7 +48,8 @@ fn name_fits(name: &[u8])
     ensures { All (Bits 8) name.now }
 {}
 
-/// The switch of a node. It must be given up by [`Switch::abandon`].
+/// An ATM switch under a controller (RFC 1987), the lower half of a node. It must be given up by
+/// [`Switch::abandon`].
 #[must_use]
 #[derive(Debug)]
 pub struct Switch {

@@ -18,7 +18,8 @@ use net_types::{End, Instance, OutOfMemory};
 use std::alloc::Global;
 use std::marker::Model;
 
-/// The labels that a port holds, the lowest first. It must be given up by [`LabelBook::abandon`].
+/// The incoming labels of a port (its local bindings, in a label book; RFC 1953), the lowest first.
+/// It must be given up by [`LabelBook::abandon`].
 #[must_use]
 #[derive(Debug)]
 pub struct LabelBook {

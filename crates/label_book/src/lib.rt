@@ -1,6 +1,6 @@
-//! The labels that a port holds (RFC 1953), the lowest first, each in its state as a type: it is found
-//! by its number, by its place among the others, and by the flow that it serves. What a label is is
-//! defined in `port_model`.
+//! The incoming labels that a port holds (its local bindings; RFC 1953), the lowest first, each in
+//! its state as a type: it is found by its number, by its index among the others, and by the flow
+//! that it serves. What a label is is defined in `port_model`.
 #![tactic(auto)]
 
 mod book;

@@ -6,7 +6,7 @@ ghost use Rattle.label_book.specs.Read.{label_of, name_of, state_from, view_of};
 use ipv4_packet::FlowId;
 use net_types::End;
 
-/// The state of a label that is held.
+/// The state of an incoming label that is held. This project's own.
 #[derive(Clone, Copy, Debug, PartialEq, Eq)]
 pub enum HeldState {
     /// Its branch to the controller is being made.
@@ -41,7 +41,7 @@ impl HeldState {
     }
 }
 
-/// A label that is held.
+/// An incoming label that is held (a local binding): its state, its flow and its counts, in ticks.
 #[derive(Clone, Copy, Debug, PartialEq, Eq)]
 pub struct HeldLabel {
     /// Its number.
@@ -77,7 +77,7 @@ impl HeldLabel {
     }
 }
 
-/// The state of a label, by its name.
+/// The name of an incoming label's state.
 #[derive(Clone, Copy, Debug, PartialEq, Eq)]
 pub enum LabelState {
     /// Its branch to the controller isn't made yet.
@@ -90,7 +90,7 @@ pub enum LabelState {
     Recalled,
 }
 
-/// A label as it is shown.
+/// An incoming label (a local binding) as it is shown.
 #[derive(Clone, Copy, Debug, PartialEq, Eq)]
 pub struct LabelView {
     /// Its number.

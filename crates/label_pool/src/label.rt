@@ -10,21 +10,23 @@ use ipv4_packet::FlowId;
 use net_types::Instance;
 use std::marker::Model;
 
-/// No one uses it, and it is bound to no flow.
+/// The state of a free label: no one uses it, and it is bound to no flow.
 #[derive(Clone, Copy, Debug)]
 pub struct Spare;
 
-/// Its branch to the controller is made, and it is bound to no flow: not yet, or not any more.
+/// The state of a label whose branch to the controller is made, and which is bound to no flow: not
+/// yet, or not any more.
 #[derive(Clone, Copy, Debug)]
 pub struct Wired;
 
-/// It was offered to the peer for a flow.
+/// The state of a redirected label (RFC 1953): it was offered to the peer for a flow, by a
+/// REDIRECT.
 #[derive(Clone, Copy, Debug)]
 pub struct Offered {
     flow: FlowId,
 }
 
-/// It was reclaimed.
+/// The state of a reclaimed label (RFC 1953): a RECLAIM was sent for it.
 #[derive(Clone, Copy, Debug)]
 pub struct Recalled {
     flow: FlowId,
@@ -33,8 +35,8 @@ pub struct Recalled {
     acknowledged: bool,
 }
 
-/// A label in the state `S`, under the instance of the adjacency for which its pool was opened. It
-/// must be put back into its pool, or given up.
+/// An incoming label (RFC 1953) in the state `S`, under the instance of the adjacency for which its
+/// pool was opened. It must be put back into its pool, or given up.
 #[must_use]
 #[derive(Debug)]
 pub struct Label<S> {
@@ -55,8 +57,9 @@ impl<S> Model for Label<S> {
     ghost invariant = { λ l. IsTrue (is_label_number l.number) };
 }
 
-/// Shows that the peer can't use a label any more: it acknowledged the last RECLAIM, and expects a
-/// later number. It must be spent by [`Label::quit`].
+/// A token of a label's release: it shows that the peer can't use the label any more, since it
+/// acknowledged the last RECLAIM (RFC 1953) and expects a later number. It must be spent by
+/// [`Label::quit`].
 #[must_use]
 #[derive(Debug)]
 pub struct Quit {

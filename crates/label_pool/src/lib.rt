@@ -1,6 +1,6 @@
-//! The labels that a port hands out (RFC 1953), as values that can't be lost: a label is in one state,
-//! goes from each to the next by its evidence, and has to be put back into its pool or given up. What
-//! a label is, and which is handed out, is defined in `port_model`.
+//! The incoming labels that a port can hand out (RFC 1953), as values that can't be lost: a label
+//! is in one state, goes from each to the next by its evidence, and has to be put back into its
+//! pool or given up. What a label is, and which is handed out, is defined in `port_model`.
 #![tactic(auto)]
 
 mod between;

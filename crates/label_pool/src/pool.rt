@@ -14,7 +14,7 @@ use net_types::{Channel, OutOfMemory, label_channel};
 use std::alloc::Global;
 use std::marker::Model;
 
-/// The spare labels of a port, for one adjacency in Estab. It must be given up by
+/// The free labels of a port (RFC 1953), for one adjacency in Estab. It must be given up by
 /// [`LabelPool::abandon`].
 #[must_use]
 #[derive(Debug)]

@@ -31,7 +31,8 @@ fn one_if(test: bool) -> usize
     if test { 1 } else { 0 }
 }
 
-/// What will stand at a desk once actions are done: told by what differs from the desk.
+/// A projection of the outstanding requests: what will stand at a desk once actions are done, told
+/// by what differs from the desk.
 #[derive(Drop)]
 pub struct Outlook {
     /// How many requests will stand.

@@ -1,5 +1,5 @@
-//! What a port does on hearing its peer (RFC 1953): a message of IFMP comes, and is taken, answered or
-//! refused. Each call is proved to be a rule of `port_model`.
+//! The receiving half of a port's IFMP engine (RFC 1953): a message comes, and is taken, answered
+//! or refused. Each call is proved to be a rule of `port_model`.
 //!
 //! | Module | Rules |
 //! |---|---|

@@ -1,6 +1,6 @@
-//! What a port says to its peer (RFC 1953): messages of its adjacency, and redirection messages under its own
-//! numbers until these are spent. And how it quits labels that its peer can't use any more. Each call is
-//! proved to be a rule of `port_model`.
+//! The sending half of a port's IFMP engine (RFC 1953): messages of its adjacency, and redirection
+//! messages under its own numbers until these are spent. And how it quits labels that its peer
+//! can't use any more. Each call is proved to be a rule of `port_model`.
 //!
 //! | Module | Rules |
 //! |---|---|

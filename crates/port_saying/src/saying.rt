@@ -23,7 +23,8 @@ use port_actions::Actions;
 use port_model::Action;
 use port_state::PortState;
 
-/// A redirection message of the session, but for the instances of both ends and its number.
+/// A message of the IFMP Redirection Protocol (RFC 1953), but for the instances of both ends and
+/// its Sequence Number.
 #[derive(Clone, Copy, Debug)]
 pub enum Unnumbered {
     /// The label may be used for a flow for so many ticks.
@@ -54,7 +55,8 @@ pub enum Unnumbered {
     },
 }
 
-/// Why a redirection message is refused.
+/// The error code of an IFMP Error message (RFC 1953): why a redirection message is refused. The
+/// codes are this project's own.
 #[derive(Clone, Copy, Debug)]
 pub enum ErrorCode {
     /// Another flow holds the label: 1.

@@ -7,7 +7,7 @@ ghost use Rattle.port_saying.specs.Rules.{Ends};
 
 use net_types::OutOfMemory;
 
-/// Why a rule of the port does nothing more.
+/// An error that ends a rule of a port early: why it does nothing more.
 #[derive(Clone, Copy, Debug)]
 pub enum Stop {
     /// The port asked to be reset.

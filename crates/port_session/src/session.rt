@@ -32,7 +32,8 @@ pub const LAST_NUMBER: u32 = 4_294_967_295;
 /// The next number where the numbers are spent.
 const SPENT_NUMBER: u64 = 4_294_967_296;
 
-/// What a port has exactly in Estab. It must be given up by [`Session::abandon`].
+/// The IFMP session of a port: what it has exactly while its adjacency is in state ESTAB (RFC
+/// 1953). It must be given up by [`Session::abandon`].
 #[must_use]
 pub struct Session {
     /// The next number of its redirection messages; 4,294,967,296 where they are spent.

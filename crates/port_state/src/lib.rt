@@ -1,5 +1,6 @@
-//! A port of a controller as its rules find and leave it (RFC 1953): what stays the same of it with its
-//! policy, its adjacency, its session and its grants. What each part is is defined in `port_model`.
+//! The IFMP state of a router's interface (a port of a controller; RFC 1953), as its rules find and
+//! leave it: what stays the same of it with its policy, its adjacency, its session and its grants.
+//! What each part is is defined in `port_model`.
 #![tactic(auto)]
 
 mod grants;

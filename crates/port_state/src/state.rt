@@ -21,7 +21,8 @@ use port_session::Session;
 use std::alloc::Global;
 use std::marker::Model;
 
-/// A port of a controller, with its policy. It must be given up by [`PortState::abandon`].
+/// The IFMP state of a router's interface (a port of a controller; RFC 1953), with its policy. It
+/// must be given up by [`PortState::abandon`].
 #[must_use]
 pub struct PortState<P: Policy> {
     alloc: Global,

@@ -1,6 +1,7 @@
-//! One port of a controller (RFC 1953): the labels that it hands out, those under which it may send, the
-//! flows that it counts, and its adjacency. It takes what comes and answers what it asks for in turn. Each
-//! call is proved to be a rule of `port_model`.
+//! The IFMP engine of one interface of a router (a port of a controller; RFC 1953): the labels that
+//! it hands out, those under which it may send, the flows that it counts, and its adjacency. It
+//! takes what comes and answers what it asks for in turn. Each call is proved to be a rule of
+//! `port_model`.
 //!
 //! | Module | Rules |
 //! |---|---|

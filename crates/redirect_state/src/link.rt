@@ -44,7 +44,8 @@ use port_state::PortState;
 use std::alloc::Global;
 use std::marker::Model;
 
-/// A port of a controller, with its policy. It must be given up by [`Link::abandon`].
+/// The IFMP engine of a router's interface (a port of a controller; RFC 1953), with its policy. It
+/// must be given up by [`Link::abandon`].
 #[must_use]
 pub struct Link<P: Policy> {
     state: PortState<P>,

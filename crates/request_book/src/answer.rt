@@ -5,8 +5,8 @@ ghost use Rattle.std.specs.Prelude.{◌≡◌};
 use branch_desk::{BranchDone, Ports, Ticket, redeem};
 use std::marker::Model;
 
-/// Shows that the switch carried a request out, with the ticket of that request. It must be spent by
-/// [`Redeemable::redeem`].
+/// A token of a success response (RFC 1987) with the ticket of its request: it shows that the
+/// switch carried the request out. It must be spent by [`Redeemable::redeem`].
 #[must_use]
 #[derive(Debug)]
 pub struct Redeemable {
@@ -48,8 +48,8 @@ impl Redeemable {
     }
 }
 
-/// What a message of the switch means to a book of requests. A request that is answered stands no
-/// longer.
+/// The response to an outstanding request: what a message of the switch means to a book of
+/// requests. A request that is answered stands no longer.
 #[derive(Debug)]
 pub enum Answer {
     /// No standing request has its number and type, or it is no answer.

@@ -33,8 +33,8 @@ fn goes_with(port: PortNo, request: &Request) -> bool
     }
 }
 
-/// The requests that were asked of one switch and stand, each with its ticket. It must be given up by
-/// [`RequestBook::abandon`].
+/// The outstanding requests of a GSMP client (RFC 1987) with the ticket of each. It must be given
+/// up by [`RequestBook::abandon`].
 #[must_use]
 #[derive(Debug)]
 pub struct RequestBook {
