@@ -1,6 +1,6 @@
-//! The cells that a controller keeps in its region of slots: those that wait for its switch, and those
-//! of each channel of the control link since its last end. What a channel makes of its cells is defined
-//! in `frame_model`.
+//! The controller's end of the control link (RFC 1987): the cells that it keeps in its region of
+//! slots, those that wait for its switch, and those of each channel since its last end. What a
+//! channel makes of its cells is defined in `frame_model`.
 #![tactic(auto)]
 
 mod layout;

@@ -21,8 +21,9 @@ use std::alloc::Global;
 use std::marker::Model;
 use world_model::PortRange;
 
-/// The queue of a controller to its switch, and the reassembly of each channel of the control link, in
-/// one region of slots. It must be given up by [`ControlLink::abandon`].
+/// The controller's end of the control link: its output queue of cells to its switch, and the
+/// reassembly of each channel, in one region of slots. It must be given up by
+/// [`ControlLink::abandon`].
 #[must_use]
 #[derive(Debug)]
 pub struct ControlLink {

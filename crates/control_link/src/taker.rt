@@ -2,7 +2,7 @@
 
 use net_types::PortNo;
 
-/// Who takes the cells of a channel of the control link.
+/// The user of a virtual channel of the control link: who takes its cells. This project's own.
 #[derive(Clone, Copy, Debug, PartialEq, Eq)]
 pub enum Taker {
     /// GSMP's channel.

@@ -12,7 +12,8 @@ use ipv4_forward::{Next, Table};
 use ipv4_packet::{FlowId, next_hop};
 use net_types::{Addr, End, PortNo, label_channel, on_control};
 
-/// An input that is led straight to an output.
+/// A cross-connect (a join), by its input and its output: cells of the input go out there, past the
+/// controller (Newman, Minshall and Lyon, cut-through; RFC 1987, Move Branch).
 #[derive(Clone, Copy, Debug, PartialEq, Eq)]
 pub struct Join {
     /// The input.

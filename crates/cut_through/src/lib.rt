@@ -1,6 +1,6 @@
-//! Where the input of a label is led straight on, past the controller (Newman, Minshall and Lyon): to a
-//! label of the next hop's flow, at the port of the flow's route. The rule *Joins* of a controller is
-//! defined in `world_model`.
+//! Cut-through (Newman, Minshall and Lyon): where the input of a label is led straight on, past the
+//! controller, to a label of the next hop's flow, at the port of the flow's route. The rule *Joins*
+//! of a controller is defined in `world_model`.
 #![tactic(auto)]
 
 mod joins;

@@ -21,7 +21,8 @@ use std::alloc::Global;
 use std::marker::Model;
 use world_model::PortRange;
 
-/// A client of GSMP. It must be given up by [`Client::abandon`].
+/// A GSMP client (RFC 1987): a controller's adjacency with its switch, its outstanding requests and
+/// its end of the control link. It must be given up by [`Client::abandon`].
 #[must_use]
 #[derive(Debug)]
 pub struct Client {

@@ -1,6 +1,6 @@
-//! The client's side of GSMP (RFC 1987), but for what it asks: its adjacency with the switch, the
-//! requests that stand, and the control link, on which all frames of a controller go and come. What each
-//! call makes of a controller is a rule of `world_model`, whatever router stands beside the client.
+//! A GSMP client (RFC 1987), but for what it asks: its adjacency with the switch, the requests that
+//! stand, and the control link, on which all frames of a controller go and come. What each call
+//! makes of a controller is a rule of `world_model`, whatever router stands beside the client.
 #![tactic(auto)]
 
 mod asking;

@@ -53,9 +53,9 @@ fn rounds_of(line: ConsoleLine) -> u32
     }
 }
 
-/// The lines of a console's input so far: how many octets and lines they are, whether one was `ports`,
-/// how many were events, and their rounds. The counts of octets and lines stay at 4,294,967,295 once
-/// there.
+/// The parser state of a console's input: how many octets and lines it has had, whether one was
+/// `ports`, how many were events, and their rounds. The counts of octets and lines stay at
+/// 4,294,967,295 once there.
 #[derive(Debug, Drop)]
 pub struct ConsoleScript {
     octets: u32,

@@ -12,7 +12,8 @@ use net_types::{Channel, End, OutOfMemory, PortNo};
 use std::alloc::Global;
 use std::marker::Model;
 
-/// All joins, in ascending order of their inputs, of which each has one.
+/// The cross-connects of a controller (its joins), in ascending order of their inputs, of which
+/// each has one.
 #[derive(Debug, Drop)]
 pub struct Joins {
     list: Vec<Joined>,

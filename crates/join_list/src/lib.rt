@@ -1,6 +1,6 @@
-//! The joins of a controller, in ascending order of their inputs: found by input, and the first of a
-//! port, in the logarithm of their number. Which joins there are is the controller's; see
-//! `world_model`.
+//! The cross-connects of a controller (its joins), in ascending order of their inputs: found by
+//! input, and the first of a port, in the logarithm of their number. Which joins there are is the
+//! controller's; see `world_model`.
 #![tactic(auto)]
 
 mod joins;

@@ -7,7 +7,8 @@ ghost use Rattle.join_list.specs.Joined.{AreInOrder, IsFirstFrom, IsGapFor, IsPl
 use net_types::{End, PortNo};
 use std::cmp::Ordering;
 
-/// An input that is led straight to the output under a grant.
+/// A cross-connect (a join), by the grant that its input is led to: cells of the input go out under
+/// the grant's label, past the controller. This project's own.
 #[derive(Clone, Copy, Debug, PartialEq, Eq)]
 pub struct Joined {
     /// The channel of a label that a port handed out.

@@ -1,6 +1,6 @@
-//! A router that joins labels: a router over the engines of its ports, and the list of its joins, by which
-//! those that an answer of the switch releases, and those that a change of routes leads elsewhere, are
-//! found. Each call is proved to be a rule of `world_model`.
+//! A label-switching router (one that joins labels): a router over the engines of its ports, and
+//! the list of its joins, by which those that an answer of the switch releases, and those that a
+//! change of routes leads elsewhere, are found. Each call is proved to be a rule of `world_model`.
 #![tactic(auto)]
 
 mod answering;

@@ -15,7 +15,8 @@ use std::alloc::Global;
 use std::collections::VecDeque;
 use std::marker::Model;
 
-/// The table of routes that is held, and the changes that wait, the first to come first.
+/// A routing table with its pending updates: the routes that are held, and the changes that wait,
+/// the first to come first. This project's own.
 #[derive(Debug, Drop)]
 pub struct Routes {
     table: Table,

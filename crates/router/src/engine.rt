@@ -11,8 +11,8 @@ use port_model::Timers;
 use std::alloc::Global;
 use world_model::PortRange;
 
-/// The engine of a port (RFC 1953): it takes what comes and answers what it asks for in turn. Each call
-/// is a rule of `port_model`.
+/// A protocol engine of IFMP for one interface (a port; RFC 1953): it takes what comes and answers
+/// what it asks for in turn. Each call is a rule of `port_model`.
 pub trait PortEngine {
     ghost use Rattle.std.specs.Prelude.{◌≡◌, ◌≢◌, ◌+◌, ◌==◌, ℕ, [], length, option_map, slice_get, true, None, Some, IfSome, IsTrue, OnOk};
     ghost use Rattle.net_types.specs.Label.{is_label_number};
@@ -158,7 +158,7 @@ pub trait PortEngine {
     fn abandon(self);
 }
 
-/// An engine that can be opened for a port.
+/// A constructor of IFMP engines: one that can be opened for a port.
 pub trait OpenEngine: PortEngine {
     ghost use Rattle.std.specs.Prelude.{◌≡◌, ◌≤◌, ◌+◌, ℕ, IfOk, IsTrue};
     ghost use Rattle.net_types.specs.Label.{is_label_number};

@@ -18,7 +18,8 @@ use std::mem;
 /// The greatest port that a switch has.
 const LAST_PORT: u8 = 8;
 
-/// A router with its client of GSMP. It must be given up by [`Router::abandon`].
+/// An IPv4 router (RFC 1812) whose links are the ports of an ATM switch, with its GSMP client. It
+/// must be given up by [`Router::abandon`].
 #[must_use]
 pub struct Router<E: PortEngine> {
     pub(crate) alloc: Global,

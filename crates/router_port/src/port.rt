@@ -18,7 +18,8 @@ use router::{OpenEngine, PortEngine};
 use std::alloc::Global;
 use world_model::PortRange;
 
-/// A port's engine in a router. It must be given up.
+/// The IFMP engine of one interface of a router (a port; RFC 1953), as [`router::PortEngine`] asks
+/// for it. It must be given up.
 #[must_use]
 pub struct RouterPort<P: Policy> {
     link: Link<P>,
