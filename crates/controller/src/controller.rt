@@ -16,8 +16,8 @@ use route_changes::Routes;
 use router::PortEngine;
 use std::marker::Model;
 
-/// The controller of a node, over an engine for each of its ports. After want of memory, which each
-/// further call answers, it can only be given up.
+/// The controller of an IP switch (RFC 1953, RFC 1987), over an engine for each of its ports. After
+/// want of memory, which each further call answers, it can only be given up.
 #[must_use]
 pub struct Controller<E: PortEngine> {
     pub(crate) router: JoiningRouter<E>,

@@ -6,7 +6,7 @@ ghost use Rattle.topology.specs.declared.fault.TopologyFault.TheVariants.{OutOfM
 use net_types::OutOfMemory;
 use world_model::TopologyRefusal;
 
-/// Why [`Topology::line`](crate::Topology::line) adds nothing.
+/// An error of [`Topology::line`](crate::Topology::line): why it adds nothing.
 #[derive(Clone, Copy, Debug, PartialEq, Eq)]
 pub enum TopologyFault {
     /// The line can't mean what it says.

@@ -1,5 +1,5 @@
-//! The topology of a network, line by line: its nodes by number and by name, the ranges of their
-//! labels, their routes, and the links between their ports.
+//! The configuration of a network (its topology), line by line: its nodes by number and by name,
+//! the ranges of their labels, their routes, and the links between their ports.
 #![tactic(auto)]
 
 mod fault;

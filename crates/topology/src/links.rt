@@ -9,7 +9,7 @@ use std::alloc::Global;
 use std::marker::Model;
 use world_model::LinkEnd;
 
-/// Two ports that are joined.
+/// A link between two interfaces: two ports of nodes that are connected.
 #[derive(Clone, Copy)]
 pub struct Link {
     first: LinkEnd,
@@ -42,7 +42,7 @@ impl Link {
     }
 }
 
-/// Links in the order of their lines.
+/// The links of a network, in the order of their lines, with a map of each port's other end.
 #[derive(Drop)]
 pub struct Links {
     list: Vec<Link>,

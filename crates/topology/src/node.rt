@@ -20,7 +20,7 @@ const LEAST_LABEL: u16 = 32;
 /// The greatest.
 const GREATEST_LABEL: u16 = 95;
 
-/// A node with its routes.
+/// The configuration of an IP switch (a node), with its static routes.
 #[derive(Drop)]
 pub struct Node {
     name: Octets,

@@ -18,7 +18,7 @@ use world_model::PortRange;
 /// The most nodes of a network.
 pub const NODES: usize = 64;
 
-/// At most 64 nodes.
+/// The IP switches of a network (its nodes), at most 64, with the set of their names.
 #[derive(Drop)]
 pub struct Nodes {
     alloc: Global,

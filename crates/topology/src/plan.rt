@@ -23,7 +23,7 @@ const LINKS: usize = 256;
 /// A line names a node that there isn't.
 const UNKNOWN_NAME: TopologyFault = TopologyFault::Refused(TopologyRefusal::UnknownName);
 
-/// Nodes and links, and what is set for all of them.
+/// A network configuration: nodes and links, and what is set for all of them.
 #[derive(Drop)]
 pub struct Plan {
     /// The nodes.

@@ -19,7 +19,7 @@ use world_model::{EventRefusal, TopologyRefusal};
 /// The most routes of a node.
 const ROUTES: usize = 256;
 
-/// What tells two prefixes apart.
+/// A hash key of an IPv4 prefix: what tells two prefixes apart.
 #[derive(Clone, Copy, Debug, PartialEq, Eq, Hash)]
 pub struct PrefixKey {
     addr: Addr,
@@ -35,7 +35,8 @@ fn key_of(prefix: Prefix) -> PrefixKey
     }
 }
 
-/// At most 256 routes; no two have the same prefix.
+/// The static routes of a node: at most 256, no two of the same prefix, in the order of their
+/// lines.
 #[derive(Drop)]
 pub struct RouteList {
     list: Vec<Route>,

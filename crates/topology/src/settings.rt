@@ -1,6 +1,7 @@
 //! What is set for a whole network.
 
-/// From how many packets in how many ticks on a flow is offered a label.
+/// The X and Y of an X/Y flow classifier (Newman, Minshall and Lyon): from how many packets in how
+/// many ticks on a flow is offered a label.
 #[derive(Clone, Copy)]
 pub struct Threshold {
     /// How many packets, 1 to 65,535.
@@ -9,8 +10,8 @@ pub struct Threshold {
     pub ticks: u32,
 }
 
-/// For how long a Redirect holds, after how long it is sent again, and for how long a label may be
-/// idle, in ticks.
+/// The protocol timers of labels, in ticks: for how long a REDIRECT (RFC 1953) holds, after how
+/// long it is sent again, and for how long a label may be idle.
 #[derive(Clone, Copy)]
 pub struct Spans {
     /// A Redirect's lifetime.

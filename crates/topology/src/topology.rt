@@ -35,7 +35,8 @@ const PORTS: [PortNo; 8] = [
     PortNo(8),
 ];
 
-/// The nodes of a network with their routes and labels, its links, and what is set for all of it.
+/// The configuration of a network (its topology): its nodes with their routes and labels, its
+/// links, and what is set for all of it. This project's own.
 #[derive(Drop)]
 pub struct Topology {
     plan: Plan,

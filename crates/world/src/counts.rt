@@ -5,7 +5,8 @@ ghost use Rattle.world.specs.Counted.{nothing_counted};
 
 use std::marker::Model;
 
-/// The numbers of a report's last line, but that of its events. Each stays at its type's end.
+/// The statistics of a run: the numbers of a report's last line, but that of its events. Each stays
+/// at its type's end.
 #[derive(Clone, Copy, Debug, PartialEq, Eq)]
 pub struct Counts {
     /// How many packets were to be sent.
@@ -36,8 +37,8 @@ impl Model for Counts {
     ghost inverse = { λ c. record { sent = c.sent; delivered = c.delivered; dropped = c.dropped; refused = c.refused; losses = c.losses; redirects = c.redirects; switched = c.switched; chance = c.chance } };
 }
 
-/// How far a world has come: the events that it has stepped since its opening, and its counts then.
-/// [`World::step`](crate::World::step) alone sets it.
+/// A progress counter of a run (a meter): the events that a world has stepped since its opening,
+/// and its counts then. [`World::step`](crate::World::step) alone sets it.
 #[derive(Clone, Copy, Debug, PartialEq, Eq)]
 pub struct Meter {
     events: u64,

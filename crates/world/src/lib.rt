@@ -1,6 +1,7 @@
-//! A network of IP switches in a run: at each node a controller and its switch, joined by a control
-//! link, and between the nodes the links of a topology. What each event makes of it is defined in
-//! `world_model`; [`World`] is proved to be that definition, over any [`NodeController`].
+//! A network of IP switches (Newman, Minshall and Lyon) in a run: at each node a controller and its
+//! switch, joined by a control link, and between the nodes the links of a topology. What each event
+//! makes of it is defined in `world_model`; [`World`] is proved to be that definition, over any
+//! [`NodeController`].
 #![tactic(auto)]
 
 mod counts;

@@ -9,7 +9,7 @@ use port_model::Timers;
 use std::alloc::Global;
 use world_model::PortRange;
 
-/// Why a packet doesn't enter the network.
+/// An error of [`NodeController::inject`]: why a packet doesn't enter the network.
 #[derive(Clone, Copy, Debug, PartialEq, Eq)]
 pub enum InjectFault {
     /// It is no packet.
@@ -20,8 +20,8 @@ pub enum InjectFault {
     OutOfMemory(OutOfMemory),
 }
 
-/// The controller of a node: a router that drives the node's switch. Each call is a rule of
-/// `world_model`. After want of memory it can only be given up.
+/// The controller of an IP switch: a router that drives the node's switch (RFC 1987). Each call is
+/// a rule of `world_model`. After want of memory it can only be given up.
 pub trait NodeController {
     ghost use Rattle.std.specs.Prelude.{◌≡◌, ◌≤◌, ◌<◌, ◌+◌, ◌^◌, ◌↔◌, ℕ, drop, length, map, slice_get, All, IfOk, IsSome, OnOk, None, Some};
     ghost use Rattle.std.specs.Option.{option_map_or};

@@ -7,7 +7,7 @@ ghost use Rattle.world_model.specs.World.{no_tally, one_tallied};
 use link_model::Record;
 use std::marker::Model;
 
-/// How many records of each counted kind there were.
+/// The counters of a run: how many records of each counted kind there were.
 #[derive(Debug, Drop)]
 pub struct Tally {
     pub(crate) delivered: u64,
@@ -71,7 +71,7 @@ impl Tally {
     }
 }
 
-/// A sum over all nodes.
+/// A sum over all nodes, of 128 bits.
 #[derive(Debug, Drop)]
 pub struct Total {
     sum: u128,

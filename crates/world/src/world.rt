@@ -16,7 +16,8 @@ use atm_cells::Cell;
 use gsmp_switch::Switch;
 use net_types::{NodeId, Numbers, Place};
 
-/// A network in a run. It must be given up by [`World::abandon`].
+/// The state of a network between two events (a world): its nodes, its queues, and what its run has
+/// given out. It must be given up by [`World::abandon`].
 #[must_use]
 pub struct World<C> {
     /// The nodes, in the order of their numbers from 1.
