@@ -1,5 +1,5 @@
-//! The edge of a call whose input and output are octets in memory: the words of its command, a sink that
-//! keeps what it takes, and the room that the caller has for the output.
+//! A foreign function interface of octets in memory, the edge of a call: the words of its command,
+//! a sink that keeps what it takes, and the room that the caller has for the output.
 #![tactic(auto)]
 
 mod room;

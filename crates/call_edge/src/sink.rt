@@ -9,8 +9,8 @@ use lab_io::{Failed, Sink};
 use std::alloc::Global;
 use std::marker::Model;
 
-/// A sink that takes all that it is offered and keeps it in the order in which it came. A write fails
-/// where no memory is left for it.
+/// A writer to a growing byte vector (a sink): it takes all that it is offered and keeps it in the
+/// order in which it came. A write fails where no memory is left for it.
 #[derive(Debug, Drop)]
 pub struct GrowingSink {
     taken: Vec<u8>,

@@ -10,7 +10,7 @@ use lab_text::split_word;
 use net_types::OutOfMemory;
 use std::alloc::Global;
 
-/// Why the words of a command can't be had.
+/// An error of splitting command-line arguments: why the words of a command can't be had.
 #[derive(Clone, Copy, Debug, PartialEq, Eq)]
 pub enum WordsFault {
     /// The octets of a word aren't UTF-8.

@@ -1,5 +1,5 @@
-//! The words of the command line: the command whose words they are, or none. `clap` parts them into a
-//! subcommand and its word.
+//! A parser of command-line arguments (words): the command whose words they are, or none. `clap`
+//! parts them into a subcommand and its word.
 #![tactic(auto)]
 
 mod command;

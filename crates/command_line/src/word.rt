@@ -5,7 +5,7 @@ ghost use Rattle.std.specs.Prelude.{◌≡◌, List, ℕ, string_bytes};
 use std::convert::AsStr;
 use std::marker::Model;
 
-/// One word of the command line, seen in contracts as the list of its octets.
+/// A command-line argument (a word), seen in contracts as the list of its octets.
 #[derive(Debug, Drop)]
 pub struct Word {
     text: String,

@@ -1,4 +1,5 @@
-//! The rules of a document: its lines of that key, read up to the first that is refused.
+//! A parser of a document's access list (its rules): its lines of that key, read up to the first
+//! that is refused.
 #![tactic(auto)]
 
 mod reading;

@@ -10,7 +10,8 @@ use script_model::Refused;
 use std::alloc::Global;
 use std::marker::Model;
 
-/// The rules that were read, the number of the line of each, from 1, and the line that is refused.
+/// A parsed access list: the rules that were read, the number of the line of each, from 1, and the
+/// line that is refused.
 #[derive(Debug, Drop)]
 pub struct RulesRead {
     rules: RuleSet,

@@ -6,7 +6,7 @@ ghost use Rattle.document_text.specs.declared.fault.DocumentFault.TheVariants.{O
 use net_types::OutOfMemory;
 use script_model::DocumentRefusal;
 
-/// Why a document isn't read.
+/// A parse error of a TOML document: why it isn't read.
 #[derive(Clone, Copy, Debug, PartialEq, Eq)]
 pub enum DocumentFault {
     /// The document is refused as a whole.

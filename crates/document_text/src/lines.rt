@@ -63,8 +63,8 @@ impl Texts {
     }
 }
 
-/// The lines of a document in their order, each without an end: those of `rules`, of `topology` and of
-/// `events`.
+/// The lines of a TOML document in their order, each without an end: those of `rules`, of
+/// `topology` and of `events`.
 #[derive(Debug, Drop)]
 pub struct Lines {
     texts: Texts,

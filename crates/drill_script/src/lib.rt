@@ -1,5 +1,5 @@
-//! The script of a drill, line by line: a row of nodes, packets of four flows from the first to the
-//! last, losses and two restarts. No more than the line that is next is kept.
+//! A generator of scripts (drills), line by line: a row of nodes, packets of four flows from the
+//! first to the last, losses and two restarts. No more than the line that is next is kept.
 #![tactic(auto)]
 
 mod lines;

@@ -10,7 +10,8 @@ use lab_text::Text;
 use net_types::OutOfMemory;
 use std::marker::Model;
 
-/// The lines of a drill's script that weren't given yet. It takes no memory.
+/// An iterator over the lines of a generated script (a drill) that weren't given yet. It takes no
+/// memory.
 #[derive(Debug, Drop)]
 pub struct DrillLines {
     place: Option<Place>,

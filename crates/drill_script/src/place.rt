@@ -2,7 +2,7 @@
 
 ghost use Rattle.std.specs.Prelude.{◌≤◌};
 
-/// The line at a place.
+/// The kind of the next line of a generated script (a drill).
 #[derive(Clone, Copy, Debug, PartialEq, Eq)]
 pub enum Stage {
     /// `node`, of the node with this number.
@@ -40,7 +40,8 @@ pub enum Stage {
     ClosingRun,
 }
 
-/// A place in the script of a drill.
+/// A cursor in a generated script (a drill): the line that is next, and the number drawn for a
+/// packet.
 #[derive(Clone, Copy, Debug, PartialEq, Eq)]
 pub struct Place {
     /// How many nodes the drill has.

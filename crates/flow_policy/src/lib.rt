@@ -1,5 +1,6 @@
-//! Flow rules: their lines, which of them decides of a flow, which covers another, and the policy that
-//! they are. What a rule is, and what its line says, `rule_model` defines.
+//! Access lists for flows (flow rules): their lines, which of them decides of a flow, which covers
+//! another, and the flow classifier (the policy) that they are. What a rule is, and what its line
+//! says, `rule_model` defines.
 #![tactic(auto)]
 
 mod apart;

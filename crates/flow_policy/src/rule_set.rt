@@ -18,7 +18,8 @@ use std::marker::Model;
 /// The most rules that a set holds.
 pub const RULES: usize = 256;
 
-/// At most 256 rules, in the order of their lines. Places are counted from 0.
+/// An access list (a set of rules): at most 256 rules, in the order of their lines, each by its
+/// index from 0. This project's own.
 #[derive(Debug, Drop)]
 pub struct RuleSet {
     rules: Vec<Rule>,

@@ -6,7 +6,7 @@ ghost use Rattle.lab_text.specs.Words.{words};
 use lab_text::split_word;
 use word_forms::four_words;
 
-/// The words that say which flows a rule is of.
+/// The unparsed match of an access list entry: the words that say which flows a rule is of.
 #[derive(Clone, Copy, Debug)]
 pub struct FlowWords<'a> {
     /// Their type and protocol.
@@ -21,7 +21,8 @@ pub struct FlowWords<'a> {
     pub destination_ports: &'a [u8],
 }
 
-/// The words that say from when on and for how long an offer holds.
+/// The unparsed action of an access list entry: the words that say from when on and for how long an
+/// offer holds.
 #[derive(Clone, Copy, Debug)]
 pub struct OfferWords<'a> {
     /// A word that is fixed.

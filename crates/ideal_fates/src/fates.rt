@@ -25,7 +25,8 @@ use std::marker::Model;
 use topology::Topology;
 use world_model::Event;
 
-/// The tables of the nodes as the route lines so far set them, and how many packets had which fate.
+/// The routing tables of all nodes, as the route lines so far set them, and counters of the packets
+/// with each final disposition (fate).
 #[derive(Drop)]
 pub struct Fates {
     alloc: Global,

@@ -13,7 +13,7 @@ use link_model::DropCause;
 use net_types::NodeId;
 use topology::Topology;
 
-/// Where a packet's journey ends, and how.
+/// The final disposition of a packet (its fate): where its hop-by-hop path ends, and how.
 #[derive(Clone, Copy, Debug, PartialEq, Eq)]
 pub enum Ending {
     /// The node is its destination.

@@ -1,5 +1,6 @@
-//! What routing alone makes of the packets of a script: the journey of each over the tables of the
-//! nodes, hop by hop, as the route lines before it set them, and the report that tells of it.
+//! Hop-by-hop routing alone, without links and cells: what it makes of the packets of a script, the
+//! journey of each over the tables of the nodes, as the route lines before it set them, and the
+//! report that tells of it.
 #![tactic(auto)]
 
 mod fates;

@@ -10,7 +10,7 @@ use std::alloc::Global;
 use std::marker::Model;
 use topology::Topology;
 
-/// A table for each node, in their order.
+/// The routing tables of all nodes, in their order.
 #[derive(Drop)]
 pub struct Tables {
     list: Vec<Table>,

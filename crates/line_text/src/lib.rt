@@ -1,4 +1,5 @@
-//! The lines of scripts as they are written.
+//! Formatting of the lines of scripts: those of events for a journal, and whole lines for tests and
+//! claims alone.
 #![tactic(auto)]
 
 mod events;

@@ -1,4 +1,5 @@
-//! The lines of records, both ways: each record that has a line is written as that line and read back
+//! Formatting of event log entries (records) as the lines of a report; the reading of records
+//! serves tests and claims alone. Each record that has a line is written as that line and read back
 //! from it, and octets that are no record's line are read as none.
 #![tactic(auto)]
 

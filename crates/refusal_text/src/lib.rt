@@ -1,4 +1,4 @@
-//! The last line of a report whose script is refused.
+//! Formatting of parse errors: the last line of a report whose script is refused.
 #![tactic(auto)]
 
 mod last_line;

@@ -15,7 +15,8 @@ use refusal_text::write_refused;
 use script_model::Refused;
 use std::alloc::Global;
 
-/// What is told of a document's rules, and whether something is refused.
+/// A report on an access list: what is told of a document's rules, and whether something is
+/// refused.
 #[derive(Debug, Drop)]
 pub struct Judgement {
     /// Its octets.

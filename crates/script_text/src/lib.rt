@@ -1,4 +1,4 @@
-//! The lines of a script, one by one: each line is refused by the first test that it fails, or says
+//! A parser of scripts, line by line: each line is refused by the first test that it fails, or says
 //! something behind the lines before it.
 #![tactic(auto)]
 

@@ -27,9 +27,9 @@ use world_model::{Event, EventRefusal, TopologyLine};
 /// A line would pass a limit.
 const TOO_MANY: ReadFault = ReadFault::Refused(LineRefusal::TooMany);
 
-/// The topology of the lines so far, the routes of its nodes as the route lines set them, and the
-/// counts of octets, lines, event lines, rounds and ticks. The counts of octets and lines stay at
-/// 4,294,967,295 once there.
+/// The parser state of a script: the topology of the lines so far, the routes of its nodes as the
+/// route lines set them, and the counts of octets, lines, event lines, rounds and ticks. The counts
+/// of octets and lines stay at 4,294,967,295 once there.
 #[derive(Drop)]
 pub struct ScriptState {
     alloc: Global,

@@ -10,7 +10,7 @@ use std::alloc::Global;
 use std::marker::Model;
 use topology::{RouteList, Topology};
 
-/// A list of routes for each node.
+/// The routing tables of all nodes: a list of routes for each.
 #[derive(Drop)]
 pub struct Tables {
     list: Vec<RouteList>,

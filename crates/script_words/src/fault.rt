@@ -8,7 +8,7 @@ use net_types::OutOfMemory;
 use script_model::LineRefusal;
 use std::alloc::AllocError;
 
-/// Why a line isn't read.
+/// A parse error of a script: why a line isn't read.
 #[derive(Clone, Copy, Debug, PartialEq, Eq)]
 pub enum ReadFault {
     /// The line is refused.

@@ -1,5 +1,5 @@
-//! The words of a script's lines: how each form of a word is read, and what a line says by its words,
-//! with nodes by their names.
+//! A parser of the words of a script's lines: how each form of a word is read, and what a line says
+//! by its words, with nodes by their names.
 #![tactic(auto)]
 
 mod event_lines;

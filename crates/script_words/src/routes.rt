@@ -13,7 +13,7 @@ use net_types::Prefix;
 use script_model::LineRefusal;
 use word_forms::{four_words, three_words};
 
-/// A route by the name of its node.
+/// A static route with the name of its node.
 #[derive(Drop)]
 pub struct Way<'a> {
     /// The node's name.

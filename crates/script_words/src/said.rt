@@ -4,7 +4,7 @@ use ipv4_forward::Next;
 use net_types::{Channel, Octets, PortNo, Prefix};
 use world_model::TopologyLine;
 
-/// A queue of a node, as a line names it.
+/// The output queue of a node that a line names (its side).
 #[derive(Clone, Copy, Debug, PartialEq, Eq)]
 pub enum Side {
     /// From its controller to its switch.
@@ -14,7 +14,7 @@ pub enum Side {
     FromPort(PortNo),
 }
 
-/// What a line says that isn't blank, with nodes by their names.
+/// A parsed statement of a script: what a line says that isn't blank, with nodes by their names.
 #[derive(Debug, Drop)]
 pub enum Said<'a> {
     /// Something of the topology.

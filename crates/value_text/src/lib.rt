@@ -1,7 +1,7 @@
-//! The values of lines and reports as text: addresses, prefixes, channels, labels, names of nodes,
-//! ports, queues and marks. The texts are functions of the value; each call appends one of them.
-//! Where memory is wanting, what stood there is still in front, and part of the value may stand behind
-//! it.
+//! Formatting of values as text: addresses, prefixes, channels, labels, names of nodes, ports,
+//! queues and marks of lines and reports. The texts are functions of the value; each call appends
+//! one of them. Where memory is wanting, what stood there is still in front, and part of the value
+//! may stand behind it.
 #![tactic(auto)]
 
 mod named;

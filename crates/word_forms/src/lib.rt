@@ -1,5 +1,5 @@
-//! Words that lines of several languages share: so many words of a line, and words that say a number, an
-//! address or a prefix, or two parts with a sign between them.
+//! Parsers of words that lines of several languages share: so many words of a line, and words that
+//! say a number, an address or a prefix, or two parts with a sign between them.
 #![tactic(auto)]
 
 mod forms;

@@ -16,7 +16,7 @@ use script_model::Refused;
 use script_text::{ReadFault, ScriptState, read_line};
 use std::alloc::Global;
 
-/// A report, and whether a line of its script was refused.
+/// A report with its outcome: its octets, and whether a line of its script was refused.
 #[derive(Debug, Drop)]
 pub struct Reported {
     /// Its octets.
