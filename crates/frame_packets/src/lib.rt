@@ -1,5 +1,6 @@
-//! Frames on links as packets of a file in the format pcapng: the cells that are carried from each queue on
-//! each channel are kept until one ends a frame, and these make a packet, with the text of its frame.
+//! Packets of a capture in the format pcapng, made of the frames on links: the cells that are
+//! carried from each queue on each channel are kept until one ends a frame, and these make a
+//! packet, with the text of its frame.
 #![tactic(auto)]
 
 mod packet;

@@ -6,7 +6,7 @@ ghost use Rattle.frame_packets.specs.Taps.{key_of, queue_of};
 use net_types::{Channel, NodeId, Place};
 use telling_model::Standing;
 
-/// A queue, by its node and by its number there.
+/// The identifier of a captured interface: an output queue, by its node and by its number there.
 #[derive(Clone, Copy, Debug, PartialEq, Eq, Hash)]
 pub struct Queue {
     /// The node.
@@ -15,7 +15,7 @@ pub struct Queue {
     pub number: u16,
 }
 
-/// A channel of a queue.
+/// The identifier of a capture's reassembly buffer: a virtual channel of an output queue.
 #[derive(Clone, Copy, Debug, PartialEq, Eq, Hash)]
 pub struct TapKey {
     /// The queue.

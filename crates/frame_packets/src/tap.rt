@@ -10,8 +10,9 @@ use std::marker::Model;
 /// The most cells that are kept: those of the longest frame.
 const MOST_CELLS: usize = 32;
 
-/// The cells that were carried from a queue on a channel since the last one there that ended a frame. It
-/// keeps the first 32 of them, and takes no memory of its own.
+/// A reassembly buffer of a capture (a tap): the cells that were carried from a queue on a channel
+/// since the last one there that ended a frame. It keeps the first 32 of them, and takes no memory
+/// of its own.
 #[derive(Drop)]
 pub struct Tap {
     key: TapKey,

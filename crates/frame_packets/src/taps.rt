@@ -11,8 +11,9 @@ use net_types::OutOfMemory;
 use std::alloc::Global;
 use std::marker::Model;
 
-/// A tap for each channel of a queue on which a cell was carried: all their cells stand in one region, at
-/// most 32 for each, which grows as such channels come. A tap is found by a hash of its key.
+/// The reassembly buffers of a capture (its taps), one for each channel of a queue on which a cell
+/// was carried: all their cells stand in one region, at most 32 for each, which grows as such
+/// channels come. A tap is found by a hash of its key.
 #[derive(Drop)]
 pub struct Taps {
     keys: IndexSet<TapKey>,

@@ -1,4 +1,5 @@
-//! Frames as text: each is named by what its octets are, a message, a packet, or octets alone.
+//! Formatting of frames as text: each is named by what its octets are, a message, a packet, or
+//! octets alone.
 #![tactic(auto)]
 
 mod frame;

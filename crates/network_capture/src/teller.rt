@@ -27,9 +27,10 @@ use topology::Topology;
 use world::{NodeController, World};
 use world_model::Event;
 
-/// Tells the frames on the links as a file in the format pcapng: a section with an interface for each
-/// queue where the network opens, and a packet for each last cell that an event carries. The cells before
-/// it are kept, at most 32 for each queue and channel on which cells were carried.
+/// An observer that writes a packet capture in the format pcapng (draft-ietf-opsawg-pcapng): a
+/// section with an interface for each queue where the network opens, and a packet for each last
+/// cell that an event carries. The cells before it are kept, at most 32 for each queue and channel
+/// on which cells were carried.
 #[derive(Drop)]
 pub struct CaptureTeller {
     alloc: Global,

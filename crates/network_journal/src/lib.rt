@@ -1,5 +1,6 @@
-//! The journal of a script, as JSON Lines (RFC 8259): a line where its network opens, one of each event
-//! that does something, and one at last. Each is a function of the script's run, in `specs/`.
+//! An observer that writes an event log of a script as JSON Lines (its journal; RFC 8259): a line
+//! where its network opens, one of each event that does something, and one at last. Each is a
+//! function of the script's run, in `specs/`.
 #![tactic(auto)]
 
 mod cells;

@@ -22,8 +22,8 @@ use topology::Topology;
 use world::{NodeController, World};
 use world_model::Event;
 
-/// Tells the journal of a script, event by event. Of the run it keeps what it saw before the event that
-/// is told, and the cells that this event put.
+/// An observer that writes the event log of a script as JSON Lines (its journal; RFC 8259). Of the
+/// run it keeps what it saw before the event that is told, and the cells that this event put.
 #[derive(Drop)]
 pub struct JournalTeller {
     alloc: Global,

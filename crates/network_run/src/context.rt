@@ -2,7 +2,8 @@
 
 use topology::Topology;
 
-/// The topology, for names, and the line of the script that an event comes of, counted from 1.
+/// The source position of an event: the line of the script that it comes of, counted from 1, and
+/// the topology, for names.
 #[derive(Clone, Copy)]
 pub struct Context<'a> {
     /// The topology.

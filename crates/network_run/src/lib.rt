@@ -1,5 +1,5 @@
-//! The run of a network event by event: each event is stepped, it is told of, and its records are put
-//! away. What is told of it, and put to a report, is its teller's.
+//! A simulation of a network, event by event (a run): each event is stepped, it is told of, and its
+//! records are put away. What is told of it, and put to a report, is its observer's (its teller's).
 #![tactic(auto)]
 
 mod carries;

@@ -3,7 +3,7 @@
 use lab_io::Failed;
 use net_types::OutOfMemory;
 
-/// What ends a run before its script does.
+/// An error that ends a run before its script does, of writing or of memory.
 #[derive(Clone, Copy, Debug, PartialEq, Eq)]
 pub enum Stop {
     /// A write of the report failed.

@@ -2,7 +2,7 @@
 
 use lab_io::ReportWriter;
 
-/// Who tells a run, and the writer of what is told.
+/// An observer with its writer: who tells a run, and the writer of what is told.
 #[derive(Drop)]
 pub struct Told<T> {
     /// Who tells it.

@@ -1,6 +1,7 @@
-//! What a network holds behind the last event of a script, told at last: for each node what its
-//! controller holds, its linked ports, its switch and its queues; and how much of each there is. It is
-//! a function of the run, in `specs/`, and the lines are those of `show_text`.
+//! An observer that writes the state of a network behind the last event of a script, as a router's
+//! show commands do: for each node what its controller holds, its linked ports, its switch and its
+//! queues; and how much of each there is. It is a function of the run, in `specs/`, and the lines
+//! are those of `show_text`.
 #![tactic(auto)]
 
 mod desk;

@@ -11,7 +11,8 @@ use topology::Topology;
 use world::World;
 use world_model::Event;
 
-/// Tells at last what a network holds then, and nothing before.
+/// An observer that writes the state of the network at last, as a router's show commands do, and
+/// nothing before.
 #[derive(Clone, Copy, Debug, Drop)]
 pub struct ShowTeller {
     alloc: Global,

@@ -12,8 +12,9 @@ use topology::Topology;
 use world::{NodeController, World};
 use world_model::Event;
 
-/// Tells the trace of a run. It knows which frames it has told, and what it saw before the event that is
-/// to come; the cells that an event put it holds until the next one.
+/// An observer that writes the cell-level trace of a run. It knows which frames it has told, and
+/// what it saw before the event that is to come; the cells that an event put it holds until the
+/// next one.
 #[derive(Drop)]
 pub struct TraceTeller {
     alloc: Global,

@@ -21,8 +21,8 @@ use telling_model::Standing;
 use world::{NodeController, World};
 use world_model::Event;
 
-/// What was seen of a network before an event: the cell that the event takes, how many frames were made
-/// so far, and how many cells it leaves in the queues to which it can put more.
+/// A snapshot of the queues before an event: the cell that the event takes, how many frames were
+/// made so far, and how many cells it leaves in the queues to which it can put more.
 #[derive(Clone, Copy)]
 pub struct Before {
     pub(crate) taken: Option<Standing>,

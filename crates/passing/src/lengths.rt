@@ -19,7 +19,7 @@ use world::{NodeController, World};
 /// The ports of a switch, port 0 to its controller among them.
 const PORTS: usize = 9;
 
-/// How many cells stood in the queues of an actor.
+/// The queue lengths of an actor, in cells.
 #[derive(Clone, Copy)]
 pub enum Lengths {
     /// There is no actor.

@@ -2,7 +2,8 @@
 
 use net_types::NodeId;
 
-/// The actor that an event reaches. Cells come to the ends of its queues alone.
+/// The target of a transition: the actor that an event reaches. Cells come to the ends of its
+/// queues alone.
 #[derive(Clone, Copy, Debug, PartialEq, Eq)]
 pub enum Reached {
     /// None: a cell is lost, or the queue to be carried from is empty.

@@ -1,4 +1,5 @@
-//! The report of a replay, told line by line: the lines of the records of each event, and the last line.
+//! An observer that writes the event log of a replay (its report): the lines of the records of each
+//! event, and the last line.
 #![tactic(auto)]
 
 mod end_line;

@@ -10,7 +10,8 @@ use topology::Topology;
 use world::{NodeController, World};
 use world_model::Event;
 
-/// Tells the report of a script: the lines of the records of each event, and the last line.
+/// An observer that writes the event log of a run (its report): the lines of the records of each
+/// event, and the last line.
 #[derive(Clone, Copy, Debug, Drop)]
 pub struct ReportLines {
     alloc: Global,

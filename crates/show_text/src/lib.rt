@@ -1,7 +1,8 @@
-//! What a network holds, line by line, as text: a controller's adjacency, routes, changes that wait and
-//! requests that stand; a port's adjacency, counted flows, labels and grants; a switch and its branches;
-//! the queues. The lines are functions of the world, in `specs/`; each call appends one of them.
-//! Where memory is wanting, a front of it may stand behind what stood there.
+//! Formatting of a network's state as text, line by line, as a router's show commands have it: a
+//! controller's adjacency, routes, changes that wait and requests that stand; a port's adjacency,
+//! counted flows, labels and grants; a switch and its branches; the queues. The lines are functions
+//! of the world, in `specs/`; each call appends one of them. Where memory is wanting, a front of it
+//! may stand behind what stood there.
 #![tactic(auto)]
 
 mod counted;

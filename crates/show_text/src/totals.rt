@@ -7,7 +7,7 @@ use crate::words::write_number;
 use lab_text::Text;
 use net_types::OutOfMemory;
 
-/// How much of each a network holds. Each stays at its type's end.
+/// The totals of a network's state: how much of each it holds. Each stays at its type's end.
 #[derive(Clone, Copy, Debug, PartialEq, Eq)]
 pub struct Totals {
     /// How many nodes it has.
