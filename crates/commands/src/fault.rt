@@ -9,7 +9,7 @@ use net_types::OutOfMemory;
 use network_run::Stop;
 use script_replay::ReplayFault;
 
-/// Why a task isn't carried out to its end.
+/// An error that ends a task early: a fault of reading, of writing or of memory.
 #[derive(Clone, Copy, Debug, PartialEq, Eq)]
 pub enum RunFault {
     /// A read failed.

@@ -1,4 +1,5 @@
-//! What each command makes of its input, from a source to a sink, and the status that it gives.
+//! The subcommands of the program: what each command makes of its input, from a source to a sink,
+//! and the status that it gives.
 #![tactic(auto)]
 
 mod command;

@@ -8,7 +8,7 @@ use message_text::Protocol;
 use net_types::OutOfMemory;
 use std::alloc::Global;
 
-/// What is made of an input that is read as a whole.
+/// A task over a whole input: what is made of it once it is read.
 #[derive(Clone, Copy, Debug, PartialEq, Eq)]
 pub enum Whole {
     /// The fate of each packet of a script by routing alone.
@@ -19,7 +19,7 @@ pub enum Whole {
     Rules,
 }
 
-/// What is made of the lines of an input, which are taken one by one.
+/// A task over single lines: what is made of the lines of an input, which are taken one by one.
 #[derive(Clone, Copy, Debug, PartialEq, Eq)]
 pub enum Lined {
     /// The verdict on a trace.
@@ -28,7 +28,7 @@ pub enum Lined {
     Console,
 }
 
-/// What is told of the run of a script in place of its report.
+/// The output format of a script's run that is told in place of its report.
 #[derive(Clone, Copy, Debug, PartialEq, Eq)]
 pub enum View {
     /// What passes on the links, line by line.
@@ -41,7 +41,7 @@ pub enum View {
     Capture,
 }
 
-/// What a command does.
+/// A task of the program: what a command does.
 #[derive(Clone, Copy, Debug, PartialEq, Eq)]
 pub enum Task {
     /// A script is replayed as it is read, line by line.

@@ -1,5 +1,5 @@
-//! The replay of a drill: its script is made and taken line by line, and of its report the last line
-//! alone is written.
+//! A simulation of a generated scenario (the replay of a drill): its script is made and taken line
+//! by line, and of its report the last line alone is written.
 #![tactic(auto)]
 
 mod drill;

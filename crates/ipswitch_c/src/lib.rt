@@ -1,4 +1,4 @@
-//! The commands for callers in C: one call, whose words, input and output are octets in memory.
+//! The C interface of the program: one call, whose words, input and output are octets in memory.
 #![tactic(auto)]
 
 ghost use Rattle.true_commands.specs.Call.{IsCall};

@@ -9,7 +9,8 @@ use network_replay::PolicyChoice;
 use router_port::RouterPort;
 use topology::Topology;
 
-/// The controller of a node whose ports all go by a policy that a script can name.
+/// The controller of an IP switch whose ports all go by a flow classifier (a policy) that a script
+/// can name.
 pub type NamedController = Controller<RouterPort<NamedPolicy>>;
 
 /// The choice of the policy that the script names.

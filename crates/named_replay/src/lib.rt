@@ -1,6 +1,6 @@
-//! The replay of a script, of a document and of a drill in a network of IP switches, whose nodes all go
-//! by the policy that the script names, or by the rules of the document; and the run of a script, whatever
-//! is told of it.
+//! Simulations of IP switches whose nodes all go by one flow classifier: the replay of a script, of
+//! a document and of a drill, by the policy that the script names or by the rules of the document;
+//! and the run of a script, whatever is told of it.
 #![tactic(auto)]
 
 mod choice;

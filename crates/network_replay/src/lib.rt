@@ -1,5 +1,6 @@
-//! The run of a script: its lines are taken one by one, and the network that they describe runs as they
-//! say. As it goes, it is told: the network as it opens, each event, and the end.
+//! A simulation of a scenario (the run of a script): its lines are taken one by one, and the
+//! network that they describe runs as they say. As it goes, it is told: the network as it opens,
+//! each event, and the end.
 #![tactic(auto)]
 
 mod line_run;

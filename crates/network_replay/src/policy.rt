@@ -3,7 +3,8 @@
 use topology::Topology;
 use world::NodeController;
 
-/// Chooses the policy of the nodes of a network, once its topology is known.
+/// A selector of the flow classifier of a network's nodes (the choice of their policy), once its
+/// topology is known.
 pub trait PolicyChoice<C: NodeController> {
     ghost use Rattle.std.specs.Prelude.{◌≡◌};
     ghost use Rattle.port_model.specs.Setup.{Policy};

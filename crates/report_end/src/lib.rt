@@ -1,4 +1,4 @@
-//! The end of a replay's report: what is still held of it is written.
+//! The end of a replay's event log (its report): what is still held of it is written.
 #![tactic(auto)]
 
 mod held;

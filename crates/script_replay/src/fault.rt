@@ -3,7 +3,8 @@
 use net_types::OutOfMemory;
 use network_run::Stop;
 
-/// What ends a replay before its script does. The first fault is the last.
+/// An error that ends a replay before its script does: a fault of reading, of writing or of memory.
+/// The first fault is the last.
 #[derive(Clone, Copy, Debug, PartialEq, Eq)]
 pub enum ReplayFault {
     /// A read failed.

@@ -1,5 +1,5 @@
-//! The run of a script that a source gives line by line, with what is told of it written as it grows: its
-//! report, in a replay.
+//! A simulation of a scenario that is read as it goes (the run of a script that a source gives line
+//! by line), with what is told of it written as it grows: its report, in a replay.
 #![tactic(auto)]
 
 mod fault;

@@ -26,7 +26,7 @@ use world::{Meter, NodeController};
 /// So many octets of the script are read ahead at most, and so many of the report are held.
 const ROOM: usize = 65_536;
 
-/// What a line leads to.
+/// The control flow behind a line of a script: another one may follow, or the script ends.
 #[derive(Clone, Copy, Debug, PartialEq, Eq)]
 pub enum Step {
     /// Another may follow.
@@ -35,8 +35,8 @@ pub enum Step {
     Ends(Option<Refused>),
 }
 
-/// A replay, the reader of its script, and who tells it. It must be given up by
-/// [`ScriptRun::abandon`].
+/// A replay with its reader and its observer: who reads the script, and who tells its run. It must
+/// be given up by [`ScriptRun::abandon`].
 #[must_use]
 pub struct ScriptRun<C, T> {
     reader: LineReader,
