@@ -24,7 +24,7 @@ pub struct Cell {
     pub mark: Mark,
 }
 
-/// What stands in a place for a cell before one is written there.
+/// What stands in a slot before a cell is written there.
 pub const BLANK_CELL: Cell = Cell {
     header: Header {
         channel: Channel { vpi: 0, vci: 0 },

@@ -56,8 +56,8 @@ impl Ports {
         self.rows.is_empty()
     }
 
-    /// The number of the port at this place, counted from 0, its session, and whether it is up; none
-    /// exactly where the place is at or above the length.
+    /// The number of the port at this index, counted from 0, its session, and whether it is up; none
+    /// exactly where the index is at or above the length.
     pub fn at(&self, place: usize) -> Option<(u32, u32, bool)>
         ensures { result ≡ option_map (λ (row : PortRow). (row.port, row.session, row.up)) (slice_get self.now place) }
     {

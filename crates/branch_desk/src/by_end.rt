@@ -33,7 +33,7 @@ fn order(a: &End, b: &End) -> Ordering
     ports.then(paths).then(channels)
 }
 
-/// A place where a number of the end stands, or else the place where it would stand.
+/// An index where a number of the end stands, or else the index where it would stand.
 fn place_of(numbers: &[Numbered], end: End) -> Result<usize, usize>
     requires { AreInOrder numbers.now }
     ensures found { IfOk result (IsPlaceOf numbers.now end) }
@@ -42,7 +42,7 @@ fn place_of(numbers: &[Numbered], end: End) -> Result<usize, usize>
     numbers.binary_search_by(|entry| order(&entry.end, &end))
 }
 
-/// A place where a number of the end may go.
+/// An index where a number of the end may go.
 fn place_for(numbers: &[Numbered], entry: Numbered) -> usize
     requires { AreInOrder numbers.now }
     ensures within { result ≤ length numbers.now }

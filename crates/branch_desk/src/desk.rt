@@ -146,8 +146,8 @@ impl Desk {
         }
     }
 
-    /// The message of the request at this place in order of numbers, counted from 0; none exactly
-    /// where the place is at or above [`Desk::standing`]. It is in range: no receiver refuses its octets.
+    /// The message of the request at this index in order of numbers, counted from 0; none exactly
+    /// where the index is at or above [`Desk::standing`]. It is in range: no receiver refuses its octets.
     pub fn resend(&self, place: usize) -> Option<Message>
         ensures message { result ≡ option_map (message_at self.now) (slice_get self.now.standing place) }
         ensures range { IfSome result IsInRange }
@@ -174,8 +174,8 @@ impl Desk {
         self.requests.len()
     }
 
-    /// The input of the request at this place in order of numbers, counted from 0; none where it is on
-    /// no input, or where the place is at or above [`Desk::standing`].
+    /// The input of the request at this index in order of numbers, counted from 0; none where it is on
+    /// no input, or where the index is at or above [`Desk::standing`].
     pub fn input_at(&self, place: usize) -> Option<End>
         ensures { result ≡ option_and_then (λ s. input_of s.request) (slice_get self.now.standing place) }
     {

@@ -16,7 +16,7 @@ use net_types::{End, OutOfMemory, PortNo};
 use std::alloc::Global;
 use std::marker::Model;
 
-/// The place of the request with this number.
+/// The index of the request with this number.
 fn place_of(entries: &[Entry], number: u32) -> Option<usize>
     requires { AreRising entries.now }
     ensures found { IfSome result (IsUnder number entries.now) }
@@ -82,7 +82,7 @@ impl Requests {
         self.entries.len()
     }
 
-    /// The one at this place in order of numbers.
+    /// The one at this index in order of numbers.
     pub(crate) fn at(&self, place: usize) -> Option<Entry>
         ensures at { result ≡ slice_get self.now place }
         ensures function { IfSome result (λ s. has_function s.request ≡ true) }

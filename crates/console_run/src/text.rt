@@ -95,7 +95,7 @@ fn write_reply(out: &mut Text, number: u64, reply: Reply) -> Result<(), OutOfMem
     out.text("\n")
 }
 
-/// Writes the answer at this place, counted from 0, where there is one.
+/// Writes the answer at this index, counted from 0, where there is one.
 fn write_reply_at(out: &mut Text, lab: &Lab, place: usize) -> Result<(), OutOfMemory>
     requires { place + 1 < 2 ^ 64 }
     ensures { (reply : Given) → slice_get lab.now.answers place ≡ Some reply → OnOk result (out.new ≡ out.old ++ reply_line (place + 1) reply) }

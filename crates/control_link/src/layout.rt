@@ -14,7 +14,7 @@ use world_model::PortRange;
 /// The numbers of the ports, port 0 among them.
 const PORTS: usize = 9;
 
-/// A port with the range of its labels, and the place of its default channel, behind which those of
+/// A port with the range of its labels, and the index of its default channel, behind which those of
 /// its labels stand, ascending.
 #[derive(Clone, Copy, Debug)]
 pub(crate) struct Block {
@@ -32,7 +32,7 @@ const NO_BLOCK: Block = Block {
     first: 0,
 };
 
-/// The place of each channel among all of them: first GSMP's, and then those of each linked port.
+/// The index of each channel among all of them: first GSMP's, and then those of each linked port.
 #[derive(Debug, Drop)]
 pub(crate) struct Layout {
     ports: Vec<PortRange>,
@@ -112,7 +112,7 @@ impl Layout {
         self.blocks[port.0 as usize]
     }
 
-    /// The place of a channel.
+    /// The index of a channel.
     pub(crate) fn place_of(&self, taker: Taker) -> usize
         requires { is_channel self.now taker ≡ true }
         ensures place { result ≡ place_of self.now taker }

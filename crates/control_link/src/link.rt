@@ -98,7 +98,7 @@ impl ControlLink {
         self.store.pop()
     }
 
-    /// The cell that waits for the switch at this place, counted from 0. None exactly where none waits
+    /// The cell that waits for the switch at this index, counted from 0. None exactly where none waits
     /// there.
     pub fn cell(&self, index: usize) -> Option<Cell>
         ensures { result ≡ slice_get self.now.queue index }

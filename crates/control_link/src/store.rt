@@ -16,7 +16,7 @@ use reassembly::Reassembly;
 use std::alloc::Global;
 use std::marker::Model;
 
-/// A queue and reassemblies, each at its place, in one region of slots.
+/// A queue and reassemblies, each at its index, in one region of slots.
 #[must_use]
 #[derive(Debug)]
 pub(crate) struct Store {
@@ -54,7 +54,7 @@ impl Store {
         })
     }
 
-    /// Takes a cell of the channel at this place. Where it ends a frame that passes its test, the
+    /// Takes a cell of the channel at this index. Where it ends a frame that passes its test, the
     /// answer is the length in octets of the frame's payload, which stands at the front of `octets`.
     pub(crate) fn receive(
         &mut self,
@@ -75,7 +75,7 @@ impl Store {
         chain.receive(&mut self.pool, cell, notes, octets)
     }
 
-    /// Cuts the channel at this place.
+    /// Cuts the channel at this index.
     pub(crate) fn cut(&mut self, place: usize, notes: &mut Notes) -> Result<(), OutOfMemory>
         requires { place < length self.old.chains }
         ensures store { self.new ≡ with_chain self.old place nothing_taken }
@@ -124,7 +124,7 @@ impl Store {
         Some(cell)
     }
 
-    /// The cell at this place of the queue, counted from 0. None exactly where it has none there.
+    /// The cell at this index of the queue, counted from 0. None exactly where it has none there.
     pub(crate) fn cell(&self, index: usize) -> Option<Cell>
         ensures { result ≡ slice_get self.now.queue index }
     {

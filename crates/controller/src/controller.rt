@@ -55,7 +55,7 @@ impl<E: PortEngine> Controller<E> {
         self.router.router().ports()
     }
 
-    /// The engine of the linked port at a place, in ascending order, counted from 0.
+    /// The engine of the linked port at an index, in ascending order, counted from 0.
     pub fn link_at(&self, place: usize) -> &E
         requires { place < length (controller_of E.seen self.now).ports }
         ensures { option_map end_of (slice_get (controller_of E.seen self.now).ports place) ≡ Some (E.seen result.now) }

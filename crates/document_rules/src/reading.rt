@@ -8,7 +8,7 @@ use document_text::Lines;
 use net_types::OutOfMemory;
 use std::alloc::{AllocError, Global};
 
-/// The number of the line at a place, from 1. More lines than 32 bits count are want of memory.
+/// The number of the line at an index, from 1. More lines than 32 bits count are want of memory.
 fn number_of(place: usize) -> Result<u32, OutOfMemory>
     ensures { IfOk result (λ number. number ≡ place + 1) }
 {

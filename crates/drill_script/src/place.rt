@@ -46,9 +46,9 @@ pub enum Stage {
 pub struct Place {
     /// How many nodes the drill has.
     pub nodes: u8,
-    /// The number drawn for the last packet up to this place; before the first packet, for that one.
+    /// The number drawn for the last packet up to this line; before the first packet, for that one.
     pub drawn: u32,
-    /// The line at this place.
+    /// The line that is next.
     pub stage: Stage,
     ghost enough: { 4 ≤ nodes },
 }

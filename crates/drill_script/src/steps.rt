@@ -17,7 +17,7 @@ pub fn draw(number: u32) -> u32
 }
 
 impl Place {
-    /// The same place, at another line for which no number is drawn.
+    /// The same cursor, at another line for which no number is drawn.
     fn to(self, stage: Stage) -> Place
         ensures { result ≡ record self { stage = stage } }
     {
@@ -153,7 +153,7 @@ impl Place {
         }
     }
 
-    /// The next place; `None` behind the last line.
+    /// The cursor at the next line; `None` behind the last one.
     pub fn next(self) -> Option<Place>
         ensures { lines_from result ≡ behind_it self.nodes self.drawn self.stage }
     {

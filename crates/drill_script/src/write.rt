@@ -1,4 +1,4 @@
-//! The line at a place.
+//! The line at a cursor.
 
 ghost use Rattle.std.specs.Prelude.{◌≡◌, ◌++◌, codes, decimal, OnOk};
 ghost use Rattle.lab_text.specs.Text.{line_of};
@@ -82,7 +82,7 @@ fn write_named(line: &mut Text, front: &str, node: u8, back: &str) -> Result<(),
 }
 
 impl Place {
-    /// Appends the line at this place, with its end.
+    /// Appends the line at this cursor, with its end.
     pub fn write(self, line: &mut Text) -> Result<(), OutOfMemory>
         ensures { OnOk result (line.new ≡ line.old ++ line_of (words_of self.nodes self.drawn self.stage)) }
     {

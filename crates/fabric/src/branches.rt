@@ -177,7 +177,7 @@ impl Branches {
         None
     }
 
-    /// What holds of every table: it has no more branches than places.
+    /// What holds of every table: it has no more branches than columns in all rows.
     pub(crate) fn are_few(&self)
         ensures { length (map.entries self.now.branches) ≤ 254208 }
     {

@@ -71,7 +71,7 @@ fn number_of(vci: u16) -> Option<usize>
     Some((vci - BEFORE_LABELS) as usize)
 }
 
-/// The place of a channel. None where no switch connects it.
+/// The row and the column of a channel. None where no switch connects it.
 pub(crate) fn place_of(end: End) -> Option<Place>
     ensures row { IfSome result (λ place. place.row < 16) }
     ensures column { IfSome result (λ place. place.column < 15888) }
@@ -86,7 +86,7 @@ pub(crate) fn place_of(end: End) -> Option<Place>
     })
 }
 
-/// The channel in a place.
+/// The channel of a row and a column.
 pub(crate) fn end_of(row: usize, column: usize) -> End
     requires row { row < 16 }
     requires column { column < 15888 }
@@ -125,8 +125,8 @@ fn is_behind(other: End, end: End) -> bool
     other.channel.vci < end.channel.vci
 }
 
-/// How many places, all rows in order, have channels that don't stand behind this one; none where
-/// there is no channel. Those of the other places do.
+/// How many columns, all rows in order, have channels that don't stand behind this one; none where
+/// there is no channel. Those of the other columns do.
 pub(crate) fn places_up_to(other: Option<End>) -> usize
     ensures most { result ≤ 15888 * 16 }
     ensures up_to { (n : ℕ) → n < result → is_behind other (end_at n) ≡ false }

@@ -43,7 +43,7 @@ impl Tally {
     }
 
     /// Brings the ring up to date. It is seldom far behind: at most as many zeros are written as ticks
-    /// went by, and no more than the ring has places.
+    /// went by, and no more than the ring's capacity.
     pub(crate) fn bring_up(&mut self, ticks: u32)
         ensures { self.new ≡ tally_of ticks self.old.packets.capacity (standing ticks self.old) }
     {

@@ -49,7 +49,7 @@ fn covers(one: &Rule, other: &Rule) -> bool
     apart(one, other).is_none()
 }
 
-/// The place of the first rule that covers another.
+/// The index of the first rule that covers another.
 fn first_covering(rules: &[Rule], other: &Rule) -> Option<usize>
     ensures { result ≡ position (λ rule. covers rule other.now) rules.now }
 {
@@ -101,7 +101,7 @@ impl RuleSet {
         }
     }
 
-    /// The least place before `n` whose rule covers that at `n`: it matches each flow that this one
+    /// The least index before `n` whose rule covers that at `n`: it matches each flow that this one
     /// matches.
     pub fn covered(&self, n: usize) -> Option<usize>
         requires { n < length self.now }

@@ -25,7 +25,7 @@ pub struct TapKey {
 }
 
 impl Queue {
-    /// The queue at this place.
+    /// The queue of this name.
     pub fn of(place: Place) -> Queue
         ensures { result ≡ queue_of place }
     {

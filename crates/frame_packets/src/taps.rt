@@ -42,7 +42,7 @@ impl Taps {
         }
     }
 
-    /// A tap that isn't there takes its first cell. Answers its place.
+    /// A tap that isn't there takes its first cell. Answers its index.
     fn add(&mut self, key: TapKey, cell: &Cell) -> Result<usize, OutOfMemory>
         requires absent { position (same_key key) (keys_of self.old) ≡ None }
         ensures joined { OnOk result (self.new ≡ joined self.old key cell.now) }
@@ -57,7 +57,7 @@ impl Taps {
         Ok(place)
     }
 
-    /// A cell joins its tap. Answers the tap's place.
+    /// A cell joins its tap. Answers the tap's index.
     pub fn join(&mut self, key: TapKey, cell: &Cell) -> Result<usize, OutOfMemory>
         ensures joined { OnOk result (self.new ≡ joined self.old key cell.now) }
         ensures place { IfOk result (λ place. slice_get self.new place ≡ Some (tap_at self.new key)) }
@@ -71,7 +71,7 @@ impl Taps {
         }
     }
 
-    /// The tap at a place.
+    /// The tap at an index.
     pub fn at(&self, place: usize) -> &Tap
         requires { place < length self.now }
         ensures { slice_get self.now place ≡ Some result.now }

@@ -19,7 +19,7 @@ use std::marker::Model;
 /// The most grants of a port.
 pub(crate) const MOST_GRANTS: usize = 256;
 
-/// The place of the first grant of a label.
+/// The index of the first grant of a label.
 fn place_of(held: &[Held], label: u16) -> Option<usize>
     ensures { result ≡ position (λ h. (shown h).label == label) held.now }
 {
@@ -75,7 +75,7 @@ impl Grants {
         self.held.len()
     }
 
-    /// The grant at a place.
+    /// The grant at an index.
     pub(crate) fn get(&self, place: usize) -> &Held
         requires { place < length self.now }
         ensures { slice_get self.now place ≡ Some (shown result.now) }
@@ -83,7 +83,7 @@ impl Grants {
         &self.held[place]
     }
 
-    /// The grant at a place has another lifetime.
+    /// The grant at an index has another lifetime.
     pub(crate) fn set_lifetime(&mut self, place: usize, lifetime: u16)
         requires { place < length self.old }
         ensures { (grant : GrantValue) → slice_get self.old place ≡ Some grant → self.new ≡ slice_set self.old place (record grant { lifetime = lifetime }) }
@@ -92,7 +92,7 @@ impl Grants {
         grant.set_lifetime(lifetime);
     }
 
-    /// The place of the first grant of a label.
+    /// The index of the first grant of a label.
     pub(crate) fn place_of(&self, label: u16) -> Option<usize>
         ensures some { IfSome result (IsPlaceOf self.now label) }
         ensures none { IfNone result (at grant_label label self.now ≡ None) }
@@ -122,7 +122,7 @@ impl Grants {
         let Ok(()) = pushed else { unreachable!() };
     }
 
-    /// Takes a grant out of its place.
+    /// Takes the grant at an index out.
     pub(crate) fn take_out(&mut self, place: usize) -> Held
         requires { place < length self.old }
         ensures grant { slice_get self.old place ≡ Some (shown result) }
@@ -133,7 +133,7 @@ impl Grants {
         self.held.remove(place)
     }
 
-    /// Puts a grant back into its place.
+    /// Puts a grant back at its index.
     pub(crate) fn put_back(&mut self, place: usize, grant: Held)
         requires place { place ≤ length self.old }
         requires room { length self.old < 256 }

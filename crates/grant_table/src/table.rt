@@ -279,8 +279,8 @@ impl GrantTable {
         self.grants.len() == 0
     }
 
-    /// The label of the grant at a place in the order of acceptance, counted from 0. None exactly
-    /// where the place is at or above the length.
+    /// The label of the grant at an index in the order of acceptance, counted from 0. None exactly
+    /// where the index is at or above the length.
     pub fn at(&self, place: usize) -> Option<u16>
         ensures label { result ≡ option_map grant_label (slice_get self.now.grants place) }
         ensures found { IfSome result (λ label. grant_of self.now label ≡ slice_get self.now.grants place) }
@@ -292,7 +292,7 @@ impl GrantTable {
         Some(self.grants.get(place).label())
     }
 
-    /// The grant at a place in the order of acceptance, counted from 0. None exactly where the place is
+    /// The grant at an index in the order of acceptance, counted from 0. None exactly where the index is
     /// at or above the length.
     pub fn view_at(&self, place: usize) -> Option<GrantView>
         ensures grant { result ≡ option_map view_of (slice_get self.now.grants place) }
@@ -304,7 +304,7 @@ impl GrantTable {
         Some(self.grants.get(place).view())
     }
 
-    /// Takes one tick of lifetime from the grant at a place in the order of acceptance, counted from
+    /// Takes one tick of lifetime from the grant at an index in the order of acceptance, counted from
     /// 0, unless it is leaving or has none left. The answer is its label exactly where none is left by
     /// this call.
     pub fn expire(&mut self, place: usize) -> Option<u16>
@@ -339,7 +339,7 @@ impl GrantTable {
         grants.abandon();
     }
 
-    /// Takes the grant of a label out of its place.
+    /// Takes the grant of a label out, and tells its index.
     fn take_out(&mut self, vci: u16) -> (usize, Held)
         requires { IsSome (grant_of self.old vci) }
         ensures grant { grant_of self.old vci ≡ Some (shown result.1) }
@@ -354,7 +354,7 @@ impl GrantTable {
         (place, self.grants.take_out(place))
     }
 
-    /// Puts a grant back into its place.
+    /// Puts a grant back at its index.
     fn put_back(&mut self, place: usize, grant: Held)
         requires gap { place ≤ length self.old.grants }
         requires room { length self.old.grants < 256 }
@@ -365,7 +365,7 @@ impl GrantTable {
         self.grants.put_back(place, grant);
     }
 
-    /// The grant at a place has another lifetime.
+    /// The grant at an index has another lifetime.
     fn set_lifetime(&mut self, place: usize, lifetime: u16)
         requires { place < length self.old.grants }
         ensures { (grant : grants.Grant) → slice_get self.old.grants place ≡ Some grant → self.new ≡ with_grant self.old (record grant { lifetime = lifetime }) }

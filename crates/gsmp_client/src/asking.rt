@@ -31,7 +31,7 @@ impl Client {
         self.requests.desk().next_number() == LAST_TRANSACTION
     }
 
-    /// Sends the standing request at a place in the order of asking, for the first time or again.
+    /// Sends the standing request at an index in the order of asking, for the first time or again.
     pub fn send_request(
         &mut self,
         place: usize,

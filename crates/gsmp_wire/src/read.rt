@@ -69,7 +69,7 @@ fn read_greeting(message: &[u8]) -> Greeting
     }
 }
 
-/// The party whose name, port and instance stand at these places.
+/// The party whose name, port and instance stand at these indices.
 fn party_at(message: &[u8], name: usize, port: usize, instance: usize) -> Party
     requires name { name + 6 ≤ length message.now }
     requires port { port + 4 ≤ length message.now }
@@ -86,7 +86,7 @@ fn party_at(message: &[u8], name: usize, port: usize, instance: usize) -> Party
     }
 }
 
-/// The channel at this place.
+/// The channel at this index.
 fn channel_at(message: &[u8], place: usize) -> Channel
     requires { place + 4 ≤ length message.now }
     ensures { result ≡ channel_in place message.now }

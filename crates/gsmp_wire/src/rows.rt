@@ -22,7 +22,7 @@ pub struct PortRow {
     pub greatest: u16,
 }
 
-/// What stands in the places that aren't used yet.
+/// What stands at the indices that aren't used yet.
 const BLANK: PortRow = PortRow {
     port: 0,
     session: 0,
@@ -93,7 +93,7 @@ impl PortRows {
         &self.rows[..self.len]
     }
 
-    /// The record at this place, counted from 0; none exactly where the place is at or above the
+    /// The record at this index, counted from 0; none exactly where the index is at or above the
     /// length.
     pub fn at(&self, place: usize) -> Option<PortRow>
         ensures { result ≡ slice_get self.now place }

@@ -31,7 +31,7 @@ pub enum ChangeFault {
     NoPrefix,
 }
 
-/// The place of the route of a prefix.
+/// The index of the route of a prefix.
 pub(crate) fn place_of(routes: &[Route], prefix: Prefix) -> Option<usize>
     ensures { result ≡ position (λ route. is_same route.prefix prefix) routes.now }
 {
@@ -61,7 +61,7 @@ fn longest_of_others(routes: &[Route], prefix: Prefix, addr: Addr) -> Option<Rou
     found
 }
 
-/// The route, or else the new one in its place.
+/// The route, or the new one where that is of the same prefix.
 fn renewed(route: &Route, new: &Route) -> Route
     ensures { result ≡ renewed new.now.prefix new.now.next route.now }
 {

@@ -56,7 +56,7 @@ impl Joins {
         self.list.len() == 0
     }
 
-    /// The one at a place, counted from 0; `None` exactly where there are no more.
+    /// The one at an index, counted from 0; `None` exactly where there are no more.
     pub fn at(&self, place: usize) -> Option<Joined>
         ensures { result ≡ slice_get self.now place }
     {

@@ -29,7 +29,7 @@ fn order(a: &End, b: &End) -> Ordering
     ports.then(paths).then(channels)
 }
 
-/// The place of the join of an input, or else the place where it would stand.
+/// The index of the join of an input, or else the index where it would stand.
 pub(crate) fn place_of(joins: &[Joined], input: End) -> Result<usize, usize>
     requires { AreInOrder joins.now }
     ensures found { IfOk result (IsPlaceOf joins.now input) }
@@ -38,7 +38,7 @@ pub(crate) fn place_of(joins: &[Joined], input: End) -> Result<usize, usize>
     joins.binary_search_by(|joined| order(&joined.input, &input))
 }
 
-/// The place of the first join whose input doesn't come before an end; that behind the last one where
+/// The index of the first join whose input doesn't come before an end; that behind the last one where
 /// there is none.
 pub(crate) fn first_from(joins: &[Joined], end: End) -> usize
     requires { AreInOrder joins.now }

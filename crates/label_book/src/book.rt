@@ -90,8 +90,8 @@ impl LabelBook {
         self.numbers.is_empty()
     }
 
-    /// The label at this place among those that are held, counted from 0, as it is shown; none exactly
-    /// where the place is at or above the length.
+    /// The label at this index among those that are held, counted from 0, as it is shown; none exactly
+    /// where the index is at or above the length.
     pub fn at(&self, place: usize) -> Option<LabelView>
         ensures { result ≡ option_map view_of (slice_get self.now.labels place) }
     {
@@ -100,8 +100,8 @@ impl LabelBook {
         Some(label.view())
     }
 
-    /// The number of the label at this place among those that are held, counted from 0; none exactly
-    /// where the place is at or above the length.
+    /// The number of the label at this index among those that are held, counted from 0; none exactly
+    /// where the index is at or above the length.
     pub fn number_at(&self, place: usize) -> Option<u16>
         ensures number { result ≡ option_map label_number (slice_get self.now.labels place) }
         ensures label { IfSome result (λ number. held self.now number ≡ slice_get self.now.labels place) }

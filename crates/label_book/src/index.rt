@@ -12,7 +12,7 @@ use net_types::OutOfMemory;
 /// The number of the label that serves each flow.
 pub(crate) type Flows = IndexMap<FlowId, u16>;
 
-/// The number at a place; none exactly where the place is at or above the length.
+/// The number at an index; none exactly where the index is at or above the length.
 pub(crate) fn number_at(numbers: &[u16], place: usize) -> Option<u16>
     ensures { result ≡ slice_get numbers.now place }
 {

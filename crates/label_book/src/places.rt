@@ -1,4 +1,4 @@
-//! The labels of a range that are held, each at the place of its number.
+//! The labels of a range that are held, each at the index of its number.
 
 ghost use Rattle.std.specs.Prelude.{◌≡◌, ◌<◌, ◌≤◌, ◌+◌, [], replicate, slice_get, slice_set, length, option_map, IsSome, IfOk, None, Some};
 ghost use Rattle.std.specs.List.{AllByRecursion};
@@ -14,7 +14,7 @@ use std::alloc::Global;
 use std::marker::Model;
 use std::mem;
 
-/// So many empty places.
+/// So many empty entries.
 fn empty_places(alloc: Global, count: usize) -> Result<Vec<Option<Held>>, OutOfMemory>
     ensures { IfOk result (λ places. places.items ≡ replicate count None) }
 {
@@ -26,7 +26,7 @@ fn empty_places(alloc: Global, count: usize) -> Result<Vec<Option<Held>>, OutOfM
     Ok(places)
 }
 
-/// Takes out what is held at a place.
+/// Takes out what is held at an index.
 fn take_at(places: &mut Vec<Option<Held>>, place: usize) -> Option<Held>
     requires { place < vec_len places.old }
     ensures taken { slice_get places.old.items place ≡ Some result }
@@ -35,7 +35,7 @@ fn take_at(places: &mut Vec<Option<Held>>, place: usize) -> Option<Held>
     mem::replace(&mut places[place], None)
 }
 
-/// Puts a label into an empty place.
+/// Puts a label into an empty entry.
 fn put_at(places: &mut Vec<Option<Held>>, place: usize, held: Held)
     requires { slice_get places.old.items place ≡ Some None }
     ensures { places.new.items ≡ slice_set places.old.items place (Some held) }
@@ -82,7 +82,7 @@ impl Places {
     ghost use Rattle.label_book.specs.Held.{HasPlaceFor};
     ghost use Rattle.label_book.specs.Book.{held, state_of, with_label, with_new_label, without_label, IsInRange, Rises};
 
-    /// The places of a range, with no label.
+    /// The entries of a range, with no label.
     pub(crate) fn open(
         alloc: Global,
         instance: Instance,

@@ -39,8 +39,8 @@ pub(crate) fn all_spare(
     Ok((marks, count))
 }
 
-/// The first place from `low` on whose label is spare and can be handed out, or else the number of
-/// places.
+/// The first index from `low` on whose label is spare and can be handed out, or else the number of
+/// marks.
 pub(crate) fn first_open(marks: &[bool], least: u16, between: &Between, low: usize) -> usize
     requires low { low ≤ length marks.now }
     requires few { least + length marks.now ≤ 2 ^ 16 }

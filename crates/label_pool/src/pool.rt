@@ -29,7 +29,7 @@ pub struct LabelPool {
     marks: Vec<bool>,
     /// How many are spare.
     count: usize,
-    /// Below this place no label can be handed out.
+    /// Below this index no label can be handed out.
     low: usize,
 }
 

@@ -1,4 +1,4 @@
-//! The payloads of the frames that a run made, and the place of the latest one of each mark.
+//! The payloads of the frames that a run made, and the index of the latest one of each mark.
 
 ghost use Rattle.std.specs.Prelude.{◌≡◌, [], ◌∷◌, ◌++◌, length, option_copied, slice_get, OnOk, OnErr};
 

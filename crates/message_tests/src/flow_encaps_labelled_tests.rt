@@ -81,7 +81,7 @@ fn a_packet_is_carried_under_both_of_its_flows(rt: HostRuntime) {
     check_carried(&rt, &HOSTS, &PACKET, &HOSTS_PAYLOAD);
 }
 
-/// Payloads of the connection and of the hosts: how many octets are left, the place, the octet there, and the
+/// Payloads of the connection and of the hosts: how many octets are left, the index, the octet there, and the
 /// refusal. Each passes the tests before its own.
 const CONNECTION_REFUSED: [(usize, usize, u8, EncapsFault); 6] = [
     (7, 0, 0, EncapsFault::Short),

@@ -138,7 +138,7 @@ const CUT: [(&[u8], usize, Fault); 6] = [
     (&ALL_PORTS, 51, Fault::Size),
 ];
 
-/// Messages with one octet changed: the place, the octet there, and the refusal.
+/// Messages with one octet changed: the index, the octet there, and the refusal.
 const CHANGED: [(&[u8], usize, u8, Fault); 27] = [
     (&ADD, 7, 0x0d, Fault::Snap),
     (&ADD, 8, 2, Fault::Version),

@@ -152,7 +152,7 @@ fn messages_are_read(rt: HostRuntime) {
 }
 
 /// Messages that are cut, or have one octet changed, and then have their old checksum: how many octets
-/// are left, the place, the octet there, and the refusal. Each passes the tests before its own.
+/// are left, the index, the octet there, and the refusal. Each passes the tests before its own.
 const UNSEALED: [(usize, usize, u8, Fault); 5] = [
     (3, 0, 1, Fault::Short),
     (39, 0, 1, Fault::Size),

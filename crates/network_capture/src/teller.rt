@@ -52,7 +52,7 @@ impl CaptureTeller {
         }
     }
 
-    /// Puts the packet that a last cell ends, of the cells of the tap at this place; the event that carried it
+    /// Puts the packet that a last cell ends, of the cells of the tap at this index; the event that carried it
     /// has this number.
     fn put_packet<K: Sink>(
         &self,
@@ -74,7 +74,7 @@ impl CaptureTeller {
         Ok(())
     }
 
-    /// A last cell is told with those before it, which stand in the tap at this place.
+    /// A last cell is told with those before it, which stand in the tap at this index.
     fn tell_last<K: Sink>(
         &mut self,
         number: u64,
@@ -132,7 +132,7 @@ fn put_opening<C: NodeController, K: Sink>(
     Ok(())
 }
 
-/// The first cell of the queue at this place.
+/// The first cell of a queue.
 fn first<C: NodeController>(world: &World<C>, place: Place) -> Option<Standing>
     requires node { IsNodeIn world.now (place_node place) }
     requires port { queue_number place ≤ 9 }

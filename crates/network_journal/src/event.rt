@@ -64,7 +64,7 @@ fn write_made(out: &mut Text, mark: Mark, payload: &[u8]) -> Result<(), OutOfMem
     out.text("\"}")
 }
 
-/// Appends the frame that an event made at this place, from 0.
+/// Appends the frame that an event made at this index, from 0.
 fn write_made_at(
     out: &mut Text,
     before: &Before,

@@ -49,7 +49,7 @@ fn write_link_end(
     out.text("\"")
 }
 
-/// Appends the link at this place in the order of lines, from 0.
+/// Appends the link at this index in the order of lines, from 0.
 fn write_link(out: &mut Text, names: &Topology, place: usize) -> Result<(), OutOfMemory>
     requires { place < length names.now.links }
     ensures { (link : Link) → slice_get names.now.links place ≡ Some link → OnOk result (out.new ≡ out.old ++ link_value names.now link) }

@@ -10,7 +10,7 @@ use net_types::{NodeId, OutOfMemory};
 use show_text::write_request;
 use topology::Topology;
 
-/// Appends the line of the request at a place in the order of the numbers, from 0.
+/// Appends the line of the request at an index in the order of the numbers, from 0.
 fn write_request_at(
     out: &mut Text,
     names: &Topology,

@@ -10,7 +10,7 @@ use net_types::{NodeId, OutOfMemory, PortNo};
 use show_text::write_grant;
 use topology::Topology;
 
-/// Appends the line of the grant at a place in the order of acceptance, from 0.
+/// Appends the line of the grant at an index in the order of acceptance, from 0.
 fn write_grant_at(
     out: &mut Text,
     names: &Topology,

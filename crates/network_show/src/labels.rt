@@ -48,7 +48,7 @@ fn write_counts(
     Ok(())
 }
 
-/// Appends the line of the label at a place in the order of the numbers, from 0.
+/// Appends the line of the label at an index in the order of the numbers, from 0.
 fn write_label_at(
     out: &mut Text,
     names: &Topology,

@@ -26,7 +26,7 @@ pub(crate) fn write_routes(
     Ok(())
 }
 
-/// Appends the line of the change that waits at a place, from 0; the first may be begun.
+/// Appends the line of the change that waits at an index, from 0; the first may be begun.
 fn write_change_at(
     out: &mut Text,
     names: &Topology,

@@ -37,7 +37,7 @@ pub trait ShownController: NodeController {
     fn ports(&self) -> usize
         ensures { result ≡ length (ports_of (Self.seen self.now)) };
 
-    /// The linked port at a place, in ascending order, from 0.
+    /// The linked port at an index, in ascending order, from 0.
     fn port_at(&self, place: usize) -> PortNo
         requires { place < length (ports_of (Self.seen self.now)) }
         ensures { slice_get (ports_of (Self.seen self.now)) place ≡ Some result };
@@ -51,7 +51,7 @@ pub trait ShownController: NodeController {
         ensures { result ≡ min greatest_tally (sum_by (λ linked. length linked.port.grants) (Self.seen self.now).ports) };
 }
 
-/// Appends the lines of the linked port at a place, from 0.
+/// Appends the lines of the linked port at an index, from 0.
 fn write_port_at<E: ShownEngine>(
     out: &mut Text,
     names: &Topology,

@@ -43,7 +43,7 @@ fn tell_link<K: Sink>(
     Ok(())
 }
 
-/// The two ends of the link at a place of the order of links, from 0.
+/// The two ends of the link at an index of the order of links, from 0.
 fn link_at(names: &Topology, place: usize) -> (LinkEnd, LinkEnd)
     requires { place < length names.now.links }
     ensures { slice_get names.now.links place ≡ Some (record { first = result.0; second = result.1 }) }

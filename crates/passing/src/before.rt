@@ -80,7 +80,7 @@ impl Before {
         notes.ledger().made_count().saturating_sub(self.made)
     }
 
-    /// The frame that the event made at this place, counted from 0, in the order of their making. None
+    /// The frame that the event made at this index, counted from 0, in the order of their making. None
     /// exactly where it made no more.
     pub fn made_at<'a>(&self, notes: &'a Notes, place: usize) -> Option<&'a Frame>
         ensures { option_copied result ≡ slice_get (drop self.now.made notes.now.frames) place }

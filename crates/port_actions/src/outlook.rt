@@ -174,7 +174,7 @@ impl Outlook {
         self.inputs.len()
     }
 
-    /// The input at this place among those of which it tells by itself.
+    /// The input at this index among those of which it tells by itself.
     fn told_at(&self, index: usize) -> Option<End>
         ensures { result ≡ slice_get (keys_of self.now.inputs) index }
     {

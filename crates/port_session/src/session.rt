@@ -235,7 +235,7 @@ impl Session {
         self.book.len()
     }
 
-    /// The number of the label at this place among those that are held.
+    /// The number of the label at this index among those that are held.
     pub fn number_at(&self, place: usize) -> Option<u16>
         ensures number { result ≡ option_map label_number (slice_get self.now.session.labels place) }
         ensures label { IfSome result (λ number. at label_number number self.now.session.labels ≡ slice_get self.now.session.labels place) }
@@ -259,8 +259,8 @@ impl Session {
         self.book.state_at(number)
     }
 
-    /// The label at this place among those that are held, the lowest first, counted from 0. None exactly
-    /// where the place is at or above their count.
+    /// The label at this index among those that are held, the lowest first, counted from 0. None exactly
+    /// where the index is at or above their count.
     pub fn held_at(&self, place: usize) -> Option<HeldLabel>
         ensures label { option_map label_of result ≡ slice_get self.now.session.labels place }
         ensures range { IfSome result (λ label. IsTrue (is_label_number label.number)) }
@@ -431,7 +431,7 @@ impl Session {
         false
     }
 
-    /// Whether the label at this place is acknowledged and its last RECLAIM isn't known to be passed.
+    /// Whether the label at this index is acknowledged and its last RECLAIM isn't known to be passed.
     fn is_unpassed_at(&self, place: usize) -> bool
         ensures { IfSome (slice_get self.now.session.labels place) (λ label. result ≡ is_unpassed self.now.session.known label.state) }
     {

@@ -32,7 +32,7 @@ impl<P: Policy> PortState<P> {
         self.grants.len()
     }
 
-    /// The label of the grant at a place in the order of acceptance.
+    /// The label of the grant at an index in the order of acceptance.
     pub fn grant_at(&self, place: usize) -> Option<u16>
         ensures label { result ≡ option_map grant_label (slice_get self.now.port.grants place) }
         ensures found { IfSome result (λ label. at grant_label label self.now.port.grants ≡ slice_get self.now.port.grants place) }
@@ -135,7 +135,7 @@ impl<P: Policy> PortState<P> {
         self.grants.end(vci, Some(done))
     }
 
-    /// Takes one tick of lifetime from the grant at a place, unless it is leaving or has none left. The
+    /// Takes one tick of lifetime from the grant at an index, unless it is leaving or has none left. The
     /// answer is its label exactly where none is left by this call.
     pub fn expire(&mut self, place: usize) -> Option<u16>
         requires { place < length self.old.port.grants }

@@ -37,7 +37,7 @@ impl<P: Policy> PortState<P> {
         }
     }
 
-    /// The number of the label at this place among those that are held.
+    /// The number of the label at this index among those that are held.
     pub fn number_at(&self, place: usize) -> Option<u16>
         ensures { result ≡ slice_get (numbers_of self.now.port) place }
     {

@@ -126,7 +126,7 @@ fn leave_grants<P: Policy>(state: &mut PortState<P>, out: &mut Actions) -> Resul
     Ok(())
 }
 
-/// One grant: the answer is the place of the next one.
+/// One grant: the answer is the index of the next one.
 fn leave_grant<P: Policy>(
     state: &mut PortState<P>,
     place: usize,

@@ -62,7 +62,7 @@ fn tick_grants<P: Policy>(state: &mut PortState<P>, out: &mut Actions) -> Result
 }
 
 /// A grant that isn't leaving loses one tick of lifetime. Where none is left it ends, or where it is lent
-/// its join is taken back. The answer is the place of the next one.
+/// its join is taken back. The answer is the index of the next one.
 fn age<P: Policy>(
     state: &mut PortState<P>,
     place: usize,

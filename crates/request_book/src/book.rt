@@ -93,7 +93,7 @@ impl RequestBook {
         }
     }
 
-    /// Withdraws the request at a place.
+    /// Withdraws the request at an index.
     fn withdraw_at(&mut self, place: usize)
         requires { place < length self.old.standing }
         ensures { self.new ≡ record self.old { standing = remove self.old.standing place } }
@@ -197,8 +197,8 @@ impl RequestBook {
         self.desk.standing()
     }
 
-    /// The message of the request at this place in order of numbers, counted from 0; none exactly
-    /// where the place is at or above [`RequestBook::standing`]. It is in range.
+    /// The message of the request at this index in order of numbers, counted from 0; none exactly
+    /// where the index is at or above [`RequestBook::standing`]. It is in range.
     pub fn message_at(&self, place: usize) -> Option<Message>
         ensures message { result ≡ option_map (message_at self.now) (slice_get self.now.standing place) }
         ensures range { IfSome result IsInRange }

@@ -34,7 +34,7 @@ impl Model for Tickets {
     ghost invariant = { λ t. 4096 ≤ vec_capacity t.tickets };
 }
 
-/// The place of the ticket with this number, which is there.
+/// The index of the ticket with this number, which is there.
 fn place_of(tickets: &[Ticket], number: u32) -> usize
     requires rising { AreRising tickets.now }
     requires there { list_any (λ s. s.number == number) tickets.now ≡ true }
@@ -62,7 +62,7 @@ impl Tickets {
         self.tickets.len()
     }
 
-    /// The request of the ticket at a place.
+    /// The request of the ticket at an index.
     pub(crate) fn request(&self, place: usize) -> Request
         requires { place < length self.now }
         ensures { option_map (λ s. s.request) (slice_get self.now place) ≡ Some result }
@@ -70,7 +70,7 @@ impl Tickets {
         self.tickets[place].request()
     }
 
-    /// The place of the ticket with this number, which is there.
+    /// The index of the ticket with this number, which is there.
     pub(crate) fn place_of(&self, number: u32) -> usize
         requires rising { AreRising self.now }
         requires there { list_any (λ s. s.number == number) self.now ≡ true }
@@ -88,7 +88,7 @@ impl Tickets {
         let Ok(()) = pushed else { unreachable!() };
     }
 
-    /// Takes the one at a place out.
+    /// Takes the one at an index out.
     pub(crate) fn take_out(&mut self, place: usize) -> Ticket
         requires { place < length self.old }
         ensures ticket { slice_get self.old place ≡ Some result }

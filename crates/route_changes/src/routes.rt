@@ -71,8 +71,8 @@ impl Routes {
         self.waiting.len()
     }
 
-    /// The change that waits at this place, the first to come first, counted from 0. None exactly where
-    /// the place is at or above their count.
+    /// The change that waits at this index, the first to come first, counted from 0. None exactly where
+    /// the index is at or above their count.
     pub fn waiting_at(&self, place: usize) -> Option<RouteChange>
         ensures { result ≡ slice_get self.now.waiting place }
     {

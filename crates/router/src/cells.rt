@@ -100,7 +100,7 @@ impl<E: PortEngine> Router<E> {
         self.client.pop()
     }
 
-    /// The cell that waits for the switch at this place, counted from 0. None exactly where none waits
+    /// The cell that waits for the switch at this index, counted from 0. None exactly where none waits
     /// there.
     pub fn cell(&self, index: usize) -> Option<Cell>
         ensures { result ≡ slice_get (controller_of E.seen self.now).queue index }

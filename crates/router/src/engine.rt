@@ -120,8 +120,8 @@ pub trait PortEngine {
         ensures setup { (seen self.new).setup ≡ (seen self.old).setup }
         ensures work { (n : ℕ) (grant : Grant) → at grant_label vci (seen self.old).port.grants ≡ Some grant → OnOk result (HasDone (seen self.old) (seen self.new) out.new n (given_back (begun (seen self.old).port out.old n) grant)) };
 
-    /// The label at a place among those that it holds, the lowest first, counted from 0. None exactly
-    /// where the place is at or above their count.
+    /// The label at an index among those that it holds, the lowest first, counted from 0. None exactly
+    /// where the index is at or above their count.
     fn held_at(&self, place: usize) -> Option<HeldLabel>
         ensures label { option_map label_of result ≡ slice_get (labels_of (seen self.now).port) place }
         ensures number { IfSome result (λ label. IsTrue (is_label_number label.number)) }

@@ -12,7 +12,7 @@ use port_actions::Actions;
 use route_changes::Routes;
 use std::alloc::Global;
 
-/// The places of ports, by their numbers.
+/// The indices of ports, by their numbers.
 fn places_of<E: PortEngine>(links: &[E]) -> [Option<usize>; 9]
     requires { ArePorts (ports_of (map E.seen links.now)) }
     ensures { ArePlaces (ports_of (map E.seen links.now)) result }

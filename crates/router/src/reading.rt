@@ -54,7 +54,7 @@ impl<E: PortEngine> Router<E> {
         }
     }
 
-    /// The engine of the linked port at a place, in ascending order, counted from 0.
+    /// The engine of the linked port at an index, in ascending order, counted from 0.
     pub fn link_at(&self, place: usize) -> &E
         requires { place < length (controller_of E.seen self.now).ports }
         ensures { option_map end_of (slice_get (controller_of E.seen self.now).ports place) ≡ Some (E.seen result.now) }
@@ -81,8 +81,8 @@ impl<E: PortEngine> Router<E> {
         }
     }
 
-    /// The label at a place among those that a port holds, the lowest first, counted from 0. None where
-    /// the port isn't linked, or the place is at or above their count.
+    /// The label at an index among those that a port holds, the lowest first, counted from 0. None where
+    /// the port isn't linked, or the index is at or above their count.
     pub fn label_at(&self, port: PortNo, place: usize) -> Option<HeldLabel>
         ensures label { option_map label_of result ≡ option_and_then (λ linked. slice_get (labels_of linked.port) place) (linked_at (controller_of E.seen self.now) port) }
         ensures number { IfSome result (λ label. IsTrue (is_label_number label.number)) }

@@ -29,7 +29,7 @@ pub struct Router<E: PortEngine> {
     pub(crate) client: Client,
     /// The linked ports, ascending.
     pub(crate) links: Vec<E>,
-    /// The place of each linked port among them, by its number.
+    /// The index of each linked port among them, by its number.
     pub(crate) places: [Option<usize>; 9],
     /// What a port at work asks is put down here.
     pub(crate) actions: Actions,
@@ -57,7 +57,7 @@ impl<E: PortEngine> Model for Router<E> {
 }
 
 impl<E: PortEngine> Router<E> {
-    /// The place of a port among the linked ones, if it is linked.
+    /// The index of a port among the linked ones, if it is linked.
     pub(crate) fn place_of(&self, port: PortNo) -> Option<usize>
         ensures some { IfSome result (IsPlaceOf (ports_in E.seen self.now) port) }
         ensures none { IfNone result (end_at E.seen self.now port ≡ None) }
@@ -96,7 +96,7 @@ impl<E: PortEngine> Router<E> {
         self.links.as_slice().len()
     }
 
-    /// The linked port at a place, counted from 0.
+    /// The linked port at an index, counted from 0.
     pub fn port_at(&self, place: usize) -> PortNo
         requires { place < length (ports_in E.seen self.now) }
         ensures at { (d : PortValue) → slice_index_or (ports_in E.seen self.now) place d ≡ result }

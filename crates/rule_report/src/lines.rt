@@ -9,7 +9,7 @@ use lab_text::Text;
 use net_types::OutOfMemory;
 use refusal_text::write_refused;
 
-/// Writes the line of the rule at a place, and tells whether an earlier one covers it.
+/// Writes the line of the rule at an index, and tells whether an earlier one covers it.
 fn write_rule(out: &mut Text, read: &RulesRead, place: usize) -> Result<bool, OutOfMemory>
     requires { place < length read.now.rules }
     ensures written { OnOk result (out.new ≡ out.old ++ rule_line read.now place) }

@@ -2,7 +2,7 @@
 
 use link_model::{Cause, Notes, Record};
 
-/// The frame and the cause of the entry at this place; none where another record stands there, or no
+/// The frame and the cause of the entry at this index; none where another record stands there, or no
 /// one.
 fn entry(notes: &Notes, place: usize) -> Option<(u64, Cause)> {
     match notes.at(place) {

@@ -17,7 +17,7 @@ fn line_at(alloc: Global, place: u32) -> Result<Text, OutOfMemory> {
     Ok(line)
 }
 
-/// Lines of the first drill, by their places.
+/// Lines of the first drill, by their indices.
 const LINES: [(u32, &str); 20] = [
     (0, "node n1 10.0.1.1\n"),
     (4, "node n5 10.0.5.1\n"),

@@ -136,7 +136,7 @@ pub trait NodeController {
         ensures first { result ≡ slice_get (seen self.old).queue 0 }
         ensures popped { seen self.new ≡ popped (seen self.old) };
 
-    /// The cell that waits for the switch at this place, counted from 0. None exactly where none waits
+    /// The cell that waits for the switch at this index, counted from 0. None exactly where none waits
     /// there.
     fn cell(&self, index: usize) -> Option<Cell>
         ensures { result ≡ slice_get (seen self.now).queue index };

@@ -3,7 +3,7 @@
 ghost use Rattle.std.specs.Prelude.{◌≡◌, ◌≤◌, ◌<◌, ℕ, false};
 ghost use Rattle.world.specs.NodeSet.{IsFirstIn, IsInserted, IsRemoved, is_in};
 
-/// Some of the first 64 nodes, each by its place in the order of their numbers, counted from 0.
+/// Some of the first 64 nodes, each by its index in the order of their numbers, counted from 0.
 #[derive(Debug, Drop)]
 pub(crate) struct NodeSet {
     bits: u64,
@@ -17,7 +17,7 @@ impl NodeSet {
         NodeSet { bits: 0 }
     }
 
-    /// The node at this place joins them.
+    /// The node at this index joins them.
     pub(crate) fn insert(&mut self, place: usize)
         requires { place < 64 }
         ensures { IsInserted self.old self.new place }
@@ -25,7 +25,7 @@ impl NodeSet {
         self.bits |= 1 << place;
     }
 
-    /// The node at this place is none of them any more.
+    /// The node at this index is none of them any more.
     pub(crate) fn remove(&mut self, place: usize)
         requires { place < 64 }
         ensures { IsRemoved self.old self.new place }
@@ -34,7 +34,7 @@ impl NodeSet {
         self.bits = bits & !(1 << place);
     }
 
-    /// The first of them from this place on, below an end of at most 64.
+    /// The first of them from this index on, below an end of at most 64.
     pub(crate) fn first_in(&self, from: usize, end: usize) -> Option<usize>
         requires { (from < end) × (end ≤ 64) }
         ensures { IsFirstIn self.now from end result }

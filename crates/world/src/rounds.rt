@@ -14,7 +14,7 @@ use crate::node::NodeController;
 use crate::world::World;
 use net_types::Place;
 
-/// The place of a queue's node in the order of the nodes, counted from 0.
+/// The index of a queue's node in the order of the nodes, counted from 0.
 fn node_place(place: Place) -> usize
     ensures { result ≡ node_place place }
 {
@@ -27,7 +27,7 @@ fn node_place(place: Place) -> usize
 }
 
 impl<C: NodeController> World<C> {
-    /// The first queue that holds a cell, by its place in the order of a round, from this place on: for each
+    /// The first queue that holds a cell, by its index in the order of a round, from this index on: for each
     /// queue from there up to it is empty. None where all from there on are.
     pub fn next_waiting(&mut self, from: usize) -> Option<usize>
         ghost topology: { Described }
@@ -62,7 +62,7 @@ impl<C: NodeController> World<C> {
         None
     }
 
-    /// The first queue that holds a cell among those from one place of a round up to another.
+    /// The first queue that holds a cell among those from one index of a round up to another.
     fn first_holding(&self, from: usize, end: usize) -> Option<usize>
         ghost topology: { Described }
         requires runs { Runs C.seen topology self.now }

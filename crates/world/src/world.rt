@@ -48,8 +48,8 @@ impl<C: NodeController> World<C> {
         self.round.len()
     }
 
-    /// The queue at this place in the order of a round, counted from 0: node by node, from the
-    /// controller, to the controller, and then from the linked ports, ascending. The place is below
+    /// The queue at this index in the order of a round, counted from 0: node by node, from the
+    /// controller, to the controller, and then from the linked ports, ascending. The index is below
     /// [`World::places`].
     pub fn place(&self, index: usize) -> Place
         requires { index < length self.now.round.items }
