@@ -1,8 +1,8 @@
-//! What comes to a controller, as moves of the line of each label of each link of it: packets that are
+//! What comes to a controller, as moves of the machine of each label of each link of it: packets that are
 //! sent on, under a grant's label or on a default channel, and cells that come from the switch.
 //!
 //! `specs/Packets` says what a packet has to be, `specs/Cells` what a cell. A message of the link's default
-//! channel is heard by the port as it is by the line; each other cell of the line is given up by both.
+//! channel is heard by the port as it is by the machine; each other cell that the machine has is given up by both.
 //! There is no code that runs.
 #![tactic(auto)]
 
@@ -19,14 +19,14 @@ ghost use Rattle.controller_views.specs.Lifted.{IsProper};
 ghost use Rattle.arrival_views.specs.Packets.{IsFree, IsPlain, HasLabelGrants};
 ghost use Rattle.arrival_views.specs.Cells.{CanArrive};
 
-/// A packet at a node is delivered, dropped or sent on: moves of the line of each label of each link of the
+/// A packet at a node is delivered, dropped or sent on: moves of the machine of each label of each link of the
 /// node, also where it goes under the label itself. It does nothing, and its contract is the statement.
 pub fn packets_lead_lines<Like>()
     ensures { (link : LinkLabel) (role : Role) (a : Acted) (came : Mark) (packet : List ℕ)
         → IsProper link → IsFree a came → HasLabelGrants a.controller → IsPlain packet → EndLeads link Like role a [] (routes a came packet) [] }
 {}
 
-/// A cell comes from the switch to the controller at an end of a link: moves of the line of each label of the
+/// A cell comes from the switch to the controller at an end of a link: moves of the machine of each label of the
 /// link. It joins the chain of its channel or is given up, and a frame that is whole is tested; a message that
 /// bears on the label is heard. It does nothing, and its contract is the statement.
 pub fn cells_lead_lines<Like>()

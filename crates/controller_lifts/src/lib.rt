@@ -1,4 +1,4 @@
-//! Each rule of a port, and a tick, as moves of the line of each label of a link at its controller.
+//! Each rule of a port, and a tick, as moves of the machine of each label of a link at its controller.
 //!
 //! `controller_views` (`specs/Ready`) says what is so of the controller: it is sound, its ports' numbers aren't spent, and each
 //! number has its field's width, so that what a port says can be read by its neighbour. The lemmas say
@@ -27,7 +27,7 @@ pub fn said_can_be_read()
     ensures { (address : Addr) (message : Message) → address.0 < 2 ^ 32 → InRange message → FitsMessage message → IsReadable address message }
 {}
 
-/// Each rule of a port of a controller that is ready leads the line of each label of the port's link. A grant is
+/// Each rule of a port of a controller that is ready leads the machine of each label of the port's link. A grant is
 /// given back where no join to its label is left. It does nothing, and its contract is the statement.
 pub fn rules_lead_lines<Like>()
     ensures hearing { (setups : List Setup) (a : Acted) (link : LinkLabel) (role : Role) (port : PortNo) (linked : Linked) (source : Addr) (message : Message)
@@ -64,7 +64,7 @@ pub fn controllers_stay_ready()
         → IsReady setups a.controller → IsReady setups (at_port a port (λ setup desk w. done setup w request)).controller }
 {}
 
-/// A tick of a controller that is ready leads the line of each label of each link of its node: the adjacency
+/// A tick of a controller that is ready leads the machine of each label of each link of its node: the adjacency
 /// with its switch, requests sent again, each port, and joins. Elsewhere frames are made and numbers given
 /// out. It does nothing, and its contract is the statement.
 pub fn ticks_lead_lines<Like>()

@@ -1,8 +1,8 @@
-//! What the two controllers and switches of a link show of the line of one label on it, and how what a
-//! controller does is moves of that line.
+//! What the two controllers and switches of a link show of the machine of one label on it, and how what a
+//! controller does is moves of that machine.
 //!
 //! `specs/Ends` has the relation: a controller at an end of the link, the queues between the two, and
-//! all of it. `specs/Lifted` says what a rule of a port has to be for its controller to lead the line, and
+//! all of it. `specs/Lifted` says what a rule of a port has to be for its controller to lead the machine, and
 //! `specs/Queues` what a switch does with a cell. Each law stands once for both ends. There is no code
 //! that runs.
 #![tactic(auto)]
@@ -17,7 +17,7 @@ ghost use Rattle.controller_views.specs.Ends.{EndLeads, Quietly, Net, Goes, Piec
 ghost use Rattle.controller_views.specs.Lifted.{IsProper, IsLifted, Growing};
 ghost use Rattle.controller_views.specs.Queues.{carried, crossed, awaited, Outcome, Passage};
 
-/// What a controller does at an end of a link leads the line of each label of the link: a rule that
+/// What a controller does at an end of a link leads the machine of each label of the link: a rule that
 /// leads it at the link's port, every rule of another port, requests, resets of ports and of the node; and
 /// what leads it at the end leads the whole of the link. It does nothing, and its contract is the
 /// statement.
@@ -40,7 +40,7 @@ pub fn controllers_lead_lines<Like>()
         → Growing a (at_port a port rule) }
 {}
 
-/// Whatever becomes of the first cell of a queue between the two controllers, the line follows it. It
+/// Whatever becomes of the first cell of a queue between the two controllers, the machine follows it. It
 /// does nothing, and its contract is the statement.
 pub fn cells_lead_lines<Like>()
     ensures from_controller { (link : LinkLabel) (role : Role) (pieces : Pieces) (line : Line) (c : Cell) (cs os : List Cell)

@@ -1,4 +1,4 @@
-//! When all that a controller does may be done, as the line of an input of its switch tells: what
+//! When all that a controller does may be done, as the machine of an input of its switch tells: what
 //! `input_steps` asks of each call holds of every controller between events.
 //!
 //! `specs/Steady` has what is so of a controller between events, `specs/Read` that what it asks is read as

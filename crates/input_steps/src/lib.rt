@@ -1,7 +1,7 @@
-//! What a site does, as moves of the line of each input of its switch: how cells leave and join the
+//! What a site does, as moves of the machine of each input of its switch: how cells leave and join the
 //! queues of the control link, what the controller asks, hears and resets, and what the switch does.
 //!
-//! `specs/Part` takes apart what a site shows of an input's line, so that each step speaks of what it
+//! `specs/Part` takes apart what a site shows of an input's machine, so that each step speaks of what it
 //! changes alone; `specs/Asking` says when a request may be asked, `specs/Hearing` what is asked of what
 //! comes, `specs/Meeting` what an answer leaves. There is no code that runs.
 #![tactic(auto)]
@@ -33,7 +33,7 @@ ghost use Rattle.input_steps.specs.Ticks.{CanTick};
 ghost use Rattle.input_steps.specs.Done.{CanFinish, CanTakeEach};
 ghost use Rattle.input_steps.specs.Meeting.{in_desk, met_after, AfterAnswer, answered_part, IsAround, MayEmpty};
 
-/// What a site shows of an input's line, taken apart and put together. It does nothing, as all
+/// What a site shows of an input's machine, taken apart and put together. It does nothing, as all
 /// functions here, and its contract is the statement.
 pub fn lines_are_taken_apart()
     ensures apart { (node : NodeId) (input : End) (site : Site) (frames : List Frame) (numbers : GivenOut) (line : Line)

@@ -1,9 +1,9 @@
-//! What a controller, its switch and the control link between them show of the line of one input of the
+//! What a controller, its switch and the control link between them show of the machine of one input of the
 //! switch.
 //!
-//! `specs/Words` says what a request, an answer and a greeting of GSMP are to the input's line, and what
+//! `specs/Words` says what a request, an answer and a greeting of GSMP are to the input's machine, and what
 //! a cell of the control link is; `specs/Shown` has the relation; `specs/Reaching` says that moves of
-//! the line lead from one site to the next, and `specs/Quiet` what is nothing to the line. There is no
+//! the machine lead from one site to the next, and `specs/Quiet` what is nothing to the machine. There is no
 //! code that runs.
 #![tactic(auto)]
 
@@ -15,8 +15,8 @@ ghost use Rattle.input_views.specs.Shown.{InputShows};
 ghost use Rattle.input_views.specs.Reaching.{Follows, ReachedAs, Anything};
 ghost use Rattle.input_views.specs.Quiet.{IsQuietAt};
 
-/// Where moves lead from each line that a site shows to one that the next shows, a line is reached and
-/// shows there too; what a site does elsewhere leaves the line, but for instances that are drawn. It does
+/// Where moves lead from each state that a site shows to one that the next shows, a state is reached and
+/// shows there too; what a site does elsewhere leaves the machine, but for instances that are drawn. It does
 /// nothing, and its contract is the statement.
 pub fn inputs_lead_lines()
     ensures reached { (node : NodeId) (input : End) (v w : Site) (old new : List Frame) (m n : ℕ)

@@ -1,8 +1,8 @@
-//! Events of a network, as moves of the line of each label of each link.
+//! Events of a network, as moves of the machine of each label of each link.
 //!
 //! `specs/Queues` says where a cell may be, `specs/Acts` what has to be so of a controller that acts. What
 //! may be joined to the label stays as it is: where an event leaves less of it, `world_views` says that the
-//! same line is shown. There is no code that runs.
+//! same state is shown. There is no code that runs.
 #![tactic(auto)]
 
 ghost use Rattle.std.specs.Prelude.{◌≡◌, ◌<◌, ◌∷◌, ◌+◌, ℕ, List, None, Some};
@@ -20,7 +20,7 @@ ghost use Rattle.world_views.specs.Shown.{WorldShows, WorldGoes, AreApart};
 ghost use Rattle.label_events.specs.Queues.{HasQueues, HasLowPorts, IsLinkPlace, LeadsOut, LeadsFromLinks, IsAcross};
 ghost use Rattle.label_events.specs.Acts.{CanTick, Arrives};
 
-/// A cell is lost at the front of any queue of a network: the line of each label of each link follows. It does
+/// A cell is lost at the front of any queue of a network: the machine of each label of each link follows. It does
 /// nothing, and its contract is the statement.
 pub fn losses_lead_lines<Like>()
     ensures { (topology : Topology) (link : LinkLabel) (w : World) (line : Line) (place : Place) → IsProper link → HasLowPorts link → AreApart link
@@ -29,7 +29,7 @@ pub fn losses_lead_lines<Like>()
 {}
 
 /// A cell comes to a controller from its switch, a packet enters the network there, the controller restarts or
-/// ticks, or a change of routes comes to it: the line of each label of each link follows. It does nothing, and its
+/// ticks, or a change of routes comes to it: the machine of each label of each link follows. It does nothing, and its
 /// contract is the statement.
 pub fn controllers_lead_lines<Like>()
     ensures cells { (topology : Topology) (link : LinkLabel) (w : World) (line : Line) (node : NodeId) → IsProper link → AreApart link
@@ -50,7 +50,7 @@ pub fn controllers_lead_lines<Like>()
         → WorldShows link Like w line → WorldGoes link Like (next topology w (Route node change)) line }
 {}
 
-/// A cell comes to a switch from its controller, or the switch ticks or restarts: the line of each label of each
+/// A cell comes to a switch from its controller, or the switch ticks or restarts: the machine of each label of each
 /// link follows. It does nothing, and its contract is the statement.
 pub fn switches_lead_lines<Like>()
     ensures cells { (topology : Topology) (link : LinkLabel) (w : World) (line : Line) (node : NodeId) → IsProper link → HasLowPorts link → AreApart link
@@ -66,7 +66,7 @@ pub fn switches_lead_lines<Like>()
 {}
 
 /// A cell comes over a link to the switch at its other end: to the controller there, out under a label or nowhere; the
-/// line of each label of each link follows. Where a branch leads to the label from a port of a link, it may be joined. It
+/// machine of each label of each link follows. Where a branch leads to the label from a port of a link, it may be joined. It
 /// does nothing, and its contract is the statement.
 pub fn links_lead_lines<Like>()
     ensures { (topology : Topology) (link : LinkLabel) (w : World) (line : Line) (from : LinkEnd) → IsProper link → HasLowPorts link → AreApart link

@@ -1,7 +1,7 @@
 //! What a port does beside the moves that `port_views` states: it counts packets of the default channel,
 //! gives grants back, and asks to be reset once its numbers are spent.
 //!
-//! `specs/Follows` says that a rule is moves of a line, and leaves the numbers of the port unspent. Each rule
+//! `specs/Follows` says that a rule is moves of a machine, and leaves the numbers of the port unspent. Each rule
 //! stands once, for both ends of the link, and for the label that it names as for any other of the port.
 //! There is no code that runs.
 #![tactic(auto)]
@@ -22,7 +22,7 @@ ghost use Rattle.port_views.specs.Reaching.{Reaches, Leads};
 ghost use Rattle.label_steps.specs.Follows.{IsUnspent, Follows};
 
 /// A packet comes on the default channel and is counted, and its flow may be offered a label: moves of the
-/// line of each label, at either end of its link, and the numbers of the port stay unspent. It does nothing,
+/// machine of each label, at either end of its link, and the numbers of the port stay unspent. It does nothing,
 /// and its contract is the statement.
 pub fn counting_leads_lines<Like>()
     ensures { (role : Role) (link : LinkLabel) (queued : List Cell) (setup : Setup) (desk : Desk) (w : Work) (packet : List ℕ)
@@ -31,7 +31,7 @@ pub fn counting_leads_lines<Like>()
 
 /// Once a grant of the label is lent, more may be joined to the label than before. A grant is given back
 /// where no join to its label is in the network, nor a request that makes one, and a port whose numbers are
-/// spent by that asks to be reset: moves of the line of each label, whatever the numbers of the port. Where
+/// spent by that asks to be reset: moves of the machine of each label, whatever the numbers of the port. Where
 /// nothing is said the numbers stay unspent. It does nothing, and its contract is the statement.
 pub fn joins_lead_lines<Like, More>()
     ensures lent_on { (link : LinkLabel) (queued : List Cell) (w : Work) (grant : Grant) (input : End) (line : Line)

@@ -1,9 +1,9 @@
-//! The line of each label of each link follows every event of a run, before the first frame that was
-//! forged or passed its test by chance: moves lead to a line that the network shows.
+//! The machine of each label of each link follows every event of a run, before the first frame that was
+//! forged or passed its test by chance: moves lead to a state that the network shows.
 //!
 //! `specs/Conduct` says what controllers do there where a cell comes to one or one ticks, and what may be
 //! joined behind an event; all else is `label_events`'. What a controller does with the cells that its switch
-//! sends it, and in a tick, is moves of the line, where joins to the label come and go: `pairs` (`specs/Settles`) says what
+//! sends it, and in a tick, is moves of the machine, where joins to the label come and go: `pairs` (`specs/Settles`) says what
 //! joins are where an answer of the switch releases them, and `specs/Enters` which joins a tick enters. What
 //! may be joined to the label behind an event that brings a cell stays the same through all of it; a tick leads
 //! from what may be joined before it to what may be joined behind it. There is no code that runs.
@@ -19,22 +19,22 @@ ghost use Rattle.label_worlds.specs.Conduct.{CellsArrive, TicksLead, PairsAreOld
 use run_facts::nodes_are_steady;
 
 /// In every run before the first frame that was forged or passed by chance, a cell that comes to a controller can
-/// be followed there by the line of each label of each link, whatever its channel, where answers settle what is
-/// joined; and a tick leads the line, with the joins that it enters. It does nothing, and its contract is the
+/// be followed there by the machine of each label of each link, whatever its channel, where answers settle what is
+/// joined; and a tick leads the machine, with the joins that it enters. It does nothing, and its contract is the
 /// statement.
 pub fn controllers_lead_labels()
     ensures cells { RunsHaveNodes → RunsHaveRoom → AnswersSettle → CellsArrive }
     ensures ticks { RunsHaveNodes → RunsHaveRoom → RunsMakeNoPairs → TicksLead }
 {}
 
-/// From a network in which moves lead to a line that it shows, of each label of each link, each event leads to
+/// From a network in which moves lead to a state that it shows, of each label of each link, each event leads to
 /// another such; and a network that opens is one. It does nothing, and its contract is the statement.
 pub fn events_are_moves()
     ensures events { PairsAreOld → CellsArrive → TicksLead → Keeps HasAllLabels }
     ensures opening { Begins HasAllLabels }
 {}
 
-/// Each event keeps a line for each label, where no event makes a pair of labels but by the joins that a tick enters, and
+/// Each event keeps a state of the machine for each label, where no event makes a pair of labels but by the joins that a tick enters, and
 /// answers settle what is joined; and a network that opens has one. It calls the laws that it stands on, and its contract is
 /// the statement.
 pub fn labels_are_followed()

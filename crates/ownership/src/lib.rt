@@ -18,7 +18,7 @@ use unused_labels::labels_are_unused;
 
 /// Each label is owned where what goes between the ends of a link, and between a controller and its switch, is on its own
 /// channel; and so it is where control frames go as GSMP on its channel, or by a port of a link. It calls the laws of frames that
-/// are read, of each run, of the lines of labels and of inputs, and of labels that nobody uses, and its contract is the statement.
+/// are read, of each run, of the machines of labels and of inputs, and of labels that nobody uses, and its contract is the statement.
 pub fn labels_are_owned()
     ensures owned { LabelsAreOwned }
     ensures ordered { WaysAreInOrder }

@@ -1,9 +1,9 @@
-//! What a port of a controller shows of the line of one label on its link, and how what the port does
-//! is moves of that line.
+//! What a port of a controller shows of the machine of one label on its link, and how what the port does
+//! is moves of that machine.
 //!
 //! `specs/Link` names the label and the two ends of its link, `specs/Flows` gives each flow a number,
-//! `specs/Heard` says what a message of IFMP is to the line, `specs/Shown` what a port at work shows
-//! of it, and `specs/Reaching` that moves of the line lead from one port at work to the next. The
+//! `specs/Heard` says what a message of IFMP is to the machine, `specs/Shown` what a port at work shows
+//! of it, and `specs/Reaching` that moves of the machine lead from one port at work to the next. The
 //! lemmas stand once for both ends of the link where both do the same. There is no code that runs.
 #![tactic(auto)]
 
@@ -24,12 +24,12 @@ ghost use Rattle.port_views.specs.Heard.{heard_by, is_own, IsSaid};
 ghost use Rattle.port_views.specs.Shown.{Shown};
 ghost use Rattle.port_views.specs.Reaching.{Reaches, ReachesFrom, Leads, Comes, clears_work};
 
-/// The line tells flows apart as they are. It does nothing, and its contract is the statement.
+/// The machine tells flows apart as they are. It does nothing, and its contract is the statement.
 pub fn flows_are_told()
     ensures { (a b : FlowId) → nat_eq (flow_number a) (flow_number b) ≡ same_flow a b }
 {}
 
-/// A port that shows a line is reset, restarts with its node, or is cleared: one move or two of the line,
+/// A port that shows a state of the machine is reset, restarts with its node, or is cleared: one move or two of the machine,
 /// at either end of the link. It does nothing, and its contract is the statement.
 pub fn resets_lead_lines<Like>()
     ensures reset { (role : Role) (link : LinkLabel) (queued : List Cell) (setup : Setup) (w : Work) (line : Line)
@@ -41,7 +41,7 @@ pub fn resets_lead_lines<Like>()
         → Reaches role link Like queued (clears_work w) line }
 {}
 
-/// A redirection message that a port says under its next number is said in the line, or is lost at once
+/// A redirection message that a port says under its next number is said in the machine, or is lost at once
 /// where the numbers are spent: one that bears on the label, and any other, of the end that hands the
 /// label out; an acknowledgement of the other end, and what isn't of the label there. It does nothing, and
 /// its contract is the statement.
@@ -61,9 +61,9 @@ pub fn messages_lead_lines<Like>()
 {}
 
 /// A message of IFMP that the other end said comes to a port whose numbers aren't spent, at either end of
-/// the link. The line hears it, where it bears on the label, and all that the port makes of it is moves
+/// the link. The machine hears it, where it bears on the label, and all that the port makes of it is moves
 /// behind that: it follows the table and replies, learns, makes or ends the grant, takes the
-/// acknowledgement, recalls and quits labels. Or it is lost in the line, where nothing of the label changes
+/// acknowledgement, recalls and quits labels. Or it is lost in the machine, where nothing of the label changes
 /// by it. It does nothing, and its contract is the statement.
 pub fn hearing_leads_lines<Like>()
     ensures { (role : Role) (link : LinkLabel) (queued : List Cell) (setup : Setup) (desk : Desk) (w : Work) (source : Addr) (message : Message) (line : Line)
@@ -73,7 +73,7 @@ pub fn hearing_leads_lines<Like>()
 {}
 
 /// What the switch's successes mean to a port whose numbers aren't spent, or that has asked to be reset, leads
-/// the line, at either end of the link: a label is bound and REDIRECT said, a label is free, a grant can be
+/// the machine, at either end of the link: a label is bound and REDIRECT said, a label is free, a grant can be
 /// used. So does the rest that its controller tells it: a label is used, is joined, isn't joined any more, and
 /// a grant that is the controller's is lent to an input. It does nothing, and its contract is the statement.
 pub fn answers_lead_lines<Like>()
@@ -88,7 +88,7 @@ pub fn answers_lead_lines<Like>()
         → Leads role link Like queued w (lent w grant input) }
 {}
 
-/// A tick of a port whose numbers aren't spent, or that has asked to be reset, leads the line, at either end of
+/// A tick of a port whose numbers aren't spent, or that has asked to be reset, leads the machine, at either end of
 /// the link: the adjacency's tick, lifetimes of grants, labels that are refreshed, recalled, reclaimed again or
 /// unwired, LABEL RANGE, and the windows. It does nothing, and its contract is the statement.
 pub fn ticks_lead_lines<Like>()

@@ -1,5 +1,5 @@
-//! What the law of the lines of inputs asks of a network and of an event is so of every run before the first forged frame and
-//! the first chance, and each event keeps those lines.
+//! What the law of the machines of inputs asks of a network and of an event is so of every run before the first forged frame and
+//! the first chance, and each event keeps those machines.
 //!
 //! Each event is an ordinary one that comes to a network that runs (`specs/Running`, `proofs/Worlds`): a chain that an event
 //! ends and that passes its test is the frame of its last cell, at controllers and at switches.
@@ -14,7 +14,7 @@
 //! whose numbers fit; and all numbers that a controller or a switch keeps and may say have their fields' widths. The proof is
 //! one walk over all that they do (`proofs/Making` to `proofs/Switch`), and then over the events (`proofs/MadeEvents`).
 //!
-//! Branches and requests have their shapes, all ports of switches are up and told so, and the line of each input goes on by
+//! Branches and requests have their shapes, all ports of switches are up and told so, and the machine of each input goes on by
 //! moves. `specs/Left` has what an event leaves of what is said between a controller and its switch; the lemma files go over
 //! the events of a network (`proofs/Acts`, `proofs/InputEvents`), read it off behind an event (`proofs/InputKept`,
 //! `proofs/InputWorlds`) and have it at the opening (`proofs/InputOpening`). There is no code that runs.
@@ -66,7 +66,7 @@ pub fn frames_are_made()
     ensures ready_opening { RunsHaveNodes → RunsHaveRoom → Begins HasAllReady }
 {}
 
-/// Each event keeps the shapes, the ports that are up and the lines of inputs, and at the opening they are so. It calls the laws
+/// Each event keeps the shapes, the ports that are up and the machines of inputs, and at the opening they are so. It calls the laws
 /// of what is read in frames, of what each run has and of events that are ordinary, and its contract is the statement.
 pub fn inputs_are_kept()
     ensures shapes { Keeps HasAllMade → Keeps HasAllShapes }

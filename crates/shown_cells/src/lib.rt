@@ -1,8 +1,8 @@
-//! What a queue of cells shows of a line: each cell by its channel and by the payload that was cut into
+//! What a queue of cells shows of a machine: each cell by its channel and by the payload that was cut into
 //! cells under its mark.
 //!
 //! `specs/Seen` has the relation of cells and words, for words of any kind; `specs/Label` says what a
-//! cell of a link is to the line of a label. The lemmas say what more cells, more frames, a whole frame
+//! cell of a link is to the machine of a label. The lemmas say what more cells, more frames, a whole frame
 //! and the first cell of a queue are. There is no code that runs.
 #![tactic(auto)]
 

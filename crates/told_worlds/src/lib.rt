@@ -32,7 +32,7 @@ use running_worlds::{frames_are_made, worlds_are_running};
 use unused_labels::labels_are_unused;
 
 /// Each label that an event binds was being wired for its flow, and nobody used it. It calls the laws of what is read in frames,
-/// of chains that pass, and of a label's line, and its contract is the statement.
+/// of chains that pass, and of a label's machine, and its contract is the statement.
 pub fn labels_are_bound_unused()
     ensures wired { RunsHaveNodes → RunsHaveFronts → EventsAreSteps → BindsAreWired }
     ensures unused { RunsHaveNodes → RunsHaveFronts → EventsAreSteps → BoundLabelsAreUnused }
@@ -43,7 +43,7 @@ pub fn labels_are_bound_unused()
 }
 
 /// Each event keeps who may use a label and the instances under which ports were cleared, and at the opening they are so.
-/// It calls the laws of what is so of every run, of frames, of chains that pass, and of a label's line, and its contract
+/// It calls the laws of what is so of every run, of frames, of chains that pass, and of a label's machine, and its contract
 /// is the statement.
 pub fn users_are_kept()
     ensures cleared { Keeps HasAllCleared }

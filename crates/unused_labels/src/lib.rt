@@ -1,4 +1,4 @@
-//! A label that is spare or wired in an open session has no user: the law of its line, as the network
+//! A label that is spare or wired in an open session has no user: the law of its machine, as the network
 //! shows it. There is no code that runs.
 #![tactic(auto)]
 
@@ -7,7 +7,7 @@ ghost use Rattle.unused_labels.specs.Unused.{SpareLabelsAreUnused};
 use label_line::label_is_owned;
 
 /// Nobody uses a label that is spare or wired, where copies of requests and REDIRECTs are on their own
-/// channels. It calls the law of a label's line, and its contract is the statement.
+/// channels. It calls the law of a label's machine, and its contract is the statement.
 pub fn labels_are_unused()
     ensures spare { SpareLabelsAreUnused }
 {

@@ -1,7 +1,7 @@
-//! What a network shows of the line of each label of each link and of each input of each switch, and
-//! what is so of every network in a run as far as the law of its lines needs it.
+//! What a network shows of the machine of each label of each link and of each input of each switch, and
+//! what is so of every network in a run as far as the law of these machines needs it.
 //!
-//! `specs/Shown` has the relation of a network and the line of a label, `specs/Pairs` the joins that a
+//! `specs/Shown` has the relation of a network and the machine of a label, `specs/Pairs` the joins that a
 //! switch has or may be asked to make, `specs/Marks` what cells mean, and `specs/Between` all that
 //! holds between controllers, switches and links, as one record. There is no code that runs.
 #![tactic(auto)]
@@ -17,7 +17,7 @@ ghost use Rattle.controller_views.specs.Ends.{EndLeads};
 ghost use Rattle.controller_views.specs.Lifted.{Growing};
 ghost use Rattle.world_views.specs.Shown.{WorldShows, WorldGoes, AreApart, acting};
 
-/// The controller of any node acts: at an end of a link what leads the line of a label there leads the
+/// The controller of any node acts: at an end of a link what leads the machine of a label there leads the
 /// network, and at any other node frames are made and numbers given out. It does nothing, and its
 /// contract is the statement.
 pub fn controllers_lead_worlds<Like>()
@@ -29,7 +29,7 @@ pub fn controllers_lead_worlds<Like>()
         → WorldShows link Like w line → WorldGoes link Like (at_controller w node act) line }
 {}
 
-/// Less may be joined than before: the network shows the same line. It does nothing, and its contract is
+/// Less may be joined than before: the network shows the same state of the machine. It does nothing, and its contract is
 /// the statement.
 pub fn less_is_joined<Less, Like>()
     ensures { (link : LinkLabel) (w : World) (line : Line) → (Less → Like) → WorldShows link Like w line → WorldShows link Less w line }
