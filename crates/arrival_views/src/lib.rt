@@ -1,5 +1,6 @@
-//! What comes to a controller, as moves of the machine of each label of each link of it: packets that are
-//! sent on, under a grant's label or on a default channel, and cells that come from the switch.
+//! Arrivals at a controller in the simulation of a label's machine: what comes there is moves of the machine of each
+//! label of each link of it, packets that are sent on, under a grant's label or on a default channel, and cells that
+//! come from the switch.
 //!
 //! `specs/Packets` says what a packet has to be, `specs/Cells` what a cell. A message of the link's default
 //! channel is heard by the port as it is by the machine; each other cell that the machine has is given up by both.

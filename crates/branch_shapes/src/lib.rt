@@ -1,6 +1,6 @@
-//! The branches of a switch keep the shapes in which its controller asks for them: from a channel of a linked port to
-//! its home on the control link, or back, or from one label to another. So it is of each input of a switch, where the
-//! requests that come to it have their shapes.
+//! An invariant of a switch's branches: they keep the shapes in which its controller asks for them, from a channel of a
+//! linked port to its home on the control link, or back, or from one label to another. So it is of each input of a
+//! switch, where the requests that come to it have their shapes.
 //!
 //! `specs/Shapes` has the definitions and the statements of a switch, `specs/Events` those of a network. There is no
 //! code that runs.

@@ -1,4 +1,4 @@
-//! Why frames break in a network of IP switches.
+//! Drop reasons of broken frames: why frames break in a network of IP switches.
 //!
 //! A frame that is broken stands beside a cause. In every run of a network in which no frame is forged, where an
 //! event adds to the ledger that a frame is `Broken`, a channel takes a cell in that event (a channel of a

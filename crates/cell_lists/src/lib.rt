@@ -1,4 +1,5 @@
-//! Lists of cells that lead to one another, and that each frame that breaks at the end of one stands beside a cause.
+//! Broken frames in lists of cells that lead to one another: each frame that breaks at the end of one stands beside a
+//! cause.
 //!
 //! A list leads to another through a branch, or its cells are taken by a reassembly, or nobody takes them. What is
 //! open at the back of a list begins at the front of the next, or is torn and has a cause in the ledger. Cells are

@@ -1,5 +1,6 @@
-//! What a console is told is what a plain machine answers, and its switch holds that machine's map, whatever cells are lost,
-//! however often a request is sent again, and whenever an adjacency is reset or the console starts again.
+//! The safety theorem of a console: what it is told is what a reference model (a plain machine) answers, and its switch
+//! holds that machine's map, whatever cells are lost, however often a request is sent again, and whenever an adjacency
+//! is reset or the console starts again.
 //!
 //! `console_model`'s `specs/Law` has the statement. The argument is in three steps: a command that comes again right after itself
 //! does no harm (`specs/Again`); a switch handles a command as the plain machine does (`specs/Handled`); and on the way there

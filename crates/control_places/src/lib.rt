@@ -1,5 +1,6 @@
-//! A control frame between a controller and its switch is GSMP's, on GSMP's channel, or it goes by a port of a link: so it is at
-//! the opening of a network, and each event keeps it, before the first frame that was forged or passed its test by chance.
+//! An invariant of control frames: one between a controller and its switch is GSMP's, on GSMP's channel, or it goes by
+//! a port of a link. So it is at the opening of a network, and each event keeps it, before the first frame that was
+//! forged or passed its test by chance.
 //!
 //! The proof is one walk over all that a controller and a switch do (`run_facts`' `proofs/Walks`, and `proofs/Coming` to
 //! `proofs/Switches`): a controller says messages of GSMP and, by its ports, of IFMP, and sends no message on that it was told; a

@@ -1,6 +1,6 @@
-//! What the labels, the joins and the chains of one controller stand for, whatever cells come: a label
-//! has the flow of the latest record of its binding, a join leads that flow one hop further by the table
-//! held, and cells are gathered for labels that are bound alone.
+//! Invariants of the label bindings, the joins and the chains of one controller, whatever cells come: a label has the
+//! flow of the latest record of its binding, a join leads that flow one hop further by the table held, and cells are
+//! gathered for labels that are bound alone.
 //!
 //! `specs/Bindings` has the definitions and the statements, and `controller_law` what they rest on. The
 //! proof goes rule by rule, over what holds also in the midst of an event: `proofs/Tied`, with what a

@@ -1,6 +1,6 @@
-//! A controller's calls can be made: what holds of one controller, between events and in the midst of
-//! one, gives the conditions that the calls of `router` ask, where the numbers behind a rule can be given
-//! out.
+//! Preconditions of a controller's calls, which its invariants give: what holds of one controller, between events and
+//! in the midst of one, gives the conditions that the calls of `router` ask, where the numbers behind a rule can be
+//! given out.
 //!
 //! `specs/Kept` has what holds of a controller in the midst of an event and between events, `specs/Laws`
 //! that it holds from the opening on and what an input draws, `specs/Calls` the conditions that follow.

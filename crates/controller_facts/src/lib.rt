@@ -1,5 +1,5 @@
-//! What holds of one controller of an IP switch, whatever cells come, forged ones among them: its
-//! ports, the requests that stand, its desk, and that the numbers of a run never fall.
+//! Invariants of one controller of an IP switch, whatever cells come, forged ones among them: of its ports, the
+//! requests that stand, its desk, and that the numbers of a run never fall.
 //!
 //! `specs/Inputs` has what may come to a controller, `specs/Sound` what holds of it. The proof goes by
 //! the smallest moves of which every rule is made (`proofs/Moves`, and of a port

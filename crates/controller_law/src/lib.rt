@@ -1,5 +1,5 @@
-//! What holds of the requests and the joins of one controller, whatever cells come: what stands while
-//! its switch is being met, beside a Delete All, and how many requests stand.
+//! Invariants of the outstanding requests and the joins of one controller, whatever cells come: what stands while its
+//! switch is being met, beside a Delete All, and how many requests stand.
 //!
 //! `specs/Order` has the definitions, `specs/Law` the statements, and `controller_facts` what they rest
 //! on. The proof goes rule by rule of a controller (`proofs/Performing` to `proofs/Events`), each over

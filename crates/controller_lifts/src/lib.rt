@@ -1,4 +1,5 @@
-//! Each rule of a port, and a tick, as moves of the machine of each label of a link at its controller.
+//! Rules of a controller in the simulation of a label's machine: each rule of a port, and a tick, is moves of the
+//! machine of each label of a link at its controller.
 //!
 //! `controller_views` (`specs/Ready`) says what is so of the controller: it is sound, its ports' numbers aren't spent, and each
 //! number has its field's width, so that what a port says can be read by its neighbour. The lemmas say

@@ -1,5 +1,5 @@
-//! What the two controllers and switches of a link show of the machine of one label on it, and how what a
-//! controller does is moves of that machine.
+//! The simulation relation of a link and the machine of one label on it: what the two controllers and switches of the
+//! link show of that machine, and how what a controller does is moves of it.
 //!
 //! `specs/Ends` has the relation: a controller at an end of the link, the queues between the two, and
 //! all of it. `specs/Lifted` says what a rule of a port has to be for its controller to lead the machine, and

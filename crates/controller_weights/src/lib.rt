@@ -1,5 +1,6 @@
-//! What a cell that comes to a controller adds to the measure of `quiet_model`: nothing, but for what the frame that it ends
-//! may cause. Definitions and laws alone: `specs/Coming` has what is asked of the cell, and the statement.
+//! The ranking function over a controller: a cell that comes to it adds nothing to the measure of `quiet_model`, but
+//! for what the frame that it ends may cause. Definitions and laws alone: `specs/Coming` has what is asked of the cell,
+//! and the statement.
 //!
 //! The proof goes over all that a cell can lead to. What a port asks is paid by its actions (`action_weights`), what an answer
 //! causes by the request that stood (`proofs/Answering`), and a packet that goes on by its Time To Live (`Packets`); `Cells`

@@ -1,6 +1,6 @@
-//! What the law of broken frames asks of each world of a run (`causes`), in terms of the requests on their way to the
-//! switches and of branches from one label to another (`IsFedWorld`, in `specs/Feeding.antt`): all else of it comes from
-//! the shapes that switches keep (`branch_shapes`).
+//! The premise of the law of broken frames (`causes`) on each world of a run, in terms of the requests on their way to
+//! the switches and of branches from one label to another (`IsFedWorld`, in `specs/Feeding.antt`): all else of it comes
+//! from the shapes that switches keep (`branch_shapes`).
 //!
 //! Definitions and laws; no code runs.
 #![tactic(auto)]

@@ -1,5 +1,5 @@
-//! What a receiver reads in the frames that were made in a network: a packet, a message of IFMP or a message of
-//! GSMP, each as it was written, and no frame as another kind.
+//! Round-trip theorems of the frames of a network: what a receiver reads in those that were made is a packet, a message
+//! of IFMP or a message of GSMP, each as it was written, and no frame is read as another kind.
 //!
 //! `specs/Reading` has the statements. There is no code that runs.
 #![tactic(auto)]

@@ -1,4 +1,5 @@
-//! What a receiver reads in the octets of a message of GSMP is the message that was said.
+//! The round-trip theorem of GSMP in a network: what a receiver reads in the octets of a message is the message that
+//! was said.
 //!
 //! `specs/Said` has what is said: each field that a message has no use for is 0. There is no code that
 //! runs.

@@ -1,5 +1,5 @@
-//! With a policy that offers nothing no label is ever bound: in every run, frames that are forged or pass their test by chance
-//! among it.
+//! No labels under a flow classifier that offers nothing: none is ever bound, in every run, frames that are forged or
+//! pass their test by chance among it.
 //!
 //! Under such a policy no port holds a label, since a label is taken where a packet is counted and the policy offers, and
 //! nowhere else; and only a label that is held is bound. `proofs/Ports` to `proofs/Cells` say so of a port and of a

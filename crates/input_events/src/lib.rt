@@ -1,4 +1,5 @@
-//! Each event is moves of the machine of each input of each switch of a network.
+//! Events in the simulation of an input's machine: each is moves of the machine of each input of each switch of a
+//! network.
 //!
 //! `specs/Coming` says what is so of a network between events and which events are meant: those that
 //! forge no frame and let none pass its test by chance on the GSMP channel. There is no code that runs.

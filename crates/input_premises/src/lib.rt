@@ -1,5 +1,5 @@
-//! When all that a controller does may be done, as the machine of an input of its switch tells: what
-//! `input_steps` asks of each call holds of every controller between events.
+//! Preconditions of the simulation of an input's machine: when all that a controller does may be done, as that machine
+//! tells. What `input_steps` asks of each call holds of every controller between events.
 //!
 //! `specs/Steady` has what is so of a controller between events, `specs/Read` that what it asks is read as
 //! it was said. The proof goes over what `controller_law` proves of each rule: a request may be asked since

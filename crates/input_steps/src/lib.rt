@@ -1,5 +1,6 @@
-//! What a site does, as moves of the machine of each input of its switch: how cells leave and join the
-//! queues of the control link, what the controller asks, hears and resets, and what the switch does.
+//! Steps of the simulation of an input's machine: what a site does, as moves of the machine of each input of its
+//! switch. How cells leave and join the queues of the control link, what the controller asks, hears and resets, and
+//! what the switch does.
 //!
 //! `specs/Part` takes apart what a site shows of an input's machine, so that each step speaks of what it
 //! changes alone; `specs/Asking` says when a request may be asked, `specs/Hearing` what is asked of what

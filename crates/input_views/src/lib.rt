@@ -1,5 +1,5 @@
-//! What a controller, its switch and the control link between them show of the machine of one input of the
-//! switch.
+//! The simulation relation of a node and the machine of one input of its switch: what a controller, its switch and the
+//! control link between them show of that machine.
 //!
 //! `specs/Words` says what a request, an answer and a greeting of GSMP are to the input's machine, and what
 //! a cell of the control link is; `specs/Shown` has the relation; `specs/Reaching` says that moves of

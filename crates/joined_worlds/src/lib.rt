@@ -1,6 +1,7 @@
-//! Which labels of a switch are joined, or may be, behind each event of a run before the first frame that was forged or passed
-//! by chance: those that were before it, and at a tick of its controller those of the joins that it enters. So each pair of
-//! labels that are joined or may be is a join of the controller, and no two inputs are joined to one output.
+//! Invariants of a network's cross-connects: which labels of a switch are joined, or may be, behind each event of a run
+//! before the first frame that was forged or passed by chance. They are those that were before it, and at a tick of its
+//! controller those of the joins that it enters. So each pair of labels that are joined or may be is a join of the
+//! controller, and no two inputs are joined to one output.
 //!
 //! What is joined once an answer of a switch is taken: nothing else of an input that the answered request led home, and
 //! nothing at all where the answer ends the meeting.

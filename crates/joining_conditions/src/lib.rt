@@ -1,5 +1,5 @@
-//! Each event can come to a controller: what `joining_router` asks of each of its calls holds between
-//! events, whatever cells come, where enough numbers are left.
+//! Preconditions of a controller's events, which its invariants give: what `joining_router` asks of each of its calls
+//! holds between events, whatever cells come, where enough numbers are left. So each event can come to a controller.
 //!
 //! `specs/Events` and `specs/Cells` have the statements. The proof goes over what `controller_law` and
 //! `controller_conditions` prove of each rule, call by call: releases (`proofs/Releasing`), changes of

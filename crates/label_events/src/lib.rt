@@ -1,4 +1,5 @@
-//! Events of a network, as moves of the machine of each label of each link.
+//! Events in the simulation of a label's machine: those of a network, as moves of the machine of each label of each
+//! link.
 //!
 //! `specs/Queues` says where a cell may be, `specs/Acts` what has to be so of a controller that acts. What
 //! may be joined to the label stays as it is: where an event leaves less of it, `world_views` says that the

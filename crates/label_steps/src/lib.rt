@@ -1,5 +1,5 @@
-//! What a port does beside the moves that `port_views` states: it counts packets of the default channel,
-//! gives grants back, and asks to be reset once its numbers are spent.
+//! Further steps of the simulation of a label's machine, beside the moves that `port_views` states: a port counts
+//! packets of the default channel, gives grants back, and asks to be reset once its numbers are spent.
 //!
 //! `specs/Follows` says that a rule is moves of a machine, and leaves the numbers of the port unspent. Each rule
 //! stands once, for both ends of the link, and for the label that it names as for any other of the port.

@@ -1,5 +1,5 @@
-//! The machine of each label of each link follows every event of a run, before the first frame that was
-//! forged or passed its test by chance: moves lead to a state that the network shows.
+//! The simulation theorem of a label's machine: that of each label of each link follows every event of a run, before
+//! the first frame that was forged or passed its test by chance. Moves lead to a state that the network shows.
 //!
 //! `specs/Conduct` says what controllers do there where a cell comes to one or one ticks, and what may be
 //! joined behind an event; all else is `label_events`'. What a controller does with the cells that its switch

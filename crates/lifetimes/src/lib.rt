@@ -1,7 +1,7 @@
-//! A grant ends by its lifetime: it has ended or is leaving when as many ticks of its port reached its
-//! lifetime as it was set to, no frame is sent by it any more, and where it was lent its input is led
-//! back, unless the node is reset in that tick. So it is of one controller, whatever cells come, and at
-//! each node of every run.
+//! Expiry of outgoing labels (RFC 1953, Lifetime): a grant has ended or is leaving when as many ticks of its port
+//! reached its lifetime as it was set to, no frame is sent by it any more, and where it was lent its input is led back,
+//! unless the node is reset in that tick. So it is of one controller, whatever cells come, and at each node of every
+//! run.
 //!
 //! `specs/Setting` says how a lifetime is set, `specs/Aging` which ticks count, `specs/Law` has the
 //! statements of a controller and `specs/Run` those of a run. The proof takes one tick at a time of what

@@ -1,5 +1,5 @@
-//! How many requests stand that a controller asks however many stand already: for default channels, for joins that end,
-//! for ports that are emptied and for all ports.
+//! A bound on outstanding requests: how many stand that a controller asks however many stand already, for default
+//! channels, for joins that end, for ports that are emptied and for all ports.
 //!
 //! `specs/Needed` has the definitions, and `controller_law` what they rest on. There is no code that runs.
 #![tactic(auto)]

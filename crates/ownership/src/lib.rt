@@ -1,8 +1,8 @@
-//! Each label of each link is owned in a network of a run, between its events: who uses it stands for the flow that it was
-//! bound to last, nobody uses one that is spare or wired, a spare one leads to its controller, none that isn't recalled is
-//! reclaimed, and an end in Estab knows a peer that was cleared. And what is said on each way of a link is in the order of its
-//! numbers, as copies of requests are on their way to a switch. It is read off what holds of the network. There is no code
-//! that runs.
+//! Agreement on label bindings between the ends of a link, between the events of a run. Each label is owned: who uses
+//! it stands for the flow that it was bound to last, nobody uses one that is spare or wired, a spare one leads to its
+//! controller, none that isn't recalled is reclaimed, and an end in Estab knows a peer that was cleared. And what is
+//! said on each way of a link is in the order of its numbers, as copies of requests are on their way to a switch. It is
+//! read off what holds of the network. There is no code that runs.
 #![tactic(auto)]
 
 ghost use Rattle.ownership.specs.Binds.{EachBindIsUnused};

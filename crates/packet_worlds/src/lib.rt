@@ -1,4 +1,5 @@
-//! Packets in a network of IP switches: what each cell on its way stands for, and that no packet is there twice.
+//! Conservation of packets in a network of IP switches: what each cell on its way stands for, and that no packet is
+//! there twice.
 //!
 //! A cell on a label stands for the packet that its frame carries under the flow that was bound last, as it came to the
 //! end of its link by routing, and a last cell of a default channel for the packet in its frame. Of each packet there is

@@ -1,6 +1,6 @@
-//! Which labels of a switch are joined, or may be, behind each event of a network: by a branch, by a request that stands
-//! at its controller, or by one on the way. Only a tick of its controller makes one more, and then it is of a join that
-//! the controller enters.
+//! The cross-connects of a network: which labels of a switch are joined, or may be, behind each event, by a branch, by
+//! a request that stands at its controller, or by one on the way. Only a tick of its controller makes one more, and
+//! then it is of a join that the controller enters.
 //!
 //! `specs/Events` has the definitions and the statement. What a controller asks and sends is `quiet_controllers`'; the
 //! proof goes over the branches of its switch (`proofs/Branches`) and over each event of the network (`proofs/Acts`,

@@ -1,5 +1,5 @@
-//! Where an input of a link is joined to a label, or a request on its way joins it, no cell that the controller sent to
-//! that label waits for the switch, or waits behind that request.
+//! Order at a cut-through: where an input of a link is joined to a label, or a request on its way joins it, no cell
+//! that the controller sent to that label waits for the switch, or waits behind that request.
 //!
 //! `proofs/Sending` has what a controller sends, `proofs/Grants` that it sends nothing to a label that is joined, since its
 //! grant is lent; `proofs/Sites` and `proofs/Events` what each event leaves at each site, `proofs/Kept`, `proofs/Whole` and `proofs/Opening`

@@ -1,6 +1,6 @@
-//! How the queues of a network change, event by event: a cell is taken from the head of one, and cells
-//! are put at the ends of the queues of one actor. So what `telling_model` says that an event takes and
-//! puts is all that happens to a queue.
+//! First in, first out: how the queues of a network change, event by event. A cell is taken from the head of one, and
+//! cells are put at the ends of the queues of one actor. So what `telling_model` says that an event takes and puts is
+//! all that happens to a queue.
 //!
 //! `specs/Reached` says which actor an event reaches, `specs/Law` has the statements. `proofs/Rules` and
 //! `proofs/Controllers` go over the rules of a controller, `proofs/Switches` over those of a switch,

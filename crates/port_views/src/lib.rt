@@ -1,5 +1,5 @@
-//! What a port of a controller shows of the machine of one label on its link, and how what the port does
-//! is moves of that machine.
+//! The simulation relation of a port and the machine of one label on its link: what a port of a controller shows of
+//! that machine, and how what the port does is moves of it.
 //!
 //! `specs/Link` names the label and the two ends of its link, `specs/Flows` gives each flow a number,
 //! `specs/Heard` says what a message of IFMP is to the machine, `specs/Shown` what a port at work shows

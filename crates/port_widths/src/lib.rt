@@ -1,5 +1,5 @@
-//! Each number that a port keeps or says has as many bits as its field in a message of IFMP (RFC 1953):
-//! instances, addresses, sequence numbers and the fields of flows.
+//! Field widths of IFMP (RFC 1953): each number that a port keeps or says has as many bits as its field in a message,
+//! of instances, addresses, sequence numbers and the fields of flows.
 //!
 //! `specs/Widths` says which numbers these are. There is no code that runs.
 #![tactic(auto)]

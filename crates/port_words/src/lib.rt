@@ -1,3 +1,3 @@
-//! What the ports of a controller are, say and note in an event, and which frames it makes, told by what was so before it.
-//! There is no code that runs.
+//! Definitions of a controller's conduct in an event: what its ports are, say and note, and which frames it makes, told
+//! by what was so before it. There is no code that runs.
 #![tactic(auto)]

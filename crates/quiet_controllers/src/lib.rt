@@ -1,5 +1,5 @@
-//! Whatever comes to a controller, it asks and sends nothing by which its switch leads one label to another, but what
-//! stands already and the joins that it enters at a tick.
+//! An invariant of a controller's cross-connects: whatever comes to it, it asks and sends nothing by which its switch
+//! leads one label to another, but what stands already and the joins that it enters at a tick.
 //!
 //! `specs/Quiet` has the judgement, `specs/Heard` what may come, and `specs/Law` the statements. The proof goes rule by
 //! rule: what is sent (`proofs/Sending`), what a port at work asks (`proofs/Asking`), releases, changes of routes and joins

@@ -1,6 +1,6 @@
-//! Carrying cells empties every queue: each carry that finds a cell makes the world of a run lighter, by the measure of
-//! `quiet_model`, so after as many rounds as a world weighs no queue holds a cell. And then each packet that was accepted has
-//! its one fate, or an entry in the ledger.
+//! Termination of carrying: each carry that finds a cell makes the world of a run lighter, by the measure of
+//! `quiet_model`, so after as many rounds as a world weighs no queue holds a cell. And then each packet that was
+//! accepted has its one fate, or an entry in the ledger.
 //!
 //! `specs/Law` has the statements. A label that cells are on isn't bound anew, and frames that were made stay, so no cell
 //! weighs more by what an event leaves (`proofs/Reweighed`); `Facts` has what the laws of runs tell of the world before a

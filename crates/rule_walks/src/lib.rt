@@ -1,5 +1,6 @@
-//! What a few changes of a port or of a controller keep, each of its rules keeps: a law that goes over all rules says
-//! of each smallest change alone that it keeps what the law is about. Definitions and lemmas alone.
+//! Induction over the rules of a port or of a controller: what a few changes of one keep, each of its rules keeps. A
+//! law that goes over all rules says of each smallest change alone that it keeps what the law is about. Definitions and
+//! lemmas alone.
 //!
 //! `proofs/Ports` goes over the rules of a port, for any property of a port at work; `proofs/Controllers` over those of
 //! a controller, for any property of a controller in a run, `proofs/Changes` over what changes of routes and messages of

@@ -1,5 +1,5 @@
-//! What is so of every run of a network, forged frames or not: of each node and its controller, of the
-//! marks and instances that were given out, and of what an event adds to what came before.
+//! Invariants of every run of a network, forged frames or not: of each node and its controller, of the marks and
+//! instances that were given out, and of what an event adds to what came before.
 //!
 //! `specs/Nodes` has what is so of each node, `specs/Drawn` that no instance is drawn twice, `specs/Chains`
 //! what stands in the chains of GSMP's channel, and `specs/Steps` what an event adds to a past and what of

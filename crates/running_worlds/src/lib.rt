@@ -1,5 +1,5 @@
-//! What the law of the machines of inputs asks of a network and of an event is so of every run before the first forged frame and
-//! the first chance, and each event keeps those machines.
+//! Invariants of a run before the first forged frame and the first chance, which the law of the machines of inputs asks
+//! of a network and of an event; and each event keeps those machines.
 //!
 //! Each event is an ordinary one that comes to a network that runs (`specs/Running`, `proofs/Worlds`): a chain that an event
 //! ends and that passes its test is the frame of its last cell, at controllers and at switches.

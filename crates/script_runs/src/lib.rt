@@ -1,6 +1,6 @@
-//! Each script is a run: its topology is one that lines make, with addresses of 32 bits, and each of its
-//! events can come when it comes. So it is of scripts, of documents and of drills. There is no code that
-//! runs.
+//! Well-formedness of scripts: each script is a run. Its topology is one that lines make, with addresses of 32 bits,
+//! and each of its events can come when it comes. So it is of scripts, of documents and of drills. There is no code
+//! that runs.
 #![tactic(auto)]
 
 ghost use Rattle.std.specs.Prelude.{ℕ, List};

@@ -1,5 +1,5 @@
-//! What a queue of cells shows of a machine: each cell by its channel and by the payload that was cut into
-//! cells under its mark.
+//! The simulation relation of a queue of cells and a machine: what the queue shows of it, each cell by its channel and
+//! by the payload that was cut into cells under its mark.
 //!
 //! `specs/Seen` has the relation of cells and words, for words of any kind; `specs/Label` says what a
 //! cell of a link is to the machine of a label. The lemmas say what more cells, more frames, a whole frame

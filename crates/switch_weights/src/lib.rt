@@ -1,6 +1,7 @@
-//! What a cell that comes to a switch adds to the measure of `quiet_model`: what it weighs where its branch leads it, or what
-//! the frame that it ends on GSMP's channel may cause. Definitions and laws alone: `specs/Coming` has the statement,
-//! `proofs/Queues` the sums over the queues, `proofs/Switches` what each step of a switch costs. There is no code that runs.
+//! The ranking function over a switch: a cell that comes to it adds to the measure of `quiet_model` what it weighs
+//! where its branch leads it, or what the frame that it ends on GSMP's channel may cause. Definitions and laws alone:
+//! `specs/Coming` has the statement, `proofs/Queues` the sums over the queues, `proofs/Switches` what each step of a
+//! switch costs. There is no code that runs.
 #![tactic(auto)]
 
 ghost use Rattle.switch_weights.specs.Coming.{CellsArePaid};

@@ -1,5 +1,5 @@
-//! The table of each node in every run: the routes of the topology, changed by a front of the changes that events told the
-//! node, in their order; the changes that were not taken yet wait.
+//! Routing tables over a run: that of each node has the routes of the topology, changed by a front of the changes that
+//! events told the node, in their order; the changes that were not taken yet wait.
 //!
 //! `specs/Law` has the statement, which holds whichever events come, forged frames among them. No rule of a controller but
 //! the one of changes touches the table or records `routes` (`proofs/Walk`, with `proofs/Notes` for what is recorded of

@@ -1,6 +1,7 @@
-//! What the controllers of a network say, note and take up in each event of a run, by what was so before it: a label that
-//! an event binds was being wired, and nobody used it; whoever uses a label stands for the flow that it was bound to last; and
-//! the instances that ports have, tell and store are such as the ports were cleared under.
+//! Postconditions of each event of a run: what the controllers of a network say, note and take up in it, by what was so
+//! before. A label that an event binds was being wired, and nobody used it; whoever uses a label stands for the flow
+//! that it was bound to last; and the instances that ports have, tell and store are such as the ports were cleared
+//! under.
 //!
 //! And the flow that an output's label was bound to last is one hop further than that of the input that is joined to it, or may
 //! be, by the route of the table that is held.

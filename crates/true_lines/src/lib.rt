@@ -1,4 +1,5 @@
-//! Each line of a report is true: what the line of a record claims is so of the run that the report is of.
+//! Truth of event logs: each line of a report is true. What the line of a record claims is so of the run that the
+//! report is of.
 //!
 //! `specs/Claims` says what each line claims, in the words of the headline: a `deliver` or a `drop` that routing hop by
 //! hop can have ended this packet so by this event, by the tables that the nodes held, and that it has no other end; a

@@ -1,8 +1,8 @@
-//! The losses of an event, in every run: of cells on their way, which a link loses, which come where nothing takes them, or
-//! which find no slot; of frames that are made and not put into a queue; and of frames that are cut, since the branch ends on
-//! which they are open, or the chain is given up that has cells of them. The ledger has an entry of each, and no other entry of
-//! these five causes; it has the losses that the records tell, in their order; and of each mark it has an entry Broken only where
-//! it has none before.
+//! Drops and the drop log in every run. The losses of an event are of cells on their way, which a link loses, which
+//! come where nothing takes them, or which find no slot; of frames that are made and not put into a queue; and of
+//! frames that are cut, since the branch ends on which they are open, or the chain is given up that has cells of them.
+//! The ledger has an entry of each, and no other entry of these five causes; it has the losses that the records tell,
+//! in their order; and of each mark it has an entry Broken only where it has none before.
 //!
 //! `specs/Way` has the cells, `specs/Sent` what an event puts into queues, `specs/Cut` what it cuts, `specs/Open` what is open on
 //! a branch, `specs/First` which entries are Broken, `specs/Law` the statement,

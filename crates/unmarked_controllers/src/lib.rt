@@ -1,5 +1,5 @@
-//! A controller reads no mark of a cell and no note: what comes to it leaves, but for these, what it would leave where there
-//! were none.
+//! Non-interference of marks and notes at a controller, which reads none of them: what comes to it leaves, but for
+//! these, what it would leave where there were none.
 //!
 //! `specs/Unmarked` takes the marks of all cells, the notes, and what is counted for them from a controller, a switch or a
 //! world, and leaves all else; `specs/Law` has the statement. The proof goes rule by rule: what each makes of a controller

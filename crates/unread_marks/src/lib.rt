@@ -1,4 +1,4 @@
-//! Marks and notes are for the ledger: they are read by nothing that acts.
+//! Non-interference of marks and notes in a network: they are for the ledger, and read by nothing that acts.
 //!
 //! `unmarked_controllers/specs/Unmarked` takes the marks of all cells, the notes, and what is counted for them from a world, and
 //! leaves all else; `specs/Law` has the statements: two worlds that are the same without them are so after each event. Of

@@ -1,5 +1,5 @@
-//! A label that is spare or wired in an open session has no user: the law of its machine, as the network
-//! shows it. There is no code that runs.
+//! Reuse of labels: a label that is spare or wired in an open session has no user. It is the law of its machine, as the
+//! network shows it. There is no code that runs.
 #![tactic(auto)]
 
 ghost use Rattle.unused_labels.specs.Unused.{SpareLabelsAreUnused};

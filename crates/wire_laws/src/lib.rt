@@ -1,5 +1,5 @@
-//! What a neighbour reads is what was said: a message of IFMP (RFC 1953) or of GSMP (RFC 1987) in
-//! range is read back from its octets, and a message of IFMP comes out of its packet and the packet
+//! Round-trip theorems of the wire formats: what a neighbour reads is what was said. A message of IFMP (RFC 1953) or of
+//! GSMP (RFC 1987) in range is read back from its octets, and a message of IFMP comes out of its packet and the packet
 //! out of its frame's payload as they went in. There is no code that runs.
 #![tactic(auto)]
 

@@ -1,5 +1,6 @@
-//! What a network shows of the machine of each label of each link and of each input of each switch, and
-//! what is so of every network in a run as far as the law of these machines needs it.
+//! The simulation relation of a network and the machines of its labels and inputs: what it shows of the machine of each
+//! label of each link and of each input of each switch, and what is so of every network in a run as far as the law of
+//! these machines needs it.
 //!
 //! `specs/Shown` has the relation of a network and the machine of a label, `specs/Pairs` the joins that a
 //! switch has or may be asked to make, `specs/Marks` what cells mean, and `specs/Between` all that
