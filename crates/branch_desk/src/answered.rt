@@ -67,8 +67,8 @@ impl Ports {
     }
 }
 
-/// The response to an outstanding request: what a message of the switch means to a desk. A request
-/// that is answered stands no longer.
+/// The response to an outstanding request (RFC 1987): what a message of the switch means to a desk.
+/// A request that is answered stands no longer.
 #[derive(Debug)]
 pub enum Answered {
     /// No standing request has its number and type, or it is no answer.

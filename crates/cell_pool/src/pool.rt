@@ -10,8 +10,8 @@ use net_types::{Channel, OutOfMemory};
 use std::alloc::Global;
 use std::marker::Model;
 
-/// A cell buffer that was taken from the shared memory of a node (a slot of its region). It must be
-/// spent: by [`Pool::put`], or by a push to a queue or chain.
+/// A cell buffer that was taken from the shared memory of a node (a slot of its region). This
+/// project's own. It must be spent: by [`Pool::put`], or by a push to a queue or chain.
 #[must_use]
 #[derive(Debug)]
 pub struct Slot {
@@ -85,7 +85,7 @@ fn with_channel(cell: &Cell, channel: Channel) -> Cell
 
 /// A shared cell buffer memory (a region of slots), with room for one cell in each slot. Memory for
 /// all of them is reserved at opening, and that of a slot is first written when the slot is first
-/// taken: slots are taken in turn, and one that was put back before a new one.
+/// taken: slots are taken in turn, and one that was put back before a new one. This project's own.
 #[derive(Debug, Drop)]
 pub struct Pool {
     /// How many slots the region has.

@@ -10,7 +10,7 @@ use atm_cells::Cell;
 use std::marker::Model;
 
 /// A first-in, first-out queue of cells, as slots of one region. It takes no memory, and it must be
-/// drained.
+/// drained. This project's own.
 #[must_use]
 #[derive(Debug)]
 pub struct Queue {

@@ -7,7 +7,7 @@ ghost use Rattle.command_line.specs.Reading.{drill, behind_replay, behind_decode
 
 use lab_text::read_number;
 
-/// A subcommand of the program (a command).
+/// A subcommand of the program (a command). This project's own.
 #[derive(Clone, Copy, Debug, PartialEq, Eq)]
 pub enum Command {
     /// `replay`: replays a script and reports what becomes of each packet.

@@ -1,6 +1,6 @@
 //! The first words of lines.
 
-/// A keyword of a console's input: the first word of a line that isn't blank.
+/// A keyword of a console's input: the first word of a line that isn't blank. This project's own.
 #[derive(Clone, Copy, Debug, PartialEq, Eq)]
 pub enum Keyword {
     /// `ports`

@@ -21,8 +21,8 @@ use std::alloc::Global;
 use std::marker::Model;
 use world_model::PortRange;
 
-/// The controller's end of the control link: its output queue of cells to its switch, and the
-/// reassembly of each channel, in one region of slots. It must be given up by
+/// The controller's end of the control link (RFC 1987): its output queue of cells to its switch,
+/// and the reassembly of each channel, in one region of slots. It must be given up by
 /// [`ControlLink::abandon`].
 #[must_use]
 #[derive(Debug)]

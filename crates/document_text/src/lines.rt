@@ -64,7 +64,7 @@ impl Texts {
 }
 
 /// The lines of a TOML document in their order, each without an end: those of `rules`, of
-/// `topology` and of `events`.
+/// `topology` and of `events`. This project's own.
 #[derive(Debug, Drop)]
 pub struct Lines {
     texts: Texts,

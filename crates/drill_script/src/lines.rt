@@ -11,7 +11,7 @@ use net_types::OutOfMemory;
 use std::marker::Model;
 
 /// An iterator over the lines of a generated script (a drill) that weren't given yet. It takes no
-/// memory.
+/// memory. This project's own.
 #[derive(Debug, Drop)]
 pub struct DrillLines {
     place: Option<Place>,

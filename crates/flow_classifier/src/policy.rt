@@ -45,7 +45,7 @@ impl Policy for XyPolicy {
     }
 }
 
-/// The flow classifier that offers nothing, and keeps nothing.
+/// The flow classifier that offers nothing, and keeps nothing. This project's own.
 #[derive(Clone, Copy, Debug, PartialEq, Eq)]
 pub struct Never;
 
@@ -61,7 +61,7 @@ impl Policy for Never {
     }
 }
 
-/// A flow classifier that a script can name.
+/// A flow classifier that a script can name. This project's own.
 #[derive(Clone, Copy, Debug, PartialEq, Eq)]
 pub enum NamedPolicy {
     /// By counts.

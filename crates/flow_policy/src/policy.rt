@@ -7,9 +7,10 @@ use flow_classifier::Policy;
 use ipv4_packet::FlowId;
 use rule_model::Decision;
 
-/// A flow classifier by an access list (the policy of a document's rules): it offers a flow a label
-/// where the first rule that matches it offers one, from its packets on, and keeps the label for at
-/// most its idle ticks. Where no rule matches nothing is offered, and nothing is kept.
+/// A flow classifier (Newman, Minshall and Lyon) by an access list, the policy of a document's
+/// rules: it offers a flow a label where the first rule that matches it offers one, from its
+/// packets on, and keeps the label for at most its idle ticks. Where no rule matches nothing is
+/// offered, and nothing is kept.
 #[derive(Clone, Copy, Debug)]
 pub struct RulePolicy<'a> {
     /// The rules.

@@ -18,7 +18,7 @@ const MOST_CELLS: usize = 32;
 const SHORT_PAYLOAD: usize = 48 * FEW_CELLS - 8;
 
 /// A set of output queues in one region of slots, each named by a `Place`, to whose ends whole
-/// frames are put.
+/// frames are put. This project's own.
 pub trait Queues<Place> {
     ghost use Rattle.std.specs.Prelude.{◌≡◌, ◌≤◌, ◌↔◌, ℕ, List, length, IsTrue};
     ghost use Rattle.std.specs.Bool.{OnTrue, OnFalse};

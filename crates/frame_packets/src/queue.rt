@@ -7,6 +7,7 @@ use net_types::{Channel, NodeId, Place};
 use telling_model::Standing;
 
 /// The identifier of a captured interface: an output queue, by its node and by its number there.
+/// This project's own.
 #[derive(Clone, Copy, Debug, PartialEq, Eq, Hash)]
 pub struct Queue {
     /// The node.
@@ -15,7 +16,8 @@ pub struct Queue {
     pub number: u16,
 }
 
-/// The identifier of a capture's reassembly buffer: a virtual channel of an output queue.
+/// The identifier of a capture's reassembly buffer: a virtual channel of an output queue. This
+/// project's own.
 #[derive(Clone, Copy, Debug, PartialEq, Eq, Hash)]
 pub struct TapKey {
     /// The queue.

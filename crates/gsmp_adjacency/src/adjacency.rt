@@ -17,7 +17,7 @@ const NOBODY: Party = Party {
 };
 
 /// The action of a GSMP adjacency protocol state machine (an answer): what a side does at a
-/// greeting or a tick.
+/// greeting or a tick (RFC 1987, Adjacency Protocol).
 pub type Answer = table::Answer<Greeting, Established>;
 
 /// The GSMP adjacency protocol state machine: one side of an adjacency (RFC 1987, Adjacency

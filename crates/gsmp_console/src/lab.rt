@@ -195,8 +195,8 @@ impl Bench {
     }
 }
 
-/// A test bench of a switch (a lab): a console, its switch, and the two queues between them. It
-/// must be given up by [`Lab::abandon`].
+/// A test bench of a switch (a lab): a console, its switch, and the two queues between them. This
+/// project's own. It must be given up by [`Lab::abandon`].
 #[must_use]
 #[derive(Debug)]
 pub struct Lab {

@@ -26,7 +26,7 @@ use topology::Topology;
 use world_model::Event;
 
 /// The routing tables of all nodes, as the route lines so far set them, and counters of the packets
-/// with each final disposition (fate).
+/// with each final disposition (fate). This project's own.
 #[derive(Drop)]
 pub struct Fates {
     alloc: Global,

@@ -13,7 +13,8 @@ use link_model::DropCause;
 use net_types::NodeId;
 use topology::Topology;
 
-/// The final disposition of a packet (its fate): where its hop-by-hop path ends, and how.
+/// The final disposition of a packet (its fate): where its hop-by-hop path ends, and how. This
+/// project's own.
 #[derive(Clone, Copy, Debug, PartialEq, Eq)]
 pub enum Ending {
     /// The node is its destination.

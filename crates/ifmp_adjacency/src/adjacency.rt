@@ -11,7 +11,7 @@ use net_types::{Addr, Hello, HelloKind, Instance, Peer};
 use std::marker::Model;
 
 /// The action of an IFMP adjacency protocol state machine (an answer): what a side does at a hello
-/// or a tick.
+/// or a tick (RFC 1953, IFMP Adjacency Protocol).
 pub type Answer = table::Answer<Hello, Established>;
 
 /// The IFMP adjacency protocol state machine: one side of an adjacency (RFC 1953, IFMP Adjacency

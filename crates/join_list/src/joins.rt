@@ -13,7 +13,7 @@ use std::alloc::Global;
 use std::marker::Model;
 
 /// The cross-connects of a controller (its joins), in ascending order of their inputs, of which
-/// each has one.
+/// each has one. This project's own.
 #[derive(Debug, Drop)]
 pub struct Joins {
     list: Vec<Joined>,

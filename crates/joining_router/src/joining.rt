@@ -12,8 +12,8 @@ use router::{PortEngine, Router};
 use std::alloc::Global;
 use std::marker::Model;
 
-/// A label-switching router: a router that joins labels, with the list of its joins. It must be
-/// given up by [`JoiningRouter::abandon`].
+/// A label-switching router (Newman, Minshall and Lyon, IP switch): a router that joins labels,
+/// with the list of its joins. It must be given up by [`JoiningRouter::abandon`].
 #[must_use]
 pub struct JoiningRouter<E: PortEngine> {
     pub(crate) router: Router<E>,

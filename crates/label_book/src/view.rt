@@ -42,6 +42,7 @@ impl HeldState {
 }
 
 /// An incoming label that is held (a local binding): its state, its flow and its counts, in ticks.
+/// This project's own.
 #[derive(Clone, Copy, Debug, PartialEq, Eq)]
 pub struct HeldLabel {
     /// Its number.
@@ -77,7 +78,7 @@ impl HeldLabel {
     }
 }
 
-/// The name of an incoming label's state.
+/// The name of an incoming label's state. This project's own.
 #[derive(Clone, Copy, Debug, PartialEq, Eq)]
 pub enum LabelState {
     /// Its branch to the controller isn't made yet.
@@ -90,7 +91,7 @@ pub enum LabelState {
     Recalled,
 }
 
-/// An incoming label (a local binding) as it is shown.
+/// An incoming label (a local binding) as it is shown. This project's own.
 #[derive(Clone, Copy, Debug, PartialEq, Eq)]
 pub struct LabelView {
     /// Its number.

@@ -10,12 +10,12 @@ use ipv4_packet::FlowId;
 use net_types::Instance;
 use std::marker::Model;
 
-/// The state of a free label: no one uses it, and it is bound to no flow.
+/// The state of a free label: no one uses it, and it is bound to no flow. This project's own.
 #[derive(Clone, Copy, Debug)]
 pub struct Spare;
 
 /// The state of a label whose branch to the controller is made, and which is bound to no flow: not
-/// yet, or not any more.
+/// yet, or not any more. This project's own.
 #[derive(Clone, Copy, Debug)]
 pub struct Wired;
 

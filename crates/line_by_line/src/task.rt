@@ -3,7 +3,7 @@
 use crate::stop::Stop;
 use lab_io::{ReportWriter, Sink};
 
-/// The outcome of a command's task: how it ends, where no fault ended it.
+/// The outcome of a command's task: how it ends, where no fault ended it. This project's own.
 #[derive(Clone, Copy, Debug, PartialEq, Eq)]
 pub enum Ending {
     /// The input was read to its end, and nothing in it is refused.
@@ -27,7 +27,7 @@ pub enum Step<O> {
 /// first that ends it, and puts its report as it goes: what each line causes, and one part at last.
 /// What it is is seen by what it makes of the lines that are still to come. After `Ends`, after
 /// [`LineTask::too_long`], [`LineTask::past_end`] and [`LineTask::end`], and after [`Stop`] it is
-/// told nothing more.
+/// told nothing more. This project's own.
 pub trait LineTask {
     ghost use Rattle.std.specs.Prelude.{◌≡◌, ◌+◌, ◌<◌, ◌≤◌, ℕ, List, [], Ok, length};
     ghost use Rattle.lab_io.specs.Fault.{count_after};

@@ -10,7 +10,8 @@ use std::alloc::Global;
 use std::marker::Model;
 
 /// The drop log of a run (its loss ledger): a list of entries, each the mark of a frame and a
-/// cause. Beside it stand the payloads of the frames that the run made, each under its mark.
+/// cause. Beside it stand the payloads of the frames that the run made, each under its mark. This
+/// project's own.
 ///
 /// The look-ups go by a hash of the mark, whatever the number of entries and frames.
 #[derive(Drop)]

@@ -30,7 +30,7 @@ pub enum DropCause {
     Expired,
 }
 
-/// A protocol layer: the part of a node that refuses what a frame holds.
+/// A protocol layer: the part of a node that refuses what a frame holds. This project's own.
 #[derive(Clone, Copy, Debug, PartialEq, Eq)]
 pub enum Layer {
     /// The encapsulation of the frame (RFC 1483, RFC 1954).

@@ -15,6 +15,7 @@ use refusal_names::{gsmp_refusal, ifmp_refusal};
 use std::alloc::Global;
 
 /// A listing of decoded messages: the text of an input's lines, and whether a line was refused.
+/// This project's own.
 #[derive(Debug, Drop)]
 pub struct Listed {
     /// The octets of the text.

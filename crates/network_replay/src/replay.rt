@@ -33,8 +33,8 @@ use std::alloc::Global;
 use world::{Meter, NodeController, World};
 
 /// A simulation of a scenario (a replay): what the lines of its script so far say, and the network
-/// that they describe, which is opened for the first line of events or at the script's end. It must
-/// be given up by [`Replay::abandon`].
+/// that they describe, which is opened for the first line of events or at the script's end. This
+/// project's own. It must be given up by [`Replay::abandon`].
 #[must_use]
 pub struct Replay<C> {
     alloc: Global,

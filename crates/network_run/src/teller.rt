@@ -11,7 +11,7 @@ use world_model::Event;
 
 /// An observer of a run (a teller): it puts to a report what it tells of the network as it opens,
 /// of each event, and at last. It sees the network before each event and after it. Where it ends
-/// early, a front of what it tells was put, and it is asked for nothing more.
+/// early, a front of what it tells was put, and it is asked for nothing more. This project's own.
 pub trait Teller<C: NodeController> {
     ghost use Rattle.std.specs.Prelude.{◌≡◌, OnOk};
     ghost use Rattle.lab_io.specs.Fault.{count_after};

@@ -14,7 +14,7 @@ use router_port::RouterPort;
 use show_text::write_port;
 use topology::Topology;
 
-/// An IFMP engine of an interface (a port) that shows what it holds.
+/// An IFMP engine of an interface (a port) that shows what it holds. This project's own.
 pub trait ShownEngine: OpenEngine {
     ghost use Rattle.std.specs.Prelude.{◌≡◌, ◌++◌, length, OnOk};
     ghost use Rattle.port_model.specs.Port.{labels_of};

@@ -18,7 +18,7 @@ use show_text::write_node;
 use topology::Topology;
 use world::NodeController;
 
-/// A controller of an IP switch that shows what it holds.
+/// A controller of an IP switch that shows what it holds. This project's own.
 pub trait ShownController: NodeController {
     ghost use Rattle.std.specs.Prelude.{◌≡◌, ◌++◌, ◌<◌, length, min, slice_get, OnOk, Some};
     ghost use Rattle.std.specs.List.{sum_by};

@@ -12,7 +12,7 @@ use world::World;
 use world_model::Event;
 
 /// An observer that writes the state of the network at last, as a router's show commands do, and
-/// nothing before.
+/// nothing before. This project's own.
 #[derive(Clone, Copy, Debug, Drop)]
 pub struct ShowTeller {
     alloc: Global,

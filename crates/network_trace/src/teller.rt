@@ -14,7 +14,7 @@ use world_model::Event;
 
 /// An observer that writes the cell-level trace of a run. It knows which frames it has told, and
 /// what it saw before the event that is to come; the cells that an event put it holds until the
-/// next one.
+/// next one. This project's own.
 #[derive(Drop)]
 pub struct TraceTeller {
     alloc: Global,

@@ -22,7 +22,8 @@ use world::{NodeController, World};
 use world_model::Event;
 
 /// A snapshot of the queues before an event: the cell that the event takes, how many frames were
-/// made so far, and how many cells it leaves in the queues to which it can put more.
+/// made so far, and how many cells it leaves in the queues to which it can put more. This project's
+/// own.
 #[derive(Clone, Copy)]
 pub struct Before {
     pub(crate) taken: Option<Standing>,

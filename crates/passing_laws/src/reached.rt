@@ -3,7 +3,7 @@
 use net_types::NodeId;
 
 /// The target of a transition: the actor that an event reaches. Cells come to the ends of its
-/// queues alone.
+/// queues alone. This project's own.
 #[derive(Clone, Copy, Debug, PartialEq, Eq)]
 pub enum Reached {
     /// None: a cell is lost, or the queue to be carried from is empty.

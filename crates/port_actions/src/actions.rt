@@ -11,7 +11,8 @@ use std::marker::Model;
 /// Room for so many actions is taken at the opening.
 const FIRST_ROOM: usize = 64;
 
-/// A work queue: what a port asks of its controller, the first to be done first.
+/// A work queue: what a port asks of its controller, the first to be done first. This project's
+/// own.
 #[derive(Debug, Drop)]
 pub struct Actions {
     pub(crate) list: VecDeque<Action>,

@@ -32,7 +32,7 @@ fn one_if(test: bool) -> usize
 }
 
 /// A projection of the outstanding requests: what will stand at a desk once actions are done, told
-/// by what differs from the desk.
+/// by what differs from the desk. This project's own.
 #[derive(Drop)]
 pub struct Outlook {
     /// How many requests will stand.

@@ -11,7 +11,7 @@ use world::{NodeController, World};
 use world_model::Event;
 
 /// An observer that writes the event log of a run (its report): the lines of the records of each
-/// event, and the last line.
+/// event, and the last line. This project's own.
 #[derive(Clone, Copy, Debug, Drop)]
 pub struct ReportLines {
     alloc: Global,

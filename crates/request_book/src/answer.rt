@@ -48,8 +48,8 @@ impl Redeemable {
     }
 }
 
-/// The response to an outstanding request: what a message of the switch means to a book of
-/// requests. A request that is answered stands no longer.
+/// The response to an outstanding request (RFC 1987): what a message of the switch means to a book
+/// of requests. A request that is answered stands no longer.
 #[derive(Debug)]
 pub enum Answer {
     /// No standing request has its number and type, or it is no answer.

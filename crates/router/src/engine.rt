@@ -158,7 +158,7 @@ pub trait PortEngine {
     fn abandon(self);
 }
 
-/// A constructor of IFMP engines: one that can be opened for a port.
+/// A constructor of IFMP engines (RFC 1953): an engine that can be opened for a port.
 pub trait OpenEngine: PortEngine {
     ghost use Rattle.std.specs.Prelude.{◌≡◌, ◌≤◌, ◌+◌, ℕ, IfOk, IsTrue};
     ghost use Rattle.net_types.specs.Label.{is_label_number};

@@ -16,7 +16,8 @@ pub enum Protocol {
     Any,
 }
 
-/// The port match of an access list entry: the TCP or UDP ports that a rule takes.
+/// The port match of an access list entry: the TCP or UDP ports that a rule takes. This project's
+/// own.
 #[derive(Clone, Copy, Debug, PartialEq, Eq)]
 pub enum Ports {
     /// `any`: all, also where a flow has none.
@@ -30,7 +31,7 @@ pub enum Ports {
     },
 }
 
-/// The action of an access list entry: what a rule decides of a flow.
+/// The action of an access list entry: what a rule decides of a flow. This project's own.
 #[derive(Clone, Copy, Debug, PartialEq, Eq)]
 pub enum Decision {
     /// It is never offered a label.

@@ -16,7 +16,7 @@ use script_model::Refused;
 use std::alloc::Global;
 
 /// A report on an access list: what is told of a document's rules, and whether something is
-/// refused.
+/// refused. This project's own.
 #[derive(Debug, Drop)]
 pub struct Judgement {
     /// Its octets.

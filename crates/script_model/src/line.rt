@@ -2,7 +2,8 @@
 
 use world_model::{Event, TopologyLine};
 
-/// A statement of a script: what a line says, with the nodes of an event by their numbers.
+/// A statement of a script: what a line says, with the nodes of an event by their numbers. This
+/// project's own.
 #[derive(Debug, Drop)]
 pub enum Line {
     /// Nothing.

@@ -54,7 +54,7 @@ pub enum LineRefusal {
     TooMany,
 }
 
-/// A parse error of a TOML document: why it is refused as a whole.
+/// A parse error of a TOML document: why it is refused as a whole. This project's own.
 #[derive(Clone, Copy, Debug, PartialEq, Eq)]
 pub enum DocumentRefusal {
     /// It has more than 16,777,216 octets.
@@ -63,7 +63,7 @@ pub enum DocumentRefusal {
     Toml,
 }
 
-/// An error with its line number: what ends a script before its end.
+/// An error with its line number: what ends a script before its end. This project's own.
 #[derive(Clone, Copy, Debug, PartialEq, Eq)]
 pub enum Refused {
     /// A line.

@@ -29,7 +29,7 @@ const TOO_MANY: ReadFault = ReadFault::Refused(LineRefusal::TooMany);
 
 /// The parser state of a script: the topology of the lines so far, the routes of its nodes as the
 /// route lines set them, and the counts of octets, lines, event lines, rounds and ticks. The counts
-/// of octets and lines stay at 4,294,967,295 once there.
+/// of octets and lines stay at 4,294,967,295 once there. This project's own.
 #[derive(Drop)]
 pub struct ScriptState {
     alloc: Global,

@@ -4,7 +4,7 @@ use ipv4_forward::Next;
 use net_types::{Channel, Octets, PortNo, Prefix};
 use world_model::TopologyLine;
 
-/// The output queue of a node that a line names (its side).
+/// The output queue of a node that a line names (its side). This project's own.
 #[derive(Clone, Copy, Debug, PartialEq, Eq)]
 pub enum Side {
     /// From its controller to its switch.
@@ -15,6 +15,7 @@ pub enum Side {
 }
 
 /// A parsed statement of a script: what a line says that isn't blank, with nodes by their names.
+/// This project's own.
 #[derive(Debug, Drop)]
 pub enum Said<'a> {
     /// Something of the topology.

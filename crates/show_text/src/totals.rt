@@ -7,7 +7,8 @@ use crate::words::write_number;
 use lab_text::Text;
 use net_types::OutOfMemory;
 
-/// The totals of a network's state: how much of each it holds. Each stays at its type's end.
+/// The totals of a network's state: how much of each it holds. Each stays at its type's end. This
+/// project's own.
 #[derive(Clone, Copy, Debug, PartialEq, Eq)]
 pub struct Totals {
     /// How many nodes it has.

@@ -2,7 +2,8 @@
 
 use script_model::Refused;
 
-/// The outcome of parsing a script: how many of its lines were events, and what was refused.
+/// The outcome of parsing a script: how many of its lines were events, and what was refused. This
+/// project's own.
 #[derive(Clone, Copy, Debug, PartialEq, Eq)]
 pub struct Ended {
     /// How many lines were events.

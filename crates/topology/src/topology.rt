@@ -35,8 +35,8 @@ const PORTS: [PortNo; 8] = [
     PortNo(8),
 ];
 
-/// The configuration of a network (its topology): its nodes with their routes and labels, its
-/// links, and what is set for all of it. This project's own.
+/// The configuration of a network of IP switches (its topology): its nodes with their routes and
+/// labels, its links, and what is set for all of it. This project's own.
 #[derive(Drop)]
 pub struct Topology {
     plan: Plan,

@@ -20,7 +20,7 @@ const PACKET: usize = 1500;
 
 /// A runtime monitor of traces (an auditor): it judges a trace line by line. Each line costs a few
 /// look-ups, whatever came before. It keeps the cells that stand in queues, the frames and the
-/// first puts of marks, the bindings and the links, and nothing else.
+/// first puts of marks, the bindings and the links, and nothing else. This project's own.
 #[derive(Drop)]
 pub struct Auditor {
     alloc: Global,

@@ -2,7 +2,7 @@
 
 ghost use Rattle.std.specs.Prelude.{◌+◌, ◌<◌, ◌≤◌};
 
-/// The counters of an audit: how many lines of each kind a trace has.
+/// The counters of an audit: how many lines of each kind a trace has. This project's own.
 #[derive(Clone, Copy, Debug, PartialEq, Eq)]
 pub struct AuditCounts {
     /// Of `link`.

@@ -3,7 +3,8 @@
 use crate::end::TraceEnd;
 use net_types::{Channel, Mark};
 
-/// A cell of a trace: one that stands in a queue, by its channel and the mark of its frame.
+/// A cell of a trace: one that stands in a queue, by its channel and the mark of its frame. This
+/// project's own.
 #[derive(Clone, Copy, Debug, PartialEq, Eq)]
 pub struct TraceCell {
     /// Its channel.
@@ -13,6 +14,7 @@ pub struct TraceCell {
 }
 
 /// A cell arrival of a trace: a cell that was carried from a port to the other end of its link.
+/// This project's own.
 #[derive(Clone, Copy, Debug, PartialEq, Eq)]
 pub struct Taken {
     /// The port.

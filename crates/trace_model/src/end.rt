@@ -8,7 +8,7 @@ use net_types::{Channel, PortNo};
 pub struct NodeName(pub [u8; 16]);
 
 /// An end of a link in a trace: a port of a node, and the output queue of the cells that go from
-/// there to the other end.
+/// there to the other end. This project's own.
 #[derive(Clone, Copy, Debug, PartialEq, Eq, Hash)]
 pub struct TraceEnd {
     /// The node.

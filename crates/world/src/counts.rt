@@ -6,7 +6,7 @@ ghost use Rattle.world.specs.Counted.{nothing_counted};
 use std::marker::Model;
 
 /// The statistics of a run: the numbers of a report's last line, but that of its events. Each stays
-/// at its type's end.
+/// at its type's end. This project's own.
 #[derive(Clone, Copy, Debug, PartialEq, Eq)]
 pub struct Counts {
     /// How many packets were to be sent.
@@ -38,7 +38,7 @@ impl Model for Counts {
 }
 
 /// A progress counter of a run (a meter): the events that a world has stepped since its opening,
-/// and its counts then. [`World::step`](crate::World::step) alone sets it.
+/// and its counts then. [`World::step`](crate::World::step) alone sets it. This project's own.
 #[derive(Clone, Copy, Debug, PartialEq, Eq)]
 pub struct Meter {
     events: u64,

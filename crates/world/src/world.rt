@@ -17,7 +17,7 @@ use gsmp_switch::Switch;
 use net_types::{NodeId, Numbers, Place};
 
 /// The state of a network between two events (a world): its nodes, its queues, and what its run has
-/// given out. It must be given up by [`World::abandon`].
+/// given out. This project's own. It must be given up by [`World::abandon`].
 #[must_use]
 pub struct World<C> {
     /// The nodes, in the order of their numbers from 1.

@@ -2,7 +2,8 @@
 
 use net_types::{NodeId, PortNo};
 
-/// An interface: one end of a link, as a port of a node, 1 to 8.
+/// An interface of an IP switch (an end of a link): a node and a port of it, 1 to 8. This project's
+/// own.
 #[derive(Clone, Copy, Debug, PartialEq, Eq, Hash)]
 pub struct LinkEnd {
     /// The node.

@@ -2,8 +2,8 @@
 
 use net_types::PortNo;
 
-/// A label range (RFC 1953, Label Range): a linked port with the least and the greatest label that
-/// it hands out, by their numbers.
+/// A label range (RFC 1953, Label Range): a linked port with the least and the greatest of its
+/// labels, by their numbers.
 #[derive(Clone, Copy, Debug, PartialEq, Eq)]
 pub struct PortRange {
     /// The port, 1 to 8.
