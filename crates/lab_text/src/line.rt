@@ -9,8 +9,8 @@ ghost use Rattle.lab_text.specs.Line.{holds_octet, input_limit, line_fault};
 use memchr::memchr2;
 use net_types::OutOfMemory;
 
-/// An error of reading a line of text: the first test that it fails. The tests are this project's
-/// own.
+/// An error of reading a line of text: the first test that it fails, or want of memory. The tests
+/// are this project's own.
 #[derive(Clone, Copy, Debug, PartialEq, Eq)]
 pub enum LineFault {
     /// The line, its end included, holds the octet of the input numbered 16,777,217.

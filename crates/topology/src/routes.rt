@@ -35,8 +35,7 @@ fn key_of(prefix: Prefix) -> PrefixKey
     }
 }
 
-/// The static routes of a node: at most 256, no two of the same prefix, in the order of their
-/// lines.
+/// The routes of a node: at most 256, no two of the same prefix. This project's own.
 #[derive(Drop)]
 pub struct RouteList {
     list: Vec<Route>,
