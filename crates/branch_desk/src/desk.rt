@@ -14,10 +14,10 @@ ghost use Rattle.branch_desk.specs.Later.{Call, after_calls, stands_under};
 
 use crate::answered::{Answered, Ports, copied};
 use crate::entry::Entry;
-use crate::message::{FAILURE, SUCCESS, head_of, is_up, message_of};
+use crate::message::{is_up, message_of};
 use crate::requests::Requests;
 use crate::ticket::{BranchDone, Ticket};
-use gsmp_wire::{Message, PortRows, Request};
+use gsmp_wire::{FAILURE, Message, PortRows, Request, SUCCESS};
 use net_types::{End, OutOfMemory, PortNo};
 use std::alloc::Global;
 use std::marker::Model;
@@ -117,7 +117,7 @@ impl Desk {
         ensures after { self.new ≡ after_answer self.old (answered self.old response.now) }
         ensures done { (s : Standing) → (done_of result ≡ Some s) ↔ (Contains self.old.standing s × IsDoneBy response.now s) }
     {
-        let Some(head) = head_of(response) else {
+        let Some(head) = response.head() else {
             return Answered::Unknown;
         };
         let Some(entry) = self.requests.answered_by(response, head.number) else {

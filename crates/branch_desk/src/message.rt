@@ -1,77 +1,12 @@
 //! Messages of GSMP, as a desk writes and hears them.
 
 ghost use Rattle.std.specs.Prelude.{◌≡◌};
-ghost use Rattle.port_model.specs.DeskAnswers.{head_of, is_branch_of, is_of_type};
+ghost use Rattle.gsmp_wire.specs.Layout.{connection};
+ghost use Rattle.port_model.specs.DeskAnswers.{is_branch_of, is_of_type};
 ghost use Rattle.port_model.specs.Messages.{all_of, branch_message, is_up, message_of, row_of, session_of};
 
-use gsmp_wire::{BranchKind, Message, PortRow, PortRows, Request};
+use gsmp_wire::{BranchKind, Connection, Message, PortRow, PortRows, REQUEST, Request};
 use net_types::{Channel, End, PortNo};
-use std::marker::Model;
-
-/// The Result of a request.
-const REQUEST: u8 = 2;
-
-/// The Result of a success answer.
-pub(crate) const SUCCESS: u8 = 3;
-
-/// The Result of a failure answer.
-pub(crate) const FAILURE: u8 = 4;
-
-/// What each message but those of the adjacency has.
-#[derive(Debug, Drop)]
-pub(crate) struct Head {
-    /// The Result.
-    pub(crate) result: u8,
-    /// The Code.
-    pub(crate) code: u8,
-    /// The transaction number.
-    pub(crate) number: u32,
-}
-
-impl Model for Head {
-    ghost use Rattle.port_model.specs.DeskAnswers as answers;
-
-    ghost Value = { answers.Head };
-
-    ghost view = { λ h. record { result = h.result; code = h.code; number = h.number } };
-}
-
-/// The head of a message; none of an adjacency message.
-pub(crate) fn head_of(message: &Message) -> Option<Head>
-    ensures { result ≡ head_of message.now }
-{
-    match message {
-        Message::Adjacency(_) => None,
-        Message::Branch {
-            result,
-            code,
-            transaction,
-            ..
-        }
-        | Message::Move {
-            result,
-            code,
-            transaction,
-            ..
-        }
-        | Message::Port {
-            result,
-            code,
-            transaction,
-            ..
-        }
-        | Message::AllPorts {
-            result,
-            code,
-            transaction,
-            ..
-        } => Some(Head {
-            result: *result,
-            code: *code,
-            number: *transaction,
-        }),
-    }
-}
 
 /// Whether a message about branches of this kind and a request have one type.
 fn is_branch_of(kind: BranchKind, request: &Request) -> bool
@@ -139,14 +74,11 @@ pub(crate) fn all_of(port: PortNo) -> End
     }
 }
 
-/// A request about a branch, or all branches, of an input.
-fn branch_message(kind: BranchKind, number: u32, session: u32, input: End, output: End) -> Message
-    ensures { result ≡ branch_message kind number session input output }
+/// The connection of a request from this input to this output.
+fn connection_between(number: u32, session: u32, input: End, output: End) -> Connection
+    ensures { result ≡ connection number session input.port.0 input.channel output.port.0 output.channel 0 0 }
 {
-    Message::Branch {
-        kind,
-        result: REQUEST,
-        code: 0,
+    Connection {
         transaction: number,
         session,
         input_port: input.port.0 as u32,
@@ -156,6 +88,13 @@ fn branch_message(kind: BranchKind, number: u32, session: u32, input: End, outpu
         branches: 0,
         priority: 0,
     }
+}
+
+/// A request about a branch, or all branches, of an input.
+fn branch_message(kind: BranchKind, number: u32, session: u32, input: End, output: End) -> Message
+    ensures { result ≡ branch_message kind number session input output }
+{
+    connection_between(number, session, input, output).branch(kind, REQUEST, 0)
 }
 
 /// The message of a request, with the session that the records tell.
@@ -168,20 +107,11 @@ pub(crate) fn message_of(rows: &PortRows, number: u32, request: &Request) -> Mes
             let session = session_of(rows, input.port);
             branch_message(BranchKind::Add, number, session, input, output)
         }
-        Request::MoveBranch { input, from, to } => Message::Move {
-            result: REQUEST,
-            code: 0,
-            transaction: number,
-            session: session_of(rows, input.port),
-            input_port: input.port.0 as u32,
-            input: input.channel,
-            output_port: from.port.0 as u32,
-            output: from.channel,
-            target_port: to.port.0 as u32,
-            target: to.channel,
-            branches: 0,
-            priority: 0,
-        },
+        Request::MoveBranch { input, from, to } => {
+            let session = session_of(rows, input.port);
+            let connection = connection_between(number, session, input, from);
+            connection.moved(REQUEST, 0, to.port.0 as u32, to.channel)
+        }
         Request::DeleteTree { input } => {
             let session = session_of(rows, input.port);
             branch_message(BranchKind::Delete, number, session, input, unnamed)

@@ -17,7 +17,7 @@ use crate::word::Word;
 use clap::error::ErrorKind;
 use clap::{ArgMatches, Error};
 use net_types::OutOfMemory;
-use std::alloc::{AllocError, Global};
+use std::alloc::Global;
 
 /// Whether a word is none of any command: it begins with a hyphen, or is `help`.
 fn is_barred(word: &Word) -> bool
@@ -46,7 +46,7 @@ fn refused(error: &Error) -> Result<Option<Command>, OutOfMemory>
     ensures { RefusedBy (kind_of error.now) result }
 {
     if error.kind() == ErrorKind::OutOfMemory {
-        Err(OutOfMemory::from(AllocError))
+        Err(OutOfMemory::told_by_library())
     } else {
         Ok(None)
     }

@@ -14,7 +14,7 @@ use crate::table::lines_in;
 use lab_text::INPUT_LIMIT;
 use net_types::OutOfMemory;
 use script_model::DocumentRefusal;
-use std::alloc::{AllocError, Global};
+use std::alloc::Global;
 use toml::Table;
 use toml::de::Error;
 
@@ -23,7 +23,7 @@ fn table_fault(error: &Error) -> DocumentFault
     ensures { (name : DocumentRefusal) → result ≡ DocumentFault.Refused name → (name ≡ DocumentRefusal.Toml) × (¬ IsMemory error.now) }
 {
     if error.is_memory() {
-        DocumentFault::OutOfMemory(OutOfMemory::from(AllocError))
+        DocumentFault::OutOfMemory(OutOfMemory::told_by_library())
     } else {
         DocumentFault::Refused(DocumentRefusal::Toml)
     }

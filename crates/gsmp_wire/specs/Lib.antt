@@ -1,4 +1,5 @@
 pub mod Fields
 pub mod Layout
+pub mod Parts
 pub mod Range
 pub mod Refusal

@@ -6,14 +6,9 @@ ghost use Rattle.gsmp_wire.specs.Refusal.{are_rows, between, has_fields, has_siz
 
 use crate::fault::Fault;
 use crate::fields::are_zero;
-use crate::message::{BranchKind, MessageType, SNAP_HEADER};
+use crate::message::{BranchKind, FAILURE, MessageType, REQUEST, SNAP_HEADER, SUCCESS};
+use crate::rows::MOST_ROWS;
 use octet_fields::u16_at;
-
-/// The result of a success answer.
-const SUCCESS: u8 = 3;
-
-/// The result of a failure answer.
-const FAILURE: u8 = 4;
 
 /// The type of the message that these octets are, or the first test that they fail.
 pub(crate) fn check(octets: &[u8]) -> Result<MessageType, Fault>
@@ -82,7 +77,7 @@ fn is_result(kind: MessageType, outcome: u8) -> bool
 {
     match kind {
         MessageType::Adjacency => outcome == 0,
-        _ => 2 <= outcome && outcome <= FAILURE,
+        _ => REQUEST <= outcome && outcome <= FAILURE,
     }
 }
 
@@ -119,8 +114,8 @@ fn has_size_by_rows(message: &[u8]) -> bool
     if message.len() < 12 {
         return false;
     }
-    let count = u16_at(message, 8);
-    1 <= count && count <= 9 && message.len() == 12 + 16 * count as usize
+    let count = u16_at(message, 8) as usize;
+    1 <= count && count <= MOST_ROWS && message.len() == 12 + 16 * count
 }
 
 /// Whether the fields that are to be 0 are, and the others have one of their values.

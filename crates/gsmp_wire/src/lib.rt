@@ -14,8 +14,8 @@ mod write;
 
 pub use fault::Fault;
 pub use laws::octets_have_one_message;
-pub use message::{BranchKind, Message};
+pub use message::{BranchKind, Connection, FAILURE, Head, Message, REQUEST, SUCCESS};
 pub use read::decode;
 pub use request::Request;
-pub use rows::{PortRow, PortRows};
+pub use rows::{MOST_ROWS, PortRow, PortRows};
 pub use write::encode;

@@ -1,5 +1,9 @@
 //! The messages.
 
+ghost use Rattle.std.specs.Prelude.{◌≡◌};
+ghost use Rattle.gsmp_wire.specs.Layout.{connection_of};
+ghost use Rattle.gsmp_wire.specs.Parts.{branch_on, head_of, move_on};
+
 use crate::rows::PortRows;
 use net_types::{Channel, Greeting};
 
@@ -20,6 +24,15 @@ pub enum BranchKind {
     DeleteAll,
 }
 
+/// The Result of a request, in the third octet of each message but those of the adjacency (RFC 1987).
+pub const REQUEST: u8 = 2;
+
+/// The Result of a success answer.
+pub const SUCCESS: u8 = 3;
+
+/// The Result of a failure answer.
+pub const FAILURE: u8 = 4;
+
 /// The types of messages, which the second octet tells.
 #[derive(Clone, Copy, Debug, PartialEq, Eq)]
 pub(crate) enum MessageType {
@@ -35,9 +48,20 @@ pub(crate) enum MessageType {
     AllPorts,
 }
 
+/// What each message but those of the adjacency begins with.
+#[derive(Clone, Copy, Debug, PartialEq, Eq)]
+pub struct Head {
+    /// The Result: [`REQUEST`], [`SUCCESS`] or [`FAILURE`].
+    pub result: u8,
+    /// The Code: the cause of a failure, and 0 in the others.
+    pub code: u8,
+    /// The transaction number, which pairs an answer with its request.
+    pub number: u32,
+}
+
 /// The fields that all messages about a connection have.
 #[derive(Clone, Copy, Debug, PartialEq, Eq)]
-pub(crate) struct Connection {
+pub struct Connection {
     /// Pairs an answer with its request.
     pub transaction: u32,
     /// The session of the input port.
@@ -56,8 +80,8 @@ pub(crate) struct Connection {
     pub priority: u8,
 }
 
-/// A GSMP message (RFC 1987). `result` is 2 in a request, 3 in a success answer and 4 in a failure
-/// answer; `code` is the cause of a failure, and 0 in the others.
+/// A GSMP message. `result` is [`REQUEST`] in a request, [`SUCCESS`] in a success answer and
+/// [`FAILURE`] in a failure answer; `code` is the cause of a failure, and 0 in the others.
 #[derive(Debug, Drop)]
 pub enum Message {
     /// An adjacency message.
@@ -140,4 +164,124 @@ pub enum Message {
         /// The ports, in a success answer.
         rows: PortRows,
     },
+}
+
+impl Message {
+    /// Its Result, Code and transaction number; none exactly of an adjacency message.
+    pub fn head(&self) -> Option<Head>
+        ensures { result ≡ head_of self.now }
+    {
+        match self {
+            Message::Adjacency(_) => None,
+            Message::Branch {
+                result,
+                code,
+                transaction,
+                ..
+            }
+            | Message::Move {
+                result,
+                code,
+                transaction,
+                ..
+            }
+            | Message::Port {
+                result,
+                code,
+                transaction,
+                ..
+            }
+            | Message::AllPorts {
+                result,
+                code,
+                transaction,
+                ..
+            } => Some(Head {
+                result: *result,
+                code: *code,
+                number: *transaction,
+            }),
+        }
+    }
+
+    /// The connection that it is about; none where it is about the adjacency, a port or all ports.
+    pub fn connection(&self) -> Option<Connection>
+        ensures { result ≡ connection_of self.now }
+    {
+        match self {
+            Message::Branch {
+                transaction,
+                session,
+                input_port,
+                input,
+                output_port,
+                output,
+                branches,
+                priority,
+                ..
+            }
+            | Message::Move {
+                transaction,
+                session,
+                input_port,
+                input,
+                output_port,
+                output,
+                branches,
+                priority,
+                ..
+            } => Some(Connection {
+                transaction: *transaction,
+                session: *session,
+                input_port: *input_port,
+                input: *input,
+                output_port: *output_port,
+                output: *output,
+                branches: *branches,
+                priority: *priority,
+            }),
+            _ => None,
+        }
+    }
+}
+
+impl Connection {
+    /// The message about a branch, or all branches, of its input.
+    pub fn branch(&self, kind: BranchKind, outcome: u8, code: u8) -> Message
+        ensures { result ≡ branch_on self.now kind outcome code }
+    {
+        Message::Branch {
+            kind,
+            result: outcome,
+            code,
+            transaction: self.transaction,
+            session: self.session,
+            input_port: self.input_port,
+            input: self.input,
+            output_port: self.output_port,
+            output: self.output,
+            branches: self.branches,
+            priority: self.priority,
+        }
+    }
+
+    /// The Move Branch that leads its branch to another end, or the answer to it.
+    pub fn moved(&self, outcome: u8, code: u8, target_port: u32, target: Channel) -> Message
+        ensures { result ≡ move_on self.now outcome code target_port target }
+    {
+        Message::Move {
+            result: outcome,
+            code,
+            transaction: self.transaction,
+            session: self.session,
+            input_port: self.input_port,
+            input: self.input,
+            output_port: self.output_port,
+            output: self.output,
+            target_port,
+            target,
+            branches: self.branches,
+            priority: self.priority,
+        }
+    }
 }

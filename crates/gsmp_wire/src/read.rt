@@ -119,20 +119,7 @@ fn read_branch(kind: BranchKind, message: &[u8]) -> Message
     requires { length message.now ≡ 32 }
     ensures { result ≡ message_in (MessageType.Branch kind) message.now }
 {
-    let connection = read_connection(message);
-    Message::Branch {
-        kind,
-        result: message[2],
-        code: message[3],
-        transaction: connection.transaction,
-        session: connection.session,
-        input_port: connection.input_port,
-        input: connection.input,
-        output_port: connection.output_port,
-        output: connection.output,
-        branches: connection.branches,
-        priority: connection.priority,
-    }
+    read_connection(message).branch(kind, message[2], message[3])
 }
 
 /// The fields of a Move Branch.
@@ -140,21 +127,8 @@ fn read_move(message: &[u8]) -> Message
     requires { length message.now ≡ 40 }
     ensures { result ≡ message_in MessageType.Move message.now }
 {
-    let connection = read_connection(message);
-    Message::Move {
-        result: message[2],
-        code: message[3],
-        transaction: connection.transaction,
-        session: connection.session,
-        input_port: connection.input_port,
-        input: connection.input,
-        output_port: connection.output_port,
-        output: connection.output,
-        target_port: u32_at(message, 32),
-        target: channel_at(message, 36),
-        branches: connection.branches,
-        priority: connection.priority,
-    }
+    let target = channel_at(message, 36);
+    read_connection(message).moved(message[2], message[3], u32_at(message, 32), target)
 }
 
 /// So many records.

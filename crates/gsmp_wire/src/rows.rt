@@ -4,8 +4,9 @@ ghost use Rattle.std.specs.Prelude.{◌≡◌, ◌<◌, ◌≤◌, ◌++◌, ◌
 
 use std::marker::Model;
 
-/// The most records that an answer has: those of the control port and of eight others.
-const MOST_ROWS: usize = 9;
+/// The most records that an answer has, one for each port: those of the control port and of eight
+/// others. It is this project's own limit.
+pub const MOST_ROWS: usize = 9;
 
 /// A port record of an All Ports Configuration message (RFC 1987): what a switch tells of one port.
 #[derive(Clone, Copy, Debug, PartialEq, Eq)]

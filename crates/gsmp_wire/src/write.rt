@@ -1,7 +1,10 @@
 //! From the message to octets.
 
-ghost use Rattle.std.specs.Prelude.{◌≡◌, ◌+◌, ◌*◌, ◌≤◌, ◌++◌, length, drop, Some};
+ghost use Rattle.std.specs.Prelude.{◌≡◌, ◌+◌, ◌*◌, ◌≤◌, ◌∷◌, ◌++◌, [], length, drop, Some};
+ghost use Rattle.std.specs.Int.{w16, w32, to_be_bytes};
 ghost use Rattle.gsmp_wire.specs.declared.message.Connection.{Connection as Fields};
+ghost use Rattle.gsmp_wire.specs.declared.message.Head.{Head};
+ghost use Rattle.gsmp_wire.specs.Parts.{head_of};
 ghost use Rattle.gsmp_wire.specs.Layout.{connection_octets, connection_of, end_octets, greeting_octets, header, hello_code, octets_of, row_octets, rows_octets, snap_header, type_number};
 ghost use Rattle.gsmp_wire.specs.Range.{IsInRange};
 ghost use Rattle.octet_fields.specs.Fields.{written};
@@ -25,56 +28,56 @@ pub fn encode(message: &Message, out: &mut [u8]) -> usize
             put_octets(out, 12, &greeting_octets(greeting));
             40
         }
-        Message::Branch {
-            kind,
-            result,
-            code,
-            ..
-        } => {
-            put_header(out, MessageType::Branch(*kind), *result, *code);
+        Message::Branch { kind, .. } => {
+            put_head(out, MessageType::Branch(*kind), message);
             put_connection(out, message);
             40
         }
         Message::Move {
-            result,
-            code,
             target_port,
             target,
             ..
         } => {
-            put_header(out, MessageType::Move, *result, *code);
+            put_head(out, MessageType::Move, message);
             put_connection(out, message);
             put_octets(out, 40, &end_octets(*target_port, *target));
             48
         }
         Message::Port {
-            result,
-            code,
             transaction,
             port,
             session,
             function,
+            ..
         } => {
-            put_header(out, MessageType::Port, *result, *code);
-            put_u32(out, 12, *transaction);
-            put_u32(out, 16, *port);
-            put_u32(out, 20, *session);
-            put_octets(out, 24, &[*function, 0, 0, 0]);
+            put_head(out, MessageType::Port, message);
+            put_octets(
+                out,
+                12,
+                &order_octets(*transaction, *port, *session, *function),
+            );
             28
         }
         Message::AllPorts {
-            result,
-            code,
             transaction,
             rows,
+            ..
         } => {
-            put_header(out, MessageType::AllPorts, *result, *code);
-            put_u32(out, 12, *transaction);
-            put_u16(out, 16, rows.len() as u16);
-            put_octets(out, 18, &[0, 0]);
+            put_head(out, MessageType::AllPorts, message);
+            put_octets(out, 12, &list_octets(*transaction, rows.len() as u16));
             put_rows(out, 20, rows);
             20 + 16 * rows.len()
         }
+    }
+}
+
+/// Writes the LLC/SNAP header and the first four octets of a message that isn't the adjacency's.
+fn put_head(out: &mut [u8], kind: MessageType, message: &Message)
+    requires { 12 ≤ length out.old }
+    ensures { (head : Head) → head_of message.now ≡ Some head → out.new ≡ written out.old 0 (snap_header ++ header kind head.result head.code) }
+{
+    if let Some(head) = message.head() {
+        put_header(out, kind, head.result, head.code);
     }
 }
 
@@ -145,48 +148,8 @@ fn put_connection(out: &mut [u8], message: &Message)
     requires room { 40 ≤ length out.old }
     ensures { (connection : Fields) → connection_of message.now ≡ Some connection → out.new ≡ written out.old 12 (connection_octets connection) }
 {
-    if let Some(connection) = connection_of(message) {
+    if let Some(connection) = message.connection() {
         put_octets(out, 12, &connection_octets(&connection));
-    }
-}
-
-/// The connection that a message is about, where it is about one.
-fn connection_of(message: &Message) -> Option<Connection>
-    ensures { result ≡ connection_of message.now }
-{
-    match message {
-        Message::Branch {
-            transaction,
-            session,
-            input_port,
-            input,
-            output_port,
-            output,
-            branches,
-            priority,
-            ..
-        }
-        | Message::Move {
-            transaction,
-            session,
-            input_port,
-            input,
-            output_port,
-            output,
-            branches,
-            priority,
-            ..
-        } => Some(Connection {
-            transaction: *transaction,
-            session: *session,
-            input_port: *input_port,
-            input: *input,
-            output_port: *output_port,
-            output: *output,
-            branches: *branches,
-            priority: *priority,
-        }),
-        _ => None,
     }
 }
 
@@ -209,6 +172,28 @@ fn connection_octets(connection: &Connection) -> [u8; 28]
     );
     put_u16(&mut octets, 24, connection.branches);
     put_octets(&mut octets, 26, &[0, connection.priority]);
+    octets
+}
+
+/// Octets 4 to 19 of a Port Management.
+fn order_octets(transaction: u32, port: u32, session: u32, function: u8) -> [u8; 16]
+    ensures { result ≡ to_be_bytes w32 transaction ++ to_be_bytes w32 port ++ to_be_bytes w32 session ++ (function ∷ 0 ∷ 0 ∷ 0 ∷ []) }
+{
+    let mut octets = [0; 16];
+    put_u32(&mut octets, 0, transaction);
+    put_u32(&mut octets, 4, port);
+    put_u32(&mut octets, 8, session);
+    put_octets(&mut octets, 12, &[function]);
+    octets
+}
+
+/// Octets 4 to 11 of an All Ports message.
+fn list_octets(transaction: u32, count: u16) -> [u8; 8]
+    ensures { result ≡ to_be_bytes w32 transaction ++ to_be_bytes w16 count ++ (0 ∷ 0 ∷ []) }
+{
+    let mut octets = [0; 8];
+    put_u32(&mut octets, 0, transaction);
+    put_u16(&mut octets, 4, count);
     octets
 }
 

@@ -22,6 +22,6 @@ mod reader;
 mod writer;
 
 pub use laws::{octets_are_accepted, octets_tell_one_message};
-pub use message::Message;
+pub use message::{Message, Names};
 pub use reader::{Fault, decode};
 pub use writer::encode;

@@ -1,5 +1,8 @@
 //! The messages as values.
 
+ghost use Rattle.std.specs.Prelude.{◌≡◌};
+ghost use Rattle.ifmp_wire.specs.Message.{names_of};
+
 use ipv4_packet::FlowId;
 use net_types::{Channel, Hello, Instance};
 
@@ -80,11 +83,60 @@ pub enum Message {
 
 /// What every message begins with, behind version, op code and checksum.
 #[derive(Clone, Copy, Debug, PartialEq, Eq)]
-pub(crate) struct Names {
+pub struct Names {
     /// The sender's instance.
     pub sender: Instance,
     /// The receiver's instance.
     pub peer: Instance,
     /// The Peer Identity of an adjacency message, the Sequence Number of the others.
     pub number: u32,
+}
+
+impl Message {
+    /// What it begins with: octets 4 to 15.
+    pub fn names(&self) -> Names
+        ensures { result ≡ names_of self.now }
+    {
+        match *self {
+            Message::Adjacency(hello) => Names {
+                sender: hello.sender,
+                peer: hello.peer,
+                number: hello.identity.0,
+            },
+            Message::Redirect {
+                sender,
+                peer,
+                number,
+                ..
+            }
+            | Message::Reclaim {
+                sender,
+                peer,
+                number,
+                ..
+            }
+            | Message::ReclaimAck {
+                sender,
+                peer,
+                number,
+                ..
+            }
+            | Message::LabelRange {
+                sender,
+                peer,
+                number,
+                ..
+            }
+            | Message::Error {
+                sender,
+                peer,
+                number,
+                ..
+            } => Names {
+                sender,
+                peer,
+                number,
+            },
+        }
+    }
 }

@@ -41,7 +41,7 @@ fn write_without_checksum(message: &Message, out: &mut [u8]) -> usize
     ensures written { out.new ≡ without_checksum (op_code message.now) (body message.now) ++ drop result out.old }
     ensures len { result ≡ length (octets_of message.now) }
 {
-    write_names(op_code(message), &names_of(message), out);
+    write_names(op_code(message), &message.names(), out);
     16 + write_rest(message, &mut out[16..])
 }
 
@@ -68,53 +68,6 @@ fn code_of(kind: HelloKind) -> u8
         HelloKind::Synack => 1,
         HelloKind::Rstack => 2,
         HelloKind::Ack => 3,
-    }
-}
-
-/// What stands in octets 4 to 15.
-fn names_of(message: &Message) -> Names
-    ensures { result ≡ names_of message.now }
-{
-    match *message {
-        Message::Adjacency(hello) => Names {
-            sender: hello.sender,
-            peer: hello.peer,
-            number: hello.identity.0,
-        },
-        Message::Redirect {
-            sender,
-            peer,
-            number,
-            ..
-        }
-        | Message::Reclaim {
-            sender,
-            peer,
-            number,
-            ..
-        }
-        | Message::ReclaimAck {
-            sender,
-            peer,
-            number,
-            ..
-        }
-        | Message::LabelRange {
-            sender,
-            peer,
-            number,
-            ..
-        }
-        | Message::Error {
-            sender,
-            peer,
-            number,
-            ..
-        } => Names {
-            sender,
-            peer,
-            number,
-        },
     }
 }
 

@@ -8,6 +8,7 @@ use Rattle.ifmp_wire.specs.Message.{Tells}
 use Rattle.ifmp_wire.specs.Tests.{first_fault}
 use Rattle.gsmp_wire.specs.declared.message.Message.{Message as GsmpMessage}
 use Rattle.gsmp_wire.specs.declared.fault.Fault.{Fault as GsmpFault}
+use Rattle.gsmp_wire.specs.declared.message.Head.{Head}
 use Rattle.gsmp_wire.specs.Layout.{octets_of}
 use Rattle.gsmp_wire.specs.Range.{IsInRange}
 use Rattle.gsmp_wire.specs.Refusal.{refusal}
@@ -44,11 +45,11 @@ pub on_ok : {T E : Type 0} (outcome : Result T E) (A B : Type 0) → (A → B) �
 on_ok (Ok value) A B follows holds = follows holds
 on_ok (Err error) A B follows holds = holds
 
--- the front of the text of a message about a switch
-pub head_written : (a b c d e word : List ℕ) (result code transaction code_written transaction_written : ℕ)
-    → code_written ≡ code → transaction_written ≡ transaction
-    → b ≡ a ++ word → c ≡ b ++ result_word result → d ≡ c ++ named_number (codes " ") code_written → e ≡ d ++ named_number (codes " transaction ") transaction_written
-    → e ≡ a ++ head_text word result code transaction
+-- the head of a message about a switch
+pub head_written : (a c d e : List ℕ) (head : Head) (code_written number_written : ℕ)
+    → code_written ≡ head.code → number_written ≡ head.number
+    → c ≡ a ++ result_word head.result → d ≡ c ++ named_number (codes " ") code_written → e ≡ d ++ named_number (codes " transaction ") number_written
+    → e ≡ a ++ head_text head
 unfolding head_text
-head_written a b c d e word result code transaction code_written transaction_written of_code of_transaction eb ec ed ee =
-    rw (ee, ed, ec, eb, of_code, of_transaction, append_assoc, append_assoc, append_assoc) refl
+head_written a c d e head code_written number_written of_code of_number ec ed ee =
+    rw (ee, ed, ec, of_code, of_number, append_assoc, append_assoc) refl

@@ -1,13 +1,13 @@
 //! GSMP messages as text.
 
 ghost use Rattle.std.specs.Prelude.{◌≡◌, ◌++◌, OnOk};
-ghost use Rattle.gsmp_wire.specs.declared.message.Message.TheVariants.{Adjacency};
-ghost use Rattle.message_text.specs.Gsmp.{gsmp_text, greeting_word, branch_word, party_text, result_word, head_text, end_text, tail_text, state_word, row_text, rows_text};
+ghost use Rattle.gsmp_wire.specs.Parts.{head_of};
+ghost use Rattle.message_text.specs.Gsmp.{gsmp_text, greeting_word, branch_word, party_text, result_word, head_text, head_text_or_none, end_text, ends_text, tail_text, state_word, row_text, rows_text, word_of, fields_text};
 
 use crate::fields::{write_channel, write_number, write_octets};
-use gsmp_wire::{BranchKind, Message, PortRow, PortRows};
+use gsmp_wire::{BranchKind, Head, Message, PortRow, PortRows, REQUEST, SUCCESS};
 use lab_text::Text;
-use net_types::{Channel, Greeting, HelloKind, OutOfMemory, Party};
+use net_types::{Channel, HelloKind, OutOfMemory, Party};
 
 fn greeting_word(kind: HelloKind) -> &'static str
     ensures { result.now ≡ greeting_word kind }
@@ -35,9 +35,9 @@ fn branch_word(kind: BranchKind) -> &'static str
 fn result_word(outcome: u8) -> &'static str
     ensures { result.now ≡ result_word outcome }
 {
-    if outcome == 2 {
+    if outcome == REQUEST {
         " request"
-    } else if outcome == 3 {
+    } else if outcome == SUCCESS {
         " success"
     } else {
         " failure"
@@ -66,19 +66,21 @@ fn write_result(out: &mut Text, outcome: u8) -> Result<(), OutOfMemory>
 }
 
 #[tactic(auto, unfolding(crate::specs::Gsmp::head_text))]
-fn write_head(
-    out: &mut Text,
-    word: &str,
-    outcome: u8,
-    code: u8,
-    transaction: u32,
-) -> Result<(), OutOfMemory>
-    ensures { OnOk result (out.new ≡ out.old ++ head_text word.now outcome code transaction) }
+fn write_head(out: &mut Text, head: &Head) -> Result<(), OutOfMemory>
+    ensures { OnOk result (out.new ≡ out.old ++ head_text head.now) }
 {
-    out.text(word)?;
-    write_result(out, outcome)?;
-    write_number(out, " ", u64::from(code))?;
-    write_number(out, " transaction ", u64::from(transaction))
+    write_result(out, head.result)?;
+    write_number(out, " ", u64::from(head.code))?;
+    write_number(out, " transaction ", u64::from(head.number))
+}
+
+fn write_head_or_none(out: &mut Text, message: &Message) -> Result<(), OutOfMemory>
+    ensures { OnOk result (out.new ≡ out.old ++ head_text_or_none (head_of message.now)) }
+{
+    match message.head() {
+        Some(head) => write_head(out, &head),
+        None => Ok(()),
+    }
 }
 
 #[tactic(auto, unfolding(crate::specs::Gsmp::end_text))]
@@ -87,6 +89,22 @@ fn write_end(out: &mut Text, name: &str, port: u32, channel: Channel) -> Result<
 {
     write_number(out, name, u64::from(port))?;
     write_channel(out, " ", channel)
+}
+
+#[tactic(auto, unfolding(crate::specs::Gsmp::ends_text))]
+fn write_ends(
+    out: &mut Text,
+    session: u32,
+    input_port: u32,
+    input: Channel,
+    output_port: u32,
+    output: Channel,
+) -> Result<(), OutOfMemory>
+    ensures { OnOk result (out.new ≡ out.old ++ ends_text session input_port input output_port output) }
+{
+    write_number(out, " session ", u64::from(session))?;
+    write_end(out, " input ", input_port, input)?;
+    write_end(out, " output ", output_port, output)
 }
 
 fn write_tail(out: &mut Text, branches: u16, priority: u8) -> Result<(), OutOfMemory>
@@ -116,25 +134,27 @@ fn write_rows(out: &mut Text, rows: &PortRows) -> Result<(), OutOfMemory>
     Ok(())
 }
 
-fn write_greeting(out: &mut Text, greeting: &Greeting) -> Result<(), OutOfMemory>
-    ensures { OnOk result (out.new ≡ out.old ++ gsmp_text (Adjacency greeting.now)) }
-{
-    out.text(greeting_word(greeting.kind))?;
-    write_party(out, " sender ", &greeting.sender)?;
-    write_party(out, " receiver ", &greeting.receiver)
-}
-
-/// Appends the text of a message, without an end of line.
-pub fn write_gsmp(out: &mut Text, message: &Message) -> Result<(), OutOfMemory>
-    ensures { OnOk result (out.new ≡ out.old ++ gsmp_text message.now) }
+fn word_of(message: &Message) -> &'static str
+    ensures { result.now ≡ word_of message.now }
 {
     match message {
-        Message::Adjacency(greeting) => write_greeting(out, greeting),
+        Message::Adjacency(greeting) => greeting_word(greeting.kind),
+        Message::Branch { kind, .. } => branch_word(*kind),
+        Message::Move { .. } => "movebranch",
+        Message::Port { .. } => "port",
+        Message::AllPorts { .. } => "allports",
+    }
+}
+
+fn write_fields(out: &mut Text, message: &Message) -> Result<(), OutOfMemory>
+    ensures { OnOk result (out.new ≡ out.old ++ fields_text message.now) }
+{
+    match message {
+        Message::Adjacency(greeting) => {
+            write_party(out, " sender ", &greeting.sender)?;
+            write_party(out, " receiver ", &greeting.receiver)
+        }
         Message::Branch {
-            kind,
-            result: outcome,
-            code,
-            transaction,
             session,
             input_port,
             input,
@@ -142,17 +162,12 @@ pub fn write_gsmp(out: &mut Text, message: &Message) -> Result<(), OutOfMemory>
             output,
             branches,
             priority,
+            ..
         } => {
-            write_head(out, branch_word(*kind), *outcome, *code, *transaction)?;
-            write_number(out, " session ", u64::from(*session))?;
-            write_end(out, " input ", *input_port, *input)?;
-            write_end(out, " output ", *output_port, *output)?;
+            write_ends(out, *session, *input_port, *input, *output_port, *output)?;
             write_tail(out, *branches, *priority)
         }
         Message::Move {
-            result: outcome,
-            code,
-            transaction,
             session,
             input_port,
             input,
@@ -162,35 +177,32 @@ pub fn write_gsmp(out: &mut Text, message: &Message) -> Result<(), OutOfMemory>
             target,
             branches,
             priority,
+            ..
         } => {
-            write_head(out, "movebranch", *outcome, *code, *transaction)?;
-            write_number(out, " session ", u64::from(*session))?;
-            write_end(out, " input ", *input_port, *input)?;
-            write_end(out, " output ", *output_port, *output)?;
+            write_ends(out, *session, *input_port, *input, *output_port, *output)?;
             write_end(out, " new ", *target_port, *target)?;
             write_tail(out, *branches, *priority)
         }
         Message::Port {
-            result: outcome,
-            code,
-            transaction,
             port,
             session,
             function,
+            ..
         } => {
-            write_head(out, "port", *outcome, *code, *transaction)?;
             write_number(out, " port ", u64::from(*port))?;
             write_number(out, " session ", u64::from(*session))?;
             write_number(out, " function ", u64::from(*function))
         }
-        Message::AllPorts {
-            result: outcome,
-            code,
-            transaction,
-            rows,
-        } => {
-            write_head(out, "allports", *outcome, *code, *transaction)?;
-            write_rows(out, rows)
-        }
+        Message::AllPorts { rows, .. } => write_rows(out, rows),
     }
+}
+
+/// Appends the text of a message, without an end of line.
+#[tactic(auto, unfolding(crate::specs::Gsmp::gsmp_text))]
+pub fn write_gsmp(out: &mut Text, message: &Message) -> Result<(), OutOfMemory>
+    ensures { OnOk result (out.new ≡ out.old ++ gsmp_text message.now) }
+{
+    out.text(word_of(message))?;
+    write_head_or_none(out, message)?;
+    write_fields(out, message)
 }

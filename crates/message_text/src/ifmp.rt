@@ -5,7 +5,7 @@ ghost use Rattle.ifmp_wire.specs.declared.message.Message.TheVariants.{Adjacency
 ghost use Rattle.message_text.specs.Ifmp.{ifmp_text, hello_word, between, head_text, use_text};
 
 use crate::fields::{write_address, write_channel, write_number, write_octets};
-use ifmp_wire::Message;
+use ifmp_wire::{Message, Names};
 use ipv4_packet::FlowId;
 use lab_text::Text;
 use net_types::{Channel, Hello, HelloKind, Instance, OutOfMemory};
@@ -36,17 +36,11 @@ fn write_between(
 }
 
 #[tactic(auto, unfolding(crate::specs::Ifmp::head_text))]
-fn write_head(
-    out: &mut Text,
-    word: &str,
-    sender: Instance,
-    peer: Instance,
-    number: u32,
-) -> Result<(), OutOfMemory>
-    ensures { OnOk result (out.new ≡ out.old ++ head_text word.now sender peer number) }
+fn write_head(out: &mut Text, word: &str, names: &Names) -> Result<(), OutOfMemory>
+    ensures { OnOk result (out.new ≡ out.old ++ head_text word.now names.now.sender names.now.peer names.now.number) }
 {
-    write_between(out, word, sender, peer)?;
-    write_number(out, " number ", u64::from(number))
+    write_between(out, word, names.sender, names.peer)?;
+    write_number(out, " number ", u64::from(names.number))
 }
 
 #[tactic(auto, unfolding(crate::specs::Ifmp::use_text))]
@@ -71,59 +65,38 @@ fn write_hello(out: &mut Text, hello: &Hello) -> Result<(), OutOfMemory>
 pub fn write_ifmp(out: &mut Text, message: &Message) -> Result<(), OutOfMemory>
     ensures { OnOk result (out.new ≡ out.old ++ ifmp_text message.now) }
 {
+    let names = message.names();
     match message {
         Message::Adjacency(hello) => write_hello(out, hello),
         Message::Redirect {
-            sender,
-            peer,
-            number,
             lifetime,
             label,
             flow,
+            ..
         } => {
-            write_head(out, "redirect", *sender, *peer, *number)?;
+            write_head(out, "redirect", &names)?;
             write_number(out, " lifetime ", u64::from(*lifetime))?;
             write_use(out, *label, flow)
         }
-        Message::Reclaim {
-            sender,
-            peer,
-            number,
-            label,
-            flow,
-        } => {
-            write_head(out, "reclaim", *sender, *peer, *number)?;
+        Message::Reclaim { label, flow, .. } => {
+            write_head(out, "reclaim", &names)?;
             write_use(out, *label, flow)
         }
-        Message::ReclaimAck {
-            sender,
-            peer,
-            number,
-            label,
-            flow,
-        } => {
-            write_head(out, "reclaimack", *sender, *peer, *number)?;
+        Message::ReclaimAck { label, flow, .. } => {
+            write_head(out, "reclaimack", &names)?;
             write_use(out, *label, flow)
         }
         Message::LabelRange {
-            sender,
-            peer,
-            number,
             least,
             greatest,
+            ..
         } => {
-            write_head(out, "labelrange", *sender, *peer, *number)?;
+            write_head(out, "labelrange", &names)?;
             write_channel(out, " least ", *least)?;
             write_channel(out, " greatest ", *greatest)
         }
-        Message::Error {
-            sender,
-            peer,
-            number,
-            code,
-            label,
-        } => {
-            write_head(out, "error", *sender, *peer, *number)?;
+        Message::Error { code, label, .. } => {
+            write_head(out, "error", &names)?;
             write_number(out, " code ", u64::from(*code))?;
             write_channel(out, " label ", *label)
         }

@@ -9,6 +9,8 @@ use Rattle.gsmp_wire.specs.declared.message.Message.TheVariants as messages
 use Rattle.gsmp_wire.specs.declared.request.Request.{Request}
 use Rattle.gsmp_wire.specs.declared.request.Request.TheVariants.{AddBranch, MoveBranch, DeleteTree, VerifyTree, DeleteAll, PortManagement, AllPorts}
 use Rattle.gsmp_wire.specs.declared.rows.PortRow.{PortRow}
+pub use Rattle.gsmp_wire.specs.declared.message.Head.{Head}
+pub use Rattle.gsmp_wire.specs.Parts.{head_of}
 use Rattle.port_model.specs.Desk.{Desk, Standing}
 
 -- a message and a request have one type
@@ -27,23 +29,6 @@ is_of_type (messages.Move result code number session input_port input output_por
 is_of_type (messages.Port result code number port session function) (PortManagement managed order) = true
 is_of_type (messages.AllPorts result code number rows) AllPorts = true
 is_of_type message request = false
-
--- the Result (3 in a success, 4 in a failure), the Code and the transaction number of a message
-pub record Head : Type 0 where
-  pub result : ℕ
-  pub code : ℕ
-  pub number : ℕ
-
-abbrev pub head_of : Message → Option Head
-head_of (messages.Adjacency greeting) = None
-head_of (messages.Branch kind result code number session input_port input output_port output branches
-    priority) = Some (record { result = result; code = code; number = number })
-head_of (messages.Move result code number session input_port input output_port output target_port target
-    branches priority) = Some (record { result = result; code = code; number = number })
-head_of (messages.Port result code number port session function) =
-    Some (record { result = result; code = code; number = number })
-head_of (messages.AllPorts result code number rows) =
-    Some (record { result = result; code = code; number = number })
 
 -- nothing that stands; a success; a success of All Ports, with its records; a failure with its Code
 pub data Answered : Type 0 where

@@ -8,6 +8,6 @@ returns-clause-written c =
     let message = c.args.message.now in
     let front = without_checksum (op_code message) (with_names (names_of message) []) in
     let whole : c.write_names.new.out ≡ front ++ drop 16 c.args.out.now =
-    c.write_names.ensures ∙ ap₂ (λ op names. without_checksum op (with_names names (drop 16 c.args.out.now))) c.op_code.ensures c.names_of.ensures in
+    c.write_names.ensures ∙ ap₂ (λ op names. without_checksum op (with_names names (drop 16 c.args.out.now))) c.op_code.ensures c.names.ensures in
     written-behind 16 front c.args.out.now c.write_names.new.out c.write_rest.new.out (rest_of message) c.write_rest.result
     refl c.write_rest.ensures.len whole c.write_rest.ensures.written

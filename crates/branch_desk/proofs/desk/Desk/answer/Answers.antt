@@ -13,22 +13,22 @@ use Rattle.branch_desk.proofs.desk.Desk.answer.Goals as goal
 pub returns-in_default-answered_by-clause-answer : goal.returns-in_default-answered_by-clause-answer
 returns-in_default-answered_by-clause-answer c =
     let desk : Desk = record { next = c.self.inside.next; standing = c.self.inside.requests; rows = c.self.inside.rows } in
-    let head : Head = record { result = c.head.inside.result; code = c.head.inside.code; number = c.head.inside.number } in
-    let is : head_of c.args.response.now ≡ Some head = sym c.head_of.ensures ∙ c.in-Some.is ∙ ap Some (sym c.head.view_is) in
+    let head : Head = c.in-Some.head in
+    let is : head_of c.args.response.now ≡ Some head = sym c.head.ensures ∙ c.in-Some.is in
     rw (← c.self.view_is) (sym (ap told (unknown_is desk c.args.response.now head is (sym c.answered_by.ensures.found ∙ c.in_default-answered_by.is))))
 
 pub returns-in_default-answered_by-clause-after : goal.returns-in_default-answered_by-clause-after
 returns-in_default-answered_by-clause-after c =
     let desk : Desk = record { next = c.self.inside.next; standing = c.self.inside.requests; rows = c.self.inside.rows } in
-    let head : Head = record { result = c.head.inside.result; code = c.head.inside.code; number = c.head.inside.number } in
-    let is : head_of c.args.response.now ≡ Some head = sym c.head_of.ensures ∙ c.in-Some.is ∙ ap Some (sym c.head.view_is) in
+    let head : Head = c.in-Some.head in
+    let is : head_of c.args.response.now ≡ Some head = sym c.head.ensures ∙ c.in-Some.is in
     rw (← c.self.view_is) (sym (ap (after_answer desk) (unknown_is desk c.args.response.now head is (sym c.answered_by.ensures.found ∙ c.in_default-answered_by.is))))
 
 pub returns-in_default-answered_by-clause-done : goal.returns-in_default-answered_by-clause-done
 returns-in_default-answered_by-clause-done c =
     let desk : Desk = record { next = c.self.inside.next; standing = c.self.inside.requests; rows = c.self.inside.rows } in
-    let head : Head = record { result = c.head.inside.result; code = c.head.inside.code; number = c.head.inside.number } in
-    let is : head_of c.args.response.now ≡ Some head = sym c.head_of.ensures ∙ c.in-Some.is ∙ ap Some (sym c.head.view_is) in
+    let head : Head = c.in-Some.head in
+    let is : head_of c.args.response.now ≡ Some head = sym c.head.ensures ∙ c.in-Some.is in
     let means = unknown_is desk c.args.response.now head is (sym c.answered_by.ensures.found ∙ c.in_default-answered_by.is) in
     rw (← c.self.view_is) (λ s. done_exactly desk c.args.response.now s Unknown c.answered_by.ensures.rising (sym (ap told means)))
 
@@ -44,8 +44,8 @@ invariant_of-self-in-4 c = rw c.remove-in-4.ensures (All-filter _ (λ (s : Stand
 pub returns-in-AllPorts-clause-answer : goal.returns-in-AllPorts-clause-answer
 returns-in-AllPorts-clause-answer c =
     let desk : Desk = record { next = c.self.inside.next; standing = c.self.inside.requests; rows = c.self.inside.rows } in
-    let head : Head = record { result = c.head.inside.result; code = c.head.inside.code; number = c.head.inside.number } in
-    let is : head_of c.args.response.now ≡ Some head = sym c.head_of.ensures ∙ c.in-Some.is ∙ ap Some (sym c.head.view_is) in
+    let head : Head = c.in-Some.head in
+    let is : head_of c.args.response.now ≡ Some head = sym c.head.ensures ∙ c.in-Some.is in
     let found = sym c.answered_by.ensures.found ∙ c.in-Some-answered_by.is in
     let entry = c.in-Some-answered_by.entry in
     let means = succeeded_is desk c.args.response.now head is entry found c.in-3.is ∙ ap (λ (m : Message). succeeded m entry) c.in-AllPorts.is in
@@ -55,8 +55,8 @@ returns-in-AllPorts-clause-answer c =
 pub returns-in-AllPorts-clause-done : goal.returns-in-AllPorts-clause-done
 returns-in-AllPorts-clause-done c =
     let desk : Desk = record { next = c.self.inside.next; standing = c.self.inside.requests; rows = c.self.inside.rows } in
-    let head : Head = record { result = c.head.inside.result; code = c.head.inside.code; number = c.head.inside.number } in
-    let is : head_of c.args.response.now ≡ Some head = sym c.head_of.ensures ∙ c.in-Some.is ∙ ap Some (sym c.head.view_is) in
+    let head : Head = c.in-Some.head in
+    let is : head_of c.args.response.now ≡ Some head = sym c.head.ensures ∙ c.in-Some.is in
     let found = sym c.answered_by.ensures.found ∙ c.in-Some-answered_by.is in
     let entry = c.in-Some-answered_by.entry in
     let means = succeeded_is desk c.args.response.now head is entry found c.in-3.is ∙ ap (λ (m : Message). succeeded m entry) c.in-AllPorts.is in
@@ -66,8 +66,8 @@ returns-in-AllPorts-clause-done c =
 pub returns-in-AllPorts-clause-after : goal.returns-in-AllPorts-clause-after
 returns-in-AllPorts-clause-after c =
     let desk : Desk = record { next = c.self.inside.next; standing = c.self.inside.requests; rows = c.self.inside.rows } in
-    let head : Head = record { result = c.head.inside.result; code = c.head.inside.code; number = c.head.inside.number } in
-    let is : head_of c.args.response.now ≡ Some head = sym c.head_of.ensures ∙ c.in-Some.is ∙ ap Some (sym c.head.view_is) in
+    let head : Head = c.in-Some.head in
+    let is : head_of c.args.response.now ≡ Some head = sym c.head.ensures ∙ c.in-Some.is in
     let found = sym c.answered_by.ensures.found ∙ c.in-Some-answered_by.is in
     let entry = c.in-Some-answered_by.entry in
     let means = succeeded_is desk c.args.response.now head is entry found c.in-3.is ∙ ap (λ (m : Message). succeeded m entry) c.in-AllPorts.is in
@@ -77,8 +77,8 @@ returns-in-AllPorts-clause-after c =
 pub returns-in_default-response : goal.returns-in_default-response
 returns-in_default-response c =
     let desk : Desk = record { next = c.self.inside.next; standing = c.self.inside.requests; rows = c.self.inside.rows } in
-    let head : Head = record { result = c.head.inside.result; code = c.head.inside.code; number = c.head.inside.number } in
-    let is : head_of c.args.response.now ≡ Some head = sym c.head_of.ensures ∙ c.in-Some.is ∙ ap Some (sym c.head.view_is) in
+    let head : Head = c.in-Some.head in
+    let is : head_of c.args.response.now ≡ Some head = sym c.head.ensures ∙ c.in-Some.is in
     let found = sym c.answered_by.ensures.found ∙ c.in-Some-answered_by.is in
     let entry = c.in-Some-answered_by.entry in
     let means : answered desk c.args.response.now ≡ meaning.Done entry =
@@ -93,8 +93,8 @@ returns-in_default-response c =
 pub returns-in-4-clause-answer : goal.returns-in-4-clause-answer
 returns-in-4-clause-answer c =
     let desk : Desk = record { next = c.self.inside.next; standing = c.self.inside.requests; rows = c.self.inside.rows } in
-    let head : Head = record { result = c.head.inside.result; code = c.head.inside.code; number = c.head.inside.number } in
-    let is : head_of c.args.response.now ≡ Some head = sym c.head_of.ensures ∙ c.in-Some.is ∙ ap Some (sym c.head.view_is) in
+    let head : Head = c.in-Some.head in
+    let is : head_of c.args.response.now ≡ Some head = sym c.head.ensures ∙ c.in-Some.is in
     let found = sym c.answered_by.ensures.found ∙ c.in-Some-answered_by.is in
     let means = failed_is desk c.args.response.now head is c.in-Some-answered_by.entry found c.in-4.is in
     rw (← c.self.view_is, c.number-in-4-2.ensures) (sym (ap told means))
@@ -102,8 +102,8 @@ returns-in-4-clause-answer c =
 pub returns-in-4-clause-after : goal.returns-in-4-clause-after
 returns-in-4-clause-after c =
     let desk : Desk = record { next = c.self.inside.next; standing = c.self.inside.requests; rows = c.self.inside.rows } in
-    let head : Head = record { result = c.head.inside.result; code = c.head.inside.code; number = c.head.inside.number } in
-    let is : head_of c.args.response.now ≡ Some head = sym c.head_of.ensures ∙ c.in-Some.is ∙ ap Some (sym c.head.view_is) in
+    let head : Head = c.in-Some.head in
+    let is : head_of c.args.response.now ≡ Some head = sym c.head.ensures ∙ c.in-Some.is in
     let found = sym c.answered_by.ensures.found ∙ c.in-Some-answered_by.is in
     let entry = c.in-Some-answered_by.entry in
     let means = failed_is desk c.args.response.now head is entry found c.in-4.is in
