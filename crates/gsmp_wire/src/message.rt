@@ -80,8 +80,8 @@ pub struct Connection {
     pub priority: u8,
 }
 
-/// A GSMP message. `result` is [`REQUEST`] in a request, [`SUCCESS`] in a success answer and
-/// [`FAILURE`] in a failure answer; `code` is the cause of a failure, and 0 in the others.
+/// A GSMP message (RFC 1987). `result` is [`REQUEST`] in a request, [`SUCCESS`] in a success answer
+/// and [`FAILURE`] in a failure answer; `code` is the cause of a failure, and 0 in the others.
 #[derive(Debug, Drop)]
 pub enum Message {
     /// An adjacency message.
