@@ -8,13 +8,12 @@ use Rattle.std.specs.Str.{is_utf8}
 use Rattle.std.proofs.lemmas.Str.{IsUtf8-from_is_utf8}
 use Rattle.toml.specs.Data.{Members}
 use Rattle.toml.specs.Parse.{parse_document}
-use Rattle.script_model.specs.declared.refusal.DocumentRefusal.{DocumentRefusal}
 use Rattle.script_model.specs.declared.refusal.DocumentRefusal.TheVariants.{Toml, ScriptTooLong}
 use Rattle.script_model.specs.Limits.{input_limit}
 use Rattle.script_model.specs.Documents.{Lines, lines_in, document_lines, document_of}
 use Rattle.document_text.specs.declared.fault.DocumentFault.{DocumentFault}
 use Rattle.document_text.specs.declared.fault.DocumentFault.TheVariants.{Refused, OutOfMemory}
-use Rattle.document_text.specs.Reading.{ReadsAs, Reads, IsRead, members_of}
+use Rattle.document_text.specs.Reading.{IsTold, ReadsAs, Reads, IsRead, members_of}
 
 -- octets that aren't UTF-8, or aren't a document, have no table
 members_of-none : (octets : List ℕ) → (IsUtf8 octets → parse_document octets ≡ None) → members_of octets ≡ None
@@ -26,10 +25,9 @@ members_of-none octets refused = by (is_utf8 octets) refl
 
 -- a fault that is a refusal only where it isn't for memory
 pub refused_table : {A : Type 0} (view : A → Members) (memory : Type 0) (octets : List ℕ) (fault : DocumentFault)
-    → ((name : DocumentRefusal) → fault ≡ Refused name → (name ≡ Toml) × (¬ memory)) → (¬ memory → IsUtf8 octets → parse_document octets ≡ None)
+    → IsTold memory fault → (¬ memory → IsUtf8 octets → parse_document octets ≡ None)
     → ReadsAs view (members_of octets) (Err fault)
-refused_table view memory octets (Refused name) told refused =
-    let (toml, other) = told name refl in (toml, members_of-none octets (refused other))
+refused_table view memory octets (Refused name) told refused = (told.0, members_of-none octets (refused told.1))
 refused_table view memory octets (OutOfMemory error) told refused = tt
 
 -- the lines of a document are those of its table
@@ -41,9 +39,16 @@ document_lines-table octets = by (is_utf8 octets) refl
     by false otherwise = rw otherwise
 
 pub refused_lines : {A : Type 0} (view : A → Members) (octets : List ℕ) (fault : DocumentFault) → ReadsAs view (members_of octets) (Err fault)
-    → Reads {A = Lines} (document_lines octets) (Err fault)
+    → ReadsAs {A = Lines} (λ lines. lines) (document_lines octets) (Err fault)
 refused_lines view octets (Refused name) told = (told.0, rw (document_lines-table octets, told.1))
 refused_lines view octets (OutOfMemory error) told = tt
+
+-- the lines of its table are the document's
+pub table_lines : (octets : List ℕ) (found : Members) (result : Result Lines DocumentFault) → members_of octets ≡ Some found → Reads (lines_in found) result
+    → ReadsAs (λ lines. lines) (document_lines octets) result
+table_lines octets found (Ok lines) is told = rw (document_lines-table octets, is) told
+table_lines octets found (Err (Refused name)) is told = (told.0, rw (document_lines-table octets, is) told.1)
+table_lines octets found (Err (OutOfMemory error)) is told = tt
 
 -- *Documents* that are too long, and others
 pub long_is : (octets : List ℕ) → input_limit ≤ length octets → document_of octets ≡ Err ScriptTooLong
@@ -54,7 +59,7 @@ short_is : (octets : List ℕ) → length octets < input_limit → document_of o
 unfolding document_of
 short_is octets short = rw (lt-leb input_limit (length octets) short)
 
-pub read_is : (octets : List ℕ) (result : Result Lines DocumentFault) → length octets < input_limit → Reads (document_lines octets) result
+pub read_is : (octets : List ℕ) (result : Result Lines DocumentFault) → length octets < input_limit → ReadsAs (λ lines. lines) (document_lines octets) result
     → IsRead (document_of octets) result
 read_is octets (Ok lines) short told = short_is octets short ∙ ap (λ (found : Option Lines). ok_or found Toml) told
 read_is octets (Err (Refused name)) short told =

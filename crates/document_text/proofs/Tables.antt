@@ -1,6 +1,6 @@
 -- what a table holds: its keys, and the texts at both
 
-use Rattle.std.proofs.Common.{◌≡◌, ℕ, zero, suc, ◌+◌, ◌-◌, ◌≤◌, drop, slice_get, length-drop, arith, true, ◌&&◌, List, [], ◌∷◌, ◌++◌, Option, Some, None, option_map, string_bytes, refl, sym, ap, ◌∙◌, append-nil, append_assoc, length}
+use Rattle.std.proofs.Common.{◌≡◌, ℕ, IsSome, subst, zero, suc, ◌+◌, ◌-◌, ◌≤◌, drop, slice_get, length-drop, arith, true, ◌&&◌, List, [], ◌∷◌, ◌++◌, Option, Some, None, option_map, string_bytes, refl, sym, ap, ◌∙◌, append-nil, append_assoc, length}
 use Rattle.std.specs.Prelude.{codes}
 use Rattle.std.proofs.lemmas.Option.{slice_get_past}
 use Rattle.std.specs.List.{list_all}
@@ -29,6 +29,22 @@ three_keys (Some x) (Some y) (Some z) first second all a b c =
     let both : first ++ y ≡ second = cc in
     let whole : second ++ z ≡ all = cc in
     ap Some (rw (append-nil, ← append_assoc, same, both) whole)
+
+-- where there are texts at each key, there are lines
+all_some : {B : Type 0} (f : List (List ℕ) → B) (one other last : Option (List (List ℕ))) → IsSome one → IsSome other → IsSome last
+    → IsSome (option_map f (option_and_then (λ texts. option_map (λ more. texts ++ more) (option_and_then (λ texts. option_map (λ more. texts ++ more) (option_and_then (λ texts. option_map (λ more. texts ++ more) (Some [])) last)) other)) one))
+all_some f None other last a b c = absurd (cc a)
+all_some f (Some x) None last a b c = absurd (cc b)
+all_some f (Some x) (Some y) None a b c = absurd (cc c)
+all_some f (Some x) (Some y) (Some z) a b c = refl
+
+pub some_lines : (found : Members) (one other last : Option (List (List ℕ))) → has_keys_alone found ≡ true
+    → one ≡ texts_at (codes "rules") found → other ≡ texts_at (codes "topology") found → last ≡ texts_at (codes "events") found
+    → IsSome one → IsSome other → IsSome last → IsSome (lines_in found)
+some_lines found one other last alone first second third a b c =
+    rw alone
+    (all_some (λ texts. record { rules = count_at (codes "rules") found; texts = texts }) (texts_at (codes "rules") found) (texts_at (codes "topology") found) (texts_at (codes "events") found)
+    (subst IsSome first a) (subst IsSome second b) (subst IsSome third c))
 
 -- where the texts at a key were found, so many there are, if it is there
 pub counted : (key : List ℕ) (found : Members) (texts : List (List ℕ)) → texts_at key found ≡ Some texts → (o : Option Data) → get_member key found ≡ o

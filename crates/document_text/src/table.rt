@@ -1,20 +1,23 @@
 //! The lines that the table of a document holds.
 
-ghost use Rattle.std.specs.Prelude.{◌≡◌, codes, string_bytes, Some};
+ghost use Rattle.std.specs.Prelude.{◌≡◌, ◌++◌, codes, string_bytes, Some, true, is_some, IsSome, IfSome, IfOk, OnOk};
 ghost use Rattle.std.specs.List.{list_all};
 ghost use Rattle.std.specs.Option.{option_map, option_and_then};
 ghost use Rattle.std.specs.BTreeMap.{keys};
-ghost use Rattle.toml.specs.Data.{as_array, get_member};
-ghost use Rattle.toml.specs.View.{view, array_view, table_view};
-ghost use Rattle.script_model.specs.Documents.{strings, texts_at, count_at, is_key, lines_in};
-ghost use Rattle.document_text.specs.Reading.{Adds, Reads};
+ghost use Rattle.toml.specs.Data.{get_member};
+ghost use Rattle.toml.specs.View.{view, items_view, table_view};
+ghost use Rattle.script_model.specs.Documents.{strings, texts_at, count_at, has_keys_alone, is_key, lines_in};
+ghost use Rattle.document_text.specs.Reading.{Reads};
 
 use crate::fault::DocumentFault;
 use crate::lines::{Lines, Texts};
+use net_types::OutOfMemory;
 use script_model::DocumentRefusal;
 use std::alloc::Global;
-use toml::value::Array;
 use toml::{Table, Value};
+
+/// A table isn't one of lines.
+const TOML: DocumentFault = DocumentFault::Refused(DocumentRefusal::Toml);
 
 fn is_key(key: &str) -> bool
     ensures { result ≡ is_key key.now }
@@ -28,27 +31,28 @@ fn has_keys_alone(table: &Table) -> bool
     table.keys().all(|key| is_key(key.as_str()))
 }
 
-/// Puts the texts of an array of strings behind `texts`.
-fn push_strings(texts: &mut Texts, array: &Array) -> Result<(), DocumentFault>
-    ensures { Adds texts.old (strings (array_view array.now)) texts.new result }
+fn are_strings(values: &[Value]) -> bool
+    ensures { result ≡ is_some (strings (items_view values.now)) }
 {
-    for value in array {
-        let Some(text) = value.as_str() else {
-            return Err(DocumentFault::Refused(DocumentRefusal::Toml));
-        };
-        texts.push(text)?;
+    for value in values {
+        if value.as_str().is_none() {
+            return false;
+        }
     }
-    Ok(())
+    true
 }
 
-/// Puts the texts of a value, an array of strings, behind `texts`.
-fn push_value(texts: &mut Texts, value: &Value) -> Result<(), DocumentFault>
-    ensures { Adds texts.old (option_and_then strings (as_array (view value.now))) texts.new result }
+/// Puts the texts of strings behind `texts`.
+fn push_strings(texts: &mut Texts, values: &[Value]) -> Result<(), OutOfMemory>
+    requires { IsSome (strings (items_view values.now)) }
+    ensures { OnOk result (option_map (λ more. texts.old ++ more) (strings (items_view values.now)) ≡ Some texts.new) }
 {
-    let Some(array) = value.as_array() else {
-        return Err(DocumentFault::Refused(DocumentRefusal::Toml));
-    };
-    push_strings(texts, array)
+    for value in values {
+        if let Some(text) = value.as_str() {
+            texts.push(text)?;
+        }
+    }
+    Ok(())
 }
 
 fn value_at<'a>(table: &'a Table, key: &str) -> Option<&'a Value>
@@ -57,13 +61,20 @@ fn value_at<'a>(table: &'a Table, key: &str) -> Option<&'a Value>
     table.get(key)
 }
 
-/// Puts the texts at a key behind `texts`: none where the key is missing.
-fn push_texts_at(texts: &mut Texts, key: &str, table: &Table) -> Result<(), DocumentFault>
-    ensures { Adds texts.old (texts_at key.now (table_view table.now)) texts.new result }
+/// The strings of the array at a key, and no string where the key is missing; `None` where something else
+/// than an array of strings is there.
+fn strings_at<'a>(table: &'a Table, key: &str) -> Option<&'a [Value]>
+    ensures texts { option_and_then (λ values. strings (items_view values.now)) result ≡ texts_at key.now (table_view table.now) }
+    ensures strings { IfSome result (λ values. IsSome (strings (items_view values.now))) }
 {
-    match value_at(table, key) {
-        None => Ok(()),
-        Some(value) => push_value(texts, value),
+    let Some(value) = value_at(table, key) else {
+        return Some(&[]);
+    };
+    let array = value.as_array()?;
+    if are_strings(array) {
+        Some(array)
+    } else {
+        None
     }
 }
 
@@ -78,18 +89,48 @@ fn rule_count(table: &Table, texts: &Texts) -> Option<usize>
     }
 }
 
+/// The lines of a table that has no other key, where these are the strings at its three keys.
+fn copied(
+    alloc: Global,
+    table: &Table,
+    rules: &[Value],
+    topology: &[Value],
+    events: &[Value],
+) -> Result<Lines, OutOfMemory>
+    requires alone { has_keys_alone (table_view table.now) ≡ true }
+    requires rules { strings (items_view rules.now) ≡ texts_at (codes "rules") (table_view table.now) }
+    requires topology { strings (items_view topology.now) ≡ texts_at (codes "topology") (table_view table.now) }
+    requires events { strings (items_view events.now) ≡ texts_at (codes "events") (table_view table.now) }
+    requires some { IsSome (strings (items_view rules.now)) × IsSome (strings (items_view topology.now)) × IsSome (strings (items_view events.now)) }
+    ensures { IfOk result (λ lines. lines_in (table_view table.now) ≡ Some lines) }
+{
+    let mut texts = Texts::new(alloc);
+    push_strings(&mut texts, rules)?;
+    let rules = rule_count(table, &texts);
+    push_strings(&mut texts, topology)?;
+    push_strings(&mut texts, events)?;
+    Ok(Lines::new(texts, rules))
+}
+
 /// The lines of a table. Refuses `Toml` where it holds another key or something else than arrays of
-/// strings.
+/// strings, whether memory is left or not.
 pub fn lines_in(alloc: Global, table: &Table) -> Result<Lines, DocumentFault>
     ensures { Reads (lines_in (table_view table.now)) result }
 {
     if !has_keys_alone(table) {
-        return Err(DocumentFault::Refused(DocumentRefusal::Toml));
+        return Err(TOML);
     }
-    let mut texts = Texts::new(alloc);
-    push_texts_at(&mut texts, "rules", table)?;
-    let rules = rule_count(table, &texts);
-    push_texts_at(&mut texts, "topology", table)?;
-    push_texts_at(&mut texts, "events", table)?;
-    Ok(Lines::new(texts, rules))
+    let Some(rules) = strings_at(table, "rules") else {
+        return Err(TOML);
+    };
+    let Some(topology) = strings_at(table, "topology") else {
+        return Err(TOML);
+    };
+    let Some(events) = strings_at(table, "events") else {
+        return Err(TOML);
+    };
+    match copied(alloc, table, rules, topology, events) {
+        Ok(lines) => Ok(lines),
+        Err(error) => Err(DocumentFault::OutOfMemory(error)),
+    }
 }

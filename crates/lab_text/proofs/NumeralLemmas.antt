@@ -63,3 +63,9 @@ paired_is (high ∷ low ∷ digits) (o ∷ octets) size each =
     each (suc i) (omega arith)
     ∙ ap₂ (λ m n. 16 * digit_value (get_or (high ∷ low ∷ digits) m 0) + digit_value (get_or (high ∷ low ∷ digits) n 0)) first second) in
     ap₂ ◌∷◌ (each 0 (omega arith)) (paired_is digits octets (omega arith) later)
+
+-- half as many octets as digits
+pub paired_len : (digits : List ℕ) → length (paired digits) ≡ length digits / 2
+paired_len [] = refl
+paired_len (d ∷ []) = refl
+paired_len (high ∷ low ∷ digits) = omega (arith, paired_len digits)

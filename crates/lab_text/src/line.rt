@@ -1,10 +1,10 @@
 //! Lines and their words.
 
-ghost use Rattle.std.specs.Prelude.{◌≡◌, ◌<◌, ◌≤◌, ◌∷◌, [], length, IfOk, IfSome, IfNone};
+ghost use Rattle.std.specs.Prelude.{◌≡◌, ◌<◌, ◌≤◌, ◌∷◌, [], length, false, IfOk, IfErr, IfSome, IfNone};
 ghost use Rattle.std.specs.List.{list_all, prefix_len, position_or_len};
 ghost use Rattle.std.specs.Result.{result_err};
 ghost use Rattle.lab_text.specs.Words.{is_blank, line_text, words, is_blank_line, is_script_octet};
-ghost use Rattle.lab_text.specs.Line.{holds_octet, input_limit, line_fault};
+ghost use Rattle.lab_text.specs.Line.{holds_octet, input_limit, is_want_of_memory, line_fault};
 
 use memchr::memchr2;
 use net_types::OutOfMemory;
@@ -125,10 +125,11 @@ fn are_script_octets(octets: &[u8]) -> bool
 }
 
 /// The text of `line`, which may have an LF at its end and which `before` octets of the input stand
-/// before. Refuses `ScriptTooLong`, `LineTooLong` and `BadByte`, in this order.
+/// before. Refuses `ScriptTooLong`, `LineTooLong` and `BadByte`, in this order, and takes no memory.
 pub fn check_line(before: u32, line: &[u8]) -> Result<&[u8], LineFault>
     ensures text { IfOk result (λ text. text.now ≡ line_text line.now) }
     ensures fault { result_err result ≡ line_fault before line.now }
+    ensures no_memory { IfErr result (λ fault. is_want_of_memory fault ≡ false) }
 {
     if passes_limit(before, line) {
         return Err(LineFault::ScriptTooLong);

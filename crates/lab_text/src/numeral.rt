@@ -8,7 +8,7 @@ ghost use Rattle.std.specs.Str.Parse.{digits_value};
 ghost use Rattle.lab_text.specs.Numeral.{number, below, is_number, hex_octets, is_hex, paired};
 
 use net_types::OutOfMemory;
-use std::alloc::{AllocError, Global};
+use std::alloc::Global;
 
 fn are_digits(word: &[u8]) -> bool
     ensures { result ≡ list_all is_ascii_digit word.now }
@@ -68,26 +68,11 @@ fn are_hex_digits(word: &[u8]) -> bool
 }
 
 /// Whether `word` is an even number of hexadecimal digits of either case.
-fn is_hex(word: &[u8]) -> bool
+pub fn is_hex(word: &[u8]) -> bool
     ensures { result ≡ is_hex word.now }
 {
     word.len() % 2 == 0 && are_hex_digits(word)
 }
-
-/// By octet, the value of the digit or letter that it stands for; 36 where it is none.
-static DIGIT_VALUES: [u8; 256] = [
-    36, 36, 36, 36, 36, 36, 36, 36, 36, 36, 36, 36, 36, 36, 36, 36, 36, 36, 36, 36, 36, 36, 36, 36,
-    36, 36, 36, 36, 36, 36, 36, 36, 36, 36, 36, 36, 36, 36, 36, 36, 36, 36, 36, 36, 36, 36, 36, 36,
-    0, 1, 2, 3, 4, 5, 6, 7, 8, 9, 36, 36, 36, 36, 36, 36, 36, 10, 11, 12, 13, 14, 15, 16, 17, 18,
-    19, 20, 21, 22, 23, 24, 25, 26, 27, 28, 29, 30, 31, 32, 33, 34, 35, 36, 36, 36, 36, 36, 36, 10,
-    11, 12, 13, 14, 15, 16, 17, 18, 19, 20, 21, 22, 23, 24, 25, 26, 27, 28, 29, 30, 31, 32, 33, 34,
-    35, 36, 36, 36, 36, 36, 36, 36, 36, 36, 36, 36, 36, 36, 36, 36, 36, 36, 36, 36, 36, 36, 36, 36,
-    36, 36, 36, 36, 36, 36, 36, 36, 36, 36, 36, 36, 36, 36, 36, 36, 36, 36, 36, 36, 36, 36, 36, 36,
-    36, 36, 36, 36, 36, 36, 36, 36, 36, 36, 36, 36, 36, 36, 36, 36, 36, 36, 36, 36, 36, 36, 36, 36,
-    36, 36, 36, 36, 36, 36, 36, 36, 36, 36, 36, 36, 36, 36, 36, 36, 36, 36, 36, 36, 36, 36, 36, 36,
-    36, 36, 36, 36, 36, 36, 36, 36, 36, 36, 36, 36, 36, 36, 36, 36, 36, 36, 36, 36, 36, 36, 36, 36,
-    36, 36, 36, 36, 36, 36, 36, 36, 36, 36, 36, 36, 36, 36,
-];
 
 /// The value of a hexadecimal digit.
 fn digit_value(digit: u8) -> u8
@@ -95,7 +80,11 @@ fn digit_value(digit: u8) -> u8
     ensures value { result ≡ digit_value digit }
     ensures small { result < 16 }
 {
-    DIGIT_VALUES[usize::from(digit)]
+    match digit {
+        b'0'..=b'9' => digit - b'0',
+        b'a'..=b'f' => digit - b'a' + 10,
+        _ => digit - b'A' + 10,
+    }
 }
 
 /// Writes the octets that hexadecimal digits spell, two digits for each, over all of `octets`.
@@ -109,8 +98,8 @@ fn write_pairs(digits: &[u8], octets: &mut [u8])
     }
 }
 
-/// The octets that hexadecimal digits spell, two digits for each.
-fn hex_pairs(alloc: Global, digits: &[u8]) -> Result<Vec<u8>, AllocError>
+/// The octets that hexadecimal digits of either case spell, two digits for each.
+pub fn hex_pairs(alloc: Global, digits: &[u8]) -> Result<Vec<u8>, OutOfMemory>
     requires { list_all is_ascii_hexdigit digits.now ≡ true }
     ensures { IfOk result (λ octets. octets.items ≡ paired digits.now) }
 {

@@ -1,6 +1,6 @@
 //! Text that grows, and the forms of numbers and octets in it.
 
-ghost use Rattle.std.specs.Prelude.{◌≡◌, ◌++◌, [], ◌*◌, ◌/◌, ◌%◌, length, OnOk, OnErr, decimal};
+ghost use Rattle.std.specs.Prelude.{◌≡◌, ◌++◌, [], ◌<◌, ◌*◌, length, OnOk, OnErr, decimal};
 ghost use Rattle.lab_text.specs.Text.{hex_digits, hex_digit};
 
 use itoa::Buffer;
@@ -26,24 +26,15 @@ impl Model for Text {
     ghost view = { λ t. t.octets.items };
 }
 
-/// By octet, the first of its two digits.
-static HIGH_DIGITS: [u8; 256] =
-    *b"0000000000000000111111111111111122222222222222223333333333333333444444444444444455555555555555556666666666666666777777777777777788888888888888889999999999999999aaaaaaaaaaaaaaaabbbbbbbbbbbbbbbbccccccccccccccccddddddddddddddddeeeeeeeeeeeeeeeeffffffffffffffff";
-
-/// By octet, the second.
-static LOW_DIGITS: [u8; 256] =
-    *b"0123456789abcdef0123456789abcdef0123456789abcdef0123456789abcdef0123456789abcdef0123456789abcdef0123456789abcdef0123456789abcdef0123456789abcdef0123456789abcdef0123456789abcdef0123456789abcdef0123456789abcdef0123456789abcdef0123456789abcdef0123456789abcdef";
-
-fn high_digit(octet: u8) -> u8
-    ensures { result ≡ hex_digit (octet / 16) }
+fn hex_digit(value: u8) -> u8
+    requires { value < 16 }
+    ensures { result ≡ hex_digit value }
 {
-    HIGH_DIGITS[usize::from(octet)]
-}
-
-fn low_digit(octet: u8) -> u8
-    ensures { result ≡ hex_digit (octet % 16) }
-{
-    LOW_DIGITS[usize::from(octet)]
+    if value < 10 {
+        b'0' + value
+    } else {
+        b'a' - 10 + value
+    }
 }
 
 /// Writes two lower-case digits for each octet over all of `digits`.
@@ -52,8 +43,8 @@ fn write_hex(octets: &[u8], digits: &mut [u8])
     ensures { digits.new ≡ hex_digits octets.now }
 {
     for k in 0..octets.len() {
-        digits[2 * k] = high_digit(octets[k]);
-        digits[2 * k + 1] = low_digit(octets[k]);
+        digits[2 * k] = hex_digit(octets[k] / 16);
+        digits[2 * k + 1] = hex_digit(octets[k] % 16);
     }
 }
 

@@ -26,7 +26,7 @@ pub made_after : {T : Type 0} (old now : Topology) (line : TopologyLine) (outcom
     → Takes old (after_line old line) now outcome → IsMade now
 made_after old now line (Ok _) made numbers taken = made_next old now line made numbers taken
 made_after old now line (Err (Refused refusal)) made numbers taken = subst IsMade (sym taken.1) made
-made_after old now line (Err (OutOfMemory error)) made numbers taken = subst IsMade (sym taken) made
+made_after old now line (Err (OutOfMemory error)) made numbers taken = subst IsMade (sym taken.1) made
 
 -- what lines make is a topology
 one_more : (topology now : Topology) (line : TopologyLine) → IsTopology topology → HasItsNumbers line → after_line topology line ≡ Ok now → IsTopology now

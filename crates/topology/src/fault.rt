@@ -11,7 +11,7 @@ use world_model::TopologyRefusal;
 pub enum TopologyFault {
     /// The line can't mean what it says.
     Refused(TopologyRefusal),
-    /// No memory was left for what it says.
+    /// The line isn't refused, but no memory was left for what it says.
     OutOfMemory(OutOfMemory),
 }
 

@@ -11,7 +11,7 @@ use crate::node::Node;
 use indexmap::IndexSet;
 use ipv4_forward::Next;
 use net_types::{Addr, NodeId, Octets, OutOfMemory, Prefix};
-use std::alloc::{AllocError, Global};
+use std::alloc::Global;
 use std::marker::Model;
 use world_model::PortRange;
 
@@ -140,10 +140,10 @@ impl Nodes {
 
 ghost use Rattle.std.specs.Prelude.{map};
 
-fn owned(alloc: Global, octets: &[u8]) -> Result<Vec<u8>, AllocError>
+fn owned(alloc: Global, octets: &[u8]) -> Result<Vec<u8>, OutOfMemory>
     ensures { IfOk result (λ copy. copy.items ≡ octets.now) }
 {
-    octets.to_vec(alloc)
+    Ok(octets.to_vec(alloc)?)
 }
 
 fn set_cells(nodes: &mut Vec<Node>, node: NodeId, cells: u32)

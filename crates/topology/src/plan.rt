@@ -2,10 +2,10 @@
 
 ghost use Rattle.std.specs.Prelude.{◌≡◌, ◌≤◌, length, None, Some, IfOk, IfSome, OnOk, OnErr};
 ghost use Rattle.world_model.specs.declared.line.TopologyLine.TheVariants as lines;
-ghost use Rattle.world_model.specs.Lines.{after_line, link_refusal, node_named, node_refusal};
+ghost use Rattle.world_model.specs.Lines.{after_line, line_refusal, link_refusal, node_named, node_refusal, of_named};
 ghost use Rattle.world_model.specs.Topology.{empty_topology, peer_of};
 ghost use Rattle.topology.specs.Plans.{next_refusal, route_line};
-ghost use Rattle.topology.specs.Taking.{Takes};
+ghost use Rattle.topology.specs.Taking.{Makes, Takes};
 
 use crate::fault::TopologyFault;
 use crate::links::Links;
@@ -89,7 +89,12 @@ impl Plan {
     {
         match line {
             TopologyLine::Node { name, address } => self.node_line(name.as_slice(), *address),
-            TopologyLine::Cells { name, cells } => self.cells_line(name.as_slice(), *cells),
+            TopologyLine::Cells { name, cells } => {
+                match self.cells_line(name.as_slice(), *cells) {
+                    Ok(()) => Ok(()),
+                    Err(refusal) => Err(TopologyFault::Refused(refusal)),
+                }
+            }
             TopologyLine::Labels { name, port, lo, hi } => {
                 self.labels_line(name.as_slice(), *port, *lo, *hi)
             }
@@ -132,7 +137,8 @@ impl Plan {
         }
     }
 
-    fn node_refusal(&self, name: &[u8]) -> Option<TopologyRefusal>
+    /// Why a node of this name can't be added, if it can't.
+    pub fn node_refusal(&self, name: &[u8]) -> Option<TopologyRefusal>
         ensures { result ≡ node_refusal self.now name.now }
     {
         if self.named(name).is_some() {
@@ -154,11 +160,11 @@ impl Plan {
         Ok(())
     }
 
-    fn cells_line(&mut self, name: &[u8], cells: u32) -> Result<(), TopologyFault>
-        ensures { Takes self.old (after_line self.old (lines.Cells name.now cells)) self.new result }
+    fn cells_line(&mut self, name: &[u8], cells: u32) -> Result<(), TopologyRefusal>
+        ensures { Makes self.old (after_line self.old (lines.Cells name.now cells)) self.new result }
     {
         let Some(node) = self.named(name) else {
-            return Err(UNKNOWN_NAME);
+            return Err(TopologyRefusal::UnknownName);
         };
         self.nodes.set_cells(node, cells);
         Ok(())
@@ -194,6 +200,33 @@ impl Plan {
         } else {
             None
         }
+    }
+
+    /// Why a line can't be added that links these ports, if it can't.
+    pub fn named_link_refusal(
+        &self,
+        first: &[u8],
+        first_port: PortNo,
+        second: &[u8],
+        second_port: PortNo,
+    ) -> Option<TopologyRefusal>
+        ensures { result ≡ line_refusal self.now (lines.Link (first.now, first_port) (second.now, second_port)) }
+    {
+        let Some(first) = self.named(first) else {
+            return Some(TopologyRefusal::UnknownName);
+        };
+        let Some(second) = self.named(second) else {
+            return Some(TopologyRefusal::UnknownName);
+        };
+        let first = LinkEnd {
+            node: first,
+            port: first_port,
+        };
+        let second = LinkEnd {
+            node: second,
+            port: second_port,
+        };
+        self.link_refusal(first, second)
     }
 
     fn link_line(
@@ -236,6 +269,21 @@ impl Plan {
             }
         }
         self.nodes.at(node).routes().refusal(prefix)
+    }
+
+    /// Why a line can't be added that gives the node of this name a route, if it can't.
+    pub fn named_route_refusal(
+        &self,
+        name: &[u8],
+        prefix: Prefix,
+        next: Next,
+    ) -> Option<TopologyRefusal>
+        ensures { result ≡ of_named (λ node. next_refusal self.now prefix next node) (node_named self.now name.now) }
+    {
+        match self.named(name) {
+            Some(node) => self.route_refusal(node, prefix, next),
+            None => Some(TopologyRefusal::UnknownName),
+        }
     }
 
     fn route_line(&mut self, name: &[u8], prefix: Prefix, next: Next) -> Result<(), TopologyFault>

@@ -1,11 +1,13 @@
 //! A topology, as lines make it.
 
-ghost use Rattle.std.specs.Prelude.{◌≡◌, ◌≤◌, ◌<◌, [], length, Some, slice_get, IfOk, IfSome};
+ghost use Rattle.std.specs.Prelude.{◌≡◌, ◌≤◌, ◌<◌, [], length, None, Some, slice_get, IfOk, IfSome};
 ghost use Rattle.std.specs.Option.{option_map, option_map_or};
 ghost use Rattle.world_model.specs.Conditions.{HasItsNumbers, IsNode, IsTopology};
-ghost use Rattle.world_model.specs.Lines.{after_line, is_linked, node_named, routes_of};
+ghost use Rattle.world_model.specs.declared.line.TopologyLine.TheVariants as lines;
+ghost use Rattle.world_model.specs.Lines.{after_line, is_linked, line_refusal, node_named, node_refusal, of_named, routes_of};
 ghost use Rattle.world_model.specs.Topology.{empty_topology, node_at, peer_of, range_among, ranges_of, timers_of, vpis_of};
 ghost use Rattle.topology.specs.Made.{IsMade};
+ghost use Rattle.topology.specs.Plans.{next_refusal};
 ghost use Rattle.topology.specs.Readers.{end_pair, link_pair, policy_pair};
 ghost use Rattle.topology.specs.Taking.{Takes};
 
@@ -18,7 +20,7 @@ use net_types::{Addr, NodeId, OutOfMemory, PortNo, Prefix};
 use port_model::Timers;
 use std::alloc::Global;
 use std::marker::Model;
-use world_model::{PortRange, TopologyLine};
+use world_model::{PortRange, TopologyLine, TopologyRefusal};
 
 /// Over how many ticks packets are counted where no flow is offered a label.
 const WINDOW: usize = 10;
@@ -67,12 +69,54 @@ impl Topology {
     /// Adds what a line says, whose numbers are within their limits. Its refusals come in this order:
     /// `DuplicateName` and `TooMany` of a node; `UnknownName` of every other line that names nodes; then
     /// `SelfLink`, `PortTaken` and `TooMany` of a link; `NoLink`, `Duplicate` and `TableFull` of a
-    /// route. A refusal changes nothing, nor does want of memory.
+    /// route. A refusal changes nothing, nor does want of memory, which comes only to a line that isn't
+    /// refused.
     pub fn line(&mut self, line: &TopologyLine) -> Result<(), TopologyFault>
         requires { HasItsNumbers line.now }
         ensures { Takes self.old (after_line self.old line.now) self.new result }
     {
         self.plan.line(line)
+    }
+
+    /// Why a line can't be added that makes a node of this name, if it can't: `DuplicateName`, then
+    /// `TooMany`.
+    pub fn node_refusal(&self, name: &[u8]) -> Option<TopologyRefusal>
+        ensures { result ≡ node_refusal self.now name.now }
+    {
+        self.plan.node_refusal(name)
+    }
+
+    /// Why a line can't be added that is of the node of this name alone, if it can't: `UnknownName`.
+    pub fn name_refusal(&self, name: &[u8]) -> Option<TopologyRefusal>
+        ensures { result ≡ of_named (λ node. None) (node_named self.now name.now) }
+    {
+        match self.plan.named(name) {
+            Some(_) => None,
+            None => Some(TopologyRefusal::UnknownName),
+        }
+    }
+
+    /// Why a line can't be added that links these ports, if it can't: `UnknownName`, `SelfLink`, `PortTaken`,
+    /// then `TooMany`.
+    pub fn link_refusal(
+        &self,
+        first: &[u8],
+        first_port: PortNo,
+        second: &[u8],
+        second_port: PortNo,
+    ) -> Option<TopologyRefusal>
+        ensures { result ≡ line_refusal self.now (lines.Link (first.now, first_port) (second.now, second_port)) }
+    {
+        self.plan
+            .named_link_refusal(first, first_port, second, second_port)
+    }
+
+    /// Why a line can't be added that gives the node of this name a route, if it can't: `UnknownName`,
+    /// `NoLink`, `Duplicate`, then `TableFull`.
+    pub fn route_refusal(&self, name: &[u8], prefix: Prefix, next: Next) -> Option<TopologyRefusal>
+        ensures { result ≡ of_named (λ node. next_refusal self.now prefix next node) (node_named self.now name.now) }
+    {
+        self.plan.named_route_refusal(name, prefix, next)
     }
 
     /// How many nodes there are, at most 64. A topology is what lines make of the empty one, all of

@@ -6,5 +6,5 @@ use Rattle.document_text.proofs.table.push_strings.Given as goal
 -- what is still to come behind the texts so far is what was to come at first
 abbrev pub invariant-loop-value : goal.invariant-loop-value
 invariant-loop-value l =
-    option_map (λ more. l.texts ++ more) (strings (items_view (drop l.value-index l.array.items)))
-    ≡ option_map (λ more. l.initial.texts ++ more) (strings (items_view l.array.items))
+    option_map (λ more. l.texts ++ more) (strings (items_view (drop l.value-index l.values)))
+    ≡ option_map (λ more. l.initial.texts ++ more) (strings (items_view l.values))

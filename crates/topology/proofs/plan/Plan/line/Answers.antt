@@ -3,8 +3,11 @@ use Rattle.topology.proofs.plan.Plan.line.Goals as goal
 pub returns-in-Node : goal.returns-in-Node
 returns-in-Node c = rw c.in-Node.is (rw c.as_slice.ensures at c.node_line.ensures)
 
-pub returns-in-Cells : goal.returns-in-Cells
-returns-in-Cells c = rw c.in-Cells.is (rw c.as_slice-in-Cells.ensures at c.cells_line.ensures)
+pub returns-in-Ok : goal.returns-in-Ok
+returns-in-Ok c = rw c.in-Cells.is (rw c.as_slice-in-Cells.ensures at c.in-Ok.ensures)
+
+pub returns-in-Err : goal.returns-in-Err
+returns-in-Err c = rw c.in-Cells.is (rw c.as_slice-in-Cells.ensures at c.in-Err.ensures)
 
 pub returns-in-Labels : goal.returns-in-Labels
 returns-in-Labels c = rw c.in-Labels.is (rw c.as_slice-in-Labels.ensures at c.labels_line.ensures)
