@@ -3,3 +3,4 @@ pub mod Buffers
 pub mod Sights
 pub mod Skips
 pub mod Puts
+pub mod Ends

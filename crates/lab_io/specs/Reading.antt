@@ -1,6 +1,6 @@
 -- What a call of a reader of lines leaves of the source and of the reader
 
-use Rattle.std.specs.Prelude.{◌≡◌, ℕ, ◌+◌, ◌++◌, List, [], length, Option, None, Some}
+use Rattle.std.specs.Prelude.{◌≡◌, ℕ, ◌+◌, ◌++◌, Bool, true, List, [], length, Option, None, Some}
 use Rattle.std.specs.Io.KnownBytes.{Consumes}
 use Rattle.lab_io.specs.Lines.{Reader, Answer, Given, Long, Past, Over, answer_in}
 
@@ -30,3 +30,7 @@ pub record IsCutOff (old : Reader) (left_old left_new : Option (List ℕ)) : Typ
   pub seen : List ℕ
   pub saw : Saw old.held left_old left_new seen
   pub unanswered : answer_in old.given old.is_ended seen ≡ None
+
+-- a source that said its end is known to have said it
+abbrev pub KnowsEnd : (is_ended said_end : Bool) → Type 0
+KnowsEnd is_ended said_end = said_end ≡ true → is_ended ≡ true

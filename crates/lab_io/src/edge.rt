@@ -8,7 +8,7 @@ pub struct Failed;
 
 /// A reader of octets (a source), with a count of its failed reads.
 pub trait Source {
-    ghost use Rattle.std.specs.Prelude.{◌≡◌, ◌<◌, ℕ, List, Option, length, is_err};
+    ghost use Rattle.std.specs.Prelude.{◌≡◌, ◌<◌, ◌⊎◌, ℕ, Bool, List, Ok, Option, length, true, is_err};
     ghost use Rattle.std.specs.Io.{ReadsAtMost};
     ghost use Rattle.std.specs.Io.KnownBytes.{ReadConsumes};
     ghost use Rattle.lab_io.specs.Fault.{count_after};
@@ -19,13 +19,20 @@ pub trait Source {
     // How often it failed.
     ghost faults: { Self → ℕ };
 
+    // Whether it said its end, and how often it was read after that, of a source that keeps count.
+    ghost said_end: { Self → Bool };
+
+    ghost late_reads: { Self → ℕ };
+
     /// Puts the next octets at the front of `buf`, which isn't empty, and answers how many; 0 is the
     /// end.
     fn read(&mut self, buf: &mut [u8]) -> Result<usize, Failed>
         requires { 0 < length buf.old }
         ensures bound { ReadsAtMost result buf.new }
         ensures octets { ReadConsumes (left self.old) (left self.new) result buf.new }
-        ensures faults { faults self.new ≡ count_after (is_err result) (faults self.old) };
+        ensures faults { faults self.new ≡ count_after (is_err result) (faults self.old) }
+        ensures end { said_end self.new ≡ true → (said_end self.old ≡ true) ⊎ (result ≡ Ok 0) }
+        ensures late { late_reads self.new ≡ count_after (said_end self.old) (late_reads self.old) };
 }
 
 /// A writer of octets (a sink), with a count of its failed writes.

@@ -1,12 +1,12 @@
 //! The lines of an input, one by one, read as they are asked for.
 
-ghost use Rattle.std.specs.Prelude.{◌≡◌, ◌⊎◌, ◌+◌, ◌-◌, ◌<◌, ◌≤◌, [], length, take, drop, true, false, Some, replicate, is_err, IfOk, IfSome, OnOk, OnErr};
+ghost use Rattle.std.specs.Prelude.{◌≡◌, ◌⊎◌, ◌+◌, ◌-◌, ◌<◌, ◌≤◌, [], length, take, drop, true, false, Some, Ok, replicate, is_err, IfOk, IfSome, OnOk, OnErr};
 ghost use Rattle.std.specs.Option.{option_map};
 ghost use Rattle.std.specs.Io.KnownBytes.{Consumes, IsAtEnd, Keeps};
 ghost use Rattle.lab_text.specs.Line.{input_limit};
 ghost use Rattle.lab_io.specs.Fault.{count_after};
 ghost use Rattle.lab_io.specs.Lines.{Answer, IsWithin, after_answer, answer_in, answer_to, feed, first_line, is_all, told};
-ghost use Rattle.lab_io.specs.Reading.{IsCutOff, IsNext, Saw};
+ghost use Rattle.lab_io.specs.Reading.{IsCutOff, IsNext, KnowsEnd, Saw};
 
 use crate::edge::{Failed, Source};
 use lab_text::{INPUT_LIMIT, LINE_LIMIT, line_feed, line_text};
@@ -97,6 +97,8 @@ fn read_at<S: Source>(
     ensures end { IfOk result (λ count. count ≡ 0 → IsAtEnd (S.left source.new)) }
     ensures kept { OnErr result (Keeps (S.left source.old) (S.left source.new)) }
     ensures faults { S.faults source.new ≡ count_after (is_err result) (S.faults source.old) }
+    ensures end_said { S.said_end source.new ≡ true → (S.said_end source.old ≡ true) ⊎ (result ≡ Ok 0) }
+    ensures late { S.late_reads source.new ≡ count_after (S.said_end source.old) (S.late_reads source.old) }
 {
     source.read(&mut buffer[place..place + room])
 }
@@ -187,6 +189,8 @@ impl LineReader {
         ensures some { OnOk result ((self.new.is_ended ≡ true) ⊎ (length self.old.held < length self.new.held)) }
         ensures kept { OnErr result (self.new.held ≡ self.old.held) }
         ensures faults { S.faults source.new ≡ count_after (is_err result) (S.faults source.old) }
+        ensures known { KnowsEnd self.old.is_ended (S.said_end source.old) → KnowsEnd self.new.is_ended (S.said_end source.new) }
+        ensures late { KnowsEnd self.old.is_ended (S.said_end source.old) → S.late_reads source.new ≡ S.late_reads source.old }
     {
         let held = self.end - self.start;
         self.start = with_room_behind(&mut self.buffer, self.start, self.end);
@@ -209,6 +213,8 @@ impl LineReader {
         ensures cut { OnErr result (IsCutOff self.old (S.left source.old) (S.left source.new)) }
         ensures ended { self.new.is_ended ≡ true → IsAtEnd (S.left source.new) }
         ensures faults { S.faults source.new ≡ count_after (is_err result) (S.faults source.old) }
+        ensures known { KnowsEnd self.old.is_ended (S.said_end source.old) → KnowsEnd self.new.is_ended (S.said_end source.new) }
+        ensures late { KnowsEnd self.old.is_ended (S.said_end source.old) → S.late_reads source.new ≡ S.late_reads source.old }
     {
         let mut read = self.given + (self.end - self.start);
         while read < INPUT_LIMIT {
@@ -237,6 +243,8 @@ impl LineReader {
         ensures ended { self.new.is_ended ≡ true → (self.old.is_ended ≡ true) ⊎ IsAtEnd (S.left source.new) }
         ensures unread { (answer : Answer) → answer_in self.old.given self.old.is_ended self.old.held ≡ Some answer → source.new ≡ source.old }
         ensures faults { S.faults source.new ≡ count_after (is_err result) (S.faults source.old) }
+        ensures known { KnowsEnd self.old.is_ended (S.said_end source.old) → KnowsEnd self.new.is_ended (S.said_end source.new) }
+        ensures late { KnowsEnd self.old.is_ended (S.said_end source.old) → S.late_reads source.new ≡ S.late_reads source.old }
     {
         let mut searched = 0;
         loop {

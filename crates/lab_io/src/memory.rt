@@ -1,7 +1,7 @@
 //! A source and a sink in memory, which move octets in pieces and fail at the calls that they are
 //! told to fail at.
 
-ghost use Rattle.std.specs.Prelude.{◌≡◌, ◌<◌, [], length, Some, is_err, IfOk, OnOk, OnErr};
+ghost use Rattle.std.specs.Prelude.{◌≡◌, ◌<◌, ◌⊎◌, [], length, true, false, Ok, Some, is_err, IfOk, OnOk, OnErr};
 ghost use Rattle.std.specs.Io.{ReadsAtMost, WritesAtMost};
 ghost use Rattle.std.specs.Io.KnownBytes.{ReadConsumes, WriteAppends};
 ghost use Rattle.lab_io.specs.Fault.{count_after, write_failed};
@@ -74,11 +74,17 @@ impl Source for MemSource {
 
     ghost faults = { λ s. s.faults };
 
+    ghost said_end = { λ _. false };
+
+    ghost late_reads = { λ _. 0 };
+
     fn read(&mut self, buf: &mut [u8]) -> Result<usize, Failed>
         requires { 0 < length buf.old }
         ensures bound { ReadsAtMost result buf.new }
         ensures octets { ReadConsumes (Some self.old.left) (Some self.new.left) result buf.new }
         ensures faults { self.new.faults ≡ count_after (is_err result) self.old.faults }
+        ensures end { false ≡ true → (false ≡ true) ⊎ (result ≡ Ok 0) }
+        ensures late { 0 ≡ count_after false 0 }
 
         ensures answer { result ≡ read_answer self.old (length buf.old) }
         ensures after { self.new ≡ after_read self.old (length buf.old) }

@@ -54,12 +54,13 @@ impl ReportWriter {
         }
     }
 
-    /// Writes what it holds where it can hold no more.
+    /// Writes what it holds where it can hold no more; else nothing changes.
     fn make_room<K: Sink>(&mut self, sink: &mut K) -> Result<(), Failed>
         ensures some { OnOk result (length self.new.held < self.new.room) }
         ensures room { self.new.room ≡ self.old.room }
         ensures ok { OnOk result (IsPut self.old self.new (K.written sink.old) (K.written sink.new) []) }
         ensures failed { OnErr result ((self.new ≡ self.old) × AppendsFront (K.written sink.old) (K.written sink.new) self.old.held) }
+        ensures unwritten { length self.old.held < self.old.room → (self.new ≡ self.old) × (sink.new ≡ sink.old) }
         ensures faults { K.faults sink.new ≡ count_after (is_err result) (K.faults sink.old) }
     {
         if self.buffer.len() < self.room {
@@ -68,13 +69,15 @@ impl ReportWriter {
         self.flush(sink)
     }
 
-    /// Takes `octets`, and writes to `sink` what it holds as often as it can hold no more. The first
-    /// write that fails is the last one; then the writer can only be given up.
+    /// Takes `octets`, and writes to `sink` what it holds as often as it can hold no more; nothing where
+    /// it can hold them too. The first write that fails is the last one; then the writer can only be given
+    /// up.
     pub fn put<K: Sink>(&mut self, octets: &[u8], sink: &mut K) -> Result<(), Failed>
         ensures room { self.new.room ≡ self.old.room }
         ensures bound { length self.new.held ≤ self.new.room }
         ensures ok { OnOk result (IsPut self.old self.new (K.written sink.old) (K.written sink.new) octets.now) }
         ensures failed { OnErr result (IsStuck self.old self.new (K.written sink.old) (K.written sink.new) octets.now) }
+        ensures unwritten { length self.old.held + length octets.now ≤ self.old.room → sink.new ≡ sink.old }
         ensures faults { K.faults sink.new ≡ count_after (is_err result) (K.faults sink.old) }
     {
         let room = self.room;

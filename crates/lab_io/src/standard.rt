@@ -1,6 +1,6 @@
 //! Standard input and output. No contract can say what they give or take, so they tell no content.
 
-ghost use Rattle.std.specs.Prelude.{◌≡◌, None};
+ghost use Rattle.std.specs.Prelude.{◌≡◌, false, None};
 
 use crate::edge::{Failed, Sink, Source};
 use std::io::{Read, Stdin, Stdout, Write};
@@ -34,6 +34,10 @@ impl Source for StdSource {
     ghost left = { λ _. None };
 
     ghost faults = { λ count. count };
+
+    ghost said_end = { λ _. false };
+
+    ghost late_reads = { λ _. 0 };
 
     fn read(&mut self, buf: &mut [u8]) -> Result<usize, Failed> {
         match self.stdin.read(buf) {

@@ -1,6 +1,6 @@
 //! A source and a sink that never fail: their count of faults is the constant 0.
 
-ghost use Rattle.std.specs.Prelude.{◌≡◌, ◌+◌, ◌-◌, ◌<◌, ◌^◌, length, min, take, drop, None, Some, Ok, is_err};
+ghost use Rattle.std.specs.Prelude.{◌≡◌, ◌⊎◌, ◌+◌, ◌-◌, ◌<◌, ◌^◌, length, min, take, drop, true, false, None, Some, Ok, is_err};
 ghost use Rattle.std.specs.Io.{ReadsAtMost, WritesAtMost};
 ghost use Rattle.std.specs.Io.KnownBytes.{ReadConsumes, WriteAppends};
 ghost use Rattle.lab_io.specs.Fault.{count_after, write_failed};
@@ -58,11 +58,17 @@ impl Source for SureSource {
 
     ghost faults = { λ _. 0 };
 
+    ghost said_end = { λ _. false };
+
+    ghost late_reads = { λ _. 0 };
+
     fn read(&mut self, buf: &mut [u8]) -> Result<usize, Failed>
         requires { 0 < length buf.old }
         ensures bound { ReadsAtMost result buf.new }
         ensures octets { ReadConsumes (Some self.old.left) (Some self.new.left) result buf.new }
         ensures faults { 0 ≡ count_after (is_err result) 0 }
+        ensures end { false ≡ true → (false ≡ true) ⊎ (result ≡ Ok 0) }
+        ensures late { 0 ≡ count_after false 0 }
 
         ensures answer { result ≡ Ok (length (portion self.old.piece self.old.left (length buf.old))) }
         ensures after { self.new ≡ record self.old { left = drop (min self.old.piece (length buf.old)) self.old.left } }

@@ -1,6 +1,6 @@
 //! Whole inputs and whole outputs over a source and a sink.
 
-ghost use Rattle.std.specs.Prelude.{◌≡◌, ◌<◌, ◌≤◌, length, is_err, IfOk, OnOk, OnErr};
+ghost use Rattle.std.specs.Prelude.{◌≡◌, ◌<◌, ◌≤◌, false, length, is_err, IfOk, OnOk, OnErr};
 ghost use Rattle.std.specs.Io.KnownBytes.{Appends, Consumes, IsAtEnd};
 ghost use Rattle.lab_io.specs.Fault.{count_after};
 ghost use Rattle.lab_io.specs.Transfer.{AppendsFront, ConsumesSome, input_failed};
@@ -22,7 +22,7 @@ pub enum InputFault {
 const CHUNK: usize = 4096;
 
 /// Reads `source` to its end, but never more than `limit` octets: it ends without a further read
-/// where it has as many. The first read that fails is the last one. After a refusal the octets read so
+/// where it has as many, or where the source says its end. The first read that fails is the last one. After a refusal the octets read so
 /// far are lost.
 pub fn read_to_end<S: Source>(
     alloc: Global,
@@ -34,6 +34,7 @@ pub fn read_to_end<S: Source>(
     ensures bound { IfOk result (λ read. length read.items ≤ limit) }
     ensures whole { IfOk result (λ read. length read.items < limit → IsAtEnd (S.left source.new)) }
     ensures lost { OnErr result (ConsumesSome (S.left source.old) (S.left source.new)) }
+    ensures late { S.said_end source.old ≡ false → S.late_reads source.new ≡ S.late_reads source.old }
 {
     let mut octets = Vec::new(alloc);
     let mut buffer = [0u8; CHUNK];

@@ -1,8 +1,10 @@
 -- several rounds, one after the other
 
-use Rattle.std.proofs.Common.{◌≡◌, ℕ, zero, suc, ◌+◌, ◌≤◌, ◌<◌, List, [], ◌∷◌, ◌++◌, append_assoc, append-nil, length, length-append, refl, sym, ◌∙◌, ap, subst, arith}
+use Rattle.std.proofs.Common.{◌≡◌, ℕ, zero, suc, ◌+◌, ◌≤◌, ◌<◌, List, [], ◌∷◌, ◌++◌, append_assoc, append-nil, length, length-append, take, refl, sym, ◌∙◌, ap, subst, arith}
 use Rattle.std.specs.Prelude.{◌*◌, map, Option, Result}
 use Rattle.std.proofs.Math.Nat.{suc-mul}
+use Rattle.std.proofs.Math.Seq.{take-append-add}
+use Rattle.std.proofs.lemmas.List.{take-append-le}
 use Rattle.std.specs.List.{repeat}
 use Rattle.std.specs.Result.{IsErrAnd}
 use Rattle.lab_io.specs.Report.{IsPut, Writer}
@@ -20,7 +22,7 @@ use Rattle.network_run.specs.declared.stop.Stop.{Stop}
 use Rattle.telling_model.specs.Placed.{placed_events}
 use Rattle.telling_model.specs.Tale.{Tale, Telling, told}
 use Rattle.telling_model.proofs.Told.{after_append, line_octets, line_state, told_away}
-use Rattle.network_run.specs.Telling.{IsLeft, Puts, meter_behind}
+use Rattle.network_run.specs.Telling.{IsLeft, IsMeterIn, Puts, meter_behind}
 use Rattle.network_run.proofs.Telling.{put_then, stops_at}
 use Rattle.network_run.proofs.Turns.{behind_some}
 use Rattle.world.proofs.Places.{same_places}
@@ -56,6 +58,25 @@ world_then t first w after some others same is =
 
 pub meter_then : (m : Meter) (t : Topology) (first w : World) (some others : List Event) → w ≡ put_away (world_after t first some) → meter_behind m t w others ≡ meter_behind m t (world_after t first some) others
 meter_then m t first w some others same = ap (λ (v : World). meter_behind m t v others) same ∙ away_meter m t (world_after t first some) others
+
+-- *A meter* behind some of the events that follow others
+pub meter_among : (m : Meter) (t : Topology) (first : World) (some others rest : List Event) (meter : Meter) → IsMeterIn (meter_behind m t first some) t (world_after t first some) others meter
+    → IsMeterIn m t first (some ++ (others ++ rest)) meter
+meter_among m t first some others rest meter k = record {
+  count = length some + k.count;
+  within = omega (arith, k.within, length-append some (others ++ rest), length-append others rest);
+  reading = k.reading ∙ meter_append m t first some (take k.count others)
+      ∙ ap (meter_behind m t first) (sym (take-append-add some (others ++ rest) k.count ∙ ap (λ (es : List Event). some ++ es) (take-append-le k.count others rest k.within)));
+}
+
+-- whose records were put away
+pub meter_there : (m : Meter) (t : Topology) (first w : World) (some others : List Event) (meter : Meter) → w ≡ put_away (world_after t first some) → IsMeterIn m t w others meter
+    → IsMeterIn m t (world_after t first some) others meter
+meter_there m t first w some others meter same k = record {
+  count = k.count;
+  within = k.within;
+  reading = k.reading ∙ meter_then m t first w some (take k.count others) same;
+}
 
 -- *Repeated*
 one_up : (k : ℕ) → suc k ≡ k + 1
@@ -143,6 +164,14 @@ module _ (t : Topology) (first w : World) (k : ℕ) (same : w ≡ put_away (worl
   rounds_meter before held meter was is =
       is ∙ (λ i. meter_behind (was i) t w (turns i)) ∙ meter_then _ t first w (repeat k (round first)) (round first) same
       ∙ meter_append before t first (repeat k (round first)) (round first) ∙ ap (meter_behind before t first) (repeat_next k (round first))
+
+  pub rounds_in : (n : ℕ) (before held meter : Meter) → k < n → held ≡ meter_behind before t first (repeat k (round first)) → IsMeterIn held t w (round w) meter → IsMeterIn before t first (repeat n (round first)) meter
+  rounds_in n before held meter low was h =
+      let r2 : HasRest k n (round first) = rest_of k n (round first) low in
+      let turned : IsMeterIn held t w (round first) meter = subst (λ (es : List Event). IsMeterIn held t w es meter) turns h in
+      let there : IsMeterIn held t reached (round first) meter = meter_there held t first w (repeat k (round first)) (round first) meter same turned in
+      subst (λ (es : List Event). IsMeterIn before t first es meter) r2.is
+      (meter_among before t first (repeat k (round first)) (round first) r2.rest meter (subst (λ (m : Meter). IsMeterIn m t reached (round first) meter) was there))
 
 -- *The rest* of them, behind some
 pub repeat_both : (k rest n : ℕ) (xs : List Event) → n ≡ k + rest → repeat k xs ++ repeat rest xs ≡ repeat n xs

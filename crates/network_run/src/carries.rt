@@ -62,8 +62,8 @@ pub fn round<C: NodeController, T: Teller<C>, K: Sink>(
     Ok(())
 }
 
-/// So many rounds, one after the other. Once no queue holds a cell, those that are left are counted at once. Where they end early, a front of what is told was put, and the
-/// network can only be given up.
+/// So many rounds, one after the other. Once no queue holds a cell, those that are left are counted at once. Where they end early, a front of what is told was put, the
+/// meter is at one of their events or as it was, and the network can only be given up.
 pub fn rounds<C: NodeController, T: Teller<C>, K: Sink>(
     context: &Context<'_>,
     count: u32,
@@ -86,6 +86,7 @@ pub fn rounds<C: NodeController, T: Teller<C>, K: Sink>(
     ensures room { StaysWithin told.old.writer told.new.writer }
     ensures faults { K.faults sink.new ≡ count_after (is_failed result) (K.faults sink.old) }
     ensures meter { OnOk result (meter.new ≡ meter_behind meter.old topology (world_of C.seen world.old notes.old) (repeat count (round_of (world_of C.seen world.old notes.old)))) }
+    ensures kept { OnErr result (IsMeterIn meter.old topology (world_of C.seen world.old notes.old) (repeat count (round_of (world_of C.seen world.old notes.old))) meter.new) }
 {
     T::passes_over_empty_queues();
     empty_carries_count();

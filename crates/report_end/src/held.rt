@@ -1,6 +1,7 @@
 //! What is held, written.
 
-ghost use Rattle.std.specs.Prelude.{◌≡◌, ℕ, List, Option, []};
+ghost use Rattle.std.specs.Prelude.{◌≡◌, ℕ, List, Option, [], false};
+ghost use Rattle.std.specs.Io.KnownBytes.{Appends};
 ghost use Rattle.lab_io.specs.Fault.{count_after};
 ghost use Rattle.lab_io.specs.Report.{Writer};
 ghost use Rattle.network_run.specs.Telling.{Puts, is_failed};
@@ -18,6 +19,7 @@ pub fn settle<K: Sink>(
     sink: &mut K,
 ) -> Result<bool, Stop>
     ensures written { (first : Writer) (start : Option (List ℕ)) (report : List ℕ) → first.held ≡ [] → Puts outcome first writer.old start (K.written sink.old) report → EndsAs result start (K.written sink.new) report }
+    ensures held { is_failed result ≡ false → Appends (K.written sink.old) (K.written sink.new) writer.old.held }
     ensures refused { Tells outcome result }
     ensures faults { (before : ℕ) → K.faults sink.old ≡ count_after (is_failed outcome) before → K.faults sink.new ≡ count_after (is_failed result) before }
 {

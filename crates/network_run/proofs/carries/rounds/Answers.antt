@@ -11,13 +11,13 @@ use Rattle.telling_model.specs.Placed.{placed_events}
 use Rattle.telling_model.specs.Tale.{told}
 use Rattle.network_run.specs.Telling.{meter_behind}
 use Rattle.network_run.proofs.AllTicks.{at_notes}
-use Rattle.network_run.proofs.Telling.{nothing_put, stays, stays_then}
+use Rattle.network_run.proofs.Telling.{nothing_put, on_err, stays, stays_then}
 use Rattle.world_model.specs.Places.{places}
 use Rattle.world.proofs.Places.{same_places}
 use Rattle.network_run.proofs.Empty.{AreEmptyCarries, empty_repeated}
 use Rattle.network_run.proofs.Passed.{empty_round, passed_meter, passed_put, passed_state, passed_world}
 use Rattle.network_run.proofs.Turns.{round_length}
-use Rattle.network_run.proofs.Repeated.{events_after, repeat_both, repeat_length, rounds_few, rounds_know, rounds_meter, rounds_put, rounds_stop, rounds_world, same_round}
+use Rattle.network_run.proofs.Repeated.{events_after, repeat_both, repeat_length, rounds_few, rounds_in, rounds_know, rounds_meter, rounds_put, rounds_stop, rounds_world, same_round}
 use Rattle.network_run.proofs.carries.rounds.Goals as goal
 
 pub overflow_mul-left : goal.overflow_mul-left
@@ -164,6 +164,16 @@ returns-in_err-round-in-Some-clause-put g c =
     let turns : round w ≡ round first = same_round g.topology first w (at_notes g.topology _ c.args.notes.now c.requires.1.1.1.1.1.1.0.world) (at_notes g.topology _ c.loop-turn.notes after.runs.world) in
     rounds_stop g.topology first w c.loop-turn.turn same turns g.T.Teller.tale (g.T.Teller.state c.args.told.now.teller) c.args.context.now.line (g.T.Teller.state c.loop-turn.told.teller) c.from_residual.result _ c.args.count c.args.told.now.writer c.loop-turn.told.writer c.round.new.told.writer
     (g.K.Sink.written c.args.sink.now) (g.K.Sink.written c.loop-turn.sink) (g.K.Sink.written c.round.new.sink) c.loop-turn-test.true c.from_residual.ensures.1 c.loop-turn.invariant.knows c.loop-turn.invariant.put c.in_err-round-in-Some.ensures.put
+
+pub returns-in_err-round-in-Some-clause-kept : goal.returns-in_err-round-in-Some-clause-kept
+returns-in_err-round-in-Some-clause-kept g c =
+    let first : World = world_of g.C.NodeController.seen c.args.world.now c.args.notes.now in
+    let after = c.next_waiting.ensures in
+    let w : World = world_of g.C.NodeController.seen c.next_waiting.new.self c.loop-turn.notes in
+    let same : w ≡ put_away (world_after g.topology first (repeat c.loop-turn.turn (round first))) = after.same c.loop-turn.notes ∙ c.loop-turn.invariant.world in
+    let turns : round w ≡ round first = same_round g.topology first w (at_notes g.topology _ c.args.notes.now c.requires.1.1.1.1.1.1.0.world) (at_notes g.topology _ c.loop-turn.notes after.runs.world) in
+    on_err c.from_residual.result
+    (rounds_in g.topology first w c.loop-turn.turn same turns c.args.count c.args.meter.now c.loop-turn.meter c.round.new.meter c.loop-turn-test.true c.loop-turn.invariant.meter c.in_err-round-in-Some.ensures.kept)
 
 pub returns-in_err-round-in-Some-clause-room : goal.returns-in_err-round-in-Some-clause-room
 returns-in_err-round-in-Some-clause-room g c = stays_then _ _ _ c.loop-turn.invariant.room c.in_err-round-in-Some.ensures.room

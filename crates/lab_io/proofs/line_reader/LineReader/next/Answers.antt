@@ -32,6 +32,8 @@ loop-len-preserved g c =
           let clash : None ≡ Some answer = sym none ∙ said in
           cc);
       faults = c.in_ok-fill.ensures.faults ∙ c.loop-len.invariant.faults;
+      known = λ first. c.in_ok-fill.ensures.known (c.loop-len.invariant.known first);
+      late = λ first. c.in_ok-fill.ensures.late (c.loop-len.invariant.known first) ∙ c.loop-len.invariant.late first;
       within = omega arith;
       no_feed = rw (c.held-searched.ensures, c.in_ok-fill.ensures.saw.behind, take-append_seam) (open_reader c.loop-len.self c.in-None.ensures.line).no_feed;
     }

@@ -1,7 +1,7 @@
 use Rattle.std.proofs.Common.{◌≡◌, ◌⊎◌, ◌+◌, ◌-◌, ◌*◌, ◌≤◌, length, take, true, false, Some, if◌then◌else◌}
 use Rattle.std.specs.Io.KnownBytes.{IsAtEnd}
 use Rattle.lab_io.specs.Lines.{Answer, answer_in, feed}
-use Rattle.lab_io.specs.Reading.{Saw}
+use Rattle.lab_io.specs.Reading.{KnowsEnd, Saw}
 use Rattle.lab_io.proofs.line_reader.LineReader.next.Given as goal
 
 abbrev pub invariant-loop-len : goal.invariant-loop-len
@@ -13,6 +13,8 @@ invariant-loop-len g l = record {
   unread : (answer : Answer) → answer_in l.fn.self.given l.fn.self.is_ended l.fn.self.held ≡ Some answer
       → (l.self ≡ l.fn.self) × (l.source ≡ l.fn.source);
   faults : g.S.Source.faults l.source ≡ g.S.Source.faults l.fn.source;
+  known : KnowsEnd l.fn.self.is_ended (g.S.Source.said_end l.fn.source) → KnowsEnd l.self.is_ended (g.S.Source.said_end l.source);
+  late : KnowsEnd l.fn.self.is_ended (g.S.Source.said_end l.fn.source) → g.S.Source.late_reads l.source ≡ g.S.Source.late_reads l.fn.source;
   within : l.searched ≤ length l.self.held;
   no_feed : feed (take l.searched l.self.held) ≡ l.searched;
 }

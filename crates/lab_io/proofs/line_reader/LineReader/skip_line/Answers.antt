@@ -1,5 +1,6 @@
 use Rattle.std.proofs.Common.{◌≡◌, ◌∙◌, length, take, refl, arith, length-take-le}
 use Rattle.lab_io.proofs.Buffers.{written_back}
+use Rattle.lab_io.proofs.Ends.{not_late, still_unsaid}
 use Rattle.lab_io.proofs.Feeds.{feed_found, feed_missing}
 use Rattle.lab_io.proofs.Skips.{skip_ended, skip_found, skip_found_past, skipped_more}
 use Rattle.lab_io.proofs.line_reader.LineReader.skip_line.Goals as goal
@@ -21,6 +22,8 @@ loop-read-preserved g c =
       given = c.loop-read.invariant.given;
       ended = c.loop-read.invariant.ended;
       buffer = rw read_is (omega (arith, c.read_at.auto.buffer, c.deref_mut.ensures.len, c.loop-read.invariant.buffer));
+      unsaid = λ first. still_unsaid _ _ _ (c.loop-read.invariant.unsaid first) (c.if-count-eq0.false) c.in_ok-count.ensures.end_said;
+      late = λ first. not_late _ _ _ (c.loop-read.invariant.unsaid first) c.in_ok-count.ensures.late ∙ c.loop-read.invariant.late first;
     }
 
 pub returns-then-count-eq0-clause-next : goal.returns-then-count-eq0-clause-next

@@ -1,4 +1,5 @@
 use Rattle.std.proofs.Common.{◌≡◌, ◌-◌, ◌≤◌, length, false}
+use Rattle.lab_io.specs.Reading.{KnowsEnd}
 use Rattle.lab_io.proofs.Skips.{Skipped}
 use Rattle.lab_io.proofs.line_reader.LineReader.skip_line.Given as goal
 
@@ -12,6 +13,8 @@ invariant-loop-read g l = record {
   given : l.self-inside.given ≡ l.initial.self-inside.given;
   ended : l.self-inside.is_ended ≡ false;
   buffer : length l.self-inside.buffer.items ≡ length l.initial.self-inside.buffer.items;
+  unsaid : KnowsEnd l.fn.self.is_ended (g.S.Source.said_end l.fn.source) → g.S.Source.said_end l.source ≡ false;
+  late : KnowsEnd l.fn.self.is_ended (g.S.Source.said_end l.fn.source) → g.S.Source.late_reads l.source ≡ g.S.Source.late_reads l.fn.source;
 }
 
 abbrev pub decreases-loop-read : goal.decreases-loop-read

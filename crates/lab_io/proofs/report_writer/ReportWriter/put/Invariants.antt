@@ -1,4 +1,4 @@
-use Rattle.std.proofs.Common.{◌≡◌, ◌-◌, ◌≤◌, length, take}
+use Rattle.std.proofs.Common.{◌≡◌, ◌+◌, ◌-◌, ◌≤◌, length, take}
 use Rattle.lab_io.specs.Report.{IsPut}
 use Rattle.lab_io.proofs.report_writer.ReportWriter.put.Given as goal
 
@@ -10,6 +10,8 @@ invariant-loop-done g l = record {
   limit : l.room ≡ l.self.room;
   faults : g.K.Sink.faults l.sink ≡ g.K.Sink.faults l.fn.sink;
   within : l.done ≤ length l.octets;
+  fits : length l.fn.self.held + length l.octets ≤ l.fn.self.room
+      → (l.sink ≡ l.fn.sink) × (length l.self.held ≡ length l.fn.self.held + l.done);
 }
 
 abbrev pub decreases-loop-done : goal.decreases-loop-done
