@@ -1,7 +1,7 @@
 -- A request that names a port that no switch has, and the channels of one that doesn't fail
 
-use Rattle.std.proofs.Common.{◌≡◌, Bool, true, false, cond, not, ◌&&◌, ◌==◌, ℕ, ◌+◌, ◌<◌, ◌^◌, List, [], ◌∷◌, Option, Some, None, refl, ap, sym, ◌∙◌, arith}
-use Rattle.std.specs.Prelude.{nat_le, IfSome}
+use Rattle.std.proofs.Common.{◌≡◌, Bool, true, false, cond, not, ◌&&◌, ◌==◌, ℕ, ◌+◌, ◌<◌, ◌^◌, List, [], ◌∷◌, Option, Some, None, Result, Ok, Err, refl, ap, sym, ◌∙◌, arith}
+use Rattle.std.specs.Prelude.{nat_le, IfSome, OnErr, option_and_then}
 use Rattle.std.specs.List.{list_all}
 use Rattle.std.specs.Option.{option_map_or}
 use Rattle.std.proofs.lemmas.Bool.Decides.{nat_tests}
@@ -118,3 +118,9 @@ can_raise states vpis m asked fits h = raise_by states vpis m asked.session aske
 pub handled_is : (s : Switch) (notes : Journal) (m : Message) (asked : Asked) → asked_in m ≡ Some asked → failure_of s.ports s.vpis s.crossbar.branches asked ≡ None → handled s notes m ≡ carried_out s notes m asked.request
 handled_is s notes m asked is none =
     ap (handled_asked s notes m) is ∙ ap (handled_by s notes m asked.request) none
+
+-- *A request that is carried out isn't refused*, whatever comes of it
+
+pub taken_on : {T E : Type 0} (result : Result T E) (states : List PortState) (vpis : ℕ) (branches : Branches) (m : Message) (asked : Asked) → asked_in m ≡ Some asked → failure_of states vpis branches asked ≡ None → OnErr result (option_and_then (failure_of states vpis branches) (asked_in m) ≡ None)
+taken_on (Ok value) states vpis branches m asked is none = tt
+taken_on (Err error) states vpis branches m asked is none = ap (option_and_then (failure_of states vpis branches)) is ∙ none

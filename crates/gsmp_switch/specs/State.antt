@@ -1,6 +1,6 @@
 -- The ports of a switch and those of its exchange
 
-use Rattle.std.specs.Prelude.{◌≡◌, ◌+◌, ◌<◌, ◌^◌, List, ◌∷◌, map, IfSome}
+use Rattle.std.specs.Prelude.{◌≡◌, ◌+◌, ◌<◌, ◌^◌, List, ◌∷◌, map, IfSome, Option, option_and_then}
 use Rattle.net_types.specs.declared.node.PortNo.{PortNo}
 use Rattle.link_model.specs.Notes.{Journal}
 use Rattle.net_types.specs.Number.{GivenOut}
@@ -8,6 +8,10 @@ use Rattle.crossbar_model.specs.Channels.{ArePorts}
 use Rattle.world_model.specs.declared.port.PortState.{PortState}
 use Rattle.gsmp_wire.specs.declared.request.Request.{Request}
 use Rattle.gsmp_wire.specs.declared.request.Request.TheVariants.{PortManagement}
+use Rattle.gsmp_wire.specs.declared.message.Message.{Message}
+use Rattle.world_model.specs.declared.request.Failure.{Failure}
+use Rattle.world_model.specs.Failures.{failure_of}
+use Rattle.world_model.specs.Requests.{asked_in}
 use Rattle.world_model.specs.Switch.{Acted, Switch, control_port, port_of}
 
 -- the control port, and then these ports of links
@@ -18,6 +22,10 @@ pub record AreStatesOf (states : List PortState) (linked : List PortNo) : Type 0
 -- a switch in a run
 abbrev pub acted : Switch → Journal → GivenOut → Acted
 acted s notes numbers = record { switch = s; notes = notes; numbers = numbers }
+
+-- why a switch refuses a request, if it does
+abbrev pub refusal_of : Switch → Message → Option Failure
+refusal_of s m = option_and_then (failure_of s.ports s.vpis s.crossbar.branches) (asked_in m)
 
 -- the session of the port that a request manages isn't the last
 abbrev pub CanRaise : List PortState → Request → Type 0

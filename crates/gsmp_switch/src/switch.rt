@@ -1,6 +1,6 @@
 //! The switch.
 
-ghost use Rattle.std.specs.Prelude.{◌≡◌, ◌∷◌, ◌⊎◌, ◌≤◌, ◌<◌, ◌+◌, ◌^◌, true, length, slice_get, All, IfOk, OnOk};
+ghost use Rattle.std.specs.Prelude.{◌≡◌, ◌∷◌, ◌⊎◌, ◌≤◌, ◌<◌, ◌+◌, ◌^◌, None, true, length, slice_get, All, IfOk, OnErr, OnOk};
 ghost use Rattle.net_types.specs.Number.{AreDrawn, GivenOut, HasNumbersLeft, next_instance, with_instance};
 ghost use Rattle.crossbar_model.specs.Channels.{ArePorts};
 ghost use Rattle.crossbar_model.specs.Crossbar.{output_of, popped, queue_of};
@@ -13,7 +13,7 @@ ghost use Rattle.world_model.specs.Requests.{is_request};
 ghost use Rattle.world_model.specs.Answers.{handled};
 ghost use Rattle.world_model.specs.Conduct.{answers, cell_comes, forged, greeted, gsmp_cell, one_more, read, requested, reset, restarted, says, switched_cell, tick_comes, told};
 ghost use Rattle.adjacency_table.specs.Side.{fresh, is_estab};
-ghost use Rattle.gsmp_switch.specs.State.{acted};
+ghost use Rattle.gsmp_switch.specs.State.{acted, refusal_of};
 
 use crate::answer::{failure_answer, success_answer};
 use crate::change::{change, clear_all};
@@ -231,8 +231,8 @@ impl Switch {
         self.follow(answer, numbers, notes)
     }
 
-    /// Handles a request: does what it asks, or refuses it by the first failure that applies. The
-    /// answer isn't sent.
+    /// Handles a request: does what it asks, or refuses it by the first failure that applies, for which
+    /// no memory is wanting. The answer isn't sent.
     pub fn handle(&mut self, request: &Message, notes: &mut Notes) -> Result<Message, OutOfMemory>
         requires request { is_request request.now ≡ true }
         requires range { IsInRange request.now }
@@ -240,6 +240,7 @@ impl Switch {
         ensures notes { OnOk result (notes.new ≡ (handled self.old notes.old request.now).notes) }
         ensures answer { IfOk result (λ m. m ≡ (handled self.old notes.old request.now).answer) }
         ensures range { IfOk result IsInRange }
+        ensures memory { OnErr result (refusal_of self.old request.now ≡ None) }
     {
         let ports = self.ports.as_slice();
         let Some(asked) = asked_in(request) else {

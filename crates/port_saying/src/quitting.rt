@@ -1,12 +1,15 @@
 //! *IFMP adjacency*: labels are quit that the peer can't use any more. That it does so by what the peer is
 //! known to expect is this project's own.
 
-ghost use Rattle.std.specs.Prelude.{◌≡◌, ℕ, false, IsTrue, OnOk};
+ghost use Rattle.std.specs.Prelude.{◌≡◌, ℕ, false, nat_lt, IsOk, IsTrue, OnOk};
+ghost use Rattle.std.specs.Option.{option_map_or};
 ghost use Rattle.net_types.specs.Label.{is_label_number};
-ghost use Rattle.label_book.specs.Book.{is_recalled};
+ghost use Rattle.label_book.specs.Book.{is_passed, is_recalled};
 ghost use Rattle.label_book.specs.Read.{state_from};
-ghost use Rattle.port_actions.specs.Outlook.{Foresees};
+ghost use Rattle.port_actions.specs.Outlook.{Foresees, stands};
 ghost use Rattle.port_model.specs.Adjacency.{quits, unwires};
+ghost use Rattle.port_model.specs.Port.{known_of, label_at};
+ghost use Rattle.port_model.specs.Setup.{label_end};
 ghost use Rattle.port_state.specs.Engine.{setup_of};
 ghost use Rattle.port_state.specs.Parts.{numbers_of};
 ghost use Rattle.port_saying.specs.Rules.{begun};
@@ -31,7 +34,7 @@ pub fn is_recalled(state: HeldState) -> bool
 }
 
 /// A label is quit where it is acknowledged and the peer expects a number above that of its last RECLAIM:
-/// its chain is cut, and its branch is to be deleted.
+/// its chain is cut, and its branch is to be deleted. Elsewhere nothing changes, and no memory is wanting.
 pub fn quit<P: Policy>(
     state: &mut PortState<P>,
     number: u16,
@@ -44,6 +47,7 @@ pub fn quit<P: Policy>(
     ensures work { (n : ℕ) → OnOk result (quits (setup_of P.meaning state.old.fixed) desk.now (begun state.old.port out.old n) number ≡ begun state.new.port out.new n) }
     ensures numbers { numbers_of state.new.port ≡ numbers_of state.old.port }
     ensures outlook { OnOk result (Foresees outlook.new desk.now out.new) }
+    ensures memory { option_map_or (λ label. is_passed (known_of state.old.port) label.state) (label_at state.old.port number) false ≡ false → IsOk result }
 {
     let Some(label) = state.label_at(number) else {
         return Ok(());
@@ -59,7 +63,7 @@ pub fn quit<P: Policy>(
 }
 
 /// Delete Tree of a label is asked where fewer than 1,024 requests will stand, or in the place of one that
-/// stands on its input.
+/// stands on its input. Elsewhere no memory is wanting.
 pub fn unwire<P: Policy>(
     state: &PortState<P>,
     number: u16,
@@ -71,6 +75,7 @@ pub fn unwire<P: Policy>(
     requires outlook { Foresees outlook.old desk.now out.old }
     ensures work { (n : ℕ) → OnOk result (unwires (setup_of P.meaning state.now.fixed) desk.now (begun state.now.port out.old n) number ≡ begun state.now.port out.new n) }
     ensures outlook { OnOk result (Foresees outlook.new desk.now out.new) }
+    ensures memory { stands outlook.old desk.now (label_end state.now.fixed.port number) ≡ false → nat_lt outlook.old.many 1024 ≡ false → IsOk result }
 {
     let input = state.label_end(number);
     let takes_place = outlook.on_input(desk, input);

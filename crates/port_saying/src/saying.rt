@@ -1,6 +1,6 @@
 //! Numbered messages, and the end of the numbers.
 
-ghost use Rattle.std.specs.Prelude.{◌≡◌, ◌++◌, ◌∷◌, ℕ, [], IsTrue, OnOk};
+ghost use Rattle.std.specs.Prelude.{◌≡◌, ◌++◌, ◌∷◌, ℕ, [], None, IsTrue, IsOk, OnOk};
 ghost use Rattle.net_types.specs.Label.{is_label_number};
 ghost use Rattle.port_model.specs.Desk.{Desk as DeskValue};
 ghost use Rattle.ifmp_wire.specs.declared.message.Message.TheVariants.{Adjacency};
@@ -9,7 +9,7 @@ ghost use Rattle.port_model.specs.declared.action.Action.TheVariants.{Say};
 ghost use Rattle.port_model.specs.Labels.{Label};
 ghost use Rattle.port_model.specs.Saying.{closes, error, label_range, reclaim, redirect, says, tells};
 ghost use Rattle.port_state.specs.Engine.{setup_of};
-ghost use Rattle.port_state.specs.Parts.{numbers_of};
+ghost use Rattle.port_state.specs.Parts.{numbers_of, taken_number};
 ghost use Rattle.port_saying.specs.Rules.{begun};
 ghost use Rattle.port_saying.specs.Rules.{Ends};
 ghost use Rattle.port_saying.specs.Unnumbered.{code_number, unnumbered};
@@ -139,8 +139,8 @@ pub fn greet(hello: Hello, out: &mut Actions) -> Result<(), OutOfMemory>
     out.push(Action::Say(Message::Adjacency(hello)))
 }
 
-/// Says a redirection message under the next number. Where that is the last one, it isn't said, and the
-/// numbers are spent.
+/// Says a redirection message under the next number. Where that is the last one, it isn't said, the
+/// numbers are spent, and no memory is wanting.
 pub fn tell<P: Policy>(
     state: &mut PortState<P>,
     message: Unnumbered,
@@ -150,6 +150,7 @@ pub fn tell<P: Policy>(
     ensures work { (n : ℕ) → OnOk result (tells (begun state.old.port out.old n) (unnumbered message) ≡ begun state.new.port out.new n) }
     ensures numbers { numbers_of state.new.port ≡ numbers_of state.old.port }
     ensures quiet { (o : OutlookValue) (d : DeskValue) → Foresees o d out.old → OnOk result (Foresees o d out.new) }
+    ensures memory { taken_number state.old.port.session ≡ None → IsOk result }
 {
     let own = state.own();
     let peer = state.peer();

@@ -2,7 +2,7 @@ use Rattle.std.proofs.Common.{◌≡◌, ◌<◌, ◌^◌, ◌∙◌, None, ap, 
 use Rattle.world_model.specs.declared.request.Failure.TheVariants.{NoPort}
 use Rattle.world_model.specs.Failures.{failure_of}
 use Rattle.world_model.specs.Answers.{Handled}
-use Rattle.gsmp_switch.proofs.Handling.{all_connectable, can_raise, handled_is, refused_unread}
+use Rattle.gsmp_switch.proofs.Handling.{all_connectable, can_raise, handled_is, refused_unread, taken_on}
 use Rattle.gsmp_switch.proofs.PortStates.{few_states, states_after}
 use Rattle.gsmp_switch.proofs.Ranges.{failure_in_range}
 use Rattle.gsmp_switch.proofs.switch.Switch.handle.Goals as goal
@@ -54,3 +54,8 @@ returns-in-Some-failure_of-clause-range c = rw c.failure_answer-in-Some-failure_
 
 pub returns-clause-range : goal.returns-clause-range
 returns-clause-range c = c.success_answer.ensures.range
+
+pub returns-in_err-change-clause-memory : goal.returns-in_err-change-clause-memory
+returns-in_err-change-clause-memory c =
+    let none : failure_of c.self.inside.ports.items c.self.inside.exchange.vpis c.self.inside.exchange.crossbar.branches c.in-Some.asked ≡ None = rw c.as_slice-ports.ensures.value at (sym c.failure_of.ensures ∙ c.in_default-failure_of.is) in
+    rw (← c.self.view_is) (taken_on c.from_residual.result c.self.inside.ports.items c.self.inside.exchange.vpis c.self.inside.exchange.crossbar.branches c.args.request.now c.in-Some.asked c.in-Some.ensures.some none)
