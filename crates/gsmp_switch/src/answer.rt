@@ -1,21 +1,17 @@
 //! The answers to requests.
 
-ghost use Rattle.std.specs.Prelude.{◌≡◌, ◌≤◌, true, length, map};
+ghost use Rattle.std.specs.Prelude.{◌≡◌, ◌≤◌, true, length, map, is_some, Some};
+ghost use Rattle.gsmp_wire.specs.declared.message.Message.TheVariants.{AllPorts, Port};
+ghost use Rattle.gsmp_wire.specs.Layout.{connection_of};
 ghost use Rattle.world_model.specs.Answers.{branch_of, count_of, failure_answer, failure_code, row_of, session_of, success_answer, told_output};
 ghost use Rattle.world_model.specs.Requests.{end_at, is_request};
 ghost use Rattle.gsmp_wire.specs.Range.{FitsRow, FitsRows, IsInRange};
 
 use crate::exchange::Exchange;
 use crate::ports::port_of;
-use gsmp_wire::{BranchKind, Message, PortRow, PortRows};
+use gsmp_wire::{BranchKind, Connection, FAILURE, Message, PortRow, PortRows, SUCCESS};
 use net_types::{Channel, End};
 use world_model::{Failure, PortState, Request};
-
-/// The Result of a success answer.
-const SUCCESS: u8 = 3;
-
-/// The Result of a failure answer.
-const FAILURE: u8 = 4;
 
 /// The Code of a failure.
 fn failure_code(failure: Failure) -> u8
@@ -32,6 +28,50 @@ fn failure_code(failure: Failure) -> u8
     }
 }
 
+/// The connection that a message is about, which is about one.
+fn connection_in(message: &Message) -> Connection
+    requires { is_some (connection_of message.now) ≡ true }
+    ensures { Some result ≡ connection_of message.now }
+{
+    match message.connection() {
+        Some(connection) => connection,
+        None => unreachable!(),
+    }
+}
+
+/// The answer to a Port Management with these fields.
+fn port_message(
+    outcome: u8,
+    code: u8,
+    transaction: u32,
+    port: u32,
+    session: u32,
+    function: u8,
+) -> Message
+    ensures { result ≡ Port outcome code transaction port session function }
+{
+    Message::Port {
+        result: outcome,
+        code,
+        transaction,
+        port,
+        session,
+        function,
+    }
+}
+
+/// The answer to an All Ports with these records.
+fn ports_message(outcome: u8, code: u8, transaction: u32, rows: PortRows) -> Message
+    ensures { result ≡ AllPorts outcome code transaction rows }
+{
+    Message::AllPorts {
+        result: outcome,
+        code,
+        transaction,
+        rows,
+    }
+}
+
 /// The failure answer to a request.
 pub(crate) fn failure_answer(failure: Failure, request: &Message) -> Message
     ensures { result ≡ failure_answer failure request.now }
@@ -39,79 +79,22 @@ pub(crate) fn failure_answer(failure: Failure, request: &Message) -> Message
     let code = failure_code(failure);
     match *request {
         Message::Adjacency(greeting) => Message::Adjacency(greeting),
-        Message::Branch {
-            kind,
-            result: _,
-            code: _,
-            transaction,
-            session,
-            input_port,
-            input,
-            output_port,
-            output,
-            branches,
-            priority,
-        } => Message::Branch {
-            kind,
-            result: FAILURE,
-            code,
-            transaction,
-            session,
-            input_port,
-            input,
-            output_port,
-            output,
-            branches,
-            priority,
-        },
+        Message::Branch { kind, .. } => connection_in(request).branch(kind, FAILURE, code),
         Message::Move {
-            result: _,
-            code: _,
-            transaction,
-            session,
-            input_port,
-            input,
-            output_port,
-            output,
             target_port,
             target,
-            branches,
-            priority,
-        } => Message::Move {
-            result: FAILURE,
-            code,
-            transaction,
-            session,
-            input_port,
-            input,
-            output_port,
-            output,
-            target_port,
-            target,
-            branches,
-            priority,
-        },
+            ..
+        } => connection_in(request).moved(FAILURE, code, target_port, target),
         Message::Port {
-            result: _,
-            code: _,
             transaction,
             port,
             session,
             function,
-        } => Message::Port {
-            result: FAILURE,
-            code,
-            transaction,
-            port,
-            session,
-            function,
-        },
-        Message::AllPorts { transaction, .. } => Message::AllPorts {
-            result: FAILURE,
-            code,
-            transaction,
-            rows: PortRows::new(),
-        },
+            ..
+        } => port_message(FAILURE, code, transaction, port, session, function),
+        Message::AllPorts { transaction, .. } => {
+            ports_message(FAILURE, code, transaction, PortRows::new())
+        }
     }
 }
 
@@ -207,81 +190,40 @@ pub(crate) fn success_answer(
     let branches = count_of(&found);
     match *message {
         Message::Adjacency(greeting) => Message::Adjacency(greeting),
-        Message::Branch {
-            kind,
-            result: _,
-            code: _,
-            transaction,
-            session,
-            input_port,
-            input,
-            output_port,
-            output,
-            branches: _,
-            priority,
-        } => {
-            let (output_port, output) = told_output(kind, output_port, output, found);
-            Message::Branch {
-                kind,
-                result: SUCCESS,
-                code: 0,
-                transaction,
-                session,
-                input_port,
-                input,
+        Message::Branch { kind, .. } => {
+            let asked = connection_in(message);
+            let (output_port, output) = told_output(kind, asked.output_port, asked.output, found);
+            let told = Connection {
                 output_port,
                 output,
                 branches,
-                priority,
-            }
+                ..asked
+            };
+            told.branch(kind, SUCCESS, 0)
         }
         Message::Move {
-            result: _,
-            code: _,
-            transaction,
-            session,
-            input_port,
-            input,
-            output_port,
-            output,
             target_port,
             target,
-            branches: _,
-            priority,
-        } => Message::Move {
-            result: SUCCESS,
-            code: 0,
-            transaction,
-            session,
-            input_port,
-            input,
-            output_port,
-            output,
-            target_port,
-            target,
-            branches,
-            priority,
-        },
+            ..
+        } => {
+            let told = Connection {
+                branches,
+                ..connection_in(message)
+            };
+            told.moved(SUCCESS, 0, target_port, target)
+        }
         Message::Port {
-            result: _,
-            code: _,
             transaction,
             port,
             session,
             function,
-        } => Message::Port {
-            result: SUCCESS,
-            code: 0,
-            transaction,
-            port,
-            session: session_of(ports, request, session),
-            function,
-        },
-        Message::AllPorts { transaction, .. } => Message::AllPorts {
-            result: SUCCESS,
-            code: 0,
-            transaction,
-            rows: rows_of(ports),
-        },
+            ..
+        } => {
+            let session = session_of(ports, request, session);
+            port_message(SUCCESS, 0, transaction, port, session, function)
+        }
+        Message::AllPorts { transaction, .. } => {
+            ports_message(SUCCESS, 0, transaction, rows_of(ports))
+        }
     }
 }

@@ -2,7 +2,7 @@
 
 ghost use Rattle.std.specs.Prelude.{◌≡◌, Some, None, false, ◌&&◌, ◌==◌, ◌*◌, nat_le, nat_lt, IfSome, IfNone, if◌then◌else◌};
 ghost use Rattle.std.specs.List.{list_all, list_any};
-ghost use Rattle.world_model.specs.Requests.{asked_in, end_at, is_request};
+ghost use Rattle.world_model.specs.Requests.{asked_in, branch_request, end_at, is_request};
 ghost use Rattle.crossbar_model.specs.Channels.{is_connectable};
 ghost use Rattle.world_model.specs.Failures.{failure_of, is_busy, is_last_session, lacks_branch, leads_elsewhere, named_ends, named_ports, names_session, used_ports};
 ghost use Rattle.world_model.specs.Switch.{has_port, is_up, numbers_of};
@@ -10,12 +10,9 @@ ghost use Rattle.gsmp_switch.specs.State.{AreStatesOf};
 
 use crate::exchange::Exchange;
 use crate::ports::{has_port, has_session, is_up};
-use gsmp_wire::{BranchKind, Message};
+use gsmp_wire::{BranchKind, Message, REQUEST};
 use net_types::{Channel, End, PortNo};
 use world_model::{Asked, Failure, PortState, Request};
-
-/// The Result of a request.
-const REQUEST: u8 = 2;
 
 /// The greatest session.
 const LAST_SESSION: u32 = 4_294_967_295;
@@ -56,6 +53,36 @@ fn port_at(port: u32) -> Option<PortNo>
     Some(PortNo(port as u8))
 }
 
+/// What a message about a branch, or all branches, of an input asks. None where it names a port that no
+/// switch has.
+fn branch_request(
+    kind: BranchKind,
+    input_port: u32,
+    input: Channel,
+    output_port: u32,
+    output: Channel,
+) -> Option<Request>
+    ensures some { IfSome result (λ request. request ≡ branch_request kind (end_at input_port input) (end_at output_port output)) }
+    ensures none { IfNone result (list_all (λ port. nat_le port.0 255) (named_ports (branch_request kind (end_at input_port input) (end_at output_port output))) ≡ false) }
+{
+    let request = match kind {
+        BranchKind::Add => Request::AddBranch {
+            input: end_at(input_port, input)?,
+            output: end_at(output_port, output)?,
+        },
+        BranchKind::Delete => Request::DeleteTree {
+            input: end_at(input_port, input)?,
+        },
+        BranchKind::Verify => Request::VerifyTree {
+            input: end_at(input_port, input)?,
+        },
+        BranchKind::DeleteAll => Request::DeleteAll {
+            port: port_at(input_port)?,
+        },
+    };
+    Some(request)
+}
+
 /// What a message asks. None where it is an adjacency message, or names a port that no switch has.
 pub(crate) fn asked_in(message: &Message) -> Option<Asked>
     ensures some { IfSome result (λ asked. asked_in message.now ≡ Some asked) }
@@ -72,21 +99,7 @@ pub(crate) fn asked_in(message: &Message) -> Option<Asked>
             output,
             ..
         } => {
-            let request = match kind {
-                BranchKind::Add => Request::AddBranch {
-                    input: end_at(*input_port, *input)?,
-                    output: end_at(*output_port, *output)?,
-                },
-                BranchKind::Delete => Request::DeleteTree {
-                    input: end_at(*input_port, *input)?,
-                },
-                BranchKind::Verify => Request::VerifyTree {
-                    input: end_at(*input_port, *input)?,
-                },
-                BranchKind::DeleteAll => Request::DeleteAll {
-                    port: port_at(*input_port)?,
-                },
-            };
+            let request = branch_request(*kind, *input_port, *input, *output_port, *output)?;
             (*session, request)
         }
         Message::Move {
