@@ -11,8 +11,9 @@ use std::alloc::Global;
 use std::cmp::Ordering;
 use std::marker::Model;
 
-/// The most requests that stand.
-pub(crate) const MOST_REQUESTS: usize = 4096;
+/// The most requests that stand at a desk, each with a ticket: those that are needed are asked up to
+/// here. It is this project's own limit.
+pub const MOST_REQUESTS: usize = 4096;
 
 /// The number of a request, and the end that it is on.
 #[derive(Clone, Copy, Debug)]

@@ -22,8 +22,8 @@ use net_types::{End, OutOfMemory, PortNo};
 use std::alloc::Global;
 use std::marker::Model;
 
-/// Where so many stand, only needed requests are asked.
-const MOST_ASKED: usize = 1024;
+/// Where so many requests stand, only needed ones are asked. It is this project's own limit.
+pub const MOST_ASKED: usize = 1024;
 
 /// A queue-full error: a request isn't asked, since at least 1,024 are outstanding. The limit is
 /// this project's own.

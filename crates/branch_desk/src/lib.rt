@@ -12,5 +12,6 @@ mod requests;
 mod ticket;
 
 pub use answered::{Answered, Ports};
-pub use desk::{Desk, DeskFull};
+pub use by_end::MOST_REQUESTS;
+pub use desk::{Desk, DeskFull, MOST_ASKED};
 pub use ticket::{BranchDone, Ticket, redeem};

@@ -6,7 +6,7 @@ ghost use Rattle.port_model.specs.DeskAnswers.{is_branch_of, is_of_type};
 ghost use Rattle.port_model.specs.Messages.{all_of, branch_message, is_up, message_of, row_of, session_of};
 
 use gsmp_wire::{BranchKind, Connection, Message, PortRow, PortRows, REQUEST, Request};
-use net_types::{Channel, End, PortNo};
+use net_types::{CONTROL_PORT, Channel, End, PortNo};
 
 /// Whether a message about branches of this kind and a request have one type.
 fn is_branch_of(kind: BranchKind, request: &Request) -> bool
@@ -101,7 +101,7 @@ fn branch_message(kind: BranchKind, number: u32, session: u32, input: End, outpu
 pub(crate) fn message_of(rows: &PortRows, number: u32, request: &Request) -> Message
     ensures { result ≡ message_of rows.now number request.now }
 {
-    let unnamed = all_of(PortNo(0));
+    let unnamed = all_of(CONTROL_PORT);
     match *request {
         Request::AddBranch { input, output } => {
             let session = session_of(rows, input.port);

@@ -6,13 +6,10 @@ ghost use Rattle.control_link.specs.Cells.{IsRange, is_channel, range_at};
 ghost use Rattle.control_link.specs.Layout.{count_of, first_of, place_of, width};
 
 use crate::taker::Taker;
-use net_types::{OutOfMemory, PortNo};
+use net_types::{CONTROL_PORT, OutOfMemory, PORTS};
 use std::alloc::Global;
 use std::marker::Model;
 use world_model::PortRange;
-
-/// The numbers of the ports, port 0 among them.
-const PORTS: usize = 9;
 
 /// A port with the range of its labels, and the index of its default channel, behind which those of
 /// its labels stand, ascending.
@@ -25,7 +22,7 @@ pub(crate) struct Block {
 /// What stands for a port that isn't linked.
 const NO_BLOCK: Block = Block {
     range: PortRange {
-        port: PortNo(0),
+        port: CONTROL_PORT,
         lo: 0,
         hi: 0,
     },

@@ -3,25 +3,16 @@
 ghost use Rattle.std.specs.Prelude.{◌≡◌};
 ghost use Rattle.crossbar_model.specs.Channels.{is_channel_of, is_connectable, is_link_channel};
 
-use net_types::{Channel, End, PortNo};
-
-/// The VCI of the default channel of a link, whose VPI is 0.
-const DEFAULT_VCI: u16 = 15;
-
-/// The least and the greatest VCI of a label.
-const LEAST_LABEL: u16 = 32;
-
-const GREATEST_LABEL: u16 = 1023;
-
-/// How many paths of the control port show those of one port of a link.
-const PATHS_OF_A_PORT: u16 = 16;
+use net_types::{
+    Channel, DEFAULT_CHANNEL, End, GREATEST_LABEL_VCI, LEAST_LABEL_VCI, PortNo, VPIS_PER_PORT,
+};
 
 /// Whether this is the default channel of a link, or a label with a VPI below `vpis`.
 fn is_link_channel(vpis: u8, channel: Channel) -> bool
     ensures { result ≡ is_link_channel vpis channel }
 {
-    let is_default = channel.vpi == 0 && channel.vci == DEFAULT_VCI;
-    let is_label = LEAST_LABEL <= channel.vci && channel.vci <= GREATEST_LABEL;
+    let is_default = channel == DEFAULT_CHANNEL;
+    let is_label = LEAST_LABEL_VCI <= channel.vci && channel.vci <= GREATEST_LABEL_VCI;
     is_default || channel.vpi < vpis as u16 && is_label
 }
 
@@ -35,7 +26,7 @@ fn is_channel_of(port: PortNo, vpis: u8, end: End) -> bool
     if end.port.0 != 0 {
         return end.port == port && is_link_channel(vpis, end.channel);
     }
-    let first = PATHS_OF_A_PORT * port.0 as u16;
+    let first = VPIS_PER_PORT * port.0 as u16;
     let Channel { vpi, vci } = end.channel;
     if vpi < first {
         return false;

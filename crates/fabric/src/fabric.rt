@@ -15,12 +15,9 @@ use crate::branches::Branches;
 use atm_cells::Cell;
 use cell_pool::{Chain, Pool, Queue};
 use crossbar_model::{Branch, Routed};
-use net_types::{End, Mark, OutOfMemory, PortNo};
+use net_types::{End, Mark, OutOfMemory, PORTS, PortNo};
 use std::alloc::Global;
 use std::marker::Model;
-
-/// The ports of a fabric at most, port 0 among them.
-const PORTS: usize = 9;
 
 /// A switch fabric: the branches of a switch (RFC 1987), an output queue of cells for each of its
 /// ports, and the region of slots in which the queues live.

@@ -4,10 +4,10 @@ ghost use Rattle.std.specs.Prelude.{◌≡◌, ◌≢◌, ◌<◌, ◌≤◌, �
 ghost use Rattle.fabric.specs.Following.{is_behind};
 ghost use Rattle.fabric.specs.Table.{end_at, end_of, end_on, vci_at};
 
-use net_types::{Channel, End, PortNo};
+use net_types::{CONTROL_PORT, Channel, DEFAULT_CHANNEL, End, LAST_PORT, LEAST_LABEL_VCI, PortNo};
 
 /// The ports of links at most.
-pub(crate) const PORTS: usize = 8;
+pub(crate) const PORTS: usize = LAST_PORT as usize;
 
 /// The rows: for each of these ports that of its channels on the control port, and then that of its
 /// own.
@@ -23,10 +23,10 @@ const PATHS: usize = 16;
 pub(crate) const COLUMNS: usize = CHANNELS * PATHS;
 
 /// The default channel of a path.
-const DEFAULT_VCI: u16 = 15;
+const DEFAULT_VCI: u16 = DEFAULT_CHANNEL.vci;
 
 /// The VCI before the least label.
-const BEFORE_LABELS: u16 = 31;
+const BEFORE_LABELS: u16 = LEAST_LABEL_VCI - 1;
 
 /// Where the branch of a channel stands, if the switch can connect it.
 #[derive(Clone, Copy, Debug)]
@@ -102,7 +102,7 @@ pub(crate) fn end_of(row: usize, column: usize) -> End
     if row < PORTS {
         let vpi = PATHS as u16 * (row as u16 + 1) + path;
         return End {
-            port: PortNo(0),
+            port: CONTROL_PORT,
             channel: Channel { vpi, vci },
         };
     }

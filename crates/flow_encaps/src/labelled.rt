@@ -22,7 +22,7 @@ ghost use Rattle.ipv4_packet.specs.Identifier.{FitsFields};
 ghost use Rattle.flow_encaps.specs.Labelled.{checksum_at_ttl_zero as zero_ttl_checksum, labelled_payload, Carries, rebuilt, layout_fault, said_checksum as checksum_said, unwrap_fault, head_size as size_of_head, left_out, HasLayout};
 
 use crate::default::EncapsFault;
-use ipv4_packet::{FlowId, FlowKind, internet_sum, write_checksum};
+use ipv4_packet::{FlowId, FlowKind, MAX_PACKET, internet_sum, write_checksum};
 use octet_fields::{put_octets, put_u16, put_u32, u16_at};
 
 /// Writes the payload of the packet's labelled frame to the front of `out` and gives its length in
@@ -142,7 +142,7 @@ fn check_connection(payload: &[u8]) -> Result<(), EncapsFault>
         return Err(EncapsFault::Reserved);
     }
     let total_length = u16_at(payload, 0) as usize;
-    if total_length != payload.len() + 16 || total_length > 1500 {
+    if total_length != payload.len() + 16 || total_length > MAX_PACKET {
         return Err(EncapsFault::Length);
     }
     Ok(())
@@ -160,7 +160,7 @@ fn check_hosts(payload: &[u8]) -> Result<(), EncapsFault>
         return Err(EncapsFault::Reserved);
     }
     let total_length = u16_at(payload, 2) as usize;
-    if total_length != payload.len() + 8 || total_length > 1500 {
+    if total_length != payload.len() + 8 || total_length > MAX_PACKET {
         return Err(EncapsFault::Length);
     }
     Ok(())

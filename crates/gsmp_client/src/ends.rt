@@ -5,13 +5,7 @@ ghost use Rattle.net_types.specs.Label.{is_label_number};
 ghost use Rattle.port_model.specs.Setup.{home_of, label_end};
 ghost use Rattle.world_model.specs.Controller.{default_end};
 
-use net_types::{Channel, End, PortNo, label_channel, on_control};
-
-/// GSMP's channel on the control link, and the default channel of each link.
-pub const DEFAULT_CHANNEL: Channel = Channel { vpi: 0, vci: 15 };
-
-/// The control port.
-pub const CONTROL_PORT: PortNo = PortNo(0);
+use net_types::{CONTROL_PORT, DEFAULT_CHANNEL, End, PortNo, label_channel, on_control};
 
 /// The default channel of a port.
 pub fn default_end(port: PortNo) -> End

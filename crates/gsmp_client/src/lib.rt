@@ -10,4 +10,4 @@ mod ends;
 mod sending;
 
 pub use client::Client;
-pub use ends::{CONTROL_PORT, DEFAULT_CHANNEL, default_end, home_of, label_end};
+pub use ends::{default_end, home_of, label_end};

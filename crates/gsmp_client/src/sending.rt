@@ -9,17 +9,14 @@ ghost use Rattle.world_model.specs.Sending.{says_gsmp, says_ifmp, sends, sends_c
 ghost use Rattle.gsmp_client.specs.Client.{AreOneNode, Router, acted};
 
 use crate::client::Client;
-use crate::ends::{DEFAULT_CHANNEL, default_end, home_of};
+use crate::ends::{default_end, home_of};
 use flow_encaps::wrap_default;
 use frame_model::send_frame;
-use gsmp_wire::Message as GsmpMessage;
+use gsmp_wire::{MAX_MESSAGE, Message as GsmpMessage};
 use ifmp_wire::Message as IfmpMessage;
 use ipv4_packet::ifmp_packet;
 use link_model::Notes;
-use net_types::{Addr, Channel, Greeting, Mark, Numbers, OutOfMemory, PortNo};
-
-/// The greatest message of GSMP, in octets.
-const MAX_GSMP: usize = 164;
+use net_types::{Addr, Channel, DEFAULT_CHANNEL, Greeting, Mark, Numbers, OutOfMemory, PortNo};
 
 /// The greatest message of IFMP, in octets; then with the header of its packet, and with the header of
 /// the default encapsulation.
@@ -82,7 +79,7 @@ impl Client {
         ensures rest { self.new ≡ record self.old { control = record self.old.control { queue = self.new.control.queue } } }
         ensures drawn { numbers.new ≡ with_control numbers.old }
     {
-        let mut octets = [0; MAX_GSMP];
+        let mut octets = [0; MAX_MESSAGE];
         let len = gsmp_wire::encode(message, &mut octets);
         self.send_control(DEFAULT_CHANNEL, &octets[..len], numbers, notes)
     }

@@ -17,17 +17,11 @@ use console_model::Reply;
 use frame_model::send_frame;
 use gsmp_adjacency::Answer as AdjacencyAnswer;
 use gsmp_switch::Switch;
-use gsmp_wire::{Message, Request, encode};
+use gsmp_wire::{MAX_MESSAGE, Message, Request, encode};
 use link_model::Notes;
-use net_types::{Channel, Greeting, NodeId, Numbers, OutOfMemory, PortNo};
+use net_types::{DEFAULT_CHANNEL, Greeting, NodeId, Numbers, OutOfMemory, PortNo};
 use std::alloc::Global;
 use std::marker::Model;
-
-/// The channel of GSMP on the control link.
-pub(crate) const GSMP_CHANNEL: Channel = Channel { vpi: 0, vci: 15 };
-
-/// The greatest message of GSMP, in octets.
-const MAX_GSMP: usize = 164;
 
 /// The slots of the switch's region.
 const CELLS: usize = 1024;
@@ -131,12 +125,12 @@ impl Bench {
         ensures drawn { Draws 0 1 0 self.old self.new }
     {
         let mark = self.numbers.control();
-        let mut octets = [0; MAX_GSMP];
+        let mut octets = [0; MAX_MESSAGE];
         let len = encode(message, &mut octets);
         send_frame(
             &mut self.console,
             (),
-            GSMP_CHANNEL,
+            DEFAULT_CHANNEL,
             mark,
             &octets[..len],
             notes,

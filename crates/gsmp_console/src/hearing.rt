@@ -5,12 +5,12 @@ ghost use Rattle.console_model.specs.Hearing.{answer_comes, answers, cell_comes,
 ghost use Rattle.gsmp_adjacency.specs.Greeting.{gsmp_received};
 ghost use Rattle.gsmp_console.specs.Bench.{Draws, HasLeft, fails_at, lab_in};
 
-use crate::bench::{Bench, GSMP_CHANNEL};
+use crate::bench::Bench;
 use atm_cells::Cell;
 use console_model::Reply;
 use gsmp_wire::{BranchKind, Fault, Message};
 use link_model::{Cause, Layer, Notes, Record};
-use net_types::{Channel, End, Greeting, NodeId, OutOfMemory, PortNo};
+use net_types::{Channel, DEFAULT_CHANNEL, End, Greeting, NodeId, OutOfMemory, PortNo};
 use refusal_names::gsmp_refusal;
 use request_book::Answer;
 
@@ -150,7 +150,7 @@ impl Bench {
         ensures came { OnOk result (lab_in self.new notes.new ≡ cell_comes (lab_in self.old notes.old) cell.now) }
         ensures drawn { Draws 1 2 1 self.old self.new }
     {
-        if cell.header.channel == GSMP_CHANNEL {
+        if cell.header.channel == DEFAULT_CHANNEL {
             self.take_cell(cell, notes)
         } else {
             notes.push(Record::Loss {

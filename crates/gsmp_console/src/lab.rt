@@ -14,18 +14,14 @@ use console_model::{ConsoleEvent, Reply, Side};
 use gsmp_adjacency::Answer as AdjacencyAnswer;
 use gsmp_wire::Request;
 use link_model::{Cause, Notes, Record};
-use net_types::{Channel, End, Mark, OutOfMemory, PortNo};
+use net_types::{
+    CONTROL_PORT, Channel, End, GREATEST_LABEL_VCI, LAST_PORT, Mark, OutOfMemory, PortNo,
+};
 use std::alloc::Global;
 use std::marker::Model;
 
-/// The control port of the switch.
-const CONTROL_PORT: PortNo = PortNo(0);
-
-/// The ports of links at most.
-const PORTS: u8 = 8;
-
 /// No switch connects a VCI from here on.
-const VCIS: u16 = 1024;
+const VCIS: u16 = GREATEST_LABEL_VCI + 1;
 
 /// Notes that a cell of this mark is lost.
 fn note_lost(mark: Mark, notes: &mut Notes) -> Result<(), OutOfMemory>
@@ -312,7 +308,7 @@ impl Lab {
         ensures { result ≡ branch_count self.now.switch }
     {
         let mut count: usize = 0;
-        for place in 0..PORTS {
+        for place in 0..LAST_PORT {
             count += self.branches_on(place + 1);
         }
         count

@@ -10,7 +10,7 @@ ghost use Rattle.gsmp_wire.specs.Range.{FitsRow, FitsRows, IsInRange};
 use crate::exchange::Exchange;
 use crate::ports::port_of;
 use gsmp_wire::{BranchKind, Connection, FAILURE, Message, PortRow, PortRows, SUCCESS};
-use net_types::{Channel, End};
+use net_types::{Channel, End, GREATEST_LABEL_VCI, LEAST_LABEL_VCI};
 use world_model::{Failure, PortState, Request};
 
 /// The Code of a failure.
@@ -98,7 +98,7 @@ pub(crate) fn failure_answer(failure: Failure, request: &Message) -> Message
     }
 }
 
-/// The record of a port: labels are 32 to 1023.
+/// The record of a port, with the VCIs of labels.
 fn row_of(state: PortState) -> PortRow
     ensures row { result ≡ row_of state }
     ensures fits { FitsRow result }
@@ -107,8 +107,8 @@ fn row_of(state: PortState) -> PortRow
         port: state.number.0 as u32,
         session: state.session,
         up: state.is_up,
-        least: 32,
-        greatest: 1023,
+        least: LEAST_LABEL_VCI,
+        greatest: GREATEST_LABEL_VCI,
     }
 }
 

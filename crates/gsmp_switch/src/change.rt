@@ -10,15 +10,10 @@ ghost use Rattle.world_model.specs.Failures.{named_ends};
 
 use crate::cut::note_cut;
 use crate::exchange::Exchange;
+use gsmp_wire::TAKE_DOWN;
 use link_model::Notes;
-use net_types::{End, OutOfMemory, PortNo};
+use net_types::{End, LAST_PORT, OutOfMemory, PortNo};
 use world_model::Request;
-
-/// The function of Port Management that takes a port down.
-const TAKE_DOWN: u8 = 2;
-
-/// The greatest port that a switch has.
-const LAST_PORT: u8 = 8;
 
 /// Makes a branch, where the input has none.
 fn add(exchange: &mut Exchange, input: End, output: End)

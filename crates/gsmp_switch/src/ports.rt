@@ -5,12 +5,10 @@ ghost use Rattle.world_model.specs.Switch.{begun, control_port, has_port, has_se
 ghost use Rattle.world_model.specs.Requests.{managed, ports_after};
 ghost use Rattle.gsmp_switch.specs.State.{CanRaise};
 
-use net_types::{Instance, OutOfMemory, PortNo};
+use gsmp_wire::BRING_UP;
+use net_types::{CONTROL_PORT, Instance, OutOfMemory, PortNo};
 use std::alloc::Global;
 use world_model::{PortState, Request};
-
-/// The function of Port Management that brings a port up.
-const BRING_UP: u8 = 1;
 
 /// What is known of a port, if the switch has it.
 pub(crate) fn port_of(ports: &[PortState], port: PortNo) -> Option<PortState>
@@ -125,7 +123,7 @@ pub(crate) fn opened_ports(
     ensures { IfOk result (λ states. states.items ≡ map (begun own) (control_port ∷ ports.now)) }
 {
     let mut states = Vec::new(alloc);
-    states.push(begun(own, PortNo(0)))?;
+    states.push(begun(own, CONTROL_PORT))?;
     for port in ports {
         states.push(begun(own, *port))?;
     }

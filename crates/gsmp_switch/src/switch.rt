@@ -25,22 +25,16 @@ use atm_cells::Cell;
 use fabric::{Fabric, Routed};
 use frame_model::send_frame;
 use gsmp_adjacency::{Adjacency, Answer, State};
-use gsmp_wire::{Fault, Message, decode, encode};
+use gsmp_wire::{Fault, MAX_MESSAGE, Message, decode, encode};
 use link_model::{Cause, Layer, Notes, Record};
-use net_types::{Channel, End, Greeting, Mark, NodeId, Numbers, OutOfMemory, Party, PortNo};
+use net_types::{
+    CONTROL_PORT, Channel, DEFAULT_CHANNEL, End, Greeting, Mark, NodeId, Numbers, OutOfMemory,
+    Party, PortNo,
+};
 use refusal_names::gsmp_refusal;
 use std::alloc::Global;
 use std::marker::Model;
 use world_model::{Failure, PortState};
-
-/// The control port.
-const CONTROL_PORT: PortNo = PortNo(0);
-
-/// The channel of GSMP on the control port.
-const GSMP_CHANNEL: Channel = Channel { vpi: 0, vci: 15 };
-
-/// The greatest message, in octets: an All Ports answer with nine records.
-const MAX_MESSAGE: usize = 164;
 
 /// What its type says of a name, for the proof of [`Switch::say_greeting`]: each octet is one of 8
 /// bits. It does nothing.
@@ -146,7 +140,7 @@ impl Switch {
         send_frame(
             &mut self.exchange,
             CONTROL_PORT,
-            GSMP_CHANNEL,
+            DEFAULT_CHANNEL,
             mark,
             payload,
             notes,
@@ -384,7 +378,7 @@ impl Switch {
         ensures acted { OnOk result (acted self.new notes.new numbers.new ≡ cell_comes (acted self.old notes.old numbers.old) port cell.now) }
         ensures drawn { AreDrawn numbers.old numbers.new }
     {
-        if port == CONTROL_PORT && cell.header.channel == GSMP_CHANNEL {
+        if port == CONTROL_PORT && cell.header.channel == DEFAULT_CHANNEL {
             self.take_cell(cell, numbers, notes)
         } else {
             self.switch_cell(port, cell, notes)

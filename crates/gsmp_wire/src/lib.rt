@@ -14,7 +14,10 @@ mod write;
 
 pub use fault::Fault;
 pub use laws::octets_have_one_message;
-pub use message::{BranchKind, Connection, FAILURE, Head, Message, REQUEST, SUCCESS};
+pub use message::{
+    BRING_UP, BranchKind, Connection, FAILURE, Head, MAX_MESSAGE, Message, REQUEST, SUCCESS,
+    TAKE_DOWN,
+};
 pub use read::decode;
 pub use request::Request;
 pub use rows::{MOST_ROWS, PortRow, PortRows};

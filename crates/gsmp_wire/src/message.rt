@@ -10,6 +10,10 @@ use net_types::{Channel, Greeting};
 /// The LLC/SNAP header in front of a message: LLC AA AA 03, OUI 0, protocol 88 0C.
 pub(crate) const SNAP_HEADER: [u8; 8] = [0xAA, 0xAA, 0x03, 0x00, 0x00, 0x00, 0x88, 0x0C];
 
+/// The greatest message with this header, in octets: an All Ports answer with a record of 16 octets for
+/// each of nine ports.
+pub const MAX_MESSAGE: usize = 164;
+
 /// A connection management message type (RFC 1987, Connection Management Messages): which of the
 /// four messages about one branch, or all branches, of an input.
 #[derive(Clone, Copy, Debug, PartialEq, Eq)]
@@ -32,6 +36,12 @@ pub const SUCCESS: u8 = 3;
 
 /// The Result of a failure answer.
 pub const FAILURE: u8 = 4;
+
+/// The Function of a Port Management that brings its port up.
+pub const BRING_UP: u8 = 1;
+
+/// The Function of a Port Management that takes its port down.
+pub const TAKE_DOWN: u8 = 2;
 
 /// The types of messages, which the second octet tells.
 #[derive(Clone, Copy, Debug, PartialEq, Eq)]
@@ -150,7 +160,7 @@ pub enum Message {
         port: u32,
         /// Its session, in a success answer the new one.
         session: u32,
-        /// 1 brings the port up, 2 takes it down.
+        /// [`BRING_UP`] or [`TAKE_DOWN`].
         function: u8,
     },
     /// All Ports Configuration, or the answer to one.

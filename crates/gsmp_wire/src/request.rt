@@ -41,7 +41,7 @@ pub enum Request {
     PortManagement {
         /// The port.
         port: PortNo,
-        /// 1 brings it up, 2 takes it down.
+        /// [`BRING_UP`](crate::BRING_UP) or [`TAKE_DOWN`](crate::TAKE_DOWN).
         function: u8,
     },
     /// Asks for all ports.

@@ -2,11 +2,11 @@
 
 ghost use Rattle.std.specs.Prelude.{◌≡◌, ◌<◌, ◌≤◌, ◌++◌, ◌∷◌, ◌↔◌, [], length, slice_get, IsTrue};
 
+use net_types::PORTS;
 use std::marker::Model;
 
-/// The most records that an answer has, one for each port: those of the control port and of eight
-/// others. It is this project's own limit.
-pub const MOST_ROWS: usize = 9;
+/// The most records that an answer has: one for each port.
+pub const MOST_ROWS: usize = PORTS;
 
 /// A port record of an All Ports Configuration message (RFC 1987): what a switch tells of one port.
 #[derive(Clone, Copy, Debug, PartialEq, Eq)]

@@ -8,6 +8,9 @@ use crate::checksum::internet_sum;
 use octet_fields::u16_at;
 use thiserror::Error;
 
+/// The greatest packet, in octets: the MTU of a link (RFC 1954).
+pub const MAX_PACKET: usize = 1500;
+
 /// An IPv4 header validation error (RFC 1812 5.2.2): the first test that octets fail which aren't a
 /// packet that a router takes. That options and more than 1500 octets are refused is this project's
 /// own.
@@ -51,7 +54,7 @@ pub fn check(octets: &[u8]) -> Result<(), PacketFault>
     if u16_at(octets, 2) as usize != octets.len() {
         return Err(PacketFault::Length);
     }
-    if octets.len() > 1500 {
+    if octets.len() > MAX_PACKET {
         return Err(PacketFault::TooLong);
     }
     if internet_sum(&octets[..20]) != 0xffff {

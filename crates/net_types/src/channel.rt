@@ -15,6 +15,14 @@ pub struct Channel {
     pub vci: u16,
 }
 
+/// The default channel of a link, and that of GSMP on the control port: VPI 0, VCI 15 (RFC 1954, RFC
+/// 1987).
+pub const DEFAULT_CHANNEL: Channel = Channel { vpi: 0, vci: 15 };
+
+/// How many VPIs of the control port stand for those of each port of a link. The numbering is this
+/// project's own.
+pub const VPIS_PER_PORT: u16 = 16;
+
 /// An input or an output of a connection through a switch (an end): a port and a virtual channel of
 /// it (RFC 1987, Connection Management Messages).
 #[derive(Clone, Copy, Debug, PartialEq, Eq, Hash)]
@@ -33,7 +41,7 @@ pub fn on_control(port: PortNo, channel: Channel) -> Channel
     ensures { result ≡ channel_on_control port channel }
 {
     Channel {
-        vpi: 16 * port.0 as u16 + channel.vpi,
+        vpi: VPIS_PER_PORT * port.0 as u16 + channel.vpi,
         vci: channel.vci,
     }
 }

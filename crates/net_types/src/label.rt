@@ -9,10 +9,24 @@ use crate::channel::Channel;
 /// How many numbers each VPI has.
 const NUMBERS_PER_VPI: u16 = 1024;
 
-/// The channel of the label of this number: VPI number / 1024, VCI number mod 1024. The number has
-/// to be one of a label.
-pub fn label_channel(number: u16) -> Channel
-    requires { IsTrue (is_label_number number) }
+/// How many VPIs labels have, from 0 on. It is this project's own limit.
+pub const LABEL_VPIS: u16 = 16;
+
+/// The least VCI of a label: those below are reserved (I.361 2.2).
+pub const LEAST_LABEL_VCI: u16 = 32;
+
+/// The greatest VCI of a label. It is this project's own limit.
+pub const GREATEST_LABEL_VCI: u16 = 1023;
+
+/// Whether there is a label of this number: its VPI is 0 to 15 and its VCI 32 to 1023.
+pub fn is_label_number(number: u16) -> bool
+    ensures { result ≡ is_label_number number }
+{
+    number / NUMBERS_PER_VPI < LABEL_VPIS && number % NUMBERS_PER_VPI >= LEAST_LABEL_VCI
+}
+
+/// The channel of this number, be it a label's or not: VPI number / 1024, VCI number mod 1024.
+pub fn numbered_channel(number: u16) -> Channel
     ensures { result ≡ label_channel_of number }
 {
     Channel {
@@ -21,12 +35,22 @@ pub fn label_channel(number: u16) -> Channel
     }
 }
 
+/// The channel of the label of this number, as [`numbered_channel`] has it. The number has to be one of
+/// a label.
+pub fn label_channel(number: u16) -> Channel
+    requires { IsTrue (is_label_number number) }
+    ensures { result ≡ label_channel_of number }
+{
+    numbered_channel(number)
+}
+
 /// The number of the label on this channel, VPI * 1024 + VCI; `None` exactly where the channel is
 /// none of a label: where its VPI isn't 0 to 15 or its VCI isn't 32 to 1023.
 pub fn label_number(channel: Channel) -> Option<u16>
     ensures { result ≡ label_number_of channel }
 {
-    if channel.vpi < 16 && (32..NUMBERS_PER_VPI).contains(&channel.vci) {
+    let is_label = LEAST_LABEL_VCI <= channel.vci && channel.vci <= GREATEST_LABEL_VCI;
+    if channel.vpi < LABEL_VPIS && is_label {
         Some(channel.vpi * NUMBERS_PER_VPI + channel.vci)
     } else {
         None

@@ -10,6 +10,16 @@ pub struct NodeId(pub u8);
 #[derive(Clone, Copy, Debug, PartialEq, Eq, Hash)]
 pub struct PortNo(pub u8);
 
+/// The control port of a switch, at which its controller is.
+pub const CONTROL_PORT: PortNo = PortNo(0);
+
+/// The greatest number of a port that a link can name. It is this project's own limit.
+pub const LAST_PORT: u8 = 8;
+
+/// How many ports a switch has at most, and queues of cells: one for its control port and one for each
+/// port that a link can name.
+pub const PORTS: usize = 9;
+
 /// An output queue of cells in a network (a place), by the node and the side where it begins. This
 /// project's own.
 #[derive(Clone, Copy, Debug, PartialEq, Eq)]

@@ -6,14 +6,11 @@ ghost use Rattle.std.specs.Option.{option_map};
 ghost use Rattle.branch_desk.specs.Requests.{AreRising};
 ghost use Rattle.branch_desk.specs.ByEnd.{IsUnder};
 
-use branch_desk::Ticket;
+use branch_desk::{MOST_REQUESTS, Ticket};
 use gsmp_wire::Request;
 use net_types::OutOfMemory;
 use std::alloc::Global;
 use std::marker::Model;
-
-/// The most requests that stand.
-const MOST_REQUESTS: usize = 4096;
 
 /// Tickets, with room for 4,096. They must be given up.
 #[must_use]

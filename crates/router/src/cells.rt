@@ -14,15 +14,10 @@ use crate::engine::PortEngine;
 use crate::router::Router;
 use atm_cells::Cell;
 use control_link::Taker;
-use gsmp_client::DEFAULT_CHANNEL;
 use link_model::Notes;
-use net_types::{Channel, OutOfMemory, PortNo, label_number};
-
-/// The greatest port that a switch has.
-const LAST_PORT: u16 = 8;
-
-/// How many VPIs of the control link stand for those of one port.
-const PATHS_PER_PORT: u16 = 16;
+use net_types::{
+    Channel, DEFAULT_CHANNEL, LAST_PORT, OutOfMemory, PortNo, VPIS_PER_PORT, label_number,
+};
 
 /// Whether a channel is GSMP's on the control link, or the default channel of a link.
 fn is_default(channel: Channel) -> bool
@@ -60,13 +55,13 @@ impl<E: PortEngine> Router<E> {
         if is_default(channel) {
             return Some(Taker::Gsmp);
         }
-        let port = channel.vpi / PATHS_PER_PORT;
-        if port > LAST_PORT {
+        let port = channel.vpi / VPIS_PER_PORT;
+        if port > LAST_PORT as u16 {
             let _linked = self.ports();
             return None;
         }
         let on_link = Channel {
-            vpi: channel.vpi % PATHS_PER_PORT,
+            vpi: channel.vpi % VPIS_PER_PORT,
             vci: channel.vci,
         };
         self.taker_on(PortNo(port as u8), on_link)

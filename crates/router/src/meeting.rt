@@ -15,10 +15,10 @@ ghost use Rattle.router.specs.Node.{acted, ports_in};
 use crate::engine::PortEngine;
 use crate::router::Router;
 use branch_desk::BranchDone;
-use gsmp_client::{CONTROL_PORT, default_end, home_of};
+use gsmp_client::{default_end, home_of};
 use gsmp_wire::Request;
 use link_model::Notes;
-use net_types::{End, Numbers, OutOfMemory, PortNo};
+use net_types::{CONTROL_PORT, End, Numbers, OutOfMemory, PortNo};
 
 impl<E: PortEngine> Router<E> {
     /// Asks Delete All of a port that is up.
