@@ -27,7 +27,7 @@ ghost use Rattle.joining_conditions.specs.Cells.{CanHoldPacket};
 ghost use Rattle.controller.specs.Frames.{flow_on, used_at};
 
 use flow_encaps::{unwrap_default, unwrap_flow};
-use ipv4_packet::{check, protocol, source};
+use ipv4_packet::{MAX_PACKET, check, protocol, source};
 use joining_router::JoiningRouter;
 use link_model::{Layer, Notes, Record, Refusal};
 use net_types::{Mark, Numbers, OutOfMemory, PortNo};
@@ -36,9 +36,6 @@ use router::PortEngine;
 
 /// The protocol of IFMP (RFC 1953), which no sender may use.
 pub(crate) const CONTROL_PROTOCOL: u8 = 101;
-
-/// The greatest packet, in octets.
-const MAX_PACKET: usize = 1500;
 
 /// Notes why something that came is refused.
 fn refuse<E: PortEngine>(

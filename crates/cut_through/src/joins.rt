@@ -10,7 +10,7 @@ use grant_table::GrantTable;
 use gsmp_wire::Request;
 use ipv4_forward::{Next, Table};
 use ipv4_packet::{FlowId, next_hop};
-use net_types::{Addr, End, PortNo, label_channel, on_control};
+use net_types::{Addr, CONTROL_PORT, End, PortNo, label_channel, on_control};
 
 /// A cross-connect (a join), by its input and its output: cells of the input go out there, past the
 /// controller (Newman, Minshall and Lyon, cut-through; RFC 1987, Move Branch).
@@ -92,7 +92,7 @@ pub fn undo(join: &Join) -> Request
         input: join.input,
         from: join.output,
         to: End {
-            port: PortNo(0),
+            port: CONTROL_PORT,
             channel: on_control(join.input.port, join.input.channel),
         },
     }

@@ -12,7 +12,7 @@ use crate::grants::{Grants, MOST_GRANTS};
 use crate::held::Held;
 use branch_desk::BranchDone;
 use ipv4_packet::{FlowId, FlowKind, of_packet};
-use net_types::{End, OutOfMemory};
+use net_types::{End, OutOfMemory, is_label_number};
 use std::alloc::Global;
 use std::marker::Model;
 use thiserror::Error;
@@ -73,13 +73,6 @@ pub struct GrantView {
     pub input: Option<End>,
     /// Whether the peer is owed an acknowledgement when it ends, in Leaving alone.
     pub owed: bool,
-}
-
-/// Whether there is a label of this number.
-fn is_label(number: u16) -> bool
-    ensures { result ≡ is_label_number number }
-{
-    number / 1024 < 16 && number % 1024 >= 32
 }
 
 /// The outgoing labels of a port (its remote bindings, here grants): those under which it may send
@@ -377,6 +370,6 @@ impl GrantTable {
     fn is_in_range(&self, number: u16) -> bool
         ensures { result ≡ is_in_range self.now number }
     {
-        is_label(number) && self.least <= number && number <= self.greatest
+        is_label_number(number) && self.least <= number && number <= self.greatest
     }
 }

@@ -17,11 +17,8 @@ use crate::joining::JoiningRouter;
 use ipv4_forward::RouteChange;
 use join_list::Joined;
 use link_model::Notes;
-use net_types::{Channel, End, Numbers, OutOfMemory};
+use net_types::{End, Numbers, OutOfMemory, numbered_channel};
 use router::PortEngine;
-
-/// How many labels' numbers one path has.
-const NUMBERS_PER_PATH: u16 = 1024;
 
 /// The output that a join's input is led to.
 pub(crate) fn output_of(joined: &Joined) -> End
@@ -29,10 +26,7 @@ pub(crate) fn output_of(joined: &Joined) -> End
 {
     End {
         port: joined.port,
-        channel: Channel {
-            vpi: joined.label / NUMBERS_PER_PATH,
-            vci: joined.label % NUMBERS_PER_PATH,
-        },
+        channel: numbered_channel(joined.label),
     }
 }
 

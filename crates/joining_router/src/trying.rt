@@ -14,6 +14,7 @@ ghost use Rattle.joining_router.specs.Joining.{AreJoined, acted, controller_of};
 
 use crate::changing::output_of;
 use crate::joining::JoiningRouter;
+use branch_desk::MOST_ASKED;
 use cut_through::{planned_label, plans_are_the_controllers, route_of};
 use gsmp_client::{home_of, label_end};
 use gsmp_wire::Request;
@@ -23,9 +24,6 @@ use label_book::{HeldLabel, HeldState};
 use link_model::Notes;
 use net_types::{End, Numbers, OutOfMemory, PortNo};
 use router::PortEngine;
-
-/// Where so many requests stand, no join is begun.
-const MOST_ASKED: usize = 1024;
 
 /// How many labels a port can hold: 1,024 on each of 16 paths at most.
 const MOST_LABELS: usize = 16384;

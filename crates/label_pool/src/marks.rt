@@ -6,15 +6,8 @@ ghost use Rattle.net_types.specs.Label.{is_label_number};
 ghost use Rattle.label_pool.specs.Marks.{marked, is_open};
 
 use crate::between::Between;
-use net_types::{OutOfMemory, label_channel};
+use net_types::{OutOfMemory, is_label_number, label_channel};
 use std::alloc::Global;
-
-/// Whether there is a label of this number.
-fn is_label(number: u16) -> bool
-    ensures { result ≡ is_label_number number }
-{
-    number / 1024 < 16 && number % 1024 >= 32
-}
 
 /// A mark for each number of a range, set where there is a label of the number, and how many are set.
 pub(crate) fn all_spare(
@@ -30,7 +23,7 @@ pub(crate) fn all_spare(
     let mut marks = Vec::new(alloc);
     let mut count = 0;
     for place in 0..numbers {
-        let spare = is_label(least + place);
+        let spare = is_label_number(least + place);
         marks.push(spare)?;
         if spare {
             count += 1;

@@ -9,13 +9,10 @@ ghost use Rattle.script_model.specs.Texts.{name_of, port_text, channel_text};
 
 use ipv4_packet::FlowId;
 use lab_text::Text;
-use net_types::{Channel, Mark, NodeId, OutOfMemory, Place, PortNo};
+use net_types::{Channel, Mark, NodeId, OutOfMemory, Place, PortNo, numbered_channel};
 use topology::Topology;
 use value_text::{write_channel, write_mark, write_name, write_place, write_port};
 use world_model::LinkEnd;
-
-/// How many numbers of labels each VPI has.
-const NUMBERS_PER_VPI: u16 = 1024;
 
 fn write_end(out: &mut Text, names: &Topology, end: LinkEnd) -> Result<(), OutOfMemory>
     ensures { OnOk result (out.new ≡ out.old ++ end_word names.now end) }
@@ -102,11 +99,7 @@ fn write_label_at(
     out.text(" ")?;
     write_port(out, end.port)?;
     out.text(" ")?;
-    let channel = Channel {
-        vpi: number / NUMBERS_PER_VPI,
-        vci: number % NUMBERS_PER_VPI,
-    };
-    write_channel(out, channel)?;
+    write_channel(out, numbered_channel(number))?;
     out.text(" ")
 }
 

@@ -11,13 +11,10 @@ ghost use Rattle.world.specs.Running.{Runs};
 ghost use Rattle.passing.specs.Lengths.{AreLengths, all_behind, behind, behind_at, link_ports};
 ghost use Rattle.passing.specs.Look.{IsActorIn, IsInRun, IsOwnerIn};
 
-use net_types::{NodeId, OutOfMemory, Place, PortNo};
+use net_types::{NodeId, OutOfMemory, PORTS, Place, PortNo};
 use passing_laws::Reached;
 use telling_model::Standing;
 use world::{NodeController, World};
-
-/// The ports of a switch, port 0 to its controller among them.
-const PORTS: usize = 9;
 
 /// The queue lengths of an actor, in cells.
 #[derive(Clone, Copy)]

@@ -13,16 +13,13 @@ ghost use Rattle.crossbar_model.specs.Crossbar.{same_end};
 ghost use Rattle.port_actions.specs.Outlook.{Clears, Foresees, Tells, deletes, stands};
 
 use crate::actions::Actions;
-use branch_desk::Desk;
+use branch_desk::{Desk, MOST_ASKED};
 use gsmp_wire::Request;
 use indexmap::IndexMap;
 use net_types::{End, OutOfMemory, PortNo};
 use port_model::Action;
 use std::alloc::Global;
 use std::marker::Model;
-
-/// Where so many stand, only needed requests are asked.
-const MOST_ASKED: usize = 1024;
 
 /// One where the test is true, else none.
 fn one_if(test: bool) -> usize

@@ -14,7 +14,8 @@ use ipv4_packet::FlowId;
 use label_book::LabelBook;
 use label_pool::LabelPool;
 use net_types::{
-    Addr, Channel, End, Instance, NodeId, OutOfMemory, PortNo, label_channel, on_control,
+    Addr, CONTROL_PORT, Channel, End, Instance, NodeId, OutOfMemory, PortNo, label_channel,
+    on_control,
 };
 use port_model::Timers;
 use port_session::Session;
@@ -241,7 +242,7 @@ impl<P: Policy> PortState<P> {
         ensures { result ≡ control_end self.now.fixed.port number }
     {
         End {
-            port: PortNo(0),
+            port: CONTROL_PORT,
             channel: on_control(self.port, label_channel(number)),
         }
     }

@@ -6,11 +6,8 @@ ghost use Rattle.script_model.specs.Records.{has_node, has_port, is_label, has_l
 
 use ipv4_packet::FlowId;
 use link_model::Record;
-use net_types::{Channel, NodeId, Place, PortNo, label_number};
+use net_types::{LAST_PORT, NodeId, Place, PortNo, is_label_number, numbered_channel};
 use topology::Topology;
-
-/// How many numbers of labels each VPI has.
-const NUMBERS_PER_VPI: u16 = 1024;
 
 fn has_node(names: &Topology, node: NodeId) -> bool
     ensures { result ≡ has_node names.now node }
@@ -21,16 +18,14 @@ fn has_node(names: &Topology, node: NodeId) -> bool
 fn has_port(names: &Topology, node: NodeId, port: PortNo) -> bool
     ensures { result ≡ has_port names.now node port }
 {
-    has_node(names, node) && 0 < port.0 && port.0 < 9
+    has_node(names, node) && 0 < port.0 && port.0 <= LAST_PORT
 }
 
 /// Whether the number is that of a label of the script's version.
 fn is_label(names: &Topology, number: u16) -> bool
     ensures { result ≡ is_label names.now number }
 {
-    let vpi = number / NUMBERS_PER_VPI;
-    let vci = number % NUMBERS_PER_VPI;
-    label_number(Channel { vpi, vci }).is_some() && vpi < u16::from(names.vpis())
+    is_label_number(number) && numbered_channel(number).vpi < u16::from(names.vpis())
 }
 
 fn has_label(names: &Topology, node: NodeId, port: PortNo, number: u16) -> bool

@@ -7,17 +7,17 @@ ghost use Rattle.router.specs.Node.{AreLinked, ArePlaces, ports_of};
 use crate::engine::PortEngine;
 use crate::router::Router;
 use gsmp_client::Client;
-use net_types::{Addr, NodeId};
+use net_types::{Addr, NodeId, PORTS};
 use port_actions::Actions;
 use route_changes::Routes;
 use std::alloc::Global;
 
 /// The indices of ports, by their numbers.
-fn places_of<E: PortEngine>(links: &[E]) -> [Option<usize>; 9]
+fn places_of<E: PortEngine>(links: &[E]) -> [Option<usize>; PORTS]
     requires { ArePorts (ports_of (map E.seen links.now)) }
     ensures { ArePlaces (ports_of (map E.seen links.now)) result }
 {
-    let mut places = [None; 9];
+    let mut places = [None; PORTS];
     for place in 0..links.len() {
         places[links[place].port().0 as usize] = Some(place);
     }

@@ -27,12 +27,9 @@ use flow_encaps::{wrap_default, wrap_flow};
 use grant_table::GrantTable;
 use gsmp_client::{default_end, home_of, label_end};
 use ipv4_forward::{Hop, hop};
-use ipv4_packet::{FlowId, FlowKind, of_packet};
+use ipv4_packet::{FlowId, FlowKind, MAX_PACKET, of_packet};
 use link_model::{DropCause, Notes, Record};
 use net_types::{Mark, Numbers, Octets, OutOfMemory, PortNo};
-
-/// The greatest packet, in octets.
-const MAX_PACKET: usize = 1500;
 
 /// The greatest short packet, in octets: on a default channel its frame has at most four cells.
 const SHORT_PACKET: usize = 176;

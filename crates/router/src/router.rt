@@ -8,15 +8,12 @@ ghost use Rattle.router.specs.Node.{IsPlaceOf, controller_of, end_at, ports_in};
 
 use crate::engine::PortEngine;
 use gsmp_client::Client;
-use net_types::{Addr, NodeId, PortNo};
+use net_types::{Addr, LAST_PORT, NodeId, PORTS, PortNo};
 use port_actions::Actions;
 use route_changes::Routes;
 use std::alloc::Global;
 use std::marker::Model;
 use std::mem;
-
-/// The greatest port that a switch has.
-const LAST_PORT: u8 = 8;
 
 /// An IPv4 router (RFC 1812) whose links are the ports of an ATM switch, with its GSMP client. It
 /// must be given up by [`Router::abandon`].
@@ -30,7 +27,7 @@ pub struct Router<E: PortEngine> {
     /// The linked ports, ascending.
     pub(crate) links: Vec<E>,
     /// The index of each linked port among them, by its number.
-    pub(crate) places: [Option<usize>; 9],
+    pub(crate) places: [Option<usize>; PORTS],
     /// What a port at work asks is put down here.
     pub(crate) actions: Actions,
 }

@@ -9,14 +9,11 @@ use crate::queues::Queues;
 use crate::tally::{AuditCounts, Tally};
 use flow_encaps::unwrap_flow;
 use indexmap::IndexMap;
-use ipv4_packet::{FlowId, next_hop};
+use ipv4_packet::{FlowId, MAX_PACKET, next_hop};
 use lab_text::{LineFault, check_line};
 use net_types::{Mark, Octets, OutOfMemory};
 use std::alloc::Global;
 use trace_model::{Breach, Step, Taken, TraceCell, TraceEnd, TraceLabel, TraceLine, TraceRefusal};
-
-/// The most octets of a packet.
-const PACKET: usize = 1500;
 
 /// A runtime monitor of traces (an auditor): it judges a trace line by line. Each line costs a few
 /// look-ups, whatever came before. It keeps the cells that stand in queues, the frames and the
@@ -60,7 +57,7 @@ fn fits(flow: &FlowId, payload: &[u8]) -> bool
     requires { IsFlow flow.now }
     ensures { result ≡ is_none (unwrap_fault flow.now payload.now) }
 {
-    let mut packet = [0; PACKET];
+    let mut packet = [0; MAX_PACKET];
     unwrap_flow(flow, payload, &mut packet).is_ok()
 }
 

@@ -6,11 +6,8 @@ ghost use Rattle.script_model.specs.Texts.{label_text, name_of, port_text, end_t
 
 use crate::numbers::write_channel;
 use lab_text::Text;
-use net_types::{Channel, NodeId, OutOfMemory, Place, PortNo};
+use net_types::{NodeId, OutOfMemory, Place, PortNo, numbered_channel};
 use topology::Topology;
-
-/// How many numbers of labels each VPI has.
-const NUMBERS_PER_VPI: u16 = 1024;
 
 /// Appends a label by its number: the number, or in version 2 its VPI, a slash and its VCI.
 pub fn write_label(out: &mut Text, names: &Topology, number: u16) -> Result<(), OutOfMemory>
@@ -18,13 +15,7 @@ pub fn write_label(out: &mut Text, names: &Topology, number: u16) -> Result<(), 
     ensures err { OnErr result (GoesOn out.old out.new) }
 {
     if names.version() == 2 {
-        write_channel(
-            out,
-            Channel {
-                vpi: number / NUMBERS_PER_VPI,
-                vci: number % NUMBERS_PER_VPI,
-            },
-        )
+        write_channel(out, numbered_channel(number))
     } else {
         out.number(u64::from(number))
     }

@@ -12,11 +12,11 @@ ghost use Rattle.world.specs.Running.{Runs};
 
 use crate::node::NodeController;
 use crate::node_set::NodeSet;
-use crate::site::{PORTS, STARTS, Site};
+use crate::site::{STARTS, Site};
 use crate::tally::{Tally, Total};
 use crate::world::World;
 use gsmp_switch::Switch;
-use net_types::{NodeId, Numbers, OutOfMemory, Place, PortNo};
+use net_types::{NodeId, Numbers, OutOfMemory, PORTS, Place, PortNo};
 use std::alloc::Global;
 use topology::Topology;
 use world_model::{LinkEnd, PortRange};

@@ -2,14 +2,8 @@
 
 use crate::node::NodeController;
 use gsmp_switch::Switch;
-use net_types::PortNo;
+use net_types::PORTS;
 use world_model::LinkEnd;
-
-/// The port of a switch to its controller.
-pub(crate) const CONTROL_PORT: PortNo = PortNo(0);
-
-/// The most ports of a node, port 0 among them.
-pub(crate) const PORTS: usize = 9;
 
 /// One more than the most nodes of a network.
 pub(crate) const STARTS: usize = 65;

@@ -22,12 +22,11 @@ ghost use Rattle.world.specs.Running.{Runs};
 
 use crate::counts::Meter;
 use crate::node::{InjectFault, NodeController};
-use crate::site::CONTROL_PORT;
 use crate::world::World;
 use atm_cells::Cell;
 use ipv4_forward::RouteChange;
 use link_model::{Cause, Notes, Record, Refusal};
-use net_types::{Channel, Mark, NodeId, OutOfMemory, Place, PortNo};
+use net_types::{CONTROL_PORT, Channel, Mark, NodeId, OutOfMemory, Place, PortNo};
 use refusal_names::packet_refusal;
 use world_model::{Event, LinkEnd};
 
