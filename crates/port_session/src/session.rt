@@ -1,6 +1,6 @@
 //! What a port has exactly in Estab.
 
-ghost use Rattle.std.specs.Prelude.{◌≡◌, ℕ, ◌≤◌, ◌<◌, ◌+◌, [], true, false, None, Some, IsTrue, IsSome, IfOk, IfSome, OnOk, OnErr, max, length, slice_get, option_map, nat_lt, if◌then◌else◌};
+ghost use Rattle.std.specs.Prelude.{◌≡◌, ℕ, ◌≤◌, ◌<◌, ◌+◌, [], true, false, None, Some, IsTrue, IsOk, IsSome, IfOk, IfSome, OnOk, OnErr, max, length, slice_get, option_map, nat_lt, if◌then◌else◌};
 ghost use Rattle.std.specs.Option.{option_map_or};
 ghost use Rattle.std.specs.List.{list_any};
 ghost use Rattle.net_types.specs.Label.{is_label_number, label_channel_of};
@@ -292,10 +292,11 @@ impl Session {
     }
 
     /// Takes the lowest spare label for a flow that none serves. None exactly where none can be handed
-    /// out. Where memory is wanting the session is given up.
+    /// out, which needs no memory. Where memory is wanting the session is given up.
     pub fn wire(self, flow: FlowId) -> Result<(Session, Option<u16>), OutOfMemory>
         requires { label_for self.session.labels flow ≡ None }
         ensures number { (setup : Setup) → setup.least ≡ self.least → setup.greatest ≡ self.greatest → IfOk result (λ (s, number). number ≡ lowest_spare setup self.session.least self.session.greatest self.session.labels) }
+        ensures memory { (setup : Setup) → setup.least ≡ self.least → setup.greatest ≡ self.greatest → lowest_spare setup self.session.least self.session.greatest self.session.labels ≡ None → IsOk result }
         ensures range { IfOk result (λ (s, number). IfSome number (λ n. IsTrue (is_label_number n))) }
         ensures none { IfOk result (λ (s, number). number ≡ None → s ≡ self) }
         ensures some { IfOk result (λ (s, number). (n : ℕ) → number ≡ Some n → s ≡ with_labels self (entered (key_le label_number) (wiring n flow) self.session.labels)) }

@@ -403,6 +403,10 @@ module _ {C : Type 0} (seen : C → Controller) where
   a_head [] x e = absurd (cc e)
   a_head (y ∷ xs) x e = (let same : y ≡ x = cc in ap (λ z. z ∷ xs) same)
 
+  pub is_there : {A : Type 0} (xs : List A) (x : A) → slice_get xs 0 ≡ Some x → xs ≡ [] → ⊥
+  is_there [] x e h = cc e
+  is_there (y ∷ xs) x e h = cc h
+
   -- none was there, and nothing happens
   pub none_came : (old new : Network C) (place : Place) (notes : Journal) → HasTaken seen old new place None → HasCome seen old new notes (world_of seen old notes)
   none_came old new place notes t =

@@ -2,11 +2,18 @@
 
 use Rattle.std.specs.Prelude.{◌≡◌, ◌+◌, []}
 use Rattle.net_types.specs.declared.node.Place.{Place}
-use Rattle.world_model.specs.declared.event.Event.TheVariants.{Carry}
+use Rattle.world_model.specs.declared.event.Event.{Event}
+use Rattle.world_model.specs.declared.event.Event.TheVariants.{Carry, Lose}
 use Rattle.world_model.specs.Places.{queue_at}
 use Rattle.world_model.specs.Step.{step}
 use Rattle.world_model.specs.Topology.{Topology}
 use Rattle.world_model.specs.World.{World}
+
+-- a carry or a loss of an empty queue
+abbrev pub FindsNothing : World → Event → Type 0
+FindsNothing w (Carry place) = queue_at w place ≡ []
+FindsNothing w (Lose place) = queue_at w place ≡ []
+FindsNothing w event = ⊥
 
 -- *It counts*, and changes nothing else
 abbrev pub EmptyCarriesCount : Type 0

@@ -1,6 +1,6 @@
 //! What each event makes of a network.
 
-ghost use Rattle.std.specs.Prelude.{◌≡◌, ◌≤◌, ◌<◌, ◌+◌, ◌^◌, ◌∷◌, drop, length, true, IfOk, IfSome, OnErr, OnOk, None, Some};
+ghost use Rattle.std.specs.Prelude.{◌≡◌, ◌≤◌, ◌<◌, ◌+◌, ◌^◌, [], ◌∷◌, drop, length, true, IfOk, IfSome, IsOk, OnErr, OnOk, None, Some};
 ghost use Rattle.net_types.specs.Number.{HasNumbersLeft};
 ghost use Rattle.world_model.specs.Conduct as switch;
 ghost use Rattle.world_model.specs.Packets.{inject_refusal};
@@ -17,6 +17,7 @@ ghost use Rattle.world_model.specs.Topology.{Topology as Described};
 ghost use Rattle.world_model.specs.World.{at_controller, at_switch};
 ghost use Rattle.world.specs.Coming.{CanChange, HasCome, HasPort, HasQueue, HasTaken, HasWay, IsPeerIn, IsSteady, entered_by};
 ghost use Rattle.world.specs.Counted.{reading_of};
+ghost use Rattle.world.specs.Empty.{FindsNothing};
 ghost use Rattle.world.specs.Network.{IsNodeIn, world_of};
 ghost use Rattle.world.specs.Running.{Runs};
 
@@ -292,7 +293,8 @@ impl<C: NodeController> World<C> {
         requires runs { Runs C.seen topology self.old }
         requires few { self.old.events < event_limit }
         requires place { IsPlace topology place }
-        ensures { OnOk result (HasCome C.seen self.old self.new notes.new (carries_head topology (world_of C.seen self.old notes.old) place (queue_at (world_of C.seen self.old notes.old) place))) }
+        ensures come { OnOk result (HasCome C.seen self.old self.new notes.new (carries_head topology (world_of C.seen self.old notes.old) place (queue_at (world_of C.seen self.old notes.old) place))) }
+        ensures memory { queue_at (world_of C.seen self.old notes.old) place ≡ [] → IsOk result }
     {
         match self.take_head(place) {
             None => Ok(()),
@@ -305,7 +307,8 @@ impl<C: NodeController> World<C> {
         requires steady { IsSteady C.seen self.old }
         requires node { IsNodeIn self.old (place_node place) }
         requires port { queue_number place ≤ 9 }
-        ensures { OnOk result (HasCome C.seen self.old self.new notes.new (loses_head (world_of C.seen self.old notes.old) place (queue_at (world_of C.seen self.old notes.old) place))) }
+        ensures come { OnOk result (HasCome C.seen self.old self.new notes.new (loses_head (world_of C.seen self.old notes.old) place (queue_at (world_of C.seen self.old notes.old) place))) }
+        ensures memory { queue_at (world_of C.seen self.old notes.old) place ≡ [] → IsOk result }
     {
         match self.take_head(place) {
             None => Ok(()),
@@ -364,7 +367,8 @@ impl<C: NodeController> World<C> {
         ghost topology: { Described }
         requires runs { Runs C.seen topology self.old }
         requires come { CanCome topology (world_of C.seen self.old notes.old) event.now }
-        ensures { OnOk result (HasCome C.seen self.old self.new notes.new (acts topology (world_of C.seen self.old notes.old) event.now)) }
+        ensures come { OnOk result (HasCome C.seen self.old self.new notes.new (acts topology (world_of C.seen self.old notes.old) event.now)) }
+        ensures memory { FindsNothing (world_of C.seen self.old notes.old) event.now → IsOk result }
     {
         match event {
             Event::Inject { node, octets } => self.inject(*node, octets.as_slice(), notes),
@@ -385,7 +389,7 @@ impl<C: NodeController> World<C> {
 
     /// One event. What it records is put behind what the notes hold. After `Ok` the meter holds how many
     /// events this world has stepped, and its counts. A carry or a loss of an empty queue changes nothing
-    /// else. After want of memory the world can only be given up.
+    /// else, and needs no memory. After want of memory the world can only be given up.
     pub fn step(
         &mut self,
         event: &Event,
@@ -399,6 +403,7 @@ impl<C: NodeController> World<C> {
         ensures runs { OnOk result (Runs C.seen topology self.new) }
         ensures meter { OnOk result (meter.new ≡ reading_of (world_of C.seen self.new notes.new)) }
         ensures kept { OnErr result (meter.new ≡ meter.old) }
+        ensures memory { FindsNothing (world_of C.seen self.old notes.old) event.now → IsOk result }
     {
         let before = notes.len();
         self.act(event, notes)?;

@@ -2,7 +2,9 @@ use Rattle.std.proofs.Common.{rules, ◌<◌, ◌^◌, arith, sym, subst}
 use Rattle.world.specs.Coming.{HasWay}
 use Rattle.std.proofs.lemmas.Result.{on_ok_weaker}
 use Rattle.net_types.specs.Number.{HasNumbersLeft}
-use Rattle.world.proofs.Acting.{carried_came, empty_came}
+use Rattle.world_model.specs.Places.{queue_at}
+use Rattle.world.specs.Network.{world_of}
+use Rattle.world.proofs.Acting.{carried_came, empty_came, is_there}
 use Rattle.world.proofs.Conditions.{head_low, left, queue_low, steady, way_behind}
 use Rattle.world.proofs.world.World.carry.Goals as goal
 
@@ -19,10 +21,13 @@ arrive-requires g c =
     let low : c.in-Some.cell.mark.frame < 2 ^ 63 = head_low g.C.NodeController.seen g.topology c.args.self.now c.requires.1.1.0 c.args.place c.in-Some.cell c.requires.1.1.1.0 (sym c.in-Some.ensures.first) in
     search rules
 
-pub returns-in-None : goal.returns-in-None
-returns-in-None g c = empty_came g.C.NodeController.seen g.topology c.args.self.now c.take_head.new.self c.args.place c.args.notes.now c.in-None.ensures
+pub returns-in-None-clause-come : goal.returns-in-None-clause-come
+returns-in-None-clause-come g c = empty_came g.C.NodeController.seen g.topology c.args.self.now c.take_head.new.self c.args.place c.args.notes.now c.in-None.ensures
 
-pub returns-in-Some : goal.returns-in-Some
-returns-in-Some g c = on_ok_weaker c.arrive.result
+pub returns-in-Some-clause-come : goal.returns-in-Some-clause-come
+returns-in-Some-clause-come g c = on_ok_weaker c.arrive.result
     (λ h. carried_came g.C.NodeController.seen g.topology c.args.self.now c.take_head.new.self c.arrive.new.self c.args.place c.args.notes.now c.arrive.new.notes c.in-Some.cell c.in-Some.ensures h)
     c.arrive.ensures
+
+pub returns-in-Some-clause-memory : goal.returns-in-Some-clause-memory
+returns-in-Some-clause-memory g c = λ empty. absurd (is_there g.C.NodeController.seen (queue_at (world_of g.C.NodeController.seen c.args.self.now c.args.notes.now) c.args.place) c.in-Some.cell (sym c.in-Some.ensures.first) empty)
