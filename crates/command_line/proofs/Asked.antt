@@ -1,6 +1,6 @@
 -- what is read of words is the command that they ask for
 
-use Rattle.std.proofs.Common.{◌≡◌, ◌∙◌, ℕ, Bool, true, false, List, [], ◌∷◌, IfOk, Result, Ok, Err, Option, Some, None, codes, decimal, inl, inr, refl, sym, ap, subst}
+use Rattle.std.proofs.Common.{◌≡◌, ◌∙◌, ℕ, Bool, true, false, List, [], ◌∷◌, IfOk, Result, Ok, Err, Option, Some, None, OnErr, codes, decimal, inl, inr, refl, sym, ap, subst}
 use Rattle.std.specs.Prelude.{bytes_eq, if◌then◌else◌}
 use Rattle.std.specs.List.{list_any}
 use Rattle.std.specs.Option.{option_map}
@@ -17,7 +17,7 @@ use Rattle.command_line.specs.declared.command.Command.{Command}
 use Rattle.command_line.specs.declared.command.Command.TheVariants.{Replay, ReplayToml, Ideal, Rules, DecodeIfmp, DecodeGsmp, Drill, Audit, Console, Trace, Show, Journal, Capture}
 use Rattle.command_line.specs.Commands.{words_of, HasItsNumber, AskFor, IsReading}
 use Rattle.command_line.specs.Grammar.{grammar_app}
-use Rattle.command_line.specs.Reading.{drill, behind_replay, behind_decode, worded, alone, asked, command_in, is_barred, RefusedBy}
+use Rattle.command_line.specs.Reading.{drill, behind_replay, behind_decode, worded, alone, asked, said, command_in, is_barred, RefusedBy}
 use Rattle.command_line.proofs.Numbers.{drill_told, drill_read, drill_passes}
 use Rattle.command_line.proofs.Parting.{spelled, taken_of, IsGiven, replay_given, ideal_given, rules_given, audit_given, console_given, trace_given, show_given, journal_given, capture_given, replay_word_given, decode_given, drill_given}
 
@@ -165,3 +165,36 @@ refused_read words error (Ok found) has refused = record {
     only : HasKind [] error → ⊥
     only (inl memory) = refused.1 memory
     only (inr none) = none
+
+-- *Words that ask for nothing*, and those that ask for something
+said_is : (command : Command) → HasItsNumber command → said (words_of command) ≡ Some command
+said_is Replay has = refl
+said_is ReplayToml has = refl
+said_is Ideal has = refl
+said_is Rules has = refl
+said_is DecodeIfmp has = refl
+said_is DecodeGsmp has = refl
+said_is (Drill number) has = ap (option_map (λ n. Drill n)) (drill_read number has.0 has.1)
+said_is Audit has = refl
+said_is Console has = refl
+said_is Trace has = refl
+said_is Show has = refl
+said_is Journal has = refl
+said_is Capture has = refl
+
+pub none_read : (words : List Text) → said words ≡ None → IsReading words None
+none_read words none = record {
+  asked = λ command e. absurd (cc);
+  all = λ command asks. (let some : said words ≡ Some command = ap said asks.words_are ∙ said_is command asks.number in absurd (cc));
+}
+
+pub said_for : (words : List Text) (command : Command) → said words ≡ Some command → AskFor words command
+said_for [] command e = absurd (cc)
+said_for (name ∷ []) command e = asked_for name None command e
+said_for (name ∷ word ∷ []) command e = asked_for name (Some word) command e
+said_for (name ∷ word ∷ next ∷ others) command e = absurd (cc)
+
+pub some_asked : (words : List Text) (found : Option Command) (command : Command) (result : Result (Option Command) NoMemory) → found ≡ said words → found ≡ Some command
+    → OnErr result ((command : Command) × AskFor words command)
+some_asked words found command (Ok answer) is some = tt
+some_asked words found command (Err error) is some = (command, said_for words command (sym is ∙ some))

@@ -1,6 +1,6 @@
 -- How the words are read; no claim rests on these words
 
-use Rattle.std.specs.Prelude.{◌≡◌, ℕ, nat_eq, Bool, ◌||◌, List, codes, bytes_eq, Option, None, Some, Result, Ok, Err, if◌then◌else◌}
+use Rattle.std.specs.Prelude.{◌≡◌, ℕ, nat_eq, Bool, ◌||◌, List, [], ◌∷◌, codes, bytes_eq, Option, None, Some, Result, Ok, Err, if◌then◌else◌}
 use Rattle.std.specs.List.{starts_with}
 use Rattle.std.specs.Option.{option_map, option_and_then}
 use Rattle.net_types.specs.declared.memory.OutOfMemory.{OutOfMemory as NoMemory}
@@ -48,6 +48,13 @@ alone name =
 abbrev pub asked : (name : List ℕ) → (word : Option (List ℕ)) → Option Command
 asked name (Some word) = worded name word
 asked name None = alone name
+
+-- *What words ask for*: a name, and at most one word behind it
+abbrev pub said : List (List ℕ) → Option Command
+said [] = None
+said (name ∷ []) = asked name None
+said (name ∷ word ∷ []) = asked name (Some word)
+said (name ∷ word ∷ next ∷ others) = None
 
 -- *What `clap` found*: a subcommand with what its grammar calls its word
 abbrev pub command_in : Option (List ℕ × List Row) → Option Command

@@ -3,8 +3,9 @@
 ghost use Rattle.std.specs.Prelude.{◌≡◌};
 ghost use Rattle.std.specs.Option.{option_map};
 ghost use Rattle.lab_text.specs.Forms.{number_in};
-ghost use Rattle.command_line.specs.Reading.{drill, behind_replay, behind_decode, worded, alone, asked};
+ghost use Rattle.command_line.specs.Reading.{drill, behind_replay, behind_decode, worded, alone, asked, said};
 
+use crate::word::Word;
 use lab_text::read_number;
 
 /// A subcommand of the program (a command). This project's own.
@@ -116,5 +117,16 @@ pub fn asked(name: &str, word: Option<&str>) -> Option<Command>
     match word {
         Some(word) => worded(name, word),
         None => alone(name),
+    }
+}
+
+/// The command that words ask for: a name, with at most one word behind it. It takes no memory.
+pub fn said(words: &[Word]) -> Option<Command>
+    ensures { result ≡ said words.now }
+{
+    match words {
+        [name] => asked(name.as_str(), None),
+        [name, word] => asked(name.as_str(), Some(word.as_str())),
+        _ => None,
     }
 }

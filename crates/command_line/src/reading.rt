@@ -1,17 +1,18 @@
 //! Reading the words.
 
-ghost use Rattle.std.specs.Prelude.{◌≡◌, None, IfOk};
+ghost use Rattle.std.specs.Prelude.{◌≡◌, None, IfOk, OnErr};
 ghost use Rattle.std.specs.List.{list_any};
 ghost use Rattle.clap.specs.Faults.{fault_of};
 ghost use Rattle.clap.specs.Kinds.{FailsBy};
 ghost use Rattle.clap.specs.Simple.{subcommand_of, subcommand_rows_of};
 ghost use Rattle.clap.specs.Values.{kind_of};
 ghost use Rattle.clap.specs.declared.error.kind.ErrorKind.{ErrorKind};
-ghost use Rattle.command_line.specs.Commands.{IsReading};
+ghost use Rattle.command_line.specs.Commands.{AskFor, IsReading};
+ghost use Rattle.command_line.specs.declared.command.Command.{Command};
 ghost use Rattle.command_line.specs.Grammar.{grammar_app};
 ghost use Rattle.command_line.specs.Reading.{command_in, is_barred, RefusedBy};
 
-use crate::command::{Command, asked};
+use crate::command::{Command, asked, said};
 use crate::grammar::{WORD, grammar};
 use crate::word::Word;
 use clap::error::ErrorKind;
@@ -63,10 +64,15 @@ fn command_in(matches: &ArgMatches) -> Option<Command>
 }
 
 /// The command whose words these are, without the program's name; `None` exactly where they are no
-/// command's. A drill's number is 1 to 9999, in decimal without a sign or a leading zero.
+/// command's. A drill's number is 1 to 9999, in decimal without a sign or a leading zero. Want of memory
+/// comes only to words that are a command's: `clap` may tell it of any, so others never come before it.
 pub fn read_command(alloc: Global, words: &[Word]) -> Result<Option<Command>, OutOfMemory>
-    ensures { IfOk result (IsReading words.now) }
+    ensures reading { IfOk result (IsReading words.now) }
+    ensures memory { OnErr result ((command : Command) × AskFor words.now command) }
 {
+    let Some(_) = said(words) else {
+        return Ok(None);
+    };
     if has_barred(words) {
         return Ok(None);
     }

@@ -34,8 +34,8 @@ use Rattle.script_text.specs.Counts.{counted_up_to}
 use Rattle.script_text.specs.Taking.{IsAfter, Takes}
 use Rattle.telling_model.proofs.Told.{opened_notes}
 use Rattle.network_replay.specs.Along.{CanTake, HasBegun, HasNetwork, IsGoing, IsOpen, IsReady, IsUnopened}
-use Rattle.script_words.specs.declared.fault.ReadFault.{ReadFault}
-use Rattle.script_words.specs.declared.fault.ReadFault.TheVariants as read
+use Rattle.script_text.specs.declared.fault.ReadFault.{ReadFault}
+use Rattle.script_text.specs.declared.fault.ReadFault.TheVariants as read
 use Rattle.network_replay.specs.Lines.{has_events, unsaid}
 use Rattle.network_replay.proofs.Events.{node_at, table_is}
 use Rattle.network_replay.proofs.Opening.{all_ticks, few_carries, few_repeated, opened_events, opened_runs, opened_size}

@@ -21,8 +21,8 @@ use Rattle.script_text.specs.Counts.{counted_up_to}
 use Rattle.telling_model.specs.Placed.{Placed, events_in, placed_by, placed_events, placed_from}
 use Rattle.telling_model.proofs.Told.{events_append, events_placed}
 use Rattle.script_text.specs.Taking.{IsAfter, Takes}
-use Rattle.script_words.specs.declared.fault.ReadFault.{ReadFault}
-use Rattle.script_words.specs.declared.fault.ReadFault.TheVariants as read
+use Rattle.script_text.specs.declared.fault.ReadFault.{ReadFault}
+use Rattle.script_text.specs.declared.fault.ReadFault.TheVariants as read
 use Rattle.network_replay.specs.Along.{AreTaken, HasBegun, IsRead, IsReading}
 use Rattle.network_replay.specs.Lines.{HasCounted, has_events}
 

@@ -18,8 +18,8 @@ use Rattle.script_model.specs.Sayable.{IsSayable}
 use Rattle.script_model.specs.Script.{Script, events_of, led_by, number_of, script_from}
 use Rattle.script_model.specs.Reading.{state_after}
 use Rattle.script_model.specs.State.{ScriptState, nothing_read, opening_tables}
-use Rattle.script_words.specs.declared.fault.ReadFault.{ReadFault}
-use Rattle.script_words.specs.declared.fault.ReadFault.TheVariants as read
+use Rattle.script_text.specs.declared.fault.ReadFault.{ReadFault}
+use Rattle.script_text.specs.declared.fault.ReadFault.TheVariants as read
 use Rattle.telling_model.specs.Placed.{Placed, events_in, placed_events, placed_from}
 use Rattle.telling_model.specs.Tale.{Tale, body, end_of, told_of}
 use Rattle.world.specs.declared.counts.Meter.{Meter}

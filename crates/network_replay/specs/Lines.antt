@@ -8,8 +8,8 @@ use Rattle.script_model.specs.declared.line.Line.{Line}
 use Rattle.script_model.specs.declared.refusal.Refused.{Refused}
 use Rattle.script_model.specs.declared.refusal.Refused.TheVariants.{Line as LineIs}
 use Rattle.script_model.specs.State.{ScriptState}
-use Rattle.script_words.specs.declared.fault.ReadFault.{ReadFault}
-use Rattle.script_words.specs.declared.fault.ReadFault.TheVariants as fault
+use Rattle.script_text.specs.declared.fault.ReadFault.{ReadFault}
+use Rattle.script_text.specs.declared.fault.ReadFault.TheVariants as fault
 use Rattle.network_run.specs.declared.stop.Stop.{Stop}
 use Rattle.network_run.specs.declared.stop.Stop.TheVariants as stop
 use Rattle.script_model.specs.declared.line.Line.TheVariants.{Blank, Topology as TopologyIs, Event as EventComes, TickAll, Run}

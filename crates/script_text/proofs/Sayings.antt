@@ -16,9 +16,8 @@ use Rattle.script_model.specs.Meaning.{meant}
 use Rattle.script_model.specs.Sayable.{IsSayable}
 use Rattle.script_model.proofs.ReadLines.{text_is}
 use Rattle.script_model.specs.Reading.{fault_name, words_say, text_says, says_by, line_says, string_says}
-use Rattle.script_words.specs.declared.fault.ReadFault.{ReadFault}
-use Rattle.script_words.specs.declared.fault.ReadFault.TheVariants.{Refused, OutOfMemory}
-use Rattle.script_words.specs.Faults.{Reads}
+use Rattle.script_text.specs.declared.fault.ReadFault.{ReadFault}
+use Rattle.script_text.specs.declared.fault.ReadFault.TheVariants.{Refused, OutOfMemory}
 use Rattle.script_words.specs.Told.{words_said, text_said}
 use Rattle.script_text.specs.Counts.{counted_up_to}
 use Rattle.script_text.specs.Taking.{Takes}
@@ -49,11 +48,10 @@ pub text_means : (state : ScriptState) (text : List ℕ) (version : ℕ) (said :
 text_means state text version said same e =
     by_text state text ∙ ap (after (meant_by state)) (ap (λ v. text_said v text) (sym same) ∙ e)
 
-pub text_refused : {A : Type 0} (view : A → Option Said) (state : ScriptState) (text : List ℕ) (version : ℕ) (fault : ReadFault) → version ≡ state.topology.version
-    → Reads view (text_said version text) (Err fault) → Takes state (text_says state text) state (Err fault)
-text_refused view state text version (Refused refusal) same e =
-    (by_text state text ∙ ap (after (meant_by state)) (ap (λ v. text_said v text) (sym same) ∙ e), refl)
-text_refused view state text version (OutOfMemory error) same e = tt
+pub text_refused : (state : ScriptState) (text : List ℕ) (version : ℕ) (refusal : LineRefusal) → version ≡ state.topology.version
+    → text_said version text ≡ Err refusal → text_says state text ≡ Err refusal
+text_refused state text version refusal same e =
+    by_text state text ∙ ap (after (meant_by state)) (ap (λ v. text_said v text) (sym same) ∙ e)
 
 -- *Counts*
 meant_counted : (state : ScriptState) (octets lines : ℕ) (said : Said) → meant (record state { octets = octets; lines = lines }) said ≡ meant state said
@@ -108,6 +106,14 @@ line_taken state counted now line text before result counts at fine is taken =
     ap (λ (fault : Option LineFault). says_by (option_and_then fault_name fault) (text_says state (line_text line))) none
     ∙ ap (text_says state) (sym is) in
     text_taken state counted now line text (line_says state line) result counts says taken
+
+-- one that is refused for its octets
+pub line_unread : (state : ScriptState) (line : List ℕ) (before : ℕ) (fault : LineFault) (refusal : LineRefusal) → before ≡ state.octets
+    → Some fault ≡ line_fault before line → fault_name fault ≡ Some refusal → line_says state line ≡ Err refusal
+line_unread state line before fault refusal at is named =
+    let found : line_fault state.octets line ≡ Some fault = subst (λ n. line_fault n line ≡ Some fault) at (sym is) in
+    ap (λ (fault : Option LineFault). says_by (option_and_then fault_name fault) (text_says state (line_text line))) found
+    ∙ ap (λ (refusal : Option LineRefusal). says_by refusal (text_says state (line_text line))) named
 
 pub string_taken : (state counted now : ScriptState) (text : List ℕ) (result : Result Line ReadFault) → counted ≡ counted_up_to state text
     → None ≡ option_and_then fault_name (text_fault text) → Takes counted (text_says counted text) now result

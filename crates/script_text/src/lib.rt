@@ -2,6 +2,8 @@
 //! something behind the lines before it.
 #![tactic(auto)]
 
+mod description;
+mod fault;
 mod limits;
 mod names;
 mod reading;
@@ -9,7 +11,7 @@ mod state;
 mod tables;
 mod text;
 
+pub use fault::ReadFault;
 pub use reading::{read_line, read_string};
 pub use script_model::{Line, LineRefusal};
-pub use script_words::ReadFault;
 pub use state::ScriptState;

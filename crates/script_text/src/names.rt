@@ -1,11 +1,12 @@
 //! The names by which lines are refused.
 
-ghost use Rattle.std.specs.Prelude.{◌≡◌};
+ghost use Rattle.std.specs.Prelude.{◌≡◌, false, Some};
+ghost use Rattle.lab_text.specs.Line.{is_want_of_memory};
 ghost use Rattle.script_model.specs.Meaning.{topology_name, event_name};
-ghost use Rattle.script_text.specs.Taking.{IsFault};
+ghost use Rattle.script_model.specs.Reading.{fault_name};
 
 use lab_text::LineFault;
-use script_words::{LineRefusal, ReadFault};
+use script_words::LineRefusal;
 use world_model::{EventRefusal, TopologyRefusal};
 
 /// The name of what a line of the topology is refused for.
@@ -37,15 +38,16 @@ pub fn event_name(refusal: EventRefusal) -> LineRefusal
 }
 
 /// The name of what the octets of a line are refused for.
-pub fn fault_of(fault: LineFault) -> ReadFault
-    ensures { IsFault fault result }
+pub fn fault_name(fault: LineFault) -> LineRefusal
+    requires { is_want_of_memory fault ≡ false }
+    ensures { fault_name fault ≡ Some result }
 {
     match fault {
-        LineFault::ScriptTooLong => ReadFault::Refused(LineRefusal::ScriptTooLong),
-        LineFault::LineTooLong => ReadFault::Refused(LineRefusal::LineTooLong),
-        LineFault::BadByte => ReadFault::Refused(LineRefusal::BadByte),
-        LineFault::Arity => ReadFault::Refused(LineRefusal::Arity),
-        LineFault::BadHex => ReadFault::Refused(LineRefusal::BadHex),
-        LineFault::OutOfMemory(error) => ReadFault::OutOfMemory(error),
+        LineFault::ScriptTooLong => LineRefusal::ScriptTooLong,
+        LineFault::LineTooLong => LineRefusal::LineTooLong,
+        LineFault::BadByte => LineRefusal::BadByte,
+        LineFault::Arity => LineRefusal::Arity,
+        LineFault::BadHex => LineRefusal::BadHex,
+        LineFault::OutOfMemory(_) => unreachable!(),
     }
 }

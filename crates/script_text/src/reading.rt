@@ -9,14 +9,15 @@ ghost use Rattle.script_words.specs.Told.{told, side_told, HasNumbers};
 ghost use Rattle.script_text.specs.Counts.{counted_up_to, HasRoom};
 ghost use Rattle.script_text.specs.Taking.{Takes, IsAfter};
 
-use crate::names::fault_of;
+use crate::fault::ReadFault;
+use crate::names::fault_name;
 use crate::state::ScriptState;
 use crate::text::text_refusal;
 use ipv4_forward::RouteChange;
 use lab_text::check_line;
 use net_types::{NodeId, Place, PortNo};
 use script_model::Line;
-use script_words::{ReadFault, Said, Side, read_words};
+use script_words::{Said, Side, read_words};
 use world_model::Event;
 
 /// A queue of a node.
@@ -31,62 +32,58 @@ fn place_at(side: Side, node: NodeId) -> Place
 }
 
 /// What is said means something behind the lines before, or it can't.
-fn mean(state: &mut ScriptState, said: Said<'_>) -> Result<Line, ReadFault>
-    requires { HasNumbers said }
-    ensures { Takes state.old (meant state.old (told said.entry)) state.new result }
+fn mean(state: &mut ScriptState, said: &Said<'_>) -> Result<Line, ReadFault>
+    requires { HasNumbers said.now }
+    ensures { Takes state.old (meant state.old (told said.now)) state.new result }
 {
     match said {
-        Said::Describes(line) => state.describe(line),
-        Said::Sends { name, octets } => {
+        Said::Describes(said) => state.describe(said),
+        Said::Sends { name, digits } => {
             let node = state.named(name)?;
-            state.take(Line::Event(Event::Inject { node, octets }))
+            state.take_packet(node, digits)
         }
         Said::Carries { name, side } => {
-            let node = state.named(name)?;
-            let place = place_at(side, node);
-            state.take_at(place, Event::Carry(place))
+            let place = place_at(*side, state.named(name)?);
+            Ok(state.take_at(place, Event::Carry(place))?)
         }
         Said::Loses { name, side } => {
-            let node = state.named(name)?;
-            let place = place_at(side, node);
-            state.take_at(place, Event::Lose(place))
+            let place = place_at(*side, state.named(name)?);
+            Ok(state.take_at(place, Event::Lose(place))?)
         }
         Said::Ticks { name } => {
             let node = state.named(name)?;
-            state.take(Line::Event(Event::Tick(node)))
+            Ok(state.take(Line::Event(Event::Tick(node)))?)
         }
-        Said::TicksAll => state.take(Line::TickAll),
+        Said::TicksAll => Ok(state.take(Line::TickAll)?),
         Said::TicksSwitch { name } => {
             let node = state.named(name)?;
-            state.take(Line::Event(Event::TickSwitch(node)))
+            Ok(state.take(Line::Event(Event::TickSwitch(node)))?)
         }
         Said::Restarts { name } => {
             let node = state.named(name)?;
-            state.take(Line::Event(Event::Restart(node)))
+            Ok(state.take(Line::Event(Event::Restart(node)))?)
         }
         Said::RestartsSwitch { name } => {
             let node = state.named(name)?;
-            state.take(Line::Event(Event::RestartSwitch(node)))
+            Ok(state.take(Line::Event(Event::RestartSwitch(node)))?)
         }
-        Said::Runs { rounds } => state.take(Line::Run(rounds)),
+        Said::Runs { rounds } => Ok(state.take(Line::Run(*rounds))?),
         Said::Forges {
             name,
             side,
             channel,
-            payload,
+            digits,
         } => {
-            let node = state.named(name)?;
-            let place = place_at(side, node);
-            let event = Event::Forge {
-                place,
-                channel,
-                payload,
-            };
-            state.take_at(place, event)
+            let place = place_at(*side, state.named(name)?);
+            state.take_frame(place, *channel, digits)
         }
         Said::Routes { name, prefix, next } => {
             let node = state.named(name)?;
-            state.take_change(node, RouteChange { prefix, next })
+            let change = RouteChange {
+                prefix: *prefix,
+                next: *next,
+            };
+            state.take_change(node, change)
         }
     }
 }
@@ -95,17 +92,18 @@ fn mean(state: &mut ScriptState, said: Said<'_>) -> Result<Line, ReadFault>
 fn read_text(state: &mut ScriptState, text: &[u8]) -> Result<Line, ReadFault>
     ensures { Takes state.old (text_says state.old text.now) state.new result }
 {
-    match read_words(state.allocator(), state.topology().version(), text) {
+    match read_words(state.topology().version(), text) {
         Ok(None) => Ok(Line::Blank),
-        Ok(Some(said)) => mean(state, said),
-        Err(fault) => Err(fault),
+        Ok(Some(said)) => mean(state, &said),
+        Err(refusal) => Err(ReadFault::Refused(refusal)),
     }
 }
 
 /// Reads the next line of a script, with its LF or CR LF where it has one. The first test that it
 /// fails gives its refusal: `ScriptTooLong`, `LineTooLong`, `BadByte`; unless it is blank, those of its
-/// words; `Late`; and those of what it means. A refused line leaves the state as it was but for the
-/// counts of octets and lines. After want of memory the state can only be abandoned.
+/// words; `Late`; and those of what it means. Want of memory comes only to a line that none of them
+/// refuses. A refused line, and one that memory was wanting for, leave the state as it was but for the
+/// counts of octets and lines.
 pub fn read_line(state: &mut ScriptState, line: &[u8]) -> Result<Line, ReadFault>
     ensures said { Takes (counted_up_to state.old line.now) (line_says state.old line.now) state.new result }
     ensures after { HasRoom state.old line.now → IsAfter state.old line.now state.new result }
@@ -115,7 +113,7 @@ pub fn read_line(state: &mut ScriptState, line: &[u8]) -> Result<Line, ReadFault
     state.count_line(line);
     match check_line(before, line) {
         Ok(text) => read_text(state, text),
-        Err(fault) => Err(fault_of(fault)),
+        Err(fault) => Err(ReadFault::Refused(fault_name(fault))),
     }
 }
 

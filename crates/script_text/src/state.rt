@@ -1,31 +1,46 @@
 //! What the lines of a script so far say.
 
-ghost use Rattle.std.specs.Prelude.{◌≡◌, ◌≤◌, ◌-◌, length, IfOk, OnOk, None, slice_set, true, false};
+ghost use Rattle.std.specs.Prelude.{◌≡◌, ◌≤◌, ◌-◌, length, IfOk, OnOk, OnErr, None, slice_set, true, false};
 ghost use Rattle.ipv4_forward.specs.Change.{changed, change_fault};
-ghost use Rattle.world_model.specs.declared.event.Event.TheVariants.{Route as RouteComes};
+ghost use Rattle.std.specs.Char.{is_ascii_hexdigit};
+ghost use Rattle.std.specs.List.{list_all};
+ghost use Rattle.lab_text.specs.Numeral.{paired};
+ghost use Rattle.world_model.specs.declared.event.Event.TheVariants.{Forge as ForgeComes, Inject as InjectComes, Route as RouteComes};
 ghost use Rattle.world_model.specs.Conditions.{IsNode, HasItsNumbers};
 ghost use Rattle.world_model.specs.Events.{place_refusal, route_event_refusal, event_refusal};
-ghost use Rattle.world_model.specs.Lines.{is_linked};
-ghost use Rattle.script_model.specs.declared.line.Line.TheVariants.{Event as EventComes};
+ghost use Rattle.world_model.specs.Lines.{is_linked, line_refusal};
 ghost use Rattle.script_model.specs.State.{nothing_read, table_of, ticks_of, with_said, with_event_line, tables_after};
 ghost use Rattle.script_model.specs.Meaning.{is_late, describes, comes, limited};
+ghost use Rattle.script_model.specs.Reading.{state_by};
+ghost use Rattle.script_words.specs.Told.{described};
 ghost use Rattle.script_text.specs.Counts.{counted_up_to, passes, with_counts};
 ghost use Rattle.script_text.specs.Taking.{Takes, FindsNode};
 
+use crate::description::{description_refusal, line_of};
+use crate::fault::ReadFault;
 use crate::limits::{EVENT_LINES, ROUNDS, TICKS, counted, rounds_of, ticks_of_event};
 use crate::names::{event_name, topology_name};
 use crate::tables::Tables;
 use ipv4_forward::{Next, RouteChange};
-use net_types::{NodeId, OutOfMemory, Place, PortNo};
+use lab_text::hex_pairs;
+use net_types::{Channel, NodeId, Octets, OutOfMemory, Place, PortNo};
 use script_model::Line;
-use script_words::{LineRefusal, ReadFault};
+use script_words::{Described, LineRefusal};
 use std::alloc::Global;
 use std::marker::Model;
 use topology::{RouteList, Topology, TopologyFault};
 use world_model::{Event, EventRefusal, TopologyLine};
 
+/// The octets that hexadecimal digits spell.
+fn octets_of(alloc: Global, digits: &[u8]) -> Result<Octets, OutOfMemory>
+    requires { list_all is_ascii_hexdigit digits.now ≡ true }
+    ensures { IfOk result (λ octets. octets ≡ paired digits.now) }
+{
+    Ok(Octets::new(hex_pairs(alloc, digits)?))
+}
+
 /// A line would pass a limit.
-const TOO_MANY: ReadFault = ReadFault::Refused(LineRefusal::TooMany);
+const TOO_MANY: LineRefusal = LineRefusal::TooMany;
 
 /// The parser state of a script: the topology of the lines so far, the routes of its nodes as the
 /// route lines set them, and the counts of octets, lines, event lines, rounds and ticks. The counts
@@ -118,11 +133,6 @@ impl ScriptState {
         self.ticks
     }
 
-    /// The allocator of what is kept.
-    pub(crate) fn allocator(&self) -> Global {
-        self.alloc
-    }
-
     /// A line counts, also where it is refused.
     pub(crate) fn count_line(&mut self, line: &[u8])
         ensures { self.new ≡ counted_up_to self.old line.now }
@@ -132,40 +142,39 @@ impl ScriptState {
     }
 
     /// The node of this name. Refuses `UnknownName`.
-    pub(crate) fn named(&self, name: &[u8]) -> Result<NodeId, ReadFault>
+    pub(crate) fn named(&self, name: &[u8]) -> Result<NodeId, LineRefusal>
         ensures { FindsNode self.now.topology name.now result }
     {
         match self.topology.node_of(name) {
             Some(node) => Ok(node),
-            None => Err(ReadFault::Refused(LineRefusal::UnknownName)),
+            None => Err(LineRefusal::UnknownName),
         }
     }
 
-    fn is_late(&self, line: &TopologyLine) -> bool
-        ensures { result ≡ is_late self.now line.now }
+    fn is_late(&self, said: &Described<'_>) -> bool
+        ensures { result ≡ is_late self.now (described said.now) }
     {
-        match line {
-            TopologyLine::Version { .. } => self.has_line,
-            TopologyLine::Node { .. }
-            | TopologyLine::Cells { .. }
-            | TopologyLine::Labels { .. }
-            | TopologyLine::Link { .. }
-            | TopologyLine::RouteVia { .. }
-            | TopologyLine::RouteLocal { .. }
-            | TopologyLine::PolicyXy { .. }
-            | TopologyLine::PolicyNever
-            | TopologyLine::Timers { .. } => 0 < self.event_lines,
+        match said {
+            Described::Version { .. } => self.has_line,
+            Described::Node { .. }
+            | Described::Cells { .. }
+            | Described::Labels { .. }
+            | Described::Link { .. }
+            | Described::RouteVia { .. }
+            | Described::RouteLocal { .. }
+            | Described::PolicyXy { .. }
+            | Described::PolicyNever
+            | Described::Timers { .. } => 0 < self.event_lines,
         }
     }
 
-    /// Adds what a line says of the topology. Refuses `Late` and then what the topology refuses.
-    pub(crate) fn describe(&mut self, line: TopologyLine) -> Result<Line, ReadFault>
-        requires { HasItsNumbers line }
+    /// Adds a line of the topology that isn't refused.
+    fn add(&mut self, line: TopologyLine) -> Result<Line, ReadFault>
+        requires numbers { HasItsNumbers line }
+        requires in_time { is_late self.old line ≡ false }
+        requires fits { line_refusal self.old.topology line ≡ None }
         ensures { Takes self.old (describes self.old line) self.new result }
     {
-        if self.is_late(&line) {
-            return Err(ReadFault::Refused(LineRefusal::Late));
-        }
         match self.topology.line(&line) {
             Ok(()) => {
                 self.tables = None;
@@ -177,6 +186,22 @@ impl ScriptState {
             }
             Err(TopologyFault::OutOfMemory(error)) => Err(ReadFault::OutOfMemory(error)),
         }
+    }
+
+    /// Adds what is said of the topology. Refuses `Late` and then what the topology refuses. Want of memory
+    /// comes only where nothing is refused, and changes nothing.
+    pub(crate) fn describe(&mut self, said: &Described<'_>) -> Result<Line, ReadFault>
+        requires { HasItsNumbers (described said.now) }
+        ensures { Takes self.old (describes self.old (described said.now)) self.new result }
+    {
+        if self.is_late(said) {
+            return Err(ReadFault::Refused(LineRefusal::Late));
+        }
+        if let Some(refusal) = description_refusal(&self.topology, said) {
+            return Err(ReadFault::Refused(topology_name(refusal)));
+        }
+        let line = line_of(self.alloc, said)?;
+        self.add(line)
     }
 
     fn ticks_of(&self, line: &Line) -> u32
@@ -212,9 +237,10 @@ impl ScriptState {
     }
 
     /// Takes an event line that changes no table. Refuses `TooMany`.
-    pub(crate) fn take(&mut self, line: Line) -> Result<Line, ReadFault>
+    pub(crate) fn take(&mut self, line: Line) -> Result<Line, LineRefusal>
         requires { with_said self.old line ≡ with_event_line self.old line }
-        ensures { Takes self.old (limited self.old line) self.new result }
+        ensures said { result ≡ limited self.old line }
+        ensures state { self.new ≡ state_by self.old result }
     {
         let rounds = rounds_of(&line);
         let ticks = self.ticks_of(&line);
@@ -223,6 +249,20 @@ impl ScriptState {
         }
         self.count(rounds, ticks);
         Ok(line)
+    }
+
+    /// Takes a packet that is sent, of which these are the digits. Refuses `TooMany`. Want of memory comes
+    /// only where nothing is refused, and changes nothing.
+    pub(crate) fn take_packet(&mut self, node: NodeId, digits: &[u8]) -> Result<Line, ReadFault>
+        requires { list_all is_ascii_hexdigit digits.now ≡ true }
+        ensures { Takes self.old (comes self.old (InjectComes node (paired digits.now))) self.new result }
+    {
+        if self.is_too_many(0, 0) {
+            return Err(ReadFault::Refused(TOO_MANY));
+        }
+        let octets = octets_of(self.alloc, digits)?;
+        self.count(0, 0);
+        Ok(Line::Event(Event::Inject { node, octets }))
     }
 
     fn is_linked(&self, node: NodeId, port: PortNo) -> bool
@@ -247,15 +287,42 @@ impl ScriptState {
     }
 
     /// Takes an event of a queue. Refuses `NoLink` and `TooMany`.
-    pub(crate) fn take_at(&mut self, place: Place, event: Event) -> Result<Line, ReadFault>
+    pub(crate) fn take_at(&mut self, place: Place, event: Event) -> Result<Line, LineRefusal>
         requires tables { tables_after self.old.tables event ≡ self.old.tables }
         requires place { event_refusal self.old.topology (table_of self.old) event ≡ place_refusal self.old.topology place }
-        ensures { Takes self.old (comes self.old event) self.new result }
+        ensures said { result ≡ comes self.old event }
+        ensures state { self.new ≡ state_by self.old result }
+    {
+        if let Some(refusal) = self.place_refusal(place) {
+            return Err(event_name(refusal));
+        }
+        self.take(Line::Event(event))
+    }
+
+    /// Takes a frame that is forged, of whose payload these are the digits. Refuses `NoLink` and `TooMany`.
+    /// Want of memory comes only where nothing is refused, and changes nothing.
+    pub(crate) fn take_frame(
+        &mut self,
+        place: Place,
+        channel: Channel,
+        digits: &[u8],
+    ) -> Result<Line, ReadFault>
+        requires { list_all is_ascii_hexdigit digits.now ≡ true }
+        ensures { Takes self.old (comes self.old (ForgeComes place channel (paired digits.now))) self.new result }
     {
         if let Some(refusal) = self.place_refusal(place) {
             return Err(ReadFault::Refused(event_name(refusal)));
         }
-        self.take(Line::Event(event))
+        if self.is_too_many(0, 0) {
+            return Err(ReadFault::Refused(TOO_MANY));
+        }
+        let payload = octets_of(self.alloc, digits)?;
+        self.count(0, 0);
+        Ok(Line::Event(Event::Forge {
+            place,
+            channel,
+            payload,
+        }))
     }
 
     /// The routes of a node behind the lines so far.
@@ -281,22 +348,24 @@ impl ScriptState {
         self.table(node).change_refusal(change)
     }
 
-    /// Makes a change in the routes of a node.
+    /// Makes a change in the routes of a node. Want of memory changes nothing.
     fn change_table(&mut self, node: NodeId, change: &RouteChange) -> Result<(), OutOfMemory>
         requires node { IsNode self.old.topology node }
         requires can { change_fault (table_of self.old node) change.now ≡ None }
-        ensures { OnOk result (self.new ≡ record self.old { tables = slice_set self.old.tables (node.0 - 1) (changed (table_of self.old node) change.now) }) }
+        ensures ok { OnOk result (self.new ≡ record self.old { tables = slice_set self.old.tables (node.0 - 1) (changed (table_of self.old node) change.now) }) }
+        ensures err { OnErr result (self.new ≡ self.old) }
     {
         let mut tables = match self.tables.take() {
             Some(tables) => tables,
             None => Tables::opening(self.alloc, &self.topology)?,
         };
-        tables.change(node, change)?;
+        let changed = tables.change(node, change);
         self.tables = Some(tables);
-        Ok(())
+        changed
     }
 
-    /// Takes a change of a route. Refuses `NoLink`, `TableFull` or `NoPrefix`, and `TooMany`.
+    /// Takes a change of a route. Refuses `NoLink`, `TableFull` or `NoPrefix`, and `TooMany`. Want of memory
+    /// comes only where nothing is refused, and changes nothing.
     pub(crate) fn take_change(
         &mut self,
         node: NodeId,
@@ -309,7 +378,7 @@ impl ScriptState {
             return Err(ReadFault::Refused(event_name(refusal)));
         }
         if self.is_too_many(0, 0) {
-            return Err(TOO_MANY);
+            return Err(ReadFault::Refused(TOO_MANY));
         }
         self.change_table(node, &change)?;
         self.count(0, 0);

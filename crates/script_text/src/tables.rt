@@ -1,6 +1,6 @@
 //! The routes of each node, as the route lines so far set them.
 
-ghost use Rattle.std.specs.Prelude.{◌≡◌, ◌-◌, ◌≤◌, length, None, IfOk, OnOk, slice_set};
+ghost use Rattle.std.specs.Prelude.{◌≡◌, ◌-◌, ◌≤◌, length, None, IfOk, OnOk, OnErr, slice_set};
 ghost use Rattle.ipv4_forward.specs.Change.{changed, change_fault};
 ghost use Rattle.script_model.specs.State.{table_in, opening_tables};
 
@@ -46,11 +46,12 @@ impl Tables {
         &self.list[node.0 as usize - 1]
     }
 
-    /// Makes a change that isn't refused.
+    /// Makes a change that isn't refused. Want of memory changes nothing.
     pub fn change(&mut self, node: NodeId, change: &RouteChange) -> Result<(), OutOfMemory>
         requires node { (1 ≤ node.0) × (node.0 ≤ length self.old) }
         requires can { change_fault (table_in self.old node) change.now ≡ None }
         ensures ok { OnOk result (self.new ≡ slice_set self.old (node.0 - 1) (changed (table_in self.old node) change.now)) }
+        ensures err { OnErr result (self.new ≡ self.old) }
         ensures len { length self.new ≡ length self.old }
     {
         change_in(&mut self.list, node, change)
@@ -65,6 +66,7 @@ fn change_in(
     requires node { (1 ≤ node.0) × (node.0 ≤ length tables.old.items) }
     requires can { change_fault (table_in tables.old.items node) change.now ≡ None }
     ensures ok { OnOk result (tables.new.items ≡ slice_set tables.old.items (node.0 - 1) (changed (table_in tables.old.items node) change.now)) }
+    ensures err { OnErr result (tables.new.items ≡ tables.old.items) }
     ensures len { length tables.new.items ≡ length tables.old.items }
 {
     tables[node.0 as usize - 1].change(change)

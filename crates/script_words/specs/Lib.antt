@@ -1,3 +1,4 @@
 pub mod Faults
+pub mod Keywords
 pub mod Told
 pub mod Ways

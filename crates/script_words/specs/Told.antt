@@ -1,6 +1,9 @@
 -- What is read, as the definitions of the language say it
 
-use Rattle.std.specs.Prelude.{ℕ, List, [], ◌∷◌, Option, None, Some, Result, Ok, if◌then◌else◌}
+use Rattle.std.specs.Prelude.{◌≡◌, ℕ, true, List, [], ◌∷◌, Option, None, Some, Result, Ok, if◌then◌else◌}
+use Rattle.std.specs.Char.{is_ascii_hexdigit}
+use Rattle.std.specs.List.{list_all}
+use Rattle.lab_text.specs.Numeral.{paired}
 use Rattle.lab_text.specs.Words.{words, is_blank_text}
 use Rattle.script_model.specs.declared.keyword.Keyword.{Keyword}
 use Rattle.script_model.specs.declared.refusal.LineRefusal.{LineRefusal}
@@ -8,9 +11,13 @@ use Rattle.script_model.specs.Forms as forms
 use Rattle.script_model.specs.Forms.{after}
 use Rattle.script_model.specs.Grammar as grammar
 use Rattle.script_model.specs.Grammar.{said, said_of}
+use Rattle.world_model.specs.declared.line.TopologyLine.{TopologyLine}
+use Rattle.world_model.specs.declared.line.TopologyLine.TheVariants as lines
 use Rattle.world_model.specs.Conditions.{HasItsNumbers}
 use Rattle.script_words.specs.declared.said.Side.{Side}
 use Rattle.script_words.specs.declared.said.Side.TheVariants.{FromController, FromPort}
+use Rattle.script_words.specs.declared.said.Described.{Described}
+use Rattle.script_words.specs.declared.said.Described.TheVariants.{Node, Cells, Labels, Link, RouteVia, RouteLocal, PolicyXy, PolicyNever, Timers, Version}
 use Rattle.script_words.specs.declared.said.Said.{Said}
 use Rattle.script_words.specs.declared.said.Said.TheVariants.{Describes, Sends, Carries, Loses, Ticks, TicksAll, TicksSwitch, Restarts, RestartsSwitch, Runs, Forges, Routes}
 
@@ -18,9 +25,23 @@ abbrev pub side_told : Side → forms.Side
 side_told FromController = forms.FromController
 side_told (FromPort port) = forms.FromPort port.0
 
+-- as a line of the topology
+abbrev pub described : Described → TopologyLine
+described (Node name address) = lines.Node name.now address
+described (Cells name cells) = lines.Cells name.now cells
+described (Labels name port lo hi) = lines.Labels name.now port lo hi
+described (Link first first_port second second_port) = lines.Link (first.now, first_port) (second.now, second_port)
+described (RouteVia name prefix port) = lines.RouteVia name.now prefix port
+described (RouteLocal name prefix) = lines.RouteLocal name.now prefix
+described (PolicyXy x y) = lines.PolicyXy x y
+described PolicyNever = lines.PolicyNever
+described (Timers lifetime refresh idle) = lines.Timers lifetime refresh idle
+described (Version version) = lines.Version version
+
+-- digits are those of octets
 abbrev pub told : Said → grammar.Said
-told (Describes line) = grammar.Describes line
-told (Sends name octets) = grammar.Sends name.now octets
+told (Describes line) = grammar.Describes (described line)
+told (Sends name digits) = grammar.Sends name.now (paired digits.now)
 told (Carries name side) = grammar.Carries name.now (side_told side)
 told (Loses name side) = grammar.Loses name.now (side_told side)
 told (Ticks name) = grammar.Ticks name.now
@@ -29,12 +50,14 @@ told (TicksSwitch name) = grammar.TicksSwitch name.now
 told (Restarts name) = grammar.Restarts name.now
 told (RestartsSwitch name) = grammar.RestartsSwitch name.now
 told (Runs rounds) = grammar.Runs rounds
-told (Forges name side channel payload) = grammar.Forges name.now (side_told side) channel payload
+told (Forges name side channel digits) = grammar.Forges name.now (side_told side) channel (paired digits.now)
 told (Routes name prefix next) = grammar.Routes name.now prefix next
 
--- the numbers of a line of the topology are within their limits
+-- the numbers of a line of the topology are within their limits, and digits are hexadecimal
 abbrev pub HasNumbers : Said → Type 0
-HasNumbers (Describes line) = HasItsNumbers line
+HasNumbers (Describes line) = HasItsNumbers (described line)
+HasNumbers (Sends name digits) = list_all is_ascii_hexdigit digits.now ≡ true
+HasNumbers (Forges name side channel digits) = list_all is_ascii_hexdigit digits.now ≡ true
 HasNumbers said = Unit {0}
 
 -- what is said behind a first word whose lines are the same in every version

@@ -4,37 +4,32 @@ ghost use Rattle.std.specs.Prelude.{◌≡◌, IfOk};
 ghost use Rattle.lab_text.specs.Words.{words};
 ghost use Rattle.script_model.specs.declared.keyword.Keyword.TheVariants as word;
 ghost use Rattle.script_model.specs.Grammar.{Carries, Loses, TicksSwitch, Restarts, RestartsSwitch};
-ghost use Rattle.script_words.specs.Faults.{Reads, ok_as};
+ghost use Rattle.script_words.specs.Faults.{ok_as};
 ghost use Rattle.script_words.specs.Told.{told, side_told, said_alike, HasNumbers};
 
-use crate::fault::ReadFault;
 use crate::forms::{
-    read_name, read_name_or_all, read_number_in, read_octets, read_payload, read_prefix,
+    read_digits, read_name, read_name_or_all, read_number_in, read_payload_digits, read_prefix,
 };
 use crate::places::{read_channel, read_queue};
 use crate::routes::{Way, way_of};
 use crate::said::{Said, Side};
 use script_model::LineRefusal;
-use std::alloc::Global;
 use word_forms::{one_word, three_words, two_words};
 
 /// The most rounds of a script.
 const ROUNDS: u32 = 100_000;
 
-/// A line has another number of words than its first word wants.
-const ARITY: ReadFault = ReadFault::Refused(LineRefusal::Arity);
-
 /// `send NAME OCTETS`
-pub fn send_line<'a>(alloc: Global, rest: &'a [u8]) -> Result<Said<'a>, ReadFault>
-    ensures said { Reads told (said_alike word.Send (words rest.now)) result }
+pub fn send_line<'a>(rest: &'a [u8]) -> Result<Said<'a>, LineRefusal>
+    ensures said { ok_as told result ≡ said_alike word.Send (words rest.now) }
     ensures numbers { IfOk result HasNumbers }
 {
-    let Some((name, octets)) = two_words(rest) else {
-        return Err(ARITY);
+    let Some((name, digits)) = two_words(rest) else {
+        return Err(LineRefusal::Arity);
     };
     let name = read_name(name)?;
-    let octets = read_octets(alloc, octets)?;
-    Ok(Said::Sends { name, octets })
+    let digits = read_digits(digits)?;
+    Ok(Said::Sends { name, digits })
 }
 
 /// The one word of `carry QUEUE` and `lose QUEUE`
@@ -49,8 +44,8 @@ fn queue_word(rest: &[u8]) -> Result<(&[u8], Side), LineRefusal>
 }
 
 /// `carry QUEUE`
-pub fn carry_line<'a>(rest: &'a [u8]) -> Result<Said<'a>, ReadFault>
-    ensures said { Reads told (said_alike word.Carry (words rest.now)) result }
+pub fn carry_line<'a>(rest: &'a [u8]) -> Result<Said<'a>, LineRefusal>
+    ensures said { ok_as told result ≡ said_alike word.Carry (words rest.now) }
     ensures numbers { IfOk result HasNumbers }
 {
     let (name, side) = queue_word(rest)?;
@@ -58,8 +53,8 @@ pub fn carry_line<'a>(rest: &'a [u8]) -> Result<Said<'a>, ReadFault>
 }
 
 /// `lose QUEUE`
-pub fn lose_line<'a>(rest: &'a [u8]) -> Result<Said<'a>, ReadFault>
-    ensures said { Reads told (said_alike word.Lose (words rest.now)) result }
+pub fn lose_line<'a>(rest: &'a [u8]) -> Result<Said<'a>, LineRefusal>
+    ensures said { ok_as told result ≡ said_alike word.Lose (words rest.now) }
     ensures numbers { IfOk result HasNumbers }
 {
     let (name, side) = queue_word(rest)?;
@@ -67,12 +62,12 @@ pub fn lose_line<'a>(rest: &'a [u8]) -> Result<Said<'a>, ReadFault>
 }
 
 /// `tick NAME` or `tick *`
-pub fn tick_line<'a>(rest: &'a [u8]) -> Result<Said<'a>, ReadFault>
-    ensures said { Reads told (said_alike word.Tick (words rest.now)) result }
+pub fn tick_line<'a>(rest: &'a [u8]) -> Result<Said<'a>, LineRefusal>
+    ensures said { ok_as told result ≡ said_alike word.Tick (words rest.now) }
     ensures numbers { IfOk result HasNumbers }
 {
     let Some(name) = one_word(rest) else {
-        return Err(ARITY);
+        return Err(LineRefusal::Arity);
     };
     match read_name_or_all(name)? {
         Some(name) => Ok(Said::Ticks { name }),
@@ -93,8 +88,8 @@ fn name_word(rest: &[u8]) -> Result<&[u8], LineRefusal>
 }
 
 /// `tickswitch NAME`
-pub fn tick_switch_line<'a>(rest: &'a [u8]) -> Result<Said<'a>, ReadFault>
-    ensures said { Reads told (said_alike word.TickSwitch (words rest.now)) result }
+pub fn tick_switch_line<'a>(rest: &'a [u8]) -> Result<Said<'a>, LineRefusal>
+    ensures said { ok_as told result ≡ said_alike word.TickSwitch (words rest.now) }
     ensures numbers { IfOk result HasNumbers }
 {
     let name = name_word(rest)?;
@@ -102,8 +97,8 @@ pub fn tick_switch_line<'a>(rest: &'a [u8]) -> Result<Said<'a>, ReadFault>
 }
 
 /// `restart NAME`
-pub fn restart_line<'a>(rest: &'a [u8]) -> Result<Said<'a>, ReadFault>
-    ensures said { Reads told (said_alike word.Restart (words rest.now)) result }
+pub fn restart_line<'a>(rest: &'a [u8]) -> Result<Said<'a>, LineRefusal>
+    ensures said { ok_as told result ≡ said_alike word.Restart (words rest.now) }
     ensures numbers { IfOk result HasNumbers }
 {
     let name = name_word(rest)?;
@@ -111,8 +106,8 @@ pub fn restart_line<'a>(rest: &'a [u8]) -> Result<Said<'a>, ReadFault>
 }
 
 /// `restartswitch NAME`
-pub fn restart_switch_line<'a>(rest: &'a [u8]) -> Result<Said<'a>, ReadFault>
-    ensures said { Reads told (said_alike word.RestartSwitch (words rest.now)) result }
+pub fn restart_switch_line<'a>(rest: &'a [u8]) -> Result<Said<'a>, LineRefusal>
+    ensures said { ok_as told result ≡ said_alike word.RestartSwitch (words rest.now) }
     ensures numbers { IfOk result HasNumbers }
 {
     let name = name_word(rest)?;
@@ -120,39 +115,39 @@ pub fn restart_switch_line<'a>(rest: &'a [u8]) -> Result<Said<'a>, ReadFault>
 }
 
 /// `run ROUNDS`
-pub fn run_line<'a>(rest: &'a [u8]) -> Result<Said<'a>, ReadFault>
-    ensures said { Reads told (said_alike word.Run (words rest.now)) result }
+pub fn run_line<'a>(rest: &'a [u8]) -> Result<Said<'a>, LineRefusal>
+    ensures said { ok_as told result ≡ said_alike word.Run (words rest.now) }
     ensures numbers { IfOk result HasNumbers }
 {
     let Some(rounds) = one_word(rest) else {
-        return Err(ARITY);
+        return Err(LineRefusal::Arity);
     };
     let rounds = read_number_in(rounds, 1, ROUNDS)?;
     Ok(Said::Runs { rounds })
 }
 
 /// `forge QUEUE CHANNEL PAYLOAD`
-pub fn forge_line<'a>(alloc: Global, rest: &'a [u8]) -> Result<Said<'a>, ReadFault>
-    ensures said { Reads told (said_alike word.Forge (words rest.now)) result }
+pub fn forge_line<'a>(rest: &'a [u8]) -> Result<Said<'a>, LineRefusal>
+    ensures said { ok_as told result ≡ said_alike word.Forge (words rest.now) }
     ensures numbers { IfOk result HasNumbers }
 {
-    let Some((queue, channel, payload)) = three_words(rest) else {
-        return Err(ARITY);
+    let Some((queue, channel, digits)) = three_words(rest) else {
+        return Err(LineRefusal::Arity);
     };
     let (name, side) = read_queue(queue)?;
     let channel = read_channel(channel)?;
-    let payload = read_payload(alloc, payload)?;
+    let digits = read_payload_digits(digits)?;
     Ok(Said::Forges {
         name,
         side,
         channel,
-        payload,
+        digits,
     })
 }
 
 /// `setroute NAME PREFIX via PORT` or `setroute NAME PREFIX local`
-pub fn set_route_line<'a>(rest: &'a [u8]) -> Result<Said<'a>, ReadFault>
-    ensures said { Reads told (said_alike word.SetRoute (words rest.now)) result }
+pub fn set_route_line<'a>(rest: &'a [u8]) -> Result<Said<'a>, LineRefusal>
+    ensures said { ok_as told result ≡ said_alike word.SetRoute (words rest.now) }
     ensures numbers { IfOk result HasNumbers }
 {
     match way_of(rest) {
@@ -161,17 +156,17 @@ pub fn set_route_line<'a>(rest: &'a [u8]) -> Result<Said<'a>, ReadFault>
             prefix,
             next: Some(next),
         }),
-        Err(refusal) => Err(ReadFault::Refused(refusal)),
+        Err(refusal) => Err(refusal),
     }
 }
 
 /// `unroute NAME PREFIX`
-pub fn unroute_line<'a>(rest: &'a [u8]) -> Result<Said<'a>, ReadFault>
-    ensures said { Reads told (said_alike word.Unroute (words rest.now)) result }
+pub fn unroute_line<'a>(rest: &'a [u8]) -> Result<Said<'a>, LineRefusal>
+    ensures said { ok_as told result ≡ said_alike word.Unroute (words rest.now) }
     ensures numbers { IfOk result HasNumbers }
 {
     let Some((name, prefix)) = two_words(rest) else {
-        return Err(ARITY);
+        return Err(LineRefusal::Arity);
     };
     let name = read_name(name)?;
     let prefix = read_prefix(prefix)?;

@@ -1,18 +1,18 @@
 //! The forms of words that say one value.
 
-ghost use Rattle.std.specs.Prelude.{◌≡◌, IfOk};
+ghost use Rattle.std.specs.Prelude.{◌≡◌, true, IfOk};
+ghost use Rattle.std.specs.Char.{is_ascii_hexdigit};
 ghost use Rattle.std.specs.List.{list_all};
 ghost use Rattle.std.specs.Option.{option_map};
 ghost use Rattle.lab_text.specs.Forms.{is_name, is_letter, is_name_octet};
+ghost use Rattle.lab_text.specs.Numeral.{paired};
 ghost use Rattle.script_model.specs.Forms.{NameWord, NameOrAll, AddressWord, PrefixWord, NumberWord, HexWord, PayloadWord, read};
 ghost use Rattle.world_model.specs.Conditions.{IsPort, IsWithin};
-ghost use Rattle.script_words.specs.Faults.{Reads, ok_as};
+ghost use Rattle.script_words.specs.Faults.{ok_as};
 
-use crate::fault::ReadFault;
-use lab_text::read_hex;
-use net_types::{Addr, Octets, PortNo, Prefix};
+use lab_text::is_hex;
+use net_types::{Addr, PortNo, Prefix};
 use script_model::LineRefusal;
-use std::alloc::Global;
 use word_forms::{address_of, number_in, prefix_of};
 
 /// The most octets of a forged frame's payload.
@@ -116,30 +116,29 @@ pub fn read_time(word: &[u8]) -> Result<u16, LineRefusal>
     Ok(ticks as u16)
 }
 
-/// Octets in hexadecimal. Refuses `BadHex`.
-pub fn read_octets(alloc: Global, word: &[u8]) -> Result<Octets, ReadFault>
-    ensures { Reads (λ octets. octets) (read HexWord word.now) result }
+/// The digits of octets in hexadecimal. Refuses `BadHex`.
+pub fn read_digits(word: &[u8]) -> Result<&[u8], LineRefusal>
+    ensures octets { ok_as (λ digits. paired digits.now) result ≡ read HexWord word.now }
+    ensures digits { IfOk result (λ digits. list_all is_ascii_hexdigit digits.now ≡ true) }
 {
-    match read_hex(alloc, word) {
-        Ok(Some(octets)) => Ok(Octets::new(octets)),
-        Ok(None) => Err(ReadFault::Refused(LineRefusal::BadHex)),
-        Err(error) => Err(ReadFault::OutOfMemory(error)),
+    if is_hex(word) {
+        Ok(word)
+    } else {
+        Err(LineRefusal::BadHex)
     }
 }
 
-/// The payload of a forged frame in hexadecimal, at most 1,528 octets. Refuses `BadHex` and then
-/// `BadLength`.
-pub fn read_payload(alloc: Global, word: &[u8]) -> Result<Octets, ReadFault>
-    ensures { Reads (λ octets. octets) (read PayloadWord word.now) result }
+/// The digits of a forged frame's payload in hexadecimal, at most 1,528 octets. Refuses `BadHex` and
+/// then `BadLength`.
+pub fn read_payload_digits(word: &[u8]) -> Result<&[u8], LineRefusal>
+    ensures octets { ok_as (λ digits. paired digits.now) result ≡ read PayloadWord word.now }
+    ensures digits { IfOk result (λ digits. list_all is_ascii_hexdigit digits.now ≡ true) }
 {
-    match read_hex(alloc, word) {
-        Ok(Some(octets)) => {
-            if octets.len() > PAYLOAD {
-                return Err(ReadFault::Refused(LineRefusal::BadLength));
-            }
-            Ok(Octets::new(octets))
-        }
-        Ok(None) => Err(ReadFault::Refused(LineRefusal::BadHex)),
-        Err(error) => Err(ReadFault::OutOfMemory(error)),
+    if !is_hex(word) {
+        Err(LineRefusal::BadHex)
+    } else if PAYLOAD < word.len() / 2 {
+        Err(LineRefusal::BadLength)
+    } else {
+        Ok(word)
     }
 }

@@ -1,9 +1,8 @@
 //! A parser of the words of a script's lines: how each form of a word is read, and what a line says
-//! by its words, with nodes by their names.
+//! by its words, with nodes by their names. No call takes memory.
 #![tactic(auto)]
 
 mod event_lines;
-mod fault;
 mod forms;
 mod keyword;
 mod places;
@@ -12,7 +11,6 @@ mod routes;
 mod said;
 mod topology_lines;
 
-pub use fault::ReadFault;
 pub use reader::read_words;
-pub use said::{Said, Side};
+pub use said::{Described, Said, Side};
 pub use script_model::LineRefusal;

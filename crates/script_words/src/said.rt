@@ -1,8 +1,7 @@
 //! What the words of a line say.
 
 use ipv4_forward::Next;
-use net_types::{Channel, Octets, PortNo, Prefix};
-use world_model::TopologyLine;
+use net_types::{Addr, Channel, PortNo, Prefix};
 
 /// The output queue of a node that a line names (its side). This project's own.
 #[derive(Clone, Copy, Debug, PartialEq, Eq)]
@@ -19,13 +18,13 @@ pub enum Side {
 #[derive(Debug, Drop)]
 pub enum Said<'a> {
     /// Something of the topology.
-    Describes(TopologyLine),
+    Describes(Described<'a>),
     /// A node sends a packet.
     Sends {
         /// The node's name.
         name: &'a [u8],
-        /// The packet's octets.
-        octets: Octets,
+        /// The packet's octets, two hexadecimal digits of either case for each.
+        digits: &'a [u8],
     },
     /// The first cell of a queue is carried to its other end.
     Carries {
@@ -76,8 +75,8 @@ pub enum Said<'a> {
         side: Side,
         /// The channel of the cells: VPI 0 to 255.
         channel: Channel,
-        /// The frame's payload, at most 1,528 octets.
-        payload: Octets,
+        /// The octets of the frame's payload, at most 1,528, two hexadecimal digits of either case for each.
+        digits: &'a [u8],
     },
     /// A route of a node changes.
     Routes {

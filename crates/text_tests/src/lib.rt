@@ -16,6 +16,8 @@ mod line_text_tests;
 #[cfg(test)]
 mod record_text_tests;
 #[cfg(test)]
+mod refusal_text_tests;
+#[cfg(test)]
 mod rule_tests;
 #[cfg(test)]
 mod script_text_tests;

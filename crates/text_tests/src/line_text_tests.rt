@@ -2,6 +2,7 @@
 
 use lab_text::Text;
 use line_text::write_line;
+use net_types::OutOfMemory;
 use script_text::{ReadFault, ScriptState, read_line};
 use std::alloc::Global;
 
@@ -46,9 +47,14 @@ node n1 10.0.1.1
 labels n1 8 0/32 15/1023
 ";
 
+/// A line with an LF.
+fn whole(alloc: Global, line: &str) -> Result<String, OutOfMemory> {
+    Ok(format!(in alloc; "{line}\n")?)
+}
+
 /// Whether a line with an LF is written as it was read.
 fn comes_back(alloc: Global, state: &mut ScriptState, line: &str) -> Result<bool, ReadFault> {
-    let whole = format!(in alloc; "{line}\n")?;
+    let whole = whole(alloc, line)?;
     let said = read_line(state, whole.as_bytes())?;
     let mut text = Text::new(alloc);
     write_line(&said, state.topology(), &mut text)?;

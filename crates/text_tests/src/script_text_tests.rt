@@ -2,7 +2,7 @@
 
 use net_types::OutOfMemory;
 use script_text::{Line, LineRefusal, ReadFault, ScriptState, read_line, read_string};
-use std::alloc::{AllocError, Global};
+use std::alloc::Global;
 
 /// Two nodes with a link.
 const TWO: &str = "node a 10.0.1.1\nnode b 10.0.3.1\nlink a:1 b:1\nroute a 10.0.0.0/8 via 1\n";
@@ -204,7 +204,7 @@ fn string_refusal(
     refused(read_string(state, text))
 }
 
-fn is_named(alloc: Global, refusal: LineRefusal, name: &str) -> Result<bool, AllocError> {
+fn is_named(alloc: Global, refusal: LineRefusal, name: &str) -> Result<bool, OutOfMemory> {
     Ok(format!(in alloc; "{refusal:?}")?.as_str() == name)
 }
 
@@ -236,11 +236,16 @@ fn repeat(state: &mut ScriptState, line: &[u8], times: u32) -> Result<(), ReadFa
     Ok(())
 }
 
+/// A line with a number in it.
+fn numbered(alloc: Global, front: &str, number: u32, back: &str) -> Result<String, OutOfMemory> {
+    Ok(format!(in alloc; "{front}{number}{back}")?)
+}
+
 /// As many nodes as there can be.
 fn nodes(alloc: Global) -> Result<ScriptState, ReadFault> {
     let mut state = ScriptState::new(alloc)?;
     for i in 0..64 {
-        let line = format!(in alloc; "node n{i} 10.0.1.1")?;
+        let line = numbered(alloc, "node n", i, " 10.0.1.1")?;
         take(&mut state, line.as_bytes())?;
     }
     Ok(state)
@@ -273,7 +278,7 @@ fn a_script_has_its_limits(rt: HostRuntime) -> Result<(), ReadFault> {
 fn routes(alloc: Global) -> Result<ScriptState, ReadFault> {
     let mut state = behind(alloc, "node a 10.0.1.1")?;
     for i in 0..256 {
-        let line = format!(in alloc; "route a 10.0.{i}.0/24 local")?;
+        let line = numbered(alloc, "route a 10.0.", i, ".0/24 local")?;
         take(&mut state, line.as_bytes())?;
     }
     Ok(state)
@@ -324,7 +329,7 @@ const LONGEST: [(&str, usize, &str, Option<LineRefusal>); 5] = [
     ("forge a:1 0/15 ", 3058, "", Some(LineRefusal::BadLength)),
 ];
 
-fn long_line(alloc: Global, first: &str, count: usize, end: &str) -> Result<Vec<u8>, AllocError> {
+fn long_line(alloc: Global, first: &str, count: usize, end: &str) -> Result<Vec<u8>, OutOfMemory> {
     let mut line = first.as_bytes().to_vec(alloc)?;
     line.extend_from_slice(vec![in alloc; b'0'; count]?.as_slice())?;
     line.extend_from_slice(end.as_bytes())?;

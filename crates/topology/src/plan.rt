@@ -89,12 +89,10 @@ impl Plan {
     {
         match line {
             TopologyLine::Node { name, address } => self.node_line(name.as_slice(), *address),
-            TopologyLine::Cells { name, cells } => {
-                match self.cells_line(name.as_slice(), *cells) {
-                    Ok(()) => Ok(()),
-                    Err(refusal) => Err(TopologyFault::Refused(refusal)),
-                }
-            }
+            TopologyLine::Cells { name, cells } => match self.set_cells(name.as_slice(), *cells) {
+                Ok(()) => Ok(()),
+                Err(refusal) => Err(TopologyFault::Refused(refusal)),
+            },
             TopologyLine::Labels { name, port, lo, hi } => {
                 self.labels_line(name.as_slice(), *port, *lo, *hi)
             }
@@ -160,7 +158,7 @@ impl Plan {
         Ok(())
     }
 
-    fn cells_line(&mut self, name: &[u8], cells: u32) -> Result<(), TopologyRefusal>
+    fn set_cells(&mut self, name: &[u8], cells: u32) -> Result<(), TopologyRefusal>
         ensures { Makes self.old (after_line self.old (lines.Cells name.now cells)) self.new result }
     {
         let Some(node) = self.named(name) else {

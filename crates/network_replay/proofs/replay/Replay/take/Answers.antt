@@ -1,6 +1,6 @@
 use Rattle.std.proofs.Common.{◌∙◌, Bool, Option, Result, Ok, Err, None, OnOk, ap, subst, sym}
 use Rattle.lab_io.specs.Fault.{count_after}
-use Rattle.script_words.specs.declared.fault.ReadFault.{ReadFault}
+use Rattle.script_text.specs.declared.fault.ReadFault.{ReadFault}
 use Rattle.script_model.specs.declared.line.Line.{Line}
 use Rattle.script_model.specs.declared.refusal.Refused.{Refused}
 use Rattle.network_run.specs.declared.stop.Stop.{Stop}
