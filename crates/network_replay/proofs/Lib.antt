@@ -3,4 +3,5 @@ pub mod Opening
 pub mod Taking
 pub mod Events
 pub mod Course
+pub mod Metered
 pub mod Onward

@@ -1,6 +1,6 @@
 -- what is told of a replay, line by line
 
-use Rattle.std.proofs.Common.{◌≡◌, ℕ, zero, suc, true, false, Bool, List, [], ◌∷◌, ◌++◌, append_assoc, append-nil, Option, None, Some, Result, Ok, Err, OnOk, refl, sym, ◌∙◌, ap, subst, arith}
+use Rattle.std.proofs.Common.{◌≡◌, ℕ, zero, suc, true, false, Bool, List, [], ◌∷◌, ◌++◌, append_assoc, append-nil, Option, None, Some, Result, Ok, Err, OnErr, OnOk, refl, sym, ◌∙◌, ap, subst, arith}
 use Rattle.std.specs.Prelude.{◌<◌, ◌==◌, if◌then◌else◌}
 use Rattle.std.specs.Result.{IsErrAnd}
 use Rattle.std.proofs.lemmas.Bool.Decides.{nat_tests}
@@ -33,13 +33,14 @@ use Rattle.world.specs.Running.{Runs}
 use Rattle.network_run.specs.declared.stop.Stop.{Stop}
 use Rattle.network_run.specs.declared.stop.Stop.TheVariants.{OutOfMemory}
 use Rattle.network_run.specs.declared.told.Told.{Told}
-use Rattle.network_run.specs.Telling.{IsLeft, Puts, meter_behind}
+use Rattle.network_run.specs.Telling.{IsLeft, IsMeterIn, Puts, meter_behind}
 use Rattle.network_run.proofs.Telling.{left_before, none_of, nothing_put, put_then, puts_then, stops_by}
-use Rattle.network_run.proofs.Repeated.{meter_append, meter_then}
+use Rattle.network_run.proofs.Repeated.{meter_append, meter_then, meter_there}
 use Rattle.network_replay.specs.declared.replay.Replay.{Replay}
 use Rattle.network_replay.specs.Along.{AreTaken, EndsScript, GoesOn, HasBegun, HasNetwork, HasStepped, IsAlong, IsAtLast, IsOpen, IsRead, IsReading, IsWhole, Knows, last_told, opening_known, opening_told, told_by, world_behind}
 use Rattle.network_replay.specs.Lines.{has_events, unsaid}
 use Rattle.network_replay.proofs.Course.{counted_network, network_of, quiet_events, quiet_network}
+use Rattle.network_replay.proofs.Metered.{meter_stays}
 use Rattle.network_replay.proofs.Taking.{begins, begun_stays, events_more, lines_more, onward_end, onward_refused, onward_said, placed_end, placed_refused, placed_said, stays, taken_first, taken_next}
 
 -- *Whether a number is 0*
@@ -60,6 +61,10 @@ moved (Err stop) x one other e p = tt
 knows_moved : {A : Type 0} (q : Result (Unit {0}) Stop) (n : ℕ) (x one other : A) → one ≡ other → OnOk q (x ≡ one) → OnOk q (0 < n → x ≡ other)
 knows_moved (Ok v) n x one other e p = λ low. p ∙ e
 knows_moved (Err stop) n x one other e p = tt
+
+on_err_moved : (q : Result (Unit {0}) Stop) (one other : Type 0) → (one → other) → OnErr q one → OnErr q other
+on_err_moved (Ok v) one other f p = tt
+on_err_moved (Err stop) one other f p = f p
 
 module _ {S : Type 0} (tale : Tale S) (choice : Topology → Policy) where
   abbrev opening : Topology → World
@@ -149,6 +154,7 @@ module _ {S : Type 0} (tale : Tale S) (choice : Topology → Policy) where
           put = nothing_put told.writer written;
           knows = subst (λ ps. Knows tale choice r.state ps (known told.teller)) (sym all) (knows_same state r.state placed (known told.teller) lines stay knows);
           meter_is = sym (ap (meter_behind meter r.state.topology (world_behind choice r.state.topology (events_in placed))) none);
+          kept = tt;
         }
       where
         quiet_lines : (state : ScriptState) (line : List ℕ) (said : Line) → has_events said ≡ false → (state_after state line (Ok said)).event_lines ≡ state.event_lines
@@ -189,10 +195,10 @@ module _ {S : Type 0} (tale : Tale S) (choice : Topology → Policy) where
           ∙ sym (told_more t placed more) ∙ sym (told_some r.state (placed ++ more) begun)
 
       -- no network came of it
-      pub stepped_none : (result : Result (Unit {0}) Stop) (stop : Stop) (new : Replay C) (told later : Told T) (written wrote : Option (List ℕ)) (meter after : Meter) → IsErrAnd result (λ s. s ≡ stop)
-          → IsLeft stop told.writer later.writer written wrote (opening_told tale choice t r.world) → HasStepped seen known tale choice state said placed result r new told later written wrote meter after
-      stepped_none (Ok v) stop new told later written wrote meter after e left = absurd e
-      stepped_none (Err s) stop new told later written wrote meter after e left = record {
+      pub stepped_none : (result : Result (Unit {0}) Stop) (stop : Stop) (new : Replay C) (told later : Told T) (written wrote : Option (List ℕ)) (meter : Meter) → IsErrAnd result (λ s. s ≡ stop)
+          → IsLeft stop told.writer later.writer written wrote (opening_told tale choice t r.world) → HasStepped seen known tale choice state said placed result r new told later written wrote meter meter
+      stepped_none (Ok v) stop new told later written wrote meter e left = absurd e
+      stepped_none (Err s) stop new told later written wrote meter e left = record {
         network = tt;
         octets = piece;
         onward = piece_onward;
@@ -200,6 +206,7 @@ module _ {S : Type 0} (tale : Tale S) (choice : Topology → Policy) where
             (left_before stop told.writer later.writer written wrote (opening_told tale choice t r.world) (told_from t placed more).octets left);
         knows = tt;
         meter_is = tt;
+        kept = record { count = 0; within = omega arith; reading = refl };
       }
 
       module _ (n : Network C) (o : IsOpen seen (choice state.topology) state r.notes n (events_in placed)) where
@@ -218,8 +225,9 @@ module _ {S : Type 0} (tale : Tale S) (choice : Topology → Policy) where
             → Puts result mid.writer later.writer between wrote (Rattle.telling_model.specs.Tale.told tale (known mid.teller) u (world_of seen n x.notes) (placed_events number (events_of u said))).octets
             → OnOk result (known later.teller ≡ (Rattle.telling_model.specs.Tale.told tale (known mid.teller) u (world_of seen n x.notes) (placed_events number (events_of u said))).state)
             → OnOk result (after ≡ meter_behind meter u (world_of seen n x.notes) (events_of u said))
+            → OnErr result (IsMeterIn meter u (world_of seen n x.notes) (events_of u said) after)
             → HasStepped seen known tale choice state said placed result r new told later written wrote meter after
-        stepped result x new now u number notes told mid later written between wrote meter after can knows rest named numbered kept opened_put opened_known made runs put knew read =
+        stepped result x new now u number notes told mid later written between wrote meter after can knows rest named numbered kept opened_put opened_known made runs put knew read some =
             let a : u ≡ t = named ∙ ap (λ (q : Replay C). q.state.topology) rest in
             let b : world_of seen n x.notes ≡ put_away (world_behind choice t (events_in placed)) = ap (λ (q : Replay C). world_of seen n q.notes) rest ∙ world_is in
             let c : number ≡ number_of state = numbered ∙ ap (λ (q : Replay C). q.state.lines) rest ∙ ap (λ (s : ScriptState). s.lines) was ∙ lines_more state line said in
@@ -239,14 +247,12 @@ module _ {S : Type 0} (tale : Tale S) (choice : Topology → Policy) where
                   (told_to t (placed ++ more)).state (ap (λ (one : Telling S). one.state) tells ∙ sym (known_more t placed more)) knew;
               meter_is = moved result after (meter_behind meter u (world_of seen n x.notes) (events_of u said)) (meter_behind meter t (world_behind choice t (events_in placed)) (events_of state.topology said))
                   ((λ i. meter_behind meter (a i) (b i) (d i)) ∙ meter_then meter t (opening t) (put_away (world_behind choice t (events_in placed))) (events_in placed) (events_of state.topology said) refl) read;
+              kept = on_err_moved result (IsMeterIn meter u (world_of seen n x.notes) (events_of u said) after) (IsMeterIn meter t (world_behind choice t (events_in placed)) (events_of state.topology said) after)
+                  (λ k. meter_there meter t (opening t) (put_away (world_behind choice t (events_in placed))) (events_in placed) (events_of state.topology said) after refl
+                  (subst (λ (es : List Event). IsMeterIn meter t (put_away (world_behind choice t (events_in placed))) es after) d
+                  (subst (λ (w : World). IsMeterIn meter t w (events_of u said) after) b
+                  (subst (λ (v : Topology). IsMeterIn meter v (world_of seen n x.notes) (events_of u said) after) a k)))) some;
             }
-
-    -- *The meter* stays
-    same_meter : (before : Meter) (state : ScriptState) (topology : Topology) (notes : Journal) (world : Option (Network C)) (events : List Event) → HasNetwork seen choice state notes world events → (HasBegun state → topology ≡ state.topology)
-        → meter_behind before state.topology (opening state.topology) events ≡ meter_behind before topology (opening topology) events
-    same_meter before state topology notes None events h stay =
-        ap (meter_behind before state.topology (opening state.topology)) h.events_are ∙ sym (ap (meter_behind before topology (opening topology)) h.events_are)
-    same_meter before state topology notes (Some n) events h stay = ap (λ (t : Topology). meter_behind before t (opening t) events) (sym (stay h.0))
 
     -- *What a script of these lines tells* begins with what was told
     pub record Begins (script : Script) (all : List Placed) (state : ScriptState) (placed : List Placed) : Type 0 where
@@ -344,7 +350,7 @@ module _ {S : Type 0} (tale : Tale S) (choice : Topology → Policy) where
           let all : events_in h.placed ++ evs ≡ events_in (h.placed ++ more) = sym (events_more h.placed (number_of state) evs) in
           let stay : HasBegun state → t ≡ state.topology = λ begun. ap (λ (q : ScriptState). q.topology) was ∙ (begun_stays state line said begun (reading.sayable state line said e)).1 in
           let on_meter : after ≡ meter_behind before t (opening t) (events_in (h.placed ++ more)) =
-          s.meter_is ∙ ap (λ (x : Meter). meter_behind x t (world_behind choice t (events_in h.placed)) evs) (h.meter_is ∙ same_meter before state t old.notes old.world (events_in h.placed) h.network stay)
+          s.meter_is ∙ ap (λ (x : Meter). meter_behind x t (world_behind choice t (events_in h.placed)) evs) (h.meter_is ∙ meter_stays seen choice before state t old.notes old.world (events_in h.placed) h.network stay)
           ∙ meter_append before t (opening t) (events_in h.placed) evs ∙ ap (meter_behind before t (opening t)) all in
           record {
             placed = h.placed ++ more;

@@ -1,6 +1,6 @@
 -- What a replay has come to behind some lines of its script
 
-use Rattle.std.specs.Prelude.{◌≡◌, ℕ, ◌+◌, ◌*◌, ◌<◌, ◌≤◌, ◌==◌, true, List, [], ◌∷◌, ◌++◌, length, map, Option, None, Some, Result, Ok, Err, OnOk, if◌then◌else◌}
+use Rattle.std.specs.Prelude.{◌≡◌, ℕ, ◌+◌, ◌*◌, ◌<◌, ◌≤◌, ◌==◌, true, List, [], ◌∷◌, ◌++◌, length, map, Option, None, Some, Result, Ok, Err, OnErr, OnOk, if◌then◌else◌}
 use Rattle.std.specs.List.{sum_by}
 use Rattle.link_model.specs.Notes.{Journal}
 use Rattle.lab_io.specs.Report.{IsPut, Writer}
@@ -28,7 +28,7 @@ use Rattle.world.specs.Network.{no_notes, sites_of, world_of}
 use Rattle.world.specs.Running.{Runs}
 use Rattle.network_run.specs.declared.stop.Stop.{Stop}
 use Rattle.network_run.specs.declared.told.Told.{Told}
-use Rattle.network_run.specs.Telling.{IsLeft, Puts, meter_behind}
+use Rattle.network_run.specs.Telling.{IsLeft, IsMeterIn, Puts, meter_behind}
 use Rattle.network_replay.specs.declared.replay.Replay.{Replay}
 
 -- *Lines were taken*, none of them refused: whatever lines follow, the script begins with these events, and goes on
@@ -137,6 +137,7 @@ pub record HasStepped {C T S : Type 0} (seen : C → Controller) (known : T → 
   pub put : Puts result told.writer later.writer written wrote octets
   pub knows : OnOk result (Knows tale choice old.state (placed ++ placed_events (number_of state) (events_of state.topology said)) (known later.teller))
   pub meter_is : OnOk result (after ≡ meter_behind meter old.state.topology (world_behind choice old.state.topology (events_in placed)) (events_of state.topology said))
+  pub kept : OnErr result (IsMeterIn meter old.state.topology (world_behind choice old.state.topology (events_in placed)) (events_of state.topology said) after)
 
 -- *A script has run*, up to its end or to what is refused in it; its end is still to be told. These are its events
 pub record IsWhole {C : Type 0} (seen : C → Controller) (choice : Topology → Policy) (script : Script) (placed : List Placed) (refused : Option Refused) (r : Replay C) : Type 0 where
@@ -177,3 +178,12 @@ GoesOn seen known tale choice says first start before lines line (Ok (Some refus
 GoesOn seen known tale choice says first start before lines line (Err stop) r told written meter =
     (others : List (List ℕ)) → let script = script_from says nothing_read (lines ++ line ∷ others) in
     IsLeft stop first told.writer start written (body tale (choice script.topology) script (placed_from says nothing_read (lines ++ line ∷ others)))
+
+-- *The meter* is at one of a script's events, or as it was before the first
+abbrev pub IsMetered : (choice : Topology → Policy) → (before : Meter) → Script → Meter → Type 0
+IsMetered choice before script meter = IsMeterIn before script.topology (opened (choice script.topology) script.topology) script.events meter
+
+-- so it is where a line ended early, whatever lines follow
+abbrev pub IsKept : (choice : Topology → Policy) → (says : ScriptState → List ℕ → Result Line LineRefusal) → (before : Meter) → (lines : List (List ℕ)) → (line : List ℕ) → Result (Option Refused) Stop → Meter → Type 0
+IsKept choice says before lines line result meter =
+    OnErr result ((others : List (List ℕ)) → IsMetered choice before (script_from says nothing_read (lines ++ line ∷ others)) meter)

@@ -1,8 +1,8 @@
 //! The events of a line.
 
-ghost use Rattle.std.specs.Prelude.{◌≡◌, ◌≤◌, ◌+◌, [], length, true, OnOk};
+ghost use Rattle.std.specs.Prelude.{◌≡◌, ◌≤◌, ◌+◌, [], length, true, OnErr, OnOk};
 ghost use Rattle.lab_io.specs.Fault.{count_after};
-ghost use Rattle.network_run.specs.Telling.{Puts, StaysWithin, is_failed, meter_behind};
+ghost use Rattle.network_run.specs.Telling.{IsMeterIn, Puts, StaysWithin, is_failed, meter_behind};
 ghost use Rattle.script_model.specs.Script.{events_of};
 ghost use Rattle.telling_model.specs.Placed.{placed_events};
 ghost use Rattle.telling_model.specs.Tale.{told as telling};
@@ -53,6 +53,7 @@ pub fn run_line<C: NodeController, T: Teller<C>, K: Sink>(
     ensures room { StaysWithin told.old.writer told.new.writer }
     ensures faults { K.faults sink.new ≡ count_after (is_failed result) (K.faults sink.old) }
     ensures meter { OnOk result (meter.new ≡ meter_behind meter.old topology (world_of C.seen world.old notes.old) (events_of topology said.now)) }
+    ensures kept { OnErr result (IsMeterIn meter.old topology (world_of C.seen world.old notes.old) (events_of topology said.now) meter.new) }
 {
     match said {
         Line::Blank | Line::Topology(_) => Ok(()),

@@ -1,6 +1,6 @@
 //! The replay of a script, line by line.
 
-ghost use Rattle.std.specs.Prelude.{◌≡◌, ◌+◌, ◌<◌, ◌≤◌, ◌^◌, ℕ, List, Option, None, Some, Result, Ok, IfOk, OnOk, is_ok, true};
+ghost use Rattle.std.specs.Prelude.{◌≡◌, ◌+◌, ◌<◌, ◌≤◌, ◌^◌, ℕ, List, Option, None, Some, Result, Ok, IfOk, OnOk, is_ok, true, false};
 ghost use Rattle.lab_io.specs.Fault.{count_after};
 ghost use Rattle.lab_io.specs.Report.{Writer};
 ghost use Rattle.network_run.specs.Telling.{Puts, StaysWithin, is_failed};
@@ -19,7 +19,7 @@ ghost use Rattle.world_model.specs.World.{opened};
 ghost use Rattle.world.specs.Network.{no_notes, world_of};
 ghost use Rattle.world.specs.Running.{Runs};
 ghost use Rattle.network_replay.specs.Lines.{HasCounted, unsaid};
-ghost use Rattle.network_replay.specs.Along.{CanTake, GoesOn, HasNetwork, HasStepped, IsAlong, IsBegun, IsGoing, IsOpen, IsRead, IsReading, IsReady, IsWhole, Knows, last_told, opening_known, opening_told};
+ghost use Rattle.network_replay.specs.Along.{CanTake, GoesOn, HasNetwork, HasStepped, IsAlong, IsBegun, IsGoing, IsKept, IsOpen, IsRead, IsReading, IsReady, IsWhole, Knows, last_told, opening_known, opening_told};
 
 use crate::line_run::{has_events, run_line};
 use crate::policy::PolicyChoice;
@@ -172,6 +172,7 @@ impl<C: NodeController> Replay<C> {
     ) -> Result<Option<Refused>, Stop>
         requires ready { CanTake C.seen (N.chosen choice.now) self.old read }
         ensures along { (says : SoFar → List ℕ → Result Says Name) (state : SoFar) (first : Writer) (start : Option (List ℕ)) (before : Reading) (lines : List (List ℕ)) (line : List ℕ) → IsReading says → IsAlong C.seen T.state T.tale (N.chosen choice.now) says first start before lines (record self.old { state = state }) told.old (K.written sink.old) meter.old → IsRead says state line read self.old.state → GoesOn C.seen T.state T.tale (N.chosen choice.now) says first start before lines line result self.new told.new (K.written sink.new) meter.new }
+        ensures kept { (says : SoFar → List ℕ → Result Says Name) (state : SoFar) (first : Writer) (start : Option (List ℕ)) (before : Reading) (lines : List (List ℕ)) (line : List ℕ) → IsReading says → IsAlong C.seen T.state T.tale (N.chosen choice.now) says first start before lines (record self.old { state = state }) told.old (K.written sink.old) meter.old → IsRead says state line read self.old.state → IsKept (N.chosen choice.now) says before lines line result meter.new }
         ensures going { OnOk result (IsGoing C.seen (N.chosen choice.now) self.new) }
         ensures state { self.new.state ≡ self.old.state }
         ensures said { result ≡ Ok None → is_ok read ≡ true }
@@ -189,7 +190,8 @@ impl<C: NodeController> Replay<C> {
 
     /// Takes the next line of a script, with its end where it has one: steps its events, which are told,
     /// or answers why it is refused. Behind a refused line no other is taken. Where it ends early, a front
-    /// of what is told was put, and the replay can only be given up.
+    /// of what is told was put, the meter is at one of the script's events or as it was, and the replay can
+    /// only be given up.
     pub fn line<N: PolicyChoice<C>, T: Teller<C>, K: Sink>(
         &mut self,
         line: &[u8],
@@ -201,6 +203,7 @@ impl<C: NodeController> Replay<C> {
         requires going { IsGoing C.seen (N.chosen choice.now) self.old }
         requires room { HasRoom self.old.state line.now }
         ensures along { (first : Writer) (start : Option (List ℕ)) (before : Reading) (lines : List (List ℕ)) → IsAlong C.seen T.state T.tale (N.chosen choice.now) line_says first start before lines self.old told.old (K.written sink.old) meter.old → GoesOn C.seen T.state T.tale (N.chosen choice.now) line_says first start before lines line.now result self.new told.new (K.written sink.new) meter.new }
+        ensures kept { (first : Writer) (start : Option (List ℕ)) (before : Reading) (lines : List (List ℕ)) → IsAlong C.seen T.state T.tale (N.chosen choice.now) line_says first start before lines self.old told.old (K.written sink.old) meter.old → IsKept (N.chosen choice.now) line_says before lines line.now result meter.new }
         ensures going { OnOk result (IsGoing C.seen (N.chosen choice.now) self.new) }
         ensures counted { result ≡ Ok None → HasCounted self.old.state line.now self.new.state }
         ensures room { StaysWithin told.old.writer told.new.writer }
@@ -223,6 +226,7 @@ impl<C: NodeController> Replay<C> {
         requires going { IsGoing C.seen (N.chosen choice.now) self.old }
         requires room { HasRoom self.old.state text.now }
         ensures along { (first : Writer) (start : Option (List ℕ)) (before : Reading) (lines : List (List ℕ)) → IsAlong C.seen T.state T.tale (N.chosen choice.now) string_says first start before lines self.old told.old (K.written sink.old) meter.old → GoesOn C.seen T.state T.tale (N.chosen choice.now) string_says first start before lines text.now result self.new told.new (K.written sink.new) meter.new }
+        ensures kept { (first : Writer) (start : Option (List ℕ)) (before : Reading) (lines : List (List ℕ)) → IsAlong C.seen T.state T.tale (N.chosen choice.now) string_says first start before lines self.old told.old (K.written sink.old) meter.old → IsKept (N.chosen choice.now) string_says before lines text.now result meter.new }
         ensures going { OnOk result (IsGoing C.seen (N.chosen choice.now) self.new) }
         ensures counted { result ≡ Ok None → HasCounted self.old.state text.now self.new.state }
         ensures room { StaysWithin told.old.writer told.new.writer }
@@ -234,7 +238,8 @@ impl<C: NodeController> Replay<C> {
 
     /// Whether 32 bits count the octets and the lines with this one.
     pub fn has_room(&self, line: &[u8]) -> bool
-        ensures { result ≡ true → HasRoom self.now.state line.now }
+        ensures room { result ≡ true → HasRoom self.now.state line.now }
+        ensures no_room { result ≡ false → HasRoom self.now.state line.now → ⊥ }
     {
         line.len() <= (u32::MAX - self.state.octets()) as usize && self.state.lines() < u32::MAX
     }

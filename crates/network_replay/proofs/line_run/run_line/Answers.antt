@@ -1,4 +1,4 @@
-use Rattle.std.proofs.Common.{◌≡◌, ◌∙◌, ◌+◌, ◌≤◌, List, OnOk, ap, length, subst, sym, arith}
+use Rattle.std.proofs.Common.{◌≡◌, ◌∙◌, ◌+◌, ◌≤◌, List, OnErr, OnOk, ap, length, subst, sym, arith}
 use Rattle.std.specs.List.{repeat}
 use Rattle.world_model.specs.declared.event.Event.{Event}
 use Rattle.world_model.specs.Limits.{event_limit}
@@ -8,8 +8,9 @@ use Rattle.script_model.specs.Script.{events_of}
 use Rattle.world.specs.Network.{world_of}
 use Rattle.telling_model.specs.Placed.{placed_events}
 use Rattle.telling_model.specs.Tale.{told}
-use Rattle.network_run.specs.Telling.{Puts, meter_behind}
+use Rattle.network_run.specs.Telling.{IsMeterIn, Puts, meter_behind}
 use Rattle.network_run.proofs.AllTicks.{at_notes}
+use Rattle.network_replay.proofs.Metered.{one_in}
 use Rattle.network_replay.proofs.Opening.{rounds_are, ticks_are}
 use Rattle.network_replay.proofs.line_run.run_line.Goals as goal
 
@@ -74,3 +75,21 @@ returns-in-Run-clause-meter g c =
     let w : World = (world_of g.C.NodeController.seen c.args.world.now c.args.notes.now) in
     let e : repeat c.in-Run.count (round w) ≡ events_of g.topology c.args.said.now = sym (ap (events_of g.topology) c.in-Run.is ∙ rounds_are g.topology w c.in-Run.count (at_notes g.topology _ c.args.notes.now c.requires.1.1.1.1.1.1.0.world)) in
     subst (λ (es : List Event). OnOk c.rounds.result (c.rounds.new.meter ≡ meter_behind c.args.meter.now g.topology w es)) e c.rounds.ensures.meter
+
+pub returns-in-Event-clause-kept : goal.returns-in-Event-clause-kept
+returns-in-Event-clause-kept g c =
+    let w : World = (world_of g.C.NodeController.seen c.args.world.now c.args.notes.now) in
+    subst (λ (es : List Event). OnErr c.step.result (IsMeterIn c.args.meter.now g.topology w es c.step.new.meter)) (sym (ap (events_of g.topology) c.in-Event.is))
+    (one_in c.step.result c.args.meter.now c.step.new.meter g.topology w _ c.step.ensures.kept)
+
+pub returns-in-TickAll-clause-kept : goal.returns-in-TickAll-clause-kept
+returns-in-TickAll-clause-kept g c =
+    let w : World = (world_of g.C.NodeController.seen c.args.world.now c.args.notes.now) in
+    let e : tick_of_all w ≡ events_of g.topology c.args.said.now = sym (ap (events_of g.topology) c.in-TickAll.is ∙ ticks_are g.topology w (at_notes g.topology _ c.args.notes.now c.requires.1.1.1.1.1.1.0.world)) in
+    subst (λ (es : List Event). OnErr c.tick_all.result (IsMeterIn c.args.meter.now g.topology w es c.tick_all.new.meter)) e c.tick_all.ensures.kept
+
+pub returns-in-Run-clause-kept : goal.returns-in-Run-clause-kept
+returns-in-Run-clause-kept g c =
+    let w : World = (world_of g.C.NodeController.seen c.args.world.now c.args.notes.now) in
+    let e : repeat c.in-Run.count (round w) ≡ events_of g.topology c.args.said.now = sym (ap (events_of g.topology) c.in-Run.is ∙ rounds_are g.topology w c.in-Run.count (at_notes g.topology _ c.args.notes.now c.requires.1.1.1.1.1.1.0.world)) in
+    subst (λ (es : List Event). OnErr c.rounds.result (IsMeterIn c.args.meter.now g.topology w es c.rounds.new.meter)) e c.rounds.ensures.kept

@@ -18,3 +18,8 @@ returns-clause-along g c = λ first start before lines along.
 pub returns-clause-counted : goal.returns-clause-counted
 returns-clause-counted g c = λ none.
     has_counted c.args.self.now.state c.read_line-read.new.state c.take.new.self.state c.args.line.now c.read_line-read.result (c.read_line-read.ensures.after c.requires.room) c.take.ensures.state (c.take.ensures.said none)
+
+pub returns-clause-kept : goal.returns-clause-kept
+returns-clause-kept g c = λ first start before lines along.
+    c.take.ensures.kept line_says c.args.self.now.state first start before lines c.args.line.now lines_are_read along
+    (is_read line_says c.args.self.now.state c.read_line-read.new.state c.args.line.now c.read_line-read.result c.read_line-read.ensures.said (c.read_line-read.ensures.after c.requires.room))

@@ -22,7 +22,7 @@ pub returns-in_err-world-clause-stepped : goal.returns-in_err-world-clause-stepp
 returns-in_err-world-clause-stepped g c = λ state line placed h knows after can.
     let is : has_events c.args.said.now ≡ true = grind (arith, c.has_events.ensures, c.if-not-has_events.false) in
     stepped_none g.T.Teller.tale (g.N.PolicyChoice.chosen c.args.choice.now) g.C.NodeController.seen g.T.Teller.state state line c.args.said.now placed c.args.self.now is after h c.from_residual.result c.in_err-world.field-0.0 c.take_network.new.self
-    c.args.told.now c.take_network.new.told (g.K.Sink.written c.args.sink.now) (g.K.Sink.written c.take_network.new.sink) c.args.meter.now c.args.meter.now c.from_residual.ensures.1 c.in_err-world.ensures.put
+    c.args.told.now c.take_network.new.told (g.K.Sink.written c.args.sink.now) (g.K.Sink.written c.take_network.new.sink) c.args.meter.now c.from_residual.ensures.1 c.in_err-world.ensures.put
 
 pub run_line-outcome-requires : goal.run_line-outcome-requires
 run_line-outcome-requires g c =
@@ -67,4 +67,4 @@ returns-clause-stepped g c = λ state line placed h knows after can.
     c.args.told.now c.take_network.new.told c.run_line-outcome.new.told (g.K.Sink.written c.args.sink.now) (g.K.Sink.written c.take_network.new.sink) (g.K.Sink.written c.run_line-outcome.new.sink)
     c.args.meter.now c.run_line-outcome.new.meter can knows
     c.take_network.ensures.rest c.topology.ensures c.lines.ensures c.keep.ensures c.in_ok-world.ensures.put c.in_ok-world.ensures.known
-    c.run_line-outcome.ensures.world c.run_line-outcome.ensures.runs c.run_line-outcome.ensures.put c.run_line-outcome.ensures.state c.run_line-outcome.ensures.meter
+    c.run_line-outcome.ensures.world c.run_line-outcome.ensures.runs c.run_line-outcome.ensures.put c.run_line-outcome.ensures.state c.run_line-outcome.ensures.meter c.run_line-outcome.ensures.kept

@@ -5,8 +5,9 @@ use Rattle.script_model.specs.declared.line.Line.{Line}
 use Rattle.script_model.specs.declared.refusal.Refused.{Refused}
 use Rattle.network_run.specs.declared.stop.Stop.{Stop}
 use Rattle.network_run.specs.Telling.{is_failed}
-use Rattle.network_replay.specs.Along.{CanTake, GoesOn, IsGoing, IsRead}
+use Rattle.network_replay.specs.Along.{CanTake, GoesOn, IsGoing, IsKept, IsRead}
 use Rattle.network_replay.proofs.Course.{going_unsaid, unsaid_ends, unsaid_writes}
+use Rattle.network_replay.proofs.Metered.{err_metered, said_metered, unsaid_metered}
 use Rattle.network_replay.proofs.Onward.{goes_err, goes_read, goes_unsaid}
 use Rattle.network_replay.proofs.replay.Replay.take.Goals as goal
 
@@ -48,3 +49,18 @@ returns-in-Err-clause-faults g c =
 
 pub returns-in-Err-clause-said : goal.returns-in-Err-clause-said
 returns-in-Err-clause-said g c = λ none. absurd (unsaid_ends c.args.self.now.state.lines c.in-Err.fault (sym c.unsaid.ensures ∙ none))
+
+pub returns-in_err-run-in-Ok-clause-kept : goal.returns-in_err-run-in-Ok-clause-kept
+returns-in_err-run-in-Ok-clause-kept g c = λ says state first start before lines line reading along read.
+    let is = subst (λ (r : Result Line ReadFault). IsRead says state line r c.args.self.now.state) c.in-Ok.is read in
+    let stepped = c.in_err-run-in-Ok.ensures.stepped state line along.placed along.network along.knows is.1 (reading.sayable state line c.in-Ok.said is.0) in
+    err_metered (g.N.PolicyChoice.chosen c.args.choice.now) says before lines line c.from_residual.result c.run.new.meter
+    (said_metered g.C.NodeController.seen (g.N.PolicyChoice.chosen c.args.choice.now) says reading lines line before state c.args.self.now.notes c.args.self.now.world along.placed along.taken along.network
+    c.args.meter.now along.meter_is c.args.self.now.state c.in-Ok.said c.run.new.meter is.0 is.1 stepped.kept)
+
+pub returns-in-Err-clause-kept : goal.returns-in-Err-clause-kept
+returns-in-Err-clause-kept g c = λ says state first start before lines line reading along read.
+    let choice = (g.N.PolicyChoice.chosen c.args.choice.now) in
+    subst (λ (r : Result (Option Refused) Stop). IsKept choice says before lines line r c.args.meter.now) (sym c.unsaid.ensures)
+    (unsaid_metered g.C.NodeController.seen choice says reading lines line before state c.args.self.now.notes c.args.self.now.world along.placed along.taken along.network
+    c.args.meter.now along.meter_is c.args.self.now.state.lines c.in-Err.fault)
