@@ -40,8 +40,8 @@ impl DrillLines {
         DrillLines { place: Some(place) }
     }
 
-    /// Appends the next line to `line`, with its end; false exactly where all lines were given. Where
-    /// memory is wanting the same line comes next, and a part of it may stand in `line`.
+    /// Appends the next line to `line`, with its end; false exactly where all lines were given, memory or
+    /// not. Where memory is wanting the same line comes next, and a part of it may stand in `line`.
     pub fn next(&mut self, line: &mut Text) -> Result<bool, OutOfMemory>
         ensures { Gives self.old self.new line.old line.new result }
     {
