@@ -15,8 +15,8 @@ use std::marker::Model;
 #[derive(Debug, Drop)]
 pub struct RulesRead {
     rules: RuleSet,
-    numbers: Vec<u32>,
-    refused: Option<(u32, RuleRefusal)>,
+    numbers: Vec<usize>,
+    refused: Option<(usize, RuleRefusal)>,
 }
 
 impl Model for RulesRead {
@@ -43,7 +43,7 @@ impl RulesRead {
     }
 
     /// Takes the line with this number, and tells whether another one may follow.
-    pub(crate) fn take(&mut self, number: u32, text: &[u8]) -> Result<bool, OutOfMemory>
+    pub(crate) fn take(&mut self, number: usize, text: &[u8]) -> Result<bool, OutOfMemory>
         ensures { (rest : List (List ℕ)) → IfOk result (λ goes_on. rules_from self.old number (text.now ∷ rest) ≡ (if goes_on then rules_from self.new (number + 1) rest else self.new)) }
     {
         self.numbers.reserve(1)?;
@@ -68,7 +68,7 @@ impl RulesRead {
     }
 
     /// The number of the line of the rule at `place`, from 0.
-    pub fn number(&self, place: usize) -> u32
+    pub fn number(&self, place: usize) -> usize
         requires { place < length self.now.rules }
         ensures { result ≡ slice_index self.now.numbers place }
     {

@@ -70,12 +70,12 @@ pub fn write_refused(out: &mut Text, refused: Refused) -> Result<(), OutOfMemory
     ensures { OnOk result (out.new ≡ out.old ++ refused_line refused) }
 {
     let (number, name) = match refused {
-        Refused::Line { number, name } => (number, refusal_name(name)),
-        Refused::Rule { number, name } => (number, rule_refusal_name(name)),
+        Refused::Line { number, name } => (u64::from(number), refusal_name(name)),
+        Refused::Rule { number, name } => (number as u64, rule_refusal_name(name)),
         Refused::Document(name) => (0, document_refusal_name(name)),
     };
     out.text("refused ")?;
-    out.number(u64::from(number))?;
+    out.number(number)?;
     out.text(" ")?;
     out.text(name)?;
     out.text("\n")

@@ -17,10 +17,10 @@ fn write_rule(out: &mut Text, read: &RulesRead, place: usize) -> Result<bool, Ou
 {
     let cover = read.rules().covered(place);
     out.text("rule ")?;
-    out.number(u64::from(read.number(place)))?;
+    out.number(read.number(place) as u64)?;
     if let Some(earlier) = cover {
         out.text(" covered ")?;
-        out.number(u64::from(read.number(earlier)))?;
+        out.number(read.number(earlier) as u64)?;
     }
     out.text("\n")?;
     Ok(cover.is_some())

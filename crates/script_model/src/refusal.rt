@@ -76,7 +76,7 @@ pub enum Refused {
     /// A line of a document's rules.
     Rule {
         /// Its number, from 1, blank lines counted.
-        number: u32,
+        number: usize,
         /// Why.
         name: RuleRefusal,
     },
