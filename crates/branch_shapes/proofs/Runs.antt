@@ -11,7 +11,7 @@ use Rattle.world_views.proofs.ordered_lists.Every.{every_join}
 use Rattle.world_model.specs.Switch.{begun}
 use Rattle.world_views.specs.port_facts.Port.{IsShaped}
 use Rattle.world_views.proofs.port_facts.Keyed.{at_every}
-use Rattle.world_model.specs.declared.event.Event.{Event}
+use Rattle.world_model.specs.network_model.declared.event.Event.{Event}
 use Rattle.world_model.specs.Topology as topologies
 use Rattle.world_model.specs.World.{opened}
 use Rattle.world_model.proofs.Opening.{site_ports}

@@ -17,9 +17,9 @@ use Rattle.world_model.specs.Sending.{sends}
 use Rattle.world_views.specs.controller_facts.Inputs.{FrameIsForged, Input, CellComes, PacketEnters, Ticks, Restarts, ChangeComes, enters_unless, takes_input}
 use Rattle.world_views.specs.controller_facts.Sound.{IsSound, setups_by}
 use Rattle.world_views.proofs.controller_facts.Laws.{always_sound, input_sound}
-use Rattle.world_model.specs.declared.event.Event.{Event}
-use Rattle.world_model.specs.declared.event.Event.TheVariants.{Inject, Carry, Lose, Tick, TickSwitch, Restart, RestartSwitch, Forge, Route}
-use Rattle.world_model.specs.declared.link.LinkEnd.{LinkEnd}
+use Rattle.world_model.specs.network_model.declared.event.Event.{Event}
+use Rattle.world_model.specs.network_model.declared.event.Event.TheVariants.{Inject, Carry, Lose, Tick, TickSwitch, Restart, RestartSwitch, Forge, Route}
+use Rattle.world_model.specs.network_model.declared.link.LinkEnd.{LinkEnd}
 use Rattle.world_model.specs.Topology.{peer_of}
 use Rattle.world_model.specs.World.{at_controller, at_switch, opened}
 use Rattle.world_model.specs.Step.{note, acts}

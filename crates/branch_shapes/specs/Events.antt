@@ -4,7 +4,7 @@ use Rattle.std.specs.Prelude.{◌≡◌, List, ◌∷◌, ◌++◌, Contains, So
 use Rattle.world_model.specs.Words.{Cell, Standing, Policy, Topology, IsTopology, World, Site, next, world_after, gsmp_to_switch, copy_under, IsTame}
 use Rattle.world_views.specs.ordered_lists.Ordered.{Every}
 use Rattle.world_views.specs.port_facts.Port.{IsShaped}
-use Rattle.world_model.specs.declared.event.Event.{Event}
+use Rattle.world_model.specs.network_model.declared.event.Event.{Event}
 use Rattle.world_model.specs.World.{opened}
 use Rattle.world_views.specs.Between as worlds
 use Rattle.world_views.specs.Between.{EachSite, setups_of}

@@ -9,8 +9,8 @@ use Rattle.world_model.specs.frame_model.Reassembly.{Taken, taken}
 use Rattle.world_model.specs.Controller.{Acted, free_slots}
 use Rattle.world_model.specs.Cells as cells_of
 use Rattle.world_model.specs.Cells.{opened_frame, after_test, ends_frame, after_cell, cell_comes}
-use Rattle.world_model.specs.declared.event.Event.{Event}
-use Rattle.world_model.specs.declared.event.Event.TheVariants.{Carry}
+use Rattle.world_model.specs.network_model.declared.event.Event.{Event}
+use Rattle.world_model.specs.network_model.declared.event.Event.TheVariants.{Carry}
 use Rattle.world_model.specs.Stretches.{Taker, at_controller}
 use Rattle.controller_bindings.proofs.port_facts.Keyed.{by_eq}
 use Rattle.cell_lists.proofs.Taking.{Adds, adds_then, adds_others, stretch_after}

@@ -5,7 +5,7 @@ use Rattle.std.specs.Prelude.{nat_eq, IsSome}
 use Rattle.std.specs.Option.{option_map, option_map_or, option_and_then}
 use Rattle.world_model.specs.Words.{NodeId, Place, Down, Up, Out, Channel, Cell, Entry, Reassembly, stretch_from, at, Controller, default_channel, same_channel, taker_of, reassembly_of, Topology, IsTopology, World, Site, site_key, site_at, controller_at, controller_acts, queue_in, on_channel, tallied, put_away, OfController, OfSwitch, reassembly_at, cell_for, arrival, cut_turn, turns_at}
 use Rattle.world_model.specs.Controller.{Acted}
-use Rattle.world_model.specs.declared.event.Event.{Event}
+use Rattle.world_model.specs.network_model.declared.event.Event.{Event}
 use Rattle.world_model.specs.Stretches.{Taker}
 use Rattle.world_model.proofs.Lists.{at_key}
 use Rattle.controller_bindings.proofs.port_facts.Keyed.{by_eq}

@@ -8,8 +8,8 @@ use Rattle.world_model.specs.Words.{NodeId, Place, Down, Up, Out, Channel, Cell,
 use Rattle.world_model.specs.frame_model.Reassembly.{Taken, taken}
 use Rattle.world_model.specs.Switch.{Acted, free_slots}
 use Rattle.world_model.specs.Conduct.{ends_frame, opened_frame}
-use Rattle.world_model.specs.declared.event.Event.{Event}
-use Rattle.world_model.specs.declared.event.Event.TheVariants.{Carry}
+use Rattle.world_model.specs.network_model.declared.event.Event.{Event}
+use Rattle.world_model.specs.network_model.declared.event.Event.TheVariants.{Carry}
 use Rattle.world_model.specs.Stretches.{Taker, at_switch}
 use Rattle.cell_lists.proofs.Taking.{Adds, adds_then, adds_others, stretch_after}
 use Rattle.cell_lists.proofs.Net.{Takes as TakesEnd}

@@ -13,9 +13,9 @@ use Rattle.world_model.specs.gsmp_wire.Layout.{octets_of}
 use Rattle.world_model.specs.gsmp_wire.Fields.{decoded}
 use Rattle.world_model.specs.frame_model.Sending.{Sent}
 use Rattle.controller_bindings.specs.ordered_lists.Ordered.{Every}
-use Rattle.world_model.specs.declared.port.PortState.{PortState}
-use Rattle.world_model.specs.declared.request.Asked.{Asked}
-use Rattle.world_model.specs.declared.request.Failure.{Failure}
+use Rattle.world_model.specs.switch_model.declared.port.PortState.{PortState}
+use Rattle.world_model.specs.switch_model.declared.request.Asked.{Asked}
+use Rattle.world_model.specs.switch_model.declared.request.Failure.{Failure}
 use Rattle.world_model.specs.Switch.{Acted, free_slots}
 use Rattle.world_model.specs.Answers.{row_of}
 use Rattle.world_model.specs.Conduct.{with_cells, says, answers, steps, told, opened_frame}

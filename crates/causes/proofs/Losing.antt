@@ -6,7 +6,7 @@ use Rattle.std.specs.FinMap.{get}
 use Rattle.std.proofs.lemmas.Bool.Decides.{nat_tests}
 use Rattle.world_model.specs.Words.{NodeId, Place, Down, Up, Out, Channel, End as PortEnd, Cell, Entry, Cause, same_mark, Reassembly, stretch_from, home_of, Controller, default_channel, same_channel, taker_of, reassembly_of, Topology, World, Site, site_key, site_at, controller_at, place_node, queue_at, queue_number, with_queue_in, on_channel, OfController, OfSwitch, reassembly_at, cell_for, arrival, cut_turn, is_broken}
 use Rattle.world_model.specs.crossbar_model.declared.branch.Branch.{Branch}
-use Rattle.world_model.specs.declared.event.Event.{Event}
+use Rattle.world_model.specs.network_model.declared.event.Event.{Event}
 use Rattle.world_model.specs.Stretches.{Taker}
 use Rattle.world_model.proofs.Lists.{length_set}
 use Rattle.world_model.proofs.Queues.{Sets}

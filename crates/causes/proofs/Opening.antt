@@ -10,7 +10,7 @@ use Rattle.world_model.specs.Words.{NodeId, Place, Down, Up, Out, Channel, Mark,
 use Rattle.world_model.specs.crossbar_model.declared.branch.Branch.{Branch}
 use Rattle.controller_bindings.specs.ordered_lists.Ordered.{Every}
 use Rattle.controller_bindings.proofs.ordered_lists.Every.{every_join}
-use Rattle.world_model.specs.declared.range.PortRange.{PortRange}
+use Rattle.world_model.specs.controller_model.declared.range.PortRange.{PortRange}
 use Rattle.world_model.specs.Switch.{begun}
 use Rattle.world_model.specs.Topology as topologies
 use Rattle.world_model.specs.Topology.{peer_of}

@@ -6,7 +6,7 @@ use Rattle.std.specs.Option.{option_map, option_or}
 use Rattle.std.proofs.lemmas.Bool.Decides.{nat_tests}
 use Rattle.world_model.specs.Words.{NodeId, PortNo, Place, Down, Up, Out, Channel, End as PortEnd, default_channel, same_channel, Topology, Link, same_link_end, peer_on, peer_among, IsTopology, IsLink, IsPort, IsNode}
 use Rattle.world_model.specs.crossbar_model.declared.branch.Branch.{Branch}
-use Rattle.world_model.specs.declared.link.LinkEnd.{LinkEnd}
+use Rattle.world_model.specs.network_model.declared.link.LinkEnd.{LinkEnd}
 use Rattle.world_model.specs.Topology.{peer_of}
 use Rattle.controller_bindings.proofs.port_facts.Keyed.{by_eq}
 use Rattle.cell_lists.proofs.Net.{End, Leads, Nowhere}

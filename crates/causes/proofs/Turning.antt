@@ -8,7 +8,7 @@ use Rattle.world_model.specs.Words.{NodeId, Place, Down, Up, Out, Channel, Cell,
 use Rattle.world_model.specs.frame_model.Reassembly.{taken}
 use Rattle.world_model.specs.Cells as cells
 use Rattle.world_model.specs.Stretches.{Taker}
-use Rattle.world_model.specs.declared.event.Event.{Event}
+use Rattle.world_model.specs.network_model.declared.event.Event.{Event}
 use Rattle.causes.proofs.Spots.{Spot}
 use Rattle.causes.proofs.Ends.{has_cells, chain_in, open_in, taken_chain}
 

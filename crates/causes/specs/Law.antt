@@ -3,7 +3,7 @@
 use Rattle.std.specs.Prelude.{◌≡◌, List, ◌++◌, Some}
 use Rattle.world_model.specs.Words.{NodeId, Policy, Controller, Linked, Topology, controller_at, run, world_after, records_of, HasCauses, IsTame, IsRun}
 use Rattle.controller_bindings.specs.ordered_lists.Ordered.{Every}
-use Rattle.world_model.specs.declared.event.Event.{Event}
+use Rattle.world_model.specs.network_model.declared.event.Event.{Event}
 use Rattle.world_model.specs.World.{opened}
 use Rattle.controller_bindings.specs.Bindings.{IsOfBound}
 use Rattle.causes.specs.Feeding.{IsFedOnce}

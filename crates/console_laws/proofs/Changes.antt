@@ -7,7 +7,7 @@ use Rattle.world_model.specs.Words.{Cell, Branches, Request, Frame, Standing}
 use Rattle.world_model.specs.gsmp_wire.declared.request.Request.TheVariants.{AllPorts}
 use Rattle.ordered_lists.specs.Ordered.{Every}
 use Rattle.ordered_lists.proofs.Every.{every_join}
-use Rattle.world_model.specs.declared.port.PortState.{PortState}
+use Rattle.world_model.specs.switch_model.declared.port.PortState.{PortState}
 use Rattle.console_model.specs.declared.reply.Reply.{Reply}
 use Rattle.console_model.specs.Plain.{Links, answer, after, map_after, answers_of}
 use Rattle.console_laws.specs.Again.{IsSame}

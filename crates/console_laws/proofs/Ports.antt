@@ -7,7 +7,7 @@ use Rattle.std.proofs.lemmas.Bool.Decides.{nat_tests}
 use Rattle.world_model.specs.Words.{PortNo, End, Instance, is_link_channel, is_connectable, PortRow, session_of, control_port, has_port, has_session, numbers_of}
 use Rattle.ordered_lists.specs.Ordered.{Every}
 use Rattle.world_model.specs.port_model.Messages.{row_of as row_found}
-use Rattle.world_model.specs.declared.port.PortState.{PortState}
+use Rattle.world_model.specs.switch_model.declared.port.PortState.{PortState}
 use Rattle.world_model.specs.Switch.{begun, port_of, is_up}
 use Rattle.world_model.specs.Answers.{row_of}
 use Rattle.console_model.specs.Lab.{ports_to}

@@ -5,8 +5,8 @@ use Rattle.std.specs.List.{list_all}
 use Rattle.world_model.specs.Words.{PortNo, End, is_link_channel, is_connectable, Branches, Request, AddBranch, MoveBranch, DeleteTree, VerifyTree, PortManagement, session_of, named_ends, named_ports, used_ports, names_session, leads_elsewhere, is_last_session, has_port, numbers_of}
 use Rattle.world_model.specs.gsmp_wire.declared.request.Request.TheVariants.{DeleteAll, AllPorts}
 use Rattle.ordered_lists.specs.Ordered.{Every}
-use Rattle.world_model.specs.declared.request.Asked.{Asked}
-use Rattle.world_model.specs.declared.request.Failure.TheVariants.{NoPort, BadSession, PortDown, OutOfRange, Busy, NoConnection, SessionsSpent}
+use Rattle.world_model.specs.switch_model.declared.request.Asked.{Asked}
+use Rattle.world_model.specs.switch_model.declared.request.Failure.TheVariants.{NoPort, BadSession, PortDown, OutOfRange, Busy, NoConnection, SessionsSpent}
 use Rattle.world_model.specs.Failures as switch
 use Rattle.world_model.specs.Switch.{is_up}
 use Rattle.console_model.specs.Plain as plain

@@ -10,7 +10,7 @@ use Rattle.world_model.specs.gsmp_wire.declared.request.Request.TheVariants.{Del
 use Rattle.world_model.specs.gsmp_wire.Layout.{octets_of}
 use Rattle.world_model.specs.gsmp_wire.Fields.{decoded}
 use Rattle.world_model.specs.frame_model.Reassembly.{Taken, taken}
-use Rattle.world_model.specs.declared.port.PortState.{PortState}
+use Rattle.world_model.specs.switch_model.declared.port.PortState.{PortState}
 use Rattle.world_model.specs.Switch.{Acted, free_slots}
 use Rattle.world_model.specs.Answers.{row_of}
 use Rattle.world_model.specs.Conduct.{says, answers, steps, told, opened_frame, ends_frame, cell_comes}

@@ -6,7 +6,7 @@ use Rattle.world_model.specs.Words.{End, Cell, is_estab, Branches, Request, Fram
 use Rattle.world_model.specs.crossbar_model.Crossbar.{output_of}
 use Rattle.world_model.specs.gsmp_wire.declared.request.Request.TheVariants.{AllPorts}
 use Rattle.ordered_lists.specs.Ordered.{Every}
-use Rattle.world_model.specs.declared.port.PortState.{PortState}
+use Rattle.world_model.specs.switch_model.declared.port.PortState.{PortState}
 use Rattle.console_model.specs.declared.reply.Reply.{Reply}
 use Rattle.console_model.specs.Lab.{Lab}
 use Rattle.console_model.specs.Plain.{Links, map_after, answers_of}

@@ -8,7 +8,7 @@ use Rattle.world_model.specs.gsmp_wire.declared.message.Message.TheVariants as m
 use Rattle.world_model.specs.gsmp_wire.declared.request.Request.TheVariants.{DeleteAll, AllPorts}
 use Rattle.world_model.specs.gsmp_wire.Layout.{octets_of}
 use Rattle.world_model.specs.gsmp_wire.Fields.{decoded}
-use Rattle.world_model.specs.declared.port.PortState.{PortState}
+use Rattle.world_model.specs.switch_model.declared.port.PortState.{PortState}
 use Rattle.world_model.specs.Switch.{begun}
 use Rattle.world_model.specs.Answers.{row_of}
 use Rattle.console_model.specs.declared.reply.Reply.{Reply}

@@ -8,7 +8,7 @@ use Rattle.std.proofs.lemmas.List.{get_or_default, get_or-map, get_or-set_other,
 use Rattle.std.proofs.lemmas.List.Kept.{AllPairs-from_increasing}
 use Rattle.net_types.specs.declared.node.PortNo.{PortNo}
 use Rattle.crossbar_model.specs.Channels.{ArePorts}
-use Rattle.world_model.specs.declared.range.PortRange.{PortRange}
+use Rattle.world_model.specs.controller_model.declared.range.PortRange.{PortRange}
 use Rattle.control_link.specs.declared.layout.Block.{Block}
 use Rattle.control_link.specs.Cells.{range_at}
 use Rattle.control_link.specs.Layout.{count_of, first_of, width}

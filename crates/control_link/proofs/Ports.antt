@@ -11,7 +11,7 @@ use Rattle.std.proofs.lemmas.List.Sums.{sum_by-cons, sum_by-take-drop}
 use Rattle.net_types.specs.declared.node.PortNo.{PortNo}
 use Rattle.frame_model.specs.Reassembly.{Reassembly, nothing_taken}
 use Rattle.keyed_lists.specs.Keyed.{at, put}
-use Rattle.world_model.specs.declared.range.PortRange.{PortRange}
+use Rattle.world_model.specs.controller_model.declared.range.PortRange.{PortRange}
 use Rattle.world_model.specs.Controller.{chains_with}
 use Rattle.control_link.specs.declared.taker.Taker.{Taker}
 use Rattle.control_link.specs.declared.taker.Taker.TheVariants.{Gsmp, Default, Label}

@@ -7,7 +7,7 @@ use Rattle.net_types.specs.declared.node.PortNo.{PortNo}
 use Rattle.atm_cells.specs.declared.cell.Cell.{Cell}
 use Rattle.frame_model.specs.Reassembly.{Reassembly, nothing_taken}
 use Rattle.keyed_lists.specs.Keyed.{at, put}
-use Rattle.world_model.specs.declared.range.PortRange.{PortRange}
+use Rattle.world_model.specs.controller_model.declared.range.PortRange.{PortRange}
 use Rattle.world_model.specs.Controller.{LabelChain, chain_of, chain_slots, chains_with}
 use Rattle.control_link.specs.declared.taker.Taker.{Taker}
 use Rattle.control_link.specs.declared.taker.Taker.TheVariants.{Gsmp, Default, Label}

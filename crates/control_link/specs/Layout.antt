@@ -5,7 +5,7 @@ use Rattle.std.specs.Prelude.{◌≡◌, ℕ, ◌+◌, ◌-◌, ◌≤◌, ◌==
 use Rattle.std.specs.Option.{option_map_or}
 use Rattle.net_types.specs.declared.node.PortNo.{PortNo}
 use Rattle.crossbar_model.specs.Channels.{ArePorts}
-use Rattle.world_model.specs.declared.range.PortRange.{PortRange}
+use Rattle.world_model.specs.controller_model.declared.range.PortRange.{PortRange}
 use Rattle.control_link.specs.declared.taker.Taker.{Taker}
 use Rattle.control_link.specs.declared.taker.Taker.TheVariants.{Gsmp, Default, Label}
 use Rattle.control_link.specs.declared.layout.Block.{Block}

@@ -2,7 +2,7 @@
 
 use Rattle.std.specs.Prelude.{◌≡◌, ℕ, Bool, ◌+◌, ◌-◌, ◌||◌, nat_lt, List, [], ◌∷◌, drop, length, slice_index_or, take, if◌then◌else◌}
 use Rattle.frame_model.specs.Reassembly.{Reassembly, nothing_taken}
-use Rattle.world_model.specs.declared.range.PortRange.{PortRange}
+use Rattle.world_model.specs.controller_model.declared.range.PortRange.{PortRange}
 use Rattle.world_model.specs.Controller.{LabelChain, chain_slots}
 use Rattle.control_link.specs.Cells.{ControlCells, PortCells}
 use Rattle.control_link.specs.Layout.{count_of, width}

@@ -40,7 +40,7 @@ pub(crate) struct Layout {
 
 impl Model for Layout {
     ghost use Rattle.std.specs.Prelude.{List};
-    ghost use Rattle.world_model.specs.declared.range.PortRange.{PortRange};
+    ghost use Rattle.world_model.specs.controller_model.declared.range.PortRange.{PortRange};
     ghost use Rattle.control_link.specs.Layout.{AreBlocks};
 
     ghost Value = { List PortRange };

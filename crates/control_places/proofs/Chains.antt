@@ -12,8 +12,8 @@ use Rattle.frame_readings.proofs.port_facts.Rules.{and_first, and_second}
 use Rattle.world_model.specs.Switch as switches
 use Rattle.world_model.specs.Controller.{free_slots}
 use Rattle.world_model.specs.Cells as controllers
-use Rattle.world_model.specs.declared.event.Event.{Event}
-use Rattle.world_model.specs.declared.event.Event.TheVariants.{Inject, Carry, Lose, Tick, TickSwitch, Restart, RestartSwitch, Forge, Route}
+use Rattle.world_model.specs.network_model.declared.event.Event.{Event}
+use Rattle.world_model.specs.network_model.declared.event.Event.TheVariants.{Inject, Carry, Lose, Tick, TickSwitch, Restart, RestartSwitch, Forge, Route}
 use Rattle.world_model.specs.Stretches.{Taker, at_controller, at_switch}
 use Rattle.frame_readings.specs.world_views.Kept.{behind}
 use Rattle.running_worlds.specs.input_steps.Hearing.{IsEnded, PassesTrue}

@@ -15,7 +15,7 @@ use Rattle.frame_readings.proofs.port_facts.Keyed.{at_key, at_every, every_more}
 use Rattle.frame_readings.specs.controller_facts.Inputs.{Input, takes_input}
 use Rattle.frame_readings.specs.controller_facts.Sound.{IsOwn}
 use Rattle.frame_readings.specs.controller_views.Lifted.{payload_by}
-use Rattle.world_model.specs.declared.event.Event.{Event}
+use Rattle.world_model.specs.network_model.declared.event.Event.{Event}
 use Rattle.world_model.specs.World.{opened}
 use Rattle.world_model.specs.Step.{acts}
 use Rattle.world_model.specs.Ways.{told}

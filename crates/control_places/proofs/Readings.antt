@@ -17,7 +17,7 @@ use Rattle.world_model.specs.Controller.{Acted}
 use Rattle.world_model.specs.Cells.{Taker}
 use Rattle.frame_readings.specs.controller_views.Lifted.{payload_by}
 use Rattle.run_facts.specs.controller_bindings.Bindings.{site, HasBoundLabels}
-use Rattle.world_model.specs.declared.link.LinkEnd.{LinkEnd}
+use Rattle.world_model.specs.network_model.declared.link.LinkEnd.{LinkEnd}
 use Rattle.world_model.specs.Topology.{peer_of}
 use Rattle.world_model.specs.Ways.{told}
 use Rattle.running_worlds.proofs.causes.Shown.{peer_back}

@@ -7,8 +7,8 @@ use Rattle.world_model.specs.Words.{NodeId, Down, Up, Out, Mark, Cell, payload_o
 use Rattle.world_model.specs.Switch as switches
 use Rattle.world_model.specs.Controller.{free_slots}
 use Rattle.world_model.specs.Cells.{Taker}
-use Rattle.world_model.specs.declared.event.Event.{Event}
-use Rattle.world_model.specs.declared.event.Event.TheVariants.{Inject, Carry, Lose, Tick, TickSwitch, Restart, RestartSwitch, Forge, Route}
+use Rattle.world_model.specs.network_model.declared.event.Event.{Event}
+use Rattle.world_model.specs.network_model.declared.event.Event.TheVariants.{Inject, Carry, Lose, Tick, TickSwitch, Restart, RestartSwitch, Forge, Route}
 use Rattle.world_model.specs.Topology.{peer_of}
 use Rattle.world_model.specs.Step.{acts}
 use Rattle.frame_readings.specs.world_views.Marks.{Means, heading_at}

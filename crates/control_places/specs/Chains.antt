@@ -2,7 +2,7 @@
 
 use Rattle.std.specs.Prelude.{List, [], ◌∷◌, ◌++◌}
 use Rattle.world_model.specs.Words.{Policy, Topology, CountsAsItsFrame, past_of, IsTame}
-use Rattle.world_model.specs.declared.event.Event.{Event}
+use Rattle.world_model.specs.network_model.declared.event.Event.{Event}
 
 -- *A chain that passes* has the payload of its last cell's frame, in each event of a run behind which no frame was forged and
 -- none has passed by chance

@@ -3,7 +3,7 @@
 use Rattle.std.specs.Prelude.{◌≡◌, false, List}
 use Rattle.std.specs.List.{list_any}
 use Rattle.world_model.specs.Words.{Policy, Topology, past_of, is_bad}
-use Rattle.world_model.specs.declared.event.Event.{Event}
+use Rattle.world_model.specs.network_model.declared.event.Event.{Event}
 use Rattle.frame_readings.specs.world_views.Between.{IsWorld}
 use Rattle.frame_readings.specs.world_views.Kept.{Comes, behind}
 use Rattle.ownership.specs.Places.{HasPlaces}

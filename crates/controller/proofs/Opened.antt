@@ -20,7 +20,7 @@ use Rattle.frame_model.specs.Reassembly.{nothing_taken}
 use Rattle.port_model.specs.declared.timers.Timers.{Timers}
 use Rattle.port_model.specs.Setup.{Policy, Setup}
 use Rattle.control_link.specs.Cells as cells
-use Rattle.world_model.specs.declared.range.PortRange.{PortRange}
+use Rattle.world_model.specs.controller_model.declared.range.PortRange.{PortRange}
 use Rattle.world_model.specs.Controller.{Controller, Linked, ports_of}
 use Rattle.world_model.specs.Opening.{opened, opens_port, opens_ports, setup_of}
 use Rattle.controller_facts.specs.Sound.{Opening, linked_setup, opened_by}

@@ -14,7 +14,7 @@ use Rattle.world_model.specs.frame_model.Frame.{octets_of}
 use Rattle.controller_law.specs.ordered_lists.Ordered.{Every}
 use Rattle.controller_law.proofs.ordered_lists.Every.{every_join}
 use Rattle.controller_law.proofs.port_facts.Keyed.{on_both}
-use Rattle.world_model.specs.declared.link.LinkEnd.{LinkEnd}
+use Rattle.world_model.specs.network_model.declared.link.LinkEnd.{LinkEnd}
 use Rattle.controller_bindings.specs.Bindings.{site, IsOfNode}
 
 -- *Options*

@@ -8,7 +8,7 @@ use Rattle.controller_law.specs.ordered_lists.Ordered.{Every}
 use Rattle.controller_law.proofs.ordered_lists.Every.{every_all, every_map, every_map2, every_mapped, every_unmapped}
 use Rattle.controller_law.specs.port_facts.Port.{IsLabel}
 use Rattle.controller_law.proofs.port_facts.Keyed.{at_key, at_every}
-use Rattle.world_model.specs.declared.range.PortRange.{PortRange}
+use Rattle.world_model.specs.controller_model.declared.range.PortRange.{PortRange}
 use Rattle.world_model.specs.Controller.{Acted}
 use Rattle.world_model.specs.Joins.{Join, output_of}
 use Rattle.controller_law.specs.controller_facts.Inputs.{Input, takes_inputs}

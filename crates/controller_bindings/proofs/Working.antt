@@ -27,7 +27,7 @@ use Rattle.controller_law.proofs.port_facts.Kept.{step_kept}
 use Rattle.controller_law.proofs.controller_facts.Unmet.{put_each}
 use Rattle.controller_law.specs.Match.{joined_in}
 use Rattle.controller_law.proofs.Pairing.{SamePairs, goes_pairs}
-use Rattle.world_model.specs.declared.link.LinkEnd.{LinkEnd}
+use Rattle.world_model.specs.network_model.declared.link.LinkEnd.{LinkEnd}
 use Rattle.controller_bindings.specs.Bindings.{site, IsBoundLast, IsOfNode}
 use Rattle.controller_bindings.proofs.Lasts.{some_same, none_some, noted_in, cuts_in, Has, IsQuiet, more_noted, more_last, more_own, more_cuts, new_cut, bound_now, bound_elsewhere}
 

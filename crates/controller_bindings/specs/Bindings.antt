@@ -6,7 +6,7 @@ use Rattle.world_model.specs.link_model.declared.record.Record.TheVariants as ki
 use Rattle.controller_law.specs.ordered_lists.Ordered.{Every}
 use Rattle.world_model.specs.Controller.{Acted}
 use Rattle.world_model.specs.Joins.{Join}
-use Rattle.world_model.specs.declared.link.LinkEnd.{LinkEnd}
+use Rattle.world_model.specs.network_model.declared.link.LinkEnd.{LinkEnd}
 use Rattle.controller_law.specs.controller_facts.Inputs.{Input, Meanwhile, takes_input, takes_inputs}
 use Rattle.controller_law.specs.controller_facts.Sound.{Opening, IsOwn, opened_by}
 use Rattle.controller_law.specs.Law.{IsOpening}

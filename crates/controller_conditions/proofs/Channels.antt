@@ -7,7 +7,7 @@ use Rattle.world_model.specs.Words.{PortNo, is_label_number, at, Setup, is_in_ra
 use Rattle.controller_law.specs.port_facts.Port.{setup_port}
 use Rattle.controller_law.proofs.port_facts.Keyed.{at_map}
 use Rattle.controller_law.proofs.port_facts.Rules.{and_second}
-use Rattle.world_model.specs.declared.range.PortRange.{PortRange}
+use Rattle.world_model.specs.controller_model.declared.range.PortRange.{PortRange}
 use Rattle.controller_law.specs.controller_facts.Sound.{linked_setup}
 use Rattle.control_link.specs.Cells.{range_key, is_label_of, is_channel}
 use Rattle.control_link.specs.declared.taker.Taker.TheVariants.{Default, Label}

@@ -7,7 +7,7 @@ use Rattle.controller_law.specs.ordered_lists.Ordered.{Every, InOrder}
 use Rattle.controller_law.proofs.ordered_lists.Every.{every_map, every_mapped}
 use Rattle.controller_law.specs.port_facts.Port.{IsRanged}
 use Rattle.control_link.proofs.Blocks.{few_ports, link_port, port_below}
-use Rattle.world_model.specs.declared.range.PortRange.{PortRange}
+use Rattle.world_model.specs.controller_model.declared.range.PortRange.{PortRange}
 use Rattle.controller_law.specs.controller_facts.Sound.{Opening, DifferInPort, opened_by, setups_by}
 use Rattle.controller_law.proofs.controller_facts.Flows.{always_flowing}
 use Rattle.controller_law.specs.Law.{IsOpening}

@@ -2,7 +2,7 @@
 
 use Rattle.std.specs.Prelude.{◌≡◌, ◌≤◌, true, map, All}
 use Rattle.world_model.specs.Words.{HasNumbersLeft, AreDrawn, is_label_number, ArePorts, Controller}
-use Rattle.world_model.specs.declared.range.PortRange.{PortRange}
+use Rattle.world_model.specs.controller_model.declared.range.PortRange.{PortRange}
 use Rattle.world_model.specs.Controller.{Acted}
 use Rattle.controller_law.specs.controller_facts.Inputs.{Input, takes_input}
 use Rattle.controller_law.specs.controller_facts.Sound.{Opening, IsOwn, opened_by}

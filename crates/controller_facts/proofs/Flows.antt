@@ -14,7 +14,7 @@ use Rattle.port_facts.proofs.Keyed.{on_both, at_every, put_every}
 use Rattle.port_facts.proofs.Rules.{counts_goes, done_goes}
 use Rattle.port_facts.proofs.Hearings.{hears_goes, ticks_goes}
 use Rattle.port_facts.proofs.Said.{goes_flows, closes_flows_of, resets_flows, parted_flows, lent_flows, given_back_flows, goes_said, given_back_said}
-use Rattle.world_model.specs.declared.range.PortRange.{PortRange}
+use Rattle.world_model.specs.controller_model.declared.range.PortRange.{PortRange}
 use Rattle.world_model.specs.Controller.{Acted, free_slots}
 use Rattle.world_model.specs.Sending.{with_cells, sends}
 use Rattle.controller_facts.specs.Inputs.{Input, CellComes, PacketEnters, Ticks, Restarts, ChangeComes, FrameIsForged, CellLeaves, Meanwhile, takes_input, takes_inputs}

@@ -7,7 +7,7 @@ use Rattle.world_model.specs.Words.{Refusal, Setup, setup_of, opens_ports, injec
 use Rattle.port_facts.specs.ordered_lists.Ordered.{Every, InOrder}
 use Rattle.port_facts.proofs.ordered_lists.InOrder.{order_mapped}
 use Rattle.port_facts.proofs.Joins.{begun_kept}
-use Rattle.world_model.specs.declared.range.PortRange.{PortRange}
+use Rattle.world_model.specs.controller_model.declared.range.PortRange.{PortRange}
 use Rattle.world_model.specs.Controller.{Acted}
 use Rattle.world_model.specs.Sending.{sends}
 use Rattle.controller_facts.specs.Inputs.{Input, CellComes, PacketEnters, Ticks, Restarts, ChangeComes, FrameIsForged, CellLeaves, Meanwhile, enters_unless, takes_input, takes_inputs}

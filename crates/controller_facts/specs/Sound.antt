@@ -6,7 +6,7 @@ use Rattle.world_model.specs.ipv4_forward.declared.table.Route.{Route}
 use Rattle.port_facts.specs.ordered_lists.Ordered.{Every, InOrder}
 use Rattle.world_model.specs.port_model.Requests.{input_of}
 use Rattle.port_facts.specs.Port.{setup_port, IsPort, IsShut, IsShaped}
-use Rattle.world_model.specs.declared.range.PortRange.{PortRange}
+use Rattle.world_model.specs.controller_model.declared.range.PortRange.{PortRange}
 use Rattle.world_model.specs.Controller.{Acted}
 use Rattle.world_model.specs.Opening.{opened}
 use Rattle.controller_facts.specs.Inputs.{Input, Meanwhile, takes_input, takes_inputs}

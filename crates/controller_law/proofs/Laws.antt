@@ -8,7 +8,7 @@ use Rattle.world_model.specs.gsmp_wire.declared.request.Request.TheVariants.{Del
 use Rattle.world_model.specs.port_model.Requests.{input_of}
 use Rattle.controller_facts.specs.ordered_lists.Ordered.{Every}
 use Rattle.controller_facts.proofs.ordered_lists.Every.{every_mapped, every_map}
-use Rattle.world_model.specs.declared.range.PortRange.{PortRange}
+use Rattle.world_model.specs.controller_model.declared.range.PortRange.{PortRange}
 use Rattle.world_model.specs.Controller.{Acted}
 use Rattle.controller_facts.specs.Inputs.{Input, takes_inputs}
 use Rattle.controller_facts.specs.Sound.{linked_setup, IsLinkedPort, Opening, opened_by, setups_by}

@@ -4,7 +4,7 @@ use Rattle.std.specs.Prelude.{◌≡◌, ◌≤◌, ◌<◌, ◌+◌, true, fals
 use Rattle.world_model.specs.Words.{End, IsLinkPort, Standing, all_on, most_asked, Label, Controller, joins_of, label_on}
 use Rattle.controller_facts.specs.ordered_lists.Ordered.{Every, InOrder}
 use Rattle.world_model.specs.port_model.Requests.{input_of}
-use Rattle.world_model.specs.declared.range.PortRange.{PortRange}
+use Rattle.world_model.specs.controller_model.declared.range.PortRange.{PortRange}
 use Rattle.world_model.specs.Joins.{Join, output_of}
 use Rattle.controller_facts.specs.Inputs.{Input, takes_inputs}
 use Rattle.controller_facts.specs.Sound.{Opening, DifferInPort, opened_by}

@@ -8,7 +8,7 @@ use Rattle.world_model.specs.crossbar_model.declared.branch.Branch.{Branch}
 use Rattle.branch_shapes.proofs.ordered_lists.Every.{every_mapped}
 use Rattle.branch_shapes.proofs.port_facts.Keyed.{at_every}
 use Rattle.branch_shapes.proofs.controller_facts.Laws.{always_sound}
-use Rattle.world_model.specs.declared.event.Event.{Event}
+use Rattle.world_model.specs.network_model.declared.event.Event.{Event}
 use Rattle.world_model.specs.World.{opened}
 use Rattle.branch_shapes.proofs.lifetimes.Opened.{IsFed, opening_fed}
 use Rattle.branch_shapes.proofs.lifetimes.Runs.{run_fed}

@@ -3,7 +3,7 @@
 
 use Rattle.std.specs.Prelude.{◌≡◌, ◌<◌, true, List, [], ◌++◌, Contains, Some}
 use Rattle.world_model.specs.Words.{NodeId, Down, End, Standing, Policy, home_of, Topology, World, Site, queue_at, run, world_after, records_of, on_channel, output_at, HasCauses, IsTame, IsRun, leads}
-use Rattle.world_model.specs.declared.event.Event.{Event}
+use Rattle.world_model.specs.network_model.declared.event.Event.{Event}
 use Rattle.world_model.specs.World.{opened}
 use Rattle.branch_shapes.specs.world_views.Pairs.{IsJoin}
 use Rattle.branch_shapes.specs.world_views.Between.{EachSite, HasShapes}

@@ -12,11 +12,11 @@ use Rattle.gsmp_wire.specs.declared.message.Message.TheVariants.{Adjacency, Bran
 use Rattle.link_model.specs.Notes.{Journal}
 use Rattle.crossbar_model.specs.Channels.{is_connectable}
 use Rattle.crossbar_model.specs.Crossbar.{Branches}
-use Rattle.world_model.specs.declared.port.PortState.{PortState}
-use Rattle.world_model.specs.declared.request.Asked.{Asked}
+use Rattle.world_model.specs.switch_model.declared.port.PortState.{PortState}
+use Rattle.world_model.specs.switch_model.declared.request.Asked.{Asked}
 use Rattle.gsmp_wire.specs.declared.request.Request.{Request}
-use Rattle.world_model.specs.declared.request.Failure.{Failure}
-use Rattle.world_model.specs.declared.request.Failure.TheVariants.{NoPort, BadSession, PortDown, OutOfRange, SessionsSpent}
+use Rattle.world_model.specs.switch_model.declared.request.Failure.{Failure}
+use Rattle.world_model.specs.switch_model.declared.request.Failure.TheVariants.{NoPort, BadSession, PortDown, OutOfRange, SessionsSpent}
 use Rattle.gsmp_wire.specs.declared.request.Request.TheVariants.{AddBranch, MoveBranch, DeleteTree, VerifyTree, DeleteAll, PortManagement, AllPorts as AllPortsAsked}
 use Rattle.world_model.specs.Switch.{Switch, has_port, has_session, is_up, numbers_of, port_of}
 use Rattle.world_model.specs.Requests.{asked_in}

@@ -24,9 +24,9 @@ use Rattle.gsmp_wire.proofs.Places.{both}
 use Rattle.gsmp_wire.proofs.Reading.{six}
 use Rattle.gsmp_wire.proofs.Writing.{length-rows_octets}
 use Rattle.gsmp_wire.specs.declared.rows.PortRow.{PortRow}
-use Rattle.world_model.specs.declared.port.PortState.{PortState}
-use Rattle.world_model.specs.declared.request.Failure.{Failure}
-use Rattle.world_model.specs.declared.request.Failure.TheVariants.{NoPort, BadSession, PortDown, OutOfRange, Busy, NoConnection, SessionsSpent}
+use Rattle.world_model.specs.switch_model.declared.port.PortState.{PortState}
+use Rattle.world_model.specs.switch_model.declared.request.Failure.{Failure}
+use Rattle.world_model.specs.switch_model.declared.request.Failure.TheVariants.{NoPort, BadSession, PortDown, OutOfRange, Busy, NoConnection, SessionsSpent}
 use Rattle.world_model.specs.Requests.{end_at, is_request, result_of}
 use Rattle.world_model.specs.Answers.{count_of, failure_answer, failure_code, row_of, told_output}
 

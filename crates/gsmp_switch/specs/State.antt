@@ -5,11 +5,11 @@ use Rattle.net_types.specs.declared.node.PortNo.{PortNo}
 use Rattle.link_model.specs.Notes.{Journal}
 use Rattle.net_types.specs.Number.{GivenOut}
 use Rattle.crossbar_model.specs.Channels.{ArePorts}
-use Rattle.world_model.specs.declared.port.PortState.{PortState}
+use Rattle.world_model.specs.switch_model.declared.port.PortState.{PortState}
 use Rattle.gsmp_wire.specs.declared.request.Request.{Request}
 use Rattle.gsmp_wire.specs.declared.request.Request.TheVariants.{PortManagement}
 use Rattle.gsmp_wire.specs.declared.message.Message.{Message}
-use Rattle.world_model.specs.declared.request.Failure.{Failure}
+use Rattle.world_model.specs.switch_model.declared.request.Failure.{Failure}
 use Rattle.world_model.specs.Failures.{failure_of}
 use Rattle.world_model.specs.Requests.{asked_in}
 use Rattle.world_model.specs.Switch.{Acted, Switch, control_port, port_of}

@@ -15,11 +15,11 @@ use Rattle.ipv4_forward.specs.declared.table.Route.{Route}
 use Rattle.ipv4_forward.specs.Change.{changed, change_fault}
 use Rattle.lab_text.specs.Line.{line_fault}
 use Rattle.lab_text.specs.Words.{line_text}
-use Rattle.world_model.specs.declared.event.Event.{Event}
-use Rattle.world_model.specs.declared.event.Event.TheVariants.{Inject, Carry, Lose, Tick, TickSwitch, Restart, RestartSwitch, Forge, Route as RouteComes}
-use Rattle.world_model.specs.declared.line.TopologyLine.{TopologyLine}
-use Rattle.world_model.specs.declared.line.TopologyLine.TheVariants as lines
-use Rattle.world_model.specs.declared.refusal.EventRefusal.{EventRefusal}
+use Rattle.world_model.specs.network_model.declared.event.Event.{Event}
+use Rattle.world_model.specs.network_model.declared.event.Event.TheVariants.{Inject, Carry, Lose, Tick, TickSwitch, Restart, RestartSwitch, Forge, Route as RouteComes}
+use Rattle.world_model.specs.network_model.declared.line.TopologyLine.{TopologyLine}
+use Rattle.world_model.specs.network_model.declared.line.TopologyLine.TheVariants as lines
+use Rattle.world_model.specs.network_model.declared.refusal.EventRefusal.{EventRefusal}
 use Rattle.world_model.specs.Conditions.{IsNode, IsTopology}
 use Rattle.world_model.specs.Events.{or_else, change_refusal, next_refusal}
 use Rattle.world_model.specs.Lines.{is_named, node_named, with_line}

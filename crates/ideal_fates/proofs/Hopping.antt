@@ -17,7 +17,7 @@ use Rattle.ipv4_forward.specs.declared.outcome.Hop.TheVariants.{Here, On, NoRout
 use Rattle.ipv4_forward.specs.Hop.{hop_by, hop_of, onward}
 use Rattle.link_model.specs.declared.record.DropCause.TheVariants.{NoRoute as NoRouteCause, Expired as ExpiredCause}
 use Rattle.world_model.specs.Fates.{Fate, IsDelivered, IsDropped, by_route}
-use Rattle.world_model.specs.declared.link.LinkEnd.{LinkEnd}
+use Rattle.world_model.specs.network_model.declared.link.LinkEnd.{LinkEnd}
 use Rattle.world_model.specs.Conditions.{IsNode, IsLink, IsTopology}
 use Rattle.world_model.specs.Topology.{Topology, Link, same_link_end, peer_among, peer_of}
 use Rattle.topology.specs.Readers.{end_pair}

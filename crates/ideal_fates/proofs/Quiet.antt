@@ -4,8 +4,8 @@ use Rattle.std.proofs.Common.{◌≡◌, ◌∙◌, ℕ, zero, suc, ◌&&◌, Bo
 use Rattle.std.specs.List.{list_all, repeat}
 use Rattle.std.proofs.lemmas.List.Folds.{list_all-append}
 use Rattle.ipv4_forward.specs.declared.table.Route.{Route}
-use Rattle.world_model.specs.declared.event.Event.{Event}
-use Rattle.world_model.specs.declared.event.Event.TheVariants.{Inject, Carry, Lose, Tick, TickSwitch, Restart, RestartSwitch, Forge, Route as RouteComes}
+use Rattle.world_model.specs.network_model.declared.event.Event.{Event}
+use Rattle.world_model.specs.network_model.declared.event.Event.TheVariants.{Inject, Carry, Lose, Tick, TickSwitch, Restart, RestartSwitch, Forge, Route as RouteComes}
 use Rattle.world_model.specs.Topology.{Topology}
 use Rattle.world_model.specs.World.{World}
 use Rattle.world_model.specs.Places.{places}

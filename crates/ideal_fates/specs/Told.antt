@@ -9,8 +9,8 @@ use Rattle.lab_text.specs.Text.{line_of}
 use Rattle.link_model.specs.declared.record.Record.{Record}
 use Rattle.link_model.specs.declared.record.Record.TheVariants.{Delivered, Dropped, Refused}
 use Rattle.world_model.specs.Packets.{inject_refusal}
-use Rattle.world_model.specs.declared.event.Event.{Event}
-use Rattle.world_model.specs.declared.event.Event.TheVariants.{Inject, Route as RouteComes}
+use Rattle.world_model.specs.network_model.declared.event.Event.{Event}
+use Rattle.world_model.specs.network_model.declared.event.Event.TheVariants.{Inject, Route as RouteComes}
 use Rattle.world_model.specs.Conditions.{IsNode, IsTopology}
 use Rattle.world_model.specs.Topology.{Topology}
 use Rattle.script_model.specs.declared.line.Line.{Line}

@@ -6,7 +6,7 @@ ghost use Rattle.script_model.specs.Limits.{greatest_event_lines};
 ghost use Rattle.script_model.specs.Reports.{record_lines};
 ghost use Rattle.script_model.specs.State.{table_in};
 ghost use Rattle.world_model.specs.Conditions.{IsNode, IsTopology};
-ghost use Rattle.world_model.specs.declared.event.Event.TheVariants.{Route as RouteComes};
+ghost use Rattle.world_model.specs.network_model.declared.event.Event.TheVariants.{Route as RouteComes};
 ghost use Rattle.ideal_fates.specs.Told.{nothing_told, tables_under, opened_for, counted, after_event, after_line, sent_record, records_of, records_at, end_of, HasTables, FitsLine, FitsEvent};
 
 mod lines;

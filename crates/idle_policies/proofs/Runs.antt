@@ -7,8 +7,8 @@ use Rattle.world_model.specs.Words.{NodeId, Addr, Record, Bind, Policy, Setup, C
 use Rattle.run_facts.specs.ordered_lists.Ordered.{Every}
 use Rattle.run_facts.proofs.ordered_lists.Every.{every_all, every_join, every_mapped, every_unmapped}
 use Rattle.run_facts.proofs.port_facts.Keyed.{every_more}
-use Rattle.world_model.specs.declared.range.PortRange.{PortRange}
-use Rattle.world_model.specs.declared.event.Event.{Event}
+use Rattle.world_model.specs.controller_model.declared.range.PortRange.{PortRange}
+use Rattle.world_model.specs.network_model.declared.event.Event.{Event}
 use Rattle.world_model.specs.World.{opened}
 use Rattle.run_facts.specs.controller_facts.Inputs.{takes_inputs}
 use Rattle.run_facts.specs.controller_facts.Sound.{Opening, linked_setup, opened_by}

@@ -2,7 +2,7 @@
 
 use Rattle.std.specs.Prelude.{List}
 use Rattle.world_model.specs.Words.{Policy, Topology, past_of, IsRun, OffersNothing, BindsNothing}
-use Rattle.world_model.specs.declared.event.Event.{Event}
+use Rattle.world_model.specs.network_model.declared.event.Event.{Event}
 
 -- in every run, whatever frames are forged in it or pass by chance
 abbrev pub NothingIsBound : Type 0

@@ -9,9 +9,9 @@ use Rattle.world_model.specs.gsmp_wire.declared.message.Message.{Message}
 use Rattle.world_model.specs.gsmp_wire.declared.message.Message.TheVariants.{Adjacency, Branch, Port, AllPorts}
 use Rattle.world_model.specs.gsmp_wire.declared.request.Request.TheVariants as requests
 use Rattle.input_premises.specs.gsmp_reading.Said.{HasResult, succeeds, fails, HasBranches, no_branch, one_branch, NamesEnds, HasRows, all_told, all_failed, IsSaid}
-use Rattle.world_model.specs.declared.port.PortState.{PortState}
-use Rattle.world_model.specs.declared.request.Failure.{Failure}
-use Rattle.world_model.specs.declared.request.Failure.TheVariants.{NoPort, BadSession, PortDown, OutOfRange, Busy, NoConnection, SessionsSpent}
+use Rattle.world_model.specs.switch_model.declared.port.PortState.{PortState}
+use Rattle.world_model.specs.switch_model.declared.request.Failure.{Failure}
+use Rattle.world_model.specs.switch_model.declared.request.Failure.TheVariants.{NoPort, BadSession, PortDown, OutOfRange, Busy, NoConnection, SessionsSpent}
 use Rattle.world_model.specs.Answers.{row_of}
 use Rattle.input_premises.specs.input_steps.Asking.{IsReadable, IsAsked}
 use Rattle.input_premises.proofs.Written.{IsWritten, written}

@@ -30,7 +30,7 @@ use Rattle.input_premises.proofs.controller_facts.Laws.{moves_sound}
 use Rattle.input_premises.proofs.controller_facts.Moves.{gathering, moves_to}
 use Rattle.input_premises.specs.controller_law.Order.{IsOther, IsDeleting, IsMeeting, listing, emptying}
 use Rattle.input_premises.proofs.controller_law.Whole.{Whole}
-use Rattle.world_model.specs.declared.request.Asked.{Asked}
+use Rattle.world_model.specs.switch_model.declared.request.Asked.{Asked}
 use Rattle.world_model.specs.Ways.{told}
 use Rattle.input_premises.specs.shown_cells.Seen.{Seen, Nothing, Word, Unknown}
 use Rattle.input_premises.proofs.shown_cells.Shows.{First, no_word, a_word, first_of}

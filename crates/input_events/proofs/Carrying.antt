@@ -12,8 +12,8 @@ use Rattle.world_model.specs.gsmp_wire.declared.message.Message.{Message}
 use Rattle.world_model.specs.gsmp_wire.declared.message.Message.TheVariants.{Adjacency, Branch, Port, AllPorts}
 use Rattle.world_model.specs.gsmp_wire.declared.request.Request.TheVariants as requests
 use Rattle.input_premises.proofs.port_facts.Keyed.{on_each, on_both}
-use Rattle.world_model.specs.declared.request.Asked.{Asked}
-use Rattle.world_model.specs.declared.request.Failure.{Failure}
+use Rattle.world_model.specs.switch_model.declared.request.Asked.{Asked}
+use Rattle.world_model.specs.switch_model.declared.request.Failure.{Failure}
 use Rattle.world_model.specs.Switch as switches
 use Rattle.world_model.specs.Switch.{free_slots}
 use Rattle.world_model.specs.Requests.{cleared}

@@ -19,7 +19,7 @@ use Rattle.input_premises.specs.controller_facts.Sound.{linked_setup}
 use Rattle.input_premises.proofs.controller_facts.Laws.{has_ports}
 use Rattle.input_premises.proofs.controller_facts.Performing.{ports_linked}
 use Rattle.input_premises.proofs.controller_law.Whole.{Whole}
-use Rattle.world_model.specs.declared.port.PortState.{PortState}
+use Rattle.world_model.specs.switch_model.declared.port.PortState.{PortState}
 use Rattle.world_model.specs.Answers.{row_of}
 use Rattle.input_premises.specs.input_views.Shown.{before_of, behind_of, PhaseShows}
 use Rattle.input_premises.specs.input_steps.Asking.{IsReadable}

@@ -9,12 +9,12 @@ use Rattle.input_premises.specs.ordered_lists.Ordered.{Every, InOrder}
 use Rattle.input_premises.specs.gsmp_reading.Said.{IsSaid}
 use Rattle.world_model.specs.port_model.Messages.{is_up}
 use Rattle.input_premises.specs.port_facts.Port.{IsShaped}
-use Rattle.world_model.specs.declared.port.PortState.{PortState}
+use Rattle.world_model.specs.switch_model.declared.port.PortState.{PortState}
 use Rattle.world_model.specs.Answers.{row_of}
 use Rattle.world_model.specs.Controller.{ports_of}
-use Rattle.world_model.specs.declared.event.Event.{Event}
-use Rattle.world_model.specs.declared.event.Event.TheVariants.{Carry, Lose, Forge}
-use Rattle.world_model.specs.declared.link.LinkEnd.{LinkEnd}
+use Rattle.world_model.specs.network_model.declared.event.Event.{Event}
+use Rattle.world_model.specs.network_model.declared.event.Event.TheVariants.{Carry, Lose, Forge}
+use Rattle.world_model.specs.network_model.declared.link.LinkEnd.{LinkEnd}
 use Rattle.world_model.specs.Topology.{peer_of}
 use Rattle.input_premises.specs.shown_cells.Seen.{IsUnmade}
 use Rattle.input_premises.specs.input_steps.Hearing.{IsEnded, LeadsAway, PassesTrue}

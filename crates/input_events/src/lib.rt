@@ -5,7 +5,7 @@
 //! forge no frame and let none pass its test by chance on the GSMP channel. There is no code that runs.
 #![tactic(auto)]
 
-ghost use Rattle.world_model.specs.declared.event.Event.{Event};
+ghost use Rattle.world_model.specs.network_model.declared.event.Event.{Event};
 ghost use Rattle.world_model.specs.Words.{Topology, World, step};
 ghost use Rattle.input_events.specs.Coming.{HasLines, IsOrdinary, IsRunning};
 

@@ -12,7 +12,7 @@ use Rattle.world_model.specs.Meeting.{port_of, done}
 use Rattle.world_model.specs.gsmp_wire.declared.message.Message.{Message}
 use Rattle.input_views.specs.branch_line.Words.{Answer, Success}
 use Rattle.input_views.specs.branch_line.Line.{Line}
-use Rattle.world_model.specs.declared.request.Asked.{Asked}
+use Rattle.world_model.specs.switch_model.declared.request.Asked.{Asked}
 use Rattle.input_views.specs.Words.{word_of}
 use Rattle.input_views.specs.Shown.{IsAllPorts}
 use Rattle.input_steps.specs.Asking.{CanEach, MayAsk}

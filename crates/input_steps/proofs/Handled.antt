@@ -16,10 +16,10 @@ use Rattle.input_views.specs.branch_line.Words.{ToSwitch, ControllerGreets, Copy
 use Rattle.input_views.specs.branch_line.Line.{Line}
 use Rattle.input_views.specs.branch_line.Switch.{reply, takes_requests, branch_after, handle}
 use Rattle.input_views.specs.branch_line.Moves.{SwitchTakes, LoseAtSwitch}
-use Rattle.world_model.specs.declared.port.PortState.{PortState}
-use Rattle.world_model.specs.declared.request.Asked.{Asked}
-use Rattle.world_model.specs.declared.request.Failure.{Failure as Cause}
-use Rattle.world_model.specs.declared.request.Failure.TheVariants.{NoPort, BadSession, PortDown, OutOfRange, Busy, NoConnection, SessionsSpent}
+use Rattle.world_model.specs.switch_model.declared.port.PortState.{PortState}
+use Rattle.world_model.specs.switch_model.declared.request.Asked.{Asked}
+use Rattle.world_model.specs.switch_model.declared.request.Failure.{Failure as Cause}
+use Rattle.world_model.specs.switch_model.declared.request.Failure.TheVariants.{NoPort, BadSession, PortDown, OutOfRange, Busy, NoConnection, SessionsSpent}
 use Rattle.world_model.specs.Switch.{Acted}
 use Rattle.world_model.specs.Requests.{ended}
 use Rattle.world_model.specs.Conduct.{greeted, told}

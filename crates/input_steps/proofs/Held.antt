@@ -11,7 +11,7 @@ use Rattle.world_model.specs.port_model.DeskAnswers as answers
 use Rattle.input_views.specs.branch_line.Words as lines
 use Rattle.input_views.specs.branch_line.Words.{ToController, SwitchGreets, Answer}
 use Rattle.input_views.specs.branch_line.Line.{Line}
-use Rattle.world_model.specs.declared.request.Asked.{Asked}
+use Rattle.world_model.specs.switch_model.declared.request.Asked.{Asked}
 use Rattle.world_model.specs.Controller.{Acted}
 use Rattle.world_model.specs.Gsmp.{told, steps}
 use Rattle.input_views.specs.shown_cells.Seen.{Seen, Nothing, Word, Unknown}

@@ -15,7 +15,7 @@ use Rattle.input_views.specs.branch_line.Words.{ToSwitch}
 use Rattle.input_views.specs.branch_line.Line.{Line}
 use Rattle.input_views.specs.branch_line.Switch.{restart_switch}
 use Rattle.input_views.specs.branch_line.Moves.{CarryToSwitch, SwitchRestarts, carry_to_switch}
-use Rattle.world_model.specs.declared.port.PortState.{PortState}
+use Rattle.world_model.specs.switch_model.declared.port.PortState.{PortState}
 use Rattle.world_model.specs.Switch.{Acted, begun, free_slots}
 use Rattle.world_model.specs.Conduct.{after_test, ends_frame, after_cell}
 use Rattle.input_views.specs.shown_cells.Seen.{Nothing, Word, nothing}

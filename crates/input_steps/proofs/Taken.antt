@@ -16,7 +16,7 @@ use Rattle.input_views.specs.branch_line.Line.{Other, Meeting, Listing, Emptying
 use Rattle.input_views.specs.branch_line.Asking.{has_met}
 use Rattle.input_views.specs.branch_line.Controller.{answers_asked, answers_other, input_answered, other_answered, hear_answer, empty_ports}
 use Rattle.input_views.specs.branch_line.Moves.{ControllerTakes, LoseAtController}
-use Rattle.world_model.specs.declared.request.Asked.{Asked}
+use Rattle.world_model.specs.switch_model.declared.request.Asked.{Asked}
 use Rattle.world_model.specs.Controller.{Acted}
 use Rattle.input_views.specs.Words.{type_of, word_of, is_own, own_of, other_of, others_of}
 use Rattle.input_views.specs.Shown.{AskedShows, IsAllPorts, IsDeleteAll, PhaseShows}

@@ -16,7 +16,7 @@ ghost use Rattle.world_model.specs.gsmp_wire.declared.request.Request.TheVariant
 ghost use Rattle.input_views.specs.ordered_lists.Ordered.{Every};
 ghost use Rattle.input_views.specs.branch_line.Words.{ToController, SwitchGreets, Answer, Success};
 ghost use Rattle.input_views.specs.branch_line.Line.{Line};
-ghost use Rattle.world_model.specs.declared.request.Asked.{Asked};
+ghost use Rattle.world_model.specs.switch_model.declared.request.Asked.{Asked};
 ghost use Rattle.world_model.specs.Switch as switches;
 ghost use Rattle.world_model.specs.Controller as controllers;
 ghost use Rattle.world_model.specs.Cells.{cell_comes};

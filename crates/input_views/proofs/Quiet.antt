@@ -3,7 +3,7 @@
 use Rattle.std.proofs.Common.{◌≡◌, ℕ, List, [], sym, ◌∙◌, ap, subst, arith}
 use Rattle.world_model.specs.Words.{End, NodeId, Party, Side, is_estab, side_of, Frame, Reassembly, Desk, numbers_of, Site}
 use Rattle.branch_line.specs.Line.{Line}
-use Rattle.world_model.specs.declared.port.PortState.{PortState}
+use Rattle.world_model.specs.switch_model.declared.port.PortState.{PortState}
 use Rattle.input_views.specs.Words.{own_of, others_of}
 use Rattle.input_views.specs.Shown.{controller_of, switch_of, AskedShows, PhaseShows, before_of, behind_of, ShowsRequests, ShowsAnswers, InputShows}
 use Rattle.input_views.specs.Quiet.{IsQuietAt}

@@ -5,7 +5,7 @@ use Rattle.std.specs.Prelude.{◌==◌, ◌&&◌, find}
 use Rattle.world_model.specs.Words.{End, NodeId, GivenOut, Cell, is_estab, Frame, payload_of, queue_of, Standing, Head, head_of, is_of_type, Unknown, Done, Failed, succeeded, outcome, answered_with, answered, without_request, control_port, asked_in, default_channel, same_channel, Site, gsmp_of, copy_by}
 use Rattle.world_model.specs.gsmp_wire.declared.message.Message.{Message}
 use Rattle.world_model.specs.gsmp_wire.declared.message.Message.TheVariants as messages
-use Rattle.world_model.specs.declared.request.Asked.{Asked}
+use Rattle.world_model.specs.switch_model.declared.request.Asked.{Asked}
 use Rattle.world_model.specs.Controller.{Acted}
 use Rattle.frame_readings.specs.branch_line.Words.{ToController, SwitchGreets, Answer, Success}
 use Rattle.frame_readings.specs.branch_line.Words as words

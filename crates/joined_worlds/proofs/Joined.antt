@@ -22,8 +22,8 @@ use Rattle.frame_readings.proofs.controller_facts.Laws.{has_ports, moves_sound}
 use Rattle.frame_readings.proofs.controller_facts.Moves.{HasPorts, ages}
 use Rattle.frame_readings.proofs.controller_facts.Events.{steps_goes, sends_again_goes, ticks_ports_goes}
 use Rattle.fed_worlds.specs.controller_law.Match.{lent_in, lent_at}
-use Rattle.world_model.specs.declared.event.Event.{Event}
-use Rattle.world_model.specs.declared.event.Event.TheVariants.{Inject, Carry, Lose, Tick, TickSwitch, Restart, RestartSwitch, Forge, Route}
+use Rattle.world_model.specs.network_model.declared.event.Event.{Event}
+use Rattle.world_model.specs.network_model.declared.event.Event.TheVariants.{Inject, Carry, Lose, Tick, TickSwitch, Restart, RestartSwitch, Forge, Route}
 use Rattle.world_model.specs.Ways.{told}
 use Rattle.fed_worlds.specs.lifetimes.Run.{if_at, comes_to}
 use Rattle.fed_worlds.proofs.lifetimes.Feeding.{after_of}

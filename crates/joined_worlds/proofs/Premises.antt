@@ -12,9 +12,9 @@ use Rattle.world_model.specs.frame_model.Reassembly.{taken}
 use Rattle.world_model.specs.Switch as switches
 use Rattle.world_model.specs.Controller as controllers
 use Rattle.world_model.specs.Cells.{Taker}
-use Rattle.world_model.specs.declared.event.Event.{Event}
-use Rattle.world_model.specs.declared.event.Event.TheVariants.{Inject, Carry, Lose, Tick, TickSwitch, Restart, RestartSwitch, Forge, Route}
-use Rattle.world_model.specs.declared.link.LinkEnd.{LinkEnd}
+use Rattle.world_model.specs.network_model.declared.event.Event.{Event}
+use Rattle.world_model.specs.network_model.declared.event.Event.TheVariants.{Inject, Carry, Lose, Tick, TickSwitch, Restart, RestartSwitch, Forge, Route}
+use Rattle.world_model.specs.network_model.declared.link.LinkEnd.{LinkEnd}
 use Rattle.world_model.specs.Topology.{peer_of}
 use Rattle.world_model.specs.Ways.{told}
 use Rattle.running_worlds.specs.input_steps.Hearing.{PassesTrue}

@@ -6,8 +6,8 @@ use Rattle.world_model.specs.Words.{Channel, NodeId, Up, Cell, Frame, payload_of
 use Rattle.world_model.specs.gsmp_wire.declared.message.Message.{Message}
 use Rattle.frame_readings.specs.label_line.Cells.{Downstream, Upstream}
 use Rattle.frame_readings.specs.port_views.Link.{LinkLabel}
-use Rattle.world_model.specs.declared.event.Event.{Event}
-use Rattle.world_model.specs.declared.event.Event.TheVariants.{Carry}
+use Rattle.world_model.specs.network_model.declared.event.Event.{Event}
+use Rattle.world_model.specs.network_model.declared.event.Event.TheVariants.{Carry}
 use Rattle.fed_worlds.proofs.causes.Shown.{peer_back}
 use Rattle.run_facts.specs.Nodes.{RunsHaveNodes, IsNodeOfRun}
 use Rattle.run_facts.specs.Steps.{RunsHaveFronts}

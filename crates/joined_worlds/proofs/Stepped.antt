@@ -9,8 +9,8 @@ use Rattle.world_model.specs.frame_model.Frame.{octets_of}
 use Rattle.world_model.specs.frame_model.Reassembly.{taken}
 use Rattle.world_model.specs.Controller.{free_slots}
 use Rattle.frame_readings.specs.controller_facts.Inputs.{Input, CellComes, PacketEnters, Ticks, Restarts, ChangeComes, FrameIsForged}
-use Rattle.world_model.specs.declared.event.Event.{Event}
-use Rattle.world_model.specs.declared.event.Event.TheVariants.{Inject, Carry, Lose, Tick, TickSwitch, Restart, RestartSwitch, Forge, Route}
+use Rattle.world_model.specs.network_model.declared.event.Event.{Event}
+use Rattle.world_model.specs.network_model.declared.event.Event.TheVariants.{Inject, Carry, Lose, Tick, TickSwitch, Restart, RestartSwitch, Forge, Route}
 use Rattle.world_model.specs.World.{opened}
 use Rattle.fed_worlds.specs.lifetimes.Run.{if_at, head_comes, head_leaves, comes_to}
 use Rattle.fed_worlds.proofs.lifetimes.Opened.{opening_fed}

@@ -11,7 +11,7 @@ use Rattle.controller_lifts.specs.label_line.Cells.{Role, Downstream, Upstream}
 use Rattle.controller_lifts.specs.label_line.Line.{Line}
 use Rattle.world_model.specs.Switch.{Acted, free_slots}
 use Rattle.world_model.specs.Conduct.{passed, cell_comes}
-use Rattle.world_model.specs.declared.link.LinkEnd.{LinkEnd}
+use Rattle.world_model.specs.network_model.declared.link.LinkEnd.{LinkEnd}
 use Rattle.world_model.specs.Topology.{peer_of}
 use Rattle.controller_lifts.specs.port_views.Link.{LinkLabel, other}
 use Rattle.controller_lifts.specs.controller_views.Lifted.{IsProper}

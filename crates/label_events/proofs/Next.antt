@@ -5,8 +5,8 @@ use Rattle.world_model.specs.Words.{End, NodeId, Place, Down, Up, Out, Cell, pay
 use Rattle.controller_lifts.specs.label_line.Cells.{Upstream}
 use Rattle.controller_lifts.specs.label_line.Line.{Line}
 use Rattle.world_model.specs.Ticks.{ticks}
-use Rattle.world_model.specs.declared.event.Event.TheVariants.{Inject, Carry, Lose, Tick, TickSwitch, Restart, RestartSwitch, Route}
-use Rattle.world_model.specs.declared.link.LinkEnd.{LinkEnd}
+use Rattle.world_model.specs.network_model.declared.event.Event.TheVariants.{Inject, Carry, Lose, Tick, TickSwitch, Restart, RestartSwitch, Route}
+use Rattle.world_model.specs.network_model.declared.link.LinkEnd.{LinkEnd}
 use Rattle.world_model.specs.Topology.{peer_of}
 use Rattle.world_model.specs.World.{at_controller, at_switch}
 use Rattle.controller_lifts.specs.port_views.Link.{LinkLabel}

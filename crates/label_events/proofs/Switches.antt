@@ -18,8 +18,8 @@ use Rattle.world_model.specs.crossbar_model.declared.branch.Branch.{Branch}
 use Rattle.controller_lifts.proofs.port_facts.Keyed.{on_both}
 use Rattle.controller_lifts.specs.label_line.Cells as lines
 use Rattle.controller_lifts.specs.label_line.Cells.{Role}
-use Rattle.world_model.specs.declared.request.Asked.{Asked}
-use Rattle.world_model.specs.declared.request.Failure.{Failure}
+use Rattle.world_model.specs.switch_model.declared.request.Asked.{Asked}
+use Rattle.world_model.specs.switch_model.declared.request.Failure.{Failure}
 use Rattle.world_model.specs.Switch.{Acted, free_slots}
 use Rattle.world_model.specs.Requests.{ended, cleared}
 use Rattle.world_model.specs.Conduct.{with_cells, says, answers, steps, told, opened_frame, ends_frame}

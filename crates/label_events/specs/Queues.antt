@@ -6,7 +6,7 @@ use Rattle.world_model.specs.Words.{End, PortNo, Place, Down, Up, Out, channel_o
 use Rattle.world_model.specs.crossbar_model.declared.branch.Branch.{Branch}
 use Rattle.world_model.specs.crossbar_model.Crossbar.{input_of, output_of}
 use Rattle.controller_lifts.specs.label_line.Cells.{Role}
-use Rattle.world_model.specs.declared.link.LinkEnd.{LinkEnd}
+use Rattle.world_model.specs.network_model.declared.link.LinkEnd.{LinkEnd}
 use Rattle.controller_lifts.specs.port_views.Link.{LinkLabel, other}
 use Rattle.world_views.specs.Shown.{end_of}
 

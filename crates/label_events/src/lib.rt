@@ -10,8 +10,8 @@ ghost use Rattle.std.specs.Prelude.{◌≡◌, ◌<◌, ◌∷◌, ◌+◌, ℕ,
 ghost use Rattle.world_model.specs.Words.{End, NodeId, Place, Down, Up, Out, Cell, payload_of, queue_of, control_port, RouteChange, label_end, Topology, World, Site, site_at, place_node, next, put_away, output_at};
 ghost use Rattle.controller_lifts.specs.label_line.Cells.{Upstream};
 ghost use Rattle.controller_lifts.specs.label_line.Line.{Line};
-ghost use Rattle.world_model.specs.declared.link.LinkEnd.{LinkEnd};
-ghost use Rattle.world_model.specs.declared.event.Event.TheVariants.{Inject, Carry, Lose, Tick, TickSwitch, Restart, RestartSwitch, Route};
+ghost use Rattle.world_model.specs.network_model.declared.link.LinkEnd.{LinkEnd};
+ghost use Rattle.world_model.specs.network_model.declared.event.Event.TheVariants.{Inject, Carry, Lose, Tick, TickSwitch, Restart, RestartSwitch, Route};
 ghost use Rattle.world_model.specs.Topology.{peer_of};
 ghost use Rattle.controller_lifts.specs.port_views.Link.{LinkLabel};
 ghost use Rattle.controller_lifts.specs.controller_views.Lifted.{IsProper};

@@ -10,7 +10,7 @@ use Rattle.world_model.specs.crossbar_model.declared.branch.Branch.{Branch}
 use Rattle.world_model.specs.crossbar_model.Crossbar.{input_of, output_of}
 use Rattle.label_events.specs.port_facts.Port.{setup_port, IsLinked, IsLabelEnd}
 use Rattle.label_events.specs.label_line.Cells.{Role, Downstream, Upstream}
-use Rattle.world_model.specs.declared.link.LinkEnd.{LinkEnd}
+use Rattle.world_model.specs.network_model.declared.link.LinkEnd.{LinkEnd}
 use Rattle.world_model.specs.Topology.{peer_of}
 use Rattle.label_events.specs.port_views.Link.{LinkLabel, other}
 use Rattle.label_events.specs.controller_views.Lifted.{IsProper}

@@ -10,9 +10,9 @@ use Rattle.label_events.proofs.port_facts.Keyed.{at_every}
 use Rattle.label_events.specs.port_facts.Port.{IsGrant}
 use Rattle.label_events.specs.controller_facts.Sound.{IsSound, IsLinkedPort}
 use Rattle.label_events.specs.label_line.Line.{Line}
-use Rattle.world_model.specs.declared.event.Event.{Event}
-use Rattle.world_model.specs.declared.event.Event.TheVariants.{Inject, Carry, Lose, TickSwitch, Restart, RestartSwitch, Route}
-use Rattle.world_model.specs.declared.link.LinkEnd.{LinkEnd}
+use Rattle.world_model.specs.network_model.declared.event.Event.{Event}
+use Rattle.world_model.specs.network_model.declared.event.Event.TheVariants.{Inject, Carry, Lose, TickSwitch, Restart, RestartSwitch, Route}
+use Rattle.world_model.specs.network_model.declared.link.LinkEnd.{LinkEnd}
 use Rattle.world_model.specs.Topology.{peer_of}
 use Rattle.label_events.specs.port_views.Link.{LinkLabel}
 use Rattle.label_events.specs.arrival_views.Packets.{HasLabelGrants}

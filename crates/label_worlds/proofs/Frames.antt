@@ -20,7 +20,7 @@ use Rattle.label_events.proofs.controller_views.Works.{port_is}
 use Rattle.label_events.specs.arrival_views.Packets.{IsFree, of_control, of_packet, IsPlain}
 use Rattle.label_events.specs.arrival_views.Cells.{IsTold}
 use Rattle.label_events.proofs.arrival_views.Hears.{told_is}
-use Rattle.world_model.specs.declared.link.LinkEnd.{LinkEnd}
+use Rattle.world_model.specs.network_model.declared.link.LinkEnd.{LinkEnd}
 use Rattle.label_events.specs.world_views.Made.{IsFit}
 use Rattle.label_events.specs.world_views.Marks.{Heading, own_end, heading_at, IsNewest, Means, early, control, local, plain, labelled}
 use Rattle.label_events.specs.world_views.Shown.{acting}

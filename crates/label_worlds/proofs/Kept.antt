@@ -6,8 +6,8 @@ use Rattle.label_events.specs.label_line.Cells.{Upstream}
 use Rattle.label_events.specs.label_line.Line.{Line}
 use Rattle.label_events.specs.label_line.Moves.{run}
 use Rattle.label_events.specs.label_line.Law.{IsReached}
-use Rattle.world_model.specs.declared.event.Event.{Event}
-use Rattle.world_model.specs.declared.event.Event.TheVariants.{Inject, Carry, Lose, Tick, TickSwitch, Restart, RestartSwitch, Forge, Route}
+use Rattle.world_model.specs.network_model.declared.event.Event.{Event}
+use Rattle.world_model.specs.network_model.declared.event.Event.TheVariants.{Inject, Carry, Lose, Tick, TickSwitch, Restart, RestartSwitch, Forge, Route}
 use Rattle.world_model.specs.World.{opened}
 use Rattle.label_events.specs.port_views.Link.{LinkLabel}
 use Rattle.label_events.proofs.port_views.Reach.{run_join}

@@ -1,7 +1,7 @@
 -- pairs of labels behind an event are pairs before it, but at a tick
 
 use Rattle.std.proofs.Common.{◌⊎◌, inl, inr}
-use Rattle.world_model.specs.declared.event.Event.TheVariants.{Inject, Carry, Lose, Tick, TickSwitch, Restart, RestartSwitch, Forge, Route}
+use Rattle.world_model.specs.network_model.declared.event.Event.TheVariants.{Inject, Carry, Lose, Tick, TickSwitch, Restart, RestartSwitch, Forge, Route}
 use Rattle.pairs.specs.Past.{RunsMakeNoPairs}
 use Rattle.label_worlds.specs.Conduct.{PairsAreOld}
 

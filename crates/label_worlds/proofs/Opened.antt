@@ -6,7 +6,7 @@ use Rattle.std.specs.FinMap.{empty}
 use Rattle.world_model.specs.Words.{NodeId, PortNo, GivenOut, Clearing, fresh, router, Cell, Crossbar, queue_of, Policy, Setup, Linked, port_key, linked_at, setup_of, opens_ports, Topology, Node, ranges_of, timers_of, World, Site, site_key, site_at, empty_world, opened_site, with_opened, opens_each}
 use Rattle.label_events.specs.ordered_lists.Ordered.{Every}
 use Rattle.label_events.proofs.port_facts.Keyed.{at_every, every_more}
-use Rattle.world_model.specs.declared.range.PortRange.{PortRange}
+use Rattle.world_model.specs.controller_model.declared.range.PortRange.{PortRange}
 use Rattle.world_model.specs.World.{opened}
 
 -- *A port* in its opening state

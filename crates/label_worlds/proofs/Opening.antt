@@ -11,7 +11,7 @@ use Rattle.world_model.specs.crossbar_model.declared.branch.Branch.{Branch}
 use Rattle.world_model.specs.crossbar_model.Crossbar.{output_of}
 use Rattle.label_events.specs.label_line.Cells.{Role, Downstream, Upstream}
 use Rattle.label_events.specs.label_line.Line.{Line, NoGrant, start}
-use Rattle.world_model.specs.declared.link.LinkEnd.{LinkEnd}
+use Rattle.world_model.specs.network_model.declared.link.LinkEnd.{LinkEnd}
 use Rattle.world_model.specs.World.{opened}
 use Rattle.label_events.specs.port_views.Link.{LinkLabel}
 use Rattle.label_events.specs.port_views.Shown.{DownAt, UpAt, GrantShows, Once, part_of, label_of, flow_of, number_of, known_number, expected_number}

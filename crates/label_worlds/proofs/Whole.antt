@@ -6,9 +6,9 @@ use Rattle.world_model.specs.Words.{NodeId, Addr, Policy, Setup, Linked, port_ke
 use Rattle.label_events.specs.ordered_lists.Ordered.{Every}
 use Rattle.label_events.proofs.ordered_lists.Every.{every_unmapped}
 use Rattle.label_events.proofs.port_facts.Keyed.{at_every}
-use Rattle.world_model.specs.declared.range.PortRange.{PortRange}
+use Rattle.world_model.specs.controller_model.declared.range.PortRange.{PortRange}
 use Rattle.label_events.specs.label_line.Cells.{Role, Downstream, Upstream}
-use Rattle.world_model.specs.declared.link.LinkEnd.{LinkEnd}
+use Rattle.world_model.specs.network_model.declared.link.LinkEnd.{LinkEnd}
 use Rattle.world_model.specs.World.{opened}
 use Rattle.label_events.specs.port_views.Link.{LinkLabel}
 use Rattle.label_events.specs.world_views.Between.{HasAddress, IsLinkLabel, HasAllLabels}

@@ -12,8 +12,8 @@ use Rattle.world_model.specs.Ticks.{ticks}
 use Rattle.label_events.specs.controller_facts.Sound.{linked_setup}
 use Rattle.label_events.proofs.controller_facts.Drawn.{ticks_few}
 use Rattle.label_events.specs.arrival_views.Cells.{PassesByRight, EndsFrame}
-use Rattle.world_model.specs.declared.event.Event.{Event}
-use Rattle.world_model.specs.declared.event.Event.TheVariants.{Carry, Tick}
+use Rattle.world_model.specs.network_model.declared.event.Event.{Event}
+use Rattle.world_model.specs.network_model.declared.event.Event.TheVariants.{Carry, Tick}
 use Rattle.world_model.specs.World.{at_controller, opened}
 use Rattle.label_events.specs.world_views.Pairs.{Pairs, IsLike}
 use Rattle.pairs.specs.Events.{EntersAt}

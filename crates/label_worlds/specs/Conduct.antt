@@ -4,8 +4,8 @@
 use Rattle.std.specs.Prelude.{◌≡◌, ◌<◌, List, ◌∷◌, Some}
 use Rattle.world_model.specs.Words.{End, NodeId, Up, Cell, queue_of, control_port, Policy, Topology, World, Site, site_at, put_away, past_of}
 use Rattle.label_events.specs.label_line.Line.{Line}
-use Rattle.world_model.specs.declared.event.Event.{Event}
-use Rattle.world_model.specs.declared.event.Event.TheVariants.{Carry, Tick}
+use Rattle.world_model.specs.network_model.declared.event.Event.{Event}
+use Rattle.world_model.specs.network_model.declared.event.Event.TheVariants.{Carry, Tick}
 use Rattle.label_events.specs.port_views.Link.{LinkLabel}
 use Rattle.label_events.specs.world_views.Pairs.{Pairs, IsLike}
 use Rattle.label_events.specs.world_views.Shown.{WorldShows, WorldGoes}

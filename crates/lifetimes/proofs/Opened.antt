@@ -8,7 +8,7 @@ use Rattle.std.proofs.lemmas.Bool.Decides.{nat_tests}
 use Rattle.world_model.specs.Words.{NodeId, PortNo, GivenOut, Journal, IsLinkPort, Policy, Topology, Node, default_range, range_among, ranges_of, timers_of, World, Site, opened_site, with_opened, opens_each, empty_world}
 use Rattle.controller_law.specs.ordered_lists.Ordered.{Every, InOrder}
 use Rattle.controller_law.proofs.port_facts.Keyed.{every_more}
-use Rattle.world_model.specs.declared.range.PortRange.{PortRange}
+use Rattle.world_model.specs.controller_model.declared.range.PortRange.{PortRange}
 use Rattle.controller_law.specs.controller_facts.Inputs.{Input, takes_inputs}
 use Rattle.controller_law.specs.controller_facts.Sound.{Opening, DifferInPort, opened_by}
 use Rattle.controller_law.specs.Law.{IsOpening}

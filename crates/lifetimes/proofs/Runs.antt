@@ -12,8 +12,8 @@ use Rattle.world_model.specs.Ticks.{ticks}
 use Rattle.controller_law.specs.controller_facts.Inputs.{Input, Ticks, Meanwhile, takes_input, takes_inputs}
 use Rattle.controller_law.specs.controller_facts.Sound.{Opening, opened_by}
 use Rattle.controller_law.specs.Law.{IsOpening}
-use Rattle.world_model.specs.declared.event.Event.{Event}
-use Rattle.world_model.specs.declared.event.Event.TheVariants.{Inject, Carry, Lose, Tick, TickSwitch, Restart, RestartSwitch, Forge, Route}
+use Rattle.world_model.specs.network_model.declared.event.Event.{Event}
+use Rattle.world_model.specs.network_model.declared.event.Event.TheVariants.{Inject, Carry, Lose, Tick, TickSwitch, Restart, RestartSwitch, Forge, Route}
 use Rattle.world_model.specs.World.{opened}
 use Rattle.lifetimes.specs.Setting.{Sets}
 use Rattle.lifetimes.specs.Aging.{reaches_at, has_switch, one_tick, ticks_among, NotSet, NoneSets, IsCounted, grant_at, HasEnded}

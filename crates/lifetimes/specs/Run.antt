@@ -5,8 +5,8 @@ use Rattle.std.specs.Option.{option_map_or, option_and_then}
 use Rattle.world_model.specs.Words.{NodeId, PortNo, Place, Down, Up, Out, End, next_control, Cell, is_led_home, Policy, home_of, control_end, Grant, ByInput, Controller, Topology, World, controller_at, queue_at, put_away, next, world_after}
 use Rattle.world_model.specs.Controller.{Acted}
 use Rattle.controller_law.specs.controller_facts.Inputs.{Input, CellComes, PacketEnters, Ticks, Restarts, ChangeComes, FrameIsForged, CellLeaves}
-use Rattle.world_model.specs.declared.event.Event.{Event}
-use Rattle.world_model.specs.declared.event.Event.TheVariants.{Inject, Carry, Lose, Tick, Restart, Forge, Route}
+use Rattle.world_model.specs.network_model.declared.event.Event.{Event}
+use Rattle.world_model.specs.network_model.declared.event.Event.TheVariants.{Inject, Carry, Lose, Tick, Restart, Forge, Route}
 use Rattle.world_model.specs.World.{opened}
 use Rattle.lifetimes.specs.Setting.{Sets}
 use Rattle.lifetimes.specs.Aging.{reaches_at, has_switch, grant_at, HasEnded}

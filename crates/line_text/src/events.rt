@@ -1,7 +1,7 @@
 //! The lines of events.
 
 ghost use Rattle.std.specs.Prelude.{◌≡◌, ◌++◌, ◌∷◌, [], OnOk, OnErr, codes};
-ghost use Rattle.world_model.specs.declared.event.Event.TheVariants as of;
+ghost use Rattle.world_model.specs.network_model.declared.event.Event.TheVariants as of;
 ghost use Rattle.lab_text.specs.Text.{line_of};
 ghost use Rattle.script_model.specs.Texts.{name_of, place_text};
 ghost use Rattle.script_model.specs.Writing.{event_words};

@@ -1,7 +1,7 @@
 //! The lines of a topology.
 
 ghost use Rattle.std.specs.Prelude.{◌≡◌, ◌++◌, OnOk, OnErr, codes};
-ghost use Rattle.world_model.specs.declared.line.TopologyLine.TheVariants as lines;
+ghost use Rattle.world_model.specs.network_model.declared.line.TopologyLine.TheVariants as lines;
 ghost use Rattle.lab_text.specs.Text.{line_of};
 ghost use Rattle.script_model.specs.Texts.{label_text, port_text};
 ghost use Rattle.script_model.specs.Writing.{topology_words};

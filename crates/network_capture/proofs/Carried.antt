@@ -5,8 +5,8 @@ use Rattle.link_model.specs.Notes.{Journal}
 use Rattle.net_types.specs.declared.node.Place.{Place}
 use Rattle.world_model.specs.Conditions.{IsEvent, IsPlace}
 use Rattle.world_model.specs.Controller.{Controller}
-use Rattle.world_model.specs.declared.event.Event.{Event}
-use Rattle.world_model.specs.declared.event.Event.TheVariants.{Carry}
+use Rattle.world_model.specs.network_model.declared.event.Event.{Event}
+use Rattle.world_model.specs.network_model.declared.event.Event.TheVariants.{Carry}
 use Rattle.world_model.specs.Places.{place_node, queue_number}
 use Rattle.world.specs.declared.world.World.{World as Network}
 use Rattle.world.specs.Network.{IsNodeIn, world_of}

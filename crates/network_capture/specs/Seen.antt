@@ -1,7 +1,7 @@
 -- What a teller knows, and what it has seen of the world to which an event is to come; no claim rests on these words
 
 use Rattle.std.specs.Prelude.{◌≡◌}
-use Rattle.world_model.specs.declared.event.Event.{Event}
+use Rattle.world_model.specs.network_model.declared.event.Event.{Event}
 use Rattle.world_model.specs.World.{World}
 use Rattle.network_capture.specs.declared.teller.CaptureTeller.{CaptureTeller}
 use Rattle.network_capture.specs.Capture.{Tapped, carried}

@@ -3,7 +3,7 @@
 use Rattle.std.proofs.Common.{◌≡◌, ℕ, ◌+◌, if◌then◌else◌, Bool, true, false, List, [], ◌∷◌, ◌++◌, append_assoc, codes, drop, length, map, refl, sym, ap, ◌∙◌}
 use Rattle.std.specs.Prelude.{decimal}
 use Rattle.link_model.specs.declared.record.Record.{Record}
-use Rattle.world_model.specs.declared.event.Event.{Event}
+use Rattle.world_model.specs.network_model.declared.event.Event.{Event}
 use Rattle.world_model.specs.Run.{next}
 use Rattle.world_model.specs.Topology.{Topology}
 use Rattle.world_model.specs.World.{World}

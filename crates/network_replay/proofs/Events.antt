@@ -18,9 +18,9 @@ use Rattle.ipv4_forward.specs.declared.table.Next.{Next}
 use Rattle.ipv4_forward.specs.declared.table.Next.TheVariants.{Local, Via}
 use Rattle.ipv4_forward.specs.declared.table.Route.{Route}
 use Rattle.keyed_lists.specs.Keyed.{at}
-use Rattle.world_model.specs.declared.event.Event.{Event}
-use Rattle.world_model.specs.declared.event.Event.TheVariants.{Inject, Carry, Lose, Tick, TickSwitch, Restart, RestartSwitch, Forge, Route as RouteComes}
-use Rattle.world_model.specs.declared.refusal.EventRefusal.{EventRefusal}
+use Rattle.world_model.specs.network_model.declared.event.Event.{Event}
+use Rattle.world_model.specs.network_model.declared.event.Event.TheVariants.{Inject, Carry, Lose, Tick, TickSwitch, Restart, RestartSwitch, Forge, Route as RouteComes}
+use Rattle.world_model.specs.network_model.declared.refusal.EventRefusal.{EventRefusal}
 use Rattle.world_model.specs.Conditions.{IsAccepted, IsEvent, IsLinkedChange, IsNode, IsPlace}
 use Rattle.world_model.specs.Events.{change_refusal, if_linked, next_refusal, or_else, place_refusal}
 use Rattle.world_model.specs.Lines.{is_linked, is_named, node_named}
@@ -49,7 +49,7 @@ node_there topology name node e = by (position (is_named name) topology.nodes) r
 linked : (topology : Topology) (node : NodeId) (port : PortNo) → if_linked topology node port ≡ None → is_linked topology node port ≡ true
 linked topology node port e = by (is_linked topology node port) e
   where
-    by : (b : Bool) → (if b then None else Some Rattle.world_model.specs.declared.refusal.EventRefusal.TheVariants.NoLink) ≡ None → b ≡ true
+    by : (b : Bool) → (if b then None else Some Rattle.world_model.specs.network_model.declared.refusal.EventRefusal.TheVariants.NoLink) ≡ None → b ≡ true
     by true h = refl
     by false h = absurd (cc h)
 

@@ -9,9 +9,9 @@ use Rattle.net_types.specs.declared.node.PortNo.{PortNo}
 use Rattle.net_types.specs.declared.node.Place.{Place}
 use Rattle.net_types.specs.declared.node.Place.TheVariants.{Out}
 use Rattle.port_model.specs.Setup.{Policy}
-use Rattle.world_model.specs.declared.range.PortRange.{PortRange}
-use Rattle.world_model.specs.declared.event.Event.{Event}
-use Rattle.world_model.specs.declared.event.Event.TheVariants.{Carry, Tick, TickSwitch}
+use Rattle.world_model.specs.controller_model.declared.range.PortRange.{PortRange}
+use Rattle.world_model.specs.network_model.declared.event.Event.{Event}
+use Rattle.world_model.specs.network_model.declared.event.Event.TheVariants.{Carry, Tick, TickSwitch}
 use Rattle.world_model.specs.Places.{places_of}
 use Rattle.world_model.specs.Run.{round, switch_tick_of, tick_of, tick_of_all}
 use Rattle.world_model.specs.Topology as topologies

@@ -28,9 +28,9 @@ use Rattle.world_model.specs.Cells as controller
 use Rattle.world_model.specs.Ticks.{ticks}
 use Rattle.world_model.specs.Resets.{node_restarts}
 use Rattle.world_model.specs.Changes.{change_comes}
-use Rattle.world_model.specs.declared.event.Event.{Event}
-use Rattle.world_model.specs.declared.event.Event.TheVariants.{Inject, Carry, Lose, Tick, TickSwitch, Restart, RestartSwitch, Forge, Route as RouteComes}
-use Rattle.world_model.specs.declared.link.LinkEnd.{LinkEnd}
+use Rattle.world_model.specs.network_model.declared.event.Event.{Event}
+use Rattle.world_model.specs.network_model.declared.event.Event.TheVariants.{Inject, Carry, Lose, Tick, TickSwitch, Restart, RestartSwitch, Forge, Route as RouteComes}
+use Rattle.world_model.specs.network_model.declared.link.LinkEnd.{LinkEnd}
 use Rattle.world_model.specs.Conditions.{table_to_be}
 use Rattle.world_model.specs.Places.{place_node, places, queue_at, with_queue, with_queue_in, with_queue_of}
 use Rattle.world_model.specs.Run.{next, round, switch_tick_of, tick_of, tick_of_all, world_after}

@@ -6,7 +6,7 @@ use Rattle.link_model.specs.Notes.{Journal}
 use Rattle.lab_io.specs.Report.{IsPut, Writer}
 use Rattle.port_model.specs.Setup.{Policy}
 use Rattle.world_model.specs.Controller.{Controller}
-use Rattle.world_model.specs.declared.event.Event.{Event}
+use Rattle.world_model.specs.network_model.declared.event.Event.{Event}
 use Rattle.world_model.specs.Conditions.{table_to_be}
 use Rattle.world_model.specs.Run.{put_away, world_after}
 use Rattle.world_model.specs.Topology.{Topology}

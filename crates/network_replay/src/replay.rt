@@ -14,7 +14,7 @@ ghost use Rattle.script_model.specs.State.{ScriptState as SoFar};
 ghost use Rattle.script_text.specs.Counts.{HasRoom};
 ghost use Rattle.telling_model.specs.Placed.{Placed, events_in};
 ghost use Rattle.world.specs.declared.counts.Meter.{Meter as Reading};
-ghost use Rattle.world_model.specs.declared.event.Event.{Event};
+ghost use Rattle.world_model.specs.network_model.declared.event.Event.{Event};
 ghost use Rattle.world_model.specs.World.{opened};
 ghost use Rattle.world.specs.Network.{no_notes, world_of};
 ghost use Rattle.world.specs.Running.{Runs};

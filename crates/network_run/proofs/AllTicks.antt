@@ -4,8 +4,8 @@ use Rattle.std.proofs.Common.{◌≡◌, ℕ, zero, suc, ◌+◌, ◌≤◌, Lis
 use Rattle.std.specs.Prelude.{◌<◌, ◌-◌}
 use Rattle.net_types.specs.declared.node.NodeId.{NodeId}
 use Rattle.link_model.specs.Notes.{Journal}
-use Rattle.world_model.specs.declared.event.Event.{Event}
-use Rattle.world_model.specs.declared.event.Event.TheVariants.{Tick, TickSwitch}
+use Rattle.world_model.specs.network_model.declared.event.Event.{Event}
+use Rattle.world_model.specs.network_model.declared.event.Event.TheVariants.{Tick, TickSwitch}
 use Rattle.world_model.specs.Conditions.{IsEvent, IsNode}
 use Rattle.world_model.specs.Run.{switch_tick_of, tick_of, tick_of_all}
 use Rattle.world_model.specs.Topology.{Topology}

@@ -3,7 +3,7 @@
 use Rattle.std.proofs.Common.{◌≡◌, ℕ, ◌+◌, ◌-◌, ◌≤◌, List, [], ◌∷◌, ◌++◌, append-nil, drop, length, slice_get, take, Option, None, Some, refl, sym, ◌∙◌, ap, subst, arith}
 use Rattle.lab_io.specs.Report.{IsPut, Writer}
 use Rattle.net_types.specs.declared.node.Place.{Place}
-use Rattle.world_model.specs.declared.event.Event.{Event}
+use Rattle.world_model.specs.network_model.declared.event.Event.{Event}
 use Rattle.world_model.specs.Controller.{Controller}
 use Rattle.world_model.specs.Places.{places}
 use Rattle.world_model.specs.Run.{put_away, round, world_after}

@@ -5,7 +5,7 @@ use Rattle.std.specs.Prelude.{OnErr, Result, Ok, Err}
 use Rattle.std.specs.Result.{IsErrAnd}
 use Rattle.std.specs.Io.KnownBytes.{Appends}
 use Rattle.link_model.specs.declared.record.Record.{Record}
-use Rattle.world_model.specs.declared.event.Event.{Event}
+use Rattle.world_model.specs.network_model.declared.event.Event.{Event}
 use Rattle.world_model.specs.Run.{next}
 use Rattle.world_model.specs.Step.{step}
 use Rattle.world_model.specs.Topology.{Topology}

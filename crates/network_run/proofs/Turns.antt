@@ -2,7 +2,7 @@
 
 use Rattle.std.proofs.Common.{◌≡◌, ℕ, zero, suc, ◌+◌, ◌≤◌, List, [], ◌∷◌, ◌++◌, drop, length, map, slice_get, take, Some, refl, sym, ◌∙◌, ap, subst, arith}
 use Rattle.net_types.specs.declared.node.Place.{Place}
-use Rattle.world_model.specs.declared.event.Event.{Event}
+use Rattle.world_model.specs.network_model.declared.event.Event.{Event}
 use Rattle.world_model.specs.Conditions.{IsPlace}
 use Rattle.world_model.specs.Run.{next, world_after}
 use Rattle.world_model.specs.Topology.{Topology}
@@ -19,7 +19,7 @@ use Rattle.network_run.proofs.Telling.{put_then, stops_at}
 use Rattle.std.specs.Prelude.{◌⊎◌, ◌<◌}
 use Rattle.std.proofs.Common.{inl, inr}
 use Rattle.std.proofs.lemmas.Option.{slice_get_within}
-use Rattle.world_model.specs.declared.event.Event.TheVariants.{Carry}
+use Rattle.world_model.specs.network_model.declared.event.Event.TheVariants.{Carry}
 use Rattle.world_model.specs.Conditions.{CanCome, IsEvent}
 use Rattle.world_model.specs.Limits.{event_limit}
 use Rattle.world_model.specs.Places.{places}

@@ -4,7 +4,7 @@ use Rattle.std.specs.Prelude.{◌≡◌}
 use Rattle.link_model.specs.Notes.{Journal}
 use Rattle.world_model.specs.Conditions.{CanCome}
 use Rattle.world_model.specs.Controller.{Controller}
-use Rattle.world_model.specs.declared.event.Event.{Event}
+use Rattle.world_model.specs.network_model.declared.event.Event.{Event}
 use Rattle.world_model.specs.Run.{next}
 use Rattle.world_model.specs.Topology.{Topology}
 use Rattle.world_model.specs.World.{World}

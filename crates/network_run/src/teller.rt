@@ -21,7 +21,7 @@ pub trait Teller<C: NodeController> {
     ghost use Rattle.world_model.specs.Run.{next};
     ghost use Rattle.world_model.specs.Topology.{Topology as Described};
     ghost use Rattle.world_model.specs.World.{World as Universe};
-    ghost use Rattle.world_model.specs.declared.event.Event.{Event as Comes};
+    ghost use Rattle.world_model.specs.network_model.declared.event.Event.{Event as Comes};
     ghost use Rattle.world.specs.Network.{no_notes, world_of};
     ghost use Rattle.world.specs.Running.{Runs};
     ghost use Rattle.network_run.specs.Coming.{HasCome, IsComing};

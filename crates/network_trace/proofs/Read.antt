@@ -22,7 +22,7 @@ use Rattle.lab_text.specs.Forms.{is_name, is_name_octet}
 use Rattle.lab_text.specs.Line.{input_limit, line_limit, holds_octet, text_fault, line_fault}
 use Rattle.lab_text.specs.Text.{hex_digits, line_of}
 use Rattle.lab_text.specs.Words.{is_script_octet, line_text, words, is_blank_text}
-use Rattle.world_model.specs.declared.link.LinkEnd.{LinkEnd}
+use Rattle.world_model.specs.network_model.declared.link.LinkEnd.{LinkEnd}
 use Rattle.world_model.specs.Conditions.{AreOctets, IsPort}
 use Rattle.world_model.specs.Topology.{Topology}
 use Rattle.script_model.specs.Texts.{channel_text, mark_text, name_of, port_text}

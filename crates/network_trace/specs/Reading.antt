@@ -9,7 +9,7 @@ use Rattle.lab_text.specs.Forms.{is_name}
 use Rattle.lab_text.specs.Line.{input_limit}
 use Rattle.trace_model.specs.Forms.{greatest_payload, is_cell_channel}
 use Rattle.trace_model.specs.Lines.{line_says}
-use Rattle.world_model.specs.declared.link.LinkEnd.{LinkEnd}
+use Rattle.world_model.specs.network_model.declared.link.LinkEnd.{LinkEnd}
 use Rattle.world_model.specs.Conditions.{AreOctets, IsPort, IsWithin}
 use Rattle.world_model.specs.Topology.{Topology}
 use Rattle.script_model.specs.Texts.{name_of}

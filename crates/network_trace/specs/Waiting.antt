@@ -4,7 +4,7 @@ use Rattle.std.specs.Prelude.{◌≡◌, List}
 use Rattle.net_types.specs.declared.number.Mark.{Mark}
 use Rattle.passing.specs.Look.{IsBefore}
 use Rattle.passing.specs.declared.before.Before.{Before}
-use Rattle.world_model.specs.declared.event.Event.{Event}
+use Rattle.world_model.specs.network_model.declared.event.Event.{Event}
 use Rattle.world_model.specs.Topology.{Topology}
 use Rattle.world_model.specs.World.{World}
 

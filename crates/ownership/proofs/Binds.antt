@@ -3,7 +3,7 @@
 use Rattle.std.proofs.Common.{◌≡◌, ℕ, zero, suc, List, [], ◌∷◌, ◌++◌, Some, refl, sym, ◌∙◌, ap, subst}
 use Rattle.std.specs.Prelude.{Contains, slice_get}
 use Rattle.world_model.specs.Words.{Bind, Topology, World, next, worlds_from, world_after, IsUnused}
-use Rattle.world_model.specs.declared.event.Event.{Event}
+use Rattle.world_model.specs.network_model.declared.event.Event.{Event}
 use Rattle.world_model.specs.World.{opened}
 use Rattle.ownership.specs.Binds.{EachBindIsUnused}
 

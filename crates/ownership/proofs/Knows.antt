@@ -6,7 +6,7 @@ use Rattle.std.specs.Option.{option_map, option_and_then}
 use Rattle.world_model.specs.Words.{Peer, Side, IsSide, knows_peer, Linked, linked_at, port_key, Site, site_at, side_at, Past, KnowsCleared, HasStored}
 use Rattle.frame_readings.proofs.port_facts.Keyed.{at_every}
 use Rattle.frame_readings.specs.controller_facts.Sound.{IsLinkedPort}
-use Rattle.world_model.specs.declared.link.LinkEnd.{LinkEnd}
+use Rattle.world_model.specs.network_model.declared.link.LinkEnd.{LinkEnd}
 use Rattle.frame_readings.specs.world_views.Tied.{HasClearedInstances}
 use Rattle.frame_readings.specs.world_views.Between.{setups_of}
 use Rattle.ownership.specs.Owning.{IsKept}

@@ -11,9 +11,9 @@ use Rattle.world_model.specs.ifmp_wire.declared.message.Message.{Message}
 use Rattle.world_model.specs.gsmp_wire.declared.message.Message.{Message as GsmpMessage}
 use Rattle.world_model.specs.gsmp_wire.Layout.{octets_of as gsmp_octets}
 use Rattle.frame_readings.specs.controller_views.Lifted.{payload_by}
-use Rattle.world_model.specs.declared.link.LinkEnd.{LinkEnd}
+use Rattle.world_model.specs.network_model.declared.link.LinkEnd.{LinkEnd}
 use Rattle.world_model.specs.Topology.{peer_of}
-use Rattle.world_model.specs.declared.event.Event.{Event}
+use Rattle.world_model.specs.network_model.declared.event.Event.{Event}
 use Rattle.world_model.specs.World.{opened}
 use Rattle.frame_readings.proofs.shown_cells.Frames.{same_self, same_is}
 use Rattle.unused_labels.proofs.causes.Shown.{IsPeer, peer_back}

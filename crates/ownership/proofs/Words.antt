@@ -7,7 +7,7 @@ use Rattle.std.proofs.lemmas.List.Elements.{Contains-append_cases}
 use Rattle.world_model.specs.Words.{Channel, Down, Up, Out, Cell, default_channel, default_home, same_channel, World, queue_at, chain_at, on_channel, on_default_channel}
 use Rattle.label_line.specs.Cells as lines
 use Rattle.label_line.specs.Law.{IsNoReclaim}
-use Rattle.world_model.specs.declared.link.LinkEnd.{LinkEnd}
+use Rattle.world_model.specs.network_model.declared.link.LinkEnd.{LinkEnd}
 use Rattle.frame_readings.specs.shown_cells.Label.{erased}
 use Rattle.unused_labels.proofs.Reading.{filtered}
 

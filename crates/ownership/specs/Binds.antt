@@ -2,7 +2,7 @@
 
 use Rattle.std.specs.Prelude.{◌≡◌, List, ◌∷◌, ◌++◌}
 use Rattle.world_model.specs.Words.{Policy, Topology, past_of, BindsUnused}
-use Rattle.world_model.specs.declared.event.Event.{Event}
+use Rattle.world_model.specs.network_model.declared.event.Event.{Event}
 use Rattle.frame_readings.specs.world_views.Kept.{BindsUnusedAt}
 
 -- at each event of a run

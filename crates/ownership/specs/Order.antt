@@ -4,7 +4,7 @@ use Rattle.std.specs.Prelude.{◌≡◌, ◌<◌, ◌≤◌, true, List, Option,
 use Rattle.std.specs.Option.{option_and_then}
 use Rattle.world_model.specs.Words.{Mark, Cell, Frame, World, on_default_channel, ifmp_under, Numbered, IsNotOverdue, IsKnownRightly}
 use Rattle.frame_readings.specs.ordered_lists.Ordered.{InOrder}
-use Rattle.world_model.specs.declared.link.LinkEnd.{LinkEnd}
+use Rattle.world_model.specs.network_model.declared.link.LinkEnd.{LinkEnd}
 use Rattle.world_model.specs.Sent.{numbered}
 
 -- *Numbers rise*: of two redirection messages under one instance the later one has no lesser number, and a greater one

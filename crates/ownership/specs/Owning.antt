@@ -4,7 +4,7 @@ use Rattle.std.specs.Prelude.{◌≡◌, true, Contains, Some}
 use Rattle.world_model.specs.Words.{Down, Cell, names_of, Standing, IsLinkPort, Setup, default_channel, same_channel, IsTopology, World, queue_at, side_at, on_the_way, on_default_channel, ifmp_under, copy_under, Past, Way, IsWay, IsOwn, WasCleared, AreOwned}
 use Rattle.world_model.specs.ifmp_wire.declared.message.Message.{Message}
 use Rattle.frame_readings.specs.ordered_lists.Ordered.{Every}
-use Rattle.world_model.specs.declared.link.LinkEnd.{LinkEnd}
+use Rattle.world_model.specs.network_model.declared.link.LinkEnd.{LinkEnd}
 use Rattle.frame_readings.specs.controller_facts.Sound.{IsSound}
 use Rattle.run_facts.specs.controller_law.Match.{IsMatched}
 use Rattle.frame_readings.specs.world_views.Tied.{tells_its_own}

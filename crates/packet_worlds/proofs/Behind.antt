@@ -5,8 +5,8 @@ use Rattle.std.specs.Prelude.{Contains, slice_get, is_some}
 use Rattle.world_model.specs.Words.{NodeId, PortNo, Place, Down, Up, Out, Channel, Mark, channel_on_control, number_of_channel, label_channel_of, Cell, FlowId, Frame, payload_of, Record, Delivered, Dropped, Bind, Policy, Fate, IsDelivered, IsDropped, is_fate_of, has_loss_of, default_channel, port_on, on_link, same_channel, Topology, is_linked, IsTopology, IsPlace, World, queue_at, tallied, put_away, IsFateAt, Past, past_of, frames_of, bound_by, last_bound, Way, IsWay, User, ByCell, Uses, on_the_link, off_the_link, from_controller, IsUnused, WasAccepted, fates_of, IsTrueFate}
 use Rattle.arrival_views.specs.ordered_lists.Ordered.{Every}
 use Rattle.packet_worlds.proofs.Lists.{count_by-append}
-use Rattle.world_model.specs.declared.event.Event.{Event}
-use Rattle.world_model.specs.declared.link.LinkEnd.{LinkEnd}
+use Rattle.world_model.specs.network_model.declared.event.Event.{Event}
+use Rattle.world_model.specs.network_model.declared.link.LinkEnd.{LinkEnd}
 use Rattle.world_model.specs.Topology.{peer_of}
 use Rattle.run_facts.specs.world_views.Marks.{Heading, heading_at, HasCome, Means, early, control, local, plain, labelled, last_cells}
 use Rattle.run_facts.specs.world_views.Between.{IsWorld}

@@ -10,7 +10,7 @@ use Rattle.world_model.specs.link_model.declared.record.Record.TheVariants as re
 use Rattle.arrival_views.specs.ordered_lists.Ordered.{Every}
 use Rattle.run_facts.proofs.Frames.{bound_then}
 use Rattle.packet_worlds.proofs.Lists.{or_left, or_right, count_by-skip}
-use Rattle.world_model.specs.declared.link.LinkEnd.{LinkEnd}
+use Rattle.world_model.specs.network_model.declared.link.LinkEnd.{LinkEnd}
 
 bound_none : (ys : List Record) (end : LinkEnd) (label : ℕ) → Every (λ (item : Record). bound_by end label item ≡ None) ys → last_bound ys end label ≡ None
 bound_none [] end label each = refl

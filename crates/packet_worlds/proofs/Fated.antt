@@ -7,7 +7,7 @@ use Rattle.std.proofs.lemmas.List.Concat.{flat_map-cons}
 use Rattle.world_model.specs.Words.{Record, Journal, Policy, is_fate_of, Topology, Node, World, opens_each, with_opened, worlds_from, Past, past_of, WasAccepted, AreTrueFates, HasFatesOnce}
 use Rattle.world_model.specs.link_model.declared.record.Record.TheVariants as records
 use Rattle.packet_worlds.proofs.Lists.{count_by-append}
-use Rattle.world_model.specs.declared.event.Event.{Event}
+use Rattle.world_model.specs.network_model.declared.event.Event.{Event}
 use Rattle.world_model.specs.World.{opened}
 use Rattle.run_facts.specs.world_views.Between.{HasPacketsOnce}
 use Rattle.packet_worlds.proofs.Bound.{count_none}

@@ -8,7 +8,7 @@ use Rattle.world_model.specs.Words.{NodeId, PortNo, Down, Up, Channel, channel_o
 use Rattle.world_model.specs.ipv4_packet.declared.flow.FlowKind.TheVariants.{One, Two}
 use Rattle.arrival_views.proofs.port_facts.Found.{find_passes}
 use Rattle.arrival_views.proofs.port_views.Flows.{flow_is}
-use Rattle.world_model.specs.declared.link.LinkEnd.{LinkEnd}
+use Rattle.world_model.specs.network_model.declared.link.LinkEnd.{LinkEnd}
 use Rattle.world_model.specs.Topology.{peer_of}
 use Rattle.run_facts.specs.world_views.Marks.{Heading, own_end, heading_at}
 use Rattle.packet_worlds.proofs.Hops.{some_flow}

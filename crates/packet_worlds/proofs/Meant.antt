@@ -6,7 +6,7 @@ use Rattle.world_model.specs.Words.{NodeId, Place, Channel, Mark, is_label_chann
 use Rattle.arrival_views.specs.ordered_lists.Ordered.{Every}
 use Rattle.arrival_views.proofs.ordered_lists.Every.{every_join, every_map}
 use Rattle.packet_worlds.proofs.Lists.{none_passes}
-use Rattle.world_model.specs.declared.link.LinkEnd.{LinkEnd}
+use Rattle.world_model.specs.network_model.declared.link.LinkEnd.{LinkEnd}
 use Rattle.run_facts.specs.world_views.Marks.{Heading, heading_at, HasCome, IsNewest, Means, early, control, local, plain, labelled, ends, ends_in}
 use Rattle.packet_worlds.proofs.Ledger.{payload_stays, none_stays, other_packet}
 use Rattle.packet_worlds.proofs.Cut.{IsCut, IsEarly}

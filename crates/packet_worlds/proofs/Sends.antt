@@ -19,7 +19,7 @@ use Rattle.world_model.specs.Controller.{Acted, free_slots}
 use Rattle.world_model.specs.Sending.{with_cells, sends}
 use Rattle.world_model.specs.Packets.{forwarded}
 use Rattle.arrival_views.specs.controller_views.Lifted.{payload_by}
-use Rattle.world_model.specs.declared.link.LinkEnd.{LinkEnd}
+use Rattle.world_model.specs.network_model.declared.link.LinkEnd.{LinkEnd}
 use Rattle.world_model.specs.Topology.{peer_of}
 use Rattle.world_model.specs.Reached.{taken}
 use Rattle.run_facts.specs.world_views.Marks.{Heading, heading_at, HasCome, IsNewest, Means, control, local, plain, labelled}

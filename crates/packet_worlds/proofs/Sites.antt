@@ -15,7 +15,7 @@ use Rattle.arrival_views.proofs.port_facts.Keyed.{at_key, at_every, at_map, each
 use Rattle.arrival_views.proofs.port_facts.Found.{find_every}
 use Rattle.arrival_views.specs.controller_facts.Sound.{linked_setup, IsLinkedPort, AreApart}
 use Rattle.run_facts.specs.controller_bindings.Bindings.{IsBoundLast}
-use Rattle.world_model.specs.declared.link.LinkEnd.{LinkEnd}
+use Rattle.world_model.specs.network_model.declared.link.LinkEnd.{LinkEnd}
 use Rattle.world_model.specs.Topology.{peer_of}
 use Rattle.run_facts.specs.world_views.Marks.{Heading, heading_at, HasCome, Means, early, control, local, plain, labelled}
 use Rattle.run_facts.specs.world_views.Pairs.{by_branch}

@@ -7,7 +7,7 @@ use Rattle.std.proofs.lemmas.List.{length-append}
 use Rattle.world_model.specs.Words.{NodeId, Place, Mark, Frame, Policy, is_fate_of, has_loss_of, inject_refusal, Topology, IsPlace, World, queue_at, put_away, sent_by, Past, past_of, frames_of, WasAccepted}
 use Rattle.world_model.specs.link_model.declared.record.Record.TheVariants as records
 use Rattle.arrival_views.specs.ordered_lists.Ordered.{Every}
-use Rattle.world_model.specs.declared.event.Event.{Event}
+use Rattle.world_model.specs.network_model.declared.event.Event.{Event}
 use Rattle.world_model.specs.Reached.{Sent}
 use Rattle.run_facts.specs.world_views.Marks.{Heading, heading_at, HasCome, Means, early, control, local, plain, labelled, last_cells}
 use Rattle.run_facts.specs.world_views.Between.{IsWorld}

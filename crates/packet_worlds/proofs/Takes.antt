@@ -17,7 +17,7 @@ use Rattle.arrival_views.proofs.wire_laws.Packets.{protocol_is}
 use Rattle.world_model.specs.Controller.{Acted}
 use Rattle.world_model.specs.Cells.{Taker, opened_frame, after_test, ends_frame}
 use Rattle.arrival_views.specs.controller_views.Lifted.{payload_by}
-use Rattle.world_model.specs.declared.link.LinkEnd.{LinkEnd}
+use Rattle.world_model.specs.network_model.declared.link.LinkEnd.{LinkEnd}
 use Rattle.world_model.specs.Topology.{peer_of}
 use Rattle.run_facts.specs.world_views.Marks.{heading_at, own_end, HasCome, IsNewest, Means, early, control, local, plain, labelled}
 use Rattle.packet_worlds.proofs.Walk.{Kept, used_kept, counted_kept, ifmp_holds_kept, gsmp_holds_kept}

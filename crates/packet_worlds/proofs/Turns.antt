@@ -11,7 +11,7 @@ use Rattle.arrival_views.proofs.port_facts.Keyed.{at_key}
 use Rattle.world_model.specs.crossbar_model.Crossbar.{output_of}
 use Rattle.world_model.specs.Switch as switches
 use Rattle.world_model.specs.Controller.{Acted, ports_of}
-use Rattle.world_model.specs.declared.link.LinkEnd.{LinkEnd}
+use Rattle.world_model.specs.network_model.declared.link.LinkEnd.{LinkEnd}
 use Rattle.world_model.specs.Topology.{peer_of}
 use Rattle.world_model.specs.Step.{note}
 use Rattle.world_model.proofs.Lists.{at_put_same, at_put_other}

@@ -7,7 +7,7 @@ use Rattle.std.proofs.lemmas.Bool.Decides.{nat_tests}
 use Rattle.world_model.specs.Words.{NodeId, PortNo, Place, Down, Up, Out, Cell, payload_of, at, put, is_fate_of, has_loss_of, Topology, IsTopology, IsPlace, World, Site, site_key, site_at, with_site, place_node, queue_at, with_queue, with_queue_of, with_queue_in, queue_number, same_queue, places_of, IsShaped, IsPlaceOf, IsPlaceIn, Past, WasAccepted}
 use Rattle.arrival_views.specs.ordered_lists.Ordered.{Every}
 use Rattle.arrival_views.proofs.port_facts.Keyed.{by_eq, at_key}
-use Rattle.world_model.specs.declared.link.LinkEnd.{LinkEnd}
+use Rattle.world_model.specs.network_model.declared.link.LinkEnd.{LinkEnd}
 use Rattle.world_model.specs.Topology.{peer_of}
 use Rattle.world_model.proofs.Lists.{at_put_same, at_put_other}
 use Rattle.world_model.proofs.Queues.{Sets, set_queue, weighs}

@@ -2,7 +2,7 @@
 
 use Rattle.std.specs.Prelude.{◌≡◌, true, false, Contains, Some}
 use Rattle.world_model.specs.Words.{Place, is_label_channel, Cell, default_channel, same_channel, is_linked, IsPlace, queue_at, Past}
-use Rattle.world_model.specs.declared.link.LinkEnd.{LinkEnd}
+use Rattle.world_model.specs.network_model.declared.link.LinkEnd.{LinkEnd}
 use Rattle.run_facts.specs.world_views.Marks.{heading_at}
 
 -- *Channels*: a cell that isn't on a default channel is on a label's, of a port of a link

@@ -20,8 +20,8 @@ use Rattle.world_views.proofs.ordered_lists.Every.{every_join}
 use Rattle.world_model.specs.crossbar_model.declared.branch.Branch.{Branch}
 use Rattle.world_model.specs.crossbar_model.declared.routed.Routed.TheVariants as routes
 use Rattle.world_model.specs.crossbar_model.Crossbar.{output_of, input_of}
-use Rattle.world_model.specs.declared.request.Asked.{Asked}
-use Rattle.world_model.specs.declared.request.Failure.{Failure}
+use Rattle.world_model.specs.switch_model.declared.request.Asked.{Asked}
+use Rattle.world_model.specs.switch_model.declared.request.Failure.{Failure}
 use Rattle.world_model.specs.Switch.{Acted, free_slots}
 use Rattle.world_model.specs.Requests.{ended, cleared}
 use Rattle.world_model.specs.Conduct.{with_cells, says, answers, steps, told, after_test, ends_frame, passed as passed_cell, cell_comes}

@@ -16,9 +16,9 @@ use Rattle.world_views.proofs.controller_facts.Moves.{HasPorts, Moves}
 use Rattle.world_views.proofs.controller_facts.Performing.{node_restarts_goes}
 use Rattle.world_views.proofs.controller_facts.Joining.{change_comes_goes}
 use Rattle.world_views.proofs.controller_facts.Events.{routes_goes, cell_comes_goes, controller_ticks_goes}
-use Rattle.world_model.specs.declared.event.Event.{Event}
-use Rattle.world_model.specs.declared.event.Event.TheVariants.{Inject, Carry, Lose, Tick, TickSwitch, Restart, RestartSwitch, Forge, Route}
-use Rattle.world_model.specs.declared.link.LinkEnd.{LinkEnd}
+use Rattle.world_model.specs.network_model.declared.event.Event.{Event}
+use Rattle.world_model.specs.network_model.declared.event.Event.TheVariants.{Inject, Carry, Lose, Tick, TickSwitch, Restart, RestartSwitch, Forge, Route}
+use Rattle.world_model.specs.network_model.declared.link.LinkEnd.{LinkEnd}
 use Rattle.world_model.specs.Topology.{peer_of}
 use Rattle.world_model.specs.World.{at_controller, at_switch}
 use Rattle.world_model.specs.Step.{acts}

@@ -4,8 +4,8 @@ use Rattle.std.specs.Prelude.{◌≡◌, List, ◌∷◌, Some}
 use Rattle.world_model.specs.Words.{NodeId, Up, Cell, queue_of, control_port, Policy, Topology, Site, site_at, past_of}
 use Rattle.world_views.specs.label_line.Cells.{Upstream}
 use Rattle.world_views.specs.port_views.Link.{LinkLabel}
-use Rattle.world_model.specs.declared.event.Event.{Event}
-use Rattle.world_model.specs.declared.event.Event.TheVariants.{Carry}
+use Rattle.world_model.specs.network_model.declared.event.Event.{Event}
+use Rattle.world_model.specs.network_model.declared.event.Event.TheVariants.{Carry}
 use Rattle.world_views.specs.Pairs.{IsLike}
 use Rattle.world_views.specs.Between.{IsWorld, IsLinkLabel}
 use Rattle.world_views.specs.Kept.{Comes, behind}

@@ -10,9 +10,9 @@ use Rattle.world_views.specs.controller_facts.Sound.{ArePorts, AreShaped}
 use Rattle.quiet_controllers.specs.Quiet.{AreRead}
 use Rattle.quiet_controllers.specs.Heard.{LeadsToLinks, CanCome}
 use Rattle.quiet_controllers.specs.Law.{TickEnters}
-use Rattle.world_model.specs.declared.event.Event.{Event}
-use Rattle.world_model.specs.declared.event.Event.TheVariants.{Carry, Tick, Forge}
-use Rattle.world_model.specs.declared.link.LinkEnd.{LinkEnd}
+use Rattle.world_model.specs.network_model.declared.event.Event.{Event}
+use Rattle.world_model.specs.network_model.declared.event.Event.TheVariants.{Carry, Tick, Forge}
+use Rattle.world_model.specs.network_model.declared.link.LinkEnd.{LinkEnd}
 use Rattle.world_model.specs.Topology.{peer_of}
 use Rattle.world_views.specs.Shown.{acting}
 use Rattle.world_views.specs.Pairs.{Pairs}

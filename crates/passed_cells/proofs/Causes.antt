@@ -2,7 +2,7 @@
 
 use Rattle.std.proofs.Common.{List}
 use Rattle.world_model.specs.Words.{Policy, Topology, world_after, past_of}
-use Rattle.world_model.specs.declared.event.Event.{Event}
+use Rattle.world_model.specs.network_model.declared.event.Event.{Event}
 use Rattle.world_model.specs.World.{opened}
 use Rattle.fed_worlds.specs.world_views.Pairs.{by_branch}
 use Rattle.fed_worlds.specs.world_views.Between.{IsWorld}

@@ -25,9 +25,9 @@ use Rattle.packet_worlds.proofs.Walk.{node_restarts_kept, change_comes_kept, tic
 use Rattle.running_worlds.specs.frame_readings.Reading.{Holds, sent, told as was_told}
 use Rattle.running_worlds.proofs.frame_readings.Reading.{read_default}
 use Rattle.running_worlds.proofs.frame_readings.Packets.{is_heard}
-use Rattle.world_model.specs.declared.event.Event.{Event}
-use Rattle.world_model.specs.declared.event.Event.TheVariants.{Inject, Carry, Lose, Tick, TickSwitch, Restart, RestartSwitch, Forge, Route}
-use Rattle.world_model.specs.declared.link.LinkEnd.{LinkEnd}
+use Rattle.world_model.specs.network_model.declared.event.Event.{Event}
+use Rattle.world_model.specs.network_model.declared.event.Event.TheVariants.{Inject, Carry, Lose, Tick, TickSwitch, Restart, RestartSwitch, Forge, Route}
+use Rattle.world_model.specs.network_model.declared.link.LinkEnd.{LinkEnd}
 use Rattle.world_model.specs.Topology.{peer_of}
 use Rattle.world_model.specs.World.{at_controller, at_switch}
 use Rattle.world_model.specs.Step.{acts}

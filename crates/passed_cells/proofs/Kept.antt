@@ -7,8 +7,8 @@ use Rattle.world_model.specs.frame_model.Reassembly.{taken}
 use Rattle.world_model.specs.Switch as switches
 use Rattle.world_model.specs.Controller as controllers
 use Rattle.fed_worlds.proofs.controller_facts.Laws.{has_ports}
-use Rattle.world_model.specs.declared.event.Event.{Event}
-use Rattle.world_model.specs.declared.event.Event.TheVariants.{Inject, Carry, Lose, Tick, TickSwitch, Restart, RestartSwitch, Forge, Route}
+use Rattle.world_model.specs.network_model.declared.event.Event.{Event}
+use Rattle.world_model.specs.network_model.declared.event.Event.TheVariants.{Inject, Carry, Lose, Tick, TickSwitch, Restart, RestartSwitch, Forge, Route}
 use Rattle.world_model.specs.Step.{acts}
 use Rattle.running_worlds.proofs.frame_readings.Reading.{no_copy}
 use Rattle.running_worlds.specs.run_facts.Nodes.{RunsHaveNodes}

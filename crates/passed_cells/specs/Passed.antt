@@ -3,7 +3,7 @@
 
 use Rattle.std.specs.Prelude.{◌≡◌, true, List, ◌++◌, Contains, Some}
 use Rattle.world_model.specs.Words.{NodeId, Down, Cell, Standing, Policy, default_channel, same_channel, Topology, queue_at, run, records_of, copy_under, Past, past_of, frames_of, HasCauses, IsTame, IsRun}
-use Rattle.world_model.specs.declared.event.Event.{Event}
+use Rattle.world_model.specs.network_model.declared.event.Event.{Event}
 use Rattle.fed_worlds.specs.world_views.Between.{IsWorld, HasAllPassed}
 use Rattle.fed_worlds.specs.world_views.Kept.{Comes, behind}
 

@@ -10,8 +10,8 @@ use Rattle.net_types.specs.declared.node.Place.TheVariants.{Out}
 use Rattle.atm_cells.specs.declared.cell.Cell.{Cell}
 use Rattle.world_model.specs.Conditions.{IsEvent, IsPlace}
 use Rattle.world_model.specs.Controller.{Controller as Model}
-use Rattle.world_model.specs.declared.event.Event.{Event}
-use Rattle.world_model.specs.declared.event.Event.TheVariants.{Carry, Lose}
+use Rattle.world_model.specs.network_model.declared.event.Event.{Event}
+use Rattle.world_model.specs.network_model.declared.event.Event.TheVariants.{Carry, Lose}
 use Rattle.world_model.specs.Places.{place_node, queue_at, queue_number}
 use Rattle.world_model.specs.Topology.{Topology}
 use Rattle.world_model.specs.World.{World}

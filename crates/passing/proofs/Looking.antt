@@ -6,8 +6,8 @@ use Rattle.atm_cells.specs.declared.cell.Cell.{Cell}
 use Rattle.link_model.specs.Notes.{Journal}
 use Rattle.world_model.specs.Conditions.{CanCome}
 use Rattle.world_model.specs.Controller.{Controller as Model}
-use Rattle.world_model.specs.declared.event.Event.{Event}
-use Rattle.world_model.specs.declared.event.Event.TheVariants.{Inject, Carry, Lose, Tick, TickSwitch, Restart, RestartSwitch, Forge, Route}
+use Rattle.world_model.specs.network_model.declared.event.Event.{Event}
+use Rattle.world_model.specs.network_model.declared.event.Event.TheVariants.{Inject, Carry, Lose, Tick, TickSwitch, Restart, RestartSwitch, Forge, Route}
 use Rattle.world_model.specs.Places.{queue_at}
 use Rattle.world_model.specs.Run.{next}
 use Rattle.world_model.specs.Topology.{Topology}

@@ -5,9 +5,9 @@ use Rattle.net_types.specs.declared.node.Place.{Place}
 use Rattle.net_types.specs.declared.node.Place.TheVariants.{Down, Up, Out}
 use Rattle.atm_cells.specs.declared.cell.Cell.{Cell}
 use Rattle.world_model.specs.Conditions.{IsEvent, IsNode, IsPlace, IsTopology}
-use Rattle.world_model.specs.declared.event.Event.{Event}
-use Rattle.world_model.specs.declared.event.Event.TheVariants.{Inject, Carry, Lose, Tick, TickSwitch, Restart, RestartSwitch, Forge, Route}
-use Rattle.world_model.specs.declared.link.LinkEnd.{LinkEnd}
+use Rattle.world_model.specs.network_model.declared.event.Event.{Event}
+use Rattle.world_model.specs.network_model.declared.event.Event.TheVariants.{Inject, Carry, Lose, Tick, TickSwitch, Restart, RestartSwitch, Forge, Route}
+use Rattle.world_model.specs.network_model.declared.link.LinkEnd.{LinkEnd}
 use Rattle.world_model.specs.Places.{queue_at}
 use Rattle.world_model.specs.Topology.{Topology, peer_of}
 use Rattle.world_model.specs.World.{World}

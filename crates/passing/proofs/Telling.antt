@@ -11,7 +11,7 @@ use Rattle.link_model.specs.Notes.{Journal}
 use Rattle.world_model.specs.Lines.{is_linked}
 use Rattle.world_model.specs.Controller.{Controller as Model}
 use Rattle.world_model.specs.Conditions.{IsNode}
-use Rattle.world_model.specs.declared.event.Event.{Event}
+use Rattle.world_model.specs.network_model.declared.event.Event.{Event}
 use Rattle.world_model.specs.Places.{place_node, places, queue_at}
 use Rattle.world_model.specs.Run.{next}
 use Rattle.world_model.specs.Topology.{Topology, ports_of}

@@ -5,7 +5,7 @@ use Rattle.net_types.specs.declared.node.Place.{Place}
 use Rattle.link_model.specs.Notes.{Journal}
 use Rattle.world_model.specs.Conditions.{CanCome, IsPlace}
 use Rattle.world_model.specs.Controller.{Controller as ControllerModel}
-use Rattle.world_model.specs.declared.event.Event.{Event}
+use Rattle.world_model.specs.network_model.declared.event.Event.{Event}
 use Rattle.world_model.specs.Run.{next}
 use Rattle.world_model.specs.Topology.{Topology}
 use Rattle.world_model.specs.World.{World}

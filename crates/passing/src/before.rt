@@ -3,7 +3,7 @@
 ghost use Rattle.std.specs.Prelude.{◌≡◌, drop, length, option_copied, slice_get, OnOk};
 ghost use Rattle.link_model.specs.Notes.{Journal};
 ghost use Rattle.world_model.specs.Conditions.{CanCome};
-ghost use Rattle.world_model.specs.declared.event.Event.{Event as Comes};
+ghost use Rattle.world_model.specs.network_model.declared.event.Event.{Event as Comes};
 ghost use Rattle.world_model.specs.Run.{next};
 ghost use Rattle.world_model.specs.Topology.{Topology as Described};
 ghost use Rattle.world_model.specs.World.{World as Universe};

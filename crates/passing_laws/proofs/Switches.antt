@@ -15,8 +15,8 @@ use Rattle.world_model.specs.frame_model.Reassembly.{Taken, taken}
 use Rattle.world_model.specs.crossbar_model.declared.branch.Branch.{Branch}
 use Rattle.world_model.specs.crossbar_model.declared.routed.Routed.TheVariants as routes
 use Rattle.world_model.specs.crossbar_model.Crossbar.{input_of}
-use Rattle.world_model.specs.declared.request.Asked.{Asked}
-use Rattle.world_model.specs.declared.request.Failure.{Failure}
+use Rattle.world_model.specs.switch_model.declared.request.Asked.{Asked}
+use Rattle.world_model.specs.switch_model.declared.request.Failure.{Failure}
 use Rattle.world_model.specs.Switch.{Acted, free_slots}
 use Rattle.world_model.specs.Conduct.{with_cells, sends, says, answers, steps, told, opened_frame, ends_frame, passed, cell_comes}
 use Rattle.actor_pace.proofs.Cells.{on_both}

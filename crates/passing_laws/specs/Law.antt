@@ -2,7 +2,7 @@
 
 use Rattle.std.specs.Prelude.{◌≡◌, ◌++◌, true, false, [], Some}
 use Rattle.world_model.specs.Words.{Place, IsTopology, queue_at, same_queue, next, Topology, World}
-use Rattle.world_model.specs.declared.event.Event.{Event}
+use Rattle.world_model.specs.network_model.declared.event.Event.{Event}
 use Rattle.telling_model.specs.Passing.{left, put_at, source_of}
 use Rattle.passing_laws.specs.Reached.{owns, reached}
 

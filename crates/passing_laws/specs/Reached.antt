@@ -2,9 +2,9 @@
 
 use Rattle.std.specs.Prelude.{◌==◌, Bool, false, List, [], ◌∷◌, Option, None, Some}
 use Rattle.world_model.specs.Words.{Place, Down, Up, Out, Cell, queue_at, Topology, World}
-use Rattle.world_model.specs.declared.event.Event.{Event}
-use Rattle.world_model.specs.declared.event.Event.TheVariants.{Inject, Carry, Lose, Tick, TickSwitch, Restart, RestartSwitch, Forge, Route}
-use Rattle.world_model.specs.declared.link.LinkEnd.{LinkEnd}
+use Rattle.world_model.specs.network_model.declared.event.Event.{Event}
+use Rattle.world_model.specs.network_model.declared.event.Event.TheVariants.{Inject, Carry, Lose, Tick, TickSwitch, Restart, RestartSwitch, Forge, Route}
+use Rattle.world_model.specs.network_model.declared.link.LinkEnd.{LinkEnd}
 use Rattle.world_model.specs.Topology.{peer_of}
 use Rattle.passing_laws.specs.declared.reached.Reached.{Reached}
 use Rattle.passing_laws.specs.declared.reached.Reached.TheVariants.{Nobody, Controller, Switch}

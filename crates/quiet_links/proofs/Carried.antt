@@ -9,9 +9,9 @@ use Rattle.world_model.specs.crossbar_model.Crossbar.{output_of, input_of}
 use Rattle.world_model.specs.frame_model.Frame.{octets_of}
 use Rattle.world_model.specs.frame_model.Reassembly.{taken}
 use Rattle.running_worlds.proofs.port_facts.Keyed.{at_key, at_put_other}
-use Rattle.world_model.specs.declared.event.Event.{Event}
-use Rattle.world_model.specs.declared.event.Event.TheVariants.{Carry}
-use Rattle.world_model.specs.declared.link.LinkEnd.{LinkEnd}
+use Rattle.world_model.specs.network_model.declared.event.Event.{Event}
+use Rattle.world_model.specs.network_model.declared.event.Event.TheVariants.{Carry}
+use Rattle.world_model.specs.network_model.declared.link.LinkEnd.{LinkEnd}
 use Rattle.world_model.specs.Switch as switches
 use Rattle.world_model.specs.Conduct as switch
 use Rattle.world_model.specs.Controller as controllers

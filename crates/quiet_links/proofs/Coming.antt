@@ -14,9 +14,9 @@ use Rattle.running_worlds.proofs.port_facts.Found.{find_every}
 use Rattle.running_worlds.proofs.port_facts.Rules.{and_first}
 use Rattle.running_worlds.specs.controller_facts.Sound.{IsLinkedPort}
 use Rattle.running_worlds.specs.controller_bindings.Bindings.{IsBoundLast}
-use Rattle.world_model.specs.declared.event.Event.TheVariants.{Carry}
+use Rattle.world_model.specs.network_model.declared.event.Event.TheVariants.{Carry}
 use Rattle.world_model.specs.Controller.{free_slots}
-use Rattle.world_model.specs.declared.link.LinkEnd.{LinkEnd}
+use Rattle.world_model.specs.network_model.declared.link.LinkEnd.{LinkEnd}
 use Rattle.world_model.specs.Topology.{peer_of}
 use Rattle.running_worlds.specs.world_views.Marks.{Heading, own_end, heading_at, Means, early, control, local, plain, labelled}
 use Rattle.running_worlds.specs.world_views.Between.{IsWorld, setups_of}

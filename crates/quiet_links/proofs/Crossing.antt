@@ -5,7 +5,7 @@ use Rattle.std.specs.Prelude.{◌==◌, ◌&&◌, nat_le}
 use Rattle.std.proofs.lemmas.Bool.Decides.{nat_tests}
 use Rattle.world_model.specs.Words.{NodeId, PortNo, Down, Up, Channel, channel_on_control, number_of_channel, flow_ttl, next_hop_of, at_ttl, FlowId, Cell, Frame, payload_of, default_channel, same_channel, on_link, port_on, Topology}
 use Rattle.world_model.specs.ipv4_packet.declared.flow.FlowId.TheVariants as flows
-use Rattle.world_model.specs.declared.link.LinkEnd.{LinkEnd}
+use Rattle.world_model.specs.network_model.declared.link.LinkEnd.{LinkEnd}
 use Rattle.world_model.specs.Topology.{peer_of}
 use Rattle.controller_weights.specs.quiet_model.Costs.{forwarding}
 use Rattle.controller_weights.specs.quiet_model.Weights.{Bearing, ToSwitch, ToController, Plain, Labelled, Bound, bearing_on, bearing_of, hops_at, hops_of, cost_of}

@@ -7,8 +7,8 @@ use Rattle.world_model.specs.gsmp_wire.declared.message.Message as gsmp
 use Rattle.world_model.specs.gsmp_wire.declared.message.Message.TheVariants as messages
 use Rattle.world_model.specs.gsmp_wire.Layout.{octets_of as gsmp_octets}
 use Rattle.running_worlds.proofs.causes.Sizes.{IsShort, default_length, labelled_length, fault_short, ifmp_length, greeting_length, rows_length}
-use Rattle.world_model.specs.declared.event.Event.{Event}
-use Rattle.world_model.specs.declared.link.LinkEnd.{LinkEnd}
+use Rattle.world_model.specs.network_model.declared.event.Event.{Event}
+use Rattle.world_model.specs.network_model.declared.link.LinkEnd.{LinkEnd}
 use Rattle.running_worlds.specs.shown_cells.Seen.{Extends}
 use Rattle.running_worlds.specs.world_views.Made.{IsFit, IsMadeAs, plain, labelled, told, said}
 use Rattle.running_worlds.specs.world_views.Between.{IsWorld, EachSite, HasAllMade}

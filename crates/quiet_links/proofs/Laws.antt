@@ -3,7 +3,7 @@
 use Rattle.std.proofs.Common.{List, ◌++◌, refl, sym, ◌∙◌, ap, map}
 use Rattle.std.specs.List.{repeat}
 use Rattle.world_model.specs.Words.{Place}
-use Rattle.world_model.specs.declared.event.Event.TheVariants.{Carry}
+use Rattle.world_model.specs.network_model.declared.event.Event.TheVariants.{Carry}
 use Rattle.quiet_links.specs.Law.{CarriesWeighLess, CarriesFind, RoundsMakeLighter, RoundsEmptyQueues, PacketsEnd}
 use Rattle.quiet_links.proofs.Carried.{weighs_less}
 use Rattle.quiet_rounds.proofs.Places.{places_stay}

@@ -9,7 +9,7 @@ use Rattle.world_model.specs.crossbar_model.Crossbar.{output_of, input_of}
 use Rattle.running_worlds.specs.port_facts.Port.{IsLabelEnd, IsLinked, setup_port}
 use Rattle.running_worlds.proofs.port_facts.Keyed.{at_map}
 use Rattle.running_worlds.proofs.port_facts.Rules.{and_first}
-use Rattle.world_model.specs.declared.link.LinkEnd.{LinkEnd}
+use Rattle.world_model.specs.network_model.declared.link.LinkEnd.{LinkEnd}
 use Rattle.world_model.specs.Topology.{peer_of}
 use Rattle.running_worlds.specs.world_views.Between.{IsWorld, IsPortEnd, default, label, IsShapedBranch, home, out, joined, setups_of}
 use Rattle.running_worlds.specs.world_views.Pairs.{by_branch}

@@ -10,7 +10,7 @@ use Rattle.world_model.specs.gsmp_wire.declared.message.Message.TheVariants as m
 use Rattle.world_model.specs.gsmp_wire.declared.fault.Fault.{Fault}
 use Rattle.world_model.specs.gsmp_wire.Fields.{decoded}
 use Rattle.std.specs.Prelude.{Result, Ok, Err}
-use Rattle.world_model.specs.declared.link.LinkEnd.{LinkEnd}
+use Rattle.world_model.specs.network_model.declared.link.LinkEnd.{LinkEnd}
 use Rattle.world_model.specs.Topology.{peer_of}
 use Rattle.running_worlds.specs.shown_cells.Seen.{Extends}
 use Rattle.running_worlds.specs.world_views.Marks.{Heading, own_end, heading_at, Means, early, control, local, plain, labelled}

@@ -3,8 +3,8 @@
 use Rattle.std.specs.Prelude.{◌≡◌, ℕ, ◌+◌, ◌≤◌, true, false, List, ◌∷◌, ◌++◌}
 use Rattle.std.specs.List.{repeat}
 use Rattle.world_model.specs.Words.{Place, Policy, Topology, has_loss_of, round, past_of, IsRun, WasAccepted, fates_of, is_empty, HasFatesWhole}
-use Rattle.world_model.specs.declared.event.Event.{Event}
-use Rattle.world_model.specs.declared.event.Event.TheVariants.{Carry}
+use Rattle.world_model.specs.network_model.declared.event.Event.{Event}
+use Rattle.world_model.specs.network_model.declared.event.Event.TheVariants.{Carry}
 use Rattle.world_model.specs.World.{opened}
 use Rattle.running_worlds.specs.world_views.Between.{IsWorld}
 use Rattle.running_worlds.specs.world_views.Kept.{HasAddresses, Comes, BindsUnusedAt}

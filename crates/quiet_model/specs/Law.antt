@@ -3,8 +3,8 @@
 use Rattle.std.specs.Prelude.{◌≡◌, ℕ, ◌+◌, ◌≤◌, true, false, ◌==◌, List, [], ◌∷◌, ◌++◌, length, map, if◌then◌else◌}
 use Rattle.std.specs.List.{repeat}
 use Rattle.world_model.specs.Words.{Place, Policy, Topology, World, has_loss_of, queue_at, round, Past, past_of, IsRun, IsTame, WasAccepted, fates_of, is_empty}
-use Rattle.world_model.specs.declared.event.Event.{Event}
-use Rattle.world_model.specs.declared.event.Event.TheVariants.{Carry}
+use Rattle.world_model.specs.network_model.declared.event.Event.{Event}
+use Rattle.world_model.specs.network_model.declared.event.Event.TheVariants.{Carry}
 use Rattle.world_model.specs.World.{opened}
 use Rattle.quiet_model.specs.Weights.{weight}
 

@@ -5,7 +5,7 @@ use Rattle.std.specs.Option.{option_map_or}
 use Rattle.world_model.specs.Words.{NodeId, Place, Down, Up, Out, Channel, Syn, number_of_channel, FlowId, flow_ttl, Cell, Request, Frame, payload_of, Desk, Label, Grant, GrantState, Idle, ByController, ByInput, Leaving, labels_of, is_spent, Controller, Linked, default_channel, same_channel, port_on, on_link, Topology, Site, Past, frames_of, last_bound}
 use Rattle.world_model.specs.gsmp_wire.declared.request.Request.TheVariants.{DeleteAll, AllPorts}
 use Rattle.world_model.specs.port_model.Port.{Port}
-use Rattle.world_model.specs.declared.link.LinkEnd.{LinkEnd}
+use Rattle.world_model.specs.network_model.declared.link.LinkEnd.{LinkEnd}
 use Rattle.world_model.specs.Topology.{peer_of}
 use Rattle.quiet_model.specs.Costs.{total, request_weight, words_weight, reset_weight, deleting_weight, listing_weight, label_cost, greeting_weight, forwarding, switch_cost, controller_cost, default_cost}
 

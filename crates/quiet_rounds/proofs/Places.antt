@@ -5,7 +5,7 @@ use Rattle.std.specs.Prelude.{nat_eq, flat_map}
 use Rattle.std.proofs.lemmas.Bool.Decides.{nat_tests}
 use Rattle.world_model.specs.Words.{NodeId, PortNo, Place, Down, Up, Out, at, Policy, Topology, IsNode, World, Site, site_key, places_of, places, AreShaped, past_of, IsRun}
 use Rattle.packet_worlds.specs.ordered_lists.Ordered.{Every}
-use Rattle.world_model.specs.declared.event.Event.{Event}
+use Rattle.world_model.specs.network_model.declared.event.Event.{Event}
 use Rattle.world_model.specs.Controller.{ports_of}
 use Rattle.world_model.specs.Topology as topologies
 use Rattle.world_model.specs.World.{opened}

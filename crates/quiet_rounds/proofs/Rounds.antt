@@ -6,8 +6,8 @@ use Rattle.std.specs.List.{repeat, list_all}
 use Rattle.std.specs.Option.{option_map_or}
 use Rattle.world_model.specs.Words.{NodeId, Place, Down, Up, Out, Cell, at, Policy, Topology, World, Site, site_key, place_node, queue_in, queue_at, places, put_away, round, carries_head, Past, past_of, frames_of, last_bound, is_empty}
 use Rattle.packet_worlds.specs.ordered_lists.Ordered.{Every}
-use Rattle.world_model.specs.declared.event.Event.{Event}
-use Rattle.world_model.specs.declared.event.Event.TheVariants.{Carry}
+use Rattle.world_model.specs.network_model.declared.event.Event.{Event}
+use Rattle.world_model.specs.network_model.declared.event.Event.TheVariants.{Carry}
 use Rattle.packet_worlds.proofs.run_facts.Steps.{events_are_steps}
 use Rattle.switch_weights.specs.quiet_model.Costs.{total}
 use Rattle.switch_weights.specs.quiet_model.Weights.{stage, cell_weight, place_at, queues_weight, site_weight, weight}

@@ -24,7 +24,7 @@ use Rattle.std.proofs.lemmas.List.{length-map}
 use Rattle.crossbar_model.specs.Channels.{ArePorts, IsLinkPort}
 use Rattle.control_link.specs.Cells.{ControlCells, is_channel, ranges_of}
 use Rattle.control_link.specs.declared.taker.Taker.TheVariants.{Default}
-use Rattle.world_model.specs.declared.range.PortRange.{PortRange}
+use Rattle.world_model.specs.controller_model.declared.range.PortRange.{PortRange}
 use Rattle.world_model.specs.Controller as model
 use Rattle.world_model.specs.Controller.{Acted, Linked, linked_at, with_linked}
 use Rattle.world_model.specs.Resets.{closes_by, port_restarts, port_restarts_of, resets_gsmp, with_work}

@@ -17,7 +17,7 @@ use Rattle.control_link.specs.Cells as cells
 use Rattle.control_link.specs.Cells.{ControlCells, PortCells, is_channel, ranges_of}
 use Rattle.control_link.specs.declared.taker.Taker.{Taker}
 use Rattle.control_link.specs.declared.taker.Taker.TheVariants.{Default}
-use Rattle.world_model.specs.declared.range.PortRange.{PortRange}
+use Rattle.world_model.specs.controller_model.declared.range.PortRange.{PortRange}
 use Rattle.world_model.specs.Controller as model
 use Rattle.world_model.specs.Controller.{Acted, Linked, linked_at}
 use Rattle.world_model.specs.Resets.{with_work}

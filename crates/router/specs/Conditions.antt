@@ -23,7 +23,7 @@ use Rattle.port_model.specs.declared.action.Action.TheVariants.{Say, Ask, Note, 
 use Rattle.port_model.specs.Setup.{home_of}
 use Rattle.port_model.specs.Resets.{resets, restarts}
 use Rattle.port_model.specs.Ticks as port_ticks
-use Rattle.world_model.specs.declared.range.PortRange.{PortRange}
+use Rattle.world_model.specs.controller_model.declared.range.PortRange.{PortRange}
 use Rattle.world_model.specs.Controller.{Acted, Controller, Linked, linked_at, ports_of, with_desk}
 use Rattle.world_model.specs.Asking.{asks}
 use Rattle.world_model.specs.Sending.{says_gsmp}

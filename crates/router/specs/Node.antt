@@ -10,7 +10,7 @@ use Rattle.link_model.specs.Notes.{Journal}
 use Rattle.crossbar_model.specs.Channels.{ArePorts}
 use Rattle.keyed_lists.specs.Keyed.{at}
 use Rattle.control_link.specs.Cells.{ControlCells, ranges_of}
-use Rattle.world_model.specs.declared.range.PortRange.{PortRange}
+use Rattle.world_model.specs.controller_model.declared.range.PortRange.{PortRange}
 use Rattle.world_model.specs.Controller.{Acted, Controller, Linked}
 use Rattle.route_changes.specs.Routes.{Routes}
 use Rattle.gsmp_client.specs.Client as client

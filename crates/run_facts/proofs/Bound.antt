@@ -14,7 +14,7 @@ use Rattle.lifetimes.specs.Run.{acted_in, comes_to}
 use Rattle.lifetimes.proofs.Opened.{opening_of, IsFed, opening_fed}
 use Rattle.lifetimes.proofs.Feeding.{after_of, inputs_join}
 use Rattle.lifetimes.proofs.Runs.{next_there, run_fed}
-use Rattle.world_model.specs.declared.event.Event.{Event}
+use Rattle.world_model.specs.network_model.declared.event.Event.{Event}
 use Rattle.world_model.specs.World.{opened}
 use Rattle.run_facts.proofs.Marked.{WorldMarked}
 use Rattle.run_facts.proofs.Opening.{found_more}

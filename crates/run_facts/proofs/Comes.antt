@@ -6,8 +6,8 @@ use Rattle.world_model.specs.Words.{NodeId, Down, Up, Out, next_control, Cell, W
 use Rattle.controller_bindings.specs.controller_facts.Inputs.{Input, PacketEnters, Ticks, Restarts, ChangeComes, FrameIsForged}
 use Rattle.controller_bindings.specs.controller_facts.Sound.{IsOwn}
 use Rattle.lifetimes.specs.Run.{if_at, head_comes, head_leaves, comes_to}
-use Rattle.world_model.specs.declared.event.Event.{Event}
-use Rattle.world_model.specs.declared.event.Event.TheVariants.{Inject, Carry, Lose, Tick, TickSwitch, Restart, RestartSwitch, Forge, Route}
+use Rattle.world_model.specs.network_model.declared.event.Event.{Event}
+use Rattle.world_model.specs.network_model.declared.event.Event.TheVariants.{Inject, Carry, Lose, Tick, TickSwitch, Restart, RestartSwitch, Forge, Route}
 
 abbrev IsOwnIf : Option Input → Type 0
 IsOwnIf None = Unit {0}

@@ -9,7 +9,7 @@ use Rattle.world_model.specs.Switch as switches
 use Rattle.world_model.specs.Conduct as switch
 use Rattle.world_model.specs.Controller.{free_slots}
 use Rattle.world_model.specs.Sending.{with_cells, sends}
-use Rattle.world_model.specs.declared.event.Event.TheVariants.{Forge}
+use Rattle.world_model.specs.network_model.declared.event.Event.TheVariants.{Forge}
 use Rattle.world_model.specs.Step.{note}
 
 wild_sent : {Q : Type 0} (place : Place) (free : ℕ) (with_queue : List Cell → Q) (s : Sent Q) (channel : Channel) (mark : Mark) (payload : List ℕ) → s.notes.records ≡ Forged place ∷ []

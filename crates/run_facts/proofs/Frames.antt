@@ -6,7 +6,7 @@ use Rattle.world_model.specs.Words.{Mark, Frame, Record, Loss, Chance, PoolFull,
 use Rattle.world_model.specs.frame_model.Frame.{octets_of}
 use Rattle.world_model.specs.frame_model.Reassembly.{Taken, taken, joined}
 use Rattle.controller_bindings.proofs.port_facts.Keyed.{on_both}
-use Rattle.world_model.specs.declared.link.LinkEnd.{LinkEnd}
+use Rattle.world_model.specs.network_model.declared.link.LinkEnd.{LinkEnd}
 use Rattle.std.specs.Prelude.{not, nat_le, length}
 use Rattle.run_facts.specs.Frames.{IsFree, Stay, BindsNone}
 use Rattle.world_views.proofs.shown_cells.Made.{made_elsewhere}

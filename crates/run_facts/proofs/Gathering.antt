@@ -17,8 +17,8 @@ use Rattle.controller_bindings.proofs.ordered_lists.Every.{every_join, every_all
 use Rattle.controller_bindings.proofs.port_facts.Keyed.{on_both, on_each}
 use Rattle.controller_bindings.proofs.port_facts.Rules.{and_second}
 use Rattle.world_model.specs.crossbar_model.declared.routed.Routed.TheVariants as routes_of
-use Rattle.world_model.specs.declared.request.Asked.{Asked}
-use Rattle.world_model.specs.declared.request.Failure.{Failure}
+use Rattle.world_model.specs.switch_model.declared.request.Asked.{Asked}
+use Rattle.world_model.specs.switch_model.declared.request.Failure.{Failure}
 use Rattle.world_model.specs.Switch as switches
 use Rattle.world_model.specs.Conduct as switch
 use Rattle.world_model.specs.Controller.{Acted, free_slots}

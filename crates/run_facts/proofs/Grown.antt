@@ -18,9 +18,9 @@ use Rattle.run_facts.specs.Frames.{IsFree, Stay}
 use Rattle.run_facts.proofs.Switches as switching
 use Rattle.run_facts.proofs.Switches.{switch_leaves, sends_leave}
 use Rattle.run_facts.proofs.Controllers.{IsNewest, input_stays, control_stays}
-use Rattle.world_model.specs.declared.event.Event.{Event}
-use Rattle.world_model.specs.declared.event.Event.TheVariants.{Inject, Carry, Lose, Tick, TickSwitch, Restart, RestartSwitch, Forge, Route}
-use Rattle.world_model.specs.declared.link.LinkEnd.{LinkEnd}
+use Rattle.world_model.specs.network_model.declared.event.Event.{Event}
+use Rattle.world_model.specs.network_model.declared.event.Event.TheVariants.{Inject, Carry, Lose, Tick, TickSwitch, Restart, RestartSwitch, Forge, Route}
+use Rattle.world_model.specs.network_model.declared.link.LinkEnd.{LinkEnd}
 use Rattle.world_model.specs.Topology.{peer_of}
 use Rattle.world_model.specs.World.{at_controller, at_switch, opened}
 use Rattle.world_model.specs.Step.{note}

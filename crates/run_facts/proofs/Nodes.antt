@@ -12,7 +12,7 @@ use Rattle.controller_bindings.proofs.ordered_lists.Every.{every_join, every_map
 use Rattle.controller_bindings.proofs.port_facts.Keyed.{at_every}
 use Rattle.controller_bindings.specs.port_facts.Port.{IsRanged}
 use Rattle.world_views.specs.port_widths.Widths.{FitsSetup}
-use Rattle.world_model.specs.declared.range.PortRange.{PortRange}
+use Rattle.world_model.specs.controller_model.declared.range.PortRange.{PortRange}
 use Rattle.world_model.specs.Controller.{Acted}
 use Rattle.controller_bindings.specs.controller_facts.Inputs.{takes_inputs}
 use Rattle.controller_bindings.specs.controller_facts.Sound.{IsSound, Opening, opened_by, setups_by}
@@ -28,8 +28,8 @@ use Rattle.controller_bindings.proofs.controller_law.Laws.{always_holds, always_
 use Rattle.controller_bindings.specs.Bindings as bindings
 use Rattle.controller_bindings.specs.Bindings.{IsBoundLast, HasBoundLabels, IsLed, HasLedJoins, GathersForBound, noted_by_all}
 use Rattle.controller_bindings.proofs.Laws.{always_bound, always_led, always_gathers}
-use Rattle.world_model.specs.declared.event.Event.{Event}
-use Rattle.world_model.specs.declared.event.Event.TheVariants.{Route as RouteEvent}
+use Rattle.world_model.specs.network_model.declared.event.Event.{Event}
+use Rattle.world_model.specs.network_model.declared.event.Event.TheVariants.{Route as RouteEvent}
 use Rattle.world_model.specs.Topology as topologies
 use Rattle.world_model.specs.World.{opened}
 use Rattle.world_model.proofs.Opening.{ports_are}

@@ -15,8 +15,8 @@ use Rattle.run_facts.proofs.Switches.{AreMarked}
 use Rattle.run_facts.proofs.Owns.{port_own}
 use Rattle.lifetimes.proofs.Opened.{IsFed, opening_fed}
 use Rattle.lifetimes.proofs.Runs.{run_fed}
-use Rattle.world_model.specs.declared.event.Event.{Event}
-use Rattle.world_model.specs.declared.link.LinkEnd.{LinkEnd}
+use Rattle.world_model.specs.network_model.declared.event.Event.{Event}
+use Rattle.world_model.specs.network_model.declared.link.LinkEnd.{LinkEnd}
 use Rattle.world_model.specs.World.{opened}
 use Rattle.world_views.specs.Between.{HasNumbers, HasAllNumbers}
 use Rattle.world_views.specs.Kept.{Keeps, Begins}

@@ -7,7 +7,7 @@ use Rattle.world_model.specs.Words.{NodeId, GivenOut, Next, at, Cell, Policy, Se
 use Rattle.controller_bindings.specs.ordered_lists.Ordered.{Every}
 use Rattle.controller_bindings.proofs.ordered_lists.Every.{every_join}
 use Rattle.controller_bindings.proofs.port_facts.Keyed.{by_eq, at_every}
-use Rattle.world_model.specs.declared.range.PortRange.{PortRange}
+use Rattle.world_model.specs.controller_model.declared.range.PortRange.{PortRange}
 use Rattle.run_facts.specs.Inputs.{IsMarked}
 use Rattle.run_facts.proofs.Owns.{own_in, port_own}
 use Rattle.run_facts.proofs.Controllers.{Table}

@@ -10,7 +10,7 @@ use Rattle.controller_bindings.specs.ordered_lists.Ordered.{Every}
 use Rattle.controller_bindings.proofs.port_facts.Keyed.{by_eq}
 use Rattle.world_model.specs.Switch.{begun}
 use Rattle.world_pace.specs.actor_pace.Pace.{IsUpTo}
-use Rattle.world_model.specs.declared.event.Event.{Event}
+use Rattle.world_model.specs.network_model.declared.event.Event.{Event}
 use Rattle.world_model.specs.Topology as topologies
 use Rattle.world_model.specs.World.{opened}
 use Rattle.world_model.proofs.Opening.{site_ports}

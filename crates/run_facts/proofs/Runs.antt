@@ -10,8 +10,8 @@ use Rattle.controller_bindings.proofs.port_facts.Keyed.{at_every}
 use Rattle.run_facts.proofs.Controllers.{May}
 use Rattle.lifetimes.proofs.Opened.{IsFed, opening_fed}
 use Rattle.lifetimes.proofs.Runs.{next_fed, run_fed}
-use Rattle.world_model.specs.declared.event.Event.{Event}
-use Rattle.world_model.specs.declared.event.Event.TheVariants.{Route as RouteEvent}
+use Rattle.world_model.specs.network_model.declared.event.Event.{Event}
+use Rattle.world_model.specs.network_model.declared.event.Event.TheVariants.{Route as RouteEvent}
 use Rattle.world_model.specs.World.{opened}
 use Rattle.run_facts.specs.Drawn.{Holder, own_at, IsNew, is_new, Draws, EventsDraw, RunsDrawOnce}
 use Rattle.run_facts.proofs.Marked.{WorldMarked}

@@ -25,9 +25,9 @@ use Rattle.run_facts.proofs.Switches.{switch_leaves}
 use Rattle.lifetimes.specs.Run.{acted_in, if_at, head_comes, head_leaves, comes_to}
 use Rattle.lifetimes.proofs.Opened.{IsFed}
 use Rattle.lifetimes.proofs.Feeding.{inputs_join, acted_by, number_isnt}
-use Rattle.world_model.specs.declared.event.Event.{Event}
-use Rattle.world_model.specs.declared.event.Event.TheVariants.{Inject, Carry, Lose, Tick, TickSwitch, Restart, RestartSwitch, Forge, Route}
-use Rattle.world_model.specs.declared.link.LinkEnd.{LinkEnd}
+use Rattle.world_model.specs.network_model.declared.event.Event.{Event}
+use Rattle.world_model.specs.network_model.declared.event.Event.TheVariants.{Inject, Carry, Lose, Tick, TickSwitch, Restart, RestartSwitch, Forge, Route}
+use Rattle.world_model.specs.network_model.declared.link.LinkEnd.{LinkEnd}
 use Rattle.world_model.specs.Topology.{peer_of}
 use Rattle.world_model.specs.World.{at_controller, at_switch}
 use Rattle.world_model.specs.Step.{note}

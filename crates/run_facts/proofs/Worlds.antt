@@ -16,9 +16,9 @@ use Rattle.run_facts.proofs.Switches.{sends_leave}
 use Rattle.run_facts.proofs.Owns.{own_in}
 use Rattle.run_facts.proofs.Controllers as controllers
 use Rattle.run_facts.proofs.Controllers.{IsLeft, control_leaves, May}
-use Rattle.world_model.specs.declared.event.Event.{Event}
-use Rattle.world_model.specs.declared.event.Event.TheVariants.{Inject, Carry, Lose, Tick, TickSwitch, Restart, RestartSwitch, Forge, Route}
-use Rattle.world_model.specs.declared.link.LinkEnd.{LinkEnd}
+use Rattle.world_model.specs.network_model.declared.event.Event.{Event}
+use Rattle.world_model.specs.network_model.declared.event.Event.TheVariants.{Inject, Carry, Lose, Tick, TickSwitch, Restart, RestartSwitch, Forge, Route}
+use Rattle.world_model.specs.network_model.declared.link.LinkEnd.{LinkEnd}
 use Rattle.world_model.specs.Topology.{peer_of}
 use Rattle.world_model.specs.World.{at_controller, at_switch}
 use Rattle.world_model.specs.Step.{note, acts}

@@ -2,7 +2,7 @@
 
 use Rattle.std.specs.Prelude.{◌≡◌, true, List, ◌++◌, Contains}
 use Rattle.world_model.specs.Words.{NodeId, Cell, Policy, default_channel, same_channel, Topology, World, requests_chain_at, answers_chain_at, past_of}
-use Rattle.world_model.specs.declared.event.Event.{Event}
+use Rattle.world_model.specs.network_model.declared.event.Event.{Event}
 
 -- those of each switch and of each controller
 abbrev pub HasOwnChains : World → Type 0

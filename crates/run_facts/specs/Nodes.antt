@@ -13,7 +13,7 @@ use Rattle.controller_bindings.specs.controller_facts.Conditions.{HasGrantedJoin
 use Rattle.controller_bindings.specs.controller_law.Order.{IsOrderly}
 use Rattle.controller_bindings.specs.controller_law.Match.{IsMatched}
 use Rattle.controller_bindings.specs.Bindings.{HasBoundLabels, HasLedJoins, GathersForBound}
-use Rattle.world_model.specs.declared.event.Event.{Event}
+use Rattle.world_model.specs.network_model.declared.event.Event.{Event}
 use Rattle.world_model.specs.Topology as topologies
 use Rattle.world_views.specs.Shown.{acting}
 use Rattle.world_views.specs.Between.{EachSite, setups_of}

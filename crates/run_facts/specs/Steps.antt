@@ -3,8 +3,8 @@
 use Rattle.std.specs.Prelude.{◌≡◌, ℕ, suc, ◌<◌, List, [], ◌∷◌, ◌++◌, length, slice_get, Some}
 use Rattle.world_model.specs.Words.{NodeId, Policy, Fate, Topology, CanCome, next, Reaches, HasReached, sent_by, table_in, Past, past_of, frames_of, WasCleared, IsRun, IsTame, WasAccepted, IsTrueFate}
 use Rattle.world_views.specs.shown_cells.Seen.{Extends}
-use Rattle.world_model.specs.declared.event.Event.{Event}
-use Rattle.world_model.specs.declared.link.LinkEnd.{LinkEnd}
+use Rattle.world_model.specs.network_model.declared.event.Event.{Event}
+use Rattle.world_model.specs.network_model.declared.link.LinkEnd.{LinkEnd}
 use Rattle.world_views.specs.Marks.{HasCome}
 use Rattle.world_views.specs.Between.{IsWorld}
 use Rattle.world_views.specs.Kept.{Comes, behind}

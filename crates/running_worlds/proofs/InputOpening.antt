@@ -10,7 +10,7 @@ use Rattle.world_model.specs.crossbar_model.declared.branch.Branch.{Branch}
 use Rattle.world_model.specs.crossbar_model.Crossbar.{output_of}
 use Rattle.frame_readings.specs.ordered_lists.Ordered.{Every}
 use Rattle.frame_readings.proofs.ordered_lists.Every.{every_join}
-use Rattle.world_model.specs.declared.port.PortState.{PortState}
+use Rattle.world_model.specs.switch_model.declared.port.PortState.{PortState}
 use Rattle.world_model.specs.Switch.{begun}
 use Rattle.frame_readings.specs.port_facts.Port.{IsShaped}
 use Rattle.frame_readings.proofs.port_facts.Keyed.{at_key, at_every}

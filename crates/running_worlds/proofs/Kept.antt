@@ -11,13 +11,13 @@ use Rattle.world_model.specs.gsmp_wire.declared.fault.Fault.{Fault}
 use Rattle.world_model.specs.gsmp_wire.Fields.{decoded}
 use Rattle.world_model.specs.frame_model.Frame.{octets_of}
 use Rattle.world_model.specs.Switch as switches
-use Rattle.world_model.specs.declared.port.PortState.{PortState}
+use Rattle.world_model.specs.switch_model.declared.port.PortState.{PortState}
 use Rattle.world_model.specs.Answers.{row_of}
 use Rattle.world_model.specs.Controller.{free_slots, ports_of}
 use Rattle.world_model.specs.Cells.{Taker}
 use Rattle.branch_shapes.proofs.causes.Shown.{peer_back}
-use Rattle.world_model.specs.declared.event.Event.{Event}
-use Rattle.world_model.specs.declared.event.Event.TheVariants.{Inject, Carry, Lose, Tick, TickSwitch, Restart, RestartSwitch, Forge, Route}
+use Rattle.world_model.specs.network_model.declared.event.Event.{Event}
+use Rattle.world_model.specs.network_model.declared.event.Event.TheVariants.{Inject, Carry, Lose, Tick, TickSwitch, Restart, RestartSwitch, Forge, Route}
 use Rattle.world_model.specs.Step.{acts}
 use Rattle.world_model.specs.Ways.{told}
 use Rattle.frame_readings.specs.world_views.Made.{IsFit, AreMade}

@@ -9,7 +9,7 @@ use Rattle.frame_readings.proofs.port_facts.Keyed.{at_key, at_every}
 use Rattle.world_model.specs.Controller.{Acted}
 use Rattle.world_model.specs.Cells.{Taker}
 use Rattle.branch_shapes.specs.controller_bindings.Bindings.{site, IsBoundLast, HasBoundLabels}
-use Rattle.world_model.specs.declared.link.LinkEnd.{LinkEnd}
+use Rattle.world_model.specs.network_model.declared.link.LinkEnd.{LinkEnd}
 use Rattle.frame_readings.specs.world_views.Made.{IsFit}
 use Rattle.frame_readings.specs.world_views.Marks.{own_end, heading_at, Means, early, control, local, plain, labelled}
 use Rattle.frame_readings.proofs.Reading.{read_label}

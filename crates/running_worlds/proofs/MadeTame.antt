@@ -7,7 +7,7 @@ use Rattle.world_model.specs.frame_model.Reassembly.{Taken, taken, joined}
 use Rattle.frame_readings.proofs.port_facts.Keyed.{on_each}
 use Rattle.world_model.specs.Switch as switches
 use Rattle.world_model.specs.Controller.{free_slots}
-use Rattle.world_model.specs.declared.event.Event.TheVariants.{Carry}
+use Rattle.world_model.specs.network_model.declared.event.Event.TheVariants.{Carry}
 use Rattle.input_events.specs.input_steps.Hearing.{IsEnded, PassesTrue}
 use Rattle.run_facts.specs.Steps.{EventsAreSteps, RunsHaveFronts}
 use Rattle.frame_readings.proofs.shown_cells.Tested.{frame_is}

@@ -4,15 +4,15 @@ use Rattle.std.proofs.Common.{◌≡◌, ℕ, zero, suc, ◌+◌, ◌≤◌, ◌
 use Rattle.std.specs.Prelude.{◌^◌, All}
 use Rattle.world_model.specs.Words.{NodeId, PortNo, Instance, GivenOut, Bits, FitsRows, Frame, payload_of, IsLinkPort, control_port, numbers_of, Policy, Setup, is_spent, Linked, setup_of, opens_ports, Topology, Node, ranges_of, timers_of, World, Site, site_key, opened_site, opens_each, with_opened, empty_world, past_of, IsRun}
 use Rattle.frame_readings.specs.ordered_lists.Ordered.{Every}
-use Rattle.world_model.specs.declared.port.PortState.{PortState}
+use Rattle.world_model.specs.switch_model.declared.port.PortState.{PortState}
 use Rattle.world_model.specs.Switch.{begun}
 use Rattle.world_model.specs.Answers.{row_of}
 use Rattle.frame_readings.proofs.port_facts.Keyed.{at_every, every_more}
 use Rattle.frame_readings.specs.port_widths.Widths.{FitsPort, FitsSetup}
-use Rattle.world_model.specs.declared.range.PortRange.{PortRange}
+use Rattle.world_model.specs.controller_model.declared.range.PortRange.{PortRange}
 use Rattle.world_model.specs.Controller.{ports_of}
 use Rattle.frame_readings.specs.controller_views.Ready.{IsReadyPort}
-use Rattle.world_model.specs.declared.event.Event.{Event}
+use Rattle.world_model.specs.network_model.declared.event.Event.{Event}
 use Rattle.world_model.specs.Topology as topologies
 use Rattle.world_model.specs.World.{opened}
 use Rattle.frame_readings.specs.world_views.Made.{AreMade}

@@ -14,7 +14,7 @@ use Rattle.world_model.specs.gsmp_wire.declared.message.Message.TheVariants as m
 use Rattle.world_model.specs.crossbar_model.declared.branch.Branch.{Branch}
 use Rattle.frame_readings.specs.ordered_lists.Ordered.{Every, InOrder}
 use Rattle.frame_readings.proofs.ordered_lists.Every.{every_map, every_unmapped}
-use Rattle.world_model.specs.declared.port.PortState.{PortState}
+use Rattle.world_model.specs.switch_model.declared.port.PortState.{PortState}
 use Rattle.world_model.specs.Answers.{row_of}
 use Rattle.frame_readings.specs.port_facts.Port.{setup_port, IsLinked}
 use Rattle.frame_readings.proofs.port_facts.Found.{find_every}

@@ -19,9 +19,9 @@ use Rattle.world_model.specs.crossbar_model.declared.routed.Routed.TheVariants a
 use Rattle.world_model.specs.crossbar_model.declared.branch.Branch.{Branch as BranchOf}
 use Rattle.frame_readings.proofs.port_facts.Keyed.{on_both, on_each}
 use Rattle.frame_readings.proofs.port_facts.Rules.{and_first}
-use Rattle.world_model.specs.declared.port.PortState.{PortState}
-use Rattle.world_model.specs.declared.request.Asked.{Asked}
-use Rattle.world_model.specs.declared.request.Failure.{Failure}
+use Rattle.world_model.specs.switch_model.declared.port.PortState.{PortState}
+use Rattle.world_model.specs.switch_model.declared.request.Asked.{Asked}
+use Rattle.world_model.specs.switch_model.declared.request.Failure.{Failure}
 use Rattle.world_model.specs.Switch.{Acted, free_slots, begun}
 use Rattle.world_model.specs.Requests.{ended, cleared}
 use Rattle.world_model.specs.Answers.{row_of}

@@ -26,9 +26,9 @@ use Rattle.frame_readings.proofs.ordered_lists.Every.{every_join, every_map, eve
 use Rattle.world_model.specs.port_model.Messages.{is_up}
 use Rattle.frame_readings.specs.port_facts.Port.{IsShaped, asks_ports, empties_control, empties_port, opens_input, opens_output, leads_label, leads_grant, joins_label, parts_label, frees_label}
 use Rattle.frame_readings.proofs.port_facts.Keyed.{on_both, on_each}
-use Rattle.world_model.specs.declared.port.PortState.{PortState}
-use Rattle.world_model.specs.declared.request.Asked.{Asked}
-use Rattle.world_model.specs.declared.request.Failure.{Failure}
+use Rattle.world_model.specs.switch_model.declared.port.PortState.{PortState}
+use Rattle.world_model.specs.switch_model.declared.request.Asked.{Asked}
+use Rattle.world_model.specs.switch_model.declared.request.Failure.{Failure}
 use Rattle.world_model.specs.Switch.{Acted, free_slots, begun}
 use Rattle.world_model.specs.Requests.{cleared}
 use Rattle.world_model.specs.Answers.{row_of}

@@ -22,7 +22,7 @@ use Rattle.input_events.proofs.controller_law.Whole.{Whole, chained_whole}
 use Rattle.branch_shapes.specs.controller_bindings.Bindings.{noted_by_all}
 use Rattle.frame_readings.proofs.controller_facts.Unmet.{ports_apart}
 use Rattle.frame_readings.specs.controller_facts.Inputs.{Input}
-use Rattle.world_model.specs.declared.range.PortRange.{PortRange}
+use Rattle.world_model.specs.controller_model.declared.range.PortRange.{PortRange}
 use Rattle.branch_shapes.proofs.controller_bindings.Tied.{Tied, NoCut, Settled, anew_tied}
 use Rattle.branch_shapes.proofs.controller_bindings.Events.{IsTiedTo, IsTakerOf, inputs_told, frame_bound, gathered_bound}
 use Rattle.branch_shapes.proofs.controller_bindings.Laws.{opened_at, opened_new}

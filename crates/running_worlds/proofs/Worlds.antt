@@ -13,8 +13,8 @@ use Rattle.world_model.specs.Switch as switches
 use Rattle.world_model.specs.Conduct as switch
 use Rattle.world_model.specs.Controller.{Acted, free_slots}
 use Rattle.world_model.specs.Cells.{Taker, cell_comes}
-use Rattle.world_model.specs.declared.event.Event.{Event}
-use Rattle.world_model.specs.declared.event.Event.TheVariants.{Carry}
+use Rattle.world_model.specs.network_model.declared.event.Event.{Event}
+use Rattle.world_model.specs.network_model.declared.event.Event.TheVariants.{Carry}
 use Rattle.world_model.specs.World.{opened, at_controller, at_switch}
 use Rattle.branch_shapes.proofs.lifetimes.Opened.{IsFed, opening_fed}
 use Rattle.branch_shapes.proofs.lifetimes.Runs.{run_fed}

@@ -3,7 +3,7 @@
 use Rattle.std.specs.Prelude.{◌≡◌, ℕ, ◌≤◌, true, List, ◌∷◌, length, map, Contains}
 use Rattle.world_model.specs.Words.{Cell, queue_of, Frame, Setup, control_port, numbers_of, tick_comes, restarted}
 use Rattle.frame_readings.specs.ordered_lists.Ordered.{Every}
-use Rattle.world_model.specs.declared.port.PortState.{PortState}
+use Rattle.world_model.specs.switch_model.declared.port.PortState.{PortState}
 use Rattle.world_model.specs.Switch.{Acted}
 use Rattle.world_model.specs.Controller as controllers
 use Rattle.world_model.specs.Ticks.{ticks}

@@ -4,7 +4,7 @@ use Rattle.std.specs.Prelude.{◌≡◌, ℕ, ◌≤◌, true, List, map, Some}
 use Rattle.world_model.specs.Words.{PortNo, Cell, PortRow, Frame, queue_of, Standing, control_port, Setup, Controller, Site, gsmp_under, copy_under}
 use Rattle.world_model.specs.gsmp_wire.declared.message.Message.TheVariants.{AllPorts}
 use Rattle.frame_readings.specs.ordered_lists.Ordered.{Every}
-use Rattle.world_model.specs.declared.port.PortState.{PortState}
+use Rattle.world_model.specs.switch_model.declared.port.PortState.{PortState}
 use Rattle.frame_readings.specs.port_facts.Port.{IsShaped}
 use Rattle.frame_readings.specs.world_views.Between.{AreUp, setups_of}
 use Rattle.running_worlds.specs.New.{AsksShaped, TellsUp, SinceThen}

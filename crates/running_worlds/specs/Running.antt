@@ -5,8 +5,8 @@ use Rattle.world_model.specs.Words.{NodeId, Down, Up, Cell, Policy, default_chan
 use Rattle.world_model.specs.Switch as switches
 use Rattle.world_model.specs.Controller.{free_slots}
 use Rattle.world_model.specs.Cells.{Taker}
-use Rattle.world_model.specs.declared.event.Event.{Event}
-use Rattle.world_model.specs.declared.event.Event.TheVariants.{Carry}
+use Rattle.world_model.specs.network_model.declared.event.Event.{Event}
+use Rattle.world_model.specs.network_model.declared.event.Event.TheVariants.{Carry}
 use Rattle.input_events.specs.input_steps.Hearing.{IsEnded, PassesTrue}
 use Rattle.input_events.specs.Coming.{IsRunning, IsOrdinary}
 use Rattle.frame_readings.specs.world_views.Between.{IsWorld}

@@ -16,10 +16,10 @@ use Rattle.ipv4_forward.specs.declared.table.Next.TheVariants.{Local, Via}
 use Rattle.lab_text.specs.Forms.{is_letter, is_name_octet}
 use Rattle.lab_text.specs.Text.{hex_digits, line_of}
 use Rattle.lab_text.specs.Words.{line_text, is_blank_text}
-use Rattle.world_model.specs.declared.event.Event.{Event}
-use Rattle.world_model.specs.declared.event.Event.TheVariants as event
-use Rattle.world_model.specs.declared.line.TopologyLine.{TopologyLine}
-use Rattle.world_model.specs.declared.line.TopologyLine.TheVariants as lines
+use Rattle.world_model.specs.network_model.declared.event.Event.{Event}
+use Rattle.world_model.specs.network_model.declared.event.Event.TheVariants as event
+use Rattle.world_model.specs.network_model.declared.line.TopologyLine.{TopologyLine}
+use Rattle.world_model.specs.network_model.declared.line.TopologyLine.TheVariants as lines
 use Rattle.world_model.specs.Topology.{Topology, vpis_of}
 use Rattle.world_model.specs.Places.{place_node}
 use Rattle.world_model.specs.Lines.{line_refusal, node_named}

@@ -11,12 +11,12 @@ use Rattle.net_types.specs.declared.node.PortNo.{PortNo}
 use Rattle.net_types.specs.Label.{is_label_number}
 use Rattle.ipv4_forward.specs.declared.table.Next.TheVariants.{Local, Via}
 use Rattle.lab_text.specs.Words.{is_blank, words, is_blank_text}
-use Rattle.world_model.specs.declared.event.Event.{Event}
-use Rattle.world_model.specs.declared.event.Event.TheVariants as event
-use Rattle.world_model.specs.declared.refusal.EventRefusal.{EventRefusal}
-use Rattle.world_model.specs.declared.refusal.TopologyRefusal.{TopologyRefusal}
-use Rattle.world_model.specs.declared.line.TopologyLine.{TopologyLine}
-use Rattle.world_model.specs.declared.line.TopologyLine.TheVariants as lines
+use Rattle.world_model.specs.network_model.declared.event.Event.{Event}
+use Rattle.world_model.specs.network_model.declared.event.Event.TheVariants as event
+use Rattle.world_model.specs.network_model.declared.refusal.EventRefusal.{EventRefusal}
+use Rattle.world_model.specs.network_model.declared.refusal.TopologyRefusal.{TopologyRefusal}
+use Rattle.world_model.specs.network_model.declared.line.TopologyLine.{TopologyLine}
+use Rattle.world_model.specs.network_model.declared.line.TopologyLine.TheVariants as lines
 use Rattle.world_model.specs.Topology.{Topology, Node, vpis_of}
 use Rattle.world_model.specs.Lines.{is_named, node_named, line_refusal}
 use Rattle.world_model.specs.Events.{event_refusal}

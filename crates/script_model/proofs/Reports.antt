@@ -8,7 +8,7 @@ use Rattle.net_types.specs.declared.node.Place.TheVariants.{Down, Up}
 use Rattle.link_model.specs.declared.record.Cause.TheVariants.{Lost}
 use Rattle.link_model.specs.declared.record.Record.TheVariants.{Loss}
 use Rattle.lab_text.specs.Numeral.{paired}
-use Rattle.world_model.specs.declared.event.Event.TheVariants.{Inject, Carry, Lose, Tick}
+use Rattle.world_model.specs.network_model.declared.event.Event.TheVariants.{Inject, Carry, Lose, Tick}
 use Rattle.world_model.specs.Topology.{Topology}
 use Rattle.script_model.specs.declared.refusal.LineRefusal.TheVariants.{UnknownName}
 use Rattle.script_model.specs.declared.refusal.Refused.TheVariants.{Line}

@@ -7,8 +7,8 @@ use Rattle.net_types.specs.declared.channel.Channel.{Channel}
 use Rattle.net_types.specs.Prefix.{Network}
 use Rattle.ipv4_forward.specs.declared.table.Next.{Next}
 use Rattle.ipv4_forward.specs.declared.table.Next.TheVariants.{Local, Via}
-use Rattle.world_model.specs.declared.line.TopologyLine.{TopologyLine}
-use Rattle.world_model.specs.declared.line.TopologyLine.TheVariants as lines
+use Rattle.world_model.specs.network_model.declared.line.TopologyLine.{TopologyLine}
+use Rattle.world_model.specs.network_model.declared.line.TopologyLine.TheVariants as lines
 use Rattle.script_model.specs.declared.keyword.Keyword.{Keyword}
 use Rattle.script_model.specs.declared.keyword.Keyword.TheVariants as word
 use Rattle.script_model.specs.declared.refusal.LineRefusal.{LineRefusal}

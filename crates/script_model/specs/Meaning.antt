@@ -5,14 +5,14 @@ use Rattle.std.specs.Option.{option_map}
 use Rattle.net_types.specs.declared.node.NodeId.{NodeId}
 use Rattle.net_types.specs.declared.node.Place.{Place}
 use Rattle.net_types.specs.declared.node.Place.TheVariants.{Down, Up, Out}
-use Rattle.world_model.specs.declared.event.Event.{Event}
-use Rattle.world_model.specs.declared.event.Event.TheVariants.{Inject, Carry, Lose, Tick, TickSwitch, Restart, RestartSwitch, Forge, Route}
-use Rattle.world_model.specs.declared.line.TopologyLine.{TopologyLine}
-use Rattle.world_model.specs.declared.line.TopologyLine.TheVariants.{Version}
-use Rattle.world_model.specs.declared.refusal.TopologyRefusal.{TopologyRefusal}
-use Rattle.world_model.specs.declared.refusal.TopologyRefusal.TheVariants as topology
-use Rattle.world_model.specs.declared.refusal.EventRefusal.{EventRefusal}
-use Rattle.world_model.specs.declared.refusal.EventRefusal.TheVariants as event
+use Rattle.world_model.specs.network_model.declared.event.Event.{Event}
+use Rattle.world_model.specs.network_model.declared.event.Event.TheVariants.{Inject, Carry, Lose, Tick, TickSwitch, Restart, RestartSwitch, Forge, Route}
+use Rattle.world_model.specs.network_model.declared.line.TopologyLine.{TopologyLine}
+use Rattle.world_model.specs.network_model.declared.line.TopologyLine.TheVariants.{Version}
+use Rattle.world_model.specs.network_model.declared.refusal.TopologyRefusal.{TopologyRefusal}
+use Rattle.world_model.specs.network_model.declared.refusal.TopologyRefusal.TheVariants as topology
+use Rattle.world_model.specs.network_model.declared.refusal.EventRefusal.{EventRefusal}
+use Rattle.world_model.specs.network_model.declared.refusal.EventRefusal.TheVariants as event
 use Rattle.world_model.specs.Lines.{node_named, line_refusal}
 use Rattle.world_model.specs.Events.{event_refusal}
 use Rattle.script_model.specs.declared.line.Line.{Line}

@@ -8,10 +8,10 @@ use Rattle.net_types.specs.Prefix.{Network, IsNetwork}
 use Rattle.ipv4_forward.specs.declared.table.Next.{Next}
 use Rattle.ipv4_forward.specs.declared.table.Next.TheVariants.{Local, Via}
 use Rattle.lab_text.specs.Forms.{is_name}
-use Rattle.world_model.specs.declared.event.Event.{Event}
-use Rattle.world_model.specs.declared.event.Event.TheVariants as event
-use Rattle.world_model.specs.declared.line.TopologyLine.{TopologyLine}
-use Rattle.world_model.specs.declared.line.TopologyLine.TheVariants as lines
+use Rattle.world_model.specs.network_model.declared.event.Event.{Event}
+use Rattle.world_model.specs.network_model.declared.event.Event.TheVariants as event
+use Rattle.world_model.specs.network_model.declared.line.TopologyLine.{TopologyLine}
+use Rattle.world_model.specs.network_model.declared.line.TopologyLine.TheVariants as lines
 use Rattle.world_model.specs.Limits.{greatest_payload}
 use Rattle.world_model.specs.Topology.{Topology}
 use Rattle.world_model.specs.Lines.{node_named, line_refusal}

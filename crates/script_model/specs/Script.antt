@@ -3,7 +3,7 @@
 use Rattle.std.specs.Prelude.{ℕ, ◌+◌, List, [], ◌∷◌, ◌++◌, take, Option, None, Some, Result, Ok, Err}
 use Rattle.std.specs.List.{repeat}
 use Rattle.lab_text.specs.Lines.{lines_of}
-use Rattle.world_model.specs.declared.event.Event.{Event}
+use Rattle.world_model.specs.network_model.declared.event.Event.{Event}
 use Rattle.world_model.specs.Topology.{Topology, policy_of}
 use Rattle.world_model.specs.World.{World, opened}
 use Rattle.world_model.specs.Run.{tick_of_all, round}

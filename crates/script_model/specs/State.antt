@@ -5,8 +5,8 @@ use Rattle.std.specs.Option.{option_map_or}
 use Rattle.net_types.specs.declared.node.NodeId.{NodeId}
 use Rattle.ipv4_forward.specs.declared.table.Route.{Route}
 use Rattle.ipv4_forward.specs.Change.{changed}
-use Rattle.world_model.specs.declared.event.Event.{Event}
-use Rattle.world_model.specs.declared.event.Event.TheVariants.{Tick, TickSwitch, Route as RouteComes}
+use Rattle.world_model.specs.network_model.declared.event.Event.{Event}
+use Rattle.world_model.specs.network_model.declared.event.Event.TheVariants.{Tick, TickSwitch, Route as RouteComes}
 use Rattle.world_model.specs.Topology.{Topology, Node, empty_topology}
 use Rattle.world_model.specs.Lines.{with_line}
 use Rattle.script_model.specs.declared.line.Line.{Line}

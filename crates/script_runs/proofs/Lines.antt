@@ -9,10 +9,10 @@ use Rattle.run_facts.specs.ordered_lists.Ordered.{Every}
 use Rattle.run_facts.proofs.ordered_lists.Every.{every_join, every_mapped, every_map}
 use Rattle.run_facts.proofs.port_facts.Keyed.{every_more}
 use Rattle.world_model.specs.Controller.{ports_of}
-use Rattle.world_model.specs.declared.event.Event.{Event}
-use Rattle.world_model.specs.declared.event.Event.TheVariants.{Carry, Tick, TickSwitch}
-use Rattle.world_model.specs.declared.line.TopologyLine.{TopologyLine}
-use Rattle.world_model.specs.declared.line.TopologyLine.TheVariants as lines
+use Rattle.world_model.specs.network_model.declared.event.Event.{Event}
+use Rattle.world_model.specs.network_model.declared.event.Event.TheVariants.{Carry, Tick, TickSwitch}
+use Rattle.world_model.specs.network_model.declared.line.TopologyLine.{TopologyLine}
+use Rattle.world_model.specs.network_model.declared.line.TopologyLine.TheVariants as lines
 use Rattle.world_model.specs.Topology.{peer_of}
 use Rattle.run_facts.specs.world_pace.Running.{AreRunning, IsRunningSite, numbered}
 use Rattle.script_model.specs.Sayable.{HasTexts}

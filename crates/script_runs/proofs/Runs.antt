@@ -3,7 +3,7 @@
 use Rattle.std.proofs.Common.{◌≡◌, ◌+◌, ◌<◌, List, [], ◌∷◌, ◌++◌, length, refl, sym, ap, subst, arith, append_assoc, append-nil}
 use Rattle.run_facts.specs.ordered_lists.Ordered.{Every}
 use Rattle.world_model.specs.Words.{Policy, Topology, CanCome, World, next, world_after, IsRun}
-use Rattle.world_model.specs.declared.event.Event.{Event}
+use Rattle.world_model.specs.network_model.declared.event.Event.{Event}
 use Rattle.world_model.specs.World.{opened}
 use Rattle.script_runs.proofs.Lines.{IsMeant}
 

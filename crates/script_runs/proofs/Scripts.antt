@@ -10,8 +10,8 @@ use Rattle.lab_text.specs.Text.{line_of}
 use Rattle.lab_text.specs.Words.{line_text}
 use Rattle.run_facts.specs.ordered_lists.Ordered.{Every}
 use Rattle.world_model.specs.Words.{Policy, Topology, empty_topology, policy_of, with_line, IsTopology, IsEvent, World, Site, tick_of_all, round, world_after, IsRun}
-use Rattle.world_model.specs.declared.event.Event.{Event}
-use Rattle.world_model.specs.declared.line.TopologyLine.{TopologyLine}
+use Rattle.world_model.specs.network_model.declared.event.Event.{Event}
+use Rattle.world_model.specs.network_model.declared.line.TopologyLine.{TopologyLine}
 use Rattle.world_model.specs.World.{opened}
 use Rattle.world_model.proofs.Kept.{line_keeps, empty_is}
 use Rattle.run_facts.specs.world_pace.Running.{AreNumbered}

@@ -5,7 +5,7 @@ ghost use Rattle.ipv4_forward.specs.Change.{changed, change_fault};
 ghost use Rattle.std.specs.Char.{is_ascii_hexdigit};
 ghost use Rattle.std.specs.List.{list_all};
 ghost use Rattle.lab_text.specs.Numeral.{paired};
-ghost use Rattle.world_model.specs.declared.event.Event.TheVariants.{Forge as ForgeComes, Inject as InjectComes, Route as RouteComes};
+ghost use Rattle.world_model.specs.network_model.declared.event.Event.TheVariants.{Forge as ForgeComes, Inject as InjectComes, Route as RouteComes};
 ghost use Rattle.world_model.specs.Conditions.{IsNode, HasItsNumbers};
 ghost use Rattle.world_model.specs.Events.{place_refusal, route_event_refusal, event_refusal};
 ghost use Rattle.world_model.specs.Lines.{is_linked, line_refusal};

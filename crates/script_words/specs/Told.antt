@@ -11,8 +11,8 @@ use Rattle.script_model.specs.Forms as forms
 use Rattle.script_model.specs.Forms.{after}
 use Rattle.script_model.specs.Grammar as grammar
 use Rattle.script_model.specs.Grammar.{said, said_of}
-use Rattle.world_model.specs.declared.line.TopologyLine.{TopologyLine}
-use Rattle.world_model.specs.declared.line.TopologyLine.TheVariants as lines
+use Rattle.world_model.specs.network_model.declared.line.TopologyLine.{TopologyLine}
+use Rattle.world_model.specs.network_model.declared.line.TopologyLine.TheVariants as lines
 use Rattle.world_model.specs.Conditions.{HasItsNumbers}
 use Rattle.script_words.specs.declared.said.Side.{Side}
 use Rattle.script_words.specs.declared.said.Side.TheVariants.{FromController, FromPort}

@@ -4,7 +4,7 @@ use Rattle.std.proofs.Common.{◌≡◌, ℕ, zero, suc, ◌≤◌, List, ◌∷
 use Rattle.world_model.specs.Words.{NodeId, PortNo, ttl_of, destination_of, best, onward, Local, Via, Fate, IsDelivered, IsDropped, by_route, Topology, journey, journey_within, at_peer}
 use Rattle.world_model.specs.ipv4_forward.declared.table.Route.{Route}
 use Rattle.world_model.specs.link_model.declared.record.DropCause.TheVariants.{NoRoute, Expired}
-use Rattle.world_model.specs.declared.link.LinkEnd.{LinkEnd}
+use Rattle.world_model.specs.network_model.declared.link.LinkEnd.{LinkEnd}
 use Rattle.world_model.specs.Topology.{peer_of}
 
 -- a packet that goes on has one less to live

@@ -4,7 +4,7 @@ use Rattle.std.proofs.Common.{◌≡◌, ℕ, zero, suc, ◌<◌, List, [], ◌�
 use Rattle.std.proofs.lemmas.List.Elements.{Contains-append_cases}
 use Rattle.std.proofs.lemmas.Option.{slice_get_within}
 use Rattle.world_model.specs.Words.{NodeId, destination_of, best, Record, Journal, Policy, Fate, IsDelivered, IsDropped, fate_record, Topology, Node, routes_of, World, empty_world, opens_each, with_opened, records_of, worlds_from, journey, Reaches, hops, IsFateAt, delivered, without_route, expired, Past, past_of, WasAccepted, AreTrueFates, IsTrueFate}
-use Rattle.world_model.specs.declared.event.Event.{Event}
+use Rattle.world_model.specs.network_model.declared.event.Event.{Event}
 use Rattle.world_model.specs.World.{opened}
 use Rattle.world_model.specs.Reached.{taken}
 use Rattle.steady_routes.specs.Law.{ChangesNoRoute, IsJourneyOf, AreJourneys, FatesAreJourneys}

@@ -3,8 +3,8 @@
 use Rattle.std.specs.Prelude.{◌≡◌, ℕ, Bool, true, false, List, Contains}
 use Rattle.std.specs.List.{list_any}
 use Rattle.world_model.specs.Words.{Policy, Fate, fate_record, Topology, routes_of, journey, Past, past_of, WasAccepted, AreTrueFates}
-use Rattle.world_model.specs.declared.event.Event.{Event}
-use Rattle.world_model.specs.declared.event.Event.TheVariants.{Route}
+use Rattle.world_model.specs.network_model.declared.event.Event.{Event}
+use Rattle.world_model.specs.network_model.declared.event.Event.TheVariants.{Route}
 
 -- an event that brings a change of a route
 abbrev pub changes_route : Event → Bool

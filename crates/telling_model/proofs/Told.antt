@@ -2,7 +2,7 @@
 
 use Rattle.std.proofs.Common.{◌≡◌, ℕ, suc, List, [], ◌∷◌, ◌++◌, append_assoc, refl, sym, ◌∙◌, ap}
 use Rattle.port_model.specs.Setup.{Policy}
-use Rattle.world_model.specs.declared.event.Event.{Event}
+use Rattle.world_model.specs.network_model.declared.event.Event.{Event}
 use Rattle.world_model.specs.Run.{next, put_away, world_after}
 use Rattle.world_model.specs.Topology.{Node, Topology}
 use Rattle.world_model.specs.World.{World, empty_world, opened, opens_each, with_opened}

@@ -5,8 +5,8 @@ use Rattle.std.specs.Option.{option_map}
 use Rattle.atm_cells.specs.declared.cell.Cell.{Cell}
 use Rattle.link_model.specs.declared.frames.Frame.{Frame}
 use Rattle.net_types.specs.declared.node.Place.{Place}
-use Rattle.world_model.specs.declared.event.Event.{Event}
-use Rattle.world_model.specs.declared.event.Event.TheVariants.{Carry, Lose}
+use Rattle.world_model.specs.network_model.declared.event.Event.{Event}
+use Rattle.world_model.specs.network_model.declared.event.Event.TheVariants.{Carry, Lose}
 use Rattle.world_model.specs.Places.{places, queue_at, same_queue}
 use Rattle.world_model.specs.Run.{next}
 use Rattle.world_model.specs.Topology.{Topology}

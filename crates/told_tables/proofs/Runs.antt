@@ -7,7 +7,7 @@ use Rattle.std.proofs.lemmas.List.Sums.{fold-append}
 use Rattle.world_model.specs.Words.{NodeId, changed, RouteChange, at, put, Policy, Controller, change_comes, changes_of, Topology, Node, node_at, routes_of, World, Site, site_key, site_at, controller_acts, controller_at, put_away, next, worlds_from, world_after, table_in}
 use Rattle.world_model.specs.ipv4_forward.declared.table.Route.{Route as RouteOf}
 use Rattle.world_model.specs.Controller.{Acted}
-use Rattle.world_model.specs.declared.event.Event.{Event}
+use Rattle.world_model.specs.network_model.declared.event.Event.{Event}
 use Rattle.world_model.specs.World.{opened}
 use Rattle.world_model.proofs.Lists.{at_key, at_put_same}
 use Rattle.told_tables.specs.Law.{HoldsTold, IsToldNode, changes_taken, numbers_told, IsBrought, world_at, AreToldTables, TablesAreTold}

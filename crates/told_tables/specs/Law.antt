@@ -4,8 +4,8 @@ use Rattle.std.specs.Prelude.{◌≡◌, ℕ, ◌+◌, ◌-◌, ◌==◌, ◌≤
 use Rattle.std.specs.List.{list_any, range_with_len}
 use Rattle.std.specs.Option.{option_map_or}
 use Rattle.world_model.specs.Words.{NodeId, changed, RouteChange, Record, Routes, Policy, is_changed, table_to_be, Controller, changes_of, table_after, joins_of, routes_of, Topology, Node, node_at, World, controller_at, next, world_after, past_of}
-use Rattle.world_model.specs.declared.event.Event.{Event}
-use Rattle.world_model.specs.declared.event.Event.TheVariants.{Route}
+use Rattle.world_model.specs.network_model.declared.event.Event.{Event}
+use Rattle.world_model.specs.network_model.declared.event.Event.TheVariants.{Route}
 use Rattle.world_model.specs.World.{opened}
 
 -- *A node after some events*: of the changes that they told it, in their order, it has taken so many, and the others wait.

@@ -18,9 +18,9 @@ use Rattle.run_facts.proofs.controller_bindings.Lasts.{tested_grows, some_same}
 use Rattle.frame_readings.proofs.shown_cells.Tested.{last_is}
 use Rattle.run_facts.proofs.Taking.{tested_frames}
 use Rattle.running_worlds.proofs.input_steps.SwitchCells.{frame_is}
-use Rattle.world_model.specs.declared.link.LinkEnd.{LinkEnd}
-use Rattle.world_model.specs.declared.event.Event.{Event}
-use Rattle.world_model.specs.declared.event.Event.TheVariants.{Carry}
+use Rattle.world_model.specs.network_model.declared.link.LinkEnd.{LinkEnd}
+use Rattle.world_model.specs.network_model.declared.event.Event.{Event}
+use Rattle.world_model.specs.network_model.declared.event.Event.TheVariants.{Carry}
 use Rattle.world_model.specs.Topology.{peer_of}
 use Rattle.world_model.specs.Ways.{told}
 use Rattle.frame_readings.specs.world_views.Between.{IsWorld}

@@ -8,7 +8,7 @@ use Rattle.frame_readings.specs.ordered_lists.Ordered.{Every}
 use Rattle.frame_readings.proofs.port_facts.Keyed.{at_key, at_every}
 use Rattle.frame_readings.specs.port_facts.Port.{IsLabelEnd}
 use Rattle.world_model.specs.Controller.{Acted}
-use Rattle.world_model.specs.declared.link.LinkEnd.{LinkEnd}
+use Rattle.world_model.specs.network_model.declared.link.LinkEnd.{LinkEnd}
 use Rattle.world_model.specs.Topology.{peer_of}
 use Rattle.frame_readings.specs.world_views.Between.{IsPortEnd, default, label, IsShapedBranch, home, out, joined}
 use Rattle.frame_readings.proofs.world_views.Labels.{in_range_label}

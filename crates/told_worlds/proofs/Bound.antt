@@ -10,8 +10,8 @@ use Rattle.frame_readings.specs.port_facts.Port.{IsPort}
 use Rattle.world_model.specs.Cells.{Taker, cell_comes}
 use Rattle.world_model.specs.Ticks.{ticks}
 use Rattle.frame_readings.proofs.controller_facts.Joining.{each_there}
-use Rattle.world_model.specs.declared.event.Event.{Event}
-use Rattle.world_model.specs.declared.event.Event.TheVariants.{Carry}
+use Rattle.world_model.specs.network_model.declared.event.Event.{Event}
+use Rattle.world_model.specs.network_model.declared.event.Event.TheVariants.{Carry}
 use Rattle.frame_readings.specs.world_views.Between.{IsWorld}
 use Rattle.frame_readings.specs.world_views.Ready.{setups_of}
 use Rattle.frame_readings.specs.world_views.Shown.{acting}

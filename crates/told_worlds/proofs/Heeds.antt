@@ -20,9 +20,9 @@ use Rattle.run_facts.proofs.lifetimes.Events.{taker_belongs}
 use Rattle.run_facts.proofs.Takers.{default_of}
 use Rattle.frame_readings.proofs.shown_cells.Tested.{last_is}
 use Rattle.running_worlds.proofs.input_steps.SwitchCells.{frame_is}
-use Rattle.world_model.specs.declared.link.LinkEnd.{LinkEnd}
-use Rattle.world_model.specs.declared.event.Event.{Event}
-use Rattle.world_model.specs.declared.event.Event.TheVariants.{Carry}
+use Rattle.world_model.specs.network_model.declared.link.LinkEnd.{LinkEnd}
+use Rattle.world_model.specs.network_model.declared.event.Event.{Event}
+use Rattle.world_model.specs.network_model.declared.event.Event.TheVariants.{Carry}
 use Rattle.world_model.specs.Ways.{told}
 use Rattle.frame_readings.specs.port_views.Link.{LinkLabel}
 use Rattle.frame_readings.specs.world_views.Made.{IsFit}

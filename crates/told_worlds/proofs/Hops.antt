@@ -24,9 +24,9 @@ use Rattle.label_line.specs.Cells.{Downstream, Upstream}
 use Rattle.lasting_joins.proofs.Tries.{mid_ports, tries_ends}
 use Rattle.lasting_joins.specs.quiet_controllers.Quiet.{Enters, here, later}
 use Rattle.lasting_joins.specs.quiet_controllers.Law.{TickEnters, before_joins}
-use Rattle.world_model.specs.declared.event.Event.{Event}
-use Rattle.world_model.specs.declared.event.Event.TheVariants.{Inject, Carry, Lose, Tick, TickSwitch, Restart, RestartSwitch, Forge, Route}
-use Rattle.world_model.specs.declared.link.LinkEnd.{LinkEnd}
+use Rattle.world_model.specs.network_model.declared.event.Event.{Event}
+use Rattle.world_model.specs.network_model.declared.event.Event.TheVariants.{Inject, Carry, Lose, Tick, TickSwitch, Restart, RestartSwitch, Forge, Route}
+use Rattle.world_model.specs.network_model.declared.link.LinkEnd.{LinkEnd}
 use Rattle.world_model.specs.Topology.{peer_of}
 use Rattle.world_model.specs.Users.{asked}
 use Rattle.running_worlds.proofs.causes.Shown.{peer_back}

@@ -13,8 +13,8 @@ use Rattle.run_facts.proofs.controller_bindings.Lasts.{last_more, some_same}
 use Rattle.frame_readings.specs.controller_views.Lifted.{payload_by, IsProper}
 use Rattle.label_line.specs.Cells.{Role, Downstream, Upstream}
 use Rattle.label_line.specs.Law.{Always, SpareIsUnused}
-use Rattle.world_model.specs.declared.link.LinkEnd.{LinkEnd}
-use Rattle.world_model.specs.declared.event.Event.{Event}
+use Rattle.world_model.specs.network_model.declared.link.LinkEnd.{LinkEnd}
+use Rattle.world_model.specs.network_model.declared.event.Event.{Event}
 use Rattle.world_model.specs.Topology.{peer_of}
 use Rattle.frame_readings.specs.port_views.Link.{LinkLabel}
 use Rattle.frame_readings.specs.world_views.Shown.{end_of}

@@ -10,7 +10,7 @@ use Rattle.world_model.specs.link_model.declared.record.Record.TheVariants as ki
 use Rattle.frame_readings.specs.ordered_lists.Ordered.{Every}
 use Rattle.label_line.specs.Cells as lines
 use Rattle.label_line.specs.Cells.{Role}
-use Rattle.world_model.specs.declared.link.LinkEnd.{LinkEnd}
+use Rattle.world_model.specs.network_model.declared.link.LinkEnd.{LinkEnd}
 use Rattle.frame_readings.specs.port_views.Link.{LinkLabel, other}
 use Rattle.frame_readings.specs.shown_cells.Seen.{Nothing, Unknown, hidden, word, Extends}
 use Rattle.frame_readings.specs.shown_cells.Label.{seen_payload, Where, OnLink, OnControl, ShowsCells, seen, on_label, channel_at}

@@ -7,8 +7,8 @@ use Rattle.world_model.specs.Words.{Mark, Peer, Clearing, Side, fresh, router, F
 use Rattle.world_model.specs.ifmp_wire.declared.message.Message.{Message}
 use Rattle.frame_readings.specs.ordered_lists.Ordered.{Every}
 use Rattle.frame_readings.proofs.port_facts.Keyed.{at_every, every_more}
-use Rattle.world_model.specs.declared.range.PortRange.{PortRange}
-use Rattle.world_model.specs.declared.link.LinkEnd.{LinkEnd}
+use Rattle.world_model.specs.controller_model.declared.range.PortRange.{PortRange}
+use Rattle.world_model.specs.network_model.declared.link.LinkEnd.{LinkEnd}
 use Rattle.world_model.specs.World.{opened}
 use Rattle.frame_readings.specs.world_views.Tied.{HasClearedInstances}
 use Rattle.frame_readings.specs.world_views.Between.{HasAllCleared, HasAllUsers}

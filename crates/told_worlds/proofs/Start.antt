@@ -16,8 +16,8 @@ use Rattle.frame_readings.proofs.controller_facts.Joining.{each_there}
 use Rattle.run_facts.specs.controller_bindings.Bindings.{IsBoundLast}
 use Rattle.run_facts.proofs.controller_bindings.Lasts.{some_same}
 use Rattle.frame_readings.specs.controller_views.Ready.{IsReadyPort}
-use Rattle.world_model.specs.declared.link.LinkEnd.{LinkEnd}
-use Rattle.world_model.specs.declared.event.Event.{Event}
+use Rattle.world_model.specs.network_model.declared.link.LinkEnd.{LinkEnd}
+use Rattle.world_model.specs.network_model.declared.event.Event.{Event}
 use Rattle.world_model.specs.Topology.{peer_of}
 use Rattle.frame_readings.specs.world_views.Ready.{setups_of}
 use Rattle.frame_readings.specs.world_views.Shown.{acting}

@@ -10,7 +10,7 @@ use Rattle.world_model.specs.Switch as switches
 use Rattle.frame_readings.proofs.port_facts.Keyed.{at_key, at_every}
 use Rattle.frame_readings.specs.port_facts.Port.{setup_port}
 use Rattle.frame_readings.proofs.shown_cells.Frames.{same_is}
-use Rattle.world_model.specs.declared.link.LinkEnd.{LinkEnd}
+use Rattle.world_model.specs.network_model.declared.link.LinkEnd.{LinkEnd}
 use Rattle.world_model.specs.Topology.{peer_of}
 use Rattle.frame_readings.specs.world_views.Between.{IsPortEnd, default, label, IsShapedBranch}
 use Rattle.running_worlds.proofs.causes.Shown.{IsPeer}

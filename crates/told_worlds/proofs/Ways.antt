@@ -6,7 +6,7 @@ use Rattle.std.specs.Option.{option_map, option_map_or, option_and_then}
 use Rattle.std.proofs.lemmas.List.Elements.{Contains-append_cases, Contains-append_left, Contains-append_right}
 use Rattle.world_model.specs.Words.{NodeId, PortNo, Place, Down, Up, Out, Cell, queue_of, control_port, Controller, Linked, linked_at, default_channel, default_home, same_channel, World, Site, site_at, with_site, queue_at, queue_in, place_node, with_queue_in, put_away, linked_end, chain_at, on_channel, on_default_channel}
 use Rattle.frame_readings.proofs.port_facts.Keyed.{by_eq}
-use Rattle.world_model.specs.declared.link.LinkEnd.{LinkEnd}
+use Rattle.world_model.specs.network_model.declared.link.LinkEnd.{LinkEnd}
 use Rattle.running_worlds.proofs.input_events.Sites.{put_at}
 use Rattle.unused_labels.proofs.Reading.{filtered, filtered_back}
 use Rattle.packet_worlds.proofs.way_words.Switching.{in_set}

@@ -12,9 +12,9 @@ use Rattle.world_model.specs.Cells.{cell_comes}
 use Rattle.world_model.specs.Ticks.{ticks}
 use Rattle.world_model.specs.Switch as switches
 use Rattle.world_model.specs.Conduct as switch
-use Rattle.world_model.specs.declared.link.LinkEnd.{LinkEnd}
-use Rattle.world_model.specs.declared.event.Event.{Event}
-use Rattle.world_model.specs.declared.event.Event.TheVariants.{Inject, Carry, Lose, Tick, TickSwitch, Restart, RestartSwitch, Forge, Route}
+use Rattle.world_model.specs.network_model.declared.link.LinkEnd.{LinkEnd}
+use Rattle.world_model.specs.network_model.declared.event.Event.{Event}
+use Rattle.world_model.specs.network_model.declared.event.Event.TheVariants.{Inject, Carry, Lose, Tick, TickSwitch, Restart, RestartSwitch, Forge, Route}
 use Rattle.world_model.specs.Topology.{peer_of}
 use Rattle.world_model.specs.World.{at_controller}
 use Rattle.world_model.specs.Step.{acts}

@@ -2,7 +2,7 @@
 
 use Rattle.std.specs.Prelude.{◌≡◌, ℕ, true, ◌<◌, ◌^◌, ◌⊎◌, Contains, Some}
 use Rattle.world_model.specs.Words.{NodeId, PortNo, Down, Up, Addr, FlowId, FitsFields, IsFlow, is_label_number, Label, Wiring, Session, default_home, World, queue_at, session_at, side_at, chain_at, on_channel, Past, last_bound, held, WasCleared, WaitsAs}
-use Rattle.world_model.specs.declared.link.LinkEnd.{LinkEnd}
+use Rattle.world_model.specs.network_model.declared.link.LinkEnd.{LinkEnd}
 use Rattle.world_model.specs.Topology.{peer_of}
 use Rattle.port_words.specs.Words.{Terms}
 

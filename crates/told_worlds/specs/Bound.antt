@@ -2,7 +2,7 @@
 
 use Rattle.std.specs.Prelude.{ℕ, List, Contains}
 use Rattle.world_model.specs.Words.{NodeId, PortNo, FlowId, Bind, Policy, Topology, past_of, Way, IsWay, IsUnused}
-use Rattle.world_model.specs.declared.event.Event.{Event}
+use Rattle.world_model.specs.network_model.declared.event.Event.{Event}
 use Rattle.frame_readings.specs.world_views.Between.{IsWorld}
 use Rattle.frame_readings.specs.world_views.Kept.{Comes, behind}
 use Rattle.unused_labels.specs.Unused.{HasOwnChannels}

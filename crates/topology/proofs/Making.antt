@@ -1,10 +1,10 @@
 -- a topology that lines make, and one line more
 
 use Rattle.std.proofs.Common.{◌≡◌, List, [], ◌∷◌, Result, Ok, Err, Option, None, Some, refl, sym, ap, ◌∙◌, subst}
-use Rattle.world_model.specs.declared.line.TopologyLine.{TopologyLine}
+use Rattle.world_model.specs.network_model.declared.line.TopologyLine.{TopologyLine}
 use Rattle.world_model.proofs.Kept.{line_keeps, empty_is}
 use Rattle.world_model.specs.Conditions.{HasItsNumbers, IsTopology}
-use Rattle.world_model.specs.declared.refusal.TopologyRefusal.{TopologyRefusal}
+use Rattle.world_model.specs.network_model.declared.refusal.TopologyRefusal.{TopologyRefusal}
 use Rattle.world_model.specs.Lines.{after_line, after_by, line_refusal, with_line}
 use Rattle.world_model.specs.Topology.{Topology, empty_topology}
 use Rattle.topology.specs.declared.fault.TopologyFault.{TopologyFault}

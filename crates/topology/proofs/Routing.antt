@@ -12,7 +12,7 @@ use Rattle.ipv4_forward.specs.declared.change.ChangeFault.TheVariants as change
 use Rattle.ipv4_forward.specs.Best.{is_same, has_prefix}
 use Rattle.ipv4_forward.specs.Change.{change_fault_by}
 use Rattle.ipv4_forward.proofs.Passing.{distinct_push}
-use Rattle.world_model.specs.declared.refusal.TopologyRefusal.TheVariants.{Duplicate, TableFull}
+use Rattle.world_model.specs.network_model.declared.refusal.TopologyRefusal.TheVariants.{Duplicate, TableFull}
 use Rattle.world_model.specs.Limits.{greatest_routes}
 use Rattle.world_model.specs.Lines.{first_of, route_refusal}
 use Rattle.topology.specs.declared.routes.PrefixKey.{PrefixKey}

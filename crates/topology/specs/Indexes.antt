@@ -6,7 +6,7 @@ use Rattle.net_types.specs.Prefix.{Network}
 use Rattle.ipv4_forward.specs.declared.table.Route.{Route}
 use Rattle.ipv4_forward.specs.Room.{AreDistinct}
 use Rattle.topology.specs.declared.routes.PrefixKey.{PrefixKey}
-use Rattle.world_model.specs.declared.link.LinkEnd.{LinkEnd}
+use Rattle.world_model.specs.network_model.declared.link.LinkEnd.{LinkEnd}
 use Rattle.world_model.specs.Limits.{greatest_routes}
 use Rattle.world_model.specs.Lines.{changed_at}
 use Rattle.world_model.specs.Topology.{Node, Link}

@@ -1,8 +1,8 @@
 -- The topologies that lines make, one after another, from the empty one
 
 use Rattle.std.specs.Prelude.{◌≡◌, List, [], ◌∷◌, Result, Ok, Err}
-use Rattle.world_model.specs.declared.line.TopologyLine.{TopologyLine}
-use Rattle.world_model.specs.declared.refusal.TopologyRefusal.{TopologyRefusal}
+use Rattle.world_model.specs.network_model.declared.line.TopologyLine.{TopologyLine}
+use Rattle.world_model.specs.network_model.declared.refusal.TopologyRefusal.{TopologyRefusal}
 use Rattle.world_model.specs.Conditions.{HasItsNumbers}
 use Rattle.world_model.specs.Lines.{after_line}
 use Rattle.world_model.specs.Topology.{Topology, empty_topology}

@@ -1,7 +1,7 @@
 -- what a line makes of a topology
 
 use Rattle.std.specs.Prelude.{◌≡◌, Result, Ok, Err, IsOk}
-use Rattle.world_model.specs.declared.refusal.TopologyRefusal.{TopologyRefusal}
+use Rattle.world_model.specs.network_model.declared.refusal.TopologyRefusal.{TopologyRefusal}
 use Rattle.world_model.specs.Topology.{Topology}
 use Rattle.topology.specs.declared.fault.TopologyFault.{TopologyFault}
 use Rattle.topology.specs.declared.fault.TopologyFault.TheVariants.{Refused, OutOfMemory}

@@ -1,7 +1,7 @@
 //! The parts of a topology, and what each line adds to them.
 
 ghost use Rattle.std.specs.Prelude.{◌≡◌, ◌≤◌, length, None, Some, IfOk, IfSome, OnOk, OnErr};
-ghost use Rattle.world_model.specs.declared.line.TopologyLine.TheVariants as lines;
+ghost use Rattle.world_model.specs.network_model.declared.line.TopologyLine.TheVariants as lines;
 ghost use Rattle.world_model.specs.Lines.{after_line, line_refusal, link_refusal, node_named, node_refusal, of_named};
 ghost use Rattle.world_model.specs.Topology.{empty_topology, peer_of};
 ghost use Rattle.topology.specs.Plans.{next_refusal, route_line};

@@ -3,7 +3,7 @@
 ghost use Rattle.std.specs.Prelude.{◌≡◌, ◌≤◌, ◌<◌, [], length, None, Some, slice_get, IfOk, IfSome};
 ghost use Rattle.std.specs.Option.{option_map, option_map_or};
 ghost use Rattle.world_model.specs.Conditions.{HasItsNumbers, IsNode, IsTopology};
-ghost use Rattle.world_model.specs.declared.line.TopologyLine.TheVariants as lines;
+ghost use Rattle.world_model.specs.network_model.declared.line.TopologyLine.TheVariants as lines;
 ghost use Rattle.world_model.specs.Lines.{after_line, is_linked, line_refusal, node_named, node_refusal, of_named, routes_of};
 ghost use Rattle.world_model.specs.Topology.{empty_topology, node_at, peer_of, range_among, ranges_of, timers_of, vpis_of};
 ghost use Rattle.topology.specs.Made.{IsMade};

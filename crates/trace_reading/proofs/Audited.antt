@@ -25,7 +25,7 @@ use Rattle.trace_truth.specs.trace_model.Judgement.{judged}
 use Rattle.trace_truth.specs.trace_model.Known.{known}
 use Rattle.trace_truth.specs.trace_model.Lines.{after, line_says, fault_name, says_by, text_says}
 use Rattle.true_lines.proofs.Texts.{IsText, AreTexts, IsLine, text_join, decimal_text, hex_digits_text, line_is}
-use Rattle.world_model.specs.declared.link.LinkEnd.{LinkEnd}
+use Rattle.world_model.specs.network_model.declared.link.LinkEnd.{LinkEnd}
 use Rattle.network_trace.specs.Passages.{Passage, Linked, Taken, Lost, Framed, Put, Bound, line_said, end_word, passage_words, passage_line, passage_lines}
 use Rattle.network_trace.specs.Reading.{IsSayable, PassagesAreRead}
 use Rattle.trace_truth.specs.Told.{lines_said}

@@ -18,9 +18,9 @@ use Rattle.passing_laws.proofs.ordered_lists.Every.{every_join}
 use Rattle.packet_worlds.proofs.Worlds.{port_above}
 use Rattle.run_facts.proofs.port_facts.Keyed.{on_each}
 use Rattle.trace_truth.specs.trace_model.Forms.{greatest_payload, is_cell_channel}
-use Rattle.world_model.specs.declared.event.Event.{Event}
-use Rattle.world_model.specs.declared.event.Event.TheVariants.{Inject, Carry, Lose, Tick, TickSwitch, Restart, RestartSwitch, Forge, Route}
-use Rattle.world_model.specs.declared.link.LinkEnd.{LinkEnd}
+use Rattle.world_model.specs.network_model.declared.event.Event.{Event}
+use Rattle.world_model.specs.network_model.declared.event.Event.TheVariants.{Inject, Carry, Lose, Tick, TickSwitch, Restart, RestartSwitch, Forge, Route}
+use Rattle.world_model.specs.network_model.declared.link.LinkEnd.{LinkEnd}
 use Rattle.passing_laws.specs.telling_model.declared.standing.Standing.{Standing}
 use Rattle.network_trace.specs.Passages.{Linked, Put}
 use Rattle.network_trace.specs.Reading.{IsEnd, FitsMark, IsSayable}

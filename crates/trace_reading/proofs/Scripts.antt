@@ -6,11 +6,11 @@ use Rattle.trace_truth.specs.lab_text.Line.{line_fault}
 use Rattle.trace_truth.specs.lab_text.Lines.{lines_of}
 use Rattle.trace_truth.specs.lab_text.Words.{line_text}
 use Rattle.world_model.specs.Words.{NodeId, PortNo, Local, Via, Topology, Node, Link, peer_among, node_named, is_linked, with_changed, changes_named, with_link, with_route, with_line, line_refusal, link_refusal, of_named}
-use Rattle.world_model.specs.declared.line.TopologyLine.{TopologyLine}
-use Rattle.world_model.specs.declared.line.TopologyLine.TheVariants as lines
-use Rattle.world_model.specs.declared.link.LinkEnd.{LinkEnd}
-use Rattle.world_model.specs.declared.refusal.TopologyRefusal.{TopologyRefusal}
-use Rattle.world_model.specs.declared.refusal.TopologyRefusal.TheVariants.{SelfLink, PortTaken}
+use Rattle.world_model.specs.network_model.declared.line.TopologyLine.{TopologyLine}
+use Rattle.world_model.specs.network_model.declared.line.TopologyLine.TheVariants as lines
+use Rattle.world_model.specs.network_model.declared.link.LinkEnd.{LinkEnd}
+use Rattle.world_model.specs.network_model.declared.refusal.TopologyRefusal.{TopologyRefusal}
+use Rattle.world_model.specs.network_model.declared.refusal.TopologyRefusal.TheVariants.{SelfLink, PortTaken}
 use Rattle.world_model.specs.Topology.{peer_of}
 use Rattle.trace_truth.specs.script_model.declared.line.Line.{Line}
 use Rattle.trace_truth.specs.script_model.declared.line.Line.TheVariants.{Blank, Topology as TopologyIs, Event as EventComes, TickAll, Run}

@@ -18,7 +18,7 @@ use Rattle.trace_truth.specs.trace_model.Trace.{Trace, first_put}
 use Rattle.trace_truth.proofs.true_runs.Fronts.{front_run}
 use Rattle.trace_truth.proofs.true_runs.Walk.{holds_at, comes_at}
 use Rattle.trace_truth.specs.true_runs.Runs.{IsWhole}
-use Rattle.world_model.specs.declared.event.Event.{Event}
+use Rattle.world_model.specs.network_model.declared.event.Event.{Event}
 use Rattle.world_model.specs.World.{opened}
 use Rattle.run_facts.specs.world_views.Kept.{HasAddresses, Comes, behind}
 use Rattle.run_facts.specs.world_views.Marks.{Means, heading_at, early, control, local, plain, labelled}

@@ -16,7 +16,7 @@ use Rattle.trace_model.specs.Ends.{same_channel}
 use Rattle.trace_model.specs.Judgement.{judged, stands_on}
 use Rattle.trace_model.specs.Known.{known}
 use Rattle.trace_model.specs.Trace.{Trace, queue_of}
-use Rattle.world_model.specs.declared.link.LinkEnd.{LinkEnd}
+use Rattle.world_model.specs.network_model.declared.link.LinkEnd.{LinkEnd}
 use Rattle.world_model.specs.Topology.{peer_of}
 use Rattle.run_facts.proofs.Frames.{bound_then}
 use Rattle.network_trace.specs.Passages.{Bound, line_said, end_said}

@@ -11,9 +11,9 @@ use Rattle.packet_worlds.proofs.way_words.Switching as ways
 use Rattle.packet_worlds.proofs.way_words.Switching.{BindsNone}
 use Rattle.world_model.specs.Switch as switches
 use Rattle.world_model.specs.Conduct as conduct
-use Rattle.world_model.specs.declared.event.Event.{Event}
-use Rattle.world_model.specs.declared.event.Event.TheVariants.{Inject, Carry, Lose, Tick, TickSwitch, Restart, RestartSwitch, Forge, Route}
-use Rattle.world_model.specs.declared.link.LinkEnd.{LinkEnd}
+use Rattle.world_model.specs.network_model.declared.event.Event.{Event}
+use Rattle.world_model.specs.network_model.declared.event.Event.TheVariants.{Inject, Carry, Lose, Tick, TickSwitch, Restart, RestartSwitch, Forge, Route}
+use Rattle.world_model.specs.network_model.declared.link.LinkEnd.{LinkEnd}
 use Rattle.world_model.specs.Step.{acts}
 use Rattle.world_model.specs.Topology.{peer_of}
 use Rattle.world_model.specs.World.{at_switch}

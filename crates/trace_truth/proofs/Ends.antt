@@ -14,7 +14,7 @@ use Rattle.script_model.specs.Texts.{name_of}
 use Rattle.trace_model.specs.Ends.{same_node, same_end}
 use Rattle.trace_model.specs.Forms.{name_of as padded}
 use Rattle.trace_model.proofs.Same.{same_node-is}
-use Rattle.world_model.specs.declared.link.LinkEnd.{LinkEnd}
+use Rattle.world_model.specs.network_model.declared.link.LinkEnd.{LinkEnd}
 use Rattle.network_trace.specs.Passages.{end_said}
 use Rattle.trace_truth.specs.Law.{HasNames}
 

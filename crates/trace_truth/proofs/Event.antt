@@ -10,8 +10,8 @@ use Rattle.run_facts.specs.Nodes.{IsNodeOfRun}
 use Rattle.run_facts.specs.shown_cells.Seen.{Extends}
 use Rattle.told_worlds.specs.Before.{end_at, IsWiringAt}
 use Rattle.trace_model.specs.Trace.{Trace}
-use Rattle.world_model.specs.declared.event.Event.{Event}
-use Rattle.world_model.specs.declared.link.LinkEnd.{LinkEnd}
+use Rattle.world_model.specs.network_model.declared.event.Event.{Event}
+use Rattle.world_model.specs.network_model.declared.link.LinkEnd.{LinkEnd}
 use Rattle.run_facts.specs.world_views.Between.{EachSite, HasMeanings}
 use Rattle.passing_laws.specs.telling_model.declared.standing.Standing.{Standing}
 use Rattle.passing_laws.specs.telling_model.Passing.{left, put, put_at, taken}

@@ -17,8 +17,8 @@ use Rattle.run_facts.proofs.port_facts.Keyed.{by_eq}
 use Rattle.label_worlds.proofs.quiet_controllers.Beginning.{every_contained, contained}
 use Rattle.trace_model.specs.declared.end.TraceLabel.{TraceLabel}
 use Rattle.trace_model.specs.Trace.{Trace, first_put}
-use Rattle.world_model.specs.declared.event.Event.{Event}
-use Rattle.world_model.specs.declared.link.LinkEnd.{LinkEnd}
+use Rattle.world_model.specs.network_model.declared.event.Event.{Event}
+use Rattle.world_model.specs.network_model.declared.link.LinkEnd.{LinkEnd}
 use Rattle.run_facts.specs.world_views.Between.{EachSite, HasShapes, HasMeanings, setups_of}
 use Rattle.run_facts.specs.world_views.Marks.{Means, heading_at, early, control, local, plain, labelled}
 use Rattle.passing_laws.specs.telling_model.declared.standing.Standing.{Standing}

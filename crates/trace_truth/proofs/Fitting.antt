@@ -22,8 +22,8 @@ use Rattle.running_worlds.proofs.causes.Shown.{peer_back}
 use Rattle.run_facts.specs.Nodes.{IsNodeOfRun}
 use Rattle.told_worlds.specs.Before.{end_at, IsWiringAt}
 use Rattle.world_model.specs.Controller.{ports_of}
-use Rattle.world_model.specs.declared.event.Event.{Event}
-use Rattle.world_model.specs.declared.link.LinkEnd.{LinkEnd}
+use Rattle.world_model.specs.network_model.declared.event.Event.{Event}
+use Rattle.world_model.specs.network_model.declared.link.LinkEnd.{LinkEnd}
 use Rattle.world_model.specs.Topology as topologies
 use Rattle.world_model.specs.Topology.{peer_of}
 use Rattle.run_facts.specs.world_views.Between.{EachSite, HasMeanings}

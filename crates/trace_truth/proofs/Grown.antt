@@ -21,9 +21,9 @@ use Rattle.world_model.specs.Controller.{Acted, free_slots}
 use Rattle.world_model.specs.Step.{acts}
 use Rattle.world_model.specs.Ticks.{ticks}
 use Rattle.world_model.specs.Topology.{peer_of}
-use Rattle.world_model.specs.declared.event.Event.{Event}
-use Rattle.world_model.specs.declared.event.Event.TheVariants.{Inject, Carry, Lose, Tick, TickSwitch, Restart, RestartSwitch, Forge, Route}
-use Rattle.world_model.specs.declared.link.LinkEnd.{LinkEnd}
+use Rattle.world_model.specs.network_model.declared.event.Event.{Event}
+use Rattle.world_model.specs.network_model.declared.event.Event.TheVariants.{Inject, Carry, Lose, Tick, TickSwitch, Restart, RestartSwitch, Forge, Route}
+use Rattle.world_model.specs.network_model.declared.link.LinkEnd.{LinkEnd}
 use Rattle.world_model.specs.World.{at_controller}
 use Rattle.run_facts.specs.world_views.Between.{HasNumbers, HasMeanings, HasPacketsOnce}
 use Rattle.run_facts.specs.world_views.Marks.{Means, heading_at, early, control, local, plain, labelled, IsNewest}

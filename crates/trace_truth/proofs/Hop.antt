@@ -27,9 +27,9 @@ use Rattle.trace_model.specs.Judgement.{misses_hop, misses_hop_from, is_at_node,
 use Rattle.trace_model.specs.Known.{known}
 use Rattle.trace_model.specs.Trace.{Trace, first_put, taken_last, flow_at}
 use Rattle.trace_model.proofs.Same.{same_end-is, same_channel-is}
-use Rattle.world_model.specs.declared.event.Event.{Event}
-use Rattle.world_model.specs.declared.event.Event.TheVariants.{Carry}
-use Rattle.world_model.specs.declared.link.LinkEnd.{LinkEnd}
+use Rattle.world_model.specs.network_model.declared.event.Event.{Event}
+use Rattle.world_model.specs.network_model.declared.event.Event.TheVariants.{Carry}
+use Rattle.world_model.specs.network_model.declared.link.LinkEnd.{LinkEnd}
 use Rattle.world_model.specs.Topology.{peer_of}
 use Rattle.run_facts.specs.world_views.Between.{EachSite, HasShapes, IsShapedBranch, home, out, joined, IsPortEnd, default, label, HasAllHops, IsLinkLabel, HasAddress, setups_of}
 use Rattle.run_facts.specs.world_views.Shown.{way_of}

@@ -17,7 +17,7 @@ use Rattle.trace_model.specs.Judgement.{judged, served_breach}
 use Rattle.trace_model.specs.Known.{known}
 use Rattle.trace_model.specs.Trace as traces
 use Rattle.trace_model.specs.Trace.{Trace, queue_of, flow_at, payload_at, has_ended, taken_last, first_put}
-use Rattle.world_model.specs.declared.link.LinkEnd.{LinkEnd}
+use Rattle.world_model.specs.network_model.declared.link.LinkEnd.{LinkEnd}
 use Rattle.world_model.specs.Topology.{peer_of}
 use Rattle.passing_laws.specs.telling_model.declared.standing.Standing.{Standing}
 use Rattle.network_trace.specs.Passages.{Passage, line_said, end_said}

@@ -15,7 +15,7 @@ use Rattle.trace_model.specs.Judgement.{judged, refusal_of}
 use Rattle.trace_model.specs.Known.{known}
 use Rattle.trace_model.specs.Trace as traces
 use Rattle.trace_model.specs.Trace.{Trace, flow_at, payload_at, first_put, has_ended, has_begun, taken_last}
-use Rattle.world_model.specs.declared.link.LinkEnd.{LinkEnd}
+use Rattle.world_model.specs.network_model.declared.link.LinkEnd.{LinkEnd}
 use Rattle.network_trace.specs.Passages.{Linked, line_said, end_said}
 use Rattle.trace_truth.specs.Law.{HasNames, HasLinksOnce}
 use Rattle.trace_truth.proofs.Lines.{Holds, holds_none, holds_beside, is_good}

@@ -9,7 +9,7 @@ use Rattle.std.proofs.lemmas.List.Concat.{flat_map-cons}
 use Rattle.std.proofs.lemmas.Grind.{flat_map-append}
 use Rattle.world_model.specs.Words.{NodeId, PortNo, Place, Down, Up, Out, Cell, at, ArePorts, same_queue, places_of, places, AreShaped, IsShaped, IsPlaceOf, IsPlaceIn, same_link_end, World, Site, site_key}
 use Rattle.run_facts.proofs.port_facts.Keyed.{by_eq}
-use Rattle.world_model.specs.declared.link.LinkEnd.{LinkEnd}
+use Rattle.world_model.specs.network_model.declared.link.LinkEnd.{LinkEnd}
 use Rattle.world_model.specs.Controller.{ports_of}
 use Rattle.passing_laws.specs.telling_model.declared.standing.Standing.{Standing}
 use Rattle.passing_laws.specs.telling_model.Passing.{standing}

@@ -11,8 +11,8 @@ use Rattle.passing_laws.proofs.ordered_lists.Every.{every_join}
 use Rattle.run_facts.proofs.port_facts.Keyed.{on_both}
 use Rattle.trace_model.specs.declared.end.TraceLabel.{TraceLabel}
 use Rattle.trace_model.specs.Trace.{Trace, first_put}
-use Rattle.world_model.specs.declared.event.Event.{Event}
-use Rattle.world_model.specs.declared.event.Event.TheVariants.{Inject, Carry, Lose, Tick, TickSwitch, Restart, RestartSwitch, Forge, Route}
+use Rattle.world_model.specs.network_model.declared.event.Event.{Event}
+use Rattle.world_model.specs.network_model.declared.event.Event.TheVariants.{Inject, Carry, Lose, Tick, TickSwitch, Restart, RestartSwitch, Forge, Route}
 use Rattle.passing_laws.specs.telling_model.declared.standing.Standing.{Standing}
 use Rattle.network_trace.specs.Passages.{Passage, Linked, Taken, Lost, Framed, Put, Bound, line_said}
 use Rattle.network_trace.specs.Trace.{Told, port_end, taken_told, is_due, framed_by, frame_told, cell_told, cells_told, bind_told}

@@ -14,7 +14,7 @@ use Rattle.trace_model.specs.declared.verdict.Step.TheVariants.{Good}
 use Rattle.trace_model.specs.Judgement.{judged, breach_of, labelled_breach, flow_from, misses_hop, misses_hop_from}
 use Rattle.trace_model.specs.Known.{known}
 use Rattle.trace_model.specs.Trace.{Trace, flow_at, payload_at, taken_last}
-use Rattle.world_model.specs.declared.link.LinkEnd.{LinkEnd}
+use Rattle.world_model.specs.network_model.declared.link.LinkEnd.{LinkEnd}
 use Rattle.world_model.specs.Topology.{peer_of}
 use Rattle.passing_laws.specs.telling_model.declared.standing.Standing.{Standing}
 use Rattle.network_trace.specs.Passages.{Framed, Put, line_said, end_said}

@@ -19,7 +19,7 @@ use Rattle.true_runs.proofs.Fronts.{front_run}
 use Rattle.true_runs.proofs.Quiet.{BindsUnusedInRuns}
 use Rattle.true_runs.proofs.Walk.{holds_at, comes_at}
 use Rattle.true_runs.specs.Runs.{IsWhole, HoldsInRuns}
-use Rattle.world_model.specs.declared.event.Event.{Event}
+use Rattle.world_model.specs.network_model.declared.event.Event.{Event}
 use Rattle.world_model.specs.World.{opened}
 use Rattle.run_facts.specs.world_views.Kept.{HasAddresses, Comes, behind}
 use Rattle.passing_laws.specs.Law.{QueuesChangeByPassing, QueuesAreTheActors}

@@ -7,9 +7,9 @@ use Rattle.std.proofs.lemmas.Bool.{and_parts}
 use Rattle.world_model.specs.Words.{NodeId, PortNo, Place, Down, Up, Out, Mark, Cell, Frame, Record, IsTopology, IsEvent, place_node, queue_at, queue_number, same_queue, Topology, World}
 use Rattle.run_facts.proofs.port_facts.Keyed.{by_eq}
 use Rattle.trace_model.specs.Trace.{Trace}
-use Rattle.world_model.specs.declared.event.Event.{Event}
-use Rattle.world_model.specs.declared.event.Event.TheVariants.{Inject, Carry, Lose, Tick, TickSwitch, Restart, RestartSwitch, Forge, Route}
-use Rattle.world_model.specs.declared.link.LinkEnd.{LinkEnd}
+use Rattle.world_model.specs.network_model.declared.event.Event.{Event}
+use Rattle.world_model.specs.network_model.declared.event.Event.TheVariants.{Inject, Carry, Lose, Tick, TickSwitch, Restart, RestartSwitch, Forge, Route}
+use Rattle.world_model.specs.network_model.declared.link.LinkEnd.{LinkEnd}
 use Rattle.packet_worlds.proofs.Worlds.{port_above}
 use Rattle.passing_laws.specs.telling_model.Passing.{standing, taken, left}
 use Rattle.network_trace.specs.Passages.{Taken, Lost, line_said}

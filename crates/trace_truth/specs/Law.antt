@@ -8,7 +8,7 @@ use Rattle.trace_model.specs.declared.verdict.Step.TheVariants.{Good}
 use Rattle.trace_model.specs.Judgement.{judged}
 use Rattle.trace_model.specs.Known.{known}
 use Rattle.trace_model.specs.Trace.{Trace}
-use Rattle.world_model.specs.declared.event.Event.{Event}
+use Rattle.world_model.specs.network_model.declared.event.Event.{Event}
 use Rattle.run_facts.specs.world_views.Kept.{HasAddresses}
 use Rattle.trace_truth.specs.Told.{trace_told}
 

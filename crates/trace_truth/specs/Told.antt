@@ -4,7 +4,7 @@ use Rattle.std.specs.Prelude.{List, [], ◌∷◌, ◌++◌, map}
 use Rattle.world_model.specs.Words.{Mark, Policy, next, Topology, World}
 use Rattle.trace_model.specs.declared.line.TraceLine.{TraceLine}
 use Rattle.trace_model.specs.declared.line.TraceLine.TheVariants as said
-use Rattle.world_model.specs.declared.event.Event.{Event}
+use Rattle.world_model.specs.network_model.declared.event.Event.{Event}
 use Rattle.world_model.specs.World.{opened}
 use Rattle.network_trace.specs.Passages.{Passage, line_said}
 use Rattle.network_trace.specs.Trace.{links_told, event_told}

@@ -6,7 +6,7 @@ use Rattle.std.specs.List.{list_any}
 use Rattle.std.proofs.lemmas.List.Concat.{flat_map-cons}
 use Rattle.world_model.specs.Words.{Lost, Unconnected, PoolFull, Cut, Unbound, Broken, Record, Delivered, Dropped, Refused, Loss, Chance, Bad, Opened, Closed, Bind, Free, Part, Forged, Routes, Policy, Topology, World, next, worlds_from, world_after, records_of, Past, past_of, IsTame, IsTrueToRouting, is_bad}
 use Rattle.world_model.specs.link_model.declared.record.Record.TheVariants.{Join}
-use Rattle.world_model.specs.declared.event.Event.{Event}
+use Rattle.world_model.specs.network_model.declared.event.Event.{Event}
 use Rattle.world_model.specs.World.{opened}
 use Rattle.script_model.specs.Script.{Script}
 use Rattle.true_lines.specs.Claims.{Claims}

@@ -7,7 +7,7 @@ use Rattle.lab_text.specs.Lines.{lines_of}
 use Rattle.world_model.specs.Words.{Record, Policy, Topology, Node, World, opens_each, with_opened, empty_world, next, worlds_from, world_after, run, records_of}
 use Rattle.ordered_lists.specs.Ordered.{Every}
 use Rattle.ordered_lists.proofs.Every.{every_join}
-use Rattle.world_model.specs.declared.event.Event.{Event}
+use Rattle.world_model.specs.network_model.declared.event.Event.{Event}
 use Rattle.world_model.specs.World.{opened}
 use Rattle.script_model.specs.Records.{record_line}
 use Rattle.script_model.specs.Reports.{last_line}

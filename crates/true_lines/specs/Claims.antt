@@ -2,8 +2,8 @@
 
 use Rattle.std.specs.Prelude.{◌≡◌, ℕ, ◌≤◌, List, [], ◌∷◌, ◌++◌, length, slice_get, Some}
 use Rattle.world_model.specs.Words.{Mark, Entry, Broken, Record, Delivered, Dropped, Loss, Bad, Bind, Policy, HasCause, Fate, IsDelivered, IsDropped, Topology, World, next, world_after, Past, past_of, IsTrueFate, fates_of, IsWay, IsUnused}
-use Rattle.world_model.specs.declared.event.Event.{Event}
-use Rattle.world_model.specs.declared.link.LinkEnd.{LinkEnd}
+use Rattle.world_model.specs.network_model.declared.event.Event.{Event}
+use Rattle.world_model.specs.network_model.declared.link.LinkEnd.{LinkEnd}
 use Rattle.world_model.specs.World.{opened}
 
 -- *The end of a packet*: it is of an accepted packet, one that routing hop by hop, by the tables that the nodes held, can

@@ -2,7 +2,7 @@
 
 use Rattle.std.specs.Prelude.{◌≡◌, ℕ, List, ◌++◌, slice_get, Some}
 use Rattle.world_model.specs.Words.{Policy, Topology, Node, past_of, HasCauses, IsTame, Headline, IsInHarmony}
-use Rattle.world_model.specs.declared.event.Event.{Event}
+use Rattle.world_model.specs.network_model.declared.event.Event.{Event}
 use Rattle.script_model.specs.Sayable.{IsName}
 use Rattle.script_model.specs.Reports.{report_under, last_line}
 use Rattle.script_model.specs.Script.{Script, script_of}

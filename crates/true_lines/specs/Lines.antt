@@ -3,7 +3,7 @@
 use Rattle.std.specs.Prelude.{◌≡◌, ℕ, List, [], ◌∷◌, ◌++◌, All, Contains, codes}
 use Rattle.lab_text.specs.Lines.{lines_of}
 use Rattle.world_model.specs.Words.{Record, Policy, next, world_after, past_of, IsTame}
-use Rattle.world_model.specs.declared.event.Event.{Event}
+use Rattle.world_model.specs.network_model.declared.event.Event.{Event}
 use Rattle.world_model.specs.World.{opened}
 use Rattle.script_model.specs.Records.{record_line}
 use Rattle.script_model.specs.Reports.{last_line}

@@ -3,8 +3,8 @@
 use Rattle.std.proofs.Common.{◌≡◌, ℕ, suc, true, length, map, flat_map, Option, None, Some, List, [], ◌∷◌, ◌++◌, append-nil, append_assoc, refl, sym, ◌∙◌, ap, subst}
 use Rattle.std.proofs.lemmas.List.Concat.{flat_map-cons}
 use Rattle.world_model.specs.Words.{Cell, Entry, Record, losses_of, Policy, Topology, Node, World, Site, site_key, site_at, opened_site, empty_world, with_opened, opens_each, place_node, queue_at, with_queue, with_queue_of, put_away, next, worlds_from, world_after, records_of, NodeId, at, Place, End, end_cmp}
-use Rattle.world_model.specs.declared.event.Event.{Event}
-use Rattle.world_model.specs.declared.event.Event.TheVariants.{Inject, Carry, Lose, Tick, TickSwitch, Restart, RestartSwitch, Forge, Route}
+use Rattle.world_model.specs.network_model.declared.event.Event.{Event}
+use Rattle.world_model.specs.network_model.declared.event.Event.TheVariants.{Inject, Carry, Lose, Tick, TickSwitch, Restart, RestartSwitch, Forge, Route}
 use Rattle.world_model.specs.World.{opened}
 use Rattle.true_losses.specs.Way.{carried_from, lost_on_way}
 use Rattle.true_losses.specs.Sent.{rooms_in, rooms_at, frame_of, cells_of, entry_of, put_in, has_queue, queue_for, switched_head, switched}

@@ -5,9 +5,9 @@ use Rattle.std.specs.Option.{option_map_or}
 use Rattle.world_model.specs.Words.{End, NodeId, PortNo, Place, Down, Up, Out, Mark, Cell, same_end, unfinished_on, same_mark, Entry, Cause, Cut, control_port, is_gsmp, linked_at, chain_of, ForGsmp, ForDefault, ForLabel, taker_of, Topology, World, Site, site_at, queue_at, with_queue, next}
 use Rattle.world_model.specs.crossbar_model.Crossbar.{output_of}
 use Rattle.world_model.specs.Cells.{Taker}
-use Rattle.world_model.specs.declared.event.Event.{Event}
-use Rattle.world_model.specs.declared.event.Event.TheVariants.{Carry}
-use Rattle.world_model.specs.declared.link.LinkEnd.{LinkEnd}
+use Rattle.world_model.specs.network_model.declared.event.Event.{Event}
+use Rattle.world_model.specs.network_model.declared.event.Event.TheVariants.{Carry}
+use Rattle.world_model.specs.network_model.declared.link.LinkEnd.{LinkEnd}
 use Rattle.world_model.specs.Topology.{peer_of}
 
 -- *What holds open frames* at a node: the branch of an input of its switch, the chain of the switch's GSMP channel, and those

@@ -2,7 +2,7 @@
 
 use Rattle.std.specs.Prelude.{◌≡◌, List, [], ◌∷◌, ◌++◌, filter, flat_map, None}
 use Rattle.world_model.specs.Words.{End, NodeId, losses_of, Policy, Topology, World, run, next, world_after, records_of}
-use Rattle.world_model.specs.declared.event.Event.{Event}
+use Rattle.world_model.specs.network_model.declared.event.Event.{Event}
 use Rattle.world_model.specs.World.{opened}
 use Rattle.true_losses.specs.Way.{is_on_way, lost_on_way}
 use Rattle.true_losses.specs.Sent.{Sending, entry_of, rooms_at, AreSent}

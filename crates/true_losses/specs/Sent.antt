@@ -8,9 +8,9 @@ use Rattle.world_model.specs.Words.{NodeId, PortNo, Place, Down, Up, Out, Channe
 use Rattle.world_model.specs.crossbar_model.declared.branch.Branch.{Branch}
 use Rattle.world_model.specs.crossbar_model.Crossbar.{input_of}
 use Rattle.world_model.specs.Switch.{free_slots}
-use Rattle.world_model.specs.declared.event.Event.{Event}
-use Rattle.world_model.specs.declared.event.Event.TheVariants.{Carry, Forge}
-use Rattle.world_model.specs.declared.link.LinkEnd.{LinkEnd}
+use Rattle.world_model.specs.network_model.declared.event.Event.{Event}
+use Rattle.world_model.specs.network_model.declared.event.Event.TheVariants.{Carry, Forge}
+use Rattle.world_model.specs.network_model.declared.link.LinkEnd.{LinkEnd}
 use Rattle.world_model.specs.Topology.{peer_of}
 use Rattle.passing_laws.specs.telling_model.Passing.{made, put_at}
 use Rattle.passing_laws.specs.declared.reached.Reached.{Reached}

@@ -2,7 +2,7 @@
 
 use Rattle.std.specs.Prelude.{List}
 use Rattle.world_model.specs.Words.{Policy, Topology, Past, past_of, IsInHarmony}
-use Rattle.world_model.specs.declared.event.Event.{Event}
+use Rattle.world_model.specs.network_model.declared.event.Event.{Event}
 use Rattle.run_facts.specs.world_views.Between.{HasAllShapes, HasAllPortsUp, HasAllNumbers, HasAllReady, HasAllMade, HasAllLabels, HasAllInputs, HasAllUsers, HasAllCleared, HasAllJoins, HasAllLedOnce, HasAllHops, HasAllPassed}
 use Rattle.run_facts.specs.world_views.Kept.{Comes, Keeps, Begins, behind}
 use Rattle.packet_worlds.specs.Law.{HasPackets}

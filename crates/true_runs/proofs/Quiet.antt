@@ -2,8 +2,8 @@
 
 use Rattle.std.proofs.Common.{List, ◌∷◌, refl}
 use Rattle.world_model.specs.Words.{Policy, Topology, past_of}
-use Rattle.world_model.specs.declared.event.Event.{Event}
-use Rattle.world_model.specs.declared.event.Event.TheVariants.{Carry}
+use Rattle.world_model.specs.network_model.declared.event.Event.{Event}
+use Rattle.world_model.specs.network_model.declared.event.Event.TheVariants.{Carry}
 use Rattle.run_facts.specs.world_views.Kept.{HasAddresses, Comes, BindsUnusedAt}
 use Rattle.quiet_links.specs.quiet_model.Law.{GoesOn, IsQuiet, PacketsEndFrom, carried, in_rounds}
 use Rattle.quiet_links.specs.Law.{CarriesWeighLess, CarriesOf, CarriesFind, RoundsMakeLighter, RoundsEmptyQueues, PacketsEnd}

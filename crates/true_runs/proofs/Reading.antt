@@ -2,7 +2,7 @@
 
 use Rattle.std.proofs.Common.{◌≡◌, List, ◌∷◌, ◌++◌, subst}
 use Rattle.world_model.specs.Words.{Policy, Topology, past_of, HasCauses, IsRun, IsTame, Headline, AreOwned, IsInHarmony, HasFatesOnce}
-use Rattle.world_model.specs.declared.event.Event.{Event}
+use Rattle.world_model.specs.network_model.declared.event.Event.{Event}
 use Rattle.lifetimes.specs.Run.{IsSetInRuns, EndsInRuns, SendsNoMoreInRuns, IsLedBackInRuns, IsEndedByResetInRuns}
 use Rattle.run_facts.specs.Nodes.{RunsHaveNodes}
 use Rattle.run_facts.specs.world_views.Between.{IsWorld, HasPacketsOnce}

@@ -2,7 +2,7 @@
 
 use Rattle.std.proofs.Common.{◌≡◌, List, [], ◌∷◌, ◌++◌, append_assoc, append-nil, sym, subst, ◌∙◌}
 use Rattle.world_model.specs.Words.{Policy, Topology, Past, past_of, IsRun, IsTame}
-use Rattle.world_model.specs.declared.event.Event.{Event}
+use Rattle.world_model.specs.network_model.declared.event.Event.{Event}
 use Rattle.run_facts.specs.world_views.Kept.{HasAddresses, Comes, Begins, behind}
 use Rattle.true_runs.specs.Runs.{HoldsInRuns}
 use Rattle.true_runs.proofs.Fronts.{front_run, front_tame}

@@ -2,8 +2,8 @@
 
 use Rattle.std.specs.Prelude.{◌≡◌, ℕ, ◌+◌, ◌≤◌, true, List, [], ◌∷◌, ◌++◌, Some}
 use Rattle.world_model.specs.Words.{NodeId, PortNo, Down, End, Policy, control_end, Grant, ByInput, Topology, World, controller_at, queue_at, next, world_after, Past, past_of, CountsAsItsFrame, HasCauses, IsRun, IsTame, Headline, AreOwned, IsInHarmony, OffersNothing, BindsNothing, Controller}
-use Rattle.world_model.specs.declared.event.Event.{Event}
-use Rattle.world_model.specs.declared.event.Event.TheVariants.{Tick}
+use Rattle.world_model.specs.network_model.declared.event.Event.{Event}
+use Rattle.world_model.specs.network_model.declared.event.Event.TheVariants.{Tick}
 use Rattle.world_model.specs.World.{opened}
 use Rattle.run_facts.specs.world_views.Kept.{HasAddresses}
 use Rattle.ownership.specs.Owning.{AreInOrder}

@@ -2,7 +2,7 @@
 
 use Rattle.std.specs.Prelude.{List}
 use Rattle.world_model.specs.Words.{Policy, Topology, Past, past_of, IsRun, IsTame, IsInHarmony}
-use Rattle.world_model.specs.declared.event.Event.{Event}
+use Rattle.world_model.specs.network_model.declared.event.Event.{Event}
 use Rattle.run_facts.specs.world_views.Between.{IsWorld}
 use Rattle.run_facts.specs.world_views.Kept.{HasAddresses}
 use Rattle.packet_worlds.specs.Channels.{HasChannels}

@@ -9,9 +9,9 @@ use Rattle.world_model.specs.Controller as controllers
 use Rattle.world_model.specs.Sending.{sends}
 use Rattle.world_model.specs.Cells as controller
 use Rattle.world_model.specs.Ticks.{ticks}
-use Rattle.world_model.specs.declared.event.Event.{Event}
-use Rattle.world_model.specs.declared.event.Event.TheVariants.{Inject, Carry, Lose, Tick, TickSwitch, Restart, RestartSwitch, Forge, Route}
-use Rattle.world_model.specs.declared.link.LinkEnd.{LinkEnd}
+use Rattle.world_model.specs.network_model.declared.event.Event.{Event}
+use Rattle.world_model.specs.network_model.declared.event.Event.TheVariants.{Inject, Carry, Lose, Tick, TickSwitch, Restart, RestartSwitch, Forge, Route}
+use Rattle.world_model.specs.network_model.declared.link.LinkEnd.{LinkEnd}
 use Rattle.world_model.specs.Topology.{peer_of}
 use Rattle.world_model.specs.World.{at_controller, at_switch}
 use Rattle.world_model.specs.Step.{note, acts}

@@ -1,7 +1,7 @@
 -- Marks and notes are for the ledger: nothing that acts reads them
 
 use Rattle.std.specs.Prelude.{◌≡◌, List}
-use Rattle.world_model.specs.declared.event.Event.{Event}
+use Rattle.world_model.specs.network_model.declared.event.Event.{Event}
 use Rattle.world_model.specs.Words.{Topology, World, next, world_after}
 use Rattle.unmarked_controllers.specs.Unmarked.{unmarked, unmarked_records}
 

@@ -17,8 +17,8 @@ use Rattle.world_model.specs.frame_model.Reassembly.{Taken, taken, joined}
 use Rattle.world_model.specs.frame_model.Sending.{Sent}
 use Rattle.port_facts.specs.ordered_lists.Ordered.{Every}
 use Rattle.port_facts.proofs.Keyed.{on_both}
-use Rattle.world_model.specs.declared.request.Asked.{Asked}
-use Rattle.world_model.specs.declared.request.Failure.{Failure}
+use Rattle.world_model.specs.switch_model.declared.request.Asked.{Asked}
+use Rattle.world_model.specs.switch_model.declared.request.Failure.{Failure}
 use Rattle.world_model.specs.Requests.{ended, cleared}
 use Rattle.world_model.specs.Switch.{Acted, free_slots}
 use Rattle.world_model.specs.Conduct.{with_cells, says, answers, steps, told, after_test, ends_frame, after_cell}

@@ -15,10 +15,10 @@ use Rattle.ipv4_forward.specs.declared.change.RouteChange.{RouteChange}
 use Rattle.ipv4_forward.specs.declared.table.Next.{Next}
 use Rattle.ipv4_forward.specs.declared.table.Next.TheVariants.{Local, Via}
 use Rattle.link_model.specs.Notes.{Journal}
-use Rattle.world_model.specs.declared.port.PortState.{PortState}
+use Rattle.world_model.specs.switch_model.declared.port.PortState.{PortState}
 use Rattle.world_model.specs.Switch.{control_port, has_port, numbers_of}
 use Rattle.world_model.specs.Controller.{Controller, ports_of}
-use Rattle.world_model.specs.declared.link.LinkEnd.{LinkEnd}
+use Rattle.world_model.specs.network_model.declared.link.LinkEnd.{LinkEnd}
 use Rattle.world_model.specs.Conditions.{IsAccepted, IsChange, IsLink, IsLinkedChange, IsNode, IsPlace, IsPort, IsTopology}
 use Rattle.world_model.specs.Lines.{is_linked}
 use Rattle.world_model.specs.Places.{place_node, queue_at, queue_number}

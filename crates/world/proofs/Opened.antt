@@ -19,7 +19,7 @@ use Rattle.port_model.specs.Setup.{Policy, Setup}
 use Rattle.port_model.specs.Redirection.{greatest_tally}
 use Rattle.world_model.specs.Switch as switches
 use Rattle.world_model.specs.Switch.{Switch, begun, control_port, numbers_of}
-use Rattle.world_model.specs.declared.range.PortRange.{PortRange}
+use Rattle.world_model.specs.controller_model.declared.range.PortRange.{PortRange}
 use Rattle.world_model.specs.Controller.{Controller, Linked}
 use Rattle.world_model.specs.Opening.{after_opening, opened as opened_controller, opens_port, opens_ports}
 use Rattle.world_model.specs.Conditions.{ArePolicyNumbers, IsLinkedNext, IsNode, IsNodeOf, IsRange, IsTopology}

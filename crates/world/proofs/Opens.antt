@@ -10,9 +10,9 @@ use Rattle.net_types.specs.declared.node.Place.{Place}
 use Rattle.net_types.specs.declared.node.Place.TheVariants.{Down, Up, Out}
 use Rattle.net_types.specs.Number.{GivenOut}
 use Rattle.port_model.specs.Setup.{Policy}
-use Rattle.world_model.specs.declared.range.PortRange.{PortRange}
+use Rattle.world_model.specs.controller_model.declared.range.PortRange.{PortRange}
 use Rattle.world_model.specs.Controller.{Controller}
-use Rattle.world_model.specs.declared.link.LinkEnd.{LinkEnd}
+use Rattle.world_model.specs.network_model.declared.link.LinkEnd.{LinkEnd}
 use Rattle.world_model.specs.Conditions.{IsNode, IsTopology}
 use Rattle.world_model.specs.Topology.{Topology, Node, node_at, node_in, ranges_of}
 use Rattle.world_model.specs.World.{Site, no_tally, numbers_after, opened, opened_site, opens_each, redirects_at, switched_at}

@@ -3,7 +3,7 @@
 use Rattle.std.proofs.Common.{◌≡◌, ◌+◌, ◌*◌, ◌≤◌, length, map, sym, ◌∙◌, ap, subst, arith}
 use Rattle.link_model.specs.Notes.{Journal}
 use Rattle.world_model.specs.Controller.{Controller}
-use Rattle.world_model.specs.declared.event.Event.{Event}
+use Rattle.world_model.specs.network_model.declared.event.Event.{Event}
 use Rattle.world_model.specs.Conditions.{CanCome}
 use Rattle.world_model.specs.Step.{acts}
 use Rattle.world_model.specs.Topology.{Topology}

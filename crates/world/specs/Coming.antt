@@ -19,7 +19,7 @@ use Rattle.world_pace.specs.Running.{AreNumbered, HavePeers}
 use Rattle.world_model.specs.Places.{queue_at, with_queue}
 use Rattle.link_model.specs.declared.record.Refusal.{Refusal}
 use Rattle.world_model.specs.Packets.{injected}
-use Rattle.world_model.specs.declared.link.LinkEnd.{LinkEnd}
+use Rattle.world_model.specs.network_model.declared.link.LinkEnd.{LinkEnd}
 use Rattle.world_model.specs.World.{World, Site, at_controller, site_key, redirects_at, switched_at}
 use Rattle.actor_pace.specs.Pace.{changes_of}
 use Rattle.world.specs.declared.site.Site.{Site as Node}

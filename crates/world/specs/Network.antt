@@ -4,7 +4,7 @@ use Rattle.std.specs.Prelude.{◌≤◌, List, [], length, map, Option}
 use Rattle.net_types.specs.declared.node.NodeId.{NodeId}
 use Rattle.link_model.specs.Notes.{Journal}
 use Rattle.world_model.specs.Controller.{Controller}
-use Rattle.world_model.specs.declared.link.LinkEnd.{LinkEnd}
+use Rattle.world_model.specs.network_model.declared.link.LinkEnd.{LinkEnd}
 use Rattle.world_model.specs.World.{World, Site}
 use Rattle.world.specs.declared.site.Site.{Site as Node}
 use Rattle.world.specs.declared.world.World.{World as Network}

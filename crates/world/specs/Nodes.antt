@@ -14,7 +14,7 @@ use Rattle.link_model.specs.declared.record.Refusal.{Refusal}
 use Rattle.link_model.specs.declared.record.Refusal.TheVariants as refusals
 use Rattle.refusal_names.specs.Names.{packet_refusal}
 use Rattle.port_model.specs.declared.timers.Timers.{Timers}
-use Rattle.world_model.specs.declared.range.PortRange.{PortRange}
+use Rattle.world_model.specs.controller_model.declared.range.PortRange.{PortRange}
 use Rattle.world_model.specs.Controller.{Acted, Controller, ports_of}
 pub use Rattle.actor_pace.specs.Pace.{changes_of}
 pub use Rattle.world_model.specs.Conditions.{table_to_be}

@@ -5,7 +5,7 @@ use Rattle.net_types.specs.declared.node.NodeId.{NodeId}
 use Rattle.net_types.specs.declared.node.Place.{Place}
 use Rattle.net_types.specs.declared.node.Place.TheVariants.{Down, Up, Out}
 use Rattle.port_model.specs.Setup.{Policy}
-use Rattle.world_model.specs.declared.range.PortRange.{PortRange}
+use Rattle.world_model.specs.controller_model.declared.range.PortRange.{PortRange}
 use Rattle.world_model.specs.Controller.{Controller}
 use Rattle.world_model.specs.Conditions.{IsTopology}
 use Rattle.world_model.specs.Topology.{Topology, Node, node_at, ranges_of}

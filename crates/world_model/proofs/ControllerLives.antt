@@ -13,7 +13,7 @@ use Rattle.gsmp_wire.specs.declared.request.Request.TheVariants.{DeleteTree, Del
 use Rattle.link_model.specs.Notes.{Journal}
 use Rattle.port_model.specs.Setup.{Policy, label_end, home_of}
 use Rattle.port_model.specs.Grants.{Grant, GrantState, Idle, ByController, ByInput, Leaving}
-use Rattle.world_model.specs.declared.range.PortRange.{PortRange}
+use Rattle.world_model.specs.controller_model.declared.range.PortRange.{PortRange}
 use Rattle.world_model.specs.Controller.{Controller, Acted, Linked}
 use Rattle.world_model.specs.Opening.{opened}
 use Rattle.world_model.specs.Asking.{asks}

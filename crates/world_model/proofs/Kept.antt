@@ -14,12 +14,12 @@ use Rattle.ipv4_forward.specs.declared.table.Next.{Next}
 use Rattle.ipv4_forward.specs.declared.table.Next.TheVariants.{Local, Via}
 use Rattle.ipv4_forward.specs.declared.table.Route.{Route}
 use Rattle.ipv4_forward.proofs.Passing.{distinct_push}
-use Rattle.world_model.specs.declared.range.PortRange.{PortRange}
-use Rattle.world_model.specs.declared.link.LinkEnd.{LinkEnd}
-use Rattle.world_model.specs.declared.line.TopologyLine.{TopologyLine}
-use Rattle.world_model.specs.declared.line.TopologyLine.TheVariants as lines
-use Rattle.world_model.specs.declared.refusal.TopologyRefusal.{TopologyRefusal}
-use Rattle.world_model.specs.declared.refusal.TopologyRefusal.TheVariants.{DuplicateName, TooMany, SelfLink, PortTaken, NoLink, Duplicate, TableFull}
+use Rattle.world_model.specs.controller_model.declared.range.PortRange.{PortRange}
+use Rattle.world_model.specs.network_model.declared.link.LinkEnd.{LinkEnd}
+use Rattle.world_model.specs.network_model.declared.line.TopologyLine.{TopologyLine}
+use Rattle.world_model.specs.network_model.declared.line.TopologyLine.TheVariants as lines
+use Rattle.world_model.specs.network_model.declared.refusal.TopologyRefusal.{TopologyRefusal}
+use Rattle.world_model.specs.network_model.declared.refusal.TopologyRefusal.TheVariants.{DuplicateName, TooMany, SelfLink, PortTaken, NoLink, Duplicate, TableFull}
 use Rattle.world_model.specs.Topology.{Topology, Node, Link, peer_of, peer_among, peer_on, same_link_end, empty_topology, node_in}
 use Rattle.world_model.specs.Lines.{is_named, node_named, is_linked, routes_of, first_of, of_named, line_refusal, with_line, with_changed, changed_at, changes_named, with_route, with_link, via_refusal, local_refusal, route_refusal, link_refusal, node_refusal}
 use Rattle.world_model.specs.Conditions.{IsTopology, IsNodeOf, IsLink, IsNode, IsPort, IsLinkedNext, IsRange, ArePolicyNumbers, AreTimes, HasItsNumbers}

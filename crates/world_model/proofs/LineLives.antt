@@ -6,12 +6,12 @@ use Rattle.net_types.specs.declared.node.Place.TheVariants.{Out}
 use Rattle.net_types.specs.Prefix.{Network}
 use Rattle.ipv4_forward.specs.declared.change.RouteChange.{RouteChange}
 use Rattle.ipv4_forward.specs.declared.table.Next.TheVariants.{Via}
-use Rattle.world_model.specs.declared.event.Event.TheVariants.{Carry, Route}
-use Rattle.world_model.specs.declared.line.TopologyLine.{TopologyLine}
-use Rattle.world_model.specs.declared.line.TopologyLine.TheVariants as lines
-use Rattle.world_model.specs.declared.refusal.EventRefusal.TheVariants as events
-use Rattle.world_model.specs.declared.refusal.TopologyRefusal.{TopologyRefusal}
-use Rattle.world_model.specs.declared.refusal.TopologyRefusal.TheVariants.{DuplicateName, UnknownName, SelfLink, PortTaken, NoLink, Duplicate}
+use Rattle.world_model.specs.network_model.declared.event.Event.TheVariants.{Carry, Route}
+use Rattle.world_model.specs.network_model.declared.line.TopologyLine.{TopologyLine}
+use Rattle.world_model.specs.network_model.declared.line.TopologyLine.TheVariants as lines
+use Rattle.world_model.specs.network_model.declared.refusal.EventRefusal.TheVariants as events
+use Rattle.world_model.specs.network_model.declared.refusal.TopologyRefusal.{TopologyRefusal}
+use Rattle.world_model.specs.network_model.declared.refusal.TopologyRefusal.TheVariants.{DuplicateName, UnknownName, SelfLink, PortTaken, NoLink, Duplicate}
 use Rattle.world_model.specs.Topology.{Topology, empty_topology}
 use Rattle.world_model.specs.Lines.{line_refusal, after_line}
 use Rattle.world_model.specs.Events.{event_refusal, named_refusal, table_after}

@@ -7,7 +7,7 @@ use Rattle.ipv4_forward.specs.declared.table.Route.{Route}
 use Rattle.link_model.specs.declared.record.DropCause.TheVariants.{Expired}
 use Rattle.link_model.specs.declared.record.Record.TheVariants.{Delivered, Dropped, Refused}
 use Rattle.link_model.specs.declared.record.Refusal.TheVariants.{Short}
-use Rattle.world_model.specs.declared.event.Event.TheVariants.{Inject}
+use Rattle.world_model.specs.network_model.declared.event.Event.TheVariants.{Inject}
 use Rattle.world_model.specs.Topology.{Topology, Node, empty_topology, new_node, policy_of}
 use Rattle.world_model.specs.World.{World, opened}
 use Rattle.world_model.specs.Run.{next, world_after, round}

@@ -10,7 +10,7 @@ use Rattle.net_types.specs.declared.node.PortNo.{PortNo}
 use Rattle.net_types.specs.Number.{GivenOut}
 use Rattle.crossbar_model.specs.Channels.{IsLinkPort, ArePorts}
 use Rattle.port_model.specs.Setup.{Policy, Setup}
-use Rattle.world_model.specs.declared.range.PortRange.{PortRange}
+use Rattle.world_model.specs.controller_model.declared.range.PortRange.{PortRange}
 use Rattle.world_model.specs.Controller.{Linked, ports_of}
 use Rattle.world_model.specs.Opening.{opens_ports}
 use Rattle.world_model.specs.Topology as topologies

@@ -10,7 +10,7 @@ use Rattle.link_model.specs.declared.record.Record.{Record}
 use Rattle.link_model.specs.declared.record.Record.TheVariants.{Loss}
 use Rattle.crossbar_model.specs.declared.branch.Branch.{Branch}
 use Rattle.crossbar_model.specs.Crossbar.{Branches, Crossbar, queue_of, switched_on}
-use Rattle.world_model.specs.declared.event.Event.TheVariants.{Carry}
+use Rattle.world_model.specs.network_model.declared.event.Event.TheVariants.{Carry}
 use Rattle.world_model.specs.Topology.{policy_of}
 use Rattle.world_model.specs.World.{World, Site, opened}
 use Rattle.world_model.specs.Places.{queue_at}

@@ -7,10 +7,10 @@ use Rattle.link_model.specs.declared.record.Cause.TheVariants.{Broken}
 use Rattle.frame_model.specs.Stretch.{open_stretch}
 use Rattle.world_model.specs.Beside.{StandsBesideCause}
 use Rattle.port_model.specs.Setup.{Policy}
-use Rattle.world_model.specs.declared.event.Event.{Event}
-use Rattle.world_model.specs.Topology.{Topology}
-use Rattle.world_model.specs.World.{World, opened}
-use Rattle.world_model.specs.Run.{next, world_after}
+use Rattle.network_model.specs.declared.event.Event.{Event}
+use Rattle.network_model.specs.Topology.{Topology}
+use Rattle.network_model.specs.World.{World, opened}
+use Rattle.network_model.specs.Run.{next, world_after}
 use Rattle.world_model.specs.Stretches.{Taker, arrival, cell_for, reassembly_at, turns_of}
 
 abbrev pub HasReassembly : World → Taker → Type 0

@@ -14,13 +14,13 @@ use Rattle.link_model.specs.declared.record.Record.{Record}
 use Rattle.link_model.specs.declared.record.Record.TheVariants.{Delivered, Dropped, Chance, Forged, Bad, Bind}
 use Rattle.port_model.specs.Setup.{Policy}
 use Rattle.world_model.specs.Fates.{Fate, IsDelivered, IsDropped, is_fate_of, has_loss_of}
-use Rattle.world_model.specs.Packets.{inject_refusal}
-use Rattle.world_model.specs.declared.event.Event.{Event}
-use Rattle.world_model.specs.Topology.{Topology}
-use Rattle.world_model.specs.World.{World, opened}
-use Rattle.world_model.specs.Conditions.{IsTopology, CanCome}
-use Rattle.world_model.specs.Places.{places, queue_at}
-use Rattle.world_model.specs.Run.{world_after}
+use Rattle.controller_model.specs.Packets.{inject_refusal}
+use Rattle.network_model.specs.declared.event.Event.{Event}
+use Rattle.network_model.specs.Topology.{Topology}
+use Rattle.network_model.specs.World.{World, opened}
+use Rattle.network_model.specs.Conditions.{IsTopology, CanCome}
+use Rattle.network_model.specs.Places.{places, queue_at}
+use Rattle.network_model.specs.Run.{world_after}
 use Rattle.world_model.specs.Reached.{Sent, IsFateAt}
 use Rattle.world_model.specs.Ways.{ifmp_of}
 use Rattle.world_model.specs.Past.{Past, past_of}

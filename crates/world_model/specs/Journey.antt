@@ -9,8 +9,8 @@ use Rattle.ipv4_forward.specs.Hop.{onward}
 use Rattle.ipv4_forward.specs.declared.table.Route.{Route}
 use Rattle.link_model.specs.declared.record.DropCause.TheVariants.{NoRoute, Expired}
 use Rattle.world_model.specs.Fates.{Fate, IsDropped, by_route}
-use Rattle.world_model.specs.declared.link.LinkEnd.{LinkEnd}
-use Rattle.world_model.specs.Topology.{Topology, peer_of}
+use Rattle.network_model.specs.declared.link.LinkEnd.{LinkEnd}
+use Rattle.network_model.specs.Topology.{Topology, peer_of}
 
 -- at the other end of a link; a port that a route names is linked
 abbrev pub at_peer : NodeId → (arrived : NodeId → Fate) → Option LinkEnd → Fate

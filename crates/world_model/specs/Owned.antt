@@ -15,8 +15,8 @@ use Rattle.port_model.specs.Setup.{label_end, control_end}
 use Rattle.port_model.specs.Labels.{Label, LabelState, Wiring, Offered, Recalled, Wired, label_number}
 use Rattle.port_model.specs.Grants.{Grant, Leaving}
 use Rattle.port_model.specs.Port.{Session}
-use Rattle.world_model.specs.declared.link.LinkEnd.{LinkEnd}
-use Rattle.world_model.specs.World.{World}
+use Rattle.network_model.specs.declared.link.LinkEnd.{LinkEnd}
+use Rattle.network_model.specs.World.{World}
 use Rattle.world_model.specs.Ways.{session_at, grants_at, side_at, output_at, on_the_way, ifmp_under}
 use Rattle.world_model.specs.Past.{Past, last_bound}
 use Rattle.world_model.specs.Users.{Way, User, Uses, IsUnused, IsOwn, StandsFor}

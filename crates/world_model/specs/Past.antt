@@ -7,11 +7,11 @@ use Rattle.link_model.specs.declared.frames.Frame.{Frame}
 use Rattle.link_model.specs.declared.record.Record.{Record}
 use Rattle.link_model.specs.declared.record.Record.TheVariants.{Bind}
 use Rattle.port_model.specs.Setup.{Policy}
-use Rattle.world_model.specs.declared.event.Event.{Event}
-use Rattle.world_model.specs.declared.link.LinkEnd.{LinkEnd}
-use Rattle.world_model.specs.Topology.{Topology}
-use Rattle.world_model.specs.World.{World, opened}
-use Rattle.world_model.specs.Run.{run, world_after, records_of}
+use Rattle.network_model.specs.declared.event.Event.{Event}
+use Rattle.network_model.specs.declared.link.LinkEnd.{LinkEnd}
+use Rattle.network_model.specs.Topology.{Topology}
+use Rattle.network_model.specs.World.{World, opened}
+use Rattle.network_model.specs.Run.{run, world_after, records_of}
 use Rattle.world_model.specs.Reached.{History, history}
 
 -- the topology, the events so far, the worlds from the opening to now, all records in order, and what of the run

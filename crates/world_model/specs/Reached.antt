@@ -12,12 +12,12 @@ use Rattle.ipv4_forward.specs.declared.table.Next.TheVariants.{Local, Via}
 use Rattle.ipv4_forward.specs.declared.table.Route.{Route}
 use Rattle.link_model.specs.declared.record.DropCause.TheVariants.{NoRoute, Expired}
 use Rattle.world_model.specs.Fates.{Fate, IsDelivered, IsDropped}
-use Rattle.world_model.specs.Packets.{inject_refusal}
-use Rattle.world_model.specs.declared.event.Event.{Event}
-use Rattle.world_model.specs.declared.event.Event.TheVariants.{Inject}
-use Rattle.world_model.specs.declared.link.LinkEnd.{LinkEnd}
-use Rattle.world_model.specs.Topology.{Topology, peer_of}
-use Rattle.world_model.specs.World.{World, site_at}
+use Rattle.controller_model.specs.Packets.{inject_refusal}
+use Rattle.network_model.specs.declared.event.Event.{Event}
+use Rattle.network_model.specs.declared.event.Event.TheVariants.{Inject}
+use Rattle.network_model.specs.declared.link.LinkEnd.{LinkEnd}
+use Rattle.network_model.specs.Topology.{Topology, peer_of}
+use Rattle.network_model.specs.World.{World, site_at}
 
 -- a packet that a `send` gave to a node, at an event; events are counted from 0
 pub record Sent : Type 0 where

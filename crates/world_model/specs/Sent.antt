@@ -11,8 +11,8 @@ use Rattle.atm_cells.specs.declared.cell.Cell.{Cell}
 use Rattle.ifmp_wire.specs.declared.message.Message.{Message}
 use Rattle.ifmp_wire.specs.declared.message.Message.TheVariants.{Adjacency, Redirect, Reclaim, ReclaimAck, LabelRange, Error}
 use Rattle.port_model.specs.Port.{Session}
-use Rattle.world_model.specs.declared.link.LinkEnd.{LinkEnd}
-use Rattle.world_model.specs.World.{World}
+use Rattle.network_model.specs.declared.link.LinkEnd.{LinkEnd}
+use Rattle.network_model.specs.World.{World}
 use Rattle.world_model.specs.Ways.{session_at, side_at, on_the_way, ifmp_under}
 
 -- *Redirection messages*: by their two instances and their number

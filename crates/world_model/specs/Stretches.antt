@@ -11,16 +11,16 @@ use Rattle.frame_model.specs.Reassembly.{Reassembly, Taken, taken}
 use Rattle.frame_model.specs.Stretch.{Turn, Takes, IsCut}
 use Rattle.frame_model.specs.Frame.{payload_in, octets_of, last_mark}
 use Rattle.link_model.specs.Ledger.{payload_of}
-use Rattle.world_model.specs.Switch as switch
-use Rattle.world_model.specs.Switch.{gsmp_channel}
-use Rattle.world_model.specs.Controller.{free_slots}
-use Rattle.world_model.specs.Cells.{same_channel, taker_of, reassembly_of}
-use Rattle.world_model.specs.declared.event.Event.{Event}
-use Rattle.world_model.specs.declared.event.Event.TheVariants.{Carry}
-use Rattle.world_model.specs.Topology.{Topology}
-use Rattle.world_model.specs.World.{World, site_at, controller_at}
-use Rattle.world_model.specs.Places.{queue_at}
-use Rattle.world_model.specs.Run.{next}
+use Rattle.switch_model.specs.Switch as switch
+use Rattle.switch_model.specs.Switch.{gsmp_channel}
+use Rattle.controller_model.specs.Controller.{free_slots}
+use Rattle.controller_model.specs.Cells.{same_channel, taker_of, reassembly_of}
+use Rattle.network_model.specs.declared.event.Event.{Event}
+use Rattle.network_model.specs.declared.event.Event.TheVariants.{Carry}
+use Rattle.network_model.specs.Topology.{Topology}
+use Rattle.network_model.specs.World.{World, site_at, controller_at}
+use Rattle.network_model.specs.Places.{queue_at}
+use Rattle.network_model.specs.Run.{next}
 
 pub data Taker : Type 0 where
   OfController : NodeId → Channel → Taker

@@ -24,10 +24,10 @@ use Rattle.link_model.specs.Ledger.{payload_of}
 use Rattle.port_model.specs.Desk.{Standing}
 use Rattle.port_model.specs.Setup.{label_end, control_end}
 use Rattle.port_model.specs.Grants.{Grant}
-use Rattle.world_model.specs.declared.link.LinkEnd.{LinkEnd}
-use Rattle.world_model.specs.Topology.{Topology, peer_of}
-use Rattle.world_model.specs.World.{World}
-use Rattle.world_model.specs.Places.{queue_at}
+use Rattle.network_model.specs.declared.link.LinkEnd.{LinkEnd}
+use Rattle.network_model.specs.Topology.{Topology, peer_of}
+use Rattle.network_model.specs.World.{World}
+use Rattle.network_model.specs.Places.{queue_at}
 use Rattle.world_model.specs.Reached.{Reaches, table_in}
 use Rattle.world_model.specs.Ways.{grants_at, side_at, standing_at, output_at, on_the_way, to_switch, ifmp_under, copy_under}
 use Rattle.world_model.specs.Past.{Past, frames_of, last_bound}

@@ -22,16 +22,16 @@ use Rattle.link_model.specs.Ledger.{payload_of}
 use Rattle.crossbar_model.specs.Crossbar.{output_of}
 use Rattle.port_model.specs.Desk.{Standing}
 use Rattle.port_model.specs.DeskAnswers.{Head, head_of}
-use Rattle.world_model.specs.Requests.{asked_in, is_request}
-use Rattle.world_model.specs.declared.request.Asked.{Asked}
+use Rattle.switch_model.specs.Requests.{asked_in, is_request}
+use Rattle.switch_model.specs.declared.request.Asked.{Asked}
 use Rattle.port_model.specs.Grants.{Grant}
 use Rattle.port_model.specs.Port.{Session}
-use Rattle.world_model.specs.Controller.{Linked, linked_at, default_channel, default_home}
-use Rattle.world_model.specs.Cells.{same_channel}
-use Rattle.world_model.specs.Packets.{control_protocol}
-use Rattle.world_model.specs.declared.link.LinkEnd.{LinkEnd}
-use Rattle.world_model.specs.World.{World, site_at, controller_at}
-use Rattle.world_model.specs.Places.{queue_at}
+use Rattle.controller_model.specs.Controller.{Linked, linked_at, default_channel, default_home}
+use Rattle.controller_model.specs.Cells.{same_channel}
+use Rattle.controller_model.specs.Packets.{control_protocol}
+use Rattle.network_model.specs.declared.link.LinkEnd.{LinkEnd}
+use Rattle.network_model.specs.World.{World, site_at, controller_at}
+use Rattle.network_model.specs.Places.{queue_at}
 
 -- *What stands at the end of a link*: the port with its session, its grants and its side of the adjacency
 abbrev pub linked_end : World → LinkEnd → Option Linked

@@ -25,43 +25,43 @@ pub use Rattle.refusal_names.specs.Names.{encaps_refusal, gsmp_refusal, ifmp_ref
 pub use Rattle.port_model.specs.declared.action.Action.{Action}
 pub use Rattle.port_model.specs.declared.action.Action.TheVariants.{Ask, CutChain, Note, Say, TakeBack, Withdraw}
 pub use Rattle.port_model.specs.declared.timers.Timers.{Timers}
-pub use Rattle.world_model.specs.Answers.{Handled, branch_answer, branch_of, carried_out, count_of, failure_answer, failure_code, handled, handled_asked, handled_by, refused, success_answer, told_output}
-pub use Rattle.world_model.specs.Asking.{asks, asks_next, sends_request, takes_back, withdraws_input}
+pub use Rattle.switch_model.specs.Answers.{Handled, branch_answer, branch_of, carried_out, count_of, failure_answer, failure_code, handled, handled_asked, handled_by, refused, success_answer, told_output}
+pub use Rattle.controller_model.specs.Asking.{asks, asks_next, sends_request, takes_back, withdraws_input}
 pub use Rattle.world_model.specs.Beside.{StandsBesideCause, has_mark, is_broken}
 pub use Rattle.world_model.specs.Causes.{HasCause, HasCauses}
-pub use Rattle.world_model.specs.Cells.{ForDefault, ForGsmp, ForLabel, counted_at, default_holds, frame_holds, ifmp_holds, label_holds, label_taker, on_link, packet_holds, port_on, reassembly_of, same_channel, taker_at, taker_of, takes_cell, with_reassembly}
-pub use Rattle.world_model.specs.Changes.{begins_change, change_comes, changed_joins, is_changed, may_take, takes_change, takes_changes, takes_each, takes_join_back}
-pub use Rattle.world_model.specs.Conditions.{AreOctets, CanCome, IsEvent, IsLink, IsLinkedChange, IsLinkedNext, IsNode, IsNodeOf, IsPlace, IsPort, IsRange, IsTopology, IsWithin, table_to_be}
-pub use Rattle.world_model.specs.Conduct.{forged, gsmp_cell, is_gsmp, read, replied, requested, reset, restarted, switched_cell, tick_comes}
-pub use Rattle.world_model.specs.Controller.{Controller, LabelChain, Linked, chain_key, chain_of, chain_slots, chains_with, default_channel, default_end, default_home, linked_at, port_key, port_slots, with_desk, with_linked}
-pub use Rattle.world_model.specs.Events.{changes_at, changes_of, table_after}
-pub use Rattle.world_model.specs.Failures.{applies, failure_of, is_busy, is_last_session, lacks_branch, leads_elsewhere, named_ends, named_ports, names_session, used_ports}
+pub use Rattle.controller_model.specs.Cells.{ForDefault, ForGsmp, ForLabel, counted_at, default_holds, frame_holds, ifmp_holds, label_holds, label_taker, on_link, packet_holds, port_on, reassembly_of, same_channel, taker_at, taker_of, takes_cell, with_reassembly}
+pub use Rattle.controller_model.specs.Changes.{begins_change, change_comes, changed_joins, is_changed, may_take, takes_change, takes_changes, takes_each, takes_join_back}
+pub use Rattle.network_model.specs.Conditions.{AreOctets, CanCome, IsEvent, IsLink, IsLinkedChange, IsLinkedNext, IsNode, IsNodeOf, IsPlace, IsPort, IsRange, IsTopology, IsWithin, table_to_be}
+pub use Rattle.switch_model.specs.Conduct.{forged, gsmp_cell, is_gsmp, read, replied, requested, reset, restarted, switched_cell, tick_comes}
+pub use Rattle.controller_model.specs.Controller.{Controller, LabelChain, Linked, chain_key, chain_of, chain_slots, chains_with, default_channel, default_end, default_home, linked_at, port_key, port_slots, with_desk, with_linked}
+pub use Rattle.network_model.specs.Events.{changes_at, changes_of, table_after}
+pub use Rattle.switch_model.specs.Failures.{applies, failure_of, is_busy, is_last_session, lacks_branch, leads_elsewhere, named_ends, named_ports, names_session, used_ports}
 pub use Rattle.world_model.specs.Fates.{Fate, IsDelivered, IsDropped, by_route, fate_record, has_loss_of, is_fate_of}
-pub use Rattle.world_model.specs.Gsmp.{gsmp_holds}
+pub use Rattle.controller_model.specs.Gsmp.{gsmp_holds}
 pub use Rattle.world_model.specs.Headline.{AreOwned, AreTrueFates, BindsNothing, BindsUnused, HasFatesOnce, HasFatesWhole, Headline, IsInHarmony, IsRun, IsTame, IsTrueFate, IsTrueToRouting, OffersNothing, WasAccepted, fates_of, is_bad, is_bind, is_disowning, is_empty, is_wild}
-pub use Rattle.world_model.specs.Joins.{end_le, enters_grant, enters_label, gives_back, inputs_at, is_offered, join_by, join_for, join_of, join_through, join_to, joins, joins_at, joins_of, label_on, may_join, parts, port_by, released_inputs, releases, releases_input, releases_join, resets_spent, tries_join, tries_joins, tries_label}
+pub use Rattle.controller_model.specs.Joins.{end_le, enters_grant, enters_label, gives_back, inputs_at, is_offered, join_by, join_for, join_of, join_through, join_to, joins, joins_at, joins_of, label_on, may_join, parts, port_by, released_inputs, releases, releases_input, releases_join, resets_spent, tries_join, tries_joins, tries_label}
 pub use Rattle.world_model.specs.Journey.{at_peer, journey, journey_within}
-pub use Rattle.world_model.specs.Limits.{event_limit}
-pub use Rattle.world_model.specs.Lines.{changed_at, changes_named, is_linked, line_refusal, link_refusal, node_named, of_named, routes_of, with_changed, with_line, with_link, with_route}
-pub use Rattle.world_model.specs.Meeting.{answer_comes, answers_desk, awaits_nothing, behind_delete_all, causes, causes_in_estab, clears, clears_of, clears_port, default_branches, empties, ends_meeting, has_emptied, is_clearing, is_deleting, may_clear, meets, port_of_input, takes_answer, tells_port, up_ports}
-pub use Rattle.world_model.specs.Opening.{after_opening, opens_port, opens_ports, setup_of}
+pub use Rattle.network_model.specs.Limits.{event_limit}
+pub use Rattle.network_model.specs.Lines.{changed_at, changes_named, is_linked, line_refusal, link_refusal, node_named, of_named, routes_of, with_changed, with_line, with_link, with_route}
+pub use Rattle.controller_model.specs.Meeting.{answer_comes, answers_desk, awaits_nothing, behind_delete_all, causes, causes_in_estab, clears, clears_of, clears_port, default_branches, empties, ends_meeting, has_emptied, is_clearing, is_deleting, may_clear, meets, port_of_input, takes_answer, tells_port, up_ports}
+pub use Rattle.controller_model.specs.Opening.{after_opening, opens_port, opens_ports, setup_of}
 pub use Rattle.world_model.specs.Owned.{HasNoReclaim, HasStored, IsClearedAs, IsNotRecalled, IsNotRecalledIn, IsSpare, IsSpareOrWired, IsWired, IsWiring, KnowsCleared, StandsForLast, WaitsAs, WasCleared, held}
-pub use Rattle.world_model.specs.Packets.{control_protocol, goes_by, goes_on, grant_by, inject_refusal, injected, is_control, refused_by, routes, sends_next}
+pub use Rattle.controller_model.specs.Packets.{control_protocol, goes_by, goes_on, grant_by, inject_refusal, injected, is_control, refused_by, routes, sends_next}
 pub use Rattle.world_model.specs.Past.{Past, bound_by, frames_of, last_bound, past_of}
-pub use Rattle.world_model.specs.Performing.{Rule, at_port, does, does_in_estab, performs, performs_in_estab, resets_as, resets_of, resets_port, works, works_as}
-pub use Rattle.world_model.specs.Places.{AreShaped, IsPlaceIn, IsPlaceOf, IsShaped, IsShapedSite, place_node, places, places_of, queue_at, queue_in, queue_number, same_queue, with_port_queue, with_queue, with_queue_in, with_queue_of}
+pub use Rattle.controller_model.specs.Performing.{Rule, at_port, does, does_in_estab, performs, performs_in_estab, resets_as, resets_of, resets_port, works, works_as}
+pub use Rattle.network_model.specs.Places.{AreShaped, IsPlaceIn, IsPlaceOf, IsShaped, IsShapedSite, place_node, places, places_of, queue_at, queue_in, queue_number, same_queue, with_port_queue, with_queue, with_queue_in, with_queue_of}
 pub use Rattle.world_model.specs.Reached.{HasReached, IsFateAt, Reaches, delivered, expired, hops, sent_by, table_in, without_route}
-pub use Rattle.world_model.specs.Requests.{Changed, added, added_by, all_ended, asked_in, branch_request, branches_after, end_at, ended_by, inputs_on, is_request, managed, moved_by, moved_to, noted_cut, ports_after}
-pub use Rattle.world_model.specs.Resets.{begins, closes_by, cuts_default, cuts_default_of, cuts_gsmp, cuts_label, cuts_of, node_resets, node_restarts, port_restarts, port_restarts_as, port_restarts_of, resets_gsmp, with_work}
-pub use Rattle.world_model.specs.Routes.{differs, route_stays, same_next}
-pub use Rattle.world_model.specs.Run.{next, put_away, records_of, round, run, switch_tick_of, tick_of, tick_of_all, world_after, worlds_from}
-pub use Rattle.world_model.specs.Sending.{says_gsmp, says_ifmp, sends_control}
+pub use Rattle.switch_model.specs.Requests.{Changed, added, added_by, all_ended, asked_in, branch_request, branches_after, end_at, ended_by, inputs_on, is_request, managed, moved_by, moved_to, noted_cut, ports_after}
+pub use Rattle.controller_model.specs.Resets.{begins, closes_by, cuts_default, cuts_default_of, cuts_gsmp, cuts_label, cuts_of, node_resets, node_restarts, port_restarts, port_restarts_as, port_restarts_of, resets_gsmp, with_work}
+pub use Rattle.controller_model.specs.Routes.{differs, route_stays, same_next}
+pub use Rattle.network_model.specs.Run.{next, put_away, records_of, round, run, switch_tick_of, tick_of, tick_of_all, world_after, worlds_from}
+pub use Rattle.controller_model.specs.Sending.{says_gsmp, says_ifmp, sends_control}
 pub use Rattle.world_model.specs.Sent.{HasArrived, HasNoneBelow, IsKnownRightly, IsNotOverdue, Numbered}
-pub use Rattle.world_model.specs.Step.{arrives, arrives_at, carries_head, forges, forges_at, injects, injects_by, loses_head, step, tallied}
+pub use Rattle.network_model.specs.Step.{arrives, arrives_at, carries_head, forges, forges_at, injects, injects_by, loses_head, step, tallied}
 pub use Rattle.world_model.specs.Stretches.{Arrival, CountsAsItsFrame, OfController, OfSwitch, arrival, cell_for, cell_turn, cut_turn, has_slot, is_nothing, left_by, reassembly_at, same_taker, taken_at, turns_at, turns_of}
-pub use Rattle.world_model.specs.Switch.{Switch, control_port, controller_party, gsmp_channel, has_port, has_session, numbers_of, switch_party, with_branches, with_port}
-pub use Rattle.world_model.specs.Ticks.{sends_again, ticks_by, ticks_port, ticks_ports}
-pub use Rattle.world_model.specs.Topology.{Link, Node, Topology, default_range, empty_topology, new_node, node_at, node_in, peer_among, peer_on, policy_of, range_among, ranges_of, same_link_end, timers_of}
+pub use Rattle.switch_model.specs.Switch.{Switch, control_port, controller_party, gsmp_channel, has_port, has_session, numbers_of, switch_party, with_branches, with_port}
+pub use Rattle.controller_model.specs.Ticks.{sends_again, ticks_by, ticks_port, ticks_ports}
+pub use Rattle.network_model.specs.Topology.{Link, Node, Topology, default_range, empty_topology, new_node, node_at, node_in, peer_among, peer_on, policy_of, range_among, ranges_of, same_link_end, timers_of}
 pub use Rattle.world_model.specs.Users.{ByBranch, ByCell, ByGrant, ByRequest, IsOwn, IsRedirect, IsUnused, IsWay, LeadsOn, User, Uses, Way, connected, copied, from_controller, granted, leads, off_the_link, on_the_link}
 pub use Rattle.world_model.specs.Ways.{answers_chain_at, chain_at, copy_by, copy_of, copy_under, grants_at, gsmp_of, gsmp_to_controller, gsmp_to_switch, gsmp_under, ifmp_in, ifmp_of, ifmp_under, linked_end, on_channel, on_default_channel, on_the_way, output_at, requests_chain_at, session_at, side_at, standing_at, to_switch}
-pub use Rattle.world_model.specs.World.{Counts, Site, Tally, World, controller_acts, controller_at, empty_world, no_tally, numbers_after, opened_site, opens_each, site_at, site_key, switch_acts, with_opened, with_site}
+pub use Rattle.network_model.specs.World.{Counts, Site, Tally, World, controller_acts, controller_at, empty_world, no_tally, numbers_after, opened_site, opens_each, site_at, site_key, switch_acts, with_opened, with_site}

@@ -5,8 +5,8 @@ use Rattle.std.specs.List.{list_any, range_with_len}
 use Rattle.std.specs.Option.{option_or}
 use Rattle.std.proofs.lemmas.Bool.Decides.{nat_tests}
 use Rattle.world_model.specs.Words.{NodeId, PortNo, has_port, numbers_of, IsLink, IsNode, IsPort, IsTopology, is_linked, Topology, Link, peer_among, same_link_end}
-use Rattle.world_model.specs.declared.port.PortState.{PortState}
-use Rattle.world_model.specs.declared.link.LinkEnd.{LinkEnd}
+use Rattle.world_model.specs.switch_model.declared.port.PortState.{PortState}
+use Rattle.world_model.specs.network_model.declared.link.LinkEnd.{LinkEnd}
 use Rattle.world_model.specs.Topology as topologies
 use Rattle.world_model.specs.Topology.{peer_of}
 use Rattle.world_model.proofs.Lists.{by_eq}

@@ -7,13 +7,13 @@ use Rattle.world_model.specs.gsmp_wire.declared.message.Message.TheVariants.{All
 use Rattle.controller_views.specs.ordered_lists.Ordered.{Every}
 use Rattle.world_model.specs.crossbar_model.Crossbar.{output_of}
 use Rattle.world_model.specs.port_model.Messages.{is_up}
-use Rattle.world_model.specs.declared.port.PortState.{PortState}
+use Rattle.world_model.specs.switch_model.declared.port.PortState.{PortState}
 use Rattle.controller_views.specs.port_facts.Port.{IsLinked, IsLabelEnd, IsShaped}
 use Rattle.world_model.specs.Controller.{ports_of}
 use Rattle.controller_views.specs.label_line.Cells.{Role}
 use Rattle.controller_views.specs.label_line.Line as labels
 use Rattle.controller_views.specs.label_line.Law as labels_law
-use Rattle.world_model.specs.declared.link.LinkEnd.{LinkEnd}
+use Rattle.world_model.specs.network_model.declared.link.LinkEnd.{LinkEnd}
 use Rattle.controller_views.specs.port_views.Link.{LinkLabel}
 use Rattle.controller_views.specs.shown_cells.Seen.{IsUnmade}
 use Rattle.input_views.specs.Reaching.{ReachedAs, Anything}

@@ -2,7 +2,7 @@
 
 use Rattle.std.specs.Prelude.{ℕ, ◌<◌, ◌^◌, List, [], ◌∷◌, ◌++◌, All, Contains}
 use Rattle.world_model.specs.Words.{FlowId, Bind, Policy, Topology, Node, IsTopology, Past, past_of, Way, IsWay, IsUnused, IsRun, IsTame}
-use Rattle.world_model.specs.declared.event.Event.{Event}
+use Rattle.world_model.specs.network_model.declared.event.Event.{Event}
 use Rattle.world_views.specs.Between.{IsWorld}
 
 -- the addresses of nodes have 32 bits

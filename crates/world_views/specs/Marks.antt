@@ -5,7 +5,7 @@ use Rattle.std.specs.List.{sum_by}
 use Rattle.world_model.specs.Words.{NodeId, PortNo, Place, Down, Up, Out, Addr, Channel, Mark, number_of_channel, Cell, FlowId, default_payload, Carries, Frame, payload_of, default_channel, same_channel, port_on, on_link, Topology, World, places, queue_at, Reaches, Past, frames_of, last_bound}
 use Rattle.world_model.specs.ifmp_wire.declared.message.Message.{Message}
 use Rattle.controller_views.specs.Lifted.{payload_by}
-use Rattle.world_model.specs.declared.link.LinkEnd.{LinkEnd}
+use Rattle.world_model.specs.network_model.declared.link.LinkEnd.{LinkEnd}
 use Rattle.world_model.specs.Topology.{peer_of}
 use Rattle.world_views.specs.Made.{IsFit}
 

@@ -6,7 +6,7 @@ use Rattle.controller_views.specs.label_line.Cells.{Role, Downstream, Upstream}
 use Rattle.controller_views.specs.label_line.Line.{Line}
 use Rattle.controller_views.specs.label_line.Moves.{Move, run}
 use Rattle.world_model.specs.Controller.{Acted}
-use Rattle.world_model.specs.declared.link.LinkEnd.{LinkEnd}
+use Rattle.world_model.specs.network_model.declared.link.LinkEnd.{LinkEnd}
 use Rattle.controller_views.specs.port_views.Link.{LinkLabel}
 use Rattle.controller_views.specs.Ends.{Pieces, Net, idle}
 

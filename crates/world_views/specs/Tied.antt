@@ -6,7 +6,7 @@ use Rattle.world_model.specs.Words.{End, NodeId, Down, Instance, Peer, HelloKind
 use Rattle.world_model.specs.ifmp_wire.declared.message.Message.{Message}
 use Rattle.world_model.specs.ifmp_wire.declared.message.Message.TheVariants.{Adjacency}
 use Rattle.controller_views.specs.label_line.Cells.{Downstream, Upstream}
-use Rattle.world_model.specs.declared.link.LinkEnd.{LinkEnd}
+use Rattle.world_model.specs.network_model.declared.link.LinkEnd.{LinkEnd}
 use Rattle.controller_views.specs.port_views.Link.{LinkLabel}
 use Rattle.world_views.specs.Pairs.{Pairs, IsJoin}
 use Rattle.world_views.specs.Shown.{end_of, way_of}

@@ -1,5 +1,5 @@
 use Rattle.std.proofs.Common.{◌<◌, List, length, ap, arith}
-use Rattle.world_model.specs.declared.port.PortState.{PortState}
+use Rattle.world_model.specs.switch_model.declared.port.PortState.{PortState}
 use Rattle.world_model.specs.Requests.{managed}
 use Rattle.gsmp_switch.proofs.PortStates.{changed_at}
 use Rattle.gsmp_switch.proofs.ports.manage.Goals as goal

@@ -1,6 +1,6 @@
 use Rattle.std.proofs.Common.{◌≡◌, ◌∙◌, ◌+◌, ◌≤◌, List, OnErr, OnOk, ap, length, subst, sym, arith}
 use Rattle.std.specs.List.{repeat}
-use Rattle.world_model.specs.declared.event.Event.{Event}
+use Rattle.world_model.specs.network_model.declared.event.Event.{Event}
 use Rattle.world_model.specs.Limits.{event_limit}
 use Rattle.world_model.specs.Run.{put_away, round, tick_of_all, world_after}
 use Rattle.world_model.specs.World.{World}

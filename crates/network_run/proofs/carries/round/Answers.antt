@@ -2,8 +2,8 @@ use Rattle.std.proofs.Common.{rules, ◌≡◌, ◌∙◌, ◌<◌, ◌≤◌, �
 use Rattle.net_types.specs.declared.node.Place.{Place}
 use Rattle.link_model.specs.declared.record.Record.{Record}
 use Rattle.lab_io.specs.Report.{IsPut}
-use Rattle.world_model.specs.declared.event.Event.{Event}
-use Rattle.world_model.specs.declared.event.Event.TheVariants.{Carry}
+use Rattle.world_model.specs.network_model.declared.event.Event.{Event}
+use Rattle.world_model.specs.network_model.declared.event.Event.TheVariants.{Carry}
 use Rattle.world_model.specs.Limits.{event_limit}
 use Rattle.world_model.specs.Places.{places}
 use Rattle.world_model.specs.Run.{next, put_away, round, world_after}

@@ -1,7 +1,7 @@
 use Rattle.std.proofs.Common.{◌≡◌, ◌∙◌, ◌+◌, ℕ, List, ap, length, refl, slice_get, Some, subst, sym, take, arith}
 use Rattle.link_model.specs.declared.record.Record.{Record}
 use Rattle.lab_io.specs.Report.{IsPut}
-use Rattle.world_model.specs.declared.event.Event.{Event}
+use Rattle.world_model.specs.network_model.declared.event.Event.{Event}
 use Rattle.world_model.specs.Run.{next, put_away, tick_of_all, world_after}
 use Rattle.world_model.specs.World.{World}
 use Rattle.world.specs.Network.{world_of}

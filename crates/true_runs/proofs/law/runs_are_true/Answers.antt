@@ -2,7 +2,7 @@
 
 use Rattle.std.proofs.Common.{List, [], ◌∷◌}
 use Rattle.world_model.specs.Words.{Policy, Topology, past_of}
-use Rattle.world_model.specs.declared.event.Event.{Event}
+use Rattle.world_model.specs.network_model.declared.event.Event.{Event}
 use Rattle.run_facts.specs.world_views.Between.{HasAllShapes, HasAllPortsUp, HasAllNumbers, HasAllReady, HasAllMade, HasAllLabels, HasAllInputs, HasAllUsers, HasAllCleared, HasAllJoins, HasAllLedOnce}
 use Rattle.run_facts.specs.world_views.Kept.{Comes, Keeps, BindsUnusedAt}
 use Rattle.label_worlds.specs.pairs.Past.{RunsMakeNoPairs}

@@ -1,5 +1,5 @@
 use Rattle.std.proofs.Common.{◌≡◌, true, is_some, arith}
-use Rattle.world_model.specs.declared.range.PortRange.{PortRange}
+use Rattle.world_model.specs.controller_model.declared.range.PortRange.{PortRange}
 use Rattle.control_link.specs.declared.layout.Block.{Block}
 use Rattle.control_link.specs.Cells.{range_at}
 use Rattle.control_link.proofs.Blocks.{port_inside}

@@ -1,4 +1,4 @@
-use Rattle.world_model.specs.declared.event.Event.TheVariants.{Carry}
+use Rattle.world_model.specs.network_model.declared.event.Event.TheVariants.{Carry}
 use Rattle.std.proofs.Common.{◌+◌}
 use Rattle.telling_model.specs.Placed.{placed}
 use Rattle.network_run.proofs.Empty.{made_none, next_empty, put_none, taken_none}

@@ -1,7 +1,7 @@
 use Rattle.std.proofs.Common.{◌≡◌, [], ◌++◌, List, None, refl, ◌∙◌, ap}
 use Rattle.net_types.specs.declared.node.Place.{Place}
 use Rattle.net_types.specs.declared.node.Place.TheVariants.{Down, Up, Out}
-use Rattle.world_model.specs.declared.event.Event.TheVariants.{Carry}
+use Rattle.world_model.specs.network_model.declared.event.Event.TheVariants.{Carry}
 use Rattle.network_run.proofs.Empty.{next_empty, put_none, taken_none}
 use Rattle.network_trace.specs.Passages.{Passage}
 use Rattle.network_trace.specs.Trace.{in_lines, passed, taken_told}

@@ -1,0 +1,9 @@
+pub mod Limits
+pub mod Topology
+pub mod Lines
+pub mod Events
+pub mod World
+pub mod Conditions
+pub mod Places
+pub mod Step
+pub mod Run

@@ -1,0 +1,5 @@
+pub mod Switch
+pub mod Requests
+pub mod Failures
+pub mod Answers
+pub mod Conduct
