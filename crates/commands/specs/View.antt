@@ -5,10 +5,10 @@ use Rattle.world_model.specs.Topology.{policy_of}
 use Rattle.script_model.specs.Script.{Script}
 use Rattle.telling_model.specs.Placed.{Placed}
 use Rattle.script_replay.specs.Report.{account_by, telling_by}
-use Rattle.network_trace.specs.Trace.{trace_tale}
-use Rattle.network_show.specs.Show.{show_tale}
-use Rattle.network_journal.specs.Journal.{journal_tale}
-use Rattle.network_capture.specs.Capture.{capture_tale}
+use Rattle.tell_trace.specs.Trace.{trace_tale}
+use Rattle.tell_show.specs.Show.{show_tale}
+use Rattle.tell_journal.specs.Journal.{journal_tale}
+use Rattle.tell_capture.specs.Capture.{capture_tale}
 use Rattle.commands.specs.declared.task.View as views
 use Rattle.commands.specs.declared.task.View.TheVariants.{Trace, Show, Journal, Capture}
 

@@ -13,10 +13,10 @@ use crate::task::View;
 use lab_io::{Sink, Source};
 use line_by_line::Ending;
 use named_replay::tell_script;
-use network_capture::CaptureTeller;
-use network_journal::JournalTeller;
-use network_show::ShowTeller;
-use network_trace::TraceTeller;
+use tell_capture::CaptureTeller;
+use tell_journal::JournalTeller;
+use tell_show::ShowTeller;
+use tell_trace::TraceTeller;
 use std::alloc::Global;
 use world::Meter;
 

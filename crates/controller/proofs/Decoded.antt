@@ -6,7 +6,7 @@ use Rattle.ifmp_wire.specs.declared.reader.Fault.{Fault}
 use Rattle.ifmp_wire.specs.Message.{Tells}
 use Rattle.ifmp_wire.specs.Tests.{first_fault}
 use Rattle.ifmp_wire.specs.Fields.{decoded, decoded_by}
-use Rattle.wire_laws.proofs.Ifmp.{read_back}
+use Rattle.law_wire.proofs.Ifmp.{read_back}
 
 pub decoded_told : (octets : List ℕ) (message : Message) → Tells octets message → decoded octets ≡ Ok message
 decoded_told octets message told = ap decoded told.spelled ∙ read_back message told.in_range told.fits

@@ -6,7 +6,7 @@ use Rattle.ipv4_packet.specs.Packet.{first_fault, protocol_of}
 use Rattle.link_model.specs.declared.record.Refusal.TheVariants.{ControlProtocol}
 use Rattle.world_model.specs.Controller.{Acted}
 use Rattle.world_model.specs.Packets.{control_protocol, injected, refused_by}
-use Rattle.controller_facts.specs.Inputs.{PacketEnters, enters_unless, takes_input}
+use Rattle.law_controller_facts.specs.Inputs.{PacketEnters, enters_unless, takes_input}
 
 pub not_equal : (m n : ℕ) → m ≢ n → (m == n) ≡ false
 not_equal m n other = grind (arith, nat_tests)

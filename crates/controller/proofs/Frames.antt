@@ -14,24 +14,24 @@ use Rattle.gsmp_wire.specs.Fields.{decoded}
 use Rattle.link_model.specs.declared.record.Record.TheVariants.{Loss}
 use Rattle.link_model.specs.declared.record.Cause.TheVariants.{Unbound}
 use Rattle.reassembly.specs.Receipt.{Received}
-use Rattle.control_link.specs.declared.taker.Taker as control
-use Rattle.control_link.specs.declared.taker.Taker.TheVariants as takers
+use Rattle.controller_link.specs.declared.taker.Taker as control
+use Rattle.controller_link.specs.declared.taker.Taker.TheVariants as takers
 use Rattle.port_model.specs.Labels.{Label, is_bound, label_number}
 use Rattle.port_model.specs.Port.{label_at, labels_of}
 use Rattle.port_state.specs.Engine.{bound_flow, flow_at}
-use Rattle.port_facts.proofs.Keyed.{at_every}
+use Rattle.law_port_facts.proofs.Keyed.{at_every}
 use Rattle.world_model.specs.Controller.{Acted, Controller, Linked, chains_with, linked_at, note, port_key}
 use Rattle.world_model.specs.Cells.{Taker, ForGsmp, ForDefault, ForLabel, cell_comes, default_holds, frame_holds, label_holds, opened_frame, taker_of, takes_cell}
 use Rattle.world_model.specs.Gsmp.{gsmp_holds}
 use Rattle.world_model.specs.Packets.{routes}
-use Rattle.controller_facts.specs.Said.{HasFlowsAt}
-use Rattle.join_facts.proofs.Splits.{at_put}
-use Rattle.router.specs.Cells.{IsFound, channel_of, gathered, receipt}
-use Rattle.controller_conditions.specs.Kept.{IsKept}
-use Rattle.controller_conditions.specs.Routes.{HasLinkRoutes}
-use Rattle.controller_conditions.proofs.Cells.{cells_can_come}
-use Rattle.controller_conditions.proofs.Receiving.{cell_acts}
-use Rattle.joining_conditions.specs.Cells.{CanHold}
+use Rattle.law_controller_facts.specs.Said.{HasFlowsAt}
+use Rattle.law_join_facts.proofs.Splits.{at_put}
+use Rattle.controller_router.specs.Cells.{IsFound, channel_of, gathered, receipt}
+use Rattle.law_controller_conditions.specs.Kept.{IsKept}
+use Rattle.law_controller_conditions.specs.Routes.{HasLinkRoutes}
+use Rattle.law_controller_conditions.proofs.Cells.{cells_can_come}
+use Rattle.law_controller_conditions.proofs.Receiving.{cell_acts}
+use Rattle.law_joining_conditions.specs.Cells.{CanHold}
 use Rattle.controller.specs.Frames.{CanAct, IsActing, flow_on, used_at}
 
 -- *Who takes a cell*

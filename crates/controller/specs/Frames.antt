@@ -10,15 +10,15 @@ use Rattle.ipv4_packet.specs.Flow.{IsFlow}
 use Rattle.flow_encaps.specs.Unwrapped.{default_unwrapped}
 use Rattle.gsmp_wire.specs.declared.message.Message.{Message}
 use Rattle.gsmp_wire.specs.Fields.{decoded}
-use Rattle.control_link.specs.declared.taker.Taker as control
-use Rattle.control_link.specs.declared.taker.Taker.TheVariants.{Gsmp, Default, Label}
+use Rattle.controller_link.specs.declared.taker.Taker as control
+use Rattle.controller_link.specs.declared.taker.Taker.TheVariants.{Gsmp, Default, Label}
 use Rattle.port_model.specs.Counting.{used}
 use Rattle.port_state.specs.Engine.{flow_at}
 use Rattle.world_model.specs.Controller.{Acted, Controller, linked_at}
 use Rattle.world_model.specs.Cells.{Taker, ForGsmp, ForDefault, ForLabel}
 use Rattle.world_model.specs.Performing.{at_port}
-use Rattle.joining_router.specs.Answers.{CanBeTold}
-use Rattle.joining_conditions.specs.Cells.{CanHoldPacket}
+use Rattle.controller_joining.specs.Answers.{CanBeTold}
+use Rattle.law_joining_conditions.specs.Cells.{CanHoldPacket}
 
 -- the flow that a label of a port is bound to
 abbrev pub flow_on : Controller → PortNo → (number : ℕ) → Option FlowId

@@ -3,8 +3,8 @@
 use Rattle.std.specs.Prelude.{ℕ, ◌+◌, List, [], ◌∷◌}
 use Rattle.port_model.specs.Setup.{Setup}
 use Rattle.world_model.specs.controller_model.declared.range.PortRange.{PortRange}
-use Rattle.gsmp_client.specs.Client.{PortEnd}
-use Rattle.router.specs.Engine.{opened_end}
+use Rattle.controller_gsmp.specs.Client.{PortEnd}
+use Rattle.controller_router.specs.Engine.{opened_end}
 
 abbrev pub opened_ends : (PortRange → Setup) → (instances : ℕ) → List PortRange → List PortEnd
 opened_ends setup instances [] = []

@@ -2,10 +2,10 @@
 
 use Rattle.std.specs.Prelude.{Option, None, Some}
 use Rattle.net_types.specs.declared.memory.OutOfMemory.{OutOfMemory}
-use Rattle.gsmp_client.specs.Client.{PortEnd}
-use Rattle.joining_router.specs.Joining.{AreJoined, Joining, controller_of}
-use Rattle.controller_conditions.specs.Kept.{IsKept}
-use Rattle.controller_conditions.specs.Routes.{HasLinkRoutes}
+use Rattle.controller_gsmp.specs.Client.{PortEnd}
+use Rattle.controller_joining.specs.Joining.{AreJoined, Joining, controller_of}
+use Rattle.law_controller_conditions.specs.Kept.{IsKept}
+use Rattle.law_controller_conditions.specs.Routes.{HasLinkRoutes}
 
 pub record IsRight {E : Type 0} (seen : E → PortEnd) (j : Joining E) : Type 0 where
   pub kept : IsKept (controller_of seen j)

@@ -4,20 +4,20 @@
 ghost use Rattle.std.specs.Prelude.{◌≡◌, ◌≤◌, ◌<◌, ◌^◌, length, OnOk};
 ghost use Rattle.net_types.specs.Number.{HasNumbersLeft};
 ghost use Rattle.world_model.specs.Cells.{Taker as TakerValue, cell_comes, frame_holds};
-ghost use Rattle.router.specs.Cells.{channel_of};
-ghost use Rattle.router.specs.Conditions.{HasMark};
-ghost use Rattle.joining_router.specs.Joining.{AreJoined, acted, controller_of};
-ghost use Rattle.controller_conditions.specs.Routes.{HasLinkRoutes};
+ghost use Rattle.controller_router.specs.Cells.{channel_of};
+ghost use Rattle.controller_router.specs.Conditions.{HasMark};
+ghost use Rattle.controller_joining.specs.Joining.{AreJoined, acted, controller_of};
+ghost use Rattle.law_controller_conditions.specs.Routes.{HasLinkRoutes};
 ghost use Rattle.controller.specs.Frames.{CanAct, IsActing};
 ghost use Rattle.controller.specs.Right.{IsRight};
 
 use crate::packets::{hear_switch, take_default, take_labelled};
 use atm_cells::Cell;
-use control_link::Taker;
-use joining_router::JoiningRouter;
+use controller_link::Taker;
+use controller_joining::JoiningRouter;
 use link_model::{Cause, Notes, Record};
 use net_types::{Mark, Numbers, OutOfMemory};
-use router::PortEngine;
+use controller_router::PortEngine;
 
 /// A frame that passed its test acts, by the channel on which it came.
 fn take_frame<E: PortEngine>(

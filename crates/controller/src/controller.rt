@@ -3,17 +3,17 @@
 ghost use Rattle.std.specs.Prelude.{◌≡◌, ◌<◌, length, option_map, slice_get, IsSome, Some};
 ghost use Rattle.cell_pool.specs.Region.{size};
 ghost use Rattle.world_model.specs.Controller.{free_slots, linked_at};
-ghost use Rattle.router.specs.Node.{end_of};
-ghost use Rattle.joining_router.specs.Joining.{controller_of};
+ghost use Rattle.controller_router.specs.Node.{end_of};
+ghost use Rattle.controller_joining.specs.Joining.{controller_of};
 
 use aal5_frames::MAX_FRAME;
 use adjacency_table::State;
 use branch_desk::Desk;
 use cell_pool::Pool;
-use joining_router::JoiningRouter;
+use controller_joining::JoiningRouter;
 use net_types::{OutOfMemory, PortNo};
-use route_changes::Routes;
-use router::PortEngine;
+use controller_routes::Routes;
+use controller_router::PortEngine;
 use std::marker::Model;
 
 /// The controller of an IP switch (RFC 1953, RFC 1987), over an engine for each of its ports. After
@@ -28,7 +28,7 @@ pub struct Controller<E: PortEngine> {
 }
 
 impl<E: PortEngine> Model for Controller<E> {
-    ghost use Rattle.joining_router.specs.Joining.{Joining};
+    ghost use Rattle.controller_joining.specs.Joining.{Joining};
     ghost use Rattle.controller.specs.Right.{IsRightUnless};
 
     ghost Value = { Joining E };

@@ -2,7 +2,7 @@
 //! GSMP (RFC 1987), and which redirects flows to labels by IFMP (RFC 1953). What it does is defined in
 //! `world_model`; [`Controller`] is that definition in code, over any engines of its ports, and the
 //! controller of a node in a network. What its router asks of it at each call holds of every controller,
-//! from the opening on (`controller_conditions`, `joining_conditions`).
+//! from the opening on (`law_controller_conditions`, `law_joining_conditions`).
 #![tactic(auto)]
 
 mod cells;

@@ -11,13 +11,13 @@ use ipv4_packet::{check, protocol};
 use link_model::Notes;
 use net_types::{Addr, Channel, Mark, NodeId, Numbers, OutOfMemory};
 use port_model::Timers;
-use router::OpenEngine;
+use controller_router::OpenEngine;
 use std::alloc::Global;
 use world::{InjectFault, NodeController};
 use world_model::PortRange;
 
 impl<E: OpenEngine> NodeController for Controller<E> {
-    ghost use Rattle.joining_router.specs.Joining.{controller_of};
+    ghost use Rattle.controller_joining.specs.Joining.{controller_of};
 
     type Policy = E::Policy;
 

@@ -4,19 +4,19 @@ ghost use Rattle.std.specs.Prelude.{◌≡◌, ◌≤◌, ◌<◌, ◌+◌, ◌^
 ghost use Rattle.net_types.specs.Number.{HasNumbersLeft, with_instance};
 ghost use Rattle.crossbar_model.specs.Channels.{ArePorts};
 ghost use Rattle.world_model.specs.Opening.{after_opening, opened, setup_of};
-ghost use Rattle.router.specs.Engine.{opened_end};
-ghost use Rattle.joining_router.specs.Joining.{controller_of};
+ghost use Rattle.controller_router.specs.Engine.{opened_end};
+ghost use Rattle.controller_joining.specs.Joining.{controller_of};
 ghost use Rattle.world.specs.Nodes.{AreTimes, IsLabelRange};
 ghost use Rattle.controller.specs.Opening.{opened_ends};
 
-use gsmp_client::Client;
+use controller_gsmp::Client;
 use ipv4_forward::Table;
-use joining_router::JoiningRouter;
+use controller_joining::JoiningRouter;
 use net_types::{Addr, NodeId, Numbers, OutOfMemory, Party};
 use port_actions::Actions;
 use port_model::Timers;
-use route_changes::Routes;
-use router::{OpenEngine, PortEngine, Router};
+use controller_routes::Routes;
+use controller_router::{OpenEngine, PortEngine, Router};
 use std::alloc::Global;
 use world_model::PortRange;
 

@@ -17,22 +17,22 @@ ghost use Rattle.world_model.specs.Controller.{Linked, note};
 ghost use Rattle.world_model.specs.Cells.{counted_at, default_holds, ifmp_holds, label_holds, packet_holds};
 ghost use Rattle.world_model.specs.Gsmp.{gsmp_holds};
 ghost use Rattle.world_model.specs.Packets.{routes};
-ghost use Rattle.router.specs.Conditions.{HasMark};
-ghost use Rattle.joining_router.specs.Answers.{CanBeTold};
-ghost use Rattle.joining_router.specs.Conditions.{CanWorkOn};
-ghost use Rattle.joining_router.specs.Joining.{AreJoined, acted, controller_of};
-ghost use Rattle.controller_conditions.specs.Calls.{counting, hearing};
-ghost use Rattle.controller_conditions.specs.Routes.{HasLinkRoutes};
-ghost use Rattle.joining_conditions.specs.Cells.{CanHoldPacket};
+ghost use Rattle.controller_router.specs.Conditions.{HasMark};
+ghost use Rattle.controller_joining.specs.Answers.{CanBeTold};
+ghost use Rattle.controller_joining.specs.Conditions.{CanWorkOn};
+ghost use Rattle.controller_joining.specs.Joining.{AreJoined, acted, controller_of};
+ghost use Rattle.law_controller_conditions.specs.Calls.{counting, hearing};
+ghost use Rattle.law_controller_conditions.specs.Routes.{HasLinkRoutes};
+ghost use Rattle.law_joining_conditions.specs.Cells.{CanHoldPacket};
 ghost use Rattle.controller.specs.Frames.{flow_on, used_at};
 
 use flow_encaps::{unwrap_default, unwrap_flow};
 use ipv4_packet::{MAX_PACKET, check, protocol, source};
-use joining_router::JoiningRouter;
+use controller_joining::JoiningRouter;
 use link_model::{Layer, Notes, Record, Refusal};
 use net_types::{Mark, Numbers, OutOfMemory, PortNo};
 use refusal_names::{encaps_refusal, gsmp_refusal, ifmp_refusal, packet_refusal};
-use router::PortEngine;
+use controller_router::PortEngine;
 
 /// The protocol of IFMP (RFC 1953), which no sender may use.
 pub(crate) const CONTROL_PROTOCOL: u8 = 101;

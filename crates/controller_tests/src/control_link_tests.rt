@@ -1,11 +1,11 @@
 //! Cells that come on several channels of one control link.
 
 ghost use Rattle.std.specs.Prelude.{◌≡◌, true};
-ghost use Rattle.control_link.specs.Cells.{is_channel, ranges_of};
+ghost use Rattle.controller_link.specs.Cells.{is_channel, ranges_of};
 
 use aal5_frames::segment;
 use atm_cells::{BLANK_CELL, Cell};
-use control_link::{ControlLink, Taker};
+use controller_link::{ControlLink, Taker};
 use frame_model::Queues;
 use link_model::Notes;
 use net_types::{Channel, Mark, PortNo};

@@ -8,7 +8,7 @@ use ipv4_forward::{Next, Table};
 use link_model::{Notes, Record};
 use net_types::{Addr, Channel, Mark, NodeId, Numbers, OutOfMemory, PortNo, Prefix};
 use port_model::Timers;
-use router_port::RouterPort;
+use port_router::RouterPort;
 use std::alloc::Global;
 use std::process::Abort;
 use std::test::Fail;

@@ -5,7 +5,7 @@ ghost use Rattle.branch_desk.specs.Requests.{has_function};
 
 use gsmp_wire::{BranchKind, Message, PortRow, PortRows, Request};
 use net_types::{Channel, End, PortNo};
-use request_book::{Answer, RequestBook};
+use port_requests::{Answer, RequestBook};
 use std::process::Abort;
 use std::test::Fail;
 

@@ -26,9 +26,9 @@ use Rattle.network_replay.specs.declared.replay.Replay.{Replay}
 use Rattle.network_replay.specs.Along.{GoesOn, IsAlong, IsAtLast, IsBegun, IsGoing, IsWhole, last_told}
 use Rattle.network_replay.proofs.Onward.{along_ends, along_first, along_wanting}
 use Rattle.network_replay.proofs.Taking.{strings_are_read}
-use Rattle.report_lines.specs.declared.report.ReportLines.{ReportLines}
-use Rattle.report_lines.specs.Report.{report_tale}
-use Rattle.told_scripts.proofs.Reports.{account_is_report}
+use Rattle.tell_report.specs.declared.report.ReportLines.{ReportLines}
+use Rattle.tell_report.specs.Report.{report_tale}
+use Rattle.law_told_scripts.proofs.Reports.{account_is_report}
 use Rattle.document_replay.specs.Lines.{Comes, placed_of_lines, report_by, script_behind_rules, script_of_lines}
 
 -- *A line in its place*

@@ -19,7 +19,7 @@ use Rattle.network_run.specs.declared.stop.Stop.{Stop}
 use Rattle.network_run.specs.Telling.{IsLeft, meter_behind}
 use Rattle.network_replay.specs.declared.replay.Replay.{Replay}
 use Rattle.network_replay.specs.Along.{IsAtLast}
-use Rattle.report_lines.specs.Report.{report_tale}
+use Rattle.tell_report.specs.Report.{report_tale}
 
 -- *The report* of a script under the policy that is chosen for its topology, and the meter behind its last event
 abbrev pub report_by : (Topology → Policy) → Script → List ℕ

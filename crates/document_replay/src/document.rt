@@ -15,7 +15,7 @@ use network_replay::{PolicyChoice, Replay};
 use network_run::{Stop, Told};
 use refusal_text::write_refused;
 use report_end::settle;
-use report_lines::ReportLines;
+use tell_report::ReportLines;
 use script_model::Refused;
 use std::alloc::Global;
 use world::{Meter, NodeController};

@@ -12,7 +12,7 @@ use lab_io::Sink;
 use net_types::OutOfMemory;
 use network_replay::{PolicyChoice, Replay};
 use network_run::{Stop, Told};
-use report_lines::ReportLines;
+use tell_report::ReportLines;
 use script_model::Refused;
 use std::alloc::AllocError;
 use world::{Meter, NodeController};

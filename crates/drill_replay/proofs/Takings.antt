@@ -26,9 +26,9 @@ use Rattle.network_replay.proofs.Onward.{along_ends, along_first}
 use Rattle.network_replay.proofs.Taking.{lines_are_read}
 use Rattle.drill_script.specs.Places.{drill_lines}
 use Rattle.drill_script.specs.Giving.{Gives}
-use Rattle.report_lines.specs.declared.report.ReportLines.{ReportLines}
-use Rattle.report_lines.specs.Report.{report_tale}
-use Rattle.told_scripts.proofs.Reports.{end_is_last, nothing_told}
+use Rattle.tell_report.specs.declared.report.ReportLines.{ReportLines}
+use Rattle.tell_report.specs.Report.{report_tale}
+use Rattle.law_told_scripts.proofs.Reports.{end_is_last, nothing_told}
 use Rattle.drill_replay.specs.Drill.{meter_by}
 
 drill_is : (drill : ℕ) → script_from line_says nothing_read (drill_lines drill) ≡ drill_script drill

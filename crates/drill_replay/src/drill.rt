@@ -16,7 +16,7 @@ use lab_io::{ReportWriter, Sink};
 use network_replay::{PolicyChoice, Replay};
 use network_run::{Stop, Told};
 use report_end::settle;
-use report_lines::ReportLines;
+use tell_report::ReportLines;
 use script_model::Refused;
 use std::alloc::Global;
 use world::{Meter, NodeController};

@@ -13,7 +13,7 @@ use lab_text::Text;
 use net_types::OutOfMemory;
 use network_replay::{PolicyChoice, Replay};
 use network_run::{Stop, Told};
-use report_lines::ReportLines;
+use tell_report::ReportLines;
 use script_model::Refused;
 use std::alloc::{AllocError, Global};
 use world::{Meter, NodeController};

@@ -10,7 +10,7 @@ use flow_classifier::Policy;
 use ipv4_packet::FlowId;
 use lab_io::{Sink, Source, StdSink, StdSource};
 use network_replay::PolicyChoice;
-use router_port::RouterPort;
+use port_router::RouterPort;
 use script_replay::{ReplayFault, replay};
 use std::alloc::Global;
 use std::process::ExitCode;

@@ -12,7 +12,7 @@ use Rattle.ifmp_wire.specs.declared.reader.Fault.{Fault}
 use Rattle.ifmp_wire.specs.Message.{Tells}
 use Rattle.ifmp_wire.specs.Tests.{first_fault}
 use Rattle.ifmp_wire.specs.Fields.{decoded, decoded_by}
-use Rattle.wire_laws.proofs.Ifmp.{read_back}
+use Rattle.law_wire.proofs.Ifmp.{read_back}
 
 -- *Messages*
 pub message_told : (octets : List ℕ) (message : Message) → Tells octets message → decoded octets ≡ Ok message

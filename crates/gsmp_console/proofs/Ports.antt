@@ -1,7 +1,7 @@
 -- A control link without ports
 
 use Rattle.std.proofs.Common.{◌≡◌, List, [], ◌∷◌, map, refl}
-use Rattle.control_link.specs.Cells.{PortCells}
+use Rattle.controller_link.specs.Cells.{PortCells}
 
 pub no_ports : (ports : List PortCells) → map (λ port. port.range) ports ≡ [] → ports ≡ []
 no_ports [] none = refl

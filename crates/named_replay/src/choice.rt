@@ -6,7 +6,7 @@ use controller::Controller;
 use flow_classifier::{NamedPolicy, XyPolicy};
 use flow_policy::{RulePolicy, RuleSet};
 use network_replay::PolicyChoice;
-use router_port::RouterPort;
+use port_router::RouterPort;
 use topology::Topology;
 
 /// The controller of an IP switch whose ports all go by a flow classifier (a policy) that a script

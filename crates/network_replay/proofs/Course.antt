@@ -22,10 +22,10 @@ use Rattle.script_model.specs.Sayable.{IsSayable}
 use Rattle.script_model.specs.Script.{events_of, opened_of}
 use Rattle.script_model.specs.State.{ScriptState, opening_tables, table_in, tables_after, ticks_of_event}
 use Rattle.world.specs.declared.world.World.{World as Network}
-use Rattle.world_pace.specs.Running.{AreNumbered}
+use Rattle.law_world_pace.specs.Running.{AreNumbered}
 use Rattle.world.specs.Network.{no_notes, sites_of, world_of}
 use Rattle.world.specs.Running.{Runs}
-use Rattle.world_pace.proofs.Running.{are_numbered}
+use Rattle.law_world_pace.proofs.Running.{are_numbered}
 use Rattle.network_run.specs.declared.stop.Stop.{Stop}
 use Rattle.network_run.specs.Telling.{is_failed}
 use Rattle.network_run.proofs.Repeated.{events_after, world_then}

@@ -31,7 +31,7 @@ use Rattle.script_model.specs.declared.line.Line.TheVariants.{Event as EventCome
 use Rattle.script_model.specs.Sayable.{IsQueue, IsSayable}
 use Rattle.script_model.specs.State.{ScriptState, table_in}
 use Rattle.script_model.specs.Texts.{name_of}
-use Rattle.world_pace.specs.Running.{AreNumbered}
+use Rattle.law_world_pace.specs.Running.{AreNumbered}
 use Rattle.network_replay.proofs.Tables.{site_table, tables_of}
 
 -- *A name* is a node's

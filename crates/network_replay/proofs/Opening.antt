@@ -17,7 +17,7 @@ use Rattle.world_model.specs.Run.{round, switch_tick_of, tick_of, tick_of_all}
 use Rattle.world_model.specs.Topology as topologies
 use Rattle.world_model.specs.Topology.{Topology, Node, new_node, policy_of, ranges_of}
 use Rattle.world_model.specs.World.{World, Site, empty_world, opened, opened_site, opens_each, with_opened}
-use Rattle.world_pace.specs.Running.{AreRunning, IsRunning, IsRunningSite, numbered}
+use Rattle.law_world_pace.specs.Running.{AreRunning, IsRunning, IsRunningSite, numbered}
 use Rattle.script_model.specs.declared.line.Line.TheVariants.{TickAll, Run}
 use Rattle.script_model.specs.Script.{events_of, opened_of}
 use Rattle.world.proofs.Opened.{few_ranges, ports_of_ranges, runs_more, site_runs}

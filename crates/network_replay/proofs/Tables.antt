@@ -38,9 +38,9 @@ use Rattle.world_model.specs.Step.{acts, arrives, arrives_at, carries_head, forg
 use Rattle.world_model.specs.Topology.{Topology, Node, peer_of}
 use Rattle.world_model.specs.World.{World, Site, at_controller, at_switch, controller_acts, empty_world, opened, opened_site, opens_each, site_at, site_key, switch_acts, with_opened}
 use Rattle.world_model.proofs.Lists.{at_key, by_eq}
-use Rattle.actor_pace.proofs.Paces.{Follows, Paces, sends_paces}
-use Rattle.actor_pace.proofs.Controllers.{cell_follows, change_changes, injected_paces, restarts_paces, ticks_paces}
-use Rattle.world_pace.specs.Running.{AreNumbered}
+use Rattle.law_actor_pace.proofs.Paces.{Follows, Paces, sends_paces}
+use Rattle.law_actor_pace.proofs.Controllers.{cell_follows, change_changes, injected_paces, restarts_paces, ticks_paces}
+use Rattle.law_world_pace.specs.Running.{AreNumbered}
 
 abbrev pub site_table : Site → List Route
 site_table site = table_to_be site.controller

@@ -4,7 +4,7 @@ use Rattle.std.proofs.Common.{◌≡◌, ℕ, true, List, ◌++◌, refl, sym, a
 use Rattle.net_types.specs.declared.channel.Channel.{Channel}
 use Rattle.keyed_lists.specs.Keyed.{at}
 use Rattle.port_model.specs.Desk.{Desk}
-use Rattle.label_book.specs.Book.{acknowledged, is_recalled}
+use Rattle.port_labels.specs.Book.{acknowledged, is_recalled}
 use Rattle.grant_table.specs.Table.{kind_of, view_of}
 use Rattle.grant_table.specs.declared.table.GrantView.{GrantView}
 use Rattle.grant_table.specs.declared.table.GrantState.TheVariants as states

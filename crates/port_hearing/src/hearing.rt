@@ -3,7 +3,7 @@
 ghost use Rattle.std.specs.Prelude.{◌≡◌, ◌<◌, ℕ, option_map, List, Some, IsTrue, IfSome};
 ghost use Rattle.net_types.specs.Label.{is_label_number, label_number_of};
 ghost use Rattle.ifmp_wire.specs.Message.{InRange};
-ghost use Rattle.label_book.specs.Read.{label_of};
+ghost use Rattle.port_labels.specs.Read.{label_of};
 ghost use Rattle.port_model.specs.declared.action.Action.{Action as ActionValue};
 ghost use Rattle.port_model.specs.Hearing.{hears, label_by};
 ghost use Rattle.port_model.specs.Port.{label_at, labels_of};
@@ -18,7 +18,7 @@ use crate::redirection::redirected;
 use branch_desk::Desk;
 use flow_classifier::Policy;
 use ifmp_wire::Message;
-use label_book::HeldLabel;
+use port_labels::HeldLabel;
 use net_types::{Addr, Channel, Instance, label_number};
 use port_actions::Actions;
 use port_saying::Stop;

@@ -3,10 +3,10 @@
 use Rattle.std.proofs.Common.{◌≡◌, ℕ, Bool, not, List, [], ◌∷◌, filter, refl, sym, ap, ◌∙◌, Option, None, Some, option_map, IfSome}
 use Rattle.std.specs.Option.{option_map_or}
 use Rattle.keyed_lists.specs.Keyed.{at, put}
-use Rattle.label_book.specs.Book.{Book, held, with_label}
-use Rattle.label_book.specs.Book as book
-use Rattle.label_book.specs.Read.{label_of}
-use Rattle.label_book.specs.declared.view.HeldLabel.{HeldLabel}
+use Rattle.port_labels.specs.Book.{Book, held, with_label}
+use Rattle.port_labels.specs.Book as book
+use Rattle.port_labels.specs.Read.{label_of}
+use Rattle.port_labels.specs.declared.view.HeldLabel.{HeldLabel}
 use Rattle.label_pool.specs.Pool.{Pool, labels_between}
 use Rattle.port_model.specs.Labels.{Label, is_spare, label_number}
 use Rattle.port_session.specs.Session.{AreTied, changed}

@@ -7,7 +7,7 @@ use Rattle.branch_desk.proofs.Numbers.{not_true}
 use Rattle.net_types.specs.declared.number.Instance.{Instance}
 use Rattle.net_types.specs.Label.{is_label_number}
 use Rattle.keyed_lists.specs.Keyed.{at, entered, key_le, without}
-use Rattle.label_book.specs.Book.{Book, with_new_label, without_label}
+use Rattle.port_labels.specs.Book.{Book, with_new_label, without_label}
 use Rattle.label_pool.specs.Pool.{Pool, given_back, is_label_between, is_offered_by, labels_between, lowest, opened, taken}
 use Rattle.port_model.specs.Labels.{Label, LabelState, is_spare, label_number}
 use Rattle.port_session.specs.Session.{AreTied}

@@ -5,7 +5,7 @@ use Rattle.std.specs.Option.{option_map_or}
 use Rattle.net_types.specs.declared.number.Instance.{Instance}
 use Rattle.keyed_lists.specs.Keyed.{at, put}
 use Rattle.label_pool.specs.Pool.{Pool, labels_between}
-use Rattle.label_book.specs.Book.{Book}
+use Rattle.port_labels.specs.Book.{Book}
 use Rattle.port_model.specs.Labels.{Label, is_spare, label_number}
 use Rattle.port_model.specs.Port.{Session}
 use Rattle.port_model.specs.Saying.{last_number, spent_number}

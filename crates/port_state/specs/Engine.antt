@@ -7,7 +7,7 @@ use Rattle.net_types.specs.declared.node.NodeId.{NodeId}
 use Rattle.net_types.specs.declared.node.PortNo.{PortNo}
 use Rattle.ipv4_packet.specs.declared.flow.FlowId.{FlowId}
 use Rattle.label_pool.specs.Pool.{Pool}
-use Rattle.label_book.specs.Book.{Book}
+use Rattle.port_labels.specs.Book.{Book}
 use Rattle.grant_table.specs.Table.{Table}
 use Rattle.port_model.specs.declared.timers.Timers.{Timers}
 use Rattle.port_model.specs.Setup.{Policy, Setup, label_numbers}

@@ -9,7 +9,7 @@ use Rattle.adjacency_table.specs.declared.message.Answer.TheVariants.{Open}
 use Rattle.adjacency_table.specs.Side.{Side}
 use Rattle.ipv4_packet.specs.declared.flow.FlowId.{FlowId}
 use Rattle.keyed_lists.specs.Keyed.{put, without, entered, key_le}
-use Rattle.label_book.specs.Book.{wiring}
+use Rattle.port_labels.specs.Book.{wiring}
 use Rattle.port_session.specs.Session.{next_number}
 use Rattle.port_model.specs.Labels.{Label, label_number}
 use Rattle.port_model.specs.Grants.{Acceptance, New, Refreshed, Grant, Idle, grant_label}

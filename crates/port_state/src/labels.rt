@@ -4,8 +4,8 @@ ghost use Rattle.std.specs.Prelude.{◌≡◌, ◌≢◌, ℕ, false, not, optio
 ghost use Rattle.std.specs.Option.{option_map_or};
 ghost use Rattle.net_types.specs.Label.{is_label_number};
 ghost use Rattle.keyed_lists.specs.Keyed.{without};
-ghost use Rattle.label_book.specs.Book.{acknowledged, is_passed, is_recalled, reclaimed};
-ghost use Rattle.label_book.specs.Read.{label_of, state_from};
+ghost use Rattle.port_labels.specs.Book.{acknowledged, is_passed, is_recalled, reclaimed};
+ghost use Rattle.port_labels.specs.Read.{label_of, state_from};
 ghost use Rattle.label_pool.specs.Label.{unwires, wires};
 ghost use Rattle.port_model.specs.Counts.{counted_once, packets_in};
 ghost use Rattle.port_model.specs.Labels as labels;
@@ -22,7 +22,7 @@ use crate::state::PortState;
 use branch_desk::BranchDone;
 use flow_classifier::Policy;
 use ipv4_packet::FlowId;
-use label_book::{HeldLabel, HeldState};
+use port_labels::{HeldLabel, HeldState};
 use net_types::{Channel, End, OutOfMemory, label_channel};
 use std::mem;
 

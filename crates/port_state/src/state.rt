@@ -11,7 +11,7 @@ use flow_classifier::Policy;
 use grant_table::GrantTable;
 use ifmp_adjacency::{Adjacency, State};
 use ipv4_packet::FlowId;
-use label_book::LabelBook;
+use port_labels::LabelBook;
 use label_pool::LabelPool;
 use net_types::{
     Addr, CONTROL_PORT, Channel, End, Instance, NodeId, OutOfMemory, PortNo, label_channel,

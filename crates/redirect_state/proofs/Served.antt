@@ -7,8 +7,8 @@ use Rattle.std.specs.Option.{option_map_or}
 use Rattle.ipv4_packet.specs.declared.flow.FlowId.{FlowId}
 use Rattle.keyed_lists.specs.Keyed.{at}
 use Rattle.port_model.specs.Desk.{Desk}
-use Rattle.label_book.specs.Book.{Book, IsBook, Rises}
-use Rattle.label_book.proofs.Numbered.{at_here, at_there}
+use Rattle.port_labels.specs.Book.{Book, IsBook, Rises}
+use Rattle.port_labels.proofs.Numbered.{at_here, at_there}
 use Rattle.port_model.specs.declared.action.Action.{Action}
 use Rattle.port_model.specs.Setup.{Setup}
 use Rattle.port_model.specs.Labels.{Label, label_for, label_number, lowest_spare}

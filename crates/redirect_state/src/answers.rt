@@ -3,7 +3,7 @@
 ghost use Rattle.std.specs.Prelude.{◌≡◌, ◌==◌, ℕ, List, true, false, Some, IsTrue, OnOk};
 ghost use Rattle.net_types.specs.declared.channel.End.{End as EndValue};
 ghost use Rattle.net_types.specs.Label.{is_label_channel, is_label_number, label_number_of};
-ghost use Rattle.label_book.specs.Read.{label_of};
+ghost use Rattle.port_labels.specs.Read.{label_of};
 ghost use Rattle.label_pool.specs.Label.{wires};
 ghost use Rattle.gsmp_wire.specs.declared.request.Request.TheVariants.{AddBranch, DeleteTree};
 ghost use Rattle.port_model.specs.declared.action.Action.{Action as ActionValue};
@@ -21,7 +21,7 @@ use branch_desk::BranchDone;
 use flow_classifier::Policy;
 use grant_table::GrantState;
 use gsmp_wire::Request;
-use label_book::{HeldLabel, HeldState};
+use port_labels::{HeldLabel, HeldState};
 use link_model::Record;
 use net_types::{Channel, End, OutOfMemory, PortNo, label_number};
 use port_actions::Actions;

@@ -32,7 +32,7 @@ use grant_table::GrantTable;
 use ifmp_adjacency::State;
 use ifmp_wire::Message;
 use ipv4_packet::FlowId;
-use label_book::LabelBook;
+use port_labels::LabelBook;
 use label_pool::LabelPool;
 use net_types::{Addr, End, Instance, NodeId, OutOfMemory, PortNo};
 use port_actions::Actions;

@@ -4,7 +4,7 @@
 ghost use Rattle.std.specs.Prelude.{◌≡◌, ◌<◌, ℕ, false, List, length, slice_get, map as map_list, fold, Some, IsTrue, IfOk, OnOk};
 ghost use Rattle.net_types.specs.Label.{is_label_number};
 ghost use Rattle.port_model.specs.Desk.{Desk as DeskValue};
-ghost use Rattle.label_book.specs.Read.{label_of};
+ghost use Rattle.port_labels.specs.Read.{label_of};
 ghost use Rattle.port_actions.specs.Outlook.{Foresees, Outlook as OutlookValue};
 ghost use Rattle.port_model.specs.declared.action.Action.{Action as ActionValue};
 ghost use Rattle.port_model.specs.Labels as labels;
@@ -21,7 +21,7 @@ ghost use Rattle.redirect_state.specs.Rules.{IsOver};
 use branch_desk::Desk;
 use flow_classifier::Policy;
 use grant_table::GrantState;
-use label_book::{HeldLabel, HeldState};
+use port_labels::{HeldLabel, HeldState};
 use net_types::OutOfMemory;
 use port_actions::{Actions, Outlook};
 use port_hearing::{recall, reclaim_again, take_back, tick_side};

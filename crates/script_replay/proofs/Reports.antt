@@ -9,9 +9,9 @@ use Rattle.script_model.specs.Script.{script_of}
 use Rattle.telling_model.specs.Placed.{placed_of}
 use Rattle.world.specs.declared.counts.Meter.{Meter}
 use Rattle.telling_model.proofs.Scripts.{events_of_script}
-use Rattle.report_lines.specs.Report.{report_tale}
-use Rattle.told_scripts.proofs.Eventless.{none_in_octets}
-use Rattle.told_scripts.proofs.Reports.{account_is_report, body_is_report}
+use Rattle.tell_report.specs.Report.{report_tale}
+use Rattle.law_told_scripts.proofs.Eventless.{none_in_octets}
+use Rattle.law_told_scripts.proofs.Reports.{account_is_report, body_is_report}
 use Rattle.script_replay.specs.declared.fault.ReplayFault.{ReplayFault}
 use Rattle.script_replay.specs.declared.fault.ReplayFault.TheVariants.{Read, Write, OutOfMemory}
 use Rattle.script_replay.specs.Report.{IsCutOff, IsDone, IsFront, IsLeft, account_by, at_last, body_by, in_lines, report_by, telling_by}

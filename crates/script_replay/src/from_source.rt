@@ -17,7 +17,7 @@ use crate::script_run::ScriptRun;
 use lab_io::{Failed, Sink, Source};
 use network_replay::PolicyChoice;
 use network_run::Teller;
-use report_lines::ReportLines;
+use tell_report::ReportLines;
 use script_model::Refused;
 use std::alloc::Global;
 use world::{Meter, NodeController};

@@ -1,7 +1,7 @@
 //! Labels that are held.
 
 ghost use Rattle.std.specs.Prelude.{◌≡◌, ◌++◌, OnOk, codes, decimal};
-ghost use Rattle.label_book.specs.Read.{label_of, state_from};
+ghost use Rattle.port_labels.specs.Read.{label_of, state_from};
 ghost use Rattle.script_model.specs.Texts.{label_text};
 ghost use Rattle.show_text.specs.Port.{label_line, label_state_text};
 ghost use Rattle.show_text.specs.Words.{at_text, flow_text, joined_text};
@@ -9,7 +9,7 @@ ghost use Rattle.show_text.specs.Words.{at_text, flow_text, joined_text};
 use crate::words::{write_at, write_flow, write_joined, write_number};
 use ipv4_packet::FlowId;
 use lab_text::Text;
-use label_book::{HeldLabel, HeldState};
+use port_labels::{HeldLabel, HeldState};
 use net_types::{End, NodeId, OutOfMemory, PortNo};
 use topology::Topology;
 use value_text::write_label as write_label_number;

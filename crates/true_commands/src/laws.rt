@@ -4,12 +4,12 @@
 ghost use Rattle.true_commands.specs.Law.{TasksAreTrue};
 ghost use Rattle.true_commands.specs.Told.{OutputsAreTrue};
 
-use console_laws::every_run_is_right;
+use law_console::every_run_is_right;
 use console_run::sessions_are_runs;
-use script_runs::scripts_are_runs;
-use trace_laws::yes_is_of_clean_traces;
-use true_lines::lines_are_true;
-use true_runs::runs_are_true;
+use law_script_runs::scripts_are_runs;
+use law_trace::yes_is_of_clean_traces;
+use law_true_lines::lines_are_true;
+use law_true_runs::runs_are_true;
 
 /// What is true of every run is true of that of a script, of a document and of a drill; and where the
 /// audit of an input says yes, the trace that it is is clean. What is true of every run of a console is true

@@ -10,8 +10,8 @@ use Rattle.world_model.specs.Topology.{Topology}
 use Rattle.world_model.specs.World.{Site, one_tallied}
 use Rattle.world.specs.declared.world.World.{World as Network}
 use Rattle.world.specs.Empty.{EmptyCarriesCount}
-use Rattle.world_pace.specs.Running.{AreRunning}
-use Rattle.world_pace.proofs.Running.{all_later}
+use Rattle.law_world_pace.specs.Running.{AreRunning}
+use Rattle.law_world_pace.proofs.Running.{all_later}
 use Rattle.world.specs.Network.{sites_of}
 use Rattle.world.specs.Running.{Runs}
 

@@ -28,8 +28,8 @@ use Rattle.world_model.specs.Topology.{Topology, Node, PolicyLine, Xy, Never, de
 use Rattle.world_model.specs.World.{Site, numbers_after, opened_site, redirects_at}
 use Rattle.world_model.proofs.Opening.{site_ports}
 use Rattle.world.specs.Nodes.{AreRoutesOf, AreTimes, IsLabelRange, NamesOneOf}
-use Rattle.world_pace.specs.Running.{AreRunning, IsRunningSite, numbered}
-use Rattle.world_pace.proofs.Ports.{is_port_of}
+use Rattle.law_world_pace.specs.Running.{AreRunning, IsRunningSite, numbered}
+use Rattle.law_world_pace.proofs.Ports.{is_port_of}
 
 -- *The ranges of a node* are of its ports
 found_range : (port : PortNo) (ranges : List PortRange) → (option_map_or (λ range. range) (find (λ range. range.port.0 == port.0) ranges) (default_range port)).port ≡ port

@@ -20,14 +20,14 @@ use Rattle.world.specs.declared.site.Site.{Site as Held}
 use Rattle.world.specs.declared.world.World.{World as Network}
 use Rattle.world.specs.Network.{no_notes, peers_in, site_of, sites_of, world_of}
 use Rattle.world.specs.Opening.{HasOpened, IsNew, IsNext, IsOpening, places_of}
-use Rattle.world_pace.specs.Running.{ArePeersOf, AreRunning, HavePeers, numbered}
+use Rattle.law_world_pace.specs.Running.{ArePeersOf, AreRunning, HavePeers, numbered}
 use Rattle.world.specs.Running.{Runs}
 use Rattle.world.specs.NodeSet.{IsInserted, is_in}
 use Rattle.world.specs.Waiting.{HaveStarts, node_place}
 use Rattle.world_model.specs.Places.{place_node}
 use Rattle.world_model.proofs.Lists.{by_eq}
 use Rattle.world.proofs.Starts.{have_more, have_same}
-use Rattle.world_pace.proofs.Running.{places_are, places_at, places_from}
+use Rattle.law_world_pace.proofs.Running.{places_are, places_at, places_from}
 use Rattle.world.proofs.Opened.{HasNode, few_ranges, has_node, no_redirects_at, ports_of_ranges, read_of, runs_more, site_runs}
 
 map_push : {A B : Type 0} (f : A → B) (xs : List A) (y : A) → map f (xs ++ y ∷ []) ≡ map f xs ++ f y ∷ []
@@ -188,7 +188,7 @@ module _ {C : Type 0} (seen : C → Controller) (policy : Policy) (t : Topology)
       let ps : List Place = places_of node (ranges_of t node h.node) in
       let sites_size : length (sites_of seen old.sites.items) ≡ place = map_length (site_of seen) old.sites.items ∙ a.size in
       let running : AreRunning t 0 1 (sites_of seen new.sites.items) = subst (AreRunning t 0 1) (sym next.sites)
-      (runs_more t 1 (sites_of seen old.sites.items) site a.running (subst (λ n. Rattle.world_pace.specs.Running.IsRunningSite t 0 n site) (omega (arith, sites_size)) (site_runs policy t node h.node old.numbers))) in
+      (runs_more t 1 (sites_of seen old.sites.items) site a.running (subst (λ n. Rattle.law_world_pace.specs.Running.IsRunningSite t 0 n site) (omega (arith, sites_size)) (site_runs policy t node h.node old.numbers))) in
       let one : place + 1 ≡ suc place = omega arith in
       record {
         opening = h.opening;

@@ -8,7 +8,7 @@ use Rattle.world_model.specs.Topology.{Topology, peer_of}
 use Rattle.world.specs.declared.site.Site.{Site as Node}
 use Rattle.world.specs.declared.world.World.{World as Network}
 use Rattle.world.specs.Network.{IsNodeIn, peers_in}
-use Rattle.world_pace.specs.Running.{ArePeersOf, HavePeers}
+use Rattle.law_world_pace.specs.Running.{ArePeersOf, HavePeers}
 use Rattle.world.specs.Running.{Runs}
 
 kept_at : {C : Type 0} (t : Topology) (number k : ℕ) (items : List (Node C)) (d : Node C) → HavePeers t number (map peers_in items) → k < length items

@@ -13,7 +13,7 @@ use Rattle.world_model.specs.Places.{places_of}
 use Rattle.world_model.specs.Topology as topologies
 use Rattle.world_model.specs.Topology.{Topology, peer_of}
 use Rattle.world_model.specs.World.{Site}
-use Rattle.world_pace.specs.Running.{AreRunning, IsRunningSite, numbered}
+use Rattle.law_world_pace.specs.Running.{AreRunning, IsRunningSite, numbered}
 
 abbrev places_with : NodeId → List PortNo → List Place
 places_with node ports = Down node ∷ Up node ∷ map (λ port. Out node port) ports

@@ -11,12 +11,12 @@ use Rattle.world_model.specs.World.{World}
 use Rattle.world.specs.declared.world.World.{World as Network}
 use Rattle.world.specs.Coming.{HasCome}
 use Rattle.world.specs.Network.{site_of, sites_of, world_of}
-use Rattle.world_pace.specs.Running.{AreRunning, HavePeers}
+use Rattle.law_world_pace.specs.Running.{AreRunning, HavePeers}
 use Rattle.world.specs.Running.{Runs}
 use Rattle.world.proofs.Acting.{map_length, marked_same}
 use Rattle.world.proofs.Starts.{have_same}
-use Rattle.world_pace.proofs.Events.{Goes, acts_go}
-use Rattle.world_pace.proofs.Running.{places_are, places_from}
+use Rattle.law_world_pace.proofs.Events.{Goes, acts_go}
+use Rattle.law_world_pace.proofs.Running.{places_are, places_from}
 
 module _ {C : Type 0} (seen : C → Controller) (t : Topology) (old acted : Network C) (notes after : Journal) (event : Event) (r : Runs seen t old)
     (can : CanCome t (world_of seen old notes) event) (h : HasCome seen old acted after (acts t (world_of seen old notes) event)) where

@@ -15,13 +15,13 @@ use Rattle.world_model.specs.Switch.{control_port, has_port}
 use Rattle.world_model.specs.Controller.{Controller}
 use Rattle.world_model.specs.Conditions.{IsPlace, IsTopology, table_to_be}
 use Rattle.world_model.specs.Topology.{Topology}
-use Rattle.world_pace.specs.Running.{AreNumbered, HavePeers}
+use Rattle.law_world_pace.specs.Running.{AreNumbered, HavePeers}
 use Rattle.world_model.specs.Places.{queue_at, with_queue}
 use Rattle.link_model.specs.declared.record.Refusal.{Refusal}
 use Rattle.world_model.specs.Packets.{injected}
 use Rattle.world_model.specs.network_model.declared.link.LinkEnd.{LinkEnd}
 use Rattle.world_model.specs.World.{World, Site, at_controller, site_key, redirects_at, switched_at}
-use Rattle.actor_pace.specs.Pace.{changes_of}
+use Rattle.law_actor_pace.specs.Pace.{changes_of}
 use Rattle.world.specs.declared.site.Site.{Site as Node}
 use Rattle.world.specs.declared.world.World.{World as Network}
 use Rattle.world.specs.Network.{no_notes, peers_in, sites_of, world_of}

@@ -16,7 +16,7 @@ use Rattle.refusal_names.specs.Names.{packet_refusal}
 use Rattle.port_model.specs.declared.timers.Timers.{Timers}
 use Rattle.world_model.specs.controller_model.declared.range.PortRange.{PortRange}
 use Rattle.world_model.specs.Controller.{Acted, Controller, ports_of}
-pub use Rattle.actor_pace.specs.Pace.{changes_of}
+pub use Rattle.law_actor_pace.specs.Pace.{changes_of}
 pub use Rattle.world_model.specs.Conditions.{table_to_be}
 use Rattle.world.specs.declared.node.InjectFault.{InjectFault}
 use Rattle.world.specs.declared.node.InjectFault.TheVariants.{Packet, ControlProtocol, OutOfMemory}

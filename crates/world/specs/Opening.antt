@@ -13,7 +13,7 @@ use Rattle.world_model.specs.World.{no_tally, numbers_after, opened_site}
 use Rattle.world.specs.declared.world.World.{World as Network}
 use Rattle.world.specs.Network.{peers_in, sites_of}
 use Rattle.world.specs.NodeSet.{IsInserted}
-use Rattle.world_pace.specs.Running.{HavePeers, numbered}
+use Rattle.law_world_pace.specs.Running.{HavePeers, numbered}
 
 -- no node, and nothing counted
 pub record IsNew {C : Type 0} (n : Network C) : Type 0 where

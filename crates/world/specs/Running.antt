@@ -6,7 +6,7 @@ use Rattle.world_model.specs.Controller.{Controller}
 use Rattle.world_model.specs.Places.{places}
 use Rattle.world_model.specs.Topology.{Topology}
 use Rattle.world_model.specs.World.{redirects_at, switched_at}
-use Rattle.world_pace.specs.Running.{HavePeers, IsRunning}
+use Rattle.law_world_pace.specs.Running.{HavePeers, IsRunning}
 use Rattle.world.specs.declared.world.World.{World as Network}
 use Rattle.world.specs.Network.{no_notes, peers_in, sites_of, world_of}
 use Rattle.world.specs.Waiting.{AreMarked, HaveStarts}

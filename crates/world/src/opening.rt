@@ -7,7 +7,7 @@ ghost use Rattle.world_model.specs.Topology.{node_at, ranges_of};
 ghost use Rattle.world_model.specs.World.{no_tally, numbers_after, opened, opened_site, with_opened};
 ghost use Rattle.world.specs.Network.{no_notes, site_of, world_of};
 ghost use Rattle.world.specs.Opening.{IsNew, IsOpening, HasOpened, places_of};
-ghost use Rattle.world_pace.specs.Running.{ArePeersOf};
+ghost use Rattle.law_world_pace.specs.Running.{ArePeersOf};
 ghost use Rattle.world.specs.Running.{Runs};
 
 use crate::node::NodeController;

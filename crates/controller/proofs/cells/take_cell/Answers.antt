@@ -1,17 +1,17 @@
 use Rattle.std.proofs.Common.{◌≡◌, true, map, take, ap, sym, subst, ◌∙◌}
 use Rattle.std.specs.Option.{option_map}
-use Rattle.control_link.specs.Cells.{is_channel}
-use Rattle.control_link.specs.declared.taker.Taker as control
+use Rattle.controller_link.specs.Cells.{is_channel}
+use Rattle.controller_link.specs.declared.taker.Taker as control
 use Rattle.world_model.specs.Controller.{Acted}
 use Rattle.world_model.specs.Cells.{frame_holds, taker_of}
-use Rattle.router.specs.Cells.{channel_of, receipt}
-use Rattle.router.specs.Node as node
-use Rattle.router.specs.Node.{Node, linked_range}
-use Rattle.joining_router.specs.Joining.{acted}
-use Rattle.joining_router.proofs.Kept.{ok_onward}
-use Rattle.controller_conditions.specs.Routes.{HasLinkRoutes}
-use Rattle.controller_conditions.proofs.Cells.{cells_can_come}
-use Rattle.joining_conditions.proofs.Frames.{frames_can_be_taken}
+use Rattle.controller_router.specs.Cells.{channel_of, receipt}
+use Rattle.controller_router.specs.Node as node
+use Rattle.controller_router.specs.Node.{Node, linked_range}
+use Rattle.controller_joining.specs.Joining.{acted}
+use Rattle.controller_joining.proofs.Kept.{ok_onward}
+use Rattle.law_controller_conditions.specs.Routes.{HasLinkRoutes}
+use Rattle.law_controller_conditions.proofs.Cells.{cells_can_come}
+use Rattle.law_joining_conditions.proofs.Frames.{frames_can_be_taken}
 use Rattle.controller.specs.Frames.{CanAct, IsActing}
 use Rattle.controller.proofs.Frames.{acts_after, can_act, frame_ended, nothing_ended, routes_after, taker_is}
 use Rattle.controller.proofs.cells.take_cell.Goals as goal

@@ -1,9 +1,9 @@
 use Rattle.std.proofs.Common.{map, ap, sym, subst, ◌∙◌}
 use Rattle.net_types.specs.Number.{GivenOut}
 use Rattle.world_model.specs.Opening.{setup_of}
-use Rattle.gsmp_client.specs.Client.{Client}
-use Rattle.router.specs.Node.{AreLinked}
-use Rattle.joining_router.specs.Joining.{Joining, controller_of}
+use Rattle.controller_gsmp.specs.Client.{Client}
+use Rattle.controller_router.specs.Node.{AreLinked}
+use Rattle.controller_joining.specs.Joining.{Joining, controller_of}
 use Rattle.controller.specs.Opening.{opened_ends}
 use Rattle.controller.proofs.Opened.{linked_opened, opened_is}
 use Rattle.controller.proofs.opening.open_router.Goals as goal

@@ -1,6 +1,6 @@
 use Rattle.std.proofs.Common.{arith, ap}
 use Rattle.net_types.specs.Number.{GivenOut}
-use Rattle.control_link.proofs.Blocks.{few_ports, link_port}
+use Rattle.controller_link.proofs.Blocks.{few_ports, link_port}
 use Rattle.world_model.specs.controller_model.declared.range.PortRange.{PortRange}
 use Rattle.controller.proofs.opening.push_engines.Goals as goal
 

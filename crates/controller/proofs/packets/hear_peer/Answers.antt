@@ -8,10 +8,10 @@ use Rattle.link_model.specs.declared.record.Record.TheVariants.{Bad}
 use Rattle.world_model.specs.Cells.{ifmp_holds}
 use Rattle.world_model.specs.Controller.{note}
 use Rattle.world_model.specs.Performing.{at_port}
-use Rattle.joining_router.specs.Conditions.{CanWorkOn}
-use Rattle.joining_router.specs.Joining.{acted}
-use Rattle.joining_router.proofs.Kept.{ok_onward}
-use Rattle.controller_conditions.specs.Calls.{hearing}
+use Rattle.controller_joining.specs.Conditions.{CanWorkOn}
+use Rattle.controller_joining.specs.Joining.{acted}
+use Rattle.controller_joining.proofs.Kept.{ok_onward}
+use Rattle.law_controller_conditions.specs.Calls.{hearing}
 use Rattle.controller.proofs.Decoded.{decoded_refused, decoded_told}
 use Rattle.controller.proofs.packets.hear_peer.Goals as goal
 

@@ -5,8 +5,8 @@ use Rattle.link_model.specs.declared.record.Layer.TheVariants.{Encaps}
 use Rattle.link_model.specs.declared.record.Record.TheVariants.{Bad}
 use Rattle.world_model.specs.Cells.{default_holds}
 use Rattle.world_model.specs.Controller.{note}
-use Rattle.joining_router.specs.Joining.{acted}
-use Rattle.joining_router.proofs.Kept.{ok_onward}
+use Rattle.controller_joining.specs.Joining.{acted}
+use Rattle.controller_joining.proofs.Kept.{ok_onward}
 use Rattle.controller.proofs.Unwrapped.{default_found, default_refused}
 use Rattle.controller.proofs.packets.take_default.Goals as goal
 

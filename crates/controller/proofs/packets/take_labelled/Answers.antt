@@ -10,10 +10,10 @@ use Rattle.link_model.specs.declared.record.Record.TheVariants.{Bad}
 use Rattle.port_state.specs.Engine.{flow_at}
 use Rattle.world_model.specs.Cells.{label_holds}
 use Rattle.world_model.specs.Controller.{Linked, linked_at, note}
-use Rattle.router.specs.Node as node
-use Rattle.router.specs.Node.{Node}
-use Rattle.joining_router.specs.Joining.{acted}
-use Rattle.joining_router.proofs.Kept.{ok_onward}
+use Rattle.controller_router.specs.Node as node
+use Rattle.controller_router.specs.Node.{Node}
+use Rattle.controller_joining.specs.Joining.{acted}
+use Rattle.controller_joining.proofs.Kept.{ok_onward}
 use Rattle.controller.proofs.Frames.{labelled_acts}
 use Rattle.controller.proofs.Unwrapped.{labelled_found, labelled_refused}
 use Rattle.controller.proofs.packets.take_labelled.Goals as goal

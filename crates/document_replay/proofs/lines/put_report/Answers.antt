@@ -6,7 +6,7 @@ use Rattle.network_run.specs.declared.stop.Stop.TheVariants.{OutOfMemory as NoMe
 use Rattle.network_run.specs.Telling.{Puts}
 use Rattle.network_run.proofs.Telling.{none_of}
 use Rattle.network_replay.specs.Along.{last_told}
-use Rattle.report_lines.specs.Report.{report_tale}
+use Rattle.tell_report.specs.Report.{report_tale}
 use Rattle.document_replay.specs.Lines.{placed_of_lines, report_by, script_behind_rules, script_of_lines}
 use Rattle.document_replay.proofs.Takings.{report_put, report_cut, last_cut, whole_behind, err_is}
 use Rattle.document_replay.proofs.lines.put_report.Goals as goal

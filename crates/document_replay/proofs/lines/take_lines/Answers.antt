@@ -5,7 +5,7 @@ use Rattle.script_model.specs.Reading.{string_says}
 use Rattle.network_run.specs.declared.stop.Stop.{Stop}
 use Rattle.network_run.proofs.Telling.{stays, stays_then}
 use Rattle.network_replay.specs.Along.{GoesOn}
-use Rattle.report_lines.specs.Report.{report_tale}
+use Rattle.tell_report.specs.Report.{report_tale}
 use Rattle.document_replay.specs.Lines.{Comes, placed_of_lines, script_of_lines}
 use Rattle.document_replay.proofs.Takings.{AlongTo, begins, ends, ends_early, ends_refused, ends_without_room, err_is, goes_on, known, past_last}
 use Rattle.document_replay.proofs.lines.take_lines.Goals as goal

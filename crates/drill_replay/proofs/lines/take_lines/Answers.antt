@@ -2,7 +2,7 @@ use Rattle.std.proofs.Common.{◌≡◌, true, false, List, ℕ, Option, None, O
 use Rattle.script_model.specs.declared.refusal.Refused.{Refused}
 use Rattle.script_model.specs.Reading.{line_says}
 use Rattle.network_replay.specs.Along.{GoesOn}
-use Rattle.report_lines.specs.Report.{report_tale}
+use Rattle.tell_report.specs.Report.{report_tale}
 use Rattle.drill_replay.proofs.Takings.{IsTaking, begins, ends, ends_refused, first_given, goes_on, known, none_left}
 use Rattle.drill_replay.proofs.lines.take_lines.Goals as goal
 

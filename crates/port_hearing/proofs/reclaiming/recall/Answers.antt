@@ -1,7 +1,7 @@
 use Rattle.std.proofs.Common.{◌∙◌, false, List, subst, sym}
 use Rattle.port_actions.specs.Outlook.{Foresees}
 use Rattle.port_model.specs.declared.action.Action.{Action}
-use Rattle.label_book.specs.Read.{label_of}
+use Rattle.port_labels.specs.Read.{label_of}
 use Rattle.port_model.specs.Labels.{Recalled}
 use Rattle.port_session.specs.Session.{reclaim_number}
 use Rattle.port_hearing.proofs.Reclaims.{reclaimed_numbers}

@@ -1,6 +1,6 @@
 use Rattle.std.proofs.Common.{◌∙◌}
-use Rattle.label_book.specs.Book.{reclaimed}
-use Rattle.label_book.specs.Read.{label_of}
+use Rattle.port_labels.specs.Book.{reclaimed}
+use Rattle.port_labels.specs.Read.{label_of}
 use Rattle.port_session.specs.Session.{reclaim_number}
 use Rattle.port_hearing.proofs.Reclaims.{reclaimed_numbers}
 use Rattle.port_hearing.proofs.reclaiming.reclaim_again.Goals as goal

@@ -1,5 +1,5 @@
 use Rattle.std.proofs.Common.{sym}
-use Rattle.label_book.specs.Read.{label_of}
+use Rattle.port_labels.specs.Read.{label_of}
 use Rattle.port_model.specs.Port.{label_at}
 use Rattle.port_saying.proofs.Sessions.{quit_numbers}
 use Rattle.port_saying.proofs.quitting.quit.Goals as goal

@@ -1,6 +1,6 @@
 use Rattle.std.proofs.Common.{◌≡◌, ◌∙◌, sym, subst, refl, arith}
 use Rattle.std.proofs.lemmas.Bool.Decides.{nat_tests}
-use Rattle.label_book.specs.Read.{label_of}
+use Rattle.port_labels.specs.Read.{label_of}
 use Rattle.port_model.specs.Port.{Work, label_at}
 use Rattle.port_model.specs.Saying.{redirect, says}
 use Rattle.port_state.specs.Engine.{Fixed, setup_of}

@@ -1,5 +1,5 @@
 use Rattle.std.proofs.Common.{◌∙◌, sym, ap, subst}
-use Rattle.label_book.specs.Read.{label_of, state_from}
+use Rattle.port_labels.specs.Read.{label_of, state_from}
 use Rattle.port_model.specs.Labels.{Offered, Wired}
 use Rattle.port_model.specs.Port.{Work}
 use Rattle.port_state.specs.Engine.{setup_of}

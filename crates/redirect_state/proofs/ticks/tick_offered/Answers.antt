@@ -1,5 +1,5 @@
 use Rattle.std.proofs.Common.{◌≡◌, ◌∙◌, sym, ap, subst, refl}
-use Rattle.label_book.specs.Read.{label_of}
+use Rattle.port_labels.specs.Read.{label_of}
 use Rattle.port_model.specs.Port.{Port, Work, label_at}
 use Rattle.port_model.specs.Reclaiming.{recalls}
 use Rattle.port_model.specs.Ticks.{one_older, refreshes}

@@ -3,17 +3,17 @@
 use Rattle.std.proofs.Common.{◌≡◌, ℕ, List, ◌++◌, Some, refl}
 use Rattle.line_by_line.specs.declared.task.Ending.TheVariants.{Done}
 use Rattle.trace_model.specs.Audit.{Outcome, Yes, Breaks, Refuses, Unended, audit_of}
-use Rattle.trace_laws.specs.Meaning.{trace_of, AtEach, IsClean}
+use Rattle.law_trace.specs.Meaning.{trace_of, AtEach, IsClean}
 use Rattle.audit_run.specs.Audit.{ending_of}
 use Rattle.world_model.specs.Topology.{policy_of}
 use Rattle.script_model.specs.Script.{Script, script_of}
 use Rattle.script_model.specs.Documents.{document_script, document_policy}
 use Rattle.script_model.specs.Drill.{drill_script}
-use Rattle.script_runs.specs.Runs.{IsScriptRun}
+use Rattle.law_script_runs.specs.Runs.{IsScriptRun}
 use Rattle.commands.specs.declared.task.Task.{Task}
 use Rattle.commands.specs.declared.task.Task.TheVariants.{Replay, View, Document, Drill, Whole, Lined}
 use Rattle.commands.specs.declared.task.Lined.TheVariants.{Audit, Console}
-use Rattle.true_runs.specs.Law.{RunsAreTrue}
+use Rattle.law_true_runs.specs.Law.{RunsAreTrue}
 use Rattle.console_model.specs.declared.event.ConsoleEvent.{ConsoleEvent}
 use Rattle.console_model.specs.Lab.{opened}
 use Rattle.console_model.specs.Law.{HasNoChance, EveryRunIsRight}

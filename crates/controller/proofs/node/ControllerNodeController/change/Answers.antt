@@ -1,8 +1,8 @@
 use Rattle.std.proofs.Common.{◌≡◌, ◌<◌, ◌+◌, ◌^◌, None, sym, subst}
-use Rattle.controller_facts.specs.Inputs.{ChangeComes}
+use Rattle.law_controller_facts.specs.Inputs.{ChangeComes}
 use Rattle.ipv4_forward.specs.Change.{change_fault}
-use Rattle.joining_router.specs.Joining.{Joining, acted, controller_of}
-use Rattle.joining_conditions.proofs.Events.{changes_can_come}
+use Rattle.controller_joining.specs.Joining.{Joining, acted, controller_of}
+use Rattle.law_joining_conditions.proofs.Events.{changes_can_come}
 use Rattle.world.specs.Nodes.{NamesLinked, changes_of, table_to_be}
 use Rattle.controller.proofs.Opened.{change_links}
 use Rattle.controller.proofs.Rights.{draws, right_after, right_before, right_unless}

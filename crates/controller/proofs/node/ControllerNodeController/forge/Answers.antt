@@ -1,4 +1,4 @@
-use Rattle.controller_facts.specs.Inputs.{FrameIsForged}
+use Rattle.law_controller_facts.specs.Inputs.{FrameIsForged}
 use Rattle.net_types.specs.Number.{GivenOut}
 use Rattle.controller.proofs.Rights.{right_after, right_before, right_unless}
 use Rattle.controller.proofs.node.ControllerNodeController.forge.Goals as goal

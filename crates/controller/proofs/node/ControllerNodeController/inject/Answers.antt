@@ -2,10 +2,10 @@ use Rattle.std.proofs.Common.{◌≢◌, ℕ, ap, sym, subst, ◌∙◌}
 use Rattle.std.specs.Result.{result_err}
 use Rattle.net_types.specs.Number.{GivenOut}
 use Rattle.world_model.specs.Packets.{control_protocol}
-use Rattle.controller_facts.specs.Inputs.{PacketEnters}
-use Rattle.joining_router.specs.Joining.{acted, controller_of}
-use Rattle.joining_router.proofs.Kept.{ok_onward}
-use Rattle.controller_conditions.proofs.Leading.{routes_lead_to_links}
+use Rattle.law_controller_facts.specs.Inputs.{PacketEnters}
+use Rattle.controller_joining.specs.Joining.{acted, controller_of}
+use Rattle.controller_joining.proofs.Kept.{ok_onward}
+use Rattle.law_controller_conditions.proofs.Leading.{routes_lead_to_links}
 use Rattle.controller.proofs.Rights.{right_after, right_before, right_unless}
 use Rattle.controller.proofs.Entered.{enters_is}
 use Rattle.controller.proofs.node.ControllerNodeController.inject.Goals.{in-Ok, in-Err-result}

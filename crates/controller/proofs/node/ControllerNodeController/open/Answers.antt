@@ -1,4 +1,4 @@
-use Rattle.controller_facts.specs.Sound.{Opening}
+use Rattle.law_controller_facts.specs.Sound.{Opening}
 use Rattle.controller.proofs.Opened.{starts}
 use Rattle.controller.proofs.Rights.{no_notes}
 use Rattle.controller.proofs.node.ControllerNodeController.open.Goals as goal

@@ -1,4 +1,4 @@
-use Rattle.controller_facts.specs.Inputs.{CellComes}
+use Rattle.law_controller_facts.specs.Inputs.{CellComes}
 use Rattle.controller.proofs.Rights.{draws, right_after, right_before, right_unless}
 use Rattle.controller.proofs.node.ControllerNodeController.receive.Goals as goal
 

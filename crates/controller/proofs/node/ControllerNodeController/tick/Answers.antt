@@ -1,6 +1,6 @@
-use Rattle.controller_facts.specs.Inputs.{Ticks}
-use Rattle.joining_router.specs.Joining.{acted}
-use Rattle.joining_conditions.proofs.Events.{ticks_can_go_by}
+use Rattle.law_controller_facts.specs.Inputs.{Ticks}
+use Rattle.controller_joining.specs.Joining.{acted}
+use Rattle.law_joining_conditions.proofs.Events.{ticks_can_go_by}
 use Rattle.controller.proofs.Rights.{draws, right_after, right_before, right_unless}
 use Rattle.controller.proofs.node.ControllerNodeController.tick.Goals as goal
 

@@ -1,5 +1,5 @@
 use Rattle.std.proofs.Common.{List, ap, map, ◌∙◌}
-use Rattle.control_link.specs.Cells.{PortCells}
+use Rattle.controller_link.specs.Cells.{PortCells}
 use Rattle.gsmp_console.proofs.Ports.{no_ports}
 use Rattle.gsmp_console.proofs.console.Console.take_cell.Goals as goal
 

@@ -1,5 +1,5 @@
 use Rattle.std.proofs.Common.{Bool, true, false, cond}
-use Rattle.label_book.specs.Book.{in_state}
+use Rattle.port_labels.specs.Book.{in_state}
 use Rattle.port_model.specs.Labels.{Label, Wired}
 use Rattle.port_session.specs.Session.{AreTied}
 use Rattle.port_session.proofs.Changed.{tied_changed}

@@ -1,5 +1,5 @@
 use Rattle.std.proofs.Common.{sym}
-use Rattle.label_book.specs.Book.{wiring}
+use Rattle.port_labels.specs.Book.{wiring}
 use Rattle.port_session.proofs.Spares.{lowest_absent, tied_taken}
 use Rattle.port_session.proofs.session.Session.wire.Goals as goal
 

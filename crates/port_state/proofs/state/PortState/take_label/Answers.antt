@@ -1,6 +1,6 @@
 use Rattle.std.proofs.Common.{◌≡◌, ◌∙◌, Some, ap, option_map, sym}
 use Rattle.keyed_lists.specs.Keyed.{entered, key_le}
-use Rattle.label_book.specs.Book.{wiring}
+use Rattle.port_labels.specs.Book.{wiring}
 use Rattle.port_model.specs.Labels.{label_number}
 use Rattle.port_session.specs.Session.{Opened}
 use Rattle.port_state.specs.Engine.{Engine, setup_of}

@@ -5,7 +5,7 @@ use Rattle.world_model.specs.Step.{arrives, arrives_at}
 use Rattle.world.specs.Coming.{HasWay}
 use Rattle.world.specs.Network.{world_of}
 use Rattle.world.proofs.Acting.{come_as, nothing_came}
-use Rattle.world_pace.proofs.Ports.{linked_port}
+use Rattle.law_world_pace.proofs.Ports.{linked_port}
 use Rattle.world.proofs.Conditions.{far_in, peer_is}
 use Rattle.world.proofs.world.World.arrive.Goals as goal
 

@@ -1,7 +1,7 @@
 use Rattle.std.proofs.Common.{ap, option_map}
 use Rattle.world.specs.Network.{no_notes}
 use Rattle.world.proofs.Acting.{found, got}
-use Rattle.world_pace.proofs.Running.{are_numbered}
+use Rattle.law_world_pace.proofs.Running.{are_numbered}
 use Rattle.world.proofs.world.World.controller.Goals as goal
 
 pub returns : goal.returns

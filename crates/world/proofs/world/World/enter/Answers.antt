@@ -2,7 +2,7 @@ use Rattle.std.proofs.Common.{◌∙◌, sym, subst, ap, refl, arith, Option, So
 use Rattle.link_model.specs.declared.record.Refusal.{Refusal}
 use Rattle.refusal_names.specs.Names.{packet_refusal}
 use Rattle.world_model.specs.Packets.{inject_refusal, injected}
-use Rattle.actor_pace.proofs.Controllers.{injected_paces}
+use Rattle.law_actor_pace.proofs.Controllers.{injected_paces}
 use Rattle.world.specs.Coming.{entered_by}
 use Rattle.world.specs.Network.{world_of}
 use Rattle.world.specs.Nodes.{refusal_of}

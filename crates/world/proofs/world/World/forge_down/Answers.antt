@@ -1,6 +1,6 @@
 use Rattle.std.proofs.Common.{arith, refl}
 use Rattle.world_model.specs.Sending.{sends}
-use Rattle.actor_pace.proofs.Paces.{sends_paces}
+use Rattle.law_actor_pace.proofs.Paces.{sends_paces}
 use Rattle.world.proofs.Acting.{controller_came, summand_redirects, none_drawn}
 use Rattle.world.proofs.world.World.forge_down.Goals as goal
 

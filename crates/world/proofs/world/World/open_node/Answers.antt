@@ -1,7 +1,7 @@
 use Rattle.std.proofs.Common.{rules, ℕ, ◌≡◌, ◌∙◌, ◌+◌, ◌++◌, [], ◌∷◌, ap, refl, length, slice_set, subst}
 use Rattle.world.specs.NodeSet.{IsInserted}
 use Rattle.world.specs.Opening.{places_of}
-use Rattle.world_pace.specs.Running.{numbered}
+use Rattle.law_world_pace.specs.Running.{numbered}
 use Rattle.world.proofs.Opens.{opened_next}
 use Rattle.world.proofs.world.World.open_node.Goals as goal
 

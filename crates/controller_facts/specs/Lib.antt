@@ -1,8 +1,0 @@
-pub use Rattle.port_facts.specs.octet_fields as octet_fields
-pub use Rattle.port_facts.specs.ordered_lists as ordered_lists
-pub use Rattle.port_facts.specs as port_facts
-pub mod Inputs
-pub mod Sound
-pub mod Refused
-pub mod Conditions
-pub mod Said

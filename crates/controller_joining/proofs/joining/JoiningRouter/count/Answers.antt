@@ -1,0 +1,20 @@
+use Rattle.std.proofs.Common.{ap, sym, subst, ◌∙◌}
+use Rattle.adjacency_table.specs.Side.{is_estab}
+use Rattle.law_join_facts.proofs.Lasts.{Lasts, at_port_lasts}
+use Rattle.controller_router.specs.Node as node
+use Rattle.controller_router.specs.Node.{Node}
+use Rattle.controller_joining.specs.Joining.{Joining, acted}
+use Rattle.controller_joining.proofs.Kept.{settled_by}
+use Rattle.world_model.specs.Cells.{counted_at}
+use Rattle.port_model.specs.Counting.{counts}
+use Rattle.controller_joining.proofs.joining.JoiningRouter.count.Goals as goal
+
+pub returns-clause-joined : goal.returns-clause-joined
+returns-clause-joined g c =
+    let seen = g.E.PortEngine.seen in
+    let a = acted seen c.args.self.now c.args.notes.now c.args.numbers.now in
+    let b = acted seen c.settle.new.self c.count.new.notes c.count.new.numbers in
+    let e = ap (λ (n : Node _). node.acted seen n c.count.new.notes c.count.new.numbers) c.settle.ensures.router ∙ c.in_ok-count.ensures.acted ∙ ap (λ (j : Joining _). counted_at (acted seen j c.args.notes.now c.args.numbers.now) c.args.port c.args.packet.now) c.self.view_is in
+    let lasts = subst (Lasts a) (sym e) (at_port_lasts c.args.port (λ setup desk w. counts setup desk w c.args.packet.now) a c.requires.can.keeps c.stands-stood.ensures.numbers) in
+    settled_by a b c.args.self.now.joins c.self.inside.joins c.settle.new.self.joins c.stands-stood.result (is_estab c.count.new.self.client.adjacency.state) lasts c.requires.joined (c.stands-stood.ensures.estab)
+    (ap (λ (n : Node _). is_estab n.client.adjacency.state) (sym c.settle.ensures.router)) (ap (λ (j : Joining _). j.joins) c.self.view_is) c.settle.ensures.joins

@@ -1,0 +1,14 @@
+use Rattle.std.proofs.Common.{◌≡◌, drop, fold}
+use Rattle.world_model.specs.Joins.{tries_join}
+use Rattle.law_join_facts.specs.Joins.{inputs_on}
+use Rattle.controller_router.specs.Node.{ports_in}
+use Rattle.controller_joining.specs.Joining.{AreJoined, acted, controller_of}
+use Rattle.controller_joining.proofs.Tries.{Trying}
+use Rattle.controller_joining.proofs.joining.JoiningRouter.try_port.Given as goal
+
+abbrev pub invariant-loop-place : goal.invariant-loop-place
+invariant-loop-place g l = record {
+  joined : AreJoined g.E.PortEngine.seen l.self;
+  ports : ports_in g.E.PortEngine.seen l.self.router ≡ ports_in g.E.PortEngine.seen l.fn.self.router;
+  trying : Trying (acted g.E.PortEngine.seen l.fn.self l.fn.notes l.fn.numbers) (acted g.E.PortEngine.seen l.self l.notes l.numbers) (drop l.place (inputs_on (controller_of g.E.PortEngine.seen l.fn.self) l.fn.port)) (fold tries_join (acted g.E.PortEngine.seen l.fn.self l.fn.notes l.fn.numbers) (inputs_on (controller_of g.E.PortEngine.seen l.fn.self) l.fn.port));
+}

@@ -1,7 +1,0 @@
--- the law is proved over definitions alone
-
-use Rattle.controller_weights.proofs.Paid.{cells_are_paid}
-use Rattle.controller_weights.proofs.controllers_are_paid.Goals as goal
-
-pub returns : goal.returns
-returns c = record { cells = cells_are_paid }

@@ -1,3 +1,0 @@
-pub use Rattle.port_weights.proofs as port_weights
-pub mod Frames
-pub mod Readings

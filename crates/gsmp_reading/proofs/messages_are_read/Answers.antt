@@ -1,5 +1,0 @@
-use Rattle.gsmp_reading.proofs.Read.{message_is_read}
-use Rattle.gsmp_reading.proofs.messages_are_read.Goals as goal
-
-pub returns : goal.returns
-returns c = message_is_read

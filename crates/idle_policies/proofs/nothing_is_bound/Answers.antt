@@ -1,7 +1,0 @@
--- the law is proved over definitions alone
-
-use Rattle.idle_policies.proofs.Runs.{nothing_is_bound}
-use Rattle.idle_policies.proofs.nothing_is_bound.Goals as goal
-
-pub returns : goal.returns
-returns c = record { bound = nothing_is_bound }

@@ -1,5 +1,0 @@
-use Rattle.input_steps.proofs.Ticks.{ticks_leads}
-use Rattle.input_steps.proofs.ticks_are_moves.Goals as goal
-
-pub returns : goal.returns
-returns c = ticks_leads

@@ -1,9 +1,0 @@
-use Rattle.std.proofs.Common.{ap, subst, sym, ◌∙◌}
-use Rattle.world_model.specs.Controller.{Controller}
-use Rattle.join_facts.specs.Joins.{joined_in}
-use Rattle.joining_router.specs.Joining.{AreJoined}
-use Rattle.joining_router.proofs.joining.JoiningRouter.pop.Goals as goal
-
-pub returns-clause-joined : goal.returns-clause-joined
-returns-clause-joined g c = λ before.
-    ap (λ (x : Controller). joined_in x) c.pop.ensures.popped ∙ subst (AreJoined g.E.PortEngine.seen) (sym c.self.view_is) before

@@ -1,6 +1,0 @@
-use Rattle.label_book.proofs.Steps.{found_in_range}
-use Rattle.label_book.proofs.book.LabelBook.get.Goals as goal
-
-pub returns-clause-range : goal.returns-clause-range
-returns-clause-range c =
-    rw (← c.self.view_is) (found_in_range c.self.inside.places c.args.number c.get.result c.are_in_order.ensures.inside c.get.ensures)

@@ -1,6 +1,0 @@
-use Rattle.label_book.proofs.Entries.{entered_is}
-use Rattle.label_book.proofs.index.enter.Goals as goal
-
-pub returns-clause-flows : goal.returns-clause-flows
-returns-clause-flows c =
-    entered_is c.args.flows.now.entries c.insert.new.self.entries c.args.flow c.args.number c.in_ok-insert.ensures.updates.0

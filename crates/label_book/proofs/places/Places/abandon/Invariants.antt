@@ -1,5 +1,0 @@
-use Rattle.std.proofs.Common.{length}
-use Rattle.label_book.proofs.places.Places.abandon.Given as goal
-
-abbrev pub decreases-loop-place : goal.decreases-loop-place
-decreases-loop-place l = length l.held.items

@@ -1,5 +1,0 @@
-use Rattle.label_worlds.proofs.Whole.{labels_are_kept, labels_begin}
-use Rattle.label_worlds.proofs.events_are_moves.Goals as goal
-
-pub returns : goal.returns
-returns c = record { events = labels_are_kept; opening = labels_begin }

@@ -1,3 +1,0 @@
-pub use Rattle.pairs.specs as pairs
-pub mod Conduct
-pub mod Enters

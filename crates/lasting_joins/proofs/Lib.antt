@@ -1,8 +1,0 @@
-pub use Rattle.quiet_controllers.proofs as quiet_controllers
-pub mod Lent
-pub mod Keeping
-pub mod Lasting
-pub mod Tries
-pub mod Entered
-pub mod Unmet
-pub mod Ending

@@ -1,1 +1,0 @@
-pub use Rattle.quiet_controllers.specs as quiet_controllers

@@ -1,0 +1,10 @@
+pub use Rattle.law_controller.specs.ordered_lists as ordered_lists
+pub use Rattle.controller_router.specs as controller_router
+pub use Rattle.law_controller.specs.law_port_facts as law_port_facts
+pub use Rattle.law_controller.specs.law_controller_facts as law_controller_facts
+pub use Rattle.law_controller.specs as law_controller
+pub mod Kept
+pub mod Laws
+pub mod Calls
+pub mod Cells
+pub mod Routes

@@ -1,0 +1,12 @@
+pub use Rattle.law_label_steps.specs.octet_fields as octet_fields
+pub use Rattle.law_arrival_views.specs.aal5_frames as aal5_frames
+pub use Rattle.law_label_steps.specs.ordered_lists as ordered_lists
+pub use Rattle.law_label_steps.specs.law_port_facts as law_port_facts
+pub use Rattle.law_arrival_views.specs.law_controller_facts as law_controller_facts
+pub use Rattle.law_label_steps.specs.law_label_line as law_label_line
+pub use Rattle.law_arrival_views.specs.law_port_widths as law_port_widths
+pub use Rattle.law_label_steps.specs.law_port_views as law_port_views
+pub use Rattle.law_label_steps.specs as law_label_steps
+pub use Rattle.law_arrival_views.specs.law_shown_cells as law_shown_cells
+pub use Rattle.law_arrival_views.specs.law_controller_views as law_controller_views
+pub use Rattle.law_arrival_views.specs as law_arrival_views

@@ -1,0 +1,7 @@
+-- the law is proved over definitions alone
+
+use Rattle.law_controller_weights.proofs.Paid.{cells_are_paid}
+use Rattle.law_controller_weights.proofs.controllers_are_paid.Goals as goal
+
+pub returns : goal.returns
+returns c = record { cells = cells_are_paid }

@@ -1,0 +1,19 @@
+pub use Rattle.law_lasting_joins.proofs.law_quiet_controllers as law_quiet_controllers
+pub mod Ends
+pub mod Opened
+pub mod Opening
+pub mod Events
+pub mod Kept
+pub mod Whole
+pub mod Lent
+pub mod Drawn
+pub mod Released
+pub mod Answered
+pub mod Joined
+pub mod Ticked
+pub mod Ticking
+pub mod Growing
+pub mod Frames
+pub mod Arriving
+pub mod Worlds
+pub mod Old

@@ -1,0 +1,1 @@
+pub use Rattle.law_quiet_controllers.specs as law_quiet_controllers

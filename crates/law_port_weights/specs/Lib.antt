@@ -1,0 +1,3 @@
+pub use Rattle.law_quiet.specs as law_quiet
+pub mod Works
+pub mod Law

@@ -1,7 +1,0 @@
-use Rattle.std.proofs.Common.{◌≡◌, ◌++◌, codes, drop, map, take}
-use Rattle.network_journal.specs.Json.{parted}
-use Rattle.network_journal.specs.Journal.{frame_value}
-use Rattle.network_journal.proofs.event.write_frames.Given as goal
-
-abbrev pub invariant-loop-place : goal.invariant-loop-place
-invariant-loop-place l = l.out ≡ l.fn.out ++ (codes "[" ++ parted (map frame_value (take l.place (drop l.before.made l.notes.frames))))

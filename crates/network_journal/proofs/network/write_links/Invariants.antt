@@ -1,7 +1,0 @@
-use Rattle.std.proofs.Common.{◌≡◌, ◌++◌, codes, map, take}
-use Rattle.network_journal.specs.Json.{parted}
-use Rattle.network_journal.specs.Journal.{link_value}
-use Rattle.network_journal.proofs.network.write_links.Given as goal
-
-abbrev pub invariant-loop-place : goal.invariant-loop-place
-invariant-loop-place l = l.out ≡ l.fn.out ++ (codes "[" ++ parted (map (link_value l.names) (take l.place l.names.links)))

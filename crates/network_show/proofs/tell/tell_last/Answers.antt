@@ -1,6 +1,0 @@
-use Rattle.network_run.proofs.Telling.{none_of, passes_on}
-use Rattle.network_show.proofs.tell.tell_last.Goals as goal
-
-pub returns-in_err-write_last-clause-put : goal.returns-in_err-write_last-clause-put
-returns-in_err-write_last-clause-put g c =
-    passes_on c.from_residual.result _ _ _ _ _ _ c.from_residual.ensures.1 (none_of _ _ _)

@@ -1,5 +1,0 @@
-use Rattle.port_views.proofs.Refreshing.{ticks_lead}
-use Rattle.port_views.proofs.ticks_lead_lines.Goals as goal
-
-pub returns : goal.returns
-returns g c = λ role link queued setup desk w room in_range. ticks_lead link _ queued role setup desk w room in_range

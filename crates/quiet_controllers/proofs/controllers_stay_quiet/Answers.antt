@@ -1,7 +1,0 @@
--- the law is proved over definitions alone
-
-use Rattle.quiet_controllers.proofs.Laws.{stays_quiet}
-use Rattle.quiet_controllers.proofs.controllers_stay_quiet.Goals as goal
-
-pub returns : goal.returns
-returns c = stays_quiet

@@ -1,8 +1,0 @@
-pub use Rattle.quiet_rounds.proofs as quiet_rounds
-pub mod Reweighed
-pub mod Facts
-pub mod Crossing
-pub mod Pays
-pub mod Coming
-pub mod Carried
-pub mod Laws

@@ -1,4 +1,0 @@
-use Rattle.router_port.proofs.port.RouterPortPortEngine.lend.Goals as goal
-
-pub lend-requires : goal.lend-requires
-lend-requires g c = (c.requires.grant, c.requires.granted, c.requires.sent)

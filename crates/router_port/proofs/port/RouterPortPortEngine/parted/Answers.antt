@@ -1,6 +1,0 @@
-use Rattle.std.proofs.Common.{sym, ◌∙◌}
-use Rattle.router_port.proofs.Parted.{unjoined_stays}
-use Rattle.router_port.proofs.port.RouterPortPortEngine.parted.Goals as goal
-
-pub returns-else-is_joined-clause-port : goal.returns-else-is_joined-clause-port
-returns-else-is_joined-clause-port g c = λ n. unjoined_stays c.args.self.now.link.port n c.args.vci (sym c.is_joined.ensures ∙ c.if-is_joined.false)

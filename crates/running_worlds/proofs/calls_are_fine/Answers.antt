@@ -1,5 +1,0 @@
-use Rattle.running_worlds.proofs.GsmpLaws.{ticks_ask, ticks_tell, restarts_tell}
-use Rattle.running_worlds.proofs.calls_are_fine.Goals as goal
-
-pub returns : goal.returns
-returns c = record { asks = ticks_ask; tells = ticks_tell; tells_anew = restarts_tell }

@@ -1,5 +1,0 @@
-use Rattle.script_runs.proofs.Scripts.{scripts, documents, drills}
-use Rattle.script_runs.proofs.scripts_are_runs.Goals as goal
-
-pub returns : goal.returns
-returns c = record { scripts = scripts; documents = documents; drills = drills }

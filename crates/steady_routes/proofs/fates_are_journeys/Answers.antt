@@ -1,7 +1,0 @@
--- the law is proved over definitions alone
-
-use Rattle.steady_routes.proofs.Journeys.{fates_are_journeys}
-use Rattle.steady_routes.proofs.fates_are_journeys.Goals as goal
-
-pub returns : goal.returns
-returns c = record { journeys = fates_are_journeys }

@@ -1,0 +1,7 @@
+use Rattle.std.proofs.Common.{◌≡◌, ◌++◌, codes, map, take}
+use Rattle.tell_journal.specs.Json.{parted}
+use Rattle.tell_journal.specs.Journal.{cell_value}
+use Rattle.tell_journal.proofs.cells.write_put.Given as goal
+
+abbrev pub invariant-loop-index : goal.invariant-loop-index
+invariant-loop-index l = l.out ≡ l.fn.out ++ (codes "[" ++ parted (map (cell_value l.names) (take l.index l.put)))

@@ -1,0 +1,6 @@
+use Rattle.network_run.proofs.Telling.{none_of, passes_on}
+use Rattle.tell_trace.proofs.tell.tell_binding.Goals as goal
+
+pub returns-in_err-write_bound-clause-put : goal.returns-in_err-write_bound-clause-put
+returns-in_err-write_bound-clause-put g c =
+    passes_on c.from_residual.result _ _ _ _ _ _ c.from_residual.ensures.1 (none_of _ _ _)

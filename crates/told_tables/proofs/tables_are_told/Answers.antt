@@ -1,7 +1,0 @@
--- the law is proved over definitions alone
-
-use Rattle.told_tables.proofs.Runs.{tables_are_told}
-use Rattle.told_tables.proofs.tables_are_told.Goals as goal
-
-pub returns : goal.returns
-returns c = record { tables = tables_are_told }

@@ -1,6 +1,0 @@
-pub use Rattle.lab_text.specs as lab_text
-pub use Rattle.trace_model.specs as trace_model
-pub use Rattle.script_model.specs as script_model
-pub use Rattle.true_runs.specs as true_runs
-pub mod Told
-pub mod Law
