@@ -13,11 +13,11 @@ use crate::task::View;
 use lab_io::{Sink, Source};
 use line_by_line::Ending;
 use named_replay::tell_script;
+use std::alloc::Global;
 use tell_capture::CaptureTeller;
 use tell_journal::JournalTeller;
 use tell_show::ShowTeller;
 use tell_trace::TraceTeller;
-use std::alloc::Global;
 use world::Meter;
 
 /// Runs a script as it is read, line by line, writes what is told of it, and tells how that ends: by

@@ -13,11 +13,11 @@ ghost use Rattle.controller.specs.Right.{IsRight};
 
 use crate::packets::{hear_switch, take_default, take_labelled};
 use atm_cells::Cell;
-use controller_link::Taker;
 use controller_joining::JoiningRouter;
+use controller_link::Taker;
+use controller_router::PortEngine;
 use link_model::{Cause, Notes, Record};
 use net_types::{Mark, Numbers, OutOfMemory};
-use controller_router::PortEngine;
 
 /// A frame that passed its test acts, by the channel on which it came.
 fn take_frame<E: PortEngine>(

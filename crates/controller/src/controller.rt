@@ -11,9 +11,9 @@ use adjacency_table::State;
 use branch_desk::Desk;
 use cell_pool::Pool;
 use controller_joining::JoiningRouter;
-use net_types::{OutOfMemory, PortNo};
-use controller_routes::Routes;
 use controller_router::PortEngine;
+use controller_routes::Routes;
+use net_types::{OutOfMemory, PortNo};
 use std::marker::Model;
 
 /// The controller of an IP switch (RFC 1953, RFC 1987), over an engine for each of its ports. After

@@ -10,13 +10,13 @@ ghost use Rattle.world.specs.Nodes.{AreTimes, IsLabelRange};
 ghost use Rattle.controller.specs.Opening.{opened_ends};
 
 use controller_gsmp::Client;
-use ipv4_forward::Table;
 use controller_joining::JoiningRouter;
+use controller_router::{OpenEngine, PortEngine, Router};
+use controller_routes::Routes;
+use ipv4_forward::Table;
 use net_types::{Addr, NodeId, Numbers, OutOfMemory, Party};
 use port_actions::Actions;
 use port_model::Timers;
-use controller_routes::Routes;
-use controller_router::{OpenEngine, PortEngine, Router};
 use std::alloc::Global;
 use world_model::PortRange;
 

@@ -26,13 +26,13 @@ ghost use Rattle.law_controller_conditions.specs.Routes.{HasLinkRoutes};
 ghost use Rattle.law_joining_conditions.specs.Cells.{CanHoldPacket};
 ghost use Rattle.controller.specs.Frames.{flow_on, used_at};
 
+use controller_joining::JoiningRouter;
+use controller_router::PortEngine;
 use flow_encaps::{unwrap_default, unwrap_flow};
 use ipv4_packet::{MAX_PACKET, check, protocol, source};
-use controller_joining::JoiningRouter;
 use link_model::{Layer, Notes, Record, Refusal};
 use net_types::{Mark, Numbers, OutOfMemory, PortNo};
 use refusal_names::{encaps_refusal, gsmp_refusal, ifmp_refusal, packet_refusal};
-use controller_router::PortEngine;
 
 /// The protocol of IFMP (RFC 1953), which no sender may use.
 pub(crate) const CONTROL_PROTOCOL: u8 = 101;

@@ -14,11 +14,11 @@ ghost use Rattle.controller_joining.specs.Conditions.{CanBeginChange, CanTakeCha
 ghost use Rattle.controller_joining.specs.Joining.{AreJoined, acted, controller_of};
 
 use crate::joining::JoiningRouter;
-use ipv4_forward::RouteChange;
 use controller_joins::Joined;
+use controller_router::PortEngine;
+use ipv4_forward::RouteChange;
 use link_model::Notes;
 use net_types::{End, Numbers, OutOfMemory, numbered_channel};
-use controller_router::PortEngine;
 
 /// The output that a join's input is led to.
 pub(crate) fn output_of(joined: &Joined) -> End

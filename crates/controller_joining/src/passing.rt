@@ -24,9 +24,9 @@ ghost use Rattle.controller_joining.specs.Joining.{AreJoined, acted, controller_
 use crate::joining::JoiningRouter;
 use atm_cells::Cell;
 use controller_link::Taker;
+use controller_router::PortEngine;
 use link_model::Notes;
 use net_types::{Channel, Mark, Numbers, OutOfMemory, PortNo};
-use controller_router::PortEngine;
 
 impl<E: PortEngine> JoiningRouter<E> {
     /// Takes a cell of a channel. Where it ends a frame that passes its test, the answer is the length

@@ -13,11 +13,11 @@ ghost use Rattle.controller_joining.specs.Joining.{AreJoined, acted, controller_
 
 use crate::joining::JoiningRouter;
 use branch_desk::BranchDone;
-use gsmp_wire::Request;
 use controller_joins::Joined;
+use controller_router::PortEngine;
+use gsmp_wire::Request;
 use link_model::Notes;
 use net_types::{End, Numbers, OutOfMemory, PortNo};
-use controller_router::PortEngine;
 
 /// Whether an end is the channel of the control link that stands for an input.
 fn is_home_of(end: End, input: End) -> bool

@@ -10,10 +10,10 @@ ghost use Rattle.controller_joining.specs.Conditions.{CanSendAgain, CanTick, Can
 ghost use Rattle.controller_joining.specs.Joining.{AreJoined, acted};
 
 use crate::joining::JoiningRouter;
+use controller_router::PortEngine;
 use gsmp_adjacency::Answer as Greeted;
 use link_model::Notes;
 use net_types::{Numbers, OutOfMemory};
-use controller_router::PortEngine;
 
 impl<E: PortEngine> JoiningRouter<E> {
     /// Sends the first standing requests again, in Estab.

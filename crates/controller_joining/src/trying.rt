@@ -15,15 +15,15 @@ ghost use Rattle.controller_joining.specs.Joining.{AreJoined, acted, controller_
 use crate::changing::output_of;
 use crate::joining::JoiningRouter;
 use branch_desk::MOST_ASKED;
-use cut_through::{planned_label, plans_are_the_controllers, route_of};
 use controller_gsmp::{home_of, label_end};
+use controller_joins::Joined;
+use controller_router::PortEngine;
+use cut_through::{planned_label, plans_are_the_controllers, route_of};
 use gsmp_wire::Request;
 use ipv4_packet::FlowId;
-use controller_joins::Joined;
-use port_labels::{HeldLabel, HeldState};
 use link_model::Notes;
 use net_types::{End, Numbers, OutOfMemory, PortNo};
-use controller_router::PortEngine;
+use port_labels::{HeldLabel, HeldState};
 
 /// How many labels a port can hold: 1,024 on each of 16 paths at most.
 const MOST_LABELS: usize = 16384;

@@ -22,10 +22,10 @@ ghost use Rattle.controller_joining.specs.Joining.{AreJoined, acted, controller_
 
 use crate::joining::JoiningRouter;
 use branch_desk::BranchDone;
+use controller_router::PortEngine;
 use ifmp_wire::Message;
 use link_model::Notes;
 use net_types::{Addr, Numbers, OutOfMemory, PortNo};
-use controller_router::PortEngine;
 
 impl<E: PortEngine> JoiningRouter<E> {
     /// A packet of a port's default channel is counted.

@@ -7,9 +7,9 @@ ghost use Rattle.controller_router.specs.Node.{AreLinked, ArePlaces, ports_of};
 use crate::engine::PortEngine;
 use crate::router::Router;
 use controller_gsmp::Client;
+use controller_routes::Routes;
 use net_types::{Addr, NodeId, PORTS};
 use port_actions::Actions;
-use controller_routes::Routes;
 use std::alloc::Global;
 
 /// The indices of ports, by their numbers.

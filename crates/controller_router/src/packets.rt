@@ -23,9 +23,9 @@ ghost use Rattle.controller_router.specs.Packets.{granted, payload_by, shown, wa
 
 use crate::engine::PortEngine;
 use crate::router::Router;
+use controller_gsmp::{default_end, home_of, label_end};
 use flow_encaps::{wrap_default, wrap_flow};
 use grant_table::GrantTable;
-use controller_gsmp::{default_end, home_of, label_end};
 use ipv4_forward::{Hop, hop};
 use ipv4_packet::{FlowId, FlowKind, MAX_PACKET, of_packet};
 use link_model::{DropCause, Notes, Record};

@@ -17,8 +17,8 @@ use crate::router::Router;
 use cell_pool::Pool;
 use grant_table::GrantTable;
 use ipv4_packet::FlowId;
-use port_labels::HeldLabel;
 use net_types::PortNo;
+use port_labels::HeldLabel;
 
 /// How many REDIRECTs these ports accepted.
 fn total<E: PortEngine>(links: &[E]) -> u64

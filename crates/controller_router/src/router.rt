@@ -8,9 +8,9 @@ ghost use Rattle.controller_router.specs.Node.{IsPlaceOf, controller_of, end_at,
 
 use crate::engine::PortEngine;
 use controller_gsmp::Client;
+use controller_routes::Routes;
 use net_types::{Addr, LAST_PORT, NodeId, PORTS, PortNo};
 use port_actions::Actions;
-use controller_routes::Routes;
 use std::alloc::Global;
 use std::marker::Model;
 use std::mem;

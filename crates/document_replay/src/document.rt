@@ -15,9 +15,9 @@ use network_replay::{PolicyChoice, Replay};
 use network_run::{Stop, Told};
 use refusal_text::write_refused;
 use report_end::settle;
-use tell_report::ReportLines;
 use script_model::Refused;
 use std::alloc::Global;
+use tell_report::ReportLines;
 use world::{Meter, NodeController};
 
 /// So many octets of the report are held.

@@ -12,9 +12,9 @@ use lab_io::Sink;
 use net_types::OutOfMemory;
 use network_replay::{PolicyChoice, Replay};
 use network_run::{Stop, Told};
-use tell_report::ReportLines;
 use script_model::Refused;
 use std::alloc::AllocError;
+use tell_report::ReportLines;
 use world::{Meter, NodeController};
 
 /// Takes the lines, up to the first that is refused, which is told. More lines or octets than 32 bits

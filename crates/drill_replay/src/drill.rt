@@ -16,9 +16,9 @@ use lab_io::{ReportWriter, Sink};
 use network_replay::{PolicyChoice, Replay};
 use network_run::{Stop, Told};
 use report_end::settle;
-use tell_report::ReportLines;
 use script_model::Refused;
 use std::alloc::Global;
+use tell_report::ReportLines;
 use world::{Meter, NodeController};
 
 /// So many octets of the last line are held.

@@ -13,9 +13,9 @@ use lab_text::Text;
 use net_types::OutOfMemory;
 use network_replay::{PolicyChoice, Replay};
 use network_run::{Stop, Told};
-use tell_report::ReportLines;
 use script_model::Refused;
 use std::alloc::{AllocError, Global};
+use tell_report::ReportLines;
 use world::{Meter, NodeController};
 
 /// So many octets of the report are held on their way to nowhere.

@@ -11,8 +11,8 @@ use console_model::Reply;
 use gsmp_wire::{BranchKind, Fault, Message};
 use link_model::{Cause, Layer, Notes, Record};
 use net_types::{Channel, DEFAULT_CHANNEL, End, Greeting, NodeId, OutOfMemory, PortNo};
-use refusal_names::gsmp_refusal;
 use port_requests::Answer;
+use refusal_names::gsmp_refusal;
 
 /// Where an input leads, as a message tells it. A port has 8 bits: a greater one is shown as 255.
 fn told_end(port: u32, channel: Channel) -> End

@@ -5,7 +5,6 @@ ghost use Rattle.law_trace_reading.specs.Law.{ScriptTracesAreGood, TracesAreAudi
 use law_control_places::{control_frames_have_places, nothing_is_refused};
 use law_joined_worlds::{answers_settle_joins, joins_are_kept, runs_make_no_pairs};
 use law_label_worlds::labels_are_followed;
-use tell_trace::passages_are_read;
 use law_ownership::labels_are_owned;
 use law_packet_worlds::packets_are_kept;
 use law_passed_cells::cells_have_passed;
@@ -18,6 +17,7 @@ use law_told_worlds::{
 };
 use law_trace_truth::traces_are_good;
 use law_true_lines::lines_are_true;
+use tell_trace::passages_are_read;
 
 /// Each line of the trace of a script is good by those before it, whatever the policy, as far as no frame
 /// was forged and none passed its test by chance. It calls the laws that it stands on, and its contract is

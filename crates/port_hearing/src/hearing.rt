@@ -18,9 +18,9 @@ use crate::redirection::redirected;
 use branch_desk::Desk;
 use flow_classifier::Policy;
 use ifmp_wire::Message;
-use port_labels::HeldLabel;
 use net_types::{Addr, Channel, Instance, label_number};
 use port_actions::Actions;
+use port_labels::HeldLabel;
 use port_saying::Stop;
 use port_state::PortState;
 

@@ -5,16 +5,16 @@ ghost use Rattle.std.specs.Option.{option_map_or};
 ghost use Rattle.port_model.specs.Port.{label_at};
 
 use branch_desk::{BranchDone, Desk};
+use controller_router::{OpenEngine, PortEngine};
 use flow_classifier::Policy;
 use grant_table::GrantTable;
 use ifmp_wire::Message;
 use ipv4_packet::FlowId;
-use port_labels::HeldLabel;
 use net_types::{Addr, End, Instance, NodeId, OutOfMemory, PortNo};
 use port_actions::Actions;
+use port_labels::HeldLabel;
 use port_model::Timers;
 use redirect_state::Link;
-use controller_router::{OpenEngine, PortEngine};
 use std::alloc::Global;
 use world_model::PortRange;
 

@@ -17,9 +17,9 @@ ghost use Rattle.port_saying.specs.Rules.{begun};
 use branch_desk::Desk;
 use flow_classifier::Policy;
 use gsmp_wire::Request;
-use port_labels::HeldState;
 use net_types::OutOfMemory;
 use port_actions::{Actions, Outlook};
+use port_labels::HeldState;
 use port_model::Action;
 use port_state::PortState;
 

@@ -20,9 +20,9 @@ use branch_desk::BranchDone;
 use flow_classifier::Classifier;
 use ifmp_adjacency::Established;
 use ipv4_packet::FlowId;
-use port_labels::{HeldLabel, HeldState, LabelBook};
 use label_pool::{LabelPool, pools_are_the_ports};
 use net_types::{Channel, End, OutOfMemory};
+use port_labels::{HeldLabel, HeldState, LabelBook};
 use std::alloc::Global;
 use std::marker::Model;
 

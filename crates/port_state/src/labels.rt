@@ -22,8 +22,8 @@ use crate::state::PortState;
 use branch_desk::BranchDone;
 use flow_classifier::Policy;
 use ipv4_packet::FlowId;
-use port_labels::{HeldLabel, HeldState};
 use net_types::{Channel, End, OutOfMemory, label_channel};
+use port_labels::{HeldLabel, HeldState};
 use std::mem;
 
 impl<P: Policy> PortState<P> {

@@ -11,12 +11,12 @@ use flow_classifier::Policy;
 use grant_table::GrantTable;
 use ifmp_adjacency::{Adjacency, State};
 use ipv4_packet::FlowId;
-use port_labels::LabelBook;
 use label_pool::LabelPool;
 use net_types::{
     Addr, CONTROL_PORT, Channel, End, Instance, NodeId, OutOfMemory, PortNo, label_channel,
     on_control,
 };
+use port_labels::LabelBook;
 use port_model::Timers;
 use port_session::Session;
 use std::alloc::Global;

@@ -21,10 +21,10 @@ ghost use Rattle.redirect_state.specs.Rules.{IsOver};
 use branch_desk::Desk;
 use flow_classifier::Policy;
 use grant_table::GrantState;
-use port_labels::{HeldLabel, HeldState};
 use net_types::OutOfMemory;
 use port_actions::{Actions, Outlook};
 use port_hearing::{recall, reclaim_again, take_back, tick_side};
+use port_labels::{HeldLabel, HeldState};
 use port_saying::{Stop, say_range, say_redirect, unwire};
 use port_state::PortState;
 

@@ -17,9 +17,9 @@ use crate::script_run::ScriptRun;
 use lab_io::{Failed, Sink, Source};
 use network_replay::PolicyChoice;
 use network_run::Teller;
-use tell_report::ReportLines;
 use script_model::Refused;
 use std::alloc::Global;
+use tell_report::ReportLines;
 use world::{Meter, NodeController};
 
 /// Writes what is held of what was told. After want of memory that is answered, but where the write

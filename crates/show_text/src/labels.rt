@@ -9,8 +9,8 @@ ghost use Rattle.show_text.specs.Words.{at_text, flow_text, joined_text};
 use crate::words::{write_at, write_flow, write_joined, write_number};
 use ipv4_packet::FlowId;
 use lab_text::Text;
-use port_labels::{HeldLabel, HeldState};
 use net_types::{End, NodeId, OutOfMemory, PortNo};
+use port_labels::{HeldLabel, HeldState};
 use topology::Topology;
 use value_text::write_label as write_label_number;
 

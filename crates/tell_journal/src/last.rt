@@ -7,9 +7,9 @@ ghost use Rattle.tell_journal.specs.Journal.{last_name, last_value};
 use crate::json::write_line;
 use lab_text::Text;
 use net_types::OutOfMemory;
-use tell_report::last_line;
 use script_model::Refused;
 use std::alloc::Global;
+use tell_report::last_line;
 use telling_model::Ended;
 use world::Counts;
 

@@ -5,12 +5,12 @@ ghost use Rattle.show_text.specs.Port.{port_line, port_lines};
 
 use crate::grants::write_grants;
 use crate::labels::{count_labels, write_held, write_session};
+use controller_router::OpenEngine;
 use flow_classifier::Policy;
 use lab_text::Text;
 use net_types::{NodeId, OutOfMemory};
-use redirect_state::Link;
-use controller_router::OpenEngine;
 use port_router::RouterPort;
+use redirect_state::Link;
 use show_text::write_port;
 use topology::Topology;
 

@@ -4,10 +4,10 @@ ghost use Rattle.std.specs.Prelude.{◌≡◌, ◌++◌, ◌==◌, ◌&&◌, sli
 ghost use Rattle.ipv4_forward.specs.declared.change.RouteChange.{RouteChange};
 ghost use Rattle.show_text.specs.Node.{route_lines, waiting_line, waiting_lines};
 
+use controller_routes::Routes;
 use ipv4_forward::Route;
 use lab_text::Text;
 use net_types::{NodeId, OutOfMemory};
-use controller_routes::Routes;
 use show_text::{write_route, write_waiting};
 use topology::Topology;
 

@@ -4,8 +4,8 @@
 ghost use Rattle.true_commands.specs.Law.{TasksAreTrue};
 ghost use Rattle.true_commands.specs.Told.{OutputsAreTrue};
 
-use law_console::every_run_is_right;
 use console_run::sessions_are_runs;
+use law_console::every_run_is_right;
 use law_script_runs::scripts_are_runs;
 use law_trace::yes_is_of_clean_traces;
 use law_true_lines::lines_are_true;
