@@ -6,7 +6,7 @@ ghost use Rattle.controller_link.specs.Cells.{IsRange, is_channel, range_at};
 ghost use Rattle.controller_link.specs.Layout.{count_of, first_of, place_of, width};
 
 use crate::taker::Taker;
-use net_types::{CONTROL_PORT, OutOfMemory, PORTS};
+use net_types::{CONTROL_PORT, OutOfMemory, PORTS, PortNo};
 use std::alloc::Global;
 use std::marker::Model;
 use world_model::PortRange;
