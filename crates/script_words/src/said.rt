@@ -13,9 +13,90 @@ pub enum Side {
     FromPort(PortNo),
 }
 
-/// A parsed statement of a script: what a line says that isn't blank, with nodes by their names.
-/// This project's own.
-#[derive(Debug, Drop)]
+/// A parsed declaration of a script: what a line says of the topology, with nodes by their names and
+/// labels by their numbers. This project's own.
+#[derive(Clone, Copy, Debug)]
+pub enum Described<'a> {
+    /// There is a node.
+    Node {
+        /// Its name.
+        name: &'a [u8],
+        /// Its address.
+        address: Addr,
+    },
+    /// The slots of each of a node's two regions.
+    Cells {
+        /// The node's name.
+        name: &'a [u8],
+        /// How many cells each holds, 1 to 16,384.
+        cells: u32,
+    },
+    /// The labels that a port hands out.
+    Labels {
+        /// The node's name.
+        name: &'a [u8],
+        /// The port, 1 to 8.
+        port: PortNo,
+        /// The least label.
+        lo: u16,
+        /// The greatest label.
+        hi: u16,
+    },
+    /// A link joins two ports.
+    Link {
+        /// A node's name.
+        first: &'a [u8],
+        /// A port of it, 1 to 8.
+        first_port: PortNo,
+        /// Another node's name.
+        second: &'a [u8],
+        /// A port of it, 1 to 8.
+        second_port: PortNo,
+    },
+    /// A route to the other end of a port's link.
+    RouteVia {
+        /// The node's name.
+        name: &'a [u8],
+        /// The destinations.
+        prefix: Prefix,
+        /// The port, 1 to 8.
+        port: PortNo,
+    },
+    /// A route to the node itself.
+    RouteLocal {
+        /// The node's name.
+        name: &'a [u8],
+        /// The destinations.
+        prefix: Prefix,
+    },
+    /// A flow is offered a label from so many packets on in so many ticks.
+    PolicyXy {
+        /// How many packets, 1 to 65,535.
+        x: u32,
+        /// How many ticks, 1 to 64.
+        y: u32,
+    },
+    /// No flow is offered a label.
+    PolicyNever,
+    /// The times of labels, 1 to 65,535 ticks each.
+    Timers {
+        /// For how long a Redirect holds.
+        lifetime: u16,
+        /// After how long it is sent again.
+        refresh: u16,
+        /// For how long a label may be idle.
+        idle: u16,
+    },
+    /// The version of the script.
+    Version {
+        /// 1, or 2 for labels with a VPI.
+        version: u8,
+    },
+}
+
+/// A parsed statement of a script: what a line says that isn't blank, with nodes by their names. It
+/// borrows the line's octets, and has no memory of its own. This project's own.
+#[derive(Clone, Copy, Debug)]
 pub enum Said<'a> {
     /// Something of the topology.
     Describes(Described<'a>),
