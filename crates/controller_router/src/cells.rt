@@ -15,9 +15,10 @@ use crate::router::Router;
 use atm_cells::Cell;
 use controller_link::Taker;
 use link_model::Notes;
-use net_types::{
-    Channel, DEFAULT_CHANNEL, LAST_PORT, OutOfMemory, PortNo, VPIS_PER_PORT, label_number,
-};
+use net_types::{Channel, DEFAULT_CHANNEL, OutOfMemory, PortNo, VPIS_PER_PORT, label_number};
+
+/// The greatest port that a VPI of the control link can stand for.
+const LAST_PORT: u16 = net_types::LAST_PORT as u16;
 
 /// Whether a channel is GSMP's on the control link, or the default channel of a link.
 fn is_default(channel: Channel) -> bool
@@ -56,7 +57,7 @@ impl<E: PortEngine> Router<E> {
             return Some(Taker::Gsmp);
         }
         let port = channel.vpi / VPIS_PER_PORT;
-        if port > LAST_PORT as u16 {
+        if port > LAST_PORT {
             let _linked = self.ports();
             return None;
         }
