@@ -16,8 +16,8 @@ use Rattle.script_model.specs.declared.refusal.Refused.{Refused}
 use Rattle.script_model.specs.Reading.{state_after}
 use Rattle.script_model.specs.Script.{Script, events_of, led_by, number_of, script_from}
 use Rattle.script_model.specs.State.{ScriptState, nothing_read}
-use Rattle.script_words.specs.declared.fault.ReadFault.{ReadFault}
-use Rattle.script_words.specs.declared.fault.ReadFault.TheVariants as read
+use Rattle.script_text.specs.declared.fault.ReadFault.{ReadFault}
+use Rattle.script_text.specs.declared.fault.ReadFault.TheVariants as read
 use Rattle.telling_model.specs.Placed.{Placed, events_in, placed_events}
 use Rattle.world.specs.declared.counts.Meter.{Meter}
 use Rattle.world.specs.declared.world.World.{World as Network}
