@@ -114,7 +114,8 @@ const Library = (() => {
     octetsAt(memory, wordsAt, said.length).set(said);
     octetsAt(memory, inputAt, input.length).set(input);
     const given = [wordsAt, said.length, inputAt, input.length, roomAt, room, countAt];
-    const status = exports.ipswitch_call(...given.map(BigInt));
+    // of what a call gives back the lowest octet is the status
+    const status = exports.ipswitch_call(...given.map(BigInt)) & 255;
     const count = Number(new DataView(memory.buffer).getBigUint64(countAt, true));
     const isGiven = [0, 1, 2, 6].includes(status);
     return { status, output: octetsAt(memory, roomAt, isGiven ? count : 0).slice(), count };
