@@ -9,7 +9,7 @@ use Rattle.net_types.specs.declared.node.PortNo.{PortNo}
 use Rattle.net_types.specs.declared.channel.End.{End}
 use Rattle.gsmp_wire.specs.declared.request.Request.{Request}
 use Rattle.gsmp_wire.specs.declared.request.Request.TheVariants.{AddBranch, MoveBranch, DeleteTree, VerifyTree, DeleteAll, PortManagement, AllPorts}
-use Rattle.crossbar_model.specs.Crossbar.{same_end}
+use Rattle.port_model.specs.crossbar_model.Crossbar.{same_end}
 use Rattle.port_model.specs.Desk.{Standing}
 use Rattle.port_model.specs.Messages.{all_of}
 use Rattle.port_model.specs.Requests.{input_of, is_on, is_delete_all, leads_home, withdraws}

@@ -8,8 +8,8 @@ use Rattle.std.specs.Cmp.{IsTotalOrder, then_total, on_total, nat_cmp_total}
 use Rattle.std.specs.FinMap.{nat_cmp-IsAntisymmetric}
 use Rattle.std.proofs.lemmas.Bool.{eqb-true, eq-eqb}
 use Rattle.net_types.specs.declared.channel.End.{End}
-use Rattle.crossbar_model.specs.Channels.{end_cmp}
-use Rattle.crossbar_model.specs.Crossbar.{same_end}
+use Rattle.port_model.specs.crossbar_model.Channels.{end_cmp}
+use Rattle.port_model.specs.crossbar_model.Crossbar.{same_end}
 
 pub end_cmp_total : IsTotalOrder end_cmp
 end_cmp_total =

@@ -14,8 +14,8 @@ use Rattle.std.proofs.lemmas.List.Sums.{sum_by-cons, sum_by-remove, sum_by_push}
 use Rattle.std.proofs.lemmas.List.Sorted.{IsPermutation-insert, sum_by-IsPermutation}
 use Rattle.net_types.specs.declared.channel.End.{End}
 use Rattle.gsmp_wire.specs.declared.request.Request.{Request}
-use Rattle.crossbar_model.specs.Channels.{end_cmp}
-use Rattle.crossbar_model.specs.Crossbar.{same_end}
+use Rattle.port_model.specs.crossbar_model.Channels.{end_cmp}
+use Rattle.port_model.specs.crossbar_model.Crossbar.{same_end}
 use Rattle.net_types.specs.declared.node.PortNo.{PortNo}
 use Rattle.port_model.specs.Desk.{Standing}
 use Rattle.port_model.specs.Messages.{all_of}

@@ -6,8 +6,8 @@ use Rattle.std.specs.List.{sum_by}
 use Rattle.std.specs.List.Sorted.{IsSorted}
 use Rattle.std.specs.declared.cmp.Ordering.TheVariants.{Less, Greater}
 use Rattle.net_types.specs.declared.channel.End.{End}
-use Rattle.crossbar_model.specs.Channels.{end_cmp}
-use Rattle.crossbar_model.specs.Crossbar.{same_end}
+use Rattle.port_model.specs.crossbar_model.Channels.{end_cmp}
+use Rattle.port_model.specs.crossbar_model.Crossbar.{same_end}
 use Rattle.gsmp_wire.specs.declared.request.Request.{Request}
 use Rattle.port_model.specs.Desk.{Standing}
 use Rattle.branch_desk.specs.declared.by_end.Numbered.{Numbered}

@@ -3,7 +3,7 @@
 ghost use Rattle.std.specs.Prelude.{◌≡◌, ◌<◌, ◌≤◌, ◌==◌, [], length, insert, true, false, IfOk, IfErr, IfSome, IfNone};
 ghost use Rattle.std.specs.List.{list_any};
 ghost use Rattle.std.specs.Option.{option_map};
-ghost use Rattle.crossbar_model.specs.Channels.{end_cmp};
+ghost use Rattle.port_model.specs.crossbar_model.Channels.{end_cmp};
 ghost use Rattle.branch_desk.specs.ByEnd.{AreInOrder, IsPlaceOf, IsGapFor, IsEntered, entry_of, has_end, has_other, is_entry};
 
 use net_types::{End, OutOfMemory};

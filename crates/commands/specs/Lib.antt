@@ -1,3 +1,4 @@
+pub use Rattle.script_replay.specs as script_replay
 pub mod Task
 pub mod Fault
 pub mod Lined

@@ -15,8 +15,8 @@ use Rattle.script_model.specs.Drill.{drill_script}
 use Rattle.script_model.specs.Ideal.{ideal_report}
 use Rattle.world.specs.declared.counts.Meter.{Meter}
 use Rattle.script_replay.specs.Report as replays
-use Rattle.document_replay.specs.Lines as documents
-use Rattle.drill_replay.specs.Drill as drills
+use Rattle.named_replay.specs.document_replay.Lines as documents
+use Rattle.named_replay.specs.drill_replay.Drill as drills
 use Rattle.commands.specs.declared.task.Task as tasks
 use Rattle.commands.specs.declared.task.Task.TheVariants.{Replay, View, Document, Drill, Whole, Lined}
 use Rattle.commands.specs.declared.task.Whole as wholes

@@ -18,19 +18,19 @@ use Rattle.controller_link.specs.declared.taker.Taker as control
 use Rattle.controller_link.specs.declared.taker.Taker.TheVariants as takers
 use Rattle.port_model.specs.Labels.{Label, is_bound, label_number}
 use Rattle.port_model.specs.Port.{label_at, labels_of}
-use Rattle.port_state.specs.Engine.{bound_flow, flow_at}
+use Rattle.controller_router.specs.port_state.Engine.{bound_flow, flow_at}
 use Rattle.law_port_facts.proofs.Keyed.{at_every}
 use Rattle.world_model.specs.Controller.{Acted, Controller, Linked, chains_with, linked_at, note, port_key}
 use Rattle.world_model.specs.Cells.{Taker, ForGsmp, ForDefault, ForLabel, cell_comes, default_holds, frame_holds, label_holds, opened_frame, taker_of, takes_cell}
 use Rattle.world_model.specs.Gsmp.{gsmp_holds}
 use Rattle.world_model.specs.Packets.{routes}
-use Rattle.law_controller_facts.specs.Said.{HasFlowsAt}
-use Rattle.law_join_facts.proofs.Splits.{at_put}
+use Rattle.law_joining_conditions.specs.law_controller_facts.Said.{HasFlowsAt}
+use Rattle.controller_joining.proofs.law_join_facts.Splits.{at_put}
 use Rattle.controller_router.specs.Cells.{IsFound, channel_of, gathered, receipt}
-use Rattle.law_controller_conditions.specs.Kept.{IsKept}
-use Rattle.law_controller_conditions.specs.Routes.{HasLinkRoutes}
-use Rattle.law_controller_conditions.proofs.Cells.{cells_can_come}
-use Rattle.law_controller_conditions.proofs.Receiving.{cell_acts}
+use Rattle.law_joining_conditions.specs.law_controller_conditions.Kept.{IsKept}
+use Rattle.law_joining_conditions.specs.law_controller_conditions.Routes.{HasLinkRoutes}
+use Rattle.law_joining_conditions.proofs.law_controller_conditions.Cells.{cells_can_come}
+use Rattle.law_joining_conditions.proofs.law_controller_conditions.Receiving.{cell_acts}
 use Rattle.law_joining_conditions.specs.Cells.{CanHold}
 use Rattle.controller.specs.Frames.{CanAct, IsActing, flow_on, used_at}
 

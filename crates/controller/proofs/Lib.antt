@@ -4,4 +4,5 @@ mod Rights
 mod Frames
 mod Opened
 mod Entered
+mod Ended
 pub mod Counted

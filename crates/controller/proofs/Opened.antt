@@ -23,20 +23,20 @@ use Rattle.controller_link.specs.Cells as cells
 use Rattle.world_model.specs.controller_model.declared.range.PortRange.{PortRange}
 use Rattle.world_model.specs.Controller.{Controller, Linked, ports_of}
 use Rattle.world_model.specs.Opening.{opened, opens_port, opens_ports, setup_of}
-use Rattle.law_controller_facts.specs.Sound.{Opening, linked_setup, opened_by}
+use Rattle.law_joining_conditions.specs.law_controller_facts.Sound.{Opening, linked_setup, opened_by}
 use Rattle.controller_gsmp.specs.Client.{PortEnd, end_port, linked_ports}
-use Rattle.law_join_facts.specs.Joins.{joined_in}
-use Rattle.law_join_facts.proofs.Comes.{le}
-use Rattle.law_join_facts.proofs.Flat.{all_joined, joined_is}
+use Rattle.controller_joining.specs.law_join_facts.Joins.{joined_in}
+use Rattle.controller_joining.proofs.law_join_facts.Comes.{le}
+use Rattle.controller_joining.proofs.law_join_facts.Flat.{all_joined, joined_is}
 use Rattle.controller_router.specs.Engine.{opened_end}
 use Rattle.controller_router.specs.Node.{AreLinked, range_of}
 use Rattle.controller_joining.specs.Joining.{Joining, controller_of}
-use Rattle.law_controller_conditions.specs.Kept.{IsKept}
-use Rattle.law_controller_conditions.specs.Laws as laws
-use Rattle.law_controller_conditions.specs.Routes.{HasLinkRoutes, IsLinkChange, IsLinkRoute, LeadsToLink, MayLead}
-use Rattle.law_controller_conditions.proofs.Leading.{routes_lead_to_links}
-use Rattle.law_controller_conditions.proofs.Opening.{opens_kept}
-use Rattle.world.specs.Nodes.{AreRoutesOf, AreTimes, IsLabelRange, NamesLinked, NamesLinkedNext, NamesOneOf}
+use Rattle.law_joining_conditions.specs.law_controller_conditions.Kept.{IsKept}
+use Rattle.law_joining_conditions.specs.law_controller_conditions.Laws as laws
+use Rattle.law_joining_conditions.specs.law_controller_conditions.Routes.{HasLinkRoutes, IsLinkChange, IsLinkRoute, LeadsToLink, MayLead}
+use Rattle.law_joining_conditions.proofs.law_controller_conditions.Leading.{routes_lead_to_links}
+use Rattle.law_joining_conditions.proofs.law_controller_conditions.Opening.{opens_kept}
+use Rattle.node_controller.specs.Nodes.{AreRoutesOf, AreTimes, IsLabelRange, NamesLinked, NamesLinkedNext, NamesOneOf}
 use Rattle.controller.specs.Opening.{opened_ends}
 use Rattle.controller.specs.Right.{IsRight}
 

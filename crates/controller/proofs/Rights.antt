@@ -6,14 +6,14 @@ use Rattle.net_types.specs.declared.memory.OutOfMemory.{OutOfMemory}
 use Rattle.net_types.specs.Number.{AreDrawn, GivenOut}
 use Rattle.link_model.specs.Notes.{Journal}
 use Rattle.world_model.specs.Controller.{Acted}
-use Rattle.law_controller_facts.specs.Inputs.{Input, CellLeaves, takes_input}
-use Rattle.law_controller_facts.specs.Sound.{IsOwn}
+use Rattle.law_joining_conditions.specs.law_controller_facts.Inputs.{Input, CellLeaves, takes_input}
+use Rattle.law_joining_conditions.specs.law_controller_facts.Sound.{IsOwn}
 use Rattle.controller_gsmp.specs.Client.{PortEnd}
 use Rattle.controller_joining.specs.Joining.{AreJoined, Joining, acted, controller_of}
-use Rattle.law_controller_conditions.specs.Kept.{IsKept}
-use Rattle.law_controller_conditions.specs.Routes.{HasLinkRoutes, IsLinkInput}
-use Rattle.law_controller_conditions.proofs.Kept.{inputs_draw, inputs_keep}
-use Rattle.law_controller_conditions.proofs.Leading.{routes_lead_to_links}
+use Rattle.law_joining_conditions.specs.law_controller_conditions.Kept.{IsKept}
+use Rattle.law_joining_conditions.specs.law_controller_conditions.Routes.{HasLinkRoutes, IsLinkInput}
+use Rattle.law_joining_conditions.proofs.law_controller_conditions.Kept.{inputs_draw, inputs_keep}
+use Rattle.law_joining_conditions.proofs.law_controller_conditions.Leading.{routes_lead_to_links}
 use Rattle.controller.specs.Right.{IsRight, IsRightUnless}
 
 abbrev pub no_notes : Journal

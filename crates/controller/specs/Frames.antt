@@ -13,7 +13,7 @@ use Rattle.gsmp_wire.specs.Fields.{decoded}
 use Rattle.controller_link.specs.declared.taker.Taker as control
 use Rattle.controller_link.specs.declared.taker.Taker.TheVariants.{Gsmp, Default, Label}
 use Rattle.port_model.specs.Counting.{used}
-use Rattle.port_state.specs.Engine.{flow_at}
+use Rattle.controller_router.specs.port_state.Engine.{flow_at}
 use Rattle.world_model.specs.Controller.{Acted, Controller, linked_at}
 use Rattle.world_model.specs.Cells.{Taker, ForGsmp, ForDefault, ForLabel}
 use Rattle.world_model.specs.Performing.{at_port}

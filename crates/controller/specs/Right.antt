@@ -4,8 +4,8 @@ use Rattle.std.specs.Prelude.{Option, None, Some}
 use Rattle.net_types.specs.declared.memory.OutOfMemory.{OutOfMemory}
 use Rattle.controller_gsmp.specs.Client.{PortEnd}
 use Rattle.controller_joining.specs.Joining.{AreJoined, Joining, controller_of}
-use Rattle.law_controller_conditions.specs.Kept.{IsKept}
-use Rattle.law_controller_conditions.specs.Routes.{HasLinkRoutes}
+use Rattle.law_joining_conditions.specs.law_controller_conditions.Kept.{IsKept}
+use Rattle.law_joining_conditions.specs.law_controller_conditions.Routes.{HasLinkRoutes}
 
 pub record IsRight {E : Type 0} (seen : E → PortEnd) (j : Joining E) : Type 0 where
   pub kept : IsKept (controller_of seen j)

@@ -7,7 +7,7 @@ ghost use Rattle.world_model.specs.Cells.{Taker as TakerValue, cell_comes, frame
 ghost use Rattle.controller_router.specs.Cells.{channel_of};
 ghost use Rattle.controller_router.specs.Conditions.{HasMark};
 ghost use Rattle.controller_joining.specs.Joining.{AreJoined, acted, controller_of};
-ghost use Rattle.law_controller_conditions.specs.Routes.{HasLinkRoutes};
+ghost use Rattle.law_joining_conditions.specs.law_controller_conditions.Routes.{HasLinkRoutes};
 ghost use Rattle.controller.specs.Frames.{CanAct, IsActing};
 ghost use Rattle.controller.specs.Right.{IsRight};
 

@@ -4,7 +4,7 @@ ghost use Rattle.std.specs.Prelude.{◌≡◌, ◌<◌, length, option_map, slic
 ghost use Rattle.cell_pool.specs.Region.{size};
 ghost use Rattle.world_model.specs.Controller.{free_slots, linked_at};
 ghost use Rattle.controller_router.specs.Node.{end_of};
-ghost use Rattle.controller_joining.specs.Joining.{controller_of};
+ghost use Rattle.controller.specs.Controlling.{controller_of};
 
 use aal5_frames::MAX_FRAME;
 use adjacency_table::State;
@@ -16,8 +16,9 @@ use controller_routes::Routes;
 use net_types::{OutOfMemory, PortNo};
 use std::marker::Model;
 
-/// The controller of an IP switch (RFC 1953, RFC 1987), over an engine for each of its ports. After
-/// want of memory, which each further call answers, it can only be given up.
+/// The controller of an IP switch (RFC 1953, RFC 1987), over an engine for each of its ports. Want of
+/// memory ends it: each further call of [`world::NodeController`] that may take memory answers so, and
+/// it can only be given up.
 #[must_use]
 pub struct Controller<E: PortEngine> {
     pub(crate) router: JoiningRouter<E>,
@@ -28,12 +29,13 @@ pub struct Controller<E: PortEngine> {
 }
 
 impl<E: PortEngine> Model for Controller<E> {
-    ghost use Rattle.controller_joining.specs.Joining.{Joining};
+    ghost use Rattle.std.specs.Prelude.{is_some};
+    ghost use Rattle.controller.specs.Controlling.{Controlling};
     ghost use Rattle.controller.specs.Right.{IsRightUnless};
 
-    ghost Value = { Joining E };
+    ghost Value = { Controlling E };
 
-    ghost view = { λ c. c.router };
+    ghost view = { λ c. record { router = c.router; failed = is_some c.failure } };
 
     ghost invariant = { λ c. IsRightUnless E.seen c.router c.failure };
 }

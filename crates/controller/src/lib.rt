@@ -12,3 +12,5 @@ mod opening;
 mod packets;
 
 pub use controller::Controller;
+pub use node_controller::{InjectFault, NodeController, NodeSetup};
+pub use world_model::PortRange;

@@ -10,35 +10,29 @@ use controller_router::OpenEngine;
 use ipv4_forward::{RouteChange, Table};
 use ipv4_packet::{check, protocol};
 use link_model::Notes;
-use net_types::{Addr, Channel, Mark, NodeId, Numbers, OutOfMemory};
-use port_model::Timers;
+use net_types::{Channel, Mark, Numbers, OutOfMemory};
+use node_controller::{InjectFault, NodeController, NodeSetup};
 use std::alloc::Global;
-use world::{InjectFault, NodeController};
-use world_model::PortRange;
 
 impl<E: OpenEngine> NodeController for Controller<E> {
-    ghost use Rattle.controller_joining.specs.Joining.{controller_of};
+    ghost use Rattle.controller.specs.Controlling.{controller_of, has_failed};
 
     type Policy = E::Policy;
 
     ghost seen = { controller_of E.seen };
 
+    ghost failed = { has_failed };
+
     ghost meaning = { E.meaning };
 
     fn open(
         alloc: Global,
-        node: NodeId,
-        address: Addr,
+        setup: &NodeSetup<'_>,
         table: Table,
-        ports: &[PortRange],
-        cells: usize,
-        timers: Timers,
         policy: E::Policy,
         numbers: &mut Numbers,
     ) -> Result<Controller<E>, OutOfMemory> {
-        let router = open_router(
-            alloc, node, address, table, ports, cells, timers, policy, numbers,
-        )?;
+        let router = open_router(alloc, setup, table, policy, numbers)?;
         Ok(Controller {
             router,
             frame: [0; MAX_FRAME],

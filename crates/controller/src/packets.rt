@@ -21,8 +21,8 @@ ghost use Rattle.controller_router.specs.Conditions.{HasMark};
 ghost use Rattle.controller_joining.specs.Answers.{CanBeTold};
 ghost use Rattle.controller_joining.specs.Conditions.{CanWorkOn};
 ghost use Rattle.controller_joining.specs.Joining.{AreJoined, acted, controller_of};
-ghost use Rattle.law_controller_conditions.specs.Calls.{counting, hearing};
-ghost use Rattle.law_controller_conditions.specs.Routes.{HasLinkRoutes};
+ghost use Rattle.law_joining_conditions.specs.law_controller_conditions.Calls.{counting, hearing};
+ghost use Rattle.law_joining_conditions.specs.law_controller_conditions.Routes.{HasLinkRoutes};
 ghost use Rattle.law_joining_conditions.specs.Cells.{CanHoldPacket};
 ghost use Rattle.controller.specs.Frames.{flow_on, used_at};
 

@@ -10,9 +10,9 @@ use Rattle.ipv4_forward.specs.declared.table.Route.{Route}
 use Rattle.ipv4_forward.specs.declared.change.RouteChange.{RouteChange}
 use Rattle.adjacency_table.specs.Side.{Side}
 use Rattle.link_model.specs.Notes.{Journal}
-use Rattle.port_model.specs.Desk.{Desk}
-use Rattle.port_model.specs.Setup.{Setup}
-use Rattle.port_model.specs.Port.{Port}
+use Rattle.world_model.specs.port_model.Desk.{Desk}
+use Rattle.world_model.specs.port_model.Setup.{Setup}
+use Rattle.world_model.specs.port_model.Port.{Port}
 use Rattle.controller_link.specs.Cells.{ControlCells, PortCells, ranges_of}
 use Rattle.world_model.specs.Controller.{Acted, Controller, Linked}
 

@@ -2,10 +2,10 @@
 
 ghost use Rattle.std.specs.Prelude.{◌≡◌, ◌<◌, ◌≤◌, ◌+◌, ◌^◌, ◌==◌, fold, length, slice_get, OnOk, IfSome, true};
 ghost use Rattle.gsmp_wire.specs.declared.request.Request.TheVariants.{MoveBranch};
-ghost use Rattle.port_model.specs.Desk.{Standing, asked, is_led_home, last_transaction, sent_again, withdrawn};
+ghost use Rattle.world_model.specs.port_model.Desk.{Standing, asked, is_led_home, last_transaction, sent_again, withdrawn};
 ghost use Rattle.net_types.specs.Number.{with_control};
-ghost use Rattle.port_model.specs.Setup.{home_of};
-ghost use Rattle.branch_desk.specs.Requests.{has_function};
+ghost use Rattle.world_model.specs.port_model.Setup.{home_of};
+ghost use Rattle.port_requests.specs.branch_desk.Requests.{has_function};
 ghost use Rattle.world_model.specs.Asking.{asks_next, sends_request};
 ghost use Rattle.world_model.specs.Controller.{default_end, default_home};
 ghost use Rattle.world_model.specs.Meeting.{awaits_nothing};

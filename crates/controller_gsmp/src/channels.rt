@@ -3,7 +3,7 @@
 ghost use Rattle.std.specs.Prelude.{◌≡◌, ◌≤◌, drop, length, nat_lt, slice_get, take, true, IfOk, IfSome, OnOk};
 ghost use Rattle.std.specs.Option.{option_map};
 ghost use Rattle.net_types.specs.Number.{GivenOut};
-ghost use Rattle.reassembly.specs.Receipt.{received};
+ghost use Rattle.controller_link.specs.reassembly.Receipt.{received};
 ghost use Rattle.controller_link.specs.Cells.{free_slots, is_channel, ranges_of, reassembly_of, with_reassembly};
 ghost use Rattle.controller_link.specs.declared.taker.Taker.TheVariants.{Default, Label};
 ghost use Rattle.world_model.specs.Resets.{cuts_default, cuts_gsmp, cuts_label};

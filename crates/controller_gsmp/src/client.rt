@@ -5,8 +5,8 @@ ghost use Rattle.adjacency_table.specs.Side.{fresh, is_entry, is_estab, is_open,
 ghost use Rattle.cell_pool.specs.Region.{size};
 ghost use Rattle.controller_link.specs.Cells.{IsRange, free_slots, opened};
 ghost use Rattle.crossbar_model.specs.Channels.{ArePorts};
-ghost use Rattle.port_model.specs.DeskAnswers.{after_answer, answered};
-ghost use Rattle.port_model.specs.Desk.{empty_desk, emptied};
+ghost use Rattle.world_model.specs.port_model.DeskAnswers.{after_answer, answered};
+ghost use Rattle.world_model.specs.port_model.Desk.{empty_desk, emptied};
 ghost use Rattle.gsmp_adjacency.specs.Greeting.{gsmp_answer, gsmp_received};
 ghost use Rattle.port_requests.specs.Answers.{told};
 

@@ -2,7 +2,7 @@
 
 ghost use Rattle.std.specs.Prelude.{◌≡◌, ◌≤◌, ◌<◌, IsTrue};
 ghost use Rattle.net_types.specs.Label.{is_label_number};
-ghost use Rattle.port_model.specs.Setup.{home_of, label_end};
+ghost use Rattle.world_model.specs.port_model.Setup.{home_of, label_end};
 ghost use Rattle.world_model.specs.Controller.{default_end};
 
 use net_types::{CONTROL_PORT, DEFAULT_CHANNEL, End, PortNo, label_channel, on_control};

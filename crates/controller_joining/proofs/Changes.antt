@@ -11,9 +11,9 @@ use Rattle.keyed_lists.specs.Keyed.{at}
 use Rattle.grant_table.specs.Table.{Table, grant_of, view_of}
 use Rattle.grant_table.specs.declared.table.GrantView.{GrantView}
 use Rattle.port_model.specs.Grants.{Grant, grant_label}
-use Rattle.world_model.specs.Controller.{Acted, Controller, Linked, linked_at, port_key}
-use Rattle.world_model.specs.Changes.{begins_change, changed_joins, is_changed, may_take, takes_change, takes_changes, takes_each, takes_join_back}
-use Rattle.world_model.specs.Joins.{Join, joins_of, output_of}
+use Rattle.controller_joins.specs.world_model.Controller.{Acted, Controller, Linked, linked_at, port_key}
+use Rattle.controller_joins.specs.world_model.Changes.{begins_change, changed_joins, is_changed, may_take, takes_change, takes_changes, takes_each, takes_join_back}
+use Rattle.controller_joins.specs.world_model.Joins.{Join, joins_of, output_of}
 use Rattle.controller_joins.specs.Joined.{joined_of}
 use Rattle.controller_joins.specs.declared.places.Joined.{Joined}
 use Rattle.law_join_facts.proofs.Changing.{Asked, At, Same, asked_itself, asked_onward, at_place, closed_takes, every_drop, takes_back_asked}

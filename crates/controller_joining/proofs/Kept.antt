@@ -6,7 +6,7 @@ use Rattle.net_types.specs.declared.node.PortNo.{PortNo}
 use Rattle.ordered_lists.specs.Ordered.{Every, InOrder}
 use Rattle.keyed_lists.specs.Keyed.{in_order}
 use Rattle.crossbar_model.specs.Channels.{ArePorts}
-use Rattle.world_model.specs.Controller.{Acted, Controller, ports_of}
+use Rattle.controller_joins.specs.world_model.Controller.{Acted, Controller, ports_of}
 use Rattle.controller_joins.specs.declared.places.Joined.{Joined}
 use Rattle.law_join_facts.specs.Joins.{Differ, HaveNumbers, joined_in}
 use Rattle.law_join_facts.proofs.Comes.{le}

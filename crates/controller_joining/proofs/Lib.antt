@@ -1,3 +1,4 @@
+pub use Rattle.law_join_facts.proofs as law_join_facts
 pub mod Kept
 pub mod Released
 pub mod Ticked

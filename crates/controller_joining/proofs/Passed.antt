@@ -13,11 +13,11 @@ use Rattle.port_model.specs.Counting.{used, used_label}
 use Rattle.port_model.specs.Grants.{Grant}
 use Rattle.port_model.specs.Labels.{Label}
 use Rattle.port_model.specs.Port.{label_at}
-use Rattle.world_model.specs.Controller.{Acted, Linked, linked_at, chains_with}
-use Rattle.world_model.specs.Cells.{Taker, ForGsmp, ForDefault, ForLabel}
-use Rattle.world_model.specs.Packets.{forwarded, goes_by, grant_by, is_control, routes, sends_next}
-use Rattle.world_model.specs.Performing.{at_port, works}
-use Rattle.world_model.specs.Sending.{sends, sends_control}
+use Rattle.controller_joins.specs.world_model.Controller.{Acted, Linked, linked_at, chains_with}
+use Rattle.controller_joins.specs.world_model.Cells.{Taker, ForGsmp, ForDefault, ForLabel}
+use Rattle.controller_joins.specs.world_model.Packets.{forwarded, goes_by, grant_by, is_control, routes, sends_next}
+use Rattle.controller_joins.specs.world_model.Performing.{at_port, works}
+use Rattle.controller_joins.specs.world_model.Sending.{sends, sends_control}
 use Rattle.law_join_facts.proofs.Lasts.{Stays, own, stays_control, stays_placed, stays_sent, stays_still}
 use Rattle.law_join_facts.proofs.Ordered.{on_both}
 use Rattle.controller_router.specs.Cells.{IsFound, gathered}

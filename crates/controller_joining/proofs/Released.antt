@@ -17,9 +17,9 @@ use Rattle.grant_table.specs.Table as table
 use Rattle.port_model.specs.Setup.{home_of}
 use Rattle.port_model.specs.Grants.{Grant, grant_label, input_of}
 use Rattle.port_model.specs.Joins.{given_back}
-use Rattle.world_model.specs.Controller.{Acted, Controller, Linked, linked_at}
-use Rattle.world_model.specs.Joins.{Join, join_of, joins_of, parts, released_inputs, releases_input, releases_join}
-use Rattle.world_model.specs.Performing.{at_port}
+use Rattle.controller_joins.specs.world_model.Controller.{Acted, Controller, Linked, linked_at}
+use Rattle.controller_joins.specs.world_model.Joins.{Join, join_of, joins_of, parts, released_inputs, releases_input, releases_join}
+use Rattle.controller_joins.specs.world_model.Performing.{at_port}
 use Rattle.controller_joins.specs.Joined.{joined_of}
 use Rattle.controller_joins.specs.declared.places.Joined.{Joined}
 use Rattle.law_join_facts.specs.Joins.{joined_in}

@@ -11,11 +11,11 @@ use Rattle.adjacency_table.specs.Greeting.{gsmp_answer}
 use Rattle.adjacency_table.specs.Side.{Side, Step, counted, followed_tick, ticked}
 use Rattle.adjacency_table.specs.Table.{Reply, Silent, Says, Resets, tick_reply}
 use Rattle.port_model.specs.Ticks as port_ticks
-use Rattle.world_model.specs.Controller.{Acted}
-use Rattle.world_model.specs.Gsmp.{answers}
-use Rattle.world_model.specs.Joins.{tries_joins}
-use Rattle.world_model.specs.Resets.{node_resets}
-use Rattle.world_model.specs.Ticks.{sends_again, ticks, ticks_by, ticks_port, ticks_ports}
+use Rattle.controller_joins.specs.world_model.Controller.{Acted}
+use Rattle.controller_joins.specs.world_model.Gsmp.{answers}
+use Rattle.controller_joins.specs.world_model.Joins.{tries_joins}
+use Rattle.controller_joins.specs.world_model.Resets.{node_resets}
+use Rattle.controller_joins.specs.world_model.Ticks.{sends_again, ticks, ticks_by, ticks_port, ticks_ports}
 use Rattle.law_join_facts.proofs.Lasts.{AreDifferent, Lasts, at_port_lasts, differ_after, itself, onward}
 use Rattle.controller_router.specs.Conditions.{CanResetNode, EachCanTick, turned_to}
 use Rattle.controller_joining.specs.Conditions.{CanTick, CanTickOn, CanTickWith, EachCanTickOn}

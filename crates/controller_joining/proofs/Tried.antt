@@ -20,11 +20,11 @@ use Rattle.port_model.specs.Grants.{Grant, GrantState, Idle, ByController, ByInp
 use Rattle.port_model.specs.Joins as port_joins
 use Rattle.port_model.specs.Labels.{Label, LabelState, Wiring, Offered, Recalled, Wired}
 use Rattle.port_model.specs.Port.{label_at}
-use Rattle.world_model.specs.Asking.{asks}
-use Rattle.world_model.specs.Controller.{Acted, Controller, Linked, linked_at}
-use Rattle.world_model.specs.Joins.{Join, enters_grant, enters_label, is_offered, join_by, join_for, join_through, joins, label_on, may_join, output_of, port_by, tries_join, tries_label}
-use Rattle.world_model.specs.Performing.{at_port}
-use Rattle.world_model.specs.Routes.{route_stays}
+use Rattle.controller_joins.specs.world_model.Asking.{asks}
+use Rattle.controller_joins.specs.world_model.Controller.{Acted, Controller, Linked, linked_at}
+use Rattle.controller_joins.specs.world_model.Joins.{Join, enters_grant, enters_label, is_offered, join_by, join_for, join_through, joins, label_on, may_join, output_of, port_by, tries_join, tries_label}
+use Rattle.controller_joins.specs.world_model.Performing.{at_port}
+use Rattle.controller_joins.specs.world_model.Routes.{route_stays}
 use Rattle.cut_through.specs.Plan.{join_at, onward_grant}
 use Rattle.controller_joins.specs.Joined.{joined_of}
 use Rattle.controller_joins.specs.declared.places.Joined.{Joined}

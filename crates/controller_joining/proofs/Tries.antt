@@ -8,8 +8,8 @@ use Rattle.net_types.specs.declared.channel.End.{End}
 use Rattle.net_types.specs.declared.node.PortNo.{PortNo}
 use Rattle.port_model.specs.Labels.{Label}
 use Rattle.port_model.specs.Setup.{label_end}
-use Rattle.world_model.specs.Controller.{Acted, ports_of}
-use Rattle.world_model.specs.Joins.{inputs_at, tries_join, tries_joins}
+use Rattle.controller_joins.specs.world_model.Controller.{Acted, ports_of}
+use Rattle.controller_joins.specs.world_model.Joins.{inputs_at, tries_join, tries_joins}
 use Rattle.law_join_facts.specs.Joins.{inputs_on}
 use Rattle.law_join_facts.proofs.Lasts.{AreDifferent}
 use Rattle.law_join_facts.proofs.Tries.{Tried, all_tried, differ_tried, held_at, inputs_are, join_tried, last_input, next_input, none_tried, tried_itself, tried_onward}

@@ -11,9 +11,9 @@ use Rattle.gsmp_wire.specs.declared.message.Message.TheVariants.{Adjacency}
 use Rattle.gsmp_wire.specs.declared.request.Request.{Request}
 use Rattle.port_model.specs.DeskAnswers.{Answered, Unknown, Done, Ports, Failed, after_answer, answered}
 use Rattle.port_model.specs.Answers as port_answers
-use Rattle.world_model.specs.Controller.{Acted, with_desk}
-use Rattle.world_model.specs.Joins.{releases}
-use Rattle.world_model.specs.Meeting.{causes, clears, port_of}
+use Rattle.controller_joins.specs.world_model.Controller.{Acted, with_desk}
+use Rattle.controller_joins.specs.world_model.Joins.{releases}
+use Rattle.controller_joins.specs.world_model.Meeting.{causes, clears, port_of}
 use Rattle.controller_router.specs.Conditions.{CanFollow, CanResetNode, turned_to}
 use Rattle.controller_router.specs.Engine.{CanBeDone}
 use Rattle.controller_router.specs.Meeting.{CanCause, CanEmpty, with_change}

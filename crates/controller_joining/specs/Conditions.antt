@@ -25,13 +25,13 @@ use Rattle.port_model.specs.Labels.{Label, Offered}
 use Rattle.port_model.specs.Grants.{ByController, grant_label}
 use Rattle.port_model.specs.Joins.{given_back}
 use Rattle.port_model.specs.Ticks as port_ticks
-use Rattle.world_model.specs.Controller.{Acted, Controller, Linked, linked_at, ports_of}
-use Rattle.world_model.specs.Performing.{Rule}
-use Rattle.world_model.specs.Resets.{begins}
-use Rattle.world_model.specs.Joins.{Join, enters_grant, enters_label, inputs_at, join_for, join_of, joins_of, label_on, may_join, output_of, parts, released_inputs, releases_input, tries_join}
-use Rattle.world_model.specs.Changes.{begins_change, changed_joins, may_take, takes_change, takes_join_back}
-use Rattle.world_model.specs.Gsmp.{answers}
-use Rattle.world_model.specs.Ticks.{sends_again, ticks_port, ticks_ports}
+use Rattle.controller_joins.specs.world_model.Controller.{Acted, Controller, Linked, linked_at, ports_of}
+use Rattle.controller_joins.specs.world_model.Performing.{Rule}
+use Rattle.controller_joins.specs.world_model.Resets.{begins}
+use Rattle.controller_joins.specs.world_model.Joins.{Join, enters_grant, enters_label, inputs_at, join_for, join_of, joins_of, label_on, may_join, output_of, parts, released_inputs, releases_input, tries_join}
+use Rattle.controller_joins.specs.world_model.Changes.{begins_change, changed_joins, may_take, takes_change, takes_join_back}
+use Rattle.controller_joins.specs.world_model.Gsmp.{answers}
+use Rattle.controller_joins.specs.world_model.Ticks.{sends_again, ticks_port, ticks_ports}
 use Rattle.controller_router.specs.Conditions.{CanAsk, CanFollow, CanResetNode, CanTakeBack, CanWork, turned_to}
 use Rattle.controller_router.specs.Meeting.{EachCanResetSpent, with_begun}
 use Rattle.controller_joins.specs.Joined.{joined_of}

@@ -3,7 +3,7 @@
 use Rattle.std.specs.Prelude.{◌≡◌, List}
 use Rattle.net_types.specs.Number.{GivenOut}
 use Rattle.link_model.specs.Notes.{Journal}
-use Rattle.world_model.specs.Controller.{Acted, Controller}
+use Rattle.controller_joins.specs.world_model.Controller.{Acted, Controller}
 use Rattle.controller_gsmp.specs.Client.{PortEnd}
 use Rattle.controller_joins.specs.declared.places.Joined.{Joined}
 use Rattle.law_join_facts.specs.Joins.{joined_in}

@@ -4,8 +4,8 @@
 ghost use Rattle.std.specs.Prelude.{◌≡◌, fold, true, OnOk, if◌then◌else◌};
 ghost use Rattle.std.specs.List.{list_any};
 ghost use Rattle.port_model.specs.Setup.{label_end};
-ghost use Rattle.world_model.specs.Changes.{begins_change, change_comes, changed_joins, is_changed, takes_changes, takes_join_back};
-ghost use Rattle.world_model.specs.Joins.{Join, joins_of, output_of};
+ghost use Rattle.controller_joins.specs.world_model.Changes.{begins_change, change_comes, changed_joins, is_changed, takes_changes, takes_join_back};
+ghost use Rattle.controller_joins.specs.world_model.Joins.{Join, joins_of, output_of};
 ghost use Rattle.law_join_facts.specs.Joins.{HaveNumbers};
 ghost use Rattle.controller_joins.specs.Joined.{joined_of};
 ghost use Rattle.controller_router.specs.Conditions.{CanTakeBack};
@@ -31,8 +31,9 @@ pub(crate) fn output_of(joined: &Joined) -> End
 }
 
 impl<E: PortEngine> JoiningRouter<E> {
-    /// Whether the flow of a join's grant has another route after the change.
+    /// Whether the flow of a join's grant has another route after the change. The grant is there.
     fn is_changed(&self, change: &RouteChange, joined: &Joined) -> bool
+        requires { (join : Join) × (joined_of join ≡ joined.now) × IsGrantOf (controller_of E.seen self.now) join }
         ensures { (join : Join) → IsGrantOf (controller_of E.seen self.now) join → joined_of join ≡ joined.now → result ≡ is_changed self.now.router.routes.table change.now join }
     {
         let Some(grants) = self.router.grants_at(joined.port) else {

@@ -2,7 +2,7 @@
 
 ghost use Rattle.std.specs.Prelude.{◌≡◌, ◌&&◌, [], not, if◌then◌else◌};
 ghost use Rattle.adjacency_table.specs.Side.{is_estab};
-ghost use Rattle.world_model.specs.Controller.{ports_of};
+ghost use Rattle.controller_joins.specs.world_model.Controller.{ports_of};
 ghost use Rattle.law_join_facts.specs.Joins.{HaveNumbers};
 ghost use Rattle.controller_router.specs.Node.{ports_in};
 ghost use Rattle.controller_joining.specs.Joining.{controller_of};

@@ -6,7 +6,7 @@ ghost use Rattle.crossbar_model.specs.Crossbar.{same_end};
 ghost use Rattle.gsmp_wire.specs.declared.request.Request.TheVariants.{DeleteAll};
 ghost use Rattle.port_model.specs.Requests.{leads_home};
 ghost use Rattle.port_model.specs.Setup.{home_of};
-ghost use Rattle.world_model.specs.Joins.{released_inputs, releases, releases_input};
+ghost use Rattle.controller_joins.specs.world_model.Joins.{released_inputs, releases, releases_input};
 ghost use Rattle.controller_joins.specs.Joined.{AreInOrder};
 ghost use Rattle.controller_joining.specs.Conditions.{CanRelease, CanReleaseInput, EachCanBeReleased};
 ghost use Rattle.controller_joining.specs.Joining.{AreJoined, acted, controller_of};

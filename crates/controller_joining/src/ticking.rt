@@ -3,9 +3,9 @@
 
 ghost use Rattle.std.specs.Prelude.{◌≡◌, ◌≢◌, OnOk};
 ghost use Rattle.adjacency_table.specs.declared.message.Answer.TheVariants.{Reset};
-ghost use Rattle.world_model.specs.Gsmp.{answers};
-ghost use Rattle.world_model.specs.Joins.{tries_joins};
-ghost use Rattle.world_model.specs.Ticks.{sends_again, ticks, ticks_ports};
+ghost use Rattle.controller_joins.specs.world_model.Gsmp.{answers};
+ghost use Rattle.controller_joins.specs.world_model.Joins.{tries_joins};
+ghost use Rattle.controller_joins.specs.world_model.Ticks.{sends_again, ticks, ticks_ports};
 ghost use Rattle.controller_joining.specs.Conditions.{CanSendAgain, CanTick, CanTickOn};
 ghost use Rattle.controller_joining.specs.Joining.{AreJoined, acted};
 

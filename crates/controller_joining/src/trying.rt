@@ -5,7 +5,7 @@ ghost use Rattle.std.specs.Prelude.{◌≡◌, ◌≤◌, fold, length, option_m
 ghost use Rattle.net_types.specs.Label.{is_label_number};
 ghost use Rattle.port_labels.specs.Read.{label_of};
 ghost use Rattle.port_model.specs.Setup.{label_end};
-ghost use Rattle.world_model.specs.Joins.{Join, join_for, joins, label_on, may_join, tries_join, tries_joins};
+ghost use Rattle.controller_joins.specs.world_model.Joins.{Join, join_for, joins, label_on, may_join, tries_join, tries_joins};
 ghost use Rattle.law_join_facts.specs.Joins.{HaveNumbers, inputs_on};
 ghost use Rattle.controller_joins.specs.Joined.{joined_of};
 ghost use Rattle.controller_router.specs.Node.{ports_in};

@@ -1,1 +1,2 @@
+pub use Rattle.world_model.specs as world_model
 pub mod Joined

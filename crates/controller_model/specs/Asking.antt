@@ -3,9 +3,9 @@
 
 use Rattle.std.specs.Prelude.{◌==◌, if◌then◌else◌}
 use Rattle.net_types.specs.declared.channel.End.{End}
-use Rattle.adjacency_table.specs.Side.{is_estab}
-use Rattle.gsmp_wire.specs.declared.request.Request.{Request}
-use Rattle.gsmp_wire.specs.declared.request.Request.TheVariants.{MoveBranch}
+use Rattle.port_model.specs.adjacency_table.Side.{is_estab}
+use Rattle.port_model.specs.gsmp_wire.declared.request.Request.{Request}
+use Rattle.port_model.specs.gsmp_wire.declared.request.Request.TheVariants.{MoveBranch}
 use Rattle.port_model.specs.Desk.{Standing, asked, withdrawn, is_led_home, message_at, last_transaction}
 use Rattle.port_model.specs.Setup.{home_of}
 use Rattle.controller_model.specs.Controller.{Acted, with_desk}

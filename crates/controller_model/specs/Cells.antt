@@ -6,18 +6,18 @@ use Rattle.net_types.specs.declared.node.PortNo.{PortNo}
 use Rattle.net_types.specs.declared.channel.Channel.{Channel}
 use Rattle.net_types.specs.declared.number.Mark.{Mark}
 use Rattle.net_types.specs.Label.{label_number_of}
-use Rattle.ipv4_packet.specs.Packet.{protocol_of, source_of, first_fault}
-use Rattle.ipv4_packet.specs.declared.validate.PacketFault.{PacketFault}
-use Rattle.atm_cells.specs.declared.cell.Cell.{Cell}
-use Rattle.flow_encaps.specs.declared.default.EncapsFault.{EncapsFault}
-use Rattle.flow_encaps.specs.Unwrapped.{default_unwrapped, unwrapped}
-use Rattle.ifmp_wire.specs.declared.message.Message.{Message}
-use Rattle.ifmp_wire.specs.declared.reader.Fault.{Fault}
-use Rattle.ifmp_wire.specs.Fields.{decoded as ifmp_decoded}
-use Rattle.gsmp_wire.specs.Fields.{decoded as gsmp_decoded}
-use Rattle.link_model.specs.declared.record.Cause.TheVariants.{Unbound}
-use Rattle.link_model.specs.declared.record.Layer.TheVariants.{Encaps, Packet, Ifmp}
-use Rattle.link_model.specs.declared.record.Record.TheVariants.{Bad, Loss}
+use Rattle.port_model.specs.ipv4_packet.Packet.{protocol_of, source_of, first_fault}
+use Rattle.port_model.specs.ipv4_packet.declared.validate.PacketFault.{PacketFault}
+use Rattle.frame_model.specs.atm_cells.declared.cell.Cell.{Cell}
+use Rattle.refusal_names.specs.flow_encaps.declared.default.EncapsFault.{EncapsFault}
+use Rattle.refusal_names.specs.flow_encaps.Unwrapped.{default_unwrapped, unwrapped}
+use Rattle.port_model.specs.ifmp_wire.declared.message.Message.{Message}
+use Rattle.port_model.specs.ifmp_wire.declared.reader.Fault.{Fault}
+use Rattle.port_model.specs.ifmp_wire.Fields.{decoded as ifmp_decoded}
+use Rattle.port_model.specs.gsmp_wire.Fields.{decoded as gsmp_decoded}
+use Rattle.frame_model.specs.link_model.declared.record.Cause.TheVariants.{Unbound}
+use Rattle.frame_model.specs.link_model.declared.record.Layer.TheVariants.{Encaps, Packet, Ifmp}
+use Rattle.frame_model.specs.link_model.declared.record.Record.TheVariants.{Bad, Loss}
 use Rattle.refusal_names.specs.Names.{encaps_refusal, packet_refusal, ifmp_refusal}
 use Rattle.frame_model.specs.Reassembly.{Reassembly, Taken, taken}
 use Rattle.frame_model.specs.Frame.{Tested, tested, last_mark}

@@ -4,11 +4,11 @@
 
 use Rattle.std.specs.Prelude.{Bool, true, false, not, ◌+◌, ◌&&◌, List, [], ◌∷◌, ◌++◌, filter, fold, if◌then◌else◌}
 use Rattle.std.specs.List.{list_any}
-use Rattle.ipv4_packet.specs.Parts.{flow_destination}
+use Rattle.port_model.specs.ipv4_packet.Parts.{flow_destination}
 use Rattle.ipv4_forward.specs.Change.{changed}
 use Rattle.ipv4_forward.specs.declared.change.RouteChange.{RouteChange}
 use Rattle.ipv4_forward.specs.declared.table.Route.{Route}
-use Rattle.link_model.specs.declared.record.Record.TheVariants.{Routes}
+use Rattle.frame_model.specs.link_model.declared.record.Record.TheVariants.{Routes}
 use Rattle.controller_model.specs.Controller.{Controller, Acted, note}
 use Rattle.controller_model.specs.Asking.{takes_back}
 use Rattle.controller_model.specs.Joins.{Join, joins_of, output_of}

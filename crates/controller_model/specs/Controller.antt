@@ -12,12 +12,12 @@ use Rattle.net_types.specs.declared.adjacency.Party.{Party}
 use Rattle.net_types.specs.Number.{GivenOut}
 use Rattle.ipv4_forward.specs.declared.table.Route.{Route}
 use Rattle.ipv4_forward.specs.declared.change.RouteChange.{RouteChange}
-use Rattle.atm_cells.specs.declared.cell.Cell.{Cell}
-use Rattle.adjacency_table.specs.Side.{Side}
-use Rattle.link_model.specs.declared.record.Record.{Record}
-use Rattle.link_model.specs.Notes.{Journal, noted}
+use Rattle.frame_model.specs.atm_cells.declared.cell.Cell.{Cell}
+use Rattle.port_model.specs.adjacency_table.Side.{Side}
+use Rattle.frame_model.specs.link_model.declared.record.Record.{Record}
+use Rattle.frame_model.specs.link_model.Notes.{Journal, noted}
 use Rattle.frame_model.specs.Reassembly.{Reassembly, nothing_taken}
-use Rattle.keyed_lists.specs.Keyed.{at, put, without, entered, key_le}
+use Rattle.port_model.specs.keyed_lists.Keyed.{at, put, without, entered, key_le}
 use Rattle.port_model.specs.Desk.{Desk}
 use Rattle.port_model.specs.Setup.{Setup, home_of}
 use Rattle.port_model.specs.Port.{Port}

@@ -3,15 +3,15 @@
 use Rattle.std.specs.Prelude.{None, Some, Result, Ok, Err}
 use Rattle.net_types.specs.declared.adjacency.Greeting.{Greeting}
 use Rattle.net_types.specs.declared.adjacency.Party.{Party}
-use Rattle.adjacency_table.specs.declared.message.Answer.{Answer}
-use Rattle.adjacency_table.specs.declared.message.Answer.TheVariants.{Quiet, Send, Open, Reset}
-use Rattle.adjacency_table.specs.Side.{Step}
-use Rattle.adjacency_table.specs.Greeting.{gsmp_answer, gsmp_received}
-use Rattle.gsmp_wire.specs.declared.fault.Fault.{Fault}
-use Rattle.gsmp_wire.specs.declared.message.Message.{Message}
-use Rattle.gsmp_wire.specs.declared.message.Message.TheVariants.{Adjacency}
-use Rattle.link_model.specs.declared.record.Record.TheVariants.{Bad}
-use Rattle.link_model.specs.declared.record.Layer.TheVariants.{Gsmp}
+use Rattle.port_model.specs.adjacency_table.declared.message.Answer.{Answer}
+use Rattle.port_model.specs.adjacency_table.declared.message.Answer.TheVariants.{Quiet, Send, Open, Reset}
+use Rattle.port_model.specs.adjacency_table.Side.{Step}
+use Rattle.port_model.specs.adjacency_table.Greeting.{gsmp_answer, gsmp_received}
+use Rattle.port_model.specs.gsmp_wire.declared.fault.Fault.{Fault}
+use Rattle.port_model.specs.gsmp_wire.declared.message.Message.{Message}
+use Rattle.port_model.specs.gsmp_wire.declared.message.Message.TheVariants.{Adjacency}
+use Rattle.frame_model.specs.link_model.declared.record.Record.TheVariants.{Bad}
+use Rattle.frame_model.specs.link_model.declared.record.Layer.TheVariants.{Gsmp}
 use Rattle.refusal_names.specs.Names.{gsmp_refusal}
 use Rattle.controller_model.specs.Controller.{Acted, note}
 use Rattle.controller_model.specs.Sending.{says_gsmp}

@@ -11,16 +11,16 @@ use Rattle.net_types.specs.Label.{number_of_channel}
 use Rattle.ipv4_forward.specs.Best.{best}
 use Rattle.ipv4_forward.specs.declared.table.Next.{Next}
 use Rattle.ipv4_forward.specs.declared.table.Next.TheVariants.{Local, Via}
-use Rattle.ipv4_packet.specs.declared.flow.FlowId.{FlowId}
-use Rattle.ipv4_packet.specs.Flow.{next_hop_of}
-use Rattle.ipv4_packet.specs.Parts.{flow_destination}
-use Rattle.gsmp_wire.specs.declared.request.Request.{Request}
-use Rattle.gsmp_wire.specs.declared.request.Request.TheVariants.{MoveBranch}
-use Rattle.link_model.specs.declared.record.Record.TheVariants.{Part}
-use Rattle.keyed_lists.specs.Keyed.{in_order}
+use Rattle.port_model.specs.ipv4_packet.declared.flow.FlowId.{FlowId}
+use Rattle.port_model.specs.ipv4_packet.Flow.{next_hop_of}
+use Rattle.port_model.specs.ipv4_packet.Parts.{flow_destination}
+use Rattle.port_model.specs.gsmp_wire.declared.request.Request.{Request}
+use Rattle.port_model.specs.gsmp_wire.declared.request.Request.TheVariants.{MoveBranch}
+use Rattle.frame_model.specs.link_model.declared.record.Record.TheVariants.{Part}
+use Rattle.port_model.specs.keyed_lists.Keyed.{in_order}
 use Rattle.port_model.specs.Requests.{leads_home}
 use Rattle.port_model.specs.Desk.{on_input, most_asked}
-use Rattle.crossbar_model.specs.Crossbar.{same_end}
+use Rattle.port_model.specs.crossbar_model.Crossbar.{same_end}
 use Rattle.port_model.specs.Setup.{home_of, label_end, channel_le}
 use Rattle.port_model.specs.Labels.{Label, LabelState, Offered}
 use Rattle.port_model.specs.Grants.{Grant, grant_for, input_of}

@@ -1,3 +1,5 @@
+pub use Rattle.port_model.specs as port_model
+pub use Rattle.port_model.specs.keyed_lists as keyed_lists
 pub mod Controller
 pub mod Sending
 pub mod Resets

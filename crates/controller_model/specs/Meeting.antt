@@ -5,15 +5,15 @@ use Rattle.std.specs.Prelude.{Bool, true, false, not, ◌==◌, ◌&&◌, List, 
 use Rattle.std.specs.List.{list_any}
 use Rattle.net_types.specs.declared.node.PortNo.{PortNo}
 use Rattle.net_types.specs.declared.channel.End.{End}
-use Rattle.adjacency_table.specs.declared.State.{State}
-use Rattle.adjacency_table.specs.declared.State.TheVariants.{Clearing}
-use Rattle.adjacency_table.specs.Side.{is_estab}
-use Rattle.gsmp_wire.specs.declared.request.Request.{Request}
-use Rattle.gsmp_wire.specs.declared.request.Request.TheVariants.{AddBranch, MoveBranch, DeleteTree, VerifyTree, DeleteAll, PortManagement, AllPorts}
+use Rattle.port_model.specs.adjacency_table.declared.State.{State}
+use Rattle.port_model.specs.adjacency_table.declared.State.TheVariants.{Clearing}
+use Rattle.port_model.specs.adjacency_table.Side.{is_estab}
+use Rattle.port_model.specs.gsmp_wire.declared.request.Request.{Request}
+use Rattle.port_model.specs.gsmp_wire.declared.request.Request.TheVariants.{AddBranch, MoveBranch, DeleteTree, VerifyTree, DeleteAll, PortManagement, AllPorts}
 use Rattle.port_model.specs.Messages.{is_up}
 use Rattle.port_model.specs.Desk.{empty_desk, on_input, all_on}
 use Rattle.port_model.specs.DeskAnswers.{Answered, Unknown, Done, Ports, Failed, answered, after_answer}
-use Rattle.gsmp_wire.specs.declared.message.Message.{Message}
+use Rattle.port_model.specs.gsmp_wire.declared.message.Message.{Message}
 use Rattle.port_model.specs.Answers as port_answers
 use Rattle.port_model.specs.Resets as port_resets
 use Rattle.controller_model.specs.Controller.{Controller, Acted, Linked, linked_at, ports_of, with_linked, with_desk, default_end, default_home}

@@ -7,8 +7,8 @@ use Rattle.net_types.specs.declared.number.Instance.{Instance}
 use Rattle.net_types.specs.declared.adjacency.Party.{Party}
 use Rattle.net_types.specs.Number.{GivenOut, next_instance}
 use Rattle.ipv4_forward.specs.declared.table.Route.{Route}
-use Rattle.adjacency_table.specs.declared.State.TheVariants.{SynSent}
-use Rattle.adjacency_table.specs.Side.{fresh}
+use Rattle.port_model.specs.adjacency_table.declared.State.TheVariants.{SynSent}
+use Rattle.port_model.specs.adjacency_table.Side.{fresh}
 use Rattle.frame_model.specs.Reassembly.{nothing_taken}
 use Rattle.port_model.specs.Desk.{empty_desk}
 use Rattle.port_model.specs.declared.timers.Timers.{Timers}

@@ -6,18 +6,18 @@ use Rattle.std.specs.Option.{option_and_then}
 use Rattle.net_types.specs.declared.node.PortNo.{PortNo}
 use Rattle.net_types.specs.declared.channel.Channel.{Channel}
 use Rattle.net_types.specs.declared.number.Mark.{Mark}
-use Rattle.ipv4_packet.specs.Packet.{protocol_of, first_fault}
-use Rattle.ipv4_packet.specs.declared.validate.PacketFault.{PacketFault}
+use Rattle.port_model.specs.ipv4_packet.Packet.{protocol_of, first_fault}
+use Rattle.port_model.specs.ipv4_packet.declared.validate.PacketFault.{PacketFault}
 use Rattle.ipv4_forward.specs.Hop.{hop_of, onward}
 use Rattle.ipv4_forward.specs.declared.outcome.Hop.{Hop}
 use Rattle.ipv4_forward.specs.declared.outcome.Hop.TheVariants.{Here, On, NoRoute, Expired}
-use Rattle.ipv4_packet.specs.Flow.{kind_of}
-use Rattle.flow_encaps.specs.Default.{default_payload}
-use Rattle.flow_encaps.specs.Labelled.{labelled_payload}
-use Rattle.link_model.specs.declared.record.DropCause.TheVariants.{NoRoute as NoRouteCause, Expired as ExpiredCause}
-use Rattle.link_model.specs.declared.record.Record.TheVariants.{Delivered, Dropped}
-use Rattle.link_model.specs.declared.record.Refusal.{Refusal}
-use Rattle.link_model.specs.declared.record.Refusal.TheVariants.{ControlProtocol}
+use Rattle.port_model.specs.ipv4_packet.Flow.{kind_of}
+use Rattle.refusal_names.specs.flow_encaps.Default.{default_payload}
+use Rattle.refusal_names.specs.flow_encaps.Labelled.{labelled_payload}
+use Rattle.frame_model.specs.link_model.declared.record.DropCause.TheVariants.{NoRoute as NoRouteCause, Expired as ExpiredCause}
+use Rattle.frame_model.specs.link_model.declared.record.Record.TheVariants.{Delivered, Dropped}
+use Rattle.frame_model.specs.link_model.declared.record.Refusal.{Refusal}
+use Rattle.frame_model.specs.link_model.declared.record.Refusal.TheVariants.{ControlProtocol}
 use Rattle.refusal_names.specs.Names.{packet_refusal}
 use Rattle.frame_model.specs.Frame.{next_mark}
 use Rattle.port_model.specs.Setup.{control_end}

@@ -3,7 +3,7 @@
 
 use Rattle.std.specs.Prelude.{fold, Option, None, Some, if◌then◌else◌}
 use Rattle.net_types.specs.declared.node.PortNo.{PortNo}
-use Rattle.adjacency_table.specs.Side.{is_estab}
+use Rattle.port_model.specs.adjacency_table.Side.{is_estab}
 use Rattle.port_model.specs.Desk.{Desk}
 use Rattle.port_model.specs.declared.action.Action.{Action}
 use Rattle.port_model.specs.declared.action.Action.TheVariants.{Say, Ask, Note, CutChain, TakeBack, Withdraw, Reset}

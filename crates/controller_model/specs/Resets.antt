@@ -4,8 +4,8 @@
 use Rattle.std.specs.Prelude.{ℕ, false, [], fold, Option, None, Some}
 use Rattle.net_types.specs.declared.node.PortNo.{PortNo}
 use Rattle.net_types.specs.Number.{next_instance, with_instance}
-use Rattle.adjacency_table.specs.declared.State.TheVariants.{SynSent}
-use Rattle.adjacency_table.specs.Side.{fresh}
+use Rattle.port_model.specs.adjacency_table.declared.State.TheVariants.{SynSent}
+use Rattle.port_model.specs.adjacency_table.Side.{fresh}
 use Rattle.frame_model.specs.Reassembly.{cut, nothing_taken}
 use Rattle.port_model.specs.Desk.{emptied}
 use Rattle.port_model.specs.declared.action.Action.{Action}

@@ -5,13 +5,13 @@ use Rattle.net_types.specs.declared.node.PortNo.{PortNo}
 use Rattle.net_types.specs.declared.number.Mark.{Mark}
 use Rattle.net_types.specs.declared.channel.Channel.{Channel}
 use Rattle.net_types.specs.Number.{next_control, with_control}
-use Rattle.ipv4_packet.specs.Packet.{ifmp_packet_of}
-use Rattle.atm_cells.specs.declared.cell.Cell.{Cell}
-use Rattle.flow_encaps.specs.Default.{default_payload}
-use Rattle.ifmp_wire.specs.declared.message.Message.{Message as IfmpMessage}
-use Rattle.ifmp_wire.specs.Message.{octets_of as ifmp_octets}
-use Rattle.gsmp_wire.specs.declared.message.Message.{Message as GsmpMessage}
-use Rattle.gsmp_wire.specs.Layout.{octets_of as gsmp_octets}
+use Rattle.port_model.specs.ipv4_packet.Packet.{ifmp_packet_of}
+use Rattle.frame_model.specs.atm_cells.declared.cell.Cell.{Cell}
+use Rattle.refusal_names.specs.flow_encaps.Default.{default_payload}
+use Rattle.port_model.specs.ifmp_wire.declared.message.Message.{Message as IfmpMessage}
+use Rattle.port_model.specs.ifmp_wire.Message.{octets_of as ifmp_octets}
+use Rattle.port_model.specs.gsmp_wire.declared.message.Message.{Message as GsmpMessage}
+use Rattle.port_model.specs.gsmp_wire.Layout.{octets_of as gsmp_octets}
 use Rattle.frame_model.specs.Sending.{Sent, sent_frame}
 use Rattle.controller_model.specs.Controller.{Controller, Acted, free_slots, default_channel, default_home}
 

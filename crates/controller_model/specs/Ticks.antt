@@ -3,11 +3,11 @@
 
 use Rattle.std.specs.Prelude.{fold, if◌then◌else◌}
 use Rattle.net_types.specs.declared.node.PortNo.{PortNo}
-use Rattle.adjacency_table.specs.declared.message.Answer.{Answer}
-use Rattle.adjacency_table.specs.declared.message.Answer.TheVariants.{Reset}
-use Rattle.adjacency_table.specs.Side.{Step, is_estab, ticked}
+use Rattle.port_model.specs.adjacency_table.declared.message.Answer.{Answer}
+use Rattle.port_model.specs.adjacency_table.declared.message.Answer.TheVariants.{Reset}
+use Rattle.port_model.specs.adjacency_table.Side.{Step, is_estab, ticked}
 use Rattle.net_types.specs.declared.adjacency.Party.{Party}
-use Rattle.adjacency_table.specs.declared.message.Said.{Said}
+use Rattle.port_model.specs.adjacency_table.declared.message.Said.{Said}
 use Rattle.port_model.specs.Desk.{sent_again}
 use Rattle.port_model.specs.Ticks as port_ticks
 use Rattle.controller_model.specs.Controller.{Acted, ports_of}

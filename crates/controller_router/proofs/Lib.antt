@@ -1,3 +1,4 @@
+pub use Rattle.controller_link.proofs as controller_link
 pub mod Keyed
 pub mod Linked
 pub mod AtWork

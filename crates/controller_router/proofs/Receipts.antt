@@ -8,7 +8,7 @@ use Rattle.net_types.specs.declared.node.PortNo.{PortNo}
 use Rattle.net_types.specs.Number.{GivenOut}
 use Rattle.link_model.specs.Notes.{Journal}
 use Rattle.frame_model.specs.Reassembly.{Reassembly, nothing_taken}
-use Rattle.reassembly.specs.Receipt.{Received, received}
+use Rattle.controller_link.specs.reassembly.Receipt.{Received, received}
 use Rattle.keyed_lists.specs.Keyed.{at}
 use Rattle.controller_link.specs.Cells as cells
 use Rattle.controller_link.specs.Cells.{ControlCells, PortCells}

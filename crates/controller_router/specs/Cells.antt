@@ -2,7 +2,7 @@
 
 use Rattle.std.specs.Prelude.{◌≡◌, true, nat_lt, Some}
 use Rattle.atm_cells.specs.declared.cell.Cell.{Cell}
-use Rattle.reassembly.specs.Receipt.{Received, received}
+use Rattle.controller_link.specs.reassembly.Receipt.{Received, received}
 use Rattle.controller_link.specs.declared.taker.Taker as control
 use Rattle.controller_link.specs.declared.taker.Taker.TheVariants.{Gsmp, Default, Label}
 use Rattle.port_model.specs.Labels as labels

@@ -14,7 +14,7 @@ use world_model::PortRange;
 /// A protocol engine of IFMP for one interface (a port; RFC 1953): it takes what comes and answers
 /// what it asks for in turn. Each call is a rule of `port_model`.
 pub trait PortEngine {
-    ghost use Rattle.std.specs.Prelude.{◌≡◌, ◌≢◌, ◌+◌, ◌==◌, ℕ, [], length, option_map, slice_get, true, None, Some, IfSome, IsTrue, OnOk};
+    ghost use Rattle.std.specs.Prelude.{◌≡◌, ◌≢◌, ◌≤◌, ◌+◌, ◌==◌, ℕ, [], length, option_map, slice_get, true, None, Some, IfSome, IsTrue, OnOk};
     ghost use Rattle.net_types.specs.Label.{is_label_number};
     ghost use Rattle.keyed_lists.specs.Keyed.{at};
     ghost use Rattle.port_labels.specs.Read.{label_of};
@@ -77,6 +77,7 @@ pub trait PortEngine {
 
     /// The port begins anew in Clearing, under the instance `own`, and asks what follows from it.
     fn reset(&mut self, own: Instance, out: &mut Actions) -> Result<(), OutOfMemory>
+        requires { 1 ≤ own.0 }
         ensures setup { (seen self.new).setup ≡ (seen self.old).setup }
         ensures work { (n : ℕ) → own ≡ record { 0 = n + 1 } → OnOk result (HasDone (seen self.old) (seen self.new) out.new (n + 1) (resets (seen self.old).setup (begun (seen self.old).port out.old n))) };
 

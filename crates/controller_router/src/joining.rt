@@ -1,6 +1,6 @@
 //! *Joins* at the ports: a label is joined and parted, a grant is lent and given back.
 
-ghost use Rattle.std.specs.Prelude.{◌≡◌, IsTrue, OnOk, Some};
+ghost use Rattle.std.specs.Prelude.{◌≡◌, IsSome, IsTrue, OnOk, Some};
 ghost use Rattle.net_types.specs.Label.{is_label_channel};
 ghost use Rattle.net_types.specs.Number.{GivenOut};
 ghost use Rattle.keyed_lists.specs.Keyed.{at};
@@ -63,19 +63,20 @@ impl<E: PortEngine> Router<E> {
         self.links[place].joined(number, output);
     }
 
-    /// A grant of a port, under which the router sends where the port is linked, is lent to an input.
+    /// A grant of a linked port, under which the router sends, is lent to an input.
     pub fn lend(&mut self, port: PortNo, number: u16, input: End)
-        requires { (linked : Linked) → linked_at (controller_of E.seen self.old) port ≡ Some linked → IsSentUnder linked.port number }
+        requires linked { IsSome (linked_at (controller_of E.seen self.old) port) }
+        requires sent { (linked : Linked) → linked_at (controller_of E.seen self.old) port ≡ Some linked → IsSentUnder linked.port number }
         ensures acted { (notes : Journal) (numbers : GivenOut) (linked : Linked) (grant : Grant) → linked_at (controller_of E.seen self.old) port ≡ Some linked → at grant_label number linked.port.grants ≡ Some grant → acted E.seen self.new notes numbers ≡ at_port (acted E.seen self.old notes numbers) port (λ setup desk w. lent w grant input) }
         ensures ports { ports_in E.seen self.new ≡ ports_in E.seen self.old }
     {
         let Some(place) = self.place_of(port) else {
-            return;
+            unreachable!()
         };
         self.links[place].lend(number, input);
     }
 
-    /// A lent grant of a port, whose input is released where the port is linked, is given back.
+    /// A lent grant of a linked port, whose input is released, is given back.
     pub fn give_back(
         &mut self,
         port: PortNo,
@@ -84,13 +85,14 @@ impl<E: PortEngine> Router<E> {
         numbers: &mut Numbers,
         notes: &mut Notes,
     ) -> Result<(), OutOfMemory>
+        requires linked { IsSome (linked_at (controller_of E.seen self.old) port) }
         requires released { (linked : Linked) → linked_at (controller_of E.seen self.old) port ≡ Some linked → IsReleased done.now.request linked.port number }
         requires can { (linked : Linked) (grant : Grant) → linked_at (controller_of E.seen self.old) port ≡ Some linked → at grant_label number linked.port.grants ≡ Some grant → CanWork (acted E.seen self.old notes.old numbers.old) port (λ setup desk w. given_back w grant) }
         ensures acted { (linked : Linked) (grant : Grant) → linked_at (controller_of E.seen self.old) port ≡ Some linked → at grant_label number linked.port.grants ≡ Some grant → OnOk result (acted E.seen self.new notes.new numbers.new ≡ at_port (acted E.seen self.old notes.old numbers.old) port (λ setup desk w. given_back w grant)) }
         ensures ports { ports_in E.seen self.new ≡ ports_in E.seen self.old }
     {
         let Some(place) = self.place_of(port) else {
-            return Ok(());
+            unreachable!()
         };
         let mut actions = self.take_actions();
         self.links[place].back(number, done, &mut actions)?;

@@ -1,1 +1,2 @@
+pub use Rattle.report_end.specs as report_end
 pub mod Lines

@@ -2,7 +2,7 @@
 
 ghost use Rattle.std.specs.Prelude.{◌≡◌, ◌++◌, codes, decimal, OnOk};
 ghost use Rattle.lab_text.specs.Text.{line_of};
-ghost use Rattle.script_model.specs.Drill.{node_line, link_line, route_line, direction, rounds};
+ghost use Rattle.script_model.specs.Drill.{node_line, link_line, route_line, direction};
 ghost use Rattle.drill_script.specs.Places.{send_words, words_of};
 
 use crate::packet::write_packet;
@@ -54,35 +54,25 @@ fn write_route(line: &mut Text, node: u8, towards: u8) -> Result<(), OutOfMemory
     line.text(direction(node, towards))
 }
 
+/// Appends what stands before the octets of a packet.
+#[tactic(auto, using(crate::proofs::Numerals::one))]
+fn write_sender(line: &mut Text) -> Result<(), OutOfMemory>
+    ensures { OnOk result (line.new ≡ line.old ++ (codes "send n" ++ (decimal 1 ++ codes " "))) }
+{
+    line.text("send n1 ")
+}
+
 fn write_send(line: &mut Text, nodes: u8, number: u16, drawn: u32) -> Result<(), OutOfMemory>
     ensures { OnOk result (line.new ≡ line.old ++ line_of (send_words nodes number drawn)) }
 {
-    line.text("send n")?;
-    line.number(1)?;
-    line.text(" ")?;
+    write_sender(line)?;
     write_packet(line, nodes, number, drawn)?;
     line.text("\n")
 }
 
-fn write_run(line: &mut Text, count: u16) -> Result<(), OutOfMemory>
-    ensures { OnOk result (line.new ≡ line.old ++ line_of (rounds count)) }
-{
-    line.text("run ")?;
-    line.number(count as u64)?;
-    line.text("\n")
-}
-
-/// A line that names a node: what stands before its number and behind it.
-fn write_named(line: &mut Text, front: &str, node: u8, back: &str) -> Result<(), OutOfMemory>
-    ensures { OnOk result (line.new ≡ line.old ++ (front.now ++ (decimal node ++ back.now))) }
-{
-    line.text(front)?;
-    line.number(node as u64)?;
-    line.text(back)
-}
-
 impl Place {
     /// Appends the line at this cursor, with its end.
+    #[tactic(auto, using(crate::proofs::Numerals::one, crate::proofs::Numerals::two, crate::proofs::Numerals::three, crate::proofs::Numerals::twenty, crate::proofs::Numerals::sixty, crate::proofs::Numerals::two_hundred, crate::proofs::Numerals::thousand))]
     pub fn write(self, line: &mut Text) -> Result<(), OutOfMemory>
         ensures { OnOk result (line.new ≡ line.old ++ line_of (words_of self.nodes self.drawn self.stage)) }
     {
@@ -92,13 +82,13 @@ impl Place {
             Stage::Route { node, towards } => write_route(line, node, towards),
             Stage::Send(number) => write_send(line, self.nodes, number, self.drawn),
             Stage::OpeningTick(_) | Stage::Tick(_) | Stage::ClosingTick => line.text("tick *\n"),
-            Stage::OpeningRun(_) => write_run(line, 200),
-            Stage::Run(_) => write_run(line, 20),
-            Stage::LongRun(_) => write_run(line, 60),
-            Stage::ClosingRun => write_run(line, 1000),
-            Stage::Lose(_) => write_named(line, "lose n", 1, ":c\n"),
-            Stage::Restart(_) => write_named(line, "restart n", 2, "\n"),
-            Stage::RestartSwitch(_) => write_named(line, "restartswitch n", 3, "\n"),
+            Stage::OpeningRun(_) => line.text("run 200\n"),
+            Stage::Run(_) => line.text("run 20\n"),
+            Stage::LongRun(_) => line.text("run 60\n"),
+            Stage::ClosingRun => line.text("run 1000\n"),
+            Stage::Lose(_) => line.text("lose n1:c\n"),
+            Stage::Restart(_) => line.text("restart n2\n"),
+            Stage::RestartSwitch(_) => line.text("restartswitch n3\n"),
         }
     }
 }

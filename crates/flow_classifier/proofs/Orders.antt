@@ -94,6 +94,20 @@ module _ (eq : FlowId → FlowId → Bool) (is : (a b : FlowId) → eq a b ≡ s
         ap packets_of (find_before (of_flow flow) (back (map (counted ticks) rows)) (counted ticks row) (sym (is flow row.0) ∙ e))
         ∙ rest
 
+  -- a flow without a row isn't counted
+  none_counted : (flow : FlowId) (rows : List Row) → lookup (eq flow) rows ≡ None → counted_of (back (map (counted ticks) rows)) flow ≡ None
+  none_counted flow [] h = refl
+  none_counted flow (row ∷ rows) h = by (none_counted flow rows) (eq flow row.0) refl h where
+    by : (lookup (eq flow) rows ≡ None → counted_of (back (map (counted ticks) rows)) flow ≡ None)
+        → (b : Bool) → eq flow row.0 ≡ b → cond b (Some row.1) (lookup (eq flow) rows) ≡ None → counted_of (back (map (counted ticks) rows) ++ counted ticks row ∷ []) flow ≡ None
+    by rest true e h = absurd (cc h)
+    by rest false e h =
+        find_before (of_flow flow) (back (map (counted ticks) rows)) (counted ticks row) (sym (is flow row.0) ∙ e)
+        ∙ rest h
+
+  pub not_counted : (flow : FlowId) (rows : List Row) → lookup (eq flow) rows ≡ None → counted_of (counts_of ticks rows) flow ≡ None
+  not_counted flow rows h = ap (λ (cs : List Counted). counted_of cs flow) (back_is (map (counted ticks) rows)) ∙ none_counted flow rows h
+
   all_kept : (flow : FlowId) (rows : List Row) → AllByRecursion (λ key. eq flow key ≡ false) (keys_of rows) → filter (λ c. not (of_flow flow c)) (map (counted ticks) rows) ≡ map (counted ticks) rows
   all_kept flow [] h = refl
   all_kept flow (row ∷ rows) h = rw (sym (is flow row.0) ∙ h.0) (ap (λ t. counted ticks row ∷ t) (all_kept flow rows h.1))

@@ -1,7 +1,7 @@
 //! The classifier.
 
-ghost use Rattle.std.specs.Prelude.{◌≡◌, ◌≤◌, [], IfOk, OnOk, OnErr};
-ghost use Rattle.port_model.specs.Counts.{counted_once, moved, packets_in};
+ghost use Rattle.std.specs.Prelude.{◌≡◌, ◌≤◌, [], IsOk, IsSome, IfOk, OnOk, OnErr};
+ghost use Rattle.port_model.specs.Counts.{counted_of, counted_once, moved, packets_in};
 ghost use Rattle.flow_classifier.specs.Counting.{totals};
 
 use crate::counted_flows::CountedFlows;
@@ -61,11 +61,12 @@ impl Classifier {
     /// Counts a packet of the flow, and answers how many of its packets came in the last `window`
     /// ticks since it was last forgotten, this one included; 4,294,967,295 where there are more. A
     /// 1,025th flow makes the one forgotten that was counted the longest ago. Want of memory changes
-    /// nothing.
+    /// nothing; a flow that is counted already takes none.
     pub fn count(&mut self, flow: FlowId) -> Result<u32, OutOfMemory>
         ensures packets { IfOk result (λ packets. packets ≡ packets_in self.new.counts flow) }
         ensures ok { OnOk result (self.new ≡ record self.old { counts = counted_once self.old.counts flow }) }
         ensures err { OnErr result (self.new ≡ self.old) }
+        ensures memory { IsSome (counted_of self.old.counts flow) → IsOk result }
     {
         // each flow is there once, and no more are there than there may be
         let _len = self.rows.len();

@@ -5,7 +5,7 @@ use mathlib.Core.Bool.{◌&&◌}
 use Rattle.std.proofs.lemmas.Bool.Decides.{nat_tests}
 use Rattle.std.proofs.lemmas.List.{take-append-drop}
 use Rattle.std.proofs.lemmas.Nat.{from_be_bytes-to_be_bytes_2, from_be_bytes-to_be_bytes_4, be_bytes_2}
-use Rattle.net_types.specs.declared.prefix.Addr.{Addr}
+use Rattle.ipv4_packet.specs.net_types.declared.prefix.Addr.{Addr}
 use Rattle.octet_fields.specs.Fields.{u16_at}
 use Rattle.ipv4_packet.specs.Packet.{source_of, destination_of, with_checksum, canonical, canonical_checksum}
 use Rattle.octet_fields.proofs.FieldLemmas.{AreOctets}

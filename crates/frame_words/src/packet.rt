@@ -3,7 +3,7 @@
 ghost use Rattle.std.specs.Prelude.{◌≡◌, ◌++◌, OnOk, codes, decimal, drop, length};
 ghost use Rattle.ipv4_packet.specs.Packet.{IsPacket, source_of, destination_of, protocol_of, ttl_of};
 ghost use Rattle.ifmp_wire.specs.Fields.{decoded as ifmp_decoded};
-ghost use Rattle.script_model.specs.Texts.{address_text};
+ghost use Rattle.value_text.specs.script_model.Texts.{address_text};
 ghost use Rattle.frame_words.specs.Frame.{carried_text, message_or, packet_text};
 
 use ipv4_packet::{destination, protocol, source, ttl};

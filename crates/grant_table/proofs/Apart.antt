@@ -5,7 +5,7 @@ use Rattle.std.specs.Prelude.{slice_get, slice_set, IfSome, false}
 use Rattle.std.specs.List.{insert}
 use Rattle.std.proofs.lemmas.Bool.{cases_eq, eq-eqb, ne_eqb}
 use Rattle.keyed_lists.specs.Keyed.{at, put, without}
-use Rattle.port_model.specs.Grants.{Grant, grant_label}
+use Rattle.branch_desk.specs.port_model.Grants.{Grant, grant_label}
 use Rattle.grant_table.specs.Table.{AreApart, ages, aged, with_grant}
 
 -- the first grant is of the label, or isn't

@@ -5,7 +5,7 @@ use Rattle.std.specs.Prelude.{find, option_map, ◌&&◌}
 use Rattle.std.proofs.lemmas.Bool.{cases_Bool}
 use Rattle.ipv4_packet.specs.declared.flow.FlowId.{FlowId}
 use Rattle.ipv4_packet.specs.Parts.{same_flow}
-use Rattle.port_model.specs.Grants.{grant_label, grant_for, is_by_controller}
+use Rattle.branch_desk.specs.port_model.Grants.{grant_label, grant_for, is_by_controller}
 use Rattle.grant_table.specs.declared.held.Held.{Held}
 use Rattle.grant_table.specs.Held.{shown}
 

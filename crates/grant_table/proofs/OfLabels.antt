@@ -8,7 +8,7 @@ use Rattle.net_types.specs.Label.{is_label_number}
 use Rattle.ipv4_packet.specs.declared.flow.FlowId.{FlowId}
 use Rattle.ipv4_packet.specs.Parts.{same_flow}
 use Rattle.keyed_lists.specs.Keyed.{at, put, without}
-use Rattle.port_model.specs.Grants.{Grant, grant_label, grant_for, is_by_controller}
+use Rattle.branch_desk.specs.port_model.Grants.{Grant, grant_label, grant_for, is_by_controller}
 use Rattle.grant_table.specs.Table.{AreOfLabels}
 use Rattle.grant_table.proofs.Apart.{at_here, at_there, put_here, put_there, without_here, without_there}
 

@@ -6,7 +6,7 @@ use Rattle.std.specs.List.{remove, insert, position_or_len}
 use Rattle.std.proofs.lemmas.Bool.{cases_eq, cases_lt, eq-eqb, ne_eqb, lt-ltb, le-ltb}
 use Rattle.std.proofs.lemmas.List.Edits.{length-remove}
 use Rattle.keyed_lists.specs.Keyed.{at}
-use Rattle.port_model.specs.Grants.{Grant, grant_label}
+use Rattle.branch_desk.specs.port_model.Grants.{Grant, grant_label}
 use Rattle.grant_table.specs.declared.held.Held.{Held}
 use Rattle.grant_table.specs.Held.{shown}
 use Rattle.grant_table.specs.Table.{AreApart}

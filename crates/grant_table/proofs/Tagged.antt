@@ -9,7 +9,7 @@ use Rattle.memchr.specs.Find.{IsFirstByte, is_byte}
 use Rattle.ipv4_packet.specs.declared.flow.FlowId.{FlowId}
 use Rattle.ipv4_packet.specs.declared.flow.FlowId.TheVariants.{One, Two}
 use Rattle.ipv4_packet.specs.Parts.{same_flow}
-use Rattle.port_model.specs.Grants.{is_by_controller}
+use Rattle.branch_desk.specs.port_model.Grants.{is_by_controller}
 use Rattle.grant_table.specs.declared.held.Held.{Held}
 use Rattle.grant_table.specs.Held.{shown}
 use Rattle.grant_table.specs.Tags.{flow_tag, held_tag}

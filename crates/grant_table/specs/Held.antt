@@ -1,6 +1,6 @@
 -- How the code keeps a grant: its state is a type. No claim needs this file.
 
-use Rattle.port_model.specs.Grants.{Grant, Idle, ByController, ByInput, Leaving}
+use Rattle.branch_desk.specs.port_model.Grants.{Grant, Idle, ByController, ByInput, Leaving}
 use Rattle.grant_table.specs.declared.held.Held.{Held}
 use Rattle.grant_table.specs.declared.held.Held.TheVariants as held
 

@@ -3,7 +3,7 @@
 use Rattle.std.specs.Prelude.{◌≡◌, ℕ, ◌<◌, ◌≤◌, List, length, slice_get, None}
 use Rattle.std.specs.List.{remove, insert}
 use Rattle.keyed_lists.specs.Keyed.{at, put, without}
-use Rattle.port_model.specs.Grants.{Grant, grant_label}
+use Rattle.branch_desk.specs.port_model.Grants.{Grant, grant_label}
 use Rattle.grant_table.specs.Table.{AreApart}
 
 -- the place of the grant of a label, and what a change there makes of the list

@@ -8,11 +8,11 @@ use Rattle.net_types.specs.Label.{is_label_number, label_number_of}
 use Rattle.ipv4_packet.specs.declared.flow.FlowId.{FlowId}
 use Rattle.gsmp_wire.specs.declared.request.Request.{Request}
 use Rattle.gsmp_wire.specs.declared.request.Request.TheVariants.{AddBranch}
-use Rattle.port_model.specs.Requests.{leads_home}
+use Rattle.branch_desk.specs.port_model.Requests.{leads_home}
 use Rattle.keyed_lists.specs.Keyed.{at, put, without}
-use Rattle.port_model.specs.Setup.{home_of}
-use Rattle.port_model.specs.Grants.{Grant, GrantState, Idle, ByController, ByInput, Leaving, Acceptance, acceptance_beside, grant_label, input_of, is_leaving}
-use Rattle.port_model.specs.Grants as grants
+use Rattle.branch_desk.specs.port_model.Setup.{home_of}
+use Rattle.branch_desk.specs.port_model.Grants.{Grant, GrantState, Idle, ByController, ByInput, Leaving, Acceptance, acceptance_beside, grant_label, input_of, is_leaving}
+use Rattle.branch_desk.specs.port_model.Grants as grants
 use Rattle.grant_table.specs.declared.table.GrantState as view
 use Rattle.grant_table.specs.declared.table.GrantState.TheVariants as states
 use Rattle.grant_table.specs.declared.table.GrantView.{GrantView}

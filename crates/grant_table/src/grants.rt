@@ -4,7 +4,7 @@ ghost use Rattle.std.specs.Prelude.{◌≡◌, ◌<◌, ◌≤◌, ◌==◌, ◌
 ghost use Rattle.std.specs.List.{remove, insert};
 ghost use Rattle.keyed_lists.specs.Keyed.{at};
 ghost use Rattle.ipv4_packet.specs.Parts.{same_flow};
-ghost use Rattle.port_model.specs.Grants.{Grant as GrantValue, grant_label, grant_for, is_by_controller};
+ghost use Rattle.branch_desk.specs.port_model.Grants.{Grant as GrantValue, grant_label, grant_for, is_by_controller};
 ghost use Rattle.grant_table.specs.Held.{shown};
 ghost use Rattle.grant_table.specs.Places.{IsPlaceOf};
 
@@ -38,7 +38,7 @@ pub(crate) struct Grants {
 impl Model for Grants {
     ghost use Rattle.std.specs.Prelude.{◌≡◌, ◌≤◌, List, length, map};
     ghost use Rattle.std.specs.Vec.{vec_capacity};
-    ghost use Rattle.port_model.specs.Grants.{Grant};
+    ghost use Rattle.branch_desk.specs.port_model.Grants.{Grant};
 
     ghost Value = { List Grant };
 

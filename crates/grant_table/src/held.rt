@@ -2,7 +2,7 @@
 
 ghost use Rattle.std.specs.Prelude.{◌≡◌, ◌∷◌, ◌&&◌, List};
 ghost use Rattle.ipv4_packet.specs.Parts.{same_flow};
-ghost use Rattle.port_model.specs.Grants.{is_by_controller, is_leaving};
+ghost use Rattle.branch_desk.specs.port_model.Grants.{is_by_controller, is_leaving};
 ghost use Rattle.grant_table.specs.Table.{ages, is_owed, view_of};
 ghost use Rattle.grant_table.specs.Held.{shown};
 

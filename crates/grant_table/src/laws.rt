@@ -3,8 +3,8 @@
 
 ghost use Rattle.std.specs.Prelude.{◌≡◌, ℕ, Some};
 ghost use Rattle.ipv4_packet.specs.declared.flow.FlowId.{FlowId};
-ghost use Rattle.port_model.specs.Setup.{Setup};
-ghost use Rattle.port_model.specs.Grants.{acceptance_of};
+ghost use Rattle.branch_desk.specs.port_model.Setup.{Setup};
+ghost use Rattle.branch_desk.specs.port_model.Grants.{acceptance_of};
 ghost use Rattle.grant_table.specs.Table.{Table, acceptance_in};
 
 /// What a table makes of a REDIRECT is what a port of its range makes of it.

@@ -4,8 +4,8 @@ ghost use Rattle.std.specs.Prelude.{◌≡◌, ◌<◌, ◌≤◌, ◌↔◌, []
 ghost use Rattle.std.specs.Option.{option_map_or};
 ghost use Rattle.ipv4_packet.specs.Packet.{IsPacket};
 ghost use Rattle.net_types.specs.Label.{is_label_number};
-ghost use Rattle.port_model.specs.Grants as grants;
-ghost use Rattle.port_model.specs.Grants.{grant_label, grant_for, grant_matching, grant_of_kind};
+ghost use Rattle.branch_desk.specs.port_model.Grants as grants;
+ghost use Rattle.branch_desk.specs.port_model.Grants.{grant_label, grant_for, grant_matching, grant_of_kind};
 
 use crate::grant::Grant;
 use crate::grants::{Grants, MOST_GRANTS};

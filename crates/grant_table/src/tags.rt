@@ -2,7 +2,7 @@
 
 ghost use Rattle.std.specs.Prelude.{◌≡◌, ◌+◌, ◌%◌, ◌&&◌, option_map, find, map};
 ghost use Rattle.ipv4_packet.specs.Parts.{same_flow};
-ghost use Rattle.port_model.specs.Grants.{is_by_controller};
+ghost use Rattle.branch_desk.specs.port_model.Grants.{is_by_controller};
 ghost use Rattle.grant_table.specs.Held.{shown};
 ghost use Rattle.grant_table.specs.Tags.{flow_tag, held_tag};
 

@@ -1,3 +1,4 @@
+pub use Rattle.octet_fields.proofs as octet_fields
 pub mod Decoding
 pub mod Inverse
 pub mod Places

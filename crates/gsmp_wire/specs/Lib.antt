@@ -1,3 +1,4 @@
+pub use Rattle.octet_fields.specs as octet_fields
 pub mod Fields
 pub mod Layout
 pub mod Parts

@@ -4,8 +4,8 @@ use Rattle.std.proofs.Common.{◌≡◌, ◌<◌, ◌≤◌, ◌⊎◌, true, fa
 use Rattle.std.specs.Prelude.{◌&&◌, ◌==◌, nat_lt, nat_le}
 use Rattle.std.proofs.lemmas.Bool.{cases_Bool, cases_order, cases_lt, true≢false, or_cases, and_parts, and_from, ltb-true, leb-true, eqb-true, lt-ltb, le-leb, eq-eqb}
 use Rattle.net_types.specs.declared.channel.Channel.{Channel}
-use Rattle.port_model.specs.Setup.{channel_le, is_between}
-use Rattle.port_model.specs.Reclaiming.{greater_of, lesser_of}
+use Rattle.branch_desk.specs.port_model.Setup.{channel_le, is_between}
+use Rattle.branch_desk.specs.port_model.Reclaiming.{greater_of, lesser_of}
 
 abbrev Le : Channel → Channel → Type 0
 Le a b = (a.vpi < b.vpi) ⊎ ((a.vpi ≡ b.vpi) × (a.vci ≤ b.vci))

@@ -9,8 +9,8 @@ use Rattle.keyed_lists.specs.Keyed.{entered}
 use Rattle.std.proofs.lemmas.List.{length-set, get_or-set_same, get_or-set_other}
 use Rattle.net_types.specs.declared.channel.Channel.{Channel}
 use Rattle.net_types.specs.Label.{is_label_number, label_channel_of}
-use Rattle.port_model.specs.Setup.{is_between}
-use Rattle.port_model.specs.Reclaiming.{greater_of, lesser_of}
+use Rattle.branch_desk.specs.port_model.Setup.{is_between}
+use Rattle.branch_desk.specs.port_model.Reclaiming.{greater_of, lesser_of}
 use Rattle.label_pool.specs.declared.between.Between.{Between}
 use Rattle.label_pool.specs.Marks.{marked, is_open, AreMarks}
 use Rattle.label_pool.proofs.Marked.{NonePasses, find_first, find_none, length_off, length_on, marked_any, marked_on, marks_pass}

@@ -4,8 +4,8 @@ use Rattle.std.specs.Prelude.{ℕ, Bool, false, not, ◌==◌, ◌&&◌}
 use Rattle.std.specs.Option.{option_map_or}
 use Rattle.net_types.specs.declared.channel.Channel.{Channel}
 use Rattle.net_types.specs.Label.{label_number_of}
-use Rattle.gsmp_wire.specs.declared.request.Request.{Request}
-use Rattle.gsmp_wire.specs.declared.request.Request.TheVariants.{AddBranch, DeleteTree}
+use Rattle.branch_desk.specs.gsmp_wire.declared.request.Request.{Request}
+use Rattle.branch_desk.specs.gsmp_wire.declared.request.Request.TheVariants.{AddBranch, DeleteTree}
 use Rattle.label_pool.specs.Tag.{Tag, Gone}
 use Rattle.label_pool.specs.declared.label.Recalled.{Recalled}
 

@@ -3,7 +3,7 @@
 
 use Rattle.std.specs.Prelude.{◌≡◌, ℕ, Bool, true, false, ◌+◌, ◌-◌, ◌<◌, ◌≤◌, ◌&&◌, IsTrue, List, [], ◌∷◌, length, slice_index_or}
 use Rattle.net_types.specs.Label.{is_label_number, label_channel_of}
-use Rattle.port_model.specs.Setup.{is_between}
+use Rattle.branch_desk.specs.port_model.Setup.{is_between}
 use Rattle.label_pool.specs.declared.between.Between.{Between}
 
 -- the numbers that are marked, where the first mark is that of `first`

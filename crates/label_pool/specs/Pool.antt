@@ -6,7 +6,7 @@ use Rattle.net_types.specs.declared.number.Instance.{Instance}
 use Rattle.net_types.specs.declared.channel.Channel.{Channel}
 use Rattle.net_types.specs.Label.{is_label_number, label_channel_of}
 use Rattle.keyed_lists.specs.Keyed.{without, entered}
-use Rattle.port_model.specs.Setup.{is_between}
+use Rattle.branch_desk.specs.port_model.Setup.{is_between}
 use Rattle.label_pool.specs.Tag.{Tag}
 
 -- the instance of the adjacency for which it was opened, the range of its labels by their numbers, the

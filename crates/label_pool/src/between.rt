@@ -1,8 +1,8 @@
 //! The channels between two.
 
 ghost use Rattle.std.specs.Prelude.{◌≡◌};
-ghost use Rattle.port_model.specs.Setup.{channel_le, is_between};
-ghost use Rattle.port_model.specs.Reclaiming.{greater_of, lesser_of};
+ghost use Rattle.branch_desk.specs.port_model.Setup.{channel_le, is_between};
+ghost use Rattle.branch_desk.specs.port_model.Reclaiming.{greater_of, lesser_of};
 
 use net_types::Channel;
 

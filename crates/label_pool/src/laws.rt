@@ -2,8 +2,8 @@
 //! of the definitions.
 
 ghost use Rattle.std.specs.Prelude.{◌≡◌, List, filter};
-ghost use Rattle.port_model.specs.Setup.{Setup, label_numbers};
-ghost use Rattle.port_model.specs.Labels.{Label, is_spare, lowest_spare};
+ghost use Rattle.branch_desk.specs.port_model.Setup.{Setup, label_numbers};
+ghost use Rattle.branch_desk.specs.port_model.Labels.{Label, is_spare, lowest_spare};
 ghost use Rattle.label_pool.specs.Pool.{Pool, labels_between, lowest};
 
 /// A new pool has the labels of its port; and where a pool's spare labels are those of the port that

@@ -3,8 +3,8 @@
 ghost use Rattle.std.specs.Prelude.{◌≡◌, ◌≤◌, nat_eq, length, option_map, false, IsTrue, IfOk, IfErr, IfSome, IfNone};
 ghost use Rattle.std.specs.List.{list_any};
 ghost use Rattle.net_types.specs.Label.{is_label_number};
-ghost use Rattle.port_model.specs.Setup.{is_between};
-ghost use Rattle.port_model.specs.Reclaiming.{greater_of, lesser_of};
+ghost use Rattle.branch_desk.specs.port_model.Setup.{is_between};
+ghost use Rattle.branch_desk.specs.port_model.Reclaiming.{greater_of, lesser_of};
 
 use crate::between::Between;
 use crate::label::{Label, Spare};

@@ -10,8 +10,8 @@ use Rattle.world_model.specs.port_model.declared.action.Action.TheVariants as ac
 use Rattle.law_controller_facts.proofs.law_port_facts.Keyed.{at_every, at_put_same, on_both}
 use Rattle.world_model.specs.Controller.{Acted, note}
 use Rattle.law_shown_cells.proofs.Tested.{cut_frames}
-use Rattle.law_frame_weights.specs.law_quiet.Costs.{total, frame_weight, answer_weight, request_weight, reset_weight, asking_cost}
-use Rattle.law_frame_weights.specs.law_quiet.Weights.{Bound, standing_cost, desk_weight, state_cost, port_weight, changes_left}
+use Rattle.law_frame_weights.specs.claims_model.Costs.{total, frame_weight, answer_weight, request_weight, reset_weight, asking_cost}
+use Rattle.law_frame_weights.specs.claims_model.Weights.{Bound, standing_cost, desk_weight, state_cost, port_weight, changes_left}
 use Rattle.law_frame_weights.specs.law_port_weights.Works.{action_cost, work_weight}
 use Rattle.law_frame_weights.proofs.law_port_weights.Sums.{total_join, total_more, total_filter, total_put}
 use Rattle.law_frame_weights.proofs.law_port_weights.Works.{Costs, cost_of_grant, spent_cost}

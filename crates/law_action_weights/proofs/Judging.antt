@@ -17,8 +17,8 @@ use Rattle.world_model.specs.Sending.{with_cells, sends}
 use Rattle.world_model.specs.Topology.{peer_of}
 use Rattle.law_shown_cells.specs.Seen.{Extends, IsUnmade}
 use Rattle.law_shown_cells.proofs.Made.{extends_self, extends_on, extends_made, made_is, unmade_next}
-use Rattle.law_frame_weights.specs.law_quiet.Costs.{total, frame_weight, asking_cost, message_cost}
-use Rattle.law_frame_weights.specs.law_quiet.Weights.{Bearing, ToSwitch, Plain, Bound, bearing_of, bearing_on, hops_of, cost_of, cell_weight, port_weight, changes_left, controller_weight}
+use Rattle.law_frame_weights.specs.claims_model.Costs.{total, frame_weight, asking_cost, message_cost}
+use Rattle.law_frame_weights.specs.claims_model.Weights.{Bearing, ToSwitch, Plain, Bound, bearing_of, bearing_on, hops_of, cost_of, cell_weight, port_weight, changes_left, controller_weight}
 use Rattle.law_frame_weights.proofs.law_port_weights.Sums.{total_join, total_put}
 pub use Rattle.law_action_weights.specs.Fine.{HaveOwnNumbers, IsOfLink, IsFine}
 use Rattle.law_frame_weights.proofs.Frames.{frame_total}

@@ -14,8 +14,8 @@ use Rattle.world_model.specs.Controller.{Acted, ports_of}
 use Rattle.law_shown_cells.specs.Seen.{Extends, IsUnmade}
 use Rattle.law_shown_cells.proofs.Made.{extends_self}
 use Rattle.law_shown_cells.proofs.Tested.{cut_frames}
-use Rattle.law_frame_weights.specs.law_quiet.Costs.{total}
-use Rattle.law_frame_weights.specs.law_quiet.Weights.{Bound, desk_weight, changes_left}
+use Rattle.law_frame_weights.specs.claims_model.Costs.{total}
+use Rattle.law_frame_weights.specs.claims_model.Weights.{Bound, desk_weight, changes_left}
 use Rattle.law_frame_weights.proofs.law_port_weights.Works.{cost_of_label, cost_of_grant, labels_in, spent_cost}
 use Rattle.law_action_weights.proofs.Judging.{linked_weight, HaveOwnNumbers, IsOfLink, IsFine, Weighs, down}
 

@@ -4,7 +4,7 @@ use Rattle.std.proofs.Common.{◌≡◌, ℕ, zero, suc, ◌/◌, ◌≤◌, Boo
 use Rattle.std.specs.List.{range_with_len}
 use Rattle.std.specs.Prelude.{not, nat_le}
 use Rattle.world_model.specs.Words.{Channel, Mark, Cell, Journal, frame_cells, last_mark, Reassembly, passed_over, without_slot, too_long, most_cells}
-use Rattle.aal5_frames.specs.Frame.{cells_with, cell_of, pdu_of}
+use Rattle.world_model.specs.aal5_frames.Frame.{cells_with, cell_of, pdu_of}
 use Rattle.world_model.specs.frame_model.Reassembly.{Taken, taken, joined}
 use Rattle.ordered_lists.specs.Ordered.{Every}
 use Rattle.law_actor_pace.specs.Pace.{IsUpTo, AreUpTo, AreAllUpTo}

@@ -1,14 +1,14 @@
 -- a cell comes to the default channel of the link's port: it joins the chain, or is given up, and so may the chain be
 
 use Rattle.std.proofs.Common.{◌≡◌, ℕ, Bool, true, false, List, [], ◌∷◌, ◌++◌, Option, None, Some, refl, sym, ◌∙◌, ap, subst, append-nil, remove, if◌then◌else◌}
-use Rattle.world_model.specs.Words.{Cell, PortNo, Frame, payload_of, Journal, Reassembly, at, put, Action, Linked, port_key, linked_at, with_linked}
+use Rattle.law_controller_views.specs.world_model.Words.{Cell, PortNo, Frame, payload_of, Journal, Reassembly, at, put, Action, Linked, port_key, linked_at, with_linked}
 use Rattle.law_controller_views.proofs.law_port_facts.Keyed.{at_put_same}
 use Rattle.law_controller_views.specs.law_label_line.Cells as lines
 use Rattle.law_controller_views.specs.law_label_line.Cells.{Role, Downstream, Upstream, Way, InChain, ToController}
 use Rattle.law_controller_views.specs.law_label_line.Downstream.{takes_cell}
 use Rattle.law_controller_views.specs.law_label_line.Line.{Line}
 use Rattle.law_controller_views.specs.law_label_line.Moves.{Reassemble, Lose, reassembles_upstream, step, run}
-use Rattle.world_model.specs.Controller.{Acted}
+use Rattle.law_controller_views.specs.world_model.Controller.{Acted}
 use Rattle.law_controller_views.specs.law_port_views.Link.{LinkLabel, other}
 use Rattle.law_controller_views.specs.law_port_views.Shown.{Part, part_of, ShownAt}
 use Rattle.law_controller_views.proofs.law_port_views.Reach.{run_join}

@@ -2,18 +2,18 @@
 
 use Rattle.std.proofs.Common.{◌≡◌, ℕ, Bool, true, false, List, [], ◌∷◌, ◌++◌, Option, None, Some, Result, Ok, Err, refl, sym, ◌∙◌, ap, subst, ◌⊎◌, inl, inr, length, if◌then◌else◌}
 use Rattle.std.specs.Prelude.{not, nat_le, nat_lt, drop, ◌==◌}
-use Rattle.world_model.specs.Words.{PortNo, Mark, protocol_of, source_of, PacketFault, Cell, EncapsFault, default_unwrapped, encaps_refusal, packet_refusal, ifmp_refusal, Frame, Record, Bad, Loss, Chance, PoolFull, Encaps, Packet, Ifmp, payload_of, is_frame, Journal, noted, Reassembly, marks_of, most_cells, broken, passed_over, without_slot, too_long, last_mark, payload_in, tested, tested_by, at, put, hears, Linked, port_key, linked_at, with_linked, routes, control_protocol, Rule, works, at_port, ForDefault, ifmp_holds, counted_at, packet_holds, default_holds, takes_cell}
-use Rattle.world_model.specs.ipv4_packet.Packet.{first_fault}
-use Rattle.world_model.specs.ifmp_wire.declared.message.Message.{Message}
-use Rattle.world_model.specs.ifmp_wire.declared.reader.Fault.{Fault}
-use Rattle.world_model.specs.ifmp_wire.Fields.{decoded as ifmp_decoded}
-use Rattle.world_model.specs.frame_model.Reassembly.{Taken, joined}
-use Rattle.world_model.specs.frame_model.Frame.{octets_of, passed}
+use Rattle.law_controller_views.specs.world_model.Words.{PortNo, Mark, protocol_of, source_of, PacketFault, Cell, EncapsFault, default_unwrapped, encaps_refusal, packet_refusal, ifmp_refusal, Frame, Record, Bad, Loss, Chance, PoolFull, Encaps, Packet, Ifmp, payload_of, is_frame, Journal, noted, Reassembly, marks_of, most_cells, broken, passed_over, without_slot, too_long, last_mark, payload_in, tested, tested_by, at, put, hears, Linked, port_key, linked_at, with_linked, routes, control_protocol, Rule, works, at_port, ForDefault, ifmp_holds, counted_at, packet_holds, default_holds, takes_cell}
+use Rattle.law_controller_views.specs.world_model.ipv4_packet.Packet.{first_fault}
+use Rattle.law_controller_views.specs.world_model.ifmp_wire.declared.message.Message.{Message}
+use Rattle.law_controller_views.specs.world_model.ifmp_wire.declared.reader.Fault.{Fault}
+use Rattle.law_controller_views.specs.world_model.ifmp_wire.Fields.{decoded as ifmp_decoded}
+use Rattle.law_controller_views.specs.world_model.frame_model.Reassembly.{Taken, joined}
+use Rattle.law_controller_views.specs.world_model.frame_model.Frame.{octets_of, passed}
 use Rattle.law_controller_views.proofs.law_port_facts.Keyed.{on_each, at_key, at_put_same}
 use Rattle.law_controller_views.specs.law_label_line.Cells.{Role}
 use Rattle.law_controller_views.specs.law_label_line.Line.{Line}
-use Rattle.world_model.specs.Controller.{Acted, free_slots, note}
-use Rattle.world_model.specs.Cells.{Taker, after_test, ends_frame, after_cell}
+use Rattle.law_controller_views.specs.world_model.Controller.{Acted, free_slots, note}
+use Rattle.law_controller_views.specs.world_model.Cells.{Taker, after_test, ends_frame, after_cell}
 use Rattle.law_controller_views.specs.law_port_views.Link.{LinkLabel, other}
 use Rattle.law_controller_views.specs.law_shown_cells.Seen.{nothing}
 use Rattle.law_controller_views.specs.law_shown_cells.Label.{seen_payload}

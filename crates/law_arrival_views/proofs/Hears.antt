@@ -4,17 +4,17 @@ use Rattle.std.proofs.Common.{◌≡◌, ℕ, ◌≤◌, Bool, true, false, List
 use Rattle.std.specs.Prelude.{◌==◌, ◌&&◌, drop}
 use Rattle.std.specs.Option.{option_and_then, option_map}
 use Rattle.std.proofs.lemmas.Bool.Decides.{nat_tests}
-use Rattle.world_model.specs.Words.{Addr, source_of, Cell, EncapsFault, Work, Linked, linked_at, begins, with_work, works_as}
-use Rattle.world_model.specs.ifmp_wire.declared.message.Message.{Message}
-use Rattle.world_model.specs.ifmp_wire.declared.reader.Fault.{Fault}
-use Rattle.world_model.specs.ifmp_wire.Fields.{decoded as ifmp_decoded}
+use Rattle.law_controller_views.specs.world_model.Words.{Addr, source_of, Cell, EncapsFault, Work, Linked, linked_at, begins, with_work, works_as}
+use Rattle.law_controller_views.specs.world_model.ifmp_wire.declared.message.Message.{Message}
+use Rattle.law_controller_views.specs.world_model.ifmp_wire.declared.reader.Fault.{Fault}
+use Rattle.law_controller_views.specs.world_model.ifmp_wire.Fields.{decoded as ifmp_decoded}
 use Rattle.law_controller_views.specs.ordered_lists.Ordered.{Every}
 use Rattle.law_controller_views.specs.law_label_line.Cells as lines
 use Rattle.law_controller_views.specs.law_label_line.Cells.{Role, Downstream, Upstream}
 use Rattle.law_controller_views.specs.law_label_line.Line.{Line}
 use Rattle.law_controller_views.specs.law_label_line.Moves.{Hear, step, run}
-use Rattle.world_model.specs.Controller.{Acted}
-use Rattle.world_model.specs.Ways.{told}
+use Rattle.law_controller_views.specs.world_model.Controller.{Acted}
+use Rattle.law_controller_views.specs.world_model.Ways.{told}
 use Rattle.law_controller_views.specs.law_port_views.Link.{LinkLabel, other}
 use Rattle.law_controller_views.specs.law_port_views.Heard.{heard_by, is_own}
 use Rattle.law_controller_views.specs.law_port_views.Shown.{Shown}

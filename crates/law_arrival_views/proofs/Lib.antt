@@ -8,6 +8,8 @@ pub use Rattle.law_controller_views.proofs.law_port_widths as law_port_widths
 pub use Rattle.law_controller_views.proofs.law_port_views as law_port_views
 pub use Rattle.law_controller_views.proofs.law_shown_cells as law_shown_cells
 pub use Rattle.law_controller_views.proofs as law_controller_views
+pub use Rattle.law_controller_views.proofs.world_model as world_model
+pub use Rattle.law_controller_views.proofs.law_rule_walks as law_rule_walks
 pub mod Routes
 pub mod Chains
 pub mod Hears

@@ -4,14 +4,14 @@ use Rattle.std.proofs.Common.{◌≡◌, ◌≢◌, ℕ, ◌+◌, ◌*◌, ◌/�
 use Rattle.std.specs.Prelude.{not, nat_le, nat_lt}
 use Rattle.std.specs.Option.{option_and_then}
 use Rattle.std.proofs.lemmas.Bool.Decides.{nat_tests}
-use Rattle.world_model.specs.Words.{PortNo, Mark, Channel, label_number_of, Cell, Loss, Chance, PoolFull, Unbound, payload_of, is_frame, Journal, noted, Reassembly, marks_of, most_cells, broken, passed_over, without_slot, too_long, last_mark, payload_in, tested_by, Label, is_bound, label_at, Linked, port_key, linked_at, chains_with, default_channel, ForGsmp, ForDefault, ForLabel, port_on, on_link, same_channel, label_taker, taker_at, taker_of, reassembly_of, with_reassembly, frame_holds, takes_cell}
-use Rattle.world_model.specs.frame_model.Reassembly.{Taken, joined}
-use Rattle.world_model.specs.frame_model.Frame.{octets_of, passed}
+use Rattle.law_controller_views.specs.world_model.Words.{PortNo, Mark, Channel, label_number_of, Cell, Loss, Chance, PoolFull, Unbound, payload_of, is_frame, Journal, noted, Reassembly, marks_of, most_cells, broken, passed_over, without_slot, too_long, last_mark, payload_in, tested_by, Label, is_bound, label_at, Linked, port_key, linked_at, chains_with, default_channel, ForGsmp, ForDefault, ForLabel, port_on, on_link, same_channel, label_taker, taker_at, taker_of, reassembly_of, with_reassembly, frame_holds, takes_cell}
+use Rattle.law_controller_views.specs.world_model.frame_model.Reassembly.{Taken, joined}
+use Rattle.law_controller_views.specs.world_model.frame_model.Frame.{octets_of, passed}
 use Rattle.law_controller_views.proofs.law_port_facts.Keyed.{on_each, by_eq, at_key}
 use Rattle.law_controller_views.specs.law_label_line.Cells.{Role, Downstream, Upstream}
 use Rattle.law_controller_views.specs.law_label_line.Line.{Line}
-use Rattle.world_model.specs.Controller.{Acted, free_slots, note}
-use Rattle.world_model.specs.Cells.{Taker, after_test, after_cell, cell_comes}
+use Rattle.law_controller_views.specs.world_model.Controller.{Acted, free_slots, note}
+use Rattle.law_controller_views.specs.world_model.Cells.{Taker, after_test, after_cell, cell_comes}
 use Rattle.law_controller_views.specs.law_port_views.Link.{LinkLabel}
 use Rattle.law_controller_views.specs.law_shown_cells.Label.{OnControl, channel_at}
 use Rattle.law_controller_views.proofs.law_shown_cells.Frames.{same_is}

@@ -5,16 +5,16 @@ use Rattle.std.proofs.Common.{◌≡◌, ◌≢◌, ℕ, zero, suc, ◌≤◌, �
 use Rattle.std.specs.Prelude.{◌==◌, ◌&&◌, find, nat_eq}
 use Rattle.std.specs.Option.{option_or, option_map, option_map_or, option_and_then}
 use Rattle.std.proofs.lemmas.Bool.Decides.{nat_tests}
-use Rattle.world_model.specs.Words.{PortNo, Mark, Channel, GivenOut, next_control, with_control, label_channel_of, is_label_number, protocol_of, source_of, ttl_of, EncapsFault, onward, hop_of, Hop, Here, On, FlowId, kind_of, flow_of, same_flow, default_payload, labelled_payload, Frame, Delivered, Dropped, Loss, PoolFull, payload_of, noted, Cell, frame_cells, made, next_mark, at, control_end, Grant, GrantState, ByController, grant_label, grant_for, grant_of_kind, grant_matching, is_by_controller, Linked, linked_at, default_channel, default_home, same_channel, sends_control, is_control, sends_next, goes_by, goes_on, routes, control_protocol}
-use Rattle.world_model.proofs.ipv4_packet.RouteLemmas.{protocol_of-rerouted}
-use Rattle.world_model.specs.ifmp_wire.declared.message.Message.{Message}
-use Rattle.world_model.specs.ifmp_wire.Fields.{decoded as ifmp_decoded}
+use Rattle.law_controller_views.specs.world_model.Words.{PortNo, Mark, Channel, GivenOut, next_control, with_control, label_channel_of, is_label_number, protocol_of, source_of, ttl_of, EncapsFault, onward, hop_of, Hop, Here, On, FlowId, kind_of, flow_of, same_flow, default_payload, labelled_payload, Frame, Delivered, Dropped, Loss, PoolFull, payload_of, noted, Cell, frame_cells, made, next_mark, at, control_end, Grant, GrantState, ByController, grant_label, grant_for, grant_of_kind, grant_matching, is_by_controller, Linked, linked_at, default_channel, default_home, same_channel, sends_control, is_control, sends_next, goes_by, goes_on, routes, control_protocol}
+use Rattle.law_controller_views.proofs.world_model.ipv4_packet.RouteLemmas.{protocol_of-rerouted}
+use Rattle.law_controller_views.specs.world_model.ifmp_wire.declared.message.Message.{Message}
+use Rattle.law_controller_views.specs.world_model.ifmp_wire.Fields.{decoded as ifmp_decoded}
 use Rattle.law_wire.proofs.Packets.{unwrapped_again}
-use Rattle.world_model.specs.Ways.{told}
+use Rattle.law_controller_views.specs.world_model.Ways.{told}
 use Rattle.law_arrival_views.specs.Packets.{IsFree, of_control, of_packet, IsPlain, HasLabelGrants}
-use Rattle.world_model.specs.ipv4_forward.declared.outcome.Hop.TheVariants.{NoRoute, Expired}
-use Rattle.world_model.specs.ipv4_packet.declared.flow.FlowKind.TheVariants.{One, Two}
-use Rattle.world_model.specs.link_model.declared.record.DropCause.TheVariants.{NoRoute as NoRouteCause, Expired as ExpiredCause}
+use Rattle.law_controller_views.specs.world_model.ipv4_forward.declared.outcome.Hop.TheVariants.{NoRoute, Expired}
+use Rattle.law_controller_views.specs.world_model.ipv4_packet.declared.flow.FlowKind.TheVariants.{One, Two}
+use Rattle.law_controller_views.specs.world_model.link_model.declared.record.DropCause.TheVariants.{NoRoute as NoRouteCause, Expired as ExpiredCause}
 use Rattle.law_controller_views.specs.ordered_lists.Ordered.{Every}
 use Rattle.law_controller_views.proofs.law_port_facts.Keyed.{by_eq, on_both}
 use Rattle.law_controller_views.proofs.law_port_facts.Found.{find_passes, find_every}
@@ -25,9 +25,9 @@ use Rattle.law_controller_views.specs.law_label_line.Line as states
 use Rattle.law_controller_views.specs.law_label_line.Line.{Line}
 use Rattle.law_controller_views.specs.law_label_line.Moves.{SendLabelled, step, run}
 use Rattle.law_controller_views.specs.law_label_line.Upstream.{sends_labelled}
-use Rattle.world_model.specs.Controller.{Acted}
-use Rattle.world_model.specs.Sending.{with_cells, sends}
-use Rattle.world_model.specs.Packets.{forwarded}
+use Rattle.law_controller_views.specs.world_model.Controller.{Acted}
+use Rattle.law_controller_views.specs.world_model.Sending.{with_cells, sends}
+use Rattle.law_controller_views.specs.world_model.Packets.{forwarded}
 use Rattle.law_controller_views.specs.law_port_views.Link.{LinkLabel, other}
 use Rattle.law_controller_views.specs.law_port_views.Flows.{flow_number}
 use Rattle.law_controller_views.specs.law_port_views.Shown.{grant_in, granted, GrantShows, IsOfOther, Once}

@@ -1,15 +1,15 @@
 -- What a cell that comes to a controller has to be, so that the lines of labels follow it
 
 use Rattle.std.specs.Prelude.{◌≡◌, ℕ, ◌≤◌, ◌==◌, nat_le, nat_lt, true, false, List, [], ◌∷◌, ◌++◌, drop, length, None, Some, Ok}
-use Rattle.world_model.specs.Words.{Addr, protocol_of, source_of, Cell, default_unwrapped, payload_of, is_frame, last_mark, payload_in, Reassembly, most_cells, is_spent, Work, hears, Linked, linked_at, with_linked, default_channel, routes, control_protocol, taker_of, reassembly_of, with_reassembly, frame_holds, counted_at, begins}
-use Rattle.world_model.specs.ipv4_packet.Packet.{first_fault}
-use Rattle.world_model.specs.ifmp_wire.declared.message.Message.{Message}
-use Rattle.world_model.specs.ifmp_wire.Fields.{decoded}
-use Rattle.world_model.specs.frame_model.Frame.{octets_of}
+use Rattle.law_controller_views.specs.world_model.Words.{Addr, protocol_of, source_of, Cell, default_unwrapped, payload_of, is_frame, last_mark, payload_in, Reassembly, most_cells, is_spent, Work, hears, Linked, linked_at, with_linked, default_channel, routes, control_protocol, taker_of, reassembly_of, with_reassembly, frame_holds, counted_at, begins}
+use Rattle.law_controller_views.specs.world_model.ipv4_packet.Packet.{first_fault}
+use Rattle.law_controller_views.specs.world_model.ifmp_wire.declared.message.Message.{Message}
+use Rattle.law_controller_views.specs.world_model.ifmp_wire.Fields.{decoded}
+use Rattle.law_controller_views.specs.world_model.frame_model.Frame.{octets_of}
 use Rattle.law_controller_views.specs.ordered_lists.Ordered.{Every}
 use Rattle.law_controller_views.specs.law_label_line.Cells.{Role}
-use Rattle.world_model.specs.Controller.{Acted, free_slots}
-use Rattle.world_model.specs.Cells.{Taker}
+use Rattle.law_controller_views.specs.world_model.Controller.{Acted, free_slots}
+use Rattle.law_controller_views.specs.world_model.Cells.{Taker}
 use Rattle.law_controller_views.specs.law_port_views.Link.{LinkLabel}
 use Rattle.law_controller_views.specs.law_shown_cells.Label.{OnControl, channel_at}
 use Rattle.law_controller_views.specs.Ends.{EndLeads}

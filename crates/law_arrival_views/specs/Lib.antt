@@ -5,5 +5,6 @@ pub use Rattle.law_controller_views.specs.law_controller_facts as law_controller
 pub use Rattle.law_controller_views.specs.law_port_widths as law_port_widths
 pub use Rattle.law_controller_views.specs.law_shown_cells as law_shown_cells
 pub use Rattle.law_controller_views.specs as law_controller_views
+pub use Rattle.law_controller_views.specs.world_model as world_model
 pub mod Packets
 pub mod Cells

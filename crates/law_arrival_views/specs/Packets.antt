@@ -1,9 +1,9 @@
 -- What a packet that is sent on has to be, so that the lines of labels follow it
 
 use Rattle.std.specs.Prelude.{◌≡◌, ◌≢◌, ℕ, ◌≤◌, ◌==◌, true, false, List, length, None, Some}
-use Rattle.world_model.specs.Words.{PortNo, Mark, is_label_number, protocol_of, payload_of, next_mark, Grant, Controller, Linked, linked_at, is_control, control_protocol}
+use Rattle.law_controller_views.specs.world_model.Words.{PortNo, Mark, is_label_number, protocol_of, payload_of, next_mark, Grant, Controller, Linked, linked_at, is_control, control_protocol}
 use Rattle.law_controller_views.specs.ordered_lists.Ordered.{Every}
-use Rattle.world_model.specs.Controller.{Acted}
+use Rattle.law_controller_views.specs.world_model.Controller.{Acted}
 
 -- *The mark of its next frame*: nothing was made under it
 pub data IsFree (a : Acted) (came : Mark) : Type 0 where

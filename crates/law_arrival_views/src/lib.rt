@@ -8,11 +8,11 @@
 #![tactic(auto)]
 
 ghost use Rattle.std.specs.Prelude.{◌≡◌, [], ◌∷◌, List, ℕ};
-ghost use Rattle.world_model.specs.Words.{Mark, Cell, routes};
+ghost use Rattle.law_controller_views.specs.world_model.Words.{Mark, Cell, routes};
 ghost use Rattle.law_controller_views.specs.law_label_line.Cells.{Role};
 ghost use Rattle.law_controller_views.specs.law_label_line.Line.{Line};
-ghost use Rattle.world_model.specs.Controller.{Acted};
-ghost use Rattle.world_model.specs.Cells.{cell_comes};
+ghost use Rattle.law_controller_views.specs.world_model.Controller.{Acted};
+ghost use Rattle.law_controller_views.specs.world_model.Cells.{cell_comes};
 ghost use Rattle.law_controller_views.specs.law_port_views.Link.{LinkLabel};
 ghost use Rattle.law_controller_views.specs.Ends.{EndLeads, Pieces, Net, Goes, asking, placed};
 ghost use Rattle.law_controller_views.specs.Queues.{awaited};

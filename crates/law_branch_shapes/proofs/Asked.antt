@@ -6,12 +6,12 @@ use Rattle.std.specs.List.{list_all}
 use Rattle.std.specs.Option.{option_map}
 use Rattle.std.specs.FinMap.{get, insert, remove}
 use Rattle.std.proofs.lemmas.Bool.Decides.{nat_tests}
-use Rattle.world_model.specs.Words.{End, PortNo, Request, is_link_channel, is_channel_of, is_connectable, Branches, same_end, new_branch, numbers_of, Changed, added_by, added, moved_by, moved_to, ended_by, all_ended, inputs_on, branches_after, named_ends, applies, failure_of, Setup, home_of, default_end}
-use Rattle.world_model.specs.crossbar_model.declared.branch.Branch.{Branch}
-use Rattle.world_model.specs.switch_model.declared.port.PortState.{PortState}
-use Rattle.world_model.specs.switch_model.declared.request.Asked.{Asked}
-use Rattle.world_model.specs.switch_model.declared.request.Failure.TheVariants.{NoPort, BadSession, PortDown, OutOfRange, Busy, NoConnection, SessionsSpent}
-use Rattle.world_model.specs.Requests.{ended}
+use Rattle.law_causes.specs.world_model.Words.{End, PortNo, Request, is_link_channel, is_channel_of, is_connectable, Branches, same_end, new_branch, numbers_of, Changed, added_by, added, moved_by, moved_to, ended_by, all_ended, inputs_on, branches_after, named_ends, applies, failure_of, Setup, home_of, default_end}
+use Rattle.law_causes.specs.world_model.crossbar_model.declared.branch.Branch.{Branch}
+use Rattle.law_causes.specs.world_model.switch_model.declared.port.PortState.{PortState}
+use Rattle.law_causes.specs.world_model.switch_model.declared.request.Asked.{Asked}
+use Rattle.law_causes.specs.world_model.switch_model.declared.request.Failure.TheVariants.{NoPort, BadSession, PortDown, OutOfRange, Busy, NoConnection, SessionsSpent}
+use Rattle.law_causes.specs.world_model.Requests.{ended}
 use Rattle.law_world_views.specs.law_port_facts.Port.{IsDefaultEnd, IsShaped, asks_ports, empties_control, empties_port, opens_input, opens_output, leads_label, leads_grant, joins_label, parts_label, frees_label}
 use Rattle.law_world_views.specs.Between.{IsPortEnd, IsShapedBranch, default, label, home, out, joined}
 use Rattle.law_causes.proofs.Maps.{same_input, insert_here, insert_away, remove_here, remove_away}

@@ -4,23 +4,23 @@ use Rattle.std.proofs.Common.{◌≡◌, ℕ, Bool, true, false, true≢false, L
 use Rattle.std.specs.Prelude.{◌==◌, ◌&&◌, ◌||◌, not, nat_le, nat_lt}
 use Rattle.std.specs.List.{list_any}
 use Rattle.std.specs.FinMap.{get}
-use Rattle.world_model.specs.Words.{End, Mark, Greeting, Party, next_control, Answer, Quiet, Send, Open, Step, is_estab, gsmp_answer, gsmp_received, Cell, Move, Request, AddBranch, MoveBranch, DeleteTree, VerifyTree, PortManagement, Record, Loss, Chance, Bad, PoolFull, Cut, Gsmp, payload_of, is_frame, Journal, noted, gsmp_refusal, made, last_mark, payload_in, tested_by, frame_cells, most_cells, passed_over, without_slot, too_long, cut_by_move, Switch, control_port, gsmp_channel, Changed, noted_cut, moved_by, moved_to, ended_by, all_ended, inputs_on, branches_after, asked_in, is_request, failure_of, handled_by, handled_asked, handled, replied, requested, read, gsmp_cell, is_wild, IsTame}
-use Rattle.world_model.specs.adjacency_table.declared.message.Answer.TheVariants.{Reset}
-use Rattle.world_model.specs.gsmp_wire.declared.fault.Fault.{Fault}
-use Rattle.world_model.specs.gsmp_wire.declared.message.Message.{Message}
-use Rattle.world_model.specs.gsmp_wire.declared.message.Message.TheVariants.{Adjacency, Branch as BranchMessage, Port, AllPorts as AllPortsMessage}
-use Rattle.world_model.specs.gsmp_wire.declared.request.Request.TheVariants.{DeleteAll, AllPorts}
-use Rattle.world_model.specs.gsmp_wire.Layout.{octets_of as message_octets}
-use Rattle.world_model.specs.gsmp_wire.Fields.{decoded}
-use Rattle.world_model.specs.frame_model.Frame.{octets_of}
-use Rattle.world_model.specs.frame_model.Sending.{Sent}
-use Rattle.world_model.specs.frame_model.Reassembly.{Taken, taken}
-use Rattle.world_model.specs.crossbar_model.declared.branch.Branch.{Branch}
-use Rattle.world_model.specs.switch_model.declared.request.Asked.{Asked}
-use Rattle.world_model.specs.switch_model.declared.request.Failure.{Failure}
-use Rattle.world_model.specs.Switch.{Acted, free_slots}
-use Rattle.world_model.specs.Requests.{ended, cleared}
-use Rattle.world_model.specs.Conduct.{with_cells, says, answers, steps, told, after_test, ends_frame}
+use Rattle.law_causes.specs.world_model.Words.{End, Mark, Greeting, Party, next_control, Answer, Quiet, Send, Open, Step, is_estab, gsmp_answer, gsmp_received, Cell, Move, Request, AddBranch, MoveBranch, DeleteTree, VerifyTree, PortManagement, Record, Loss, Chance, Bad, PoolFull, Cut, Gsmp, payload_of, is_frame, Journal, noted, gsmp_refusal, made, last_mark, payload_in, tested_by, frame_cells, most_cells, passed_over, without_slot, too_long, cut_by_move, Switch, control_port, gsmp_channel, Changed, noted_cut, moved_by, moved_to, ended_by, all_ended, inputs_on, branches_after, asked_in, is_request, failure_of, handled_by, handled_asked, handled, replied, requested, read, gsmp_cell, is_wild, IsTame}
+use Rattle.law_causes.specs.world_model.adjacency_table.declared.message.Answer.TheVariants.{Reset}
+use Rattle.law_causes.specs.world_model.gsmp_wire.declared.fault.Fault.{Fault}
+use Rattle.law_causes.specs.world_model.gsmp_wire.declared.message.Message.{Message}
+use Rattle.law_causes.specs.world_model.gsmp_wire.declared.message.Message.TheVariants.{Adjacency, Branch as BranchMessage, Port, AllPorts as AllPortsMessage}
+use Rattle.law_causes.specs.world_model.gsmp_wire.declared.request.Request.TheVariants.{DeleteAll, AllPorts}
+use Rattle.law_causes.specs.world_model.gsmp_wire.Layout.{octets_of as message_octets}
+use Rattle.law_causes.specs.world_model.gsmp_wire.Fields.{decoded}
+use Rattle.law_causes.specs.world_model.frame_model.Frame.{octets_of}
+use Rattle.law_causes.specs.world_model.frame_model.Sending.{Sent}
+use Rattle.law_causes.specs.world_model.frame_model.Reassembly.{Taken, taken}
+use Rattle.law_causes.specs.world_model.crossbar_model.declared.branch.Branch.{Branch}
+use Rattle.law_causes.specs.world_model.switch_model.declared.request.Asked.{Asked}
+use Rattle.law_causes.specs.world_model.switch_model.declared.request.Failure.{Failure}
+use Rattle.law_causes.specs.world_model.Switch.{Acted, free_slots}
+use Rattle.law_causes.specs.world_model.Requests.{ended, cleared}
+use Rattle.law_causes.specs.world_model.Conduct.{with_cells, says, answers, steps, told, after_test, ends_frame}
 use Rattle.law_world_views.proofs.law_port_facts.Keyed.{on_both}
 use Rattle.law_branch_shapes.specs.Shapes.{ended_by as chain_ended}
 use Rattle.law_world_views.proofs.law_shown_cells.Tested.{frame_is, last_is}

@@ -4,27 +4,27 @@ use Rattle.std.proofs.Common.{◌≡◌, ℕ, suc, zero, Bool, true, false, List
 use Rattle.std.specs.Prelude.{nat_le, nat_lt, ◌&&◌}
 use Rattle.std.specs.Option.{option_map, option_and_then}
 use Rattle.std.specs.FinMap.{get, keys}
-use Rattle.world_model.specs.Words.{End, PortNo, Instance, Mark, Channel, next_control, with_control, Greeting, Party, Answer, Quiet, Send, Open, Step, is_estab, ticked, gsmp_answer, gsmp_received, Cell, Move, Request, Loss, PoolFull, Journal, noted, made, last_mark, payload_in, tested_by, frame_cells, Routed, Crossbar, unfinished_after, routed, switched_on, Standing, Switch, control_port, gsmp_channel, numbers_of, asked_in, is_request, ports_after, failure_of, handled_by, handled_asked, handled, replied, requested, read, gsmp_cell, switched_cell, is_gsmp, Setup, gsmp_of, copy_by, copy_of}
-use Rattle.world_model.specs.adjacency_table.declared.message.Answer.TheVariants.{Reset}
-use Rattle.world_model.specs.gsmp_wire.declared.fault.Fault.{Fault}
-use Rattle.world_model.specs.gsmp_wire.declared.message.Message.{Message}
-use Rattle.world_model.specs.gsmp_wire.declared.message.Message.TheVariants.{Adjacency, Branch as BranchMessage, Port, AllPorts as AllPortsMessage}
-use Rattle.world_model.specs.gsmp_wire.Layout.{octets_of as message_octets}
-use Rattle.world_model.specs.gsmp_wire.Fields.{decoded}
-use Rattle.world_model.specs.frame_model.Frame.{octets_of, passed}
-use Rattle.world_model.specs.frame_model.Sending.{Sent}
-use Rattle.world_model.specs.frame_model.Reassembly.{Taken, taken}
-use Rattle.world_model.specs.crossbar_model.declared.branch.Branch.{Branch}
-use Rattle.world_model.specs.crossbar_model.declared.routed.Routed.TheVariants as routes
-use Rattle.world_model.specs.crossbar_model.Crossbar.{input_of}
-use Rattle.world_model.specs.switch_model.declared.port.PortState.{PortState}
-use Rattle.world_model.specs.switch_model.declared.request.Asked.{Asked}
-use Rattle.world_model.specs.switch_model.declared.request.Failure.{Failure}
-use Rattle.world_model.specs.Switch.{Acted, free_slots, begun}
-use Rattle.world_model.specs.Conduct.{sends, with_cells, says, answers, steps, told, after_test, ends_frame, passed as passed_cell}
+use Rattle.law_causes.specs.world_model.Words.{End, PortNo, Instance, Mark, Channel, next_control, with_control, Greeting, Party, Answer, Quiet, Send, Open, Step, is_estab, ticked, gsmp_answer, gsmp_received, Cell, Move, Request, Loss, PoolFull, Journal, noted, made, last_mark, payload_in, tested_by, frame_cells, Routed, Crossbar, unfinished_after, routed, switched_on, Standing, Switch, control_port, gsmp_channel, numbers_of, asked_in, is_request, ports_after, failure_of, handled_by, handled_asked, handled, replied, requested, read, gsmp_cell, switched_cell, is_gsmp, Setup, gsmp_of, copy_by, copy_of}
+use Rattle.law_causes.specs.world_model.adjacency_table.declared.message.Answer.TheVariants.{Reset}
+use Rattle.law_causes.specs.world_model.gsmp_wire.declared.fault.Fault.{Fault}
+use Rattle.law_causes.specs.world_model.gsmp_wire.declared.message.Message.{Message}
+use Rattle.law_causes.specs.world_model.gsmp_wire.declared.message.Message.TheVariants.{Adjacency, Branch as BranchMessage, Port, AllPorts as AllPortsMessage}
+use Rattle.law_causes.specs.world_model.gsmp_wire.Layout.{octets_of as message_octets}
+use Rattle.law_causes.specs.world_model.gsmp_wire.Fields.{decoded}
+use Rattle.law_causes.specs.world_model.frame_model.Frame.{octets_of, passed}
+use Rattle.law_causes.specs.world_model.frame_model.Sending.{Sent}
+use Rattle.law_causes.specs.world_model.frame_model.Reassembly.{Taken, taken}
+use Rattle.law_causes.specs.world_model.crossbar_model.declared.branch.Branch.{Branch}
+use Rattle.law_causes.specs.world_model.crossbar_model.declared.routed.Routed.TheVariants as routes
+use Rattle.law_causes.specs.world_model.crossbar_model.Crossbar.{input_of}
+use Rattle.law_causes.specs.world_model.switch_model.declared.port.PortState.{PortState}
+use Rattle.law_causes.specs.world_model.switch_model.declared.request.Asked.{Asked}
+use Rattle.law_causes.specs.world_model.switch_model.declared.request.Failure.{Failure}
+use Rattle.law_causes.specs.world_model.Switch.{Acted, free_slots, begun}
+use Rattle.law_causes.specs.world_model.Conduct.{sends, with_cells, says, answers, steps, told, after_test, ends_frame, passed as passed_cell}
 use Rattle.law_world_views.specs.law_port_facts.Port.{IsShaped, asks_ports, empties_control, empties_port, opens_input, opens_output, leads_label, leads_grant, joins_label, parts_label, frees_label}
 use Rattle.law_world_views.proofs.law_port_facts.Keyed.{on_both}
-use Rattle.world_model.specs.Ways.{told as heard}
+use Rattle.law_causes.specs.world_model.Ways.{told as heard}
 use Rattle.law_branch_shapes.specs.Shapes.{AreShaped, HasShapes, Brings, CellsKeepShapes, TicksKeepShapes, RestartsKeepShapes}
 use Rattle.law_branch_shapes.proofs.Asked.{shaped_put, ended_all, asked_shaped}
 

@@ -4,17 +4,17 @@ use Rattle.std.proofs.Common.{◌≡◌, ℕ, suc, List, [], ◌∷◌, ◌++◌
 use Rattle.std.specs.Prelude.{Contains}
 use Rattle.std.specs.Option.{option_map, option_map_or}
 use Rattle.std.specs.FinMap.{get-empty}
-use Rattle.world_model.specs.Words.{NodeId, PortNo, Down, Instance, GivenOut, next_instance, Cell, end_cmp, Standing, control_port, numbers_of, Policy, default_channel, after_opening, Topology, Node, IsTopology, World, Site, site_key, site_at, opened_site, with_opened, opens_each, empty_world, queue_in, next, world_after, gsmp_to_switch, on_channel, IsTame}
-use Rattle.world_model.specs.crossbar_model.declared.branch.Branch.{Branch}
+use Rattle.law_causes.specs.world_model.Words.{NodeId, PortNo, Down, Instance, GivenOut, next_instance, Cell, end_cmp, Standing, control_port, numbers_of, Policy, default_channel, after_opening, Topology, Node, IsTopology, World, Site, site_key, site_at, opened_site, with_opened, opens_each, empty_world, queue_in, next, world_after, gsmp_to_switch, on_channel, IsTame}
+use Rattle.law_causes.specs.world_model.crossbar_model.declared.branch.Branch.{Branch}
 use Rattle.law_world_views.specs.ordered_lists.Ordered.{Every}
 use Rattle.law_world_views.proofs.ordered_lists.Every.{every_join}
-use Rattle.world_model.specs.Switch.{begun}
+use Rattle.law_causes.specs.world_model.Switch.{begun}
 use Rattle.law_world_views.specs.law_port_facts.Port.{IsShaped}
 use Rattle.law_world_views.proofs.law_port_facts.Keyed.{at_every}
-use Rattle.world_model.specs.network_model.declared.event.Event.{Event}
-use Rattle.world_model.specs.Topology as topologies
-use Rattle.world_model.specs.World.{opened}
-use Rattle.world_model.proofs.Opening.{site_ports}
+use Rattle.law_causes.specs.world_model.network_model.declared.event.Event.{Event}
+use Rattle.law_causes.specs.world_model.Topology as topologies
+use Rattle.law_causes.specs.world_model.World.{opened}
+use Rattle.law_causes.proofs.world_model.Opening.{site_ports}
 use Rattle.law_world_views.specs.Between as worlds
 use Rattle.law_world_views.specs.Between.{EachSite, setups_of}
 use Rattle.law_branch_shapes.specs.Events.{HasOwnShapes, CopiesAreShaped, RunsKeepShapes}

@@ -4,25 +4,25 @@ use Rattle.std.proofs.Common.{◌≡◌, ℕ, suc, ◌≤◌, ◌+◌, Bool, tru
 use Rattle.std.specs.Prelude.{◌==◌, ◌&&◌, Contains}
 use Rattle.std.specs.Option.{option_map_or}
 use Rattle.std.proofs.lemmas.Bool.Decides.{nat_tests}
-use Rattle.world_model.specs.Words.{NodeId, PortNo, Place, Down, Up, Out, Channel, GivenOut, next_control, with_control, Cell, Refusal, Forged, Journal, Standing, control_port, Setup, Controller, Linked, default_channel, inject_refusal, injected, node_restarts, change_comes, Topology, IsTopology, World, Site, site_key, site_at, controller_acts, switch_acts, place_node, queue_in, queue_at, with_queue_in, with_queue_of, with_queue, put_away, next, world_after, IsTame, forges, injects_by, arrives_at, carries_head, loses_head, requests_chain_at, gsmp_to_switch, on_channel, copy_under}
+use Rattle.law_causes.specs.world_model.Words.{NodeId, PortNo, Place, Down, Up, Out, Channel, GivenOut, next_control, with_control, Cell, Refusal, Forged, Journal, Standing, control_port, Setup, Controller, Linked, default_channel, inject_refusal, injected, node_restarts, change_comes, Topology, IsTopology, World, Site, site_key, site_at, controller_acts, switch_acts, place_node, queue_in, queue_at, with_queue_in, with_queue_of, with_queue, put_away, next, world_after, IsTame, forges, injects_by, arrives_at, carries_head, loses_head, requests_chain_at, gsmp_to_switch, on_channel, copy_under}
 use Rattle.law_world_views.specs.ordered_lists.Ordered.{Every}
-use Rattle.world_model.specs.Switch as switches
-use Rattle.world_model.specs.Conduct as switch
+use Rattle.law_causes.specs.world_model.Switch as switches
+use Rattle.law_causes.specs.world_model.Conduct as switch
 use Rattle.law_world_views.specs.law_port_facts.Port.{IsShaped}
 use Rattle.law_world_views.proofs.law_port_facts.Keyed.{at_every}
-use Rattle.world_model.specs.Controller.{Acted}
-use Rattle.world_model.specs.Cells as controller
-use Rattle.world_model.specs.Ticks as controller_ticks
-use Rattle.world_model.specs.Sending.{sends}
+use Rattle.law_causes.specs.world_model.Controller.{Acted}
+use Rattle.law_causes.specs.world_model.Cells as controller
+use Rattle.law_causes.specs.world_model.Ticks as controller_ticks
+use Rattle.law_causes.specs.world_model.Sending.{sends}
 use Rattle.law_world_views.specs.law_controller_facts.Inputs.{FrameIsForged, Input, CellComes, PacketEnters, Ticks, Restarts, ChangeComes, enters_unless, takes_input}
 use Rattle.law_world_views.specs.law_controller_facts.Sound.{IsSound, setups_by}
 use Rattle.law_world_views.proofs.law_controller_facts.Laws.{always_sound, input_sound}
-use Rattle.world_model.specs.network_model.declared.event.Event.{Event}
-use Rattle.world_model.specs.network_model.declared.event.Event.TheVariants.{Inject, Carry, Lose, Tick, TickSwitch, Restart, RestartSwitch, Forge, Route}
-use Rattle.world_model.specs.network_model.declared.link.LinkEnd.{LinkEnd}
-use Rattle.world_model.specs.Topology.{peer_of}
-use Rattle.world_model.specs.World.{at_controller, at_switch, opened}
-use Rattle.world_model.specs.Step.{note, acts}
+use Rattle.law_causes.specs.world_model.network_model.declared.event.Event.{Event}
+use Rattle.law_causes.specs.world_model.network_model.declared.event.Event.TheVariants.{Inject, Carry, Lose, Tick, TickSwitch, Restart, RestartSwitch, Forge, Route}
+use Rattle.law_causes.specs.world_model.network_model.declared.link.LinkEnd.{LinkEnd}
+use Rattle.law_causes.specs.world_model.Topology.{peer_of}
+use Rattle.law_causes.specs.world_model.World.{at_controller, at_switch, opened}
+use Rattle.law_causes.specs.world_model.Step.{note, acts}
 use Rattle.law_causes.proofs.law_lifetimes.Opened.{IsFed, opening_fed}
 use Rattle.law_causes.proofs.law_lifetimes.Runs.{run_fed}
 use Rattle.law_causes.proofs.law_lifetimes.Feeding.{acted_by}

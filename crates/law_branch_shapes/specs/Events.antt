@@ -1,11 +1,11 @@
 -- What an event of a network keeps of the shapes of branches and requests
 
 use Rattle.std.specs.Prelude.{◌≡◌, List, ◌∷◌, ◌++◌, Contains, Some}
-use Rattle.world_model.specs.Words.{Cell, Standing, Policy, Topology, IsTopology, World, Site, next, world_after, gsmp_to_switch, copy_under, IsTame}
+use Rattle.law_causes.specs.world_model.Words.{Cell, Standing, Policy, Topology, IsTopology, World, Site, next, world_after, gsmp_to_switch, copy_under, IsTame}
 use Rattle.law_world_views.specs.ordered_lists.Ordered.{Every}
 use Rattle.law_world_views.specs.law_port_facts.Port.{IsShaped}
-use Rattle.world_model.specs.network_model.declared.event.Event.{Event}
-use Rattle.world_model.specs.World.{opened}
+use Rattle.law_causes.specs.world_model.network_model.declared.event.Event.{Event}
+use Rattle.law_causes.specs.world_model.World.{opened}
 use Rattle.law_world_views.specs.Between as worlds
 use Rattle.law_world_views.specs.Between.{EachSite, setups_of}
 use Rattle.law_branch_shapes.specs.Shapes.{HasShapes}

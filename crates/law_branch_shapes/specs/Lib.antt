@@ -7,5 +7,6 @@ pub use Rattle.law_causes.specs.law_controller_bindings as law_controller_bindin
 pub use Rattle.law_causes.specs.law_lifetimes as law_lifetimes
 pub use Rattle.law_world_views.specs as law_world_views
 pub use Rattle.law_causes.specs as law_causes
+pub use Rattle.law_causes.specs.world_model as world_model
 pub mod Shapes
 pub mod Events

@@ -1,12 +1,12 @@
 -- How the branches of a switch lead, where its controller alone asks for them
 
 use Rattle.std.specs.Prelude.{◌≡◌, ℕ, true, nat_lt, List, ◌∷◌, map, Some}
-use Rattle.world_model.specs.Words.{End, PortNo, Cell, payload_of, payload_in, Branches, Standing, Switch, control_port, numbers_of, is_gsmp, tick_comes, restarted, Setup, copy_under}
-use Rattle.world_model.specs.frame_model.Frame.{octets_of}
-use Rattle.world_model.specs.frame_model.Reassembly.{taken}
-use Rattle.world_model.specs.crossbar_model.Crossbar.{output_of}
-use Rattle.world_model.specs.Switch.{Acted, free_slots}
-use Rattle.world_model.specs.Conduct.{cell_comes}
+use Rattle.law_causes.specs.world_model.Words.{End, PortNo, Cell, payload_of, payload_in, Branches, Standing, Switch, control_port, numbers_of, is_gsmp, tick_comes, restarted, Setup, copy_under}
+use Rattle.law_causes.specs.world_model.frame_model.Frame.{octets_of}
+use Rattle.law_causes.specs.world_model.frame_model.Reassembly.{taken}
+use Rattle.law_causes.specs.world_model.crossbar_model.Crossbar.{output_of}
+use Rattle.law_causes.specs.world_model.Switch.{Acted, free_slots}
+use Rattle.law_causes.specs.world_model.Conduct.{cell_comes}
 use Rattle.law_world_views.specs.law_port_facts.Port.{IsShaped}
 use Rattle.law_world_views.specs.Between.{IsShapedBranch}
 

@@ -1,8 +1,8 @@
 -- a controller has acted: the lists of the world it leaves
 
 use Rattle.std.proofs.Common.{◌≡◌, ◌≢◌, false, List, [], ◌∷◌, None, Some, refl, sym, ◌∙◌, ap, ◌⊎◌, inl, inr}
-use Rattle.world_model.specs.Words.{NodeId, Place, Down, Up, Channel, Cell, Entry, Reassembly, nothing_taken, Topology, IsTopology, World, Site, site_key, site_at, with_site, queue_at}
-use Rattle.world_model.specs.Controller.{Acted}
+use Rattle.law_cell_lists.specs.world_model.Words.{NodeId, Place, Down, Up, Channel, Cell, Entry, Reassembly, nothing_taken, Topology, IsTopology, World, Site, site_key, site_at, with_site, queue_at}
+use Rattle.law_cell_lists.specs.world_model.Controller.{Acted}
 use Rattle.law_cell_lists.proofs.Real.{AreApart, IsReal, real_alike}
 use Rattle.law_causes.specs.Feeding.{IsLed, branch_at}
 use Rattle.law_causes.proofs.Spots.{Spot, same_spot, yields, home, down, up}

@@ -4,14 +4,14 @@ use Rattle.std.proofs.Common.{◌≡◌, ◌≢◌, ℕ, Bool, true, false, List
 use Rattle.std.specs.Prelude.{◌==◌, ◌&&◌, nat_lt, IsSome, is_some}
 use Rattle.std.specs.Option.{option_map, option_map_or, option_and_then}
 use Rattle.std.proofs.lemmas.Bool.Decides.{nat_tests}
-use Rattle.world_model.specs.Words.{NodeId, Place, Down, Up, Out, Channel, Cell, Entry, Unbound, Loss, Journal, noted, Reassembly, nothing_taken, Tested, tested, last_mark, stretch_from, Controller, default_channel, ForGsmp, ForDefault, ForLabel, same_channel, taker_of, reassembly_of, with_reassembly, takes_cell, Topology, IsTopology, World, Site, site_key, site_at, with_site, queue_at, on_channel, tallied, put_away, OfController, OfSwitch, same_taker, reassembly_at, cell_for, arrival, cut_turn}
-use Rattle.world_model.specs.frame_model.Reassembly.{Taken, taken}
-use Rattle.world_model.specs.Controller.{Acted, free_slots}
-use Rattle.world_model.specs.Cells as cells_of
-use Rattle.world_model.specs.Cells.{opened_frame, after_test, ends_frame, after_cell, cell_comes}
-use Rattle.world_model.specs.network_model.declared.event.Event.{Event}
-use Rattle.world_model.specs.network_model.declared.event.Event.TheVariants.{Carry}
-use Rattle.world_model.specs.Stretches.{Taker, at_controller}
+use Rattle.law_cell_lists.specs.world_model.Words.{NodeId, Place, Down, Up, Out, Channel, Cell, Entry, Unbound, Loss, Journal, noted, Reassembly, nothing_taken, Tested, tested, last_mark, stretch_from, Controller, default_channel, ForGsmp, ForDefault, ForLabel, same_channel, taker_of, reassembly_of, with_reassembly, takes_cell, Topology, IsTopology, World, Site, site_key, site_at, with_site, queue_at, on_channel, tallied, put_away, OfController, OfSwitch, same_taker, reassembly_at, cell_for, arrival, cut_turn}
+use Rattle.law_cell_lists.specs.world_model.frame_model.Reassembly.{Taken, taken}
+use Rattle.law_cell_lists.specs.world_model.Controller.{Acted, free_slots}
+use Rattle.law_cell_lists.specs.world_model.Cells as cells_of
+use Rattle.law_cell_lists.specs.world_model.Cells.{opened_frame, after_test, ends_frame, after_cell, cell_comes}
+use Rattle.law_cell_lists.specs.world_model.network_model.declared.event.Event.{Event}
+use Rattle.law_cell_lists.specs.world_model.network_model.declared.event.Event.TheVariants.{Carry}
+use Rattle.law_cell_lists.specs.world_model.Stretches.{Taker, at_controller}
 use Rattle.law_controller_bindings.proofs.law_port_facts.Keyed.{by_eq}
 use Rattle.law_cell_lists.proofs.Taking.{Adds, adds_then, adds_others, stretch_after}
 use Rattle.law_cell_lists.proofs.Net.{Takes as TakesEnd}

@@ -3,12 +3,12 @@
 use Rattle.std.proofs.Common.{◌≡◌, ◌≢◌, ℕ, Bool, true, false, List, [], ◌∷◌, Option, None, Some, refl, sym, ◌∙◌, ap, subst, arith, append-nil, inl, inr, if◌then◌else◌}
 use Rattle.std.specs.Prelude.{◌==◌}
 use Rattle.std.specs.Option.{option_map_or, option_and_then}
-use Rattle.world_model.specs.Words.{home_of, NodeId, Down, End as PortEnd, Mark, Cell, Entry, Cut, same_mark, Journal, Reassembly, Request, AddBranch, MoveBranch, DeleteTree, VerifyTree, PortManagement, Crossbar, Branches, same_end, new_branch, Changed, noted_cut, added_by, added, moved_by, moved_to, ended_by, all_ended, inputs_on, branches_after, Topology, IsTopology, World, Site, site_at, queue_in, queue_at, on_channel}
+use Rattle.law_cell_lists.specs.world_model.Words.{home_of, NodeId, Down, End as PortEnd, Mark, Cell, Entry, Cut, same_mark, Journal, Reassembly, Request, AddBranch, MoveBranch, DeleteTree, VerifyTree, PortManagement, Crossbar, Branches, same_end, new_branch, Changed, noted_cut, added_by, added, moved_by, moved_to, ended_by, all_ended, inputs_on, branches_after, Topology, IsTopology, World, Site, site_at, queue_in, queue_at, on_channel}
 use Rattle.std.specs.FinMap.{get, insert, remove}
 use Rattle.std.proofs.lemmas.Bool.Decides.{nat_tests}
-use Rattle.world_model.specs.gsmp_wire.declared.request.Request.TheVariants.{DeleteAll, AllPorts}
-use Rattle.world_model.specs.crossbar_model.declared.branch.Branch.{Branch}
-use Rattle.world_model.specs.Requests.{ended, cleared}
+use Rattle.law_cell_lists.specs.world_model.gsmp_wire.declared.request.Request.TheVariants.{DeleteAll, AllPorts}
+use Rattle.law_cell_lists.specs.world_model.crossbar_model.declared.branch.Branch.{Branch}
+use Rattle.law_cell_lists.specs.world_model.Requests.{ended, cleared}
 use Rattle.law_controller_bindings.proofs.law_port_facts.Keyed.{by_eq}
 use Rattle.law_cell_lists.specs.Causes.{is_cause_of}
 use Rattle.law_cell_lists.proofs.Lists.{any_back}

@@ -1,7 +1,7 @@
 -- what a port asks to be noted is no loss
 
 use Rattle.std.proofs.Common.{◌≡◌, [], ◌∷◌, refl}
-use Rattle.world_model.specs.Words.{Record, losses_of}
+use Rattle.law_cell_lists.specs.world_model.Words.{Record, losses_of}
 use Rattle.law_causes.proofs.Noting.{AllowsNotes, AllowsBinding}
 
 -- *A record of no loss*

@@ -4,16 +4,16 @@ use Rattle.std.proofs.Common.{◌≡◌, ◌≢◌, ℕ, zero, suc, ◌<◌, ◌
 use Rattle.std.specs.Prelude.{◌==◌}
 use Rattle.std.specs.Option.{option_map, option_and_then}
 use Rattle.std.specs.FinMap.{get}
-use Rattle.world_model.specs.Words.{NodeId, PortNo, Place, Down, End as PortEnd, Cell, Cause, Unconnected, PoolFull, Broken, Loss, noted, Reassembly, Crossbar, route_on, on_channel_of, unfinished_after, switched_on, switched_cell, Topology, IsTopology, World, Site, site_at, with_site, place_node, queue_at, queue_number, on_channel, tallied, put_away, cell_for, arrival, is_broken}
-use Rattle.world_model.specs.crossbar_model.declared.branch.Branch.{Branch}
-use Rattle.world_model.specs.crossbar_model.Crossbar.{forwarded}
-use Rattle.world_model.specs.Switch.{Acted, free_slots}
-use Rattle.world_model.specs.Conduct.{passed, counted}
-use Rattle.world_model.specs.network_model.declared.event.Event.{Event}
-use Rattle.world_model.specs.network_model.declared.link.LinkEnd.{LinkEnd}
-use Rattle.world_model.specs.Topology.{peer_of}
-use Rattle.world_model.specs.Stretches.{Taker}
-use Rattle.world_model.proofs.Lists.{length_set}
+use Rattle.law_cell_lists.specs.world_model.Words.{NodeId, PortNo, Place, Down, End as PortEnd, Cell, Cause, Unconnected, PoolFull, Broken, Loss, noted, Reassembly, Crossbar, route_on, on_channel_of, unfinished_after, switched_on, switched_cell, Topology, IsTopology, World, Site, site_at, with_site, place_node, queue_at, queue_number, on_channel, tallied, put_away, cell_for, arrival, is_broken}
+use Rattle.law_cell_lists.specs.world_model.crossbar_model.declared.branch.Branch.{Branch}
+use Rattle.law_cell_lists.specs.world_model.crossbar_model.Crossbar.{forwarded}
+use Rattle.law_cell_lists.specs.world_model.Switch.{Acted, free_slots}
+use Rattle.law_cell_lists.specs.world_model.Conduct.{passed, counted}
+use Rattle.law_cell_lists.specs.world_model.network_model.declared.event.Event.{Event}
+use Rattle.law_cell_lists.specs.world_model.network_model.declared.link.LinkEnd.{LinkEnd}
+use Rattle.law_cell_lists.specs.world_model.Topology.{peer_of}
+use Rattle.law_cell_lists.specs.world_model.Stretches.{Taker}
+use Rattle.law_cell_lists.proofs.world_model.Lists.{length_set}
 use Rattle.law_controller_bindings.proofs.law_port_facts.Keyed.{by_eq}
 use Rattle.law_cell_lists.proofs.Real.{IsReal, real_over}
 use Rattle.law_causes.specs.Feeding.{IsLed, branch_at}

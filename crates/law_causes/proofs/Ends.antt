@@ -4,10 +4,10 @@ use Rattle.std.proofs.Common.{◌≡◌, ◌≢◌, ℕ, suc, ◌<◌, ◌+◌, 
 use Rattle.std.specs.Prelude.{◌||◌, ◌/◌, ◌%◌, nat_lt, nat_eq, is_some}
 use Rattle.std.specs.Option.{option_and_then, option_map_or}
 use Rattle.std.proofs.lemmas.Bool.Decides.{nat_tests}
-use Rattle.world_model.specs.Words.{PortNo, Channel, channel_on_control, label_channel_of, label_number_of, number_of_channel, is_label_channel, Cell, Reassembly, nothing_taken, at, put, without, entered, key_le, Label, label_number, is_bound, label_at, labels_of, Controller, LabelChain, Linked, port_key, chain_key, chain_of, chains_with, chain_slots, default_channel, ForGsmp, ForDefault, ForLabel, port_on, on_link, same_channel, label_taker, taker_at, taker_of, reassembly_of}
-use Rattle.world_model.specs.port_model.Port.{Port}
+use Rattle.law_cell_lists.specs.world_model.Words.{PortNo, Channel, channel_on_control, label_channel_of, label_number_of, number_of_channel, is_label_channel, Cell, Reassembly, nothing_taken, at, put, without, entered, key_le, Label, label_number, is_bound, label_at, labels_of, Controller, LabelChain, Linked, port_key, chain_key, chain_of, chains_with, chain_slots, default_channel, ForGsmp, ForDefault, ForLabel, port_on, on_link, same_channel, label_taker, taker_at, taker_of, reassembly_of}
+use Rattle.law_cell_lists.specs.world_model.port_model.Port.{Port}
 use Rattle.law_controller_bindings.proofs.law_port_facts.Keyed.{by_eq, on_each, on_both, at_key, at_put_same, at_put_other}
-use Rattle.world_model.specs.Cells.{Taker}
+use Rattle.law_cell_lists.specs.world_model.Cells.{Taker}
 use Rattle.law_cell_lists.proofs.Net.{End, Takes, Closed}
 use Rattle.law_causes.proofs.Spots.{same_spot}
 

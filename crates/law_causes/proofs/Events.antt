@@ -4,20 +4,20 @@ use Rattle.std.proofs.Common.{◌≡◌, ◌≢◌, ℕ, ◌+◌, ◌≤◌, Boo
 use Rattle.std.specs.Prelude.{◌==◌, ◌&&◌, IsSome, is_some}
 use Rattle.std.specs.Option.{option_map, option_map_or}
 use Rattle.std.proofs.lemmas.Bool.Decides.{nat_tests}
-use Rattle.world_model.specs.Words.{NodeId, PortNo, Place, Down, Up, Out, Channel, Cell, Lost, Refused, Loss, Refusal, PacketFault, stretch_from, at, put, control_port, gsmp_channel, same_channel, node_restarts, change_comes, inject_refusal, refused_by, injected, Topology, IsTopology, IsNode, IsPlace, IsEvent, World, Site, site_key, site_at, with_site, controller_acts, switch_acts, place_node, queue_in, queue_at, queue_number, with_queue, with_queue_of, with_queue_in, put_away, next, tallied, injects_by, carries_head, loses_head, arrives, arrives_at, OfController, OfSwitch, reassembly_at, cell_for, arrival, cut_turn}
-use Rattle.world_model.specs.ipv4_packet.Packet.{first_fault}
-use Rattle.world_model.specs.Switch as switch_of
-use Rattle.world_model.specs.Conduct as switch
-use Rattle.world_model.specs.Controller.{Acted}
-use Rattle.world_model.specs.Cells as controller
-use Rattle.world_model.specs.Ticks.{ticks}
-use Rattle.world_model.specs.network_model.declared.event.Event.{Event}
-use Rattle.world_model.specs.network_model.declared.event.Event.TheVariants.{Inject, Carry, Lose, Tick, TickSwitch, Restart, RestartSwitch, Forge, Route}
-use Rattle.world_model.specs.network_model.declared.link.LinkEnd.{LinkEnd}
-use Rattle.world_model.specs.Topology.{peer_of}
-use Rattle.world_model.specs.Step.{note}
-use Rattle.world_model.specs.Stretches.{Taker, at_controller, at_switch}
-use Rattle.world_model.proofs.Lists.{at_key, at_put_same, at_put_other}
+use Rattle.law_cell_lists.specs.world_model.Words.{NodeId, PortNo, Place, Down, Up, Out, Channel, Cell, Lost, Refused, Loss, Refusal, PacketFault, stretch_from, at, put, control_port, gsmp_channel, same_channel, node_restarts, change_comes, inject_refusal, refused_by, injected, Topology, IsTopology, IsNode, IsPlace, IsEvent, World, Site, site_key, site_at, with_site, controller_acts, switch_acts, place_node, queue_in, queue_at, queue_number, with_queue, with_queue_of, with_queue_in, put_away, next, tallied, injects_by, carries_head, loses_head, arrives, arrives_at, OfController, OfSwitch, reassembly_at, cell_for, arrival, cut_turn}
+use Rattle.law_cell_lists.specs.world_model.ipv4_packet.Packet.{first_fault}
+use Rattle.law_cell_lists.specs.world_model.Switch as switch_of
+use Rattle.law_cell_lists.specs.world_model.Conduct as switch
+use Rattle.law_cell_lists.specs.world_model.Controller.{Acted}
+use Rattle.law_cell_lists.specs.world_model.Cells as controller
+use Rattle.law_cell_lists.specs.world_model.Ticks.{ticks}
+use Rattle.law_cell_lists.specs.world_model.network_model.declared.event.Event.{Event}
+use Rattle.law_cell_lists.specs.world_model.network_model.declared.event.Event.TheVariants.{Inject, Carry, Lose, Tick, TickSwitch, Restart, RestartSwitch, Forge, Route}
+use Rattle.law_cell_lists.specs.world_model.network_model.declared.link.LinkEnd.{LinkEnd}
+use Rattle.law_cell_lists.specs.world_model.Topology.{peer_of}
+use Rattle.law_cell_lists.specs.world_model.Step.{note}
+use Rattle.law_cell_lists.specs.world_model.Stretches.{Taker, at_controller, at_switch}
+use Rattle.law_cell_lists.proofs.world_model.Lists.{at_key, at_put_same, at_put_other}
 use Rattle.law_controller_bindings.proofs.law_port_facts.Keyed.{by_eq}
 use Rattle.law_causes.proofs.Sizes.{fault_short}
 use Rattle.law_causes.proofs.Rules.{Kept, ticks_kept, node_restarts_kept, change_comes_kept, routes_kept}

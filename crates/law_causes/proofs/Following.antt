@@ -3,11 +3,11 @@
 use Rattle.std.proofs.Common.{◌≡◌, ◌≢◌, ℕ, ◌≤◌, Bool, true, false, List, [], ◌∷◌, ◌++◌, length, Option, None, Some, refl, sym, ◌∙◌, ap, ap₂, subst, append-nil, inl, if◌then◌else◌}
 use Rattle.std.specs.Prelude.{nat_eq, IsSome}
 use Rattle.std.specs.Option.{option_map, option_map_or, option_and_then}
-use Rattle.world_model.specs.Words.{NodeId, Place, Down, Up, Out, Channel, Cell, Entry, Reassembly, stretch_from, at, Controller, default_channel, same_channel, taker_of, reassembly_of, Topology, IsTopology, World, Site, site_key, site_at, controller_at, controller_acts, queue_in, on_channel, tallied, put_away, OfController, OfSwitch, reassembly_at, cell_for, arrival, cut_turn, turns_at}
-use Rattle.world_model.specs.Controller.{Acted}
-use Rattle.world_model.specs.network_model.declared.event.Event.{Event}
-use Rattle.world_model.specs.Stretches.{Taker}
-use Rattle.world_model.proofs.Lists.{at_key}
+use Rattle.law_cell_lists.specs.world_model.Words.{NodeId, Place, Down, Up, Out, Channel, Cell, Entry, Reassembly, stretch_from, at, Controller, default_channel, same_channel, taker_of, reassembly_of, Topology, IsTopology, World, Site, site_key, site_at, controller_at, controller_acts, queue_in, on_channel, tallied, put_away, OfController, OfSwitch, reassembly_at, cell_for, arrival, cut_turn, turns_at}
+use Rattle.law_cell_lists.specs.world_model.Controller.{Acted}
+use Rattle.law_cell_lists.specs.world_model.network_model.declared.event.Event.{Event}
+use Rattle.law_cell_lists.specs.world_model.Stretches.{Taker}
+use Rattle.law_cell_lists.proofs.world_model.Lists.{at_key}
 use Rattle.law_controller_bindings.proofs.law_port_facts.Keyed.{by_eq}
 use Rattle.law_cell_lists.proofs.Taking.{Adds}
 use Rattle.law_cell_lists.proofs.Real.{AreApart, IsReal, real_alike}

@@ -3,10 +3,10 @@
 use Rattle.std.proofs.Common.{◌≡◌, ℕ, Bool, true, false, true≢false, Option, None, Some, refl, sym, ◌∙◌, ap, subst, if◌then◌else◌}
 use Rattle.std.specs.Prelude.{is_some}
 use Rattle.std.specs.Option.{option_map, option_map_or, option_and_then}
-use Rattle.world_model.specs.Words.{NodeId, Channel, label_number_of, nothing_taken, at, Label, label_at, Controller, Linked, LabelChain, chain_key, port_key, default_channel, ForGsmp, ForDefault, ForLabel, port_on, on_link, same_channel, label_taker, taker_at, World, Site, site_key, site_at, controller_at, world_after}
+use Rattle.law_cell_lists.specs.world_model.Words.{NodeId, Channel, label_number_of, nothing_taken, at, Label, label_at, Controller, Linked, LabelChain, chain_key, port_key, default_channel, ForGsmp, ForDefault, ForLabel, port_on, on_link, same_channel, label_taker, taker_at, World, Site, site_key, site_at, controller_at, world_after}
 use Rattle.law_controller_bindings.specs.ordered_lists.Ordered.{Every}
 use Rattle.law_controller_bindings.proofs.law_port_facts.Keyed.{at_key, at_every}
-use Rattle.world_model.specs.World.{opened}
+use Rattle.law_cell_lists.specs.world_model.World.{opened}
 use Rattle.law_controller_bindings.specs.Bindings.{IsOfBound}
 use Rattle.law_controller_bindings.proofs.Laws.{always_gathers}
 use Rattle.law_lifetimes.proofs.Opened.{IsFed, opening_fed}

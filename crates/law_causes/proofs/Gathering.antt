@@ -4,13 +4,13 @@ use Rattle.std.proofs.Common.{◌≡◌, ◌≢◌, ℕ, Bool, true, false, List
 use Rattle.std.specs.Prelude.{◌==◌, nat_lt, IsSome}
 use Rattle.std.specs.Option.{option_map, option_map_or}
 use Rattle.std.proofs.lemmas.Bool.Decides.{nat_tests}
-use Rattle.world_model.specs.Words.{NodeId, Place, Down, Up, Out, Channel, Cell, Entry, Journal, Reassembly, Tested, tested, stretch_from, Crossbar, gsmp_channel, gsmp_cell, default_channel, same_channel, Topology, IsTopology, World, Site, site_at, with_site, queue_at, on_channel, tallied, put_away, OfController, OfSwitch, reassembly_at, cell_for, arrival, cut_turn}
-use Rattle.world_model.specs.frame_model.Reassembly.{Taken, taken}
-use Rattle.world_model.specs.Switch.{Acted, free_slots}
-use Rattle.world_model.specs.Conduct.{ends_frame, opened_frame}
-use Rattle.world_model.specs.network_model.declared.event.Event.{Event}
-use Rattle.world_model.specs.network_model.declared.event.Event.TheVariants.{Carry}
-use Rattle.world_model.specs.Stretches.{Taker, at_switch}
+use Rattle.law_cell_lists.specs.world_model.Words.{NodeId, Place, Down, Up, Out, Channel, Cell, Entry, Journal, Reassembly, Tested, tested, stretch_from, Crossbar, gsmp_channel, gsmp_cell, default_channel, same_channel, Topology, IsTopology, World, Site, site_at, with_site, queue_at, on_channel, tallied, put_away, OfController, OfSwitch, reassembly_at, cell_for, arrival, cut_turn}
+use Rattle.law_cell_lists.specs.world_model.frame_model.Reassembly.{Taken, taken}
+use Rattle.law_cell_lists.specs.world_model.Switch.{Acted, free_slots}
+use Rattle.law_cell_lists.specs.world_model.Conduct.{ends_frame, opened_frame}
+use Rattle.law_cell_lists.specs.world_model.network_model.declared.event.Event.{Event}
+use Rattle.law_cell_lists.specs.world_model.network_model.declared.event.Event.TheVariants.{Carry}
+use Rattle.law_cell_lists.specs.world_model.Stretches.{Taker, at_switch}
 use Rattle.law_cell_lists.proofs.Taking.{Adds, adds_then, adds_others, stretch_after}
 use Rattle.law_cell_lists.proofs.Net.{Takes as TakesEnd}
 use Rattle.law_cell_lists.proofs.Real.{IsReal, TakesReal, real_takes, real_grown, real_alike, chain_is_stretch}

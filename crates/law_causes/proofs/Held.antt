@@ -3,23 +3,23 @@
 use Rattle.std.proofs.Common.{◌≡◌, ◌≢◌, ℕ, suc, ◌≤◌, ◌+◌, ◌*◌, Bool, true, false, List, [], ◌∷◌, ◌++◌, length, map, Option, None, Some, refl, sym, ◌∙◌, ap, subst, arith, append-nil, inr, if◌then◌else◌}
 use Rattle.std.specs.Prelude.{◌==◌, ◌&&◌, nat_le, slice_set, slice_index_or, Result, Ok, Err}
 use Rattle.std.specs.FinMap.{get}
-use Rattle.world_model.specs.Words.{NodeId, Down, End as PortEnd, Mark, Greeting, Party, next_control, with_control, Cell, Answer, Quiet, Send, Open, Said, Step, is_estab, greeting_of, gsmp_answer, gsmp_received, Move, Request, AddBranch, MoveBranch, DeleteTree, VerifyTree, PortManagement, Entry, PoolFull, Loss, noted, Reassembly, frame_cells, made, Crossbar, Branches, queue_of, sent, Switch, control_port, gsmp_channel, with_branches, with_port, Changed, asked_in, is_request, branches_after, ports_after, managed, failure_of, failure_answer, success_answer, refused, carried_out, handled_by, handled_asked, handled, replied, requested, read, default_channel, Topology, IsTopology, World, Site, site_at, queue_at}
-use Rattle.world_model.specs.adjacency_table.declared.message.Answer.TheVariants.{Reset}
-use Rattle.world_model.specs.gsmp_wire.declared.fault.Fault.{Fault}
-use Rattle.world_model.specs.gsmp_wire.declared.message.Message.{Message}
-use Rattle.world_model.specs.gsmp_wire.declared.message.Message.TheVariants.{Adjacency, Branch as BranchMessage, Port, AllPorts as AllPortsMessage}
-use Rattle.world_model.specs.gsmp_wire.declared.request.Request.TheVariants.{DeleteAll, AllPorts}
-use Rattle.world_model.specs.gsmp_wire.Layout.{octets_of}
-use Rattle.world_model.specs.gsmp_wire.Fields.{decoded}
-use Rattle.world_model.specs.frame_model.Sending.{Sent}
+use Rattle.law_cell_lists.specs.world_model.Words.{NodeId, Down, End as PortEnd, Mark, Greeting, Party, next_control, with_control, Cell, Answer, Quiet, Send, Open, Said, Step, is_estab, greeting_of, gsmp_answer, gsmp_received, Move, Request, AddBranch, MoveBranch, DeleteTree, VerifyTree, PortManagement, Entry, PoolFull, Loss, noted, Reassembly, frame_cells, made, Crossbar, Branches, queue_of, sent, Switch, control_port, gsmp_channel, with_branches, with_port, Changed, asked_in, is_request, branches_after, ports_after, managed, failure_of, failure_answer, success_answer, refused, carried_out, handled_by, handled_asked, handled, replied, requested, read, default_channel, Topology, IsTopology, World, Site, site_at, queue_at}
+use Rattle.law_cell_lists.specs.world_model.adjacency_table.declared.message.Answer.TheVariants.{Reset}
+use Rattle.law_cell_lists.specs.world_model.gsmp_wire.declared.fault.Fault.{Fault}
+use Rattle.law_cell_lists.specs.world_model.gsmp_wire.declared.message.Message.{Message}
+use Rattle.law_cell_lists.specs.world_model.gsmp_wire.declared.message.Message.TheVariants.{Adjacency, Branch as BranchMessage, Port, AllPorts as AllPortsMessage}
+use Rattle.law_cell_lists.specs.world_model.gsmp_wire.declared.request.Request.TheVariants.{DeleteAll, AllPorts}
+use Rattle.law_cell_lists.specs.world_model.gsmp_wire.Layout.{octets_of}
+use Rattle.law_cell_lists.specs.world_model.gsmp_wire.Fields.{decoded}
+use Rattle.law_cell_lists.specs.world_model.frame_model.Sending.{Sent}
 use Rattle.law_controller_bindings.specs.ordered_lists.Ordered.{Every}
-use Rattle.world_model.specs.switch_model.declared.port.PortState.{PortState}
-use Rattle.world_model.specs.switch_model.declared.request.Asked.{Asked}
-use Rattle.world_model.specs.switch_model.declared.request.Failure.{Failure}
-use Rattle.world_model.specs.Switch.{Acted, free_slots}
-use Rattle.world_model.specs.Answers.{row_of}
-use Rattle.world_model.specs.Conduct.{with_cells, says, answers, steps, told, opened_frame}
-use Rattle.world_model.proofs.Lists.{length_set}
+use Rattle.law_cell_lists.specs.world_model.switch_model.declared.port.PortState.{PortState}
+use Rattle.law_cell_lists.specs.world_model.switch_model.declared.request.Asked.{Asked}
+use Rattle.law_cell_lists.specs.world_model.switch_model.declared.request.Failure.{Failure}
+use Rattle.law_cell_lists.specs.world_model.Switch.{Acted, free_slots}
+use Rattle.law_cell_lists.specs.world_model.Answers.{row_of}
+use Rattle.law_cell_lists.specs.world_model.Conduct.{with_cells, says, answers, steps, told, opened_frame}
+use Rattle.law_cell_lists.proofs.world_model.Lists.{length_set}
 use Rattle.law_controller_bindings.proofs.law_port_facts.Keyed.{by_eq, on_both, on_each}
 use Rattle.law_cell_lists.specs.Causes.{bare}
 use Rattle.law_cell_lists.proofs.Frames.{IsWhole, whole_frame}

@@ -4,12 +4,12 @@ use Rattle.std.proofs.Common.{◌≡◌, ◌≤◌, Bool, true, false, List, [],
 use Rattle.std.specs.Option.{option_map, option_and_then}
 use Rattle.std.specs.FinMap.{get}
 use Rattle.std.proofs.lemmas.Bool.Decides.{nat_tests}
-use Rattle.world_model.specs.Words.{NodeId, Place, Down, Up, Out, Channel, End as PortEnd, Cell, Entry, Cause, same_mark, Reassembly, stretch_from, home_of, Controller, default_channel, same_channel, taker_of, reassembly_of, Topology, World, Site, site_key, site_at, controller_at, place_node, queue_at, queue_number, with_queue_in, on_channel, OfController, OfSwitch, reassembly_at, cell_for, arrival, cut_turn, is_broken}
-use Rattle.world_model.specs.crossbar_model.declared.branch.Branch.{Branch}
-use Rattle.world_model.specs.network_model.declared.event.Event.{Event}
-use Rattle.world_model.specs.Stretches.{Taker}
-use Rattle.world_model.proofs.Lists.{length_set}
-use Rattle.world_model.proofs.Queues.{Sets}
+use Rattle.law_cell_lists.specs.world_model.Words.{NodeId, Place, Down, Up, Out, Channel, End as PortEnd, Cell, Entry, Cause, same_mark, Reassembly, stretch_from, home_of, Controller, default_channel, same_channel, taker_of, reassembly_of, Topology, World, Site, site_key, site_at, controller_at, place_node, queue_at, queue_number, with_queue_in, on_channel, OfController, OfSwitch, reassembly_at, cell_for, arrival, cut_turn, is_broken}
+use Rattle.law_cell_lists.specs.world_model.crossbar_model.declared.branch.Branch.{Branch}
+use Rattle.law_cell_lists.specs.world_model.network_model.declared.event.Event.{Event}
+use Rattle.law_cell_lists.specs.world_model.Stretches.{Taker}
+use Rattle.law_cell_lists.proofs.world_model.Lists.{length_set}
+use Rattle.law_cell_lists.proofs.world_model.Queues.{Sets}
 use Rattle.law_controller_bindings.proofs.law_port_facts.Keyed.{by_eq}
 use Rattle.law_cell_lists.specs.Causes.{has_cause, is_cause_of}
 use Rattle.law_cell_lists.proofs.Lists.{any_back}

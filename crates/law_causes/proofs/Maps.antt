@@ -6,8 +6,8 @@ use Rattle.std.specs.declared.cmp.Ordering.TheVariants.{Less, Equal, Greater}
 use Rattle.std.specs.Ordering.{nat_cmp, ordering_then, eq_by_cmp, is_eq}
 use Rattle.std.specs.Cmp.{IsTotalOrder, then_total, on_total, nat_cmp_total, tied_itself}
 use Rattle.std.specs.FinMap.{get, insert, remove, get-insert, get-remove, nat_cmp-IsAntisymmetric}
-use Rattle.world_model.specs.Words.{End, end_cmp, Branches}
-use Rattle.world_model.specs.crossbar_model.declared.branch.Branch.{Branch}
+use Rattle.law_cell_lists.specs.world_model.Words.{End, end_cmp, Branches}
+use Rattle.law_cell_lists.specs.world_model.crossbar_model.declared.branch.Branch.{Branch}
 
 end_cmp_total : IsTotalOrder end_cmp
 end_cmp_total =

@@ -1,12 +1,12 @@
 -- what a port asks to be noted is as Q says, where Q holds of what a port notes
 
 use Rattle.std.proofs.Common.{ℕ}
-use Rattle.world_model.specs.Words.{NodeId, PortNo, FlowId, Record, Opened, Closed, Bind, Free, Desk, Action, Setup, Work}
-use Rattle.world_model.specs.link_model.declared.record.Record.TheVariants.{Join}
+use Rattle.law_cell_lists.specs.world_model.Words.{NodeId, PortNo, FlowId, Record, Opened, Closed, Bind, Free, Desk, Action, Setup, Work}
+use Rattle.law_cell_lists.specs.world_model.link_model.declared.record.Record.TheVariants.{Join}
 use Rattle.law_controller_bindings.specs.ordered_lists.Ordered.{Every}
-use Rattle.world_model.specs.port_model.declared.action.Action.TheVariants as actions
+use Rattle.law_cell_lists.specs.world_model.port_model.declared.action.Action.TheVariants as actions
 use Rattle.law_controller_bindings.proofs.law_port_facts.Keyed.{every_more}
-use Rattle.law_rule_walks.proofs.Ports.{IsNoted, is_opened, is_closed, is_bound, is_freed, is_joined, IsAsked, Keeps, Worked, worked_kept}
+use Rattle.law_lifetimes.proofs.law_rule_walks.Ports.{IsNoted, is_opened, is_closed, is_bound, is_freed, is_joined, IsAsked, Keeps, Worked, worked_kept}
 
 -- *What a port notes*: that its adjacency opens or closes, that an input is joined, and that a label is free
 pub record AllowsNotes (Q : Record → Type 0) : Type 0 where

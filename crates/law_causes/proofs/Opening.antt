@@ -6,17 +6,17 @@ use Rattle.std.specs.Option.{option_map, option_map_or, option_and_then}
 use Rattle.std.specs.List.{range_with_len}
 use Rattle.std.specs.FinMap.{empty, get, get-empty}
 use Rattle.std.proofs.lemmas.Bool.Decides.{nat_tests}
-use Rattle.world_model.specs.Words.{NodeId, Place, Down, Up, Out, Channel, Mark, GivenOut, next_instance, Cell, Reassembly, nothing_taken, end_cmp, at, Policy, Setup, port_key, default_channel, same_channel, on_link, port_on, label_number_of, setup_of, opens_port, opens_ports, after_opening, Topology, Node, ranges_of, timers_of, World, Site, site_key, site_at, empty_world, opened_site, with_opened, opens_each, AreShaped, queue_in, queue_at, on_channel}
-use Rattle.world_model.specs.crossbar_model.declared.branch.Branch.{Branch}
+use Rattle.law_cell_lists.specs.world_model.Words.{NodeId, Place, Down, Up, Out, Channel, Mark, GivenOut, next_instance, Cell, Reassembly, nothing_taken, end_cmp, at, Policy, Setup, port_key, default_channel, same_channel, on_link, port_on, label_number_of, setup_of, opens_port, opens_ports, after_opening, Topology, Node, ranges_of, timers_of, World, Site, site_key, site_at, empty_world, opened_site, with_opened, opens_each, AreShaped, queue_in, queue_at, on_channel}
+use Rattle.law_cell_lists.specs.world_model.crossbar_model.declared.branch.Branch.{Branch}
 use Rattle.law_controller_bindings.specs.ordered_lists.Ordered.{Every}
 use Rattle.law_controller_bindings.proofs.ordered_lists.Every.{every_join}
-use Rattle.world_model.specs.controller_model.declared.range.PortRange.{PortRange}
-use Rattle.world_model.specs.Switch.{begun}
-use Rattle.world_model.specs.Topology as topologies
-use Rattle.world_model.specs.Topology.{peer_of}
-use Rattle.world_model.specs.World.{opened}
-use Rattle.world_model.specs.Stretches.{Taker}
-use Rattle.world_model.proofs.Opening.{opened_is_shaped}
+use Rattle.law_cell_lists.specs.world_model.controller_model.declared.range.PortRange.{PortRange}
+use Rattle.law_cell_lists.specs.world_model.Switch.{begun}
+use Rattle.law_cell_lists.specs.world_model.Topology as topologies
+use Rattle.law_cell_lists.specs.world_model.Topology.{peer_of}
+use Rattle.law_cell_lists.specs.world_model.World.{opened}
+use Rattle.law_cell_lists.specs.world_model.Stretches.{Taker}
+use Rattle.law_cell_lists.proofs.world_model.Opening.{opened_is_shaped}
 use Rattle.law_controller_bindings.proofs.law_port_facts.Keyed.{by_eq, at_every}
 use Rattle.law_cell_lists.proofs.Taking.{taker_new}
 use Rattle.law_cell_lists.proofs.Net.{End, Takes, Leads, Nowhere, Closed, Line, IsEnd}

@@ -4,10 +4,10 @@ use Rattle.std.proofs.Common.{◌≡◌, ◌≢◌, ℕ, Bool, true, false, true
 use Rattle.std.specs.Prelude.{◌==◌, ◌||◌}
 use Rattle.std.specs.Option.{option_map}
 use Rattle.std.proofs.lemmas.Bool.Decides.{nat_tests}
-use Rattle.world_model.specs.Words.{NodeId, PortNo, Place, Down, Up, Out, Channel, End as PortEnd, Mark, Cell, Reassembly, home_of, Controller, Linked, default_channel, same_channel, Topology, IsTopology, World, Site, site_at, controller_at, queue_at, on_channel}
-use Rattle.world_model.specs.crossbar_model.declared.branch.Branch.{Branch}
-use Rattle.world_model.specs.network_model.declared.link.LinkEnd.{LinkEnd}
-use Rattle.world_model.specs.Topology.{peer_of}
+use Rattle.law_cell_lists.specs.world_model.Words.{NodeId, PortNo, Place, Down, Up, Out, Channel, End as PortEnd, Mark, Cell, Reassembly, home_of, Controller, Linked, default_channel, same_channel, Topology, IsTopology, World, Site, site_at, controller_at, queue_at, on_channel}
+use Rattle.law_cell_lists.specs.world_model.crossbar_model.declared.branch.Branch.{Branch}
+use Rattle.law_cell_lists.specs.world_model.network_model.declared.link.LinkEnd.{LinkEnd}
+use Rattle.law_cell_lists.specs.world_model.Topology.{peer_of}
 use Rattle.law_cell_lists.proofs.Net.{End, Takes, Leads, Nowhere}
 use Rattle.law_cell_lists.proofs.Real.{AreApart, AreQuiet}
 use Rattle.law_causes.specs.Feeding.{IsLed, branch_at}

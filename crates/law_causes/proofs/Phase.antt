@@ -3,14 +3,14 @@
 use Rattle.std.proofs.Common.{◌≡◌, ◌≢◌, ℕ, ◌<◌, ◌≤◌, ◌+◌, ◌*◌, Bool, true, false, true≢false, List, [], ◌∷◌, ◌++◌, map, length, Option, None, Some, refl, sym, ◌∙◌, ap, ap₂, subst, arith, append-nil, append_assoc, ◌⊎◌, inl, inr, if◌then◌else◌}
 use Rattle.std.specs.Prelude.{◌||◌, ◌/◌, ◌%◌, nat_le, nat_eq, is_some}
 use Rattle.std.proofs.lemmas.Bool.Decides.{nat_tests}
-use Rattle.world_model.specs.Words.{NodeId, PortNo, Place, Down, Up, Out, Channel, Mark, channel_on_control, label_channel_of, label_number_of, is_label_number, is_label_channel, Cell, Entry, Broken, PoolFull, Cut, Record, Loss, Journal, noted, Reassembly, nothing_taken, cut, frame_cells, made, at, put, Controller, LabelChain, Linked, port_key, linked_at, chain_of, chains_with, default_channel, cuts_of, cuts_label, cuts_default_of, cuts_default, ForGsmp, port_on, on_link, same_channel, taker_at, on_channel}
-use Rattle.world_model.specs.frame_model.Sending.{Sent}
+use Rattle.law_cell_lists.specs.world_model.Words.{NodeId, PortNo, Place, Down, Up, Out, Channel, Mark, channel_on_control, label_channel_of, label_number_of, is_label_number, is_label_channel, Cell, Entry, Broken, PoolFull, Cut, Record, Loss, Journal, noted, Reassembly, nothing_taken, cut, frame_cells, made, at, put, Controller, LabelChain, Linked, port_key, linked_at, chain_of, chains_with, default_channel, cuts_of, cuts_label, cuts_default_of, cuts_default, ForGsmp, port_on, on_link, same_channel, taker_at, on_channel}
+use Rattle.law_cell_lists.specs.world_model.frame_model.Sending.{Sent}
 use Rattle.law_controller_bindings.specs.ordered_lists.Ordered.{Every}
 use Rattle.law_controller_bindings.proofs.ordered_lists.Every.{every_join, every_map}
-use Rattle.world_model.specs.port_model.Port.{Port}
+use Rattle.law_cell_lists.specs.world_model.port_model.Port.{Port}
 use Rattle.law_controller_bindings.proofs.law_port_facts.Keyed.{by_eq, on_both, at_key, at_put_same}
-use Rattle.world_model.specs.Controller.{Acted, free_slots, note}
-use Rattle.world_model.specs.Sending.{with_cells, sends}
+use Rattle.law_cell_lists.specs.world_model.Controller.{Acted, free_slots, note}
+use Rattle.law_cell_lists.specs.world_model.Sending.{with_cells, sends}
 use Rattle.law_cell_lists.specs.Causes.{bare}
 use Rattle.law_cell_lists.proofs.Frames.{IsWhole, whole_frame}
 use Rattle.law_cell_lists.proofs.Taking.{cut_grows}
@@ -19,7 +19,7 @@ use Rattle.law_cell_lists.proofs.Real.{Shown, AreApart, IsReal, Clashes, Toggles
 use Rattle.law_causes.proofs.Sizes.{HasLength}
 use Rattle.law_causes.proofs.Calm.{IsCalm}
 use Rattle.law_causes.proofs.Rules.{IsNamed, IsAlike, Kept}
-use Rattle.world_model.proofs.net_types.Labels.{label_number_of-label_channel_of}
+use Rattle.law_cell_lists.proofs.world_model.net_types.Labels.{label_number_of-label_channel_of}
 use Rattle.law_causes.proofs.Spots.{Spot, same_spot, same_number, yields, home, down, up, channels_are, channels_apart, on_join, on_all, on_none, IsOn, frame_on}
 use Rattle.law_causes.proofs.Ends.{has_cells, label_chain, chain_at, chain_in, open_in, end_for, end_in, nothing_is, put_same, taken_by_port, chain_here, chain_there, label_link, control_parts, parts_of_control}
 

@@ -1,7 +1,7 @@
 -- what the law asks of each world of a run
 
 use Rattle.std.proofs.Common.{◌≡◌, true, Some}
-use Rattle.world_model.specs.Words.{NodeId, Channel, Controller, World, controller_at}
+use Rattle.law_cell_lists.specs.world_model.Words.{NodeId, Channel, Controller, World, controller_at}
 use Rattle.law_causes.specs.Feeding.{IsFedOnce}
 use Rattle.law_causes.proofs.Ends.{has_cells, chain_in, open_in}
 

@@ -3,10 +3,10 @@
 use Rattle.std.proofs.Common.{◌≡◌, ◌≢◌, ℕ, Bool, true, false, List, Option, None, Some, refl, sym, ◌∙◌, ap, ap₂, subst, if◌then◌else◌}
 use Rattle.std.specs.Prelude.{is_some}
 use Rattle.std.specs.Option.{option_and_then}
-use Rattle.world_model.specs.Words.{Channel, channel_on_control, label_number_of, Reassembly, at, put, Label, label_number, is_bound, label_at, labels_of, Controller, Linked, port_key, chains_with, default_channel, ForGsmp, ForDefault, ForLabel, port_on, on_link, same_channel, label_taker, taker_at, taker_of, with_reassembly}
+use Rattle.law_cell_lists.specs.world_model.Words.{Channel, channel_on_control, label_number_of, Reassembly, at, put, Label, label_number, is_bound, label_at, labels_of, Controller, Linked, port_key, chains_with, default_channel, ForGsmp, ForDefault, ForLabel, port_on, on_link, same_channel, label_taker, taker_at, taker_of, with_reassembly}
 use Rattle.law_controller_bindings.proofs.law_port_facts.Keyed.{at_key}
-use Rattle.world_model.specs.Controller.{Acted}
-use Rattle.world_model.specs.Cells.{Taker}
+use Rattle.law_cell_lists.specs.world_model.Controller.{Acted}
+use Rattle.law_cell_lists.specs.world_model.Cells.{Taker}
 use Rattle.law_causes.proofs.Spots.{channels_are, channels_apart}
 use Rattle.law_causes.proofs.Ends.{label_chain, chain_at, chain_in, open_in, put_same, put_new, taken_by_port, chain_here, chain_there, label_link, control_parts}
 

@@ -3,11 +3,11 @@
 use Rattle.std.proofs.Common.{◌≡◌, ◌≢◌, ℕ, suc, Bool, true, false, List, [], ◌∷◌, length, map, Option, None, Some, refl, sym, ◌∙◌, ap, ap₂, subst, arith, ◌⊎◌, inl, inr, if◌then◌else◌}
 use Rattle.std.specs.Option.{option_map}
 use Rattle.std.specs.FinMap.{keys}
-use Rattle.world_model.specs.Words.{NodeId, Place, Down, Up, Out, Channel, Instance, next_instance, Cell, ticked, Entry, Journal, Reassembly, nothing_taken, cut, stretch_from, Crossbar, Changed, all_ended, tick_comes, restarted, default_channel, same_channel, Topology, IsTopology, World, Site, site_at, with_site, queue_at, tallied, put_away, OfController, OfSwitch, reassembly_at, cell_for, arrival, cut_turn, Broken, Cut}
-use Rattle.world_model.specs.switch_model.declared.port.PortState.{PortState}
-use Rattle.world_model.specs.Switch.{Acted, begun as begun_port}
-use Rattle.world_model.specs.network_model.declared.event.Event.{Event}
-use Rattle.world_model.specs.Stretches.{Taker}
+use Rattle.law_cell_lists.specs.world_model.Words.{NodeId, Place, Down, Up, Out, Channel, Instance, next_instance, Cell, ticked, Entry, Journal, Reassembly, nothing_taken, cut, stretch_from, Crossbar, Changed, all_ended, tick_comes, restarted, default_channel, same_channel, Topology, IsTopology, World, Site, site_at, with_site, queue_at, tallied, put_away, OfController, OfSwitch, reassembly_at, cell_for, arrival, cut_turn, Broken, Cut}
+use Rattle.law_cell_lists.specs.world_model.switch_model.declared.port.PortState.{PortState}
+use Rattle.law_cell_lists.specs.world_model.Switch.{Acted, begun as begun_port}
+use Rattle.law_cell_lists.specs.world_model.network_model.declared.event.Event.{Event}
+use Rattle.law_cell_lists.specs.world_model.Stretches.{Taker}
 use Rattle.law_controller_bindings.specs.ordered_lists.Ordered.{Every}
 use Rattle.law_controller_bindings.proofs.ordered_lists.Every.{every_map}
 use Rattle.law_cell_lists.proofs.Taking.{cut_grows}

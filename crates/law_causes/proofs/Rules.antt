@@ -3,46 +3,46 @@
 use Rattle.std.proofs.Common.{◌≡◌, ℕ, Bool, true, false, List, [], ◌∷◌, map, flat_map, ◌+◌, ◌++◌, Option, None, Some, refl, sym, subst, arith, if◌then◌else◌, fold}
 use Rattle.std.specs.Prelude.{◌==◌, drop, Result, Ok, Err}
 use Rattle.std.specs.Option.{option_map_or, unwrap_or}
-use Rattle.world_model.specs.Words.{PortNo, Channel, End, Mark, Party, Greeting, HelloKind, Syn, Synack, Rstack, Ack, next_control, with_control, next_instance, number_of_channel, protocol_of, source_of, ifmp_packet_of, PacketFault, hop_of, onward, changed, RouteChange, Hop, Here, On, kind_of, default_payload, labelled_payload, default_unwrapped, unwrapped, EncapsFault, Request, AddBranch, MoveBranch, DeleteTree, VerifyTree, PortManagement, SynSent, Answer, Quiet, Send, Open, Heard, Said, Reply, Silent, Says, Resets, Row, row, tick_reply, Side, fresh, is_estab, said, answer_to, answer_of, is_entry, followed, followed_tick, ticked, greeting_of, gsmp_answer, gsmp_received, heard_in, same_party, nobody, Record, Bad, Delivered, Dropped, Part, Routes, encaps_refusal, packet_refusal, ifmp_refusal, gsmp_refusal, next_mark, at, Desk, Standing, withdrawn, is_led_home, last_transaction, empty_desk, sent_again, Answered, Unknown, Done, Ports, Failed, answered, after_answer, Action, home_of, control_end, Label, Grant, Work, counts, used, hears, resets, restarts, closes, Linked, linked_at, with_linked, with_desk, port_key, default_channel, default_end, default_home, sends_control, says_gsmp, says_ifmp, sends_request, asks_next, asks, takes_back, cuts_label, cuts_default, cuts_gsmp, begins, with_work, closes_by, port_restarts_of, port_restarts, resets_gsmp, node_resets, node_restarts, does, does_in_estab, resets_of, resets_port, performs, performs_in_estab, Rule, works, at_port, join_of, parts, gives_back, releases_join, releases_input, released_inputs, resets_spent, releases, join_for, may_join, enters_grant, enters_label, joins, tries_label, label_on, tries_join, inputs_at, tries_joins, changed_joins, takes_join_back, begins_change, takes_change, may_take, takes_each, takes_changes, change_comes, meets, up_ports, default_branches, ends_meeting, has_emptied, tells_port, behind_delete_all, causes_in_estab, causes, may_clear, clears_of, clears_port, clears, takes_answer, answer_comes, gsmp_holds, is_control, sends_next, goes_by, grant_by, routes, control_protocol, label_holds, ifmp_holds, counted_at, packet_holds, default_holds, frame_holds, ForGsmp, ForDefault, ForLabel, sends_again, ticks_port, ticks_ports, ticks_by}
-use Rattle.world_model.specs.ipv4_packet.Packet.{first_fault}
-use Rattle.world_model.specs.ipv4_forward.declared.outcome.Hop.TheVariants.{NoRoute, Expired}
-use Rattle.world_model.specs.ifmp_wire.declared.message.Message.{Message as IfmpMessage}
-use Rattle.world_model.specs.ifmp_wire.declared.reader.Fault.{Fault as IfmpFault}
-use Rattle.world_model.specs.ifmp_wire.Fields.{decoded as ifmp_decoded}
-use Rattle.world_model.specs.ifmp_wire.Message.{octets_of as ifmp_octets}
-use Rattle.world_model.specs.gsmp_wire.declared.fault.Fault.{Fault as GsmpFault}
-use Rattle.world_model.specs.gsmp_wire.declared.message.Message.{Message}
-use Rattle.world_model.specs.gsmp_wire.declared.message.Message.TheVariants as messages
-use Rattle.world_model.specs.gsmp_wire.declared.request.Request.TheVariants.{DeleteAll, AllPorts}
-use Rattle.world_model.specs.gsmp_wire.Layout.{octets_of as gsmp_octets}
-use Rattle.world_model.specs.gsmp_wire.Fields.{decoded as gsmp_decoded}
-use Rattle.world_model.specs.adjacency_table.declared.message.Answer.TheVariants.{Reset}
-use Rattle.world_model.specs.adjacency_table.Side as sides
-use Rattle.world_model.specs.adjacency_table.Side.{opened, counted}
-use Rattle.world_model.specs.link_model.declared.record.Layer.TheVariants as layers
-use Rattle.world_model.specs.link_model.declared.record.DropCause.TheVariants as drop_causes
+use Rattle.law_cell_lists.specs.world_model.Words.{PortNo, Channel, End, Mark, Party, Greeting, HelloKind, Syn, Synack, Rstack, Ack, next_control, with_control, next_instance, number_of_channel, protocol_of, source_of, ifmp_packet_of, PacketFault, hop_of, onward, changed, RouteChange, Hop, Here, On, kind_of, default_payload, labelled_payload, default_unwrapped, unwrapped, EncapsFault, Request, AddBranch, MoveBranch, DeleteTree, VerifyTree, PortManagement, SynSent, Answer, Quiet, Send, Open, Heard, Said, Reply, Silent, Says, Resets, Row, row, tick_reply, Side, fresh, is_estab, said, answer_to, answer_of, is_entry, followed, followed_tick, ticked, greeting_of, gsmp_answer, gsmp_received, heard_in, same_party, nobody, Record, Bad, Delivered, Dropped, Part, Routes, encaps_refusal, packet_refusal, ifmp_refusal, gsmp_refusal, next_mark, at, Desk, Standing, withdrawn, is_led_home, last_transaction, empty_desk, sent_again, Answered, Unknown, Done, Ports, Failed, answered, after_answer, Action, home_of, control_end, Label, Grant, Work, counts, used, hears, resets, restarts, closes, Linked, linked_at, with_linked, with_desk, port_key, default_channel, default_end, default_home, sends_control, says_gsmp, says_ifmp, sends_request, asks_next, asks, takes_back, cuts_label, cuts_default, cuts_gsmp, begins, with_work, closes_by, port_restarts_of, port_restarts, resets_gsmp, node_resets, node_restarts, does, does_in_estab, resets_of, resets_port, performs, performs_in_estab, Rule, works, at_port, join_of, parts, gives_back, releases_join, releases_input, released_inputs, resets_spent, releases, join_for, may_join, enters_grant, enters_label, joins, tries_label, label_on, tries_join, inputs_at, tries_joins, changed_joins, takes_join_back, begins_change, takes_change, may_take, takes_each, takes_changes, change_comes, meets, up_ports, default_branches, ends_meeting, has_emptied, tells_port, behind_delete_all, causes_in_estab, causes, may_clear, clears_of, clears_port, clears, takes_answer, answer_comes, gsmp_holds, is_control, sends_next, goes_by, grant_by, routes, control_protocol, label_holds, ifmp_holds, counted_at, packet_holds, default_holds, frame_holds, ForGsmp, ForDefault, ForLabel, sends_again, ticks_port, ticks_ports, ticks_by}
+use Rattle.law_cell_lists.specs.world_model.ipv4_packet.Packet.{first_fault}
+use Rattle.law_cell_lists.specs.world_model.ipv4_forward.declared.outcome.Hop.TheVariants.{NoRoute, Expired}
+use Rattle.law_cell_lists.specs.world_model.ifmp_wire.declared.message.Message.{Message as IfmpMessage}
+use Rattle.law_cell_lists.specs.world_model.ifmp_wire.declared.reader.Fault.{Fault as IfmpFault}
+use Rattle.law_cell_lists.specs.world_model.ifmp_wire.Fields.{decoded as ifmp_decoded}
+use Rattle.law_cell_lists.specs.world_model.ifmp_wire.Message.{octets_of as ifmp_octets}
+use Rattle.law_cell_lists.specs.world_model.gsmp_wire.declared.fault.Fault.{Fault as GsmpFault}
+use Rattle.law_cell_lists.specs.world_model.gsmp_wire.declared.message.Message.{Message}
+use Rattle.law_cell_lists.specs.world_model.gsmp_wire.declared.message.Message.TheVariants as messages
+use Rattle.law_cell_lists.specs.world_model.gsmp_wire.declared.request.Request.TheVariants.{DeleteAll, AllPorts}
+use Rattle.law_cell_lists.specs.world_model.gsmp_wire.Layout.{octets_of as gsmp_octets}
+use Rattle.law_cell_lists.specs.world_model.gsmp_wire.Fields.{decoded as gsmp_decoded}
+use Rattle.law_cell_lists.specs.world_model.adjacency_table.declared.message.Answer.TheVariants.{Reset}
+use Rattle.law_cell_lists.specs.world_model.adjacency_table.Side as sides
+use Rattle.law_cell_lists.specs.world_model.adjacency_table.Side.{opened, counted}
+use Rattle.law_cell_lists.specs.world_model.link_model.declared.record.Layer.TheVariants as layers
+use Rattle.law_cell_lists.specs.world_model.link_model.declared.record.DropCause.TheVariants as drop_causes
 use Rattle.law_controller_bindings.specs.ordered_lists.Ordered.{Every}
-use Rattle.world_model.specs.port_model.Desk.{asked, message_at}
-use Rattle.world_model.specs.port_model.declared.action.Action.TheVariants as actions
-use Rattle.world_model.specs.port_model.Port.{Port}
-use Rattle.world_model.specs.port_model.Answers as port_answers
-use Rattle.world_model.specs.port_model.Joins as port_joins
-use Rattle.world_model.specs.port_model.Resets.{cleared}
-use Rattle.world_model.specs.port_model.Ticks as port_ticks
+use Rattle.law_cell_lists.specs.world_model.port_model.Desk.{asked, message_at}
+use Rattle.law_cell_lists.specs.world_model.port_model.declared.action.Action.TheVariants as actions
+use Rattle.law_cell_lists.specs.world_model.port_model.Port.{Port}
+use Rattle.law_cell_lists.specs.world_model.port_model.Answers as port_answers
+use Rattle.law_cell_lists.specs.world_model.port_model.Joins as port_joins
+use Rattle.law_cell_lists.specs.world_model.port_model.Resets.{cleared}
+use Rattle.law_cell_lists.specs.world_model.port_model.Ticks as port_ticks
 use Rattle.law_controller_bindings.proofs.law_port_facts.Keyed.{on_both, at_key}
 use Rattle.law_controller_bindings.proofs.law_controller_facts.Lifetimes.{decoded_lives}
-use Rattle.world_model.specs.Controller.{Acted, ports_of, note}
-use Rattle.world_model.specs.Sending.{sends}
-use Rattle.world_model.specs.Joins.{Join, output_of}
-use Rattle.world_model.specs.Meeting.{port_of, done}
-use Rattle.world_model.specs.Gsmp.{answers, steps, told}
-use Rattle.world_model.specs.Packets.{forwarded}
-use Rattle.world_model.specs.Cells.{opened_frame, Taker}
-use Rattle.world_model.specs.Ticks.{ticks}
+use Rattle.law_cell_lists.specs.world_model.Controller.{Acted, ports_of, note}
+use Rattle.law_cell_lists.specs.world_model.Sending.{sends}
+use Rattle.law_cell_lists.specs.world_model.Joins.{Join, output_of}
+use Rattle.law_cell_lists.specs.world_model.Meeting.{port_of, done}
+use Rattle.law_cell_lists.specs.world_model.Gsmp.{answers, steps, told}
+use Rattle.law_cell_lists.specs.world_model.Packets.{forwarded}
+use Rattle.law_cell_lists.specs.world_model.Cells.{opened_frame, Taker}
+use Rattle.law_cell_lists.specs.world_model.Ticks.{ticks}
 use Rattle.law_causes.proofs.Sizes.{HasLength, IsShort, default_length, labelled_length, onward_short, fault_short, unwrapped_short, ifmp_length, request_length, HasName, greeting_length, decoded_names}
 use Rattle.law_causes.proofs.Calm.{IsCalm, calm_notes, calm_binding}
 use Rattle.law_causes.proofs.Noting.{IsCalmAction, Calm, worked_calm}
-use Rattle.law_rule_walks.proofs.Ports.{by_rule, by_reset, by_restart, by_steps, by_using, by_counting, by_closing, by_parting, by_joining, by_lending, by_giving_back}
+use Rattle.law_lifetimes.proofs.law_rule_walks.Ports.{by_rule, by_reset, by_restart, by_steps, by_using, by_counting, by_closing, by_parting, by_joining, by_lending, by_giving_back}
 use Rattle.law_controller_bindings.proofs.law_port_facts.Rules.{done_goes}
 use Rattle.law_controller_bindings.proofs.law_port_facts.Hearings.{hears_goes, ticks_goes}
 

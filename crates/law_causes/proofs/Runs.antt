@@ -6,19 +6,19 @@ use Rattle.std.specs.List.{list_any}
 use Rattle.std.proofs.lemmas.Bool.{and_parts}
 use Rattle.std.proofs.lemmas.Bool.Decides.{nat_tests}
 use Rattle.std.proofs.lemmas.List.Concat.{flat_map-cons}
-use Rattle.world_model.specs.Words.{Place, Down, Up, Out, Channel, next_control, with_control, Mark, Cell, Entry, PoolFull, Broken, Record, Loss, Forged, same_mark, noted, frame_cells, made, sent_frame, Turn, Takes, IsCut, stretch_from, open_stretch, StandsBesideCause, is_broken, has_mark, control_port, Policy, Topology, IsTopology, IsEvent, World, Site, site_at, controller_acts, switch_acts, forges_at, put_away, next, worlds_from, run, world_after, records_of, turns_at, turns_of, HasCause, HasCauses, is_wild, IsTame, IsRun}
-use Rattle.world_model.proofs.link_model.Marks.{same_mark-Decides}
-use Rattle.world_model.specs.frame_model.Sending.{Sent}
+use Rattle.law_cell_lists.specs.world_model.Words.{Place, Down, Up, Out, Channel, next_control, with_control, Mark, Cell, Entry, PoolFull, Broken, Record, Loss, Forged, same_mark, noted, frame_cells, made, sent_frame, Turn, Takes, IsCut, stretch_from, open_stretch, StandsBesideCause, is_broken, has_mark, control_port, Policy, Topology, IsTopology, IsEvent, World, Site, site_at, controller_acts, switch_acts, forges_at, put_away, next, worlds_from, run, world_after, records_of, turns_at, turns_of, HasCause, HasCauses, is_wild, IsTame, IsRun}
+use Rattle.law_cell_lists.proofs.world_model.link_model.Marks.{same_mark-Decides}
+use Rattle.law_cell_lists.specs.world_model.frame_model.Sending.{Sent}
 use Rattle.law_controller_bindings.specs.ordered_lists.Ordered.{Every}
-use Rattle.world_model.specs.Switch as switches
-use Rattle.world_model.specs.Conduct as switch
-use Rattle.world_model.specs.Controller.{free_slots}
-use Rattle.world_model.specs.Sending.{with_cells, sends}
-use Rattle.world_model.specs.network_model.declared.event.Event.{Event}
-use Rattle.world_model.specs.network_model.declared.event.Event.TheVariants.{Inject, Carry, Lose, Tick, TickSwitch, Restart, RestartSwitch, Forge, Route}
-use Rattle.world_model.specs.World.{opened}
-use Rattle.world_model.specs.Step.{note}
-use Rattle.world_model.specs.Stretches.{Taker}
+use Rattle.law_cell_lists.specs.world_model.Switch as switches
+use Rattle.law_cell_lists.specs.world_model.Conduct as switch
+use Rattle.law_cell_lists.specs.world_model.Controller.{free_slots}
+use Rattle.law_cell_lists.specs.world_model.Sending.{with_cells, sends}
+use Rattle.law_cell_lists.specs.world_model.network_model.declared.event.Event.{Event}
+use Rattle.law_cell_lists.specs.world_model.network_model.declared.event.Event.TheVariants.{Inject, Carry, Lose, Tick, TickSwitch, Restart, RestartSwitch, Forge, Route}
+use Rattle.law_cell_lists.specs.world_model.World.{opened}
+use Rattle.law_cell_lists.specs.world_model.Step.{note}
+use Rattle.law_cell_lists.specs.world_model.Stretches.{Taker}
 use Rattle.law_cell_lists.specs.Causes.{is_cause_of, has_cause}
 use Rattle.law_cell_lists.proofs.Law.{AtPlace, adds_at}
 use Rattle.law_causes.specs.Feeding.{IsFedOnce}

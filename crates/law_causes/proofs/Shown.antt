@@ -4,10 +4,10 @@ use Rattle.std.proofs.Common.{◌≡◌, ◌≢◌, ℕ, suc, ◌≤◌, Bool, t
 use Rattle.std.specs.Prelude.{◌==◌}
 use Rattle.std.specs.Option.{option_map, option_or}
 use Rattle.std.proofs.lemmas.Bool.Decides.{nat_tests}
-use Rattle.world_model.specs.Words.{NodeId, PortNo, Place, Down, Up, Out, Channel, End as PortEnd, default_channel, same_channel, Topology, Link, same_link_end, peer_on, peer_among, IsTopology, IsLink, IsPort, IsNode}
-use Rattle.world_model.specs.crossbar_model.declared.branch.Branch.{Branch}
-use Rattle.world_model.specs.network_model.declared.link.LinkEnd.{LinkEnd}
-use Rattle.world_model.specs.Topology.{peer_of}
+use Rattle.law_cell_lists.specs.world_model.Words.{NodeId, PortNo, Place, Down, Up, Out, Channel, End as PortEnd, default_channel, same_channel, Topology, Link, same_link_end, peer_on, peer_among, IsTopology, IsLink, IsPort, IsNode}
+use Rattle.law_cell_lists.specs.world_model.crossbar_model.declared.branch.Branch.{Branch}
+use Rattle.law_cell_lists.specs.world_model.network_model.declared.link.LinkEnd.{LinkEnd}
+use Rattle.law_cell_lists.specs.world_model.Topology.{peer_of}
 use Rattle.law_controller_bindings.proofs.law_port_facts.Keyed.{by_eq}
 use Rattle.law_cell_lists.proofs.Net.{End, Leads, Nowhere}
 use Rattle.law_causes.proofs.Spots.{Spot, same_spot, down, up, out}

@@ -6,27 +6,27 @@ use Rattle.std.specs.Option.{option_or}
 use Rattle.std.specs.Int.{w32, to_be_bytes}
 use Rattle.std.proofs.Math.ListN.{length-set}
 use Rattle.std.proofs.lemmas.Bool.Decides.{nat_tests}
-use Rattle.world_model.specs.Words.{Addr, Greeting, Party, HelloKind, canonical, with_ttl, ttl_of, total_length_of, header_sum, ifmp_packet_of, ifmp_header, PacketFault, Version, Options, TooLong, onward, FlowId, FlowKind, kind_of, identifier, default_payload, labelled_payload, rebuilt, unwrap_fault, layout_fault, checksum_fault, head_size, left_out, said_length, unwrapped, unwrapped_by, EncapsFault, Request, AddBranch, MoveBranch, DeleteTree, VerifyTree, PortManagement, PortRow, refusal, type_of, hello_kind, party_in, rows_octets, Desk, Standing, message_of}
+use Rattle.law_cell_lists.specs.world_model.Words.{Addr, Greeting, Party, HelloKind, canonical, with_ttl, ttl_of, total_length_of, header_sum, ifmp_packet_of, ifmp_header, PacketFault, Version, Options, TooLong, onward, FlowId, FlowKind, kind_of, identifier, default_payload, labelled_payload, rebuilt, unwrap_fault, layout_fault, checksum_fault, head_size, left_out, said_length, unwrapped, unwrapped_by, EncapsFault, Request, AddBranch, MoveBranch, DeleteTree, VerifyTree, PortManagement, PortRow, refusal, type_of, hello_kind, party_in, rows_octets, Desk, Standing, message_of}
 use Rattle.law_controller_bindings.proofs.law_port_facts.Keyed.{on_both}
-use Rattle.world_model.specs.ipv4_packet.Packet.{first_fault}
-use Rattle.world_model.specs.ipv4_packet.declared.validate.PacketFault.TheVariants as faults
-use Rattle.world_model.specs.ipv4_packet.declared.validate.PacketFault.TheVariants.{Short}
-use Rattle.world_model.proofs.ipv4_packet.HeaderLemmas.{on_header, length-canonical}
-use Rattle.world_model.specs.ipv4_packet.declared.flow.FlowId.TheVariants.{One, Two}
-use Rattle.world_model.specs.ipv4_packet.declared.flow.FlowKind.TheVariants.{One as ConnectionKind, Two as HostsKind}
-use Rattle.world_model.specs.flow_encaps.Labelled.{has_zeros}
-use Rattle.world_model.specs.flow_encaps.declared.default.EncapsFault.TheVariants.{Reserved, Short as EncapsShort, Length as EncapsLength}
-use Rattle.world_model.proofs.flow_encaps.RebuiltLemmas.{length-rebuilt, long-rebuilt}
-use Rattle.world_model.specs.ifmp_wire.declared.message.Message.{Message as IfmpMessage}
-use Rattle.world_model.specs.ifmp_wire.declared.message.Message.TheVariants as said
-use Rattle.world_model.specs.ifmp_wire.Message.{octets_of as ifmp_octets}
-use Rattle.world_model.specs.gsmp_wire.declared.message.Message.{Message as GsmpMessage}
-use Rattle.world_model.specs.gsmp_wire.declared.message.Message.TheVariants as messages
-use Rattle.world_model.specs.gsmp_wire.declared.request.Request.TheVariants.{DeleteAll, AllPorts}
-use Rattle.world_model.specs.gsmp_wire.declared.fault.Fault.{Fault as GsmpFault}
-use Rattle.world_model.specs.gsmp_wire.Fields.{decoded_by, decoded as gsmp_decoded}
-use Rattle.world_model.specs.gsmp_wire.Layout.{octets_of as gsmp_octets}
-use Rattle.world_model.specs.port_model.Desk.{message_at}
+use Rattle.law_cell_lists.specs.world_model.ipv4_packet.Packet.{first_fault}
+use Rattle.law_cell_lists.specs.world_model.ipv4_packet.declared.validate.PacketFault.TheVariants as faults
+use Rattle.law_cell_lists.specs.world_model.ipv4_packet.declared.validate.PacketFault.TheVariants.{Short}
+use Rattle.law_cell_lists.proofs.world_model.ipv4_packet.HeaderLemmas.{on_header, length-canonical}
+use Rattle.law_cell_lists.specs.world_model.ipv4_packet.declared.flow.FlowId.TheVariants.{One, Two}
+use Rattle.law_cell_lists.specs.world_model.ipv4_packet.declared.flow.FlowKind.TheVariants.{One as ConnectionKind, Two as HostsKind}
+use Rattle.law_cell_lists.specs.world_model.flow_encaps.Labelled.{has_zeros}
+use Rattle.law_cell_lists.specs.world_model.flow_encaps.declared.default.EncapsFault.TheVariants.{Reserved, Short as EncapsShort, Length as EncapsLength}
+use Rattle.law_cell_lists.proofs.world_model.flow_encaps.RebuiltLemmas.{length-rebuilt, long-rebuilt}
+use Rattle.law_cell_lists.specs.world_model.ifmp_wire.declared.message.Message.{Message as IfmpMessage}
+use Rattle.law_cell_lists.specs.world_model.ifmp_wire.declared.message.Message.TheVariants as said
+use Rattle.law_cell_lists.specs.world_model.ifmp_wire.Message.{octets_of as ifmp_octets}
+use Rattle.law_cell_lists.specs.world_model.gsmp_wire.declared.message.Message.{Message as GsmpMessage}
+use Rattle.law_cell_lists.specs.world_model.gsmp_wire.declared.message.Message.TheVariants as messages
+use Rattle.law_cell_lists.specs.world_model.gsmp_wire.declared.request.Request.TheVariants.{DeleteAll, AllPorts}
+use Rattle.law_cell_lists.specs.world_model.gsmp_wire.declared.fault.Fault.{Fault as GsmpFault}
+use Rattle.law_cell_lists.specs.world_model.gsmp_wire.Fields.{decoded_by, decoded as gsmp_decoded}
+use Rattle.law_cell_lists.specs.world_model.gsmp_wire.Layout.{octets_of as gsmp_octets}
+use Rattle.law_cell_lists.specs.world_model.port_model.Desk.{message_at}
 
 abbrev pub HasLength : List ℕ → Type 0
 HasLength payload = (1 ≤ length payload) × (length payload ≤ 1528)

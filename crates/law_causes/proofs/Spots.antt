@@ -4,7 +4,7 @@ use Rattle.std.proofs.Common.{◌≡◌, ◌≢◌, ℕ, Bool, true, false, true
 use Rattle.std.specs.Prelude.{◌==◌}
 use Rattle.std.specs.List.{range_with_len}
 use Rattle.std.proofs.lemmas.Bool.Decides.{nat_tests}
-use Rattle.world_model.specs.Words.{NodeId, PortNo, Place, Down, Up, Out, Channel, Mark, channel_on_control, Cell, frame_cells, same_channel, on_channel}
+use Rattle.law_cell_lists.specs.world_model.Words.{NodeId, PortNo, Place, Down, Up, Out, Channel, Mark, channel_on_control, Cell, frame_cells, same_channel, on_channel}
 use Rattle.law_lifetimes.specs.aal5_frames.Frame.{cell_of, cells_for, pdu_of}
 use Rattle.law_lifetimes.proofs.aal5_frames.Cells.{cells_all, length-pdu_of}
 use Rattle.law_controller_bindings.specs.ordered_lists.Ordered.{Every}

@@ -4,11 +4,11 @@ use Rattle.std.proofs.Common.{◌≡◌, ℕ, suc, Bool, true, false, true≢fal
 use Rattle.std.specs.Prelude.{◌==◌, ◌&&◌, ◌||◌, nat_lt, nat_le, is_some, option_map}
 use Rattle.std.specs.Option.{option_and_then}
 use Rattle.std.proofs.lemmas.Bool.Decides.{nat_tests}
-use Rattle.world_model.specs.Words.{NodeId, Place, Down, Up, Out, Channel, Cell, Journal, Reassembly, passed_over, without_slot, too_long, nothing_taken, most_cells, Takes, IsCut, stretch_from, Controller, default_channel, taker_of, reassembly_of, same_channel, World, controller_at, OfController, OfSwitch, reassembly_at, has_slot, cell_for, arrival, taken_at, left_by, is_nothing, cut_turn, cell_turn, turns_at}
-use Rattle.world_model.specs.frame_model.Reassembly.{taken}
-use Rattle.world_model.specs.Cells as cells
-use Rattle.world_model.specs.Stretches.{Taker}
-use Rattle.world_model.specs.network_model.declared.event.Event.{Event}
+use Rattle.law_cell_lists.specs.world_model.Words.{NodeId, Place, Down, Up, Out, Channel, Cell, Journal, Reassembly, passed_over, without_slot, too_long, nothing_taken, most_cells, Takes, IsCut, stretch_from, Controller, default_channel, taker_of, reassembly_of, same_channel, World, controller_at, OfController, OfSwitch, reassembly_at, has_slot, cell_for, arrival, taken_at, left_by, is_nothing, cut_turn, cell_turn, turns_at}
+use Rattle.law_cell_lists.specs.world_model.frame_model.Reassembly.{taken}
+use Rattle.law_cell_lists.specs.world_model.Cells as cells
+use Rattle.law_cell_lists.specs.world_model.Stretches.{Taker}
+use Rattle.law_cell_lists.specs.world_model.network_model.declared.event.Event.{Event}
 use Rattle.law_causes.proofs.Spots.{Spot}
 use Rattle.law_causes.proofs.Ends.{has_cells, chain_in, open_in, taken_chain}
 

@@ -3,8 +3,8 @@
 use Rattle.std.specs.Prelude.{◌≡◌, ◌≢◌, ◌≤◌, List, [], Option, Some}
 use Rattle.std.specs.FinMap.{get}
 use Rattle.std.specs.Option.{option_and_then}
-use Rattle.world_model.specs.Words.{NodeId, Down, End, Cell, home_of, World, Site, site_at, queue_at, on_channel}
-use Rattle.world_model.specs.crossbar_model.declared.branch.Branch.{Branch}
+use Rattle.law_cell_lists.specs.world_model.Words.{NodeId, Down, End, Cell, home_of, World, Site, site_at, queue_at, on_channel}
+use Rattle.law_cell_lists.specs.world_model.crossbar_model.declared.branch.Branch.{Branch}
 
 -- what is found on the inputs of a switch
 abbrev pub Found : Type 0

@@ -1,10 +1,10 @@
 -- What is so of every run
 
 use Rattle.std.specs.Prelude.{◌≡◌, List, ◌++◌, Some}
-use Rattle.world_model.specs.Words.{NodeId, Policy, Controller, Linked, Topology, controller_at, run, world_after, records_of, HasCauses, IsTame, IsRun}
+use Rattle.law_cell_lists.specs.world_model.Words.{NodeId, Policy, Controller, Linked, Topology, controller_at, run, world_after, records_of, HasCauses, IsTame, IsRun}
 use Rattle.law_controller_bindings.specs.ordered_lists.Ordered.{Every}
-use Rattle.world_model.specs.network_model.declared.event.Event.{Event}
-use Rattle.world_model.specs.World.{opened}
+use Rattle.law_cell_lists.specs.world_model.network_model.declared.event.Event.{Event}
+use Rattle.law_cell_lists.specs.world_model.World.{opened}
 use Rattle.law_controller_bindings.specs.Bindings.{IsOfBound}
 use Rattle.law_causes.specs.Feeding.{IsFedOnce}
 

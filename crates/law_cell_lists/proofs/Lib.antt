@@ -1,3 +1,4 @@
+pub use Rattle.world_model.proofs as world_model
 pub mod Lists
 pub mod Frames
 pub mod Streams

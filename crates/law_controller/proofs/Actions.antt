@@ -3,14 +3,14 @@
 use Rattle.std.proofs.Common.{◌≡◌, true, false, List, [], ◌∷◌, ◌++◌, Option, None, Some, refl, sym, subst, arith}
 use Rattle.std.specs.Prelude.{◌+◌, nat_lt}
 use Rattle.std.specs.Option.{option_map}
-use Rattle.world_model.specs.Words.{label_channel_of, PortNo, End, Redirect, Reclaim, ReclaimAck, LabelRange, Error, InRange, put, without, Desk, empty_desk, Action, Say, Ask, Note, CutChain, TakeBack, Withdraw, Setup, is_in_range, Grant, GrantState, Idle, ByController, ByInput, Leaving, grant_label, Session, Work, with_session, with_grants, without_grant, desk_with, labels_of, given_back_in, Unnumbered, last_number, spent_number, own_of, tells_in, tells, reclaim_ack, closing, resets, restarts}
-use Rattle.world_model.specs.ifmp_wire.declared.message.Message.{Message}
-use Rattle.world_model.specs.ifmp_wire.declared.message.Message.TheVariants.{Adjacency}
+use Rattle.law_controller_facts.specs.world_model.Words.{label_channel_of, PortNo, End, Redirect, Reclaim, ReclaimAck, LabelRange, Error, InRange, put, without, Desk, empty_desk, Action, Say, Ask, Note, CutChain, TakeBack, Withdraw, Setup, is_in_range, Grant, GrantState, Idle, ByController, ByInput, Leaving, grant_label, Session, Work, with_session, with_grants, without_grant, desk_with, labels_of, given_back_in, Unnumbered, last_number, spent_number, own_of, tells_in, tells, reclaim_ack, closing, resets, restarts}
+use Rattle.law_controller_facts.specs.world_model.ifmp_wire.declared.message.Message.{Message}
+use Rattle.law_controller_facts.specs.world_model.ifmp_wire.declared.message.Message.TheVariants.{Adjacency}
 use Rattle.law_controller_facts.specs.ordered_lists.Ordered.{Every}
 use Rattle.law_controller_facts.proofs.ordered_lists.Every.{every_all, every_map, every_right}
-use Rattle.world_model.specs.port_model.declared.action.Action.TheVariants as actions
-use Rattle.world_model.specs.port_model.Port.{acts}
-use Rattle.world_model.specs.port_model.Saying.{peer_of}
+use Rattle.law_controller_facts.specs.world_model.port_model.declared.action.Action.TheVariants as actions
+use Rattle.law_controller_facts.specs.world_model.port_model.Port.{acts}
+use Rattle.law_controller_facts.specs.world_model.port_model.Saying.{peer_of}
 use Rattle.law_controller_facts.specs.law_port_facts.Port.{IsAction, IsWork, IsSayable, IsLabelEnd, Lives}
 use Rattle.law_controller_facts.proofs.law_port_facts.Keyed.{on_both, every_more}
 use Rattle.law_controller_facts.proofs.law_port_facts.Steps.{Goes}

@@ -5,24 +5,24 @@ use Rattle.std.specs.Prelude.{◌==◌, ◌||◌, ◌&&◌, not, find, filter, f
 use Rattle.std.specs.List.{list_any}
 use Rattle.std.specs.Option.{option_map_or}
 use Rattle.std.proofs.lemmas.Bool.Decides.{nat_tests}
-use Rattle.world_model.specs.Words.{PortNo, End, next_control, with_control, is_estab, Request, AddBranch, MoveBranch, DeleteTree, VerifyTree, PortManagement, PortRow, same_end, is_delete_all, withdraws, leads_home, Desk, Standing, all_on, empty_desk, last_transaction, Head, head_of, is_of_type, Answered, Unknown, Done, Ports, Failed, succeeded, outcome, answered_with, after_answer, Setup, home_of, Linked, linked_at, with_linked, with_desk, default_channel, default_end, default_home, asks_next, asks, node_resets, releases, is_clearing, meets, up_ports, empties, default_branches, ends_meeting, is_deleting, has_emptied, port_of_input, behind_delete_all, causes_in_estab, causes, may_clear, clears_of, clears_port, clears, takes_answer, answer_comes, IsLinkPort}
-use Rattle.world_model.specs.gsmp_wire.Layout.{octets_of as gsmp_octets}
-use Rattle.world_model.specs.port_model.Resets.{cleared}
-use Rattle.world_model.specs.gsmp_wire.declared.request.Request.TheVariants.{DeleteAll, AllPorts}
-use Rattle.world_model.specs.gsmp_wire.declared.message.Message.{Message}
-use Rattle.world_model.specs.gsmp_wire.declared.message.Message.TheVariants as messages
+use Rattle.law_controller_facts.specs.world_model.Words.{PortNo, End, next_control, with_control, is_estab, Request, AddBranch, MoveBranch, DeleteTree, VerifyTree, PortManagement, PortRow, same_end, is_delete_all, withdraws, leads_home, Desk, Standing, all_on, empty_desk, last_transaction, Head, head_of, is_of_type, Answered, Unknown, Done, Ports, Failed, succeeded, outcome, answered_with, after_answer, Setup, home_of, Linked, linked_at, with_linked, with_desk, default_channel, default_end, default_home, asks_next, asks, node_resets, releases, is_clearing, meets, up_ports, empties, default_branches, ends_meeting, is_deleting, has_emptied, port_of_input, behind_delete_all, causes_in_estab, causes, may_clear, clears_of, clears_port, clears, takes_answer, answer_comes, IsLinkPort}
+use Rattle.law_controller_facts.specs.world_model.gsmp_wire.Layout.{octets_of as gsmp_octets}
+use Rattle.law_controller_facts.specs.world_model.port_model.Resets.{cleared}
+use Rattle.law_controller_facts.specs.world_model.gsmp_wire.declared.request.Request.TheVariants.{DeleteAll, AllPorts}
+use Rattle.law_controller_facts.specs.world_model.gsmp_wire.declared.message.Message.{Message}
+use Rattle.law_controller_facts.specs.world_model.gsmp_wire.declared.message.Message.TheVariants as messages
 use Rattle.law_controller_facts.specs.ordered_lists.Ordered.{Every}
 use Rattle.law_controller_facts.proofs.ordered_lists.Every.{every_map, every_join}
 use Rattle.law_controller_facts.proofs.ordered_lists.Parts.{every_part, part_filtered}
-use Rattle.world_model.specs.port_model.Messages.{is_up}
-use Rattle.world_model.specs.port_model.Requests.{input_of}
-use Rattle.world_model.specs.port_model.Desk.{asked, message_at}
+use Rattle.law_controller_facts.specs.world_model.port_model.Messages.{is_up}
+use Rattle.law_controller_facts.specs.world_model.port_model.Requests.{input_of}
+use Rattle.law_controller_facts.specs.world_model.port_model.Desk.{asked, message_at}
 use Rattle.law_controller_facts.specs.law_port_facts.Port.{MovesNone, IsLabelEnd, IsShaped, IsLinked, IsDefaultEnd, asks_ports, empties_control, empties_port, opens_input, opens_output, frees_label}
 use Rattle.law_controller_facts.proofs.law_port_facts.Keyed.{on_both, on_each}
 use Rattle.law_controller_facts.proofs.law_port_facts.Found.{find_every, find_passes}
 use Rattle.law_controller_facts.proofs.law_port_facts.Rules.{and_second}
-use Rattle.world_model.specs.Controller.{Acted, ports_of}
-use Rattle.world_model.specs.Meeting.{done}
+use Rattle.law_controller_facts.specs.world_model.Controller.{Acted, ports_of}
+use Rattle.law_controller_facts.specs.world_model.Meeting.{done}
 use Rattle.law_controller_facts.proofs.Moves.{ending_meeting, moves_to, HasPorts, IsShapedStanding, found_at_own}
 use Rattle.law_controller_facts.proofs.Performing.{ports_linked}
 use Rattle.law_controller_facts.proofs.Joining.{every_filter}

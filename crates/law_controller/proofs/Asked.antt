@@ -5,18 +5,18 @@ use Rattle.std.specs.Prelude.{◌+◌, ◌||◌, nat_lt, ◌⊎◌}
 use Rattle.std.specs.List.{list_any}
 use Rattle.std.specs.Option.{option_map, option_map_or}
 use Rattle.std.proofs.lemmas.Bool.Decides.{nat_tests}
-use Rattle.world_model.specs.Words.{PortNo, End, Peer, number_of_channel, Clearing, Said, Answer, Quiet, Send, Open, Side, IsSide, is_estab, is_open, same_peer, hello_of, ifmp_answer, heard_from, same_end, AddBranch, DeleteTree, Bind, Free, Opened, at, put, without, entered, key_le, Desk, most_asked, on_input, Action, Say, Ask, Note, CutChain, TakeBack, Withdraw, Setup, is_in_range, label_end, control_end, Label, Wiring, Offered, Wired, label_number, Grant, Idle, ByController, grant_label, Session, Work, halts, with_session, with_label, without_label, with_grants, labels_of, label_at, desk_with, desk_after, has_room, Unnumbered, last_number, spent_number, own_of, is_spent, tells_in, tells, closes, first_session, opens, accepts}
-use Rattle.world_model.specs.adjacency_table.Side as sides
-use Rattle.world_model.specs.adjacency_table.declared.message.Answer.TheVariants.{Reset}
-use Rattle.world_model.specs.gsmp_wire.declared.request.Request.TheVariants.{DeleteAll}
-use Rattle.world_model.specs.ifmp_wire.declared.message.Message.TheVariants.{Adjacency}
-use Rattle.world_model.specs.link_model.declared.record.Record.TheVariants.{Join}
+use Rattle.law_controller_facts.specs.world_model.Words.{PortNo, End, Peer, number_of_channel, Clearing, Said, Answer, Quiet, Send, Open, Side, IsSide, is_estab, is_open, same_peer, hello_of, ifmp_answer, heard_from, same_end, AddBranch, DeleteTree, Bind, Free, Opened, at, put, without, entered, key_le, Desk, most_asked, on_input, Action, Say, Ask, Note, CutChain, TakeBack, Withdraw, Setup, is_in_range, label_end, control_end, Label, Wiring, Offered, Wired, label_number, Grant, Idle, ByController, grant_label, Session, Work, halts, with_session, with_label, without_label, with_grants, labels_of, label_at, desk_with, desk_after, has_room, Unnumbered, last_number, spent_number, own_of, is_spent, tells_in, tells, closes, first_session, opens, accepts}
+use Rattle.law_controller_facts.specs.world_model.adjacency_table.Side as sides
+use Rattle.law_controller_facts.specs.world_model.adjacency_table.declared.message.Answer.TheVariants.{Reset}
+use Rattle.law_controller_facts.specs.world_model.gsmp_wire.declared.request.Request.TheVariants.{DeleteAll}
+use Rattle.law_controller_facts.specs.world_model.ifmp_wire.declared.message.Message.TheVariants.{Adjacency}
+use Rattle.law_controller_facts.specs.world_model.link_model.declared.record.Record.TheVariants.{Join}
 use Rattle.law_controller_facts.specs.ordered_lists.Ordered.{Every}
-use Rattle.world_model.specs.port_model.declared.action.Action.TheVariants as actions
-use Rattle.world_model.specs.port_model.Grants as grants
-use Rattle.world_model.specs.port_model.Port.{Port, acts}
-use Rattle.world_model.specs.port_model.Saying.{peer_of}
-use Rattle.world_model.specs.port_model.Adjacency.{answers}
+use Rattle.law_controller_facts.specs.world_model.port_model.declared.action.Action.TheVariants as actions
+use Rattle.law_controller_facts.specs.world_model.port_model.Grants as grants
+use Rattle.law_controller_facts.specs.world_model.port_model.Port.{Port, acts}
+use Rattle.law_controller_facts.specs.world_model.port_model.Saying.{peer_of}
+use Rattle.law_controller_facts.specs.world_model.port_model.Adjacency.{answers}
 use Rattle.law_controller_facts.specs.law_port_facts.Port.{setup_port, IsWork}
 use Rattle.law_controller_facts.proofs.law_port_facts.Keyed.{on_both, on_each, at_key, at_every, put_every, without_every, entered_every}
 use Rattle.law_controller_facts.proofs.law_port_facts.Steps.{IsTurn, hears, ages, IsJoined, of_label, of_grant, Step, greeting, telling, closing, noting, turning, heard, minding, relabelling, wiring, binding, quitting, unwiring, freeing, accepting, granting, regranting, starting, ending, taking_back, Goes, goes_keeps}

@@ -3,16 +3,16 @@
 use Rattle.std.proofs.Common.{◌≡◌, ℕ, Bool, true, false, List, [], ◌∷◌, ◌++◌, length, Option, None, Some, refl, sym, subst, fold}
 use Rattle.std.specs.Prelude.{◌+◌, ◌&&◌, not, is_none, nat_lt, flat_map}
 use Rattle.std.specs.Option.{option_map}
-use Rattle.world_model.specs.Words.{PortNo, End, FlowId, next_hop_of, flow_destination, same_flow, best, changed, RouteChange, is_estab, Routes, on_input, most_asked, Setup, Label, Offered, Grant, grant_label, grant_for, is_by_controller, Linked, linked_at, joins_of, port_by, join_through, join_by, join_for, is_offered, may_join, joins, tries_label, label_on, tries_join, inputs_at, tries_joins, route_stays, is_changed, changed_joins, takes_join_back, begins_change, takes_change, may_take, takes_each, takes_changes, change_comes}
-use Rattle.world_model.specs.ipv4_forward.declared.table.Route.{Route}
+use Rattle.law_controller_facts.specs.world_model.Words.{PortNo, End, FlowId, next_hop_of, flow_destination, same_flow, best, changed, RouteChange, is_estab, Routes, on_input, most_asked, Setup, Label, Offered, Grant, grant_label, grant_for, is_by_controller, Linked, linked_at, joins_of, port_by, join_through, join_by, join_for, is_offered, may_join, joins, tries_label, label_on, tries_join, inputs_at, tries_joins, route_stays, is_changed, changed_joins, takes_join_back, begins_change, takes_change, may_take, takes_each, takes_changes, change_comes}
+use Rattle.law_controller_facts.specs.world_model.ipv4_forward.declared.table.Route.{Route}
 use Rattle.law_controller_facts.specs.ordered_lists.Ordered.{Every}
 use Rattle.law_controller_facts.proofs.ordered_lists.Every.{every_map}
 use Rattle.law_controller_facts.specs.law_port_facts.Port.{IsLabelEnd, IsPort, parts_label}
 use Rattle.law_controller_facts.proofs.law_port_facts.Keyed.{on_both, on_each, apart_at}
 use Rattle.law_controller_facts.proofs.law_port_facts.Found.{find_passes}
 use Rattle.law_controller_facts.proofs.law_port_facts.Rules.{and_first, and_second}
-use Rattle.world_model.specs.Controller.{Acted, note}
-use Rattle.world_model.specs.Joins.{Join, output_of}
+use Rattle.law_controller_facts.specs.world_model.Controller.{Acted, note}
+use Rattle.law_controller_facts.specs.world_model.Joins.{Join, output_of}
 use Rattle.law_controller_facts.proofs.Moves.{Found, routing, moves_to, HasPorts, found_at_own, found_port}
 use Rattle.law_controller_facts.proofs.Joining.{IsJoin, joins_are, join_input, join_output, every_filter, every_flat_map, each_there}
 use Rattle.law_controller_facts.proofs.Entering.{is_offered_by, by_controller, inputs_of_port}

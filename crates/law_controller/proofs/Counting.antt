@@ -5,12 +5,12 @@ use Rattle.std.specs.Prelude.{◌+◌, ◌||◌, ◌&&◌, ◌==◌, ◌⊎◌, 
 use Rattle.std.specs.List.{list_any}
 use Rattle.std.specs.Option.{option_map_or}
 use Rattle.std.proofs.lemmas.Bool.Decides.{nat_tests}
-use Rattle.world_model.specs.Words.{PortNo, End, is_label_channel, Request, AddBranch, MoveBranch, DeleteTree, VerifyTree, PortManagement, same_end, at, is_on, is_delete_all, Standing, Setup, home_of, Grant, most_grants, Linked, default_end, default_home, is_deleting}
-use Rattle.world_model.specs.gsmp_wire.declared.request.Request.TheVariants.{DeleteAll, AllPorts}
+use Rattle.law_controller_facts.specs.world_model.Words.{PortNo, End, is_label_channel, Request, AddBranch, MoveBranch, DeleteTree, VerifyTree, PortManagement, same_end, at, is_on, is_delete_all, Standing, Setup, home_of, Grant, most_grants, Linked, default_end, default_home, is_deleting}
+use Rattle.law_controller_facts.specs.world_model.gsmp_wire.declared.request.Request.TheVariants.{DeleteAll, AllPorts}
 use Rattle.law_controller_facts.specs.ordered_lists.Ordered.{Every, InOrder}
 use Rattle.law_controller_facts.proofs.ordered_lists.Every.{every_all}
-use Rattle.world_model.specs.port_model.Requests.{input_of}
-use Rattle.world_model.specs.port_model.Grants as grants
+use Rattle.law_controller_facts.specs.world_model.port_model.Requests.{input_of}
+use Rattle.law_controller_facts.specs.world_model.port_model.Grants as grants
 use Rattle.law_controller_facts.specs.law_port_facts.Port.{setup_port, IsDefaultEnd, IsLinked, IsShaped, asks_ports, empties_control, empties_port, opens_input, opens_output, leads_label, leads_grant, joins_label, parts_label, frees_label}
 use Rattle.law_controller_facts.proofs.law_port_facts.Keyed.{by_eq}
 use Rattle.law_controller_facts.specs.Sound.{HaveOwnInputs, HaveOwnPorts}

@@ -3,18 +3,18 @@
 use Rattle.std.proofs.Common.{◌≡◌, ℕ, Bool, true, false, List, [], length, Option, None, Some, refl, sym, ◌∙◌, ap, subst, if◌then◌else◌}
 use Rattle.std.specs.Prelude.{◌==◌, is_some, nat_le}
 use Rattle.std.specs.Option.{option_map_or, option_and_then}
-use Rattle.world_model.specs.Words.{PortNo, End, number_of_channel, Channel, Mark, next_control, with_control, Loss, PoolFull, noted, frame_cells, made, is_estab, Request, MoveBranch, same_end, at, put, Desk, all_on, last_transaction, is_led_home, Setup, home_of, label_end, Label, Offered, label_number, Grant, GrantState, ByController, ByInput, grant_label, Session, Work, label_at, labels_of, joins_label, Controller, Linked, port_key, linked_at, with_desk, default_channel, asks_next, asks, takes_back, begins, node_resets, works, works_as, enters_grant, enters_label, joins, label_on}
-use Rattle.world_model.proofs.net_types.Labels.{label_channel_of-number_of_channel}
-use Rattle.world_model.specs.gsmp_wire.Layout.{octets_of as gsmp_octets}
-use Rattle.world_model.specs.frame_model.Sending.{Sent}
-use Rattle.world_model.specs.port_model.Desk.{asked, message_at}
-use Rattle.world_model.specs.port_model.Grants as grants
-use Rattle.world_model.specs.port_model.Joins as port_joins
+use Rattle.law_controller_facts.specs.world_model.Words.{PortNo, End, number_of_channel, Channel, Mark, next_control, with_control, Loss, PoolFull, noted, frame_cells, made, is_estab, Request, MoveBranch, same_end, at, put, Desk, all_on, last_transaction, is_led_home, Setup, home_of, label_end, Label, Offered, label_number, Grant, GrantState, ByController, ByInput, grant_label, Session, Work, label_at, labels_of, joins_label, Controller, Linked, port_key, linked_at, with_desk, default_channel, asks_next, asks, takes_back, begins, node_resets, works, works_as, enters_grant, enters_label, joins, label_on}
+use Rattle.law_controller_facts.proofs.world_model.net_types.Labels.{label_channel_of-number_of_channel}
+use Rattle.law_controller_facts.specs.world_model.gsmp_wire.Layout.{octets_of as gsmp_octets}
+use Rattle.law_controller_facts.specs.world_model.frame_model.Sending.{Sent}
+use Rattle.law_controller_facts.specs.world_model.port_model.Desk.{asked, message_at}
+use Rattle.law_controller_facts.specs.world_model.port_model.Grants as grants
+use Rattle.law_controller_facts.specs.world_model.port_model.Joins as port_joins
 use Rattle.law_controller_facts.specs.law_port_facts.Port.{IsLabelEnd, joins_label as joins_label_shape}
 use Rattle.law_controller_facts.proofs.law_port_facts.Keyed.{on_both, on_each, at_key, put_every, at_put_same}
-use Rattle.world_model.specs.Controller.{Acted, free_slots}
-use Rattle.world_model.specs.Sending.{with_cells, sends}
-use Rattle.world_model.specs.Joins.{Join, output_of}
+use Rattle.law_controller_facts.specs.world_model.Controller.{Acted, free_slots}
+use Rattle.law_controller_facts.specs.world_model.Sending.{with_cells, sends}
+use Rattle.law_controller_facts.specs.world_model.Joins.{Join, output_of}
 use Rattle.law_controller_facts.proofs.Moves.{Worked, by_joining, by_lending, Found, HasPorts, found_at_own, found_port}
 use Rattle.law_controller_facts.proofs.Joining.{IsJoin, image_is}
 use Rattle.law_controller_facts.proofs.Conditions.{of_label}

@@ -2,36 +2,36 @@
 
 use Rattle.std.proofs.Common.{◌≡◌, ℕ, Bool, true, false, List, [], ◌∷◌, length, Option, None, Some, refl, ◌∙◌, fold}
 use Rattle.std.specs.Prelude.{nat_lt, nat_le, ◌==◌, drop, Result, Ok, Err}
-use Rattle.world_model.specs.Words.{PortNo, Channel, Mark, Party, protocol_of, source_of, PacketFault, hop_of, onward, Hop, Here, On, Cell, kind_of, default_payload, labelled_payload, EncapsFault, default_unwrapped, unwrapped, Said, Answer, Quiet, Send, Open, Side, IsSide, is_estab, is_open, ticked, greeting_of, gsmp_answer, gsmp_received, heard_in, same_party, Unbound, PoolFull, frame_cells, made, next_control, with_control, Record, Bad, Loss, Delivered, Dropped, noted, encaps_refusal, packet_refusal, ifmp_refusal, gsmp_refusal, Reassembly, cut, nothing_taken, Tested, tested, last_mark, next_mark, Standing, sent_again, Setup, control_end, Label, Grant, counts, used, hears, IsLinkPort, Controller, Linked, linked_at, chains_with, default_channel, default_home, sends_control, says_gsmp, sends_request, begins, cuts_default_of, cuts_default, cuts_gsmp, node_resets, node_restarts, tries_joins, gsmp_holds, is_control, sends_next, goes_by, grant_by, routes, control_protocol, inject_refusal, ForGsmp, ForDefault, ForLabel, reassembly_of, with_reassembly, label_holds, ifmp_holds, counted_at, packet_holds, default_holds, frame_holds, sends_again, ticks_port, ticks_ports, ticks_by, Refusal}
-use Rattle.world_model.specs.ipv4_packet.Packet.{first_fault}
-use Rattle.world_model.specs.ipv4_forward.declared.outcome.Hop.TheVariants.{NoRoute, Expired}
-use Rattle.world_model.specs.ifmp_wire.declared.message.Message.{Message as IfmpMessage}
-use Rattle.world_model.specs.ifmp_wire.declared.reader.Fault.{Fault as IfmpFault}
-use Rattle.world_model.specs.ifmp_wire.Fields.{decoded as ifmp_decoded}
-use Rattle.world_model.specs.gsmp_wire.Layout.{octets_of as gsmp_octets}
-use Rattle.world_model.specs.gsmp_wire.Fields.{decoded as gsmp_decoded}
-use Rattle.world_model.specs.gsmp_wire.declared.fault.Fault.{Fault as GsmpFault}
-use Rattle.world_model.specs.gsmp_wire.declared.message.Message.{Message}
-use Rattle.world_model.specs.gsmp_wire.declared.message.Message.TheVariants as messages
-use Rattle.world_model.specs.adjacency_table.declared.message.Answer.TheVariants.{Reset}
-use Rattle.world_model.specs.adjacency_table.Side as sides
-use Rattle.world_model.specs.frame_model.Sending.{Sent}
-use Rattle.world_model.specs.link_model.declared.record.Layer.TheVariants as layers
-use Rattle.world_model.specs.link_model.declared.record.DropCause.TheVariants as causes_of
-use Rattle.world_model.specs.frame_model.Reassembly.{Taken, taken}
-use Rattle.world_model.specs.port_model.Ticks as port_ticks
+use Rattle.law_controller_facts.specs.world_model.Words.{PortNo, Channel, Mark, Party, protocol_of, source_of, PacketFault, hop_of, onward, Hop, Here, On, Cell, kind_of, default_payload, labelled_payload, EncapsFault, default_unwrapped, unwrapped, Said, Answer, Quiet, Send, Open, Side, IsSide, is_estab, is_open, ticked, greeting_of, gsmp_answer, gsmp_received, heard_in, same_party, Unbound, PoolFull, frame_cells, made, next_control, with_control, Record, Bad, Loss, Delivered, Dropped, noted, encaps_refusal, packet_refusal, ifmp_refusal, gsmp_refusal, Reassembly, cut, nothing_taken, Tested, tested, last_mark, next_mark, Standing, sent_again, Setup, control_end, Label, Grant, counts, used, hears, IsLinkPort, Controller, Linked, linked_at, chains_with, default_channel, default_home, sends_control, says_gsmp, sends_request, begins, cuts_default_of, cuts_default, cuts_gsmp, node_resets, node_restarts, tries_joins, gsmp_holds, is_control, sends_next, goes_by, grant_by, routes, control_protocol, inject_refusal, ForGsmp, ForDefault, ForLabel, reassembly_of, with_reassembly, label_holds, ifmp_holds, counted_at, packet_holds, default_holds, frame_holds, sends_again, ticks_port, ticks_ports, ticks_by, Refusal}
+use Rattle.law_controller_facts.specs.world_model.ipv4_packet.Packet.{first_fault}
+use Rattle.law_controller_facts.specs.world_model.ipv4_forward.declared.outcome.Hop.TheVariants.{NoRoute, Expired}
+use Rattle.law_controller_facts.specs.world_model.ifmp_wire.declared.message.Message.{Message as IfmpMessage}
+use Rattle.law_controller_facts.specs.world_model.ifmp_wire.declared.reader.Fault.{Fault as IfmpFault}
+use Rattle.law_controller_facts.specs.world_model.ifmp_wire.Fields.{decoded as ifmp_decoded}
+use Rattle.law_controller_facts.specs.world_model.gsmp_wire.Layout.{octets_of as gsmp_octets}
+use Rattle.law_controller_facts.specs.world_model.gsmp_wire.Fields.{decoded as gsmp_decoded}
+use Rattle.law_controller_facts.specs.world_model.gsmp_wire.declared.fault.Fault.{Fault as GsmpFault}
+use Rattle.law_controller_facts.specs.world_model.gsmp_wire.declared.message.Message.{Message}
+use Rattle.law_controller_facts.specs.world_model.gsmp_wire.declared.message.Message.TheVariants as messages
+use Rattle.law_controller_facts.specs.world_model.adjacency_table.declared.message.Answer.TheVariants.{Reset}
+use Rattle.law_controller_facts.specs.world_model.adjacency_table.Side as sides
+use Rattle.law_controller_facts.specs.world_model.frame_model.Sending.{Sent}
+use Rattle.law_controller_facts.specs.world_model.link_model.declared.record.Layer.TheVariants as layers
+use Rattle.law_controller_facts.specs.world_model.link_model.declared.record.DropCause.TheVariants as causes_of
+use Rattle.law_controller_facts.specs.world_model.frame_model.Reassembly.{Taken, taken}
+use Rattle.law_controller_facts.specs.world_model.port_model.Ticks as port_ticks
 use Rattle.law_controller_facts.specs.law_port_facts.Port.{Lives}
 use Rattle.law_controller_facts.proofs.law_port_facts.Keyed.{on_both}
 use Rattle.law_controller_facts.proofs.law_port_facts.Rules.{used_goes, counts_goes}
 use Rattle.law_controller_facts.proofs.law_port_facts.Hearings.{hears_goes, ticks_goes}
 use Rattle.law_controller_facts.proofs.law_port_facts.Turns.{IsTurned, received_turns, ticked_turns}
 use Rattle.law_controller_facts.specs.ordered_lists.Ordered.{Every}
-use Rattle.world_model.specs.Controller.{Acted, free_slots, ports_of, note}
-use Rattle.world_model.specs.Sending.{with_cells, sends}
-use Rattle.world_model.specs.Gsmp.{answers, steps, told}
-use Rattle.world_model.specs.Packets.{forwarded}
-use Rattle.world_model.specs.Cells.{Taker, opened_frame, ends_frame, after_cell, cell_comes}
-use Rattle.world_model.specs.Ticks.{ticks}
+use Rattle.law_controller_facts.specs.world_model.Controller.{Acted, free_slots, ports_of, note}
+use Rattle.law_controller_facts.specs.world_model.Sending.{with_cells, sends}
+use Rattle.law_controller_facts.specs.world_model.Gsmp.{answers, steps, told}
+use Rattle.law_controller_facts.specs.world_model.Packets.{forwarded}
+use Rattle.law_controller_facts.specs.world_model.Cells.{Taker, opened_frame, ends_frame, after_cell, cell_comes}
+use Rattle.law_controller_facts.specs.world_model.Ticks.{ticks}
 use Rattle.law_controller_facts.specs.Inputs.{Input, CellComes, PacketEnters, Ticks, Restarts, ChangeComes, FrameIsForged, CellLeaves, Meanwhile, enters_unless, takes_input, takes_inputs}
 use Rattle.law_controller_facts.proofs.Lifetimes.{decoded_lives}
 use Rattle.law_controller_facts.proofs.Moves.{IsGsmpTurn, hears as hears_greeting, ages, gathering, popping, turning, moves_to, found_at_own, found_port}

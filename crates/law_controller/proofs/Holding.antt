@@ -4,18 +4,18 @@ use Rattle.std.proofs.Common.{◌≡◌, ℕ, Bool, true, false, List, [], ◌�
 use Rattle.std.specs.Prelude.{not, ◌==◌, ◌&&◌, nat_le, ◌⊎◌}
 use Rattle.std.specs.List.{list_any}
 use Rattle.std.specs.Option.{option_map_or}
-use Rattle.world_model.specs.Words.{PortNo, Channel, End, Mark, next_control, with_control, Clearing, is_estab, Loss, PoolFull, Journal, noted, frame_cells, made, Request, at, put, is_on, is_delete_all, Desk, Standing, empty_desk, last_transaction, all_on, Answered, after_answer, Action, Say, Ask, Note, CutChain, TakeBack, Withdraw, Setup, label_end, Label, Session, Work, labels_of, restarts, Controller, Linked, port_key, linked_at, with_linked, with_desk, chain_of, chains_with, cut, nothing_taken, Grant, sends_control, withdraws_input, begins, with_work, cuts_of, closes_by, port_restarts_of, port_restarts, resets_gsmp, node_resets, awaits_nothing, may_clear}
-use Rattle.world_model.specs.frame_model.Sending.{Sent}
+use Rattle.law_controller_facts.specs.world_model.Words.{PortNo, Channel, End, Mark, next_control, with_control, Clearing, is_estab, Loss, PoolFull, Journal, noted, frame_cells, made, Request, at, put, is_on, is_delete_all, Desk, Standing, empty_desk, last_transaction, all_on, Answered, after_answer, Action, Say, Ask, Note, CutChain, TakeBack, Withdraw, Setup, label_end, Label, Session, Work, labels_of, restarts, Controller, Linked, port_key, linked_at, with_linked, with_desk, chain_of, chains_with, cut, nothing_taken, Grant, sends_control, withdraws_input, begins, with_work, cuts_of, closes_by, port_restarts_of, port_restarts, resets_gsmp, node_resets, awaits_nothing, may_clear}
+use Rattle.law_controller_facts.specs.world_model.frame_model.Sending.{Sent}
 use Rattle.law_controller_facts.specs.ordered_lists.Ordered.{Every}
 use Rattle.law_controller_facts.proofs.ordered_lists.Every.{every_all, every_map}
-use Rattle.world_model.specs.port_model.Desk.{asked}
-use Rattle.world_model.specs.port_model.declared.action.Action.TheVariants as actions
-use Rattle.world_model.specs.port_model.Port.{Port}
-use Rattle.world_model.specs.port_model.Resets.{cleared}
+use Rattle.law_controller_facts.specs.world_model.port_model.Desk.{asked}
+use Rattle.law_controller_facts.specs.world_model.port_model.declared.action.Action.TheVariants as actions
+use Rattle.law_controller_facts.specs.world_model.port_model.Port.{Port}
+use Rattle.law_controller_facts.specs.world_model.port_model.Resets.{cleared}
 use Rattle.law_controller_facts.specs.law_port_facts.Port.{IsShaped, IsShut}
 use Rattle.law_controller_facts.proofs.law_port_facts.Keyed.{on_both, at_every}
-use Rattle.world_model.specs.Controller.{Acted, free_slots, ports_of}
-use Rattle.world_model.specs.Sending.{with_cells, sends}
+use Rattle.law_controller_facts.specs.world_model.Controller.{Acted, free_slots, ports_of}
+use Rattle.law_controller_facts.specs.world_model.Sending.{with_cells, sends}
 use Rattle.law_controller_facts.specs.Sound.{IsSound, IsShutLinked}
 use Rattle.law_controller_facts.proofs.Moves.{Worked, Found, sending, asking, withdrawing, answering, meeting, placing, clearing, chaining, moves_to}
 use Rattle.law_controller_facts.proofs.Laws.{moves_sound}

@@ -3,13 +3,13 @@
 use Rattle.std.proofs.Common.{◌≡◌, ℕ, Bool, true, subst, ◌≤◌, List, [], ◌∷◌, length, inl, inr, refl, ap, arith, Option, None, Some, false, sym, ◌∙◌}
 use Rattle.std.specs.Prelude.{◌+◌}
 use Rattle.std.proofs.lemmas.List.{length-map}
-use Rattle.world_model.specs.Words.{Request, AddBranch, MoveBranch, DeleteTree, VerifyTree, PortManagement, IsLinkPort, is_delete_all, Desk, Standing, all_on, Setup, Controller, Linked, port_key, linked_at, setup_of, opens_ports, number_of_channel, End, PortNo, at, Label, Grant, label_at, labels_of, is_clearing, joins_of, label_on}
-use Rattle.world_model.specs.gsmp_wire.declared.request.Request.TheVariants.{DeleteAll, AllPorts}
-use Rattle.world_model.specs.port_model.Requests.{input_of}
+use Rattle.law_controller_facts.specs.world_model.Words.{Request, AddBranch, MoveBranch, DeleteTree, VerifyTree, PortManagement, IsLinkPort, is_delete_all, Desk, Standing, all_on, Setup, Controller, Linked, port_key, linked_at, setup_of, opens_ports, number_of_channel, End, PortNo, at, Label, Grant, label_at, labels_of, is_clearing, joins_of, label_on}
+use Rattle.law_controller_facts.specs.world_model.gsmp_wire.declared.request.Request.TheVariants.{DeleteAll, AllPorts}
+use Rattle.law_controller_facts.specs.world_model.port_model.Requests.{input_of}
 use Rattle.law_controller_facts.specs.ordered_lists.Ordered.{Every}
 use Rattle.law_controller_facts.proofs.ordered_lists.Every.{every_mapped, every_map}
-use Rattle.world_model.specs.controller_model.declared.range.PortRange.{PortRange}
-use Rattle.world_model.specs.Controller.{Acted}
+use Rattle.law_controller_facts.specs.world_model.controller_model.declared.range.PortRange.{PortRange}
+use Rattle.law_controller_facts.specs.world_model.Controller.{Acted}
 use Rattle.law_controller_facts.specs.Inputs.{Input, takes_inputs}
 use Rattle.law_controller_facts.specs.Sound.{linked_setup, IsLinkedPort, Opening, opened_by, setups_by}
 use Rattle.law_controller_facts.proofs.Moves.{found_setup, found_at_own}
@@ -25,8 +25,8 @@ use Rattle.std.specs.Option.{option_map_or, option_and_then}
 use Rattle.law_controller_facts.specs.law_port_facts.Port.{setup_port}
 use Rattle.law_controller_facts.proofs.law_port_facts.Keyed.{by_eq, at_key, at_every}
 use Rattle.law_controller.proofs.Lists.{each_any}
-use Rattle.world_model.specs.port_model.Grants as grants
-use Rattle.world_model.specs.Joins.{Join, output_of}
+use Rattle.law_controller_facts.specs.world_model.port_model.Grants as grants
+use Rattle.law_controller_facts.specs.world_model.Joins.{Join, output_of}
 use Rattle.law_controller_facts.proofs.Joining.{IsJoin, joins_are}
 use Rattle.law_controller.proofs.Ordering.{empty_order}
 use Rattle.law_controller.proofs.Events.{inputs_hold}

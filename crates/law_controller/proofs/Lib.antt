@@ -2,6 +2,7 @@ pub use Rattle.law_controller_facts.proofs.octet_fields as octet_fields
 pub use Rattle.law_controller_facts.proofs.ordered_lists as ordered_lists
 pub use Rattle.law_controller_facts.proofs.law_port_facts as law_port_facts
 pub use Rattle.law_controller_facts.proofs as law_controller_facts
+pub use Rattle.law_controller_facts.proofs.world_model as world_model
 pub mod Lists
 pub mod Asked
 pub mod Resetting

@@ -4,7 +4,7 @@ use Rattle.std.proofs.Common.{◌≡◌, ◌≢◌, ℕ, ◌≤◌, Bool, true, 
 use Rattle.std.specs.Prelude.{◌+◌, not, ◌||◌, filter, find}
 use Rattle.std.specs.List.{list_any}
 use Rattle.law_controller_facts.specs.ordered_lists.Ordered.{Every, InOrder}
-use Rattle.world_model.specs.Words.{at, put, without}
+use Rattle.law_controller_facts.specs.world_model.Words.{at, put, without}
 use Rattle.law_controller_facts.proofs.law_port_facts.Keyed.{on_both, by_eq}
 use Rattle.law_controller.specs.Order.{one_if, count_of}
 

@@ -4,11 +4,11 @@ use Rattle.std.proofs.Common.{◌≡◌, ◌≢◌, ℕ, Bool, true, false, List
 use Rattle.std.specs.Prelude.{◌⊎◌}
 use Rattle.std.specs.Option.{option_map_or, option_and_then}
 use Rattle.std.proofs.lemmas.Bool.Decides.{nat_tests}
-use Rattle.world_model.specs.Words.{PortNo, End, number_of_channel, Request, AddBranch, MoveBranch, DeleteTree, VerifyTree, PortManagement, same_end, at, put, Desk, Standing, all_on, Label, Grant, Session, labels_of, Linked, port_key, is_clearing}
-use Rattle.world_model.specs.gsmp_wire.declared.request.Request.TheVariants.{DeleteAll, AllPorts}
+use Rattle.law_controller_facts.specs.world_model.Words.{PortNo, End, number_of_channel, Request, AddBranch, MoveBranch, DeleteTree, VerifyTree, PortManagement, same_end, at, put, Desk, Standing, all_on, Label, Grant, Session, labels_of, Linked, port_key, is_clearing}
+use Rattle.law_controller_facts.specs.world_model.gsmp_wire.declared.request.Request.TheVariants.{DeleteAll, AllPorts}
 use Rattle.law_controller_facts.specs.ordered_lists.Ordered.{Every}
 use Rattle.law_controller_facts.proofs.ordered_lists.Every.{every_map, every_map2}
-use Rattle.world_model.specs.port_model.Requests.{input_of}
+use Rattle.law_controller_facts.specs.world_model.port_model.Requests.{input_of}
 use Rattle.law_controller_facts.proofs.law_port_facts.Keyed.{by_eq, at_every, at_put_same, at_put_other}
 use Rattle.law_controller_facts.specs.Sound.{IsShutLinked}
 use Rattle.law_controller.specs.Match.{MovesJoined, IsOfJoin, joined_in, lent_in, joined_at, lent_at, clearing_at, end_at}

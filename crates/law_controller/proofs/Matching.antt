@@ -3,23 +3,23 @@
 use Rattle.std.proofs.Common.{◌≡◌, ◌≢◌, ℕ, Bool, true, false, List, [], ◌∷◌, ◌++◌, length, Option, None, Some, refl, sym, ◌∙◌, ap, subst, inl, inr, if◌then◌else◌, fold, append_assoc}
 use Rattle.std.specs.Prelude.{◌⊎◌, ◌==◌, not, nat_le, nat_eq, flat_map}
 use Rattle.std.specs.Option.{option_and_then}
-use Rattle.world_model.specs.Words.{PortNo, Channel, End, Mark, next_control, with_control, is_estab, Request, MoveBranch, ifmp_packet_of, default_payload, Loss, PoolFull, noted, frame_cells, made, nothing_taken, at, is_on, Desk, Standing, all_on, is_led_home, last_transaction, Action, Say, Ask, Note, CutChain, TakeBack, Withdraw, Setup, home_of, Grant, GrantState, Idle, ByController, ByInput, Leaving, grant_label, Work, closing, withdrawing, taking_back, left_in, left_of, resets, Controller, Linked, linked_at, with_desk, chains_with, default_channel, default_home, sends_control, asks_next, asks, takes_back, withdraws_input, begins, with_work, cuts_of, node_resets, does, does_in_estab, resets_as, resets_of, resets_port, performs, performs_in_estab, Rule, works_as, works, at_port}
-use Rattle.world_model.specs.gsmp_wire.Layout.{octets_of as gsmp_octets}
-use Rattle.world_model.specs.gsmp_wire.declared.request.Request.TheVariants.{DeleteAll}
-use Rattle.world_model.specs.ifmp_wire.Message.{octets_of as ifmp_octets}
-use Rattle.world_model.specs.frame_model.Sending.{Sent}
+use Rattle.law_controller_facts.specs.world_model.Words.{PortNo, Channel, End, Mark, next_control, with_control, is_estab, Request, MoveBranch, ifmp_packet_of, default_payload, Loss, PoolFull, noted, frame_cells, made, nothing_taken, at, is_on, Desk, Standing, all_on, is_led_home, last_transaction, Action, Say, Ask, Note, CutChain, TakeBack, Withdraw, Setup, home_of, Grant, GrantState, Idle, ByController, ByInput, Leaving, grant_label, Work, closing, withdrawing, taking_back, left_in, left_of, resets, Controller, Linked, linked_at, with_desk, chains_with, default_channel, default_home, sends_control, asks_next, asks, takes_back, withdraws_input, begins, with_work, cuts_of, node_resets, does, does_in_estab, resets_as, resets_of, resets_port, performs, performs_in_estab, Rule, works_as, works, at_port}
+use Rattle.law_controller_facts.specs.world_model.gsmp_wire.Layout.{octets_of as gsmp_octets}
+use Rattle.law_controller_facts.specs.world_model.gsmp_wire.declared.request.Request.TheVariants.{DeleteAll}
+use Rattle.law_controller_facts.specs.world_model.ifmp_wire.Message.{octets_of as ifmp_octets}
+use Rattle.law_controller_facts.specs.world_model.frame_model.Sending.{Sent}
 use Rattle.law_controller_facts.specs.ordered_lists.Ordered.{Every, InOrder}
 use Rattle.law_controller_facts.proofs.ordered_lists.Every.{every_left, every_right}
-use Rattle.world_model.specs.port_model.Desk.{asked, message_at}
-use Rattle.world_model.specs.port_model.declared.action.Action.TheVariants as actions
-use Rattle.world_model.specs.port_model.Grants.{input_of}
+use Rattle.law_controller_facts.specs.world_model.port_model.Desk.{asked, message_at}
+use Rattle.law_controller_facts.specs.world_model.port_model.declared.action.Action.TheVariants as actions
+use Rattle.law_controller_facts.specs.world_model.port_model.Grants.{input_of}
 use Rattle.law_controller_facts.specs.law_port_facts.Port.{IsAction, AnyChannel}
 use Rattle.law_controller_facts.proofs.law_port_facts.Keyed.{on_both, on_each, by_eq}
 use Rattle.law_controller_facts.proofs.law_port_facts.Steps.{GoesOn, Goes, stays, steps_to, further}
 use Rattle.law_controller_facts.proofs.law_port_facts.Said.{any_step}
 use Rattle.law_controller_facts.proofs.law_port_facts.Joins.{resets_kept}
-use Rattle.world_model.specs.Controller.{Acted, free_slots}
-use Rattle.world_model.specs.Sending.{with_cells, sends}
+use Rattle.law_controller_facts.specs.world_model.Controller.{Acted, free_slots}
+use Rattle.law_controller_facts.specs.world_model.Sending.{with_cells, sends}
 use Rattle.law_controller_facts.specs.Sound.{IsSound}
 use Rattle.law_controller_facts.proofs.Moves.{Worked, worked_kept, by_rule, by_reset, Found, placing, moves_to, HasPorts, found_setup, found_at_own, found_port, begun}
 use Rattle.law_controller_facts.proofs.Performing.{does_in_estab_goes}

@@ -5,17 +5,17 @@ use Rattle.std.specs.Prelude.{◌⊎◌, ◌==◌, ◌&&◌, not, find, filter, 
 use Rattle.std.specs.List.{filter_map}
 use Rattle.std.specs.Option.{option_map_or}
 use Rattle.std.proofs.lemmas.Bool.Decides.{nat_tests}
-use Rattle.world_model.specs.Words.{PortNo, End, Request, AddBranch, MoveBranch, DeleteTree, VerifyTree, PortManagement, same_end, in_order, is_on, is_delete_all, leads_home, Desk, Standing, on_input, all_on, Done, after_answer, without_request, Setup, home_of, Grant, Session, is_spent, closes, Work, halts, Linked, port_key, linked_at, with_desk, begins, works, works_as, join_to, joins_at, end_le, released_inputs, releases_input, resets_spent, releases, IsLinkPort}
-use Rattle.world_model.specs.gsmp_wire.declared.request.Request.TheVariants.{DeleteAll, AllPorts}
+use Rattle.law_controller_facts.specs.world_model.Words.{PortNo, End, Request, AddBranch, MoveBranch, DeleteTree, VerifyTree, PortManagement, same_end, in_order, is_on, is_delete_all, leads_home, Desk, Standing, on_input, all_on, Done, after_answer, without_request, Setup, home_of, Grant, Session, is_spent, closes, Work, halts, Linked, port_key, linked_at, with_desk, begins, works, works_as, join_to, joins_at, end_le, released_inputs, releases_input, resets_spent, releases, IsLinkPort}
+use Rattle.law_controller_facts.specs.world_model.gsmp_wire.declared.request.Request.TheVariants.{DeleteAll, AllPorts}
 use Rattle.law_controller_facts.specs.ordered_lists.Ordered.{Every, InOrder}
 use Rattle.law_controller_facts.proofs.ordered_lists.Every.{every_map, every_map2}
 use Rattle.law_controller_facts.proofs.ordered_lists.Parts.{every_part, part_filtered}
-use Rattle.world_model.specs.port_model.Requests.{input_of}
+use Rattle.law_controller_facts.specs.world_model.port_model.Requests.{input_of}
 use Rattle.law_controller_facts.specs.law_port_facts.Port.{IsLabelEnd}
 use Rattle.law_controller_facts.proofs.law_port_facts.Keyed.{at_every}
 use Rattle.law_controller_facts.proofs.law_port_facts.Found.{find_every, filter_passes}
-use Rattle.world_model.specs.Controller.{Acted, ports_of}
-use Rattle.world_model.specs.Joins.{Join}
+use Rattle.law_controller_facts.specs.world_model.Controller.{Acted, ports_of}
+use Rattle.law_controller_facts.specs.world_model.Joins.{Join}
 use Rattle.law_controller_facts.specs.Sound.{IsShutLinked, HaveOwnInputs, HaveOwnPorts}
 use Rattle.law_controller_facts.proofs.Conditions.{label_has_home}
 use Rattle.law_controller.specs.Order.{IsDeleting, IsMeeting, listing, emptying, IsLinkInput, IsApart}

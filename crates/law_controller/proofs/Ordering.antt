@@ -4,13 +4,13 @@ use Rattle.std.proofs.Common.{◌≡◌, ℕ, ◌≤◌, Bool, true, false, List
 use Rattle.std.specs.Prelude.{not, ◌+◌, ◌==◌, ◌||◌, ◌&&◌, nat_lt, filter, ◌⊎◌}
 use Rattle.std.specs.Option.{option_map_or}
 use Rattle.std.proofs.lemmas.Bool.Decides.{nat_tests}
-use Rattle.world_model.specs.Words.{PortNo, End, Clearing, Request, AddBranch, MoveBranch, DeleteTree, VerifyTree, PortManagement, same_end, at, put, is_on, is_delete_all, withdraws, Desk, Standing, all_on, on_input, most_asked, Answered, Unknown, Done, Ports, Failed, after_answer, label_end, Label, labels_of, Linked, port_key}
-use Rattle.world_model.specs.gsmp_wire.declared.request.Request.TheVariants.{DeleteAll, AllPorts}
+use Rattle.law_controller_facts.specs.world_model.Words.{PortNo, End, Clearing, Request, AddBranch, MoveBranch, DeleteTree, VerifyTree, PortManagement, same_end, at, put, is_on, is_delete_all, withdraws, Desk, Standing, all_on, on_input, most_asked, Answered, Unknown, Done, Ports, Failed, after_answer, label_end, Label, labels_of, Linked, port_key}
+use Rattle.law_controller_facts.specs.world_model.gsmp_wire.declared.request.Request.TheVariants.{DeleteAll, AllPorts}
 use Rattle.law_controller_facts.specs.ordered_lists.Ordered.{Every}
 use Rattle.law_controller_facts.proofs.ordered_lists.Every.{every_map, every_map2, every_join}
 use Rattle.law_controller_facts.proofs.ordered_lists.Parts.{every_part, part_filtered}
-use Rattle.world_model.specs.port_model.Requests.{input_of}
-use Rattle.world_model.specs.port_model.Desk.{asked}
+use Rattle.law_controller_facts.specs.world_model.port_model.Requests.{input_of}
+use Rattle.law_controller_facts.specs.world_model.port_model.Desk.{asked}
 use Rattle.law_controller_facts.proofs.law_port_facts.Keyed.{on_both, by_eq, at_put_same, at_put_other, put_every}
 use Rattle.law_controller_facts.proofs.law_port_facts.Found.{filter_passes}
 use Rattle.law_controller.specs.Order.{is_lent, IsLentTo, HasLentLabels, IsDeleting, IsMeeting, listing, emptying, IsOther, IsClearingAt, IsOfClearing, is_default, IsLinkInput, IsApart, IsLentMove, MovesLent, is_unlent, stands_unlent, is_listing, is_all_ports, count_of, IsOrder}

@@ -3,16 +3,16 @@
 use Rattle.std.proofs.Common.{◌≡◌, ◌≢◌, ℕ, Bool, true, false, List, [], ◌∷◌, ◌++◌, Option, None, Some, refl, sym, ◌∙◌, ap, subst, if◌then◌else◌}
 use Rattle.std.specs.Prelude.{not, ◌+◌, ◌||◌, is_some, nat_lt, nat_eq}
 use Rattle.std.specs.Option.{option_map, option_map_or, option_and_then}
-use Rattle.world_model.specs.Words.{End, Peer, number_of_channel, State, Clearing, SynSent, SynRcvd, Estab, Said, Answer, Quiet, Send, Open, Side, IsSide, is_open, same_peer, hello_of, ifmp_answer, heard_from, AddBranch, DeleteTree, Bind, Opened, at, put, without, entered, key_le, Desk, on_input, Action, Say, Ask, Note, CutChain, TakeBack, Setup, label_end, control_end, Label, Wiring, Offered, Wired, label_number, is_spare, Grant, Idle, ByController, grant_label, Session, Work, halts, with_session, with_label, with_new_label, with_grants, labels_of, label_at, desk_after, has_room, Unnumbered, last_number, spent_number, own_of, is_spent, tells_in, tells, closes, first_session, opens, accepts, is_clearing}
-use Rattle.world_model.specs.adjacency_table.declared.message.Answer.TheVariants.{Reset}
-use Rattle.world_model.specs.adjacency_table.Side as sides
-use Rattle.world_model.specs.ifmp_wire.declared.message.Message.TheVariants.{Adjacency}
-use Rattle.world_model.specs.link_model.declared.record.Record.TheVariants.{Join}
-use Rattle.world_model.specs.port_model.declared.action.Action.TheVariants as actions
-use Rattle.world_model.specs.port_model.Grants as grants
-use Rattle.world_model.specs.port_model.Port.{Port, acts}
-use Rattle.world_model.specs.port_model.Saying.{peer_of}
-use Rattle.world_model.specs.port_model.Adjacency.{answers}
+use Rattle.law_controller_facts.specs.world_model.Words.{End, Peer, number_of_channel, State, Clearing, SynSent, SynRcvd, Estab, Said, Answer, Quiet, Send, Open, Side, IsSide, is_open, same_peer, hello_of, ifmp_answer, heard_from, AddBranch, DeleteTree, Bind, Opened, at, put, without, entered, key_le, Desk, on_input, Action, Say, Ask, Note, CutChain, TakeBack, Setup, label_end, control_end, Label, Wiring, Offered, Wired, label_number, is_spare, Grant, Idle, ByController, grant_label, Session, Work, halts, with_session, with_label, with_new_label, with_grants, labels_of, label_at, desk_after, has_room, Unnumbered, last_number, spent_number, own_of, is_spent, tells_in, tells, closes, first_session, opens, accepts, is_clearing}
+use Rattle.law_controller_facts.specs.world_model.adjacency_table.declared.message.Answer.TheVariants.{Reset}
+use Rattle.law_controller_facts.specs.world_model.adjacency_table.Side as sides
+use Rattle.law_controller_facts.specs.world_model.ifmp_wire.declared.message.Message.TheVariants.{Adjacency}
+use Rattle.law_controller_facts.specs.world_model.link_model.declared.record.Record.TheVariants.{Join}
+use Rattle.law_controller_facts.specs.world_model.port_model.declared.action.Action.TheVariants as actions
+use Rattle.law_controller_facts.specs.world_model.port_model.Grants as grants
+use Rattle.law_controller_facts.specs.world_model.port_model.Port.{Port, acts}
+use Rattle.law_controller_facts.specs.world_model.port_model.Saying.{peer_of}
+use Rattle.law_controller_facts.specs.world_model.port_model.Adjacency.{answers}
 use Rattle.law_controller_facts.specs.law_port_facts.Port.{setup_port, AnyChannel, IsWork}
 use Rattle.law_controller_facts.proofs.law_port_facts.Keyed.{on_both, by_eq, at_put_same, at_put_other}
 use Rattle.law_controller_facts.proofs.law_port_facts.Steps.{IsTurn, hears, ages, StepOn, GoesOn, greeting, telling, closing, noting, turning, heard, minding, relabelling, wiring, binding, quitting, unwiring, freeing, accepting, granting, regranting, starting, ending, taking_back, goes_on_keeps}

@@ -4,18 +4,18 @@ use Rattle.std.proofs.Common.{◌≡◌, ◌≢◌, ℕ, Bool, true, false, List
 use Rattle.std.specs.Prelude.{◌||◌, nat_le, find, flat_map}
 use Rattle.std.specs.List.{list_any, filter_map, cons_option}
 use Rattle.std.specs.Option.{option_map, option_map_or, option_and_then}
-use Rattle.world_model.specs.Words.{PortNo, Channel, End, next_control, number_of_channel, label_channel_of, is_estab, ifmp_packet_of, default_payload, Loss, Part, PoolFull, noted, frame_cells, made, same_end, at, put, without, entered, in_order, Desk, on_input, Action, Say, Ask, Note, CutChain, TakeBack, Withdraw, Setup, Label, label_number, Grant, GrantState, Idle, ByController, ByInput, Leaving, grant_label, Session, Work, without_grant, label_at, labels_of, reclaim_ack, joins_label, parted, given_back_in, given_back, Controller, Linked, port_key, linked_at, default_home, begins, with_work, Rule, performs, performs_in_estab, works, works_as, join_to, joins_at, end_le, joins_of, join_of, parts, releases_join, releases_input, is_clearing}
-use Rattle.world_model.proofs.net_types.Labels.{label_channel_of-number_of_channel}
-use Rattle.world_model.specs.ifmp_wire.Message.{octets_of as ifmp_octets}
-use Rattle.world_model.specs.frame_model.Sending.{Sent}
+use Rattle.law_controller_facts.specs.world_model.Words.{PortNo, Channel, End, next_control, number_of_channel, label_channel_of, is_estab, ifmp_packet_of, default_payload, Loss, Part, PoolFull, noted, frame_cells, made, same_end, at, put, without, entered, in_order, Desk, on_input, Action, Say, Ask, Note, CutChain, TakeBack, Withdraw, Setup, Label, label_number, Grant, GrantState, Idle, ByController, ByInput, Leaving, grant_label, Session, Work, without_grant, label_at, labels_of, reclaim_ack, joins_label, parted, given_back_in, given_back, Controller, Linked, port_key, linked_at, default_home, begins, with_work, Rule, performs, performs_in_estab, works, works_as, join_to, joins_at, end_le, joins_of, join_of, parts, releases_join, releases_input, is_clearing}
+use Rattle.law_controller_facts.proofs.world_model.net_types.Labels.{label_channel_of-number_of_channel}
+use Rattle.law_controller_facts.specs.world_model.ifmp_wire.Message.{octets_of as ifmp_octets}
+use Rattle.law_controller_facts.specs.world_model.frame_model.Sending.{Sent}
 use Rattle.law_controller_facts.specs.ordered_lists.Ordered.{Every}
-use Rattle.world_model.specs.port_model.declared.action.Action.TheVariants as actions
-use Rattle.world_model.specs.port_model.Grants as grants
+use Rattle.law_controller_facts.specs.world_model.port_model.declared.action.Action.TheVariants as actions
+use Rattle.law_controller_facts.specs.world_model.port_model.Grants as grants
 use Rattle.law_controller_facts.specs.law_port_facts.Port.{IsLabelEnd, IsGrant}
 use Rattle.law_controller_facts.proofs.law_port_facts.Keyed.{on_both, by_eq, at_key, at_every, at_put_same, at_put_other}
-use Rattle.world_model.specs.Controller.{Acted, note, free_slots}
-use Rattle.world_model.specs.Sending.{with_cells}
-use Rattle.world_model.specs.Joins.{Join}
+use Rattle.law_controller_facts.specs.world_model.Controller.{Acted, note, free_slots}
+use Rattle.law_controller_facts.specs.world_model.Sending.{with_cells}
+use Rattle.law_controller_facts.specs.world_model.Joins.{Join}
 use Rattle.law_controller_facts.specs.Sound.{IsSound, IsLinkedPort}
 use Rattle.law_controller_facts.proofs.Moves.{Found, HasPorts, found_at_own, found_port}
 use Rattle.law_controller_facts.proofs.Joining.{IsJoin, joins_are, join_input, parts_grants, parts_goes, granted_there}

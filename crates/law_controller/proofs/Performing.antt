@@ -3,22 +3,22 @@
 use Rattle.std.proofs.Common.{◌≡◌, ℕ, Bool, true, false, List, [], ◌∷◌, length, Option, None, Some, refl, sym, ◌∙◌, ap, subst, if◌then◌else◌, inl, inr, fold}
 use Rattle.std.specs.Prelude.{◌==◌, ◌||◌, nat_le, nat_lt, ◌⊎◌}
 use Rattle.std.specs.List.{list_any}
-use Rattle.world_model.specs.Words.{PortNo, Channel, End, Mark, next_control, with_control, Clearing, is_estab, Request, AddBranch, MoveBranch, DeleteTree, VerifyTree, PortManagement, ifmp_packet_of, default_payload, Loss, PoolFull, noted, frame_cells, made, nothing_taken, at, put, is_delete_all, leads_home, Desk, Standing, all_on, on_input, is_led_home, last_transaction, most_asked, Action, Say, Ask, Note, CutChain, TakeBack, Withdraw, Setup, home_of, Work, desk_with, resets, Controller, Linked, port_key, linked_at, with_desk, chains_with, default_channel, default_home, sends_control, sends_request, asks_next, asks, takes_back, begins, with_work, cuts_of, node_resets, does, does_in_estab, resets_as, resets_of, resets_port, performs, performs_in_estab, Rule, works_as, works, at_port}
-use Rattle.world_model.specs.gsmp_wire.Layout.{octets_of as gsmp_octets}
-use Rattle.world_model.specs.gsmp_wire.declared.request.Request.TheVariants.{DeleteAll, AllPorts}
-use Rattle.world_model.specs.ifmp_wire.Message.{octets_of as ifmp_octets}
-use Rattle.world_model.specs.frame_model.Sending.{Sent}
+use Rattle.law_controller_facts.specs.world_model.Words.{PortNo, Channel, End, Mark, next_control, with_control, Clearing, is_estab, Request, AddBranch, MoveBranch, DeleteTree, VerifyTree, PortManagement, ifmp_packet_of, default_payload, Loss, PoolFull, noted, frame_cells, made, nothing_taken, at, put, is_delete_all, leads_home, Desk, Standing, all_on, on_input, is_led_home, last_transaction, most_asked, Action, Say, Ask, Note, CutChain, TakeBack, Withdraw, Setup, home_of, Work, desk_with, resets, Controller, Linked, port_key, linked_at, with_desk, chains_with, default_channel, default_home, sends_control, sends_request, asks_next, asks, takes_back, begins, with_work, cuts_of, node_resets, does, does_in_estab, resets_as, resets_of, resets_port, performs, performs_in_estab, Rule, works_as, works, at_port}
+use Rattle.law_controller_facts.specs.world_model.gsmp_wire.Layout.{octets_of as gsmp_octets}
+use Rattle.law_controller_facts.specs.world_model.gsmp_wire.declared.request.Request.TheVariants.{DeleteAll, AllPorts}
+use Rattle.law_controller_facts.specs.world_model.ifmp_wire.Message.{octets_of as ifmp_octets}
+use Rattle.law_controller_facts.specs.world_model.frame_model.Sending.{Sent}
 use Rattle.law_controller_facts.specs.ordered_lists.Ordered.{Every}
 use Rattle.law_controller_facts.proofs.ordered_lists.Every.{every_map, every_map2}
-use Rattle.world_model.specs.port_model.Desk.{asked, message_at}
-use Rattle.world_model.specs.port_model.declared.action.Action.TheVariants as actions
-use Rattle.world_model.specs.port_model.Port.{Port}
+use Rattle.law_controller_facts.specs.world_model.port_model.Desk.{asked, message_at}
+use Rattle.law_controller_facts.specs.world_model.port_model.declared.action.Action.TheVariants as actions
+use Rattle.law_controller_facts.specs.world_model.port_model.Port.{Port}
 use Rattle.law_controller_facts.specs.law_port_facts.Port.{setup_port, IsShaped, IsAction, parts_label}
 use Rattle.law_controller_facts.proofs.law_port_facts.Keyed.{on_both, on_each, at_key, at_every, at_put_same}
 use Rattle.law_controller_facts.proofs.law_port_facts.Steps.{Goes}
 use Rattle.law_controller_facts.proofs.law_port_facts.Joins.{resets_kept}
-use Rattle.world_model.specs.Controller.{Acted, free_slots}
-use Rattle.world_model.specs.Sending.{with_cells, sends}
+use Rattle.law_controller_facts.specs.world_model.Controller.{Acted, free_slots}
+use Rattle.law_controller_facts.specs.world_model.Sending.{with_cells, sends}
 use Rattle.law_controller_facts.specs.Sound.{IsShutLinked}
 use Rattle.law_controller_facts.proofs.Moves.{by_rule, by_reset, Found, HasPorts, found_setup, found_at_own, found_port, begun}
 use Rattle.law_controller_facts.proofs.Laws.{has_ports}

@@ -5,21 +5,21 @@ use Rattle.std.specs.Prelude.{◌+◌, ◌||◌, nat_lt}
 use Rattle.std.specs.List.{list_any}
 use Rattle.std.specs.Option.{option_map, option_map_or}
 use Rattle.std.proofs.lemmas.Bool.Decides.{nat_tests}
-use Rattle.world_model.specs.Words.{PortNo, End, number_of_channel, label_channel_of, Request, Part, same_end, at, put, without, is_on, leads_home, Desk, Standing, on_input, Action, Say, Setup, home_of, label_end, Label, label_number, Grant, GrantState, Idle, ByController, ByInput, Leaving, grant_label, Session, Work, with_session, without_grant, label_at, labels_of, Unnumbered, last_number, spent_number, own_of, tells_in, tells, reclaim_ack, closes, joins_label, parted, given_back_in, given_back, Linked, port_key, linked_at, begins, with_work, works, works_as, joins_of, join_of, parts, releases_join, releases_input, released_inputs, resets_spent, releases}
-use Rattle.world_model.proofs.net_types.Labels.{number_of_channel-label_channel_of}
+use Rattle.law_controller_facts.specs.world_model.Words.{PortNo, End, number_of_channel, label_channel_of, Request, Part, same_end, at, put, without, is_on, leads_home, Desk, Standing, on_input, Action, Say, Setup, home_of, label_end, Label, label_number, Grant, GrantState, Idle, ByController, ByInput, Leaving, grant_label, Session, Work, with_session, without_grant, label_at, labels_of, Unnumbered, last_number, spent_number, own_of, tells_in, tells, reclaim_ack, closes, joins_label, parted, given_back_in, given_back, Linked, port_key, linked_at, begins, with_work, works, works_as, joins_of, join_of, parts, releases_join, releases_input, released_inputs, resets_spent, releases}
+use Rattle.law_controller_facts.proofs.world_model.net_types.Labels.{number_of_channel-label_channel_of}
 use Rattle.law_controller_facts.specs.ordered_lists.Ordered.{Every, InOrder}
 use Rattle.law_controller_facts.proofs.ordered_lists.Every.{every_map, every_map2, every_mapped, every_join}
-use Rattle.world_model.specs.port_model.Requests.{input_of}
-use Rattle.world_model.specs.port_model.Grants as grants
-use Rattle.world_model.specs.port_model.Port.{Port, acts}
-use Rattle.world_model.specs.port_model.Saying.{peer_of}
+use Rattle.law_controller_facts.specs.world_model.port_model.Requests.{input_of}
+use Rattle.law_controller_facts.specs.world_model.port_model.Grants as grants
+use Rattle.law_controller_facts.specs.world_model.port_model.Port.{Port, acts}
+use Rattle.law_controller_facts.specs.world_model.port_model.Saying.{peer_of}
 use Rattle.law_controller_facts.specs.law_port_facts.Port.{IsLabelEnd, IsBefore}
 use Rattle.law_controller_facts.proofs.law_port_facts.Keyed.{on_both, by_eq, at_key, at_every, put_every}
 use Rattle.law_controller_facts.proofs.law_port_facts.Found.{filter_passes, tells_labels}
 use Rattle.law_controller_facts.proofs.law_port_facts.Steps as steps_of
 use Rattle.law_controller_facts.proofs.law_port_facts.Steps.{steps_to}
-use Rattle.world_model.specs.Controller.{Acted, ports_of, note}
-use Rattle.world_model.specs.Joins.{Join}
+use Rattle.law_controller_facts.specs.world_model.Controller.{Acted, ports_of, note}
+use Rattle.law_controller_facts.specs.world_model.Joins.{Join}
 use Rattle.law_controller_facts.proofs.Moves.{Worked, by_parting, by_giving_back, Found, placing, moves_to, HasPorts, found_at_own, found_port}
 use Rattle.law_controller_facts.proofs.Joining.{IsJoin, joins_are, join_input, parts_grants, granted_there, every_filter}
 use Rattle.law_controller_facts.proofs.Unmet.{put_each, none_with, ports_apart}

@@ -2,14 +2,14 @@
 
 use Rattle.std.proofs.Common.{◌≡◌, ℕ, List, [], ◌∷◌, length, refl, ◌∙◌, fold}
 use Rattle.std.specs.Prelude.{nat_le}
-use Rattle.world_model.specs.Words.{PortNo, Channel, Mark, next_control, with_control, ifmp_packet_of, default_payload, Loss, PoolFull, noted, frame_cells, made, is_estab, Action, Say, Ask, Note, CutChain, TakeBack, Withdraw, Setup, Controller, default_home, performs, performs_in_estab}
-use Rattle.world_model.specs.ifmp_wire.Message.{octets_of as ifmp_octets}
-use Rattle.world_model.specs.frame_model.Sending.{Sent}
+use Rattle.law_controller_facts.specs.world_model.Words.{PortNo, Channel, Mark, next_control, with_control, ifmp_packet_of, default_payload, Loss, PoolFull, noted, frame_cells, made, is_estab, Action, Say, Ask, Note, CutChain, TakeBack, Withdraw, Setup, Controller, default_home, performs, performs_in_estab}
+use Rattle.law_controller_facts.specs.world_model.ifmp_wire.Message.{octets_of as ifmp_octets}
+use Rattle.law_controller_facts.specs.world_model.frame_model.Sending.{Sent}
 use Rattle.law_controller_facts.specs.ordered_lists.Ordered.{Every}
-use Rattle.world_model.specs.port_model.declared.action.Action.TheVariants as actions
+use Rattle.law_controller_facts.specs.world_model.port_model.declared.action.Action.TheVariants as actions
 use Rattle.law_controller_facts.proofs.law_port_facts.Keyed.{on_both}
-use Rattle.world_model.specs.Controller.{Acted, free_slots}
-use Rattle.world_model.specs.Sending.{with_cells, sends}
+use Rattle.law_controller_facts.specs.world_model.Controller.{Acted, free_slots}
+use Rattle.law_controller_facts.specs.world_model.Sending.{with_cells, sends}
 use Rattle.law_controller.proofs.Holding.{Holds, sends_control_holds}
 
 -- *Saying* alone

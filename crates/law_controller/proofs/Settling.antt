@@ -5,25 +5,25 @@ use Rattle.std.specs.Prelude.{◌⊎◌, ◌==◌, ◌||◌, not, nat_le, filter
 use Rattle.std.specs.List.{list_any}
 use Rattle.std.specs.Option.{option_map, option_map_or, option_and_then}
 use Rattle.std.proofs.lemmas.Bool.Decides.{nat_tests}
-use Rattle.world_model.specs.Words.{PortNo, Channel, End, Mark, next_control, with_control, number_of_channel, is_estab, Request, AddBranch, MoveBranch, DeleteTree, VerifyTree, PortManagement, ifmp_packet_of, default_payload, Loss, Free, PoolFull, noted, frame_cells, made, nothing_taken, same_end, at, put, without, is_delete_all, leads_home, Desk, Standing, all_on, on_input, is_led_home, last_transaction, Done, without_request, after_answer, Action, Say, Ask, Note, CutChain, TakeBack, Withdraw, Setup, home_of, Label, label_number, Session, Work, without_label, label_at, labels_of, closes, resets, Controller, Linked, port_key, linked_at, with_desk, chains_with, default_channel, default_home, asks_next, asks, takes_back, begins, with_work, cuts_of, node_resets, does, does_in_estab, resets_of, resets_port, performs, performs_in_estab, works, joins_of, released_inputs, releases_input, resets_spent, releases}
-use Rattle.world_model.specs.gsmp_wire.Layout.{octets_of as gsmp_octets}
-use Rattle.world_model.specs.gsmp_wire.declared.request.Request.TheVariants.{DeleteAll, AllPorts}
-use Rattle.world_model.specs.ifmp_wire.Message.{octets_of as ifmp_octets}
-use Rattle.world_model.specs.frame_model.Sending.{Sent}
+use Rattle.law_controller_facts.specs.world_model.Words.{PortNo, Channel, End, Mark, next_control, with_control, number_of_channel, is_estab, Request, AddBranch, MoveBranch, DeleteTree, VerifyTree, PortManagement, ifmp_packet_of, default_payload, Loss, Free, PoolFull, noted, frame_cells, made, nothing_taken, same_end, at, put, without, is_delete_all, leads_home, Desk, Standing, all_on, on_input, is_led_home, last_transaction, Done, without_request, after_answer, Action, Say, Ask, Note, CutChain, TakeBack, Withdraw, Setup, home_of, Label, label_number, Session, Work, without_label, label_at, labels_of, closes, resets, Controller, Linked, port_key, linked_at, with_desk, chains_with, default_channel, default_home, asks_next, asks, takes_back, begins, with_work, cuts_of, node_resets, does, does_in_estab, resets_of, resets_port, performs, performs_in_estab, works, joins_of, released_inputs, releases_input, resets_spent, releases}
+use Rattle.law_controller_facts.specs.world_model.gsmp_wire.Layout.{octets_of as gsmp_octets}
+use Rattle.law_controller_facts.specs.world_model.gsmp_wire.declared.request.Request.TheVariants.{DeleteAll, AllPorts}
+use Rattle.law_controller_facts.specs.world_model.ifmp_wire.Message.{octets_of as ifmp_octets}
+use Rattle.law_controller_facts.specs.world_model.frame_model.Sending.{Sent}
 use Rattle.law_controller_facts.specs.ordered_lists.Ordered.{Every, InOrder}
 use Rattle.law_controller_facts.proofs.ordered_lists.Every.{every_map, every_map2, every_mapped}
-use Rattle.world_model.specs.port_model.Desk.{asked, message_at}
-use Rattle.world_model.specs.port_model.declared.action.Action.TheVariants as actions
-use Rattle.world_model.specs.port_model.Port.{acts}
+use Rattle.law_controller_facts.specs.world_model.port_model.Desk.{asked, message_at}
+use Rattle.law_controller_facts.specs.world_model.port_model.declared.action.Action.TheVariants as actions
+use Rattle.law_controller_facts.specs.world_model.port_model.Port.{acts}
 use Rattle.law_controller_facts.specs.law_port_facts.Port.{setup_port, IsLabelEnd, IsAction, AnyChannel}
 use Rattle.law_controller_facts.proofs.law_port_facts.Keyed.{on_both, by_eq}
 use Rattle.law_controller_facts.proofs.law_port_facts.Found.{filter_passes, find_every}
 use Rattle.law_controller_facts.proofs.law_port_facts.Steps as steps_of
 use Rattle.law_controller_facts.proofs.law_port_facts.Steps.{GoesOn, steps_to}
 use Rattle.law_controller_facts.proofs.law_port_facts.Joins.{resets_kept}
-use Rattle.world_model.specs.Controller.{Acted, ports_of, free_slots}
-use Rattle.world_model.specs.Sending.{with_cells, sends}
-use Rattle.world_model.specs.Joins.{Join}
+use Rattle.law_controller_facts.specs.world_model.Controller.{Acted, ports_of, free_slots}
+use Rattle.law_controller_facts.specs.world_model.Sending.{with_cells, sends}
+use Rattle.law_controller_facts.specs.world_model.Joins.{Join}
 use Rattle.law_controller_facts.specs.Sound.{IsSound, IsEarlier}
 use Rattle.law_controller_facts.proofs.Moves.{Worked, worked_kept, by_rule, by_reset, Found, placing, moves_to, HasPorts, found_setup, found_at_own, found_port, begun}
 use Rattle.law_controller_facts.proofs.Performing.{does_in_estab_goes}

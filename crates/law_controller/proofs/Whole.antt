@@ -4,23 +4,23 @@
 use Rattle.std.proofs.Common.{◌≡◌, ◌≢◌, ℕ, Bool, true, false, List, [], Option, None, Some, refl, sym, ◌∙◌, ap, subst, if◌then◌else◌}
 use Rattle.std.specs.Prelude.{◌&&◌, not}
 use Rattle.std.specs.Option.{option_map, option_map_or, option_and_then}
-use Rattle.world_model.specs.Words.{PortNo, Channel, End, Mark, number_of_channel, label_number_of, State, Clearing, SynSent, SynRcvd, Estab, is_estab, Request, MoveBranch, DeleteTree, Record, Free, Journal, at, put, Desk, Standing, all_on, Note, Setup, home_of, Label, LabelState, Wiring, Offered, Recalled, Wired, label_number, Grant, ByController, ByInput, grant_label, Session, label_at, labels_of, label_by, joins_label, freed_in, freed, Linked, port_key, linked_at, with_linked, default_channel, sends_control, sends_request, asks, takes_back, begins, node_resets, performs, performs_in_estab, Rule, works, works_as, at_port, enters_grant, enters_label, joins, label_on, is_clearing, awaits_nothing, may_clear, tells_port}
-use Rattle.world_model.proofs.net_types.Labels.{number_of_channel-label_channel_of}
-use Rattle.world_model.specs.gsmp_wire.Layout.{octets_of as gsmp_octets}
-use Rattle.world_model.specs.port_model.Desk.{message_at}
-use Rattle.world_model.specs.port_model.Grants as grants
-use Rattle.world_model.specs.port_model.Port.{Port}
-use Rattle.world_model.specs.port_model.Joins as port_joins
-use Rattle.world_model.specs.port_model.Answers as port_answers
-use Rattle.world_model.specs.port_model.Resets.{cleared}
+use Rattle.law_controller_facts.specs.world_model.Words.{PortNo, Channel, End, Mark, number_of_channel, label_number_of, State, Clearing, SynSent, SynRcvd, Estab, is_estab, Request, MoveBranch, DeleteTree, Record, Free, Journal, at, put, Desk, Standing, all_on, Note, Setup, home_of, Label, LabelState, Wiring, Offered, Recalled, Wired, label_number, Grant, ByController, ByInput, grant_label, Session, label_at, labels_of, label_by, joins_label, freed_in, freed, Linked, port_key, linked_at, with_linked, default_channel, sends_control, sends_request, asks, takes_back, begins, node_resets, performs, performs_in_estab, Rule, works, works_as, at_port, enters_grant, enters_label, joins, label_on, is_clearing, awaits_nothing, may_clear, tells_port}
+use Rattle.law_controller_facts.proofs.world_model.net_types.Labels.{number_of_channel-label_channel_of}
+use Rattle.law_controller_facts.specs.world_model.gsmp_wire.Layout.{octets_of as gsmp_octets}
+use Rattle.law_controller_facts.specs.world_model.port_model.Desk.{message_at}
+use Rattle.law_controller_facts.specs.world_model.port_model.Grants as grants
+use Rattle.law_controller_facts.specs.world_model.port_model.Port.{Port}
+use Rattle.law_controller_facts.specs.world_model.port_model.Joins as port_joins
+use Rattle.law_controller_facts.specs.world_model.port_model.Answers as port_answers
+use Rattle.law_controller_facts.specs.world_model.port_model.Resets.{cleared}
 use Rattle.law_controller_facts.specs.law_port_facts.Port.{IsLabelEnd, IsShaped, AnyChannel}
 use Rattle.law_controller_facts.proofs.law_port_facts.Keyed.{on_both, by_eq, at_key, at_put_same, at_put_other}
 use Rattle.law_controller_facts.proofs.law_port_facts.Steps.{GoesOn}
 use Rattle.law_controller_facts.proofs.law_port_facts.Rules.{IsTree, done_goes}
 use Rattle.law_controller_facts.proofs.law_port_facts.Found.{by_number}
-use Rattle.world_model.specs.Controller.{Acted}
-use Rattle.world_model.specs.Sending.{sends}
-use Rattle.world_model.specs.Joins.{Join, output_of}
+use Rattle.law_controller_facts.specs.world_model.Controller.{Acted}
+use Rattle.law_controller_facts.specs.world_model.Sending.{sends}
+use Rattle.law_controller_facts.specs.world_model.Joins.{Join, output_of}
 use Rattle.law_controller_facts.specs.Sound.{IsSound}
 use Rattle.law_controller_facts.proofs.Moves.{Found, HasPorts, found_at_own}
 use Rattle.law_controller_facts.proofs.Joining.{image_is}

@@ -1,11 +1,11 @@
 -- What a port asks of its controller can be done
 
 use Rattle.std.specs.Prelude.{◌≡◌, ℕ, true, List, [], Some}
-use Rattle.world_model.specs.Words.{Addr, IsLinkPort, Request, InRange, at, Desk, Action, Say, Ask, CutChain, TakeBack, Setup, is_in_range, Grant, grant_label, Work, hears, counts, given_back, resets, restarts}
-use Rattle.world_model.specs.ifmp_wire.declared.message.Message.{Message}
+use Rattle.law_controller_facts.specs.world_model.Words.{Addr, IsLinkPort, Request, InRange, at, Desk, Action, Say, Ask, CutChain, TakeBack, Setup, is_in_range, Grant, grant_label, Work, hears, counts, given_back, resets, restarts}
+use Rattle.law_controller_facts.specs.world_model.ifmp_wire.declared.message.Message.{Message}
 use Rattle.law_controller_facts.specs.ordered_lists.Ordered.{Every}
-use Rattle.world_model.specs.port_model.Ticks.{ticks}
-use Rattle.world_model.specs.port_model.Answers.{done}
+use Rattle.law_controller_facts.specs.world_model.port_model.Ticks.{ticks}
+use Rattle.law_controller_facts.specs.world_model.port_model.Answers.{done}
 use Rattle.law_controller_facts.specs.law_port_facts.Port.{IsShaped}
 use Rattle.law_controller_facts.specs.Conditions.{HasHome}
 use Rattle.law_controller_facts.specs.Said.{IsAtWork}

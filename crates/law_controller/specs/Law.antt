@@ -1,11 +1,11 @@
 -- What holds of the requests and the joins of a controller after every list of inputs
 
 use Rattle.std.specs.Prelude.{◌≡◌, ◌≤◌, ◌<◌, ◌+◌, true, false, List, length, Some}
-use Rattle.world_model.specs.Words.{End, IsLinkPort, Standing, all_on, most_asked, Label, Controller, joins_of, label_on}
+use Rattle.law_controller_facts.specs.world_model.Words.{End, IsLinkPort, Standing, all_on, most_asked, Label, Controller, joins_of, label_on}
 use Rattle.law_controller_facts.specs.ordered_lists.Ordered.{Every, InOrder}
-use Rattle.world_model.specs.port_model.Requests.{input_of}
-use Rattle.world_model.specs.controller_model.declared.range.PortRange.{PortRange}
-use Rattle.world_model.specs.Joins.{Join, output_of}
+use Rattle.law_controller_facts.specs.world_model.port_model.Requests.{input_of}
+use Rattle.law_controller_facts.specs.world_model.controller_model.declared.range.PortRange.{PortRange}
+use Rattle.law_controller_facts.specs.world_model.Joins.{Join, output_of}
 use Rattle.law_controller_facts.specs.Inputs.{Input, takes_inputs}
 use Rattle.law_controller_facts.specs.Sound.{Opening, DifferInPort, opened_by}
 use Rattle.law_controller.specs.Match.{IsMatched}

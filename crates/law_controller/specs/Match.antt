@@ -2,9 +2,9 @@
 
 use Rattle.std.specs.Prelude.{◌≡◌, ◌≢◌, ℕ, true, false, Bool, List, Option, Some, ◌⊎◌}
 use Rattle.std.specs.Option.{option_map_or, option_and_then}
-use Rattle.world_model.specs.Words.{End, number_of_channel, Request, MoveBranch, at, Desk, Standing, all_on, label_end, home_of, Label, label_number, Grant, grant_label, labels_of, Linked, port_key, is_clearing}
+use Rattle.law_controller_facts.specs.world_model.Words.{End, number_of_channel, Request, MoveBranch, at, Desk, Standing, all_on, label_end, home_of, Label, label_number, Grant, grant_label, labels_of, Linked, port_key, is_clearing}
 use Rattle.law_controller_facts.specs.ordered_lists.Ordered.{Every}
-use Rattle.world_model.specs.port_model.Grants as grants
+use Rattle.law_controller_facts.specs.world_model.port_model.Grants as grants
 
 -- where a label is joined to, and the input that a grant is lent to, by their numbers
 abbrev pub joined_in : List Label → (number : ℕ) → Option End

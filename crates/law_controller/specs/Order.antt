@@ -3,11 +3,11 @@
 use Rattle.std.specs.Prelude.{◌≡◌, ◌≢◌, ℕ, ◌≤◌, ◌+◌, ◌==◌, ◌&&◌, not, true, false, Bool, List, [], ◌∷◌, Some}
 use Rattle.std.specs.List.{list_any}
 use Rattle.std.specs.Option.{option_map_or}
-use Rattle.world_model.specs.Words.{PortNo, End, Request, MoveBranch, Clearing, same_end, at, is_delete_all, Desk, Standing, all_on, most_asked, label_end, Label, Grant, labels_of, Controller, Linked, port_key}
-use Rattle.world_model.specs.gsmp_wire.declared.request.Request.TheVariants.{DeleteAll, AllPorts}
+use Rattle.law_controller_facts.specs.world_model.Words.{PortNo, End, Request, MoveBranch, Clearing, same_end, at, is_delete_all, Desk, Standing, all_on, most_asked, label_end, Label, Grant, labels_of, Controller, Linked, port_key}
+use Rattle.law_controller_facts.specs.world_model.gsmp_wire.declared.request.Request.TheVariants.{DeleteAll, AllPorts}
 use Rattle.law_controller_facts.specs.ordered_lists.Ordered.{Every}
-use Rattle.world_model.specs.port_model.Requests.{input_of}
-use Rattle.world_model.specs.port_model.Grants as grants
+use Rattle.law_controller_facts.specs.world_model.port_model.Requests.{input_of}
+use Rattle.law_controller_facts.specs.world_model.port_model.Grants as grants
 
 -- *Joins*: a grant is lent to an input
 abbrev pub lends : End → Grant → Bool

@@ -5,11 +5,11 @@ use Rattle.std.specs.Prelude.{◌⊎◌, nat_eq, ◌||◌}
 use Rattle.std.specs.Option.{option_map_or}
 use Rattle.std.specs.List.{list_any}
 use Rattle.std.proofs.lemmas.Bool.Decides.{nat_tests}
-use Rattle.world_model.specs.Words.{NodeId, PortNo, Record, Closed, noted, at, put, without, CutChain, Setup, Label, label_number, Session, Work, labels_of, closing, restarts, Linked, LabelChain, port_key, chain_key, linked_at, chain_of, begins, with_work, cuts_of, closes_by, port_restarts_of, port_restarts, resets_gsmp, node_resets}
+use Rattle.law_controller.specs.world_model.Words.{NodeId, PortNo, Record, Closed, noted, at, put, without, CutChain, Setup, Label, label_number, Session, Work, labels_of, closing, restarts, Linked, LabelChain, port_key, chain_key, linked_at, chain_of, begins, with_work, cuts_of, closes_by, port_restarts_of, port_restarts, resets_gsmp, node_resets}
 use Rattle.law_controller.specs.ordered_lists.Ordered.{Every, InOrder}
 use Rattle.law_controller.proofs.ordered_lists.Every.{every_map}
 use Rattle.law_controller.proofs.law_port_facts.Keyed.{by_eq, at_key, at_every, at_put_same, put_every, put_order}
-use Rattle.world_model.specs.Controller.{Acted, ports_of}
+use Rattle.law_controller.specs.world_model.Controller.{Acted, ports_of}
 use Rattle.law_controller.proofs.law_controller_facts.Unmet.{put_each, none_with}
 use Rattle.law_controller.proofs.Lists.{any_at}
 use Rattle.law_controller_bindings.proofs.Lasts.{some_same, Grows, stays_so, grows_then, grows_where, noted_grows, cut_grows}

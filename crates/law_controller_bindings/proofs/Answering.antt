@@ -2,23 +2,23 @@
 
 use Rattle.std.proofs.Common.{◌≡◌, ℕ, Bool, true, List, [], ◌∷◌, Option, None, Some, refl, if◌then◌else◌, map, fold}
 use Rattle.std.specs.Prelude.{◌==◌, ◌&&◌, find, flat_map, ◌++◌}
-use Rattle.world_model.specs.Words.{PortNo, End, is_estab, Request, AddBranch, MoveBranch, DeleteTree, VerifyTree, PortManagement, Standing, empty_desk, Head, head_of, is_of_type, Answered, Unknown, Done, Ports, Failed, succeeded, outcome, answered_with, after_answer, Setup, Linked, linked_at, with_linked, with_desk, default_end, default_home, asks, node_resets, begins, releases, meets, up_ports, empties, default_branches, ends_meeting, has_emptied, port_of_input, behind_delete_all, causes_in_estab, causes, may_clear, clears_of, clears_port, clears, takes_answer, answer_comes, tells_port, IsLinkPort, NodeId, label_number_of, Label, label_at, label_by, freed, works, Record}
-use Rattle.world_model.specs.port_model.Resets.{cleared}
-use Rattle.world_model.specs.gsmp_wire.declared.request.Request.TheVariants.{DeleteAll, AllPorts}
-use Rattle.world_model.specs.gsmp_wire.declared.message.Message.{Message}
-use Rattle.world_model.specs.gsmp_wire.declared.message.Message.TheVariants as messages
+use Rattle.law_controller.specs.world_model.Words.{PortNo, End, is_estab, Request, AddBranch, MoveBranch, DeleteTree, VerifyTree, PortManagement, Standing, empty_desk, Head, head_of, is_of_type, Answered, Unknown, Done, Ports, Failed, succeeded, outcome, answered_with, after_answer, Setup, Linked, linked_at, with_linked, with_desk, default_end, default_home, asks, node_resets, begins, releases, meets, up_ports, empties, default_branches, ends_meeting, has_emptied, port_of_input, behind_delete_all, causes_in_estab, causes, may_clear, clears_of, clears_port, clears, takes_answer, answer_comes, tells_port, IsLinkPort, NodeId, label_number_of, Label, label_at, label_by, freed, works, Record}
+use Rattle.law_controller.specs.world_model.port_model.Resets.{cleared}
+use Rattle.law_controller.specs.world_model.gsmp_wire.declared.request.Request.TheVariants.{DeleteAll, AllPorts}
+use Rattle.law_controller.specs.world_model.gsmp_wire.declared.message.Message.{Message}
+use Rattle.law_controller.specs.world_model.gsmp_wire.declared.message.Message.TheVariants as messages
 use Rattle.law_controller.specs.ordered_lists.Ordered.{Every}
 use Rattle.law_controller.proofs.law_port_facts.Keyed.{on_both}
 use Rattle.law_controller.proofs.law_port_facts.Found.{by_number}
 use Rattle.law_controller.proofs.law_port_facts.Rules.{IsTree, done_goes}
-use Rattle.world_model.specs.Controller.{Acted, ports_of}
+use Rattle.law_controller.specs.world_model.Controller.{Acted, ports_of}
 use Rattle.law_controller.proofs.law_controller_facts.Moves.{by_rule, found_at_own}
 use Rattle.law_controller.proofs.Holding.{Holds, answered_holds}
 use Rattle.law_controller.proofs.Settling.{IsSettled, answered_fits, releases_fits}
 use Rattle.law_controller.proofs.Whole.{Whole, holds_of, whole_of}
 use Rattle.law_controller.proofs.Meeting.{freed_by}
 use Rattle.law_controller.proofs.Releasing.{IsFree, releases_holds}
-use Rattle.world_model.specs.port_model.Answers as port_answers
+use Rattle.law_controller.specs.world_model.port_model.Answers as port_answers
 use Rattle.law_controller_bindings.proofs.Lasts.{stays_so}
 use Rattle.law_controller_bindings.proofs.Working.{freed_body}
 use Rattle.law_controller_bindings.proofs.Anew.{Fit}

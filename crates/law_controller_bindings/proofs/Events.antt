@@ -2,33 +2,33 @@
 
 use Rattle.std.proofs.Common.{◌≡◌, ℕ, Bool, true, List, [], ◌∷◌, length, Option, None, Some, refl, ◌∙◌, fold, sym, ap, subst, inl, ◌++◌, append-nil, append_assoc}
 use Rattle.std.specs.Prelude.{nat_lt, ◌==◌, drop, Result, Ok, Err, ◌||◌}
-use Rattle.world_model.specs.Words.{PortNo, Channel, Mark, Party, protocol_of, source_of, PacketFault, hop_of, onward, Hop, Here, On, Cell, kind_of, default_payload, labelled_payload, EncapsFault, default_unwrapped, unwrapped, Said, Answer, Quiet, Send, Open, Side, IsSide, is_estab, is_open, ticked, greeting_of, gsmp_answer, gsmp_received, Unbound, Tested, tested, last_mark, next_mark, Record, Bad, Loss, Delivered, Dropped, encaps_refusal, packet_refusal, ifmp_refusal, gsmp_refusal, Reassembly, cut, nothing_taken, sent_again, Setup, control_end, Label, is_bound, Grant, counts, used, hears, IsLinkPort, Linked, linked_at, chains_with, default_channel, default_home, LabelChain, port_key, chain_key, chain_slots, with_linked, sends_control, says_gsmp, sends_request, begins, cuts_default_of, cuts_default, cuts_gsmp, node_resets, node_restarts, tries_joins, gsmp_holds, is_control, sends_next, goes_by, grant_by, routes, control_protocol, inject_refusal, ForGsmp, ForDefault, ForLabel, reassembly_of, with_reassembly, label_holds, ifmp_holds, counted_at, packet_holds, default_holds, frame_holds, port_on, on_link, same_channel, label_taker, taker_at, takes_cell, sends_again, ticks_port, ticks_ports, ticks_by, Refusal, NodeId, label_number_of, entered, without, key_le, label_at, labels_of, meets, Layer}
-use Rattle.world_model.specs.ipv4_packet.Packet.{first_fault}
-use Rattle.world_model.specs.ipv4_forward.declared.outcome.Hop.TheVariants.{NoRoute, Expired}
-use Rattle.world_model.specs.ifmp_wire.declared.message.Message.{Message as IfmpMessage}
-use Rattle.world_model.specs.ifmp_wire.declared.reader.Fault.{Fault as IfmpFault}
-use Rattle.world_model.specs.ifmp_wire.Fields.{decoded as ifmp_decoded}
-use Rattle.world_model.specs.gsmp_wire.Fields.{decoded as gsmp_decoded}
-use Rattle.world_model.specs.gsmp_wire.declared.fault.Fault.{Fault as GsmpFault}
-use Rattle.world_model.specs.gsmp_wire.declared.message.Message.{Message}
-use Rattle.world_model.specs.gsmp_wire.declared.message.Message.TheVariants as messages
-use Rattle.world_model.specs.adjacency_table.declared.message.Answer.TheVariants.{Reset}
-use Rattle.world_model.specs.adjacency_table.Side as sides
-use Rattle.world_model.specs.link_model.declared.record.Layer.TheVariants as layers
-use Rattle.world_model.specs.link_model.declared.record.DropCause.TheVariants as causes_of
-use Rattle.world_model.specs.frame_model.Reassembly.{Taken, taken}
-use Rattle.world_model.specs.port_model.Ticks as port_ticks
+use Rattle.law_controller.specs.world_model.Words.{PortNo, Channel, Mark, Party, protocol_of, source_of, PacketFault, hop_of, onward, Hop, Here, On, Cell, kind_of, default_payload, labelled_payload, EncapsFault, default_unwrapped, unwrapped, Said, Answer, Quiet, Send, Open, Side, IsSide, is_estab, is_open, ticked, greeting_of, gsmp_answer, gsmp_received, Unbound, Tested, tested, last_mark, next_mark, Record, Bad, Loss, Delivered, Dropped, encaps_refusal, packet_refusal, ifmp_refusal, gsmp_refusal, Reassembly, cut, nothing_taken, sent_again, Setup, control_end, Label, is_bound, Grant, counts, used, hears, IsLinkPort, Linked, linked_at, chains_with, default_channel, default_home, LabelChain, port_key, chain_key, chain_slots, with_linked, sends_control, says_gsmp, sends_request, begins, cuts_default_of, cuts_default, cuts_gsmp, node_resets, node_restarts, tries_joins, gsmp_holds, is_control, sends_next, goes_by, grant_by, routes, control_protocol, inject_refusal, ForGsmp, ForDefault, ForLabel, reassembly_of, with_reassembly, label_holds, ifmp_holds, counted_at, packet_holds, default_holds, frame_holds, port_on, on_link, same_channel, label_taker, taker_at, takes_cell, sends_again, ticks_port, ticks_ports, ticks_by, Refusal, NodeId, label_number_of, entered, without, key_le, label_at, labels_of, meets, Layer}
+use Rattle.law_controller.specs.world_model.ipv4_packet.Packet.{first_fault}
+use Rattle.law_controller.specs.world_model.ipv4_forward.declared.outcome.Hop.TheVariants.{NoRoute, Expired}
+use Rattle.law_controller.specs.world_model.ifmp_wire.declared.message.Message.{Message as IfmpMessage}
+use Rattle.law_controller.specs.world_model.ifmp_wire.declared.reader.Fault.{Fault as IfmpFault}
+use Rattle.law_controller.specs.world_model.ifmp_wire.Fields.{decoded as ifmp_decoded}
+use Rattle.law_controller.specs.world_model.gsmp_wire.Fields.{decoded as gsmp_decoded}
+use Rattle.law_controller.specs.world_model.gsmp_wire.declared.fault.Fault.{Fault as GsmpFault}
+use Rattle.law_controller.specs.world_model.gsmp_wire.declared.message.Message.{Message}
+use Rattle.law_controller.specs.world_model.gsmp_wire.declared.message.Message.TheVariants as messages
+use Rattle.law_controller.specs.world_model.adjacency_table.declared.message.Answer.TheVariants.{Reset}
+use Rattle.law_controller.specs.world_model.adjacency_table.Side as sides
+use Rattle.law_controller.specs.world_model.link_model.declared.record.Layer.TheVariants as layers
+use Rattle.law_controller.specs.world_model.link_model.declared.record.DropCause.TheVariants as causes_of
+use Rattle.law_controller.specs.world_model.frame_model.Reassembly.{Taken, taken}
+use Rattle.law_controller.specs.world_model.port_model.Ticks as port_ticks
 use Rattle.law_controller.specs.law_port_facts.Port.{Lives}
 use Rattle.law_controller.proofs.law_port_facts.Keyed.{on_both, on_each, entered_every, without_every}
 use Rattle.law_controller.proofs.law_port_facts.Rules.{used_goes, counts_goes}
 use Rattle.law_controller.proofs.law_port_facts.Hearings.{hears_goes, ticks_goes}
 use Rattle.law_controller.specs.ordered_lists.Ordered.{Every}
-use Rattle.world_model.specs.Controller.{Acted, free_slots, ports_of, note}
-use Rattle.world_model.specs.Sending.{sends}
-use Rattle.world_model.specs.Gsmp.{answers, steps, told}
-use Rattle.world_model.specs.Packets.{forwarded}
-use Rattle.world_model.specs.Cells.{Taker, opened_frame, ends_frame, cell_comes}
-use Rattle.world_model.specs.Ticks.{ticks}
+use Rattle.law_controller.specs.world_model.Controller.{Acted, free_slots, ports_of, note}
+use Rattle.law_controller.specs.world_model.Sending.{sends}
+use Rattle.law_controller.specs.world_model.Gsmp.{answers, steps, told}
+use Rattle.law_controller.specs.world_model.Packets.{forwarded}
+use Rattle.law_controller.specs.world_model.Cells.{Taker, opened_frame, ends_frame, cell_comes}
+use Rattle.law_controller.specs.world_model.Ticks.{ticks}
 use Rattle.law_controller.specs.law_controller_facts.Inputs.{Input, CellComes, PacketEnters, Ticks, Restarts, ChangeComes, FrameIsForged, CellLeaves, Meanwhile, enters_unless, takes_input, takes_inputs}
 use Rattle.law_controller.proofs.law_controller_facts.Lifetimes.{decoded_lives}
 use Rattle.law_controller.proofs.law_controller_facts.Moves.{IsGsmpTurn, ages, gathering, moves_to, found_at_own, found_port, Found}

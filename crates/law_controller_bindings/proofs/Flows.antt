@@ -3,8 +3,8 @@
 use Rattle.std.proofs.Common.{◌≡◌, ℕ, ◌≤◌, Bool, true, false, Option, None, Some, refl, sym, ◌∙◌, ap, arith, if◌then◌else◌}
 use Rattle.std.specs.Prelude.{◌==◌, ◌&&◌, ◌-◌, nat_le}
 use Rattle.std.proofs.lemmas.Bool.Decides.{nat_tests}
-use Rattle.world_model.specs.Words.{Addr, PortNo, FlowId, flow_ttl, at_ttl, next_hop_of, flow_destination, same_flow, Next, Local, Via, same_next}
-use Rattle.world_model.specs.ipv4_packet.declared.flow.FlowId.TheVariants.{One, Two}
+use Rattle.law_controller.specs.world_model.Words.{Addr, PortNo, FlowId, flow_ttl, at_ttl, next_hop_of, flow_destination, same_flow, Next, Local, Via, same_next}
+use Rattle.law_controller.specs.world_model.ipv4_packet.declared.flow.FlowId.TheVariants.{One, Two}
 use Rattle.law_controller.proofs.law_port_facts.Rules.{and_first, and_second}
 
 number_same : (m n : ℕ) → (m == n) ≡ true → m ≡ n

@@ -5,18 +5,18 @@ use Rattle.std.proofs.Common.{◌≡◌, ℕ, Bool, true, false, List, [], ◌�
 use Rattle.std.specs.Prelude.{◌+◌, ◌&&◌, not, is_none, nat_lt, flat_map}
 use Rattle.std.specs.Option.{option_map, option_and_then}
 use Rattle.std.specs.List.{list_any, filter_map, cons_option}
-use Rattle.world_model.specs.Words.{NodeId, PortNo, End, number_of_channel, FlowId, next_hop_of, flow_destination, same_flow, best, changed, RouteChange, Next, Local, Via, Request, MoveBranch, Part, Routes, entered, in_order, on_input, most_asked, Setup, home_of, Label, Offered, label_number, Grant, grant_for, is_by_controller, label_at, labels_of, closes, Linked, port_key, linked_at, begins, join_to, joins_at, joins_of, end_le, join_of, parts, gives_back, releases_join, releases_input, released_inputs, resets_spent, releases, port_by, join_through, join_by, join_for, is_offered, may_join, enters_grant, enters_label, joins, tries_label, label_on, tries_join, inputs_at, tries_joins, same_next, differs, route_stays, is_changed, changed_joins, takes_join_back, begins_change, takes_change, may_take, takes_each, takes_changes, change_comes, last_bound, Record}
-use Rattle.world_model.specs.ipv4_forward.declared.table.Route.{Route}
+use Rattle.law_controller.specs.world_model.Words.{NodeId, PortNo, End, number_of_channel, FlowId, next_hop_of, flow_destination, same_flow, best, changed, RouteChange, Next, Local, Via, Request, MoveBranch, Part, Routes, entered, in_order, on_input, most_asked, Setup, home_of, Label, Offered, label_number, Grant, grant_for, is_by_controller, label_at, labels_of, closes, Linked, port_key, linked_at, begins, join_to, joins_at, joins_of, end_le, join_of, parts, gives_back, releases_join, releases_input, released_inputs, resets_spent, releases, port_by, join_through, join_by, join_for, is_offered, may_join, enters_grant, enters_label, joins, tries_label, label_on, tries_join, inputs_at, tries_joins, same_next, differs, route_stays, is_changed, changed_joins, takes_join_back, begins_change, takes_change, may_take, takes_each, takes_changes, change_comes, last_bound, Record}
+use Rattle.law_controller.specs.world_model.ipv4_forward.declared.table.Route.{Route}
 use Rattle.law_controller.specs.ordered_lists.Ordered.{Every}
 use Rattle.law_controller.proofs.ordered_lists.Every.{every_map, every_map2, every_left, every_right}
-use Rattle.world_model.specs.port_model.Grants.{input_of}
-use Rattle.world_model.specs.port_model.Joins as port_joins
+use Rattle.law_controller.specs.world_model.port_model.Grants.{input_of}
+use Rattle.law_controller.specs.world_model.port_model.Joins as port_joins
 use Rattle.law_controller.specs.law_port_facts.Port.{setup_port, IsLabelEnd, IsPort}
 use Rattle.law_controller.proofs.law_port_facts.Keyed.{on_both, on_each, at_key, at_every}
 use Rattle.law_controller.proofs.law_port_facts.Found.{find_passes}
 use Rattle.law_controller.proofs.law_port_facts.Rules.{and_first, and_second}
-use Rattle.world_model.specs.Controller.{Acted, note, ports_of}
-use Rattle.world_model.specs.Joins.{Join, output_of}
+use Rattle.law_controller.specs.world_model.Controller.{Acted, note, ports_of}
+use Rattle.law_controller.specs.world_model.Joins.{Join, output_of}
 use Rattle.law_controller.specs.law_controller_facts.Sound.{IsSound}
 use Rattle.law_controller.proofs.law_controller_facts.Moves.{Found, HasPorts, found_setup}
 use Rattle.law_controller.proofs.law_controller_facts.Joining.{every_flat_map, each_there}

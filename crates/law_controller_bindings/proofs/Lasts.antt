@@ -8,13 +8,13 @@ use Rattle.std.proofs.lemmas.Grind.{flat_map-append}
 use Rattle.std.proofs.lemmas.List.{append-nil}
 use Rattle.std.proofs.lemmas.Bool.Decides.{nat_tests}
 use Rattle.std.proofs.lemmas.List.Folds.{list_any-append}
-use Rattle.world_model.specs.Words.{NodeId, PortNo, Mark, FlowId, Cell, Record, Loss, Bind, Chance, PoolFull, Broken, Cut, has_entry, is_frame, Journal, noted, Reassembly, broken, noted_all, cut, distinct, marks_of, passed_over, without_slot, too_long, most_cells, tested, tested_by, payload_in, last_mark, Action, Note, CutChain, bound_by, last_bound}
-use Rattle.world_model.specs.frame_model.Reassembly.{Taken, taken, joined}
-use Rattle.world_model.specs.frame_model.Frame.{octets_of}
+use Rattle.law_controller.specs.world_model.Words.{NodeId, PortNo, Mark, FlowId, Cell, Record, Loss, Bind, Chance, PoolFull, Broken, Cut, has_entry, is_frame, Journal, noted, Reassembly, broken, noted_all, cut, distinct, marks_of, passed_over, without_slot, too_long, most_cells, tested, tested_by, payload_in, last_mark, Action, Note, CutChain, bound_by, last_bound}
+use Rattle.law_controller.specs.world_model.frame_model.Reassembly.{Taken, taken, joined}
+use Rattle.law_controller.specs.world_model.frame_model.Frame.{octets_of}
 use Rattle.law_controller.specs.ordered_lists.Ordered.{Every}
 use Rattle.law_controller.proofs.ordered_lists.Every.{every_join}
 use Rattle.law_controller.proofs.law_port_facts.Keyed.{on_both}
-use Rattle.world_model.specs.network_model.declared.link.LinkEnd.{LinkEnd}
+use Rattle.law_controller.specs.world_model.network_model.declared.link.LinkEnd.{LinkEnd}
 use Rattle.law_controller_bindings.specs.Bindings.{site, IsOfNode}
 
 -- *Options*

@@ -3,14 +3,14 @@
 use Rattle.std.proofs.Common.{◌≡◌, ℕ, List, [], ◌∷◌, Option, None, Some, refl, sym, ◌∙◌, ap, subst, inl, inr}
 use Rattle.std.specs.Prelude.{◌+◌}
 use Rattle.std.specs.Option.{option_and_then}
-use Rattle.world_model.specs.Words.{NodeId, PortNo, number_of_channel, FlowId, Via, Setup, Label, label_number, grant_label, label_at, labels_of, Linked, LabelChain, port_key, linked_at, joins_of, label_on, setup_of, opens_ports, last_bound, Record}
+use Rattle.law_controller.specs.world_model.Words.{NodeId, PortNo, number_of_channel, FlowId, Via, Setup, Label, label_number, grant_label, label_at, labels_of, Linked, LabelChain, port_key, linked_at, joins_of, label_on, setup_of, opens_ports, last_bound, Record}
 use Rattle.law_controller.specs.ordered_lists.Ordered.{Every}
 use Rattle.law_controller.proofs.ordered_lists.Every.{every_all, every_map, every_map2, every_mapped, every_unmapped}
 use Rattle.law_controller.specs.law_port_facts.Port.{IsLabel}
 use Rattle.law_controller.proofs.law_port_facts.Keyed.{at_key, at_every}
-use Rattle.world_model.specs.controller_model.declared.range.PortRange.{PortRange}
-use Rattle.world_model.specs.Controller.{Acted}
-use Rattle.world_model.specs.Joins.{Join, output_of}
+use Rattle.law_controller.specs.world_model.controller_model.declared.range.PortRange.{PortRange}
+use Rattle.law_controller.specs.world_model.Controller.{Acted}
+use Rattle.law_controller.specs.world_model.Joins.{Join, output_of}
 use Rattle.law_controller.specs.law_controller_facts.Inputs.{Input, takes_inputs}
 use Rattle.law_controller.specs.law_controller_facts.Sound.{linked_setup, Opening, opened_by, setups_by}
 use Rattle.law_controller.proofs.law_controller_facts.Moves.{HasPorts, found_port}

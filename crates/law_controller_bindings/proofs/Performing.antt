@@ -5,18 +5,18 @@ use Rattle.std.proofs.Common.{◌≡◌, ◌≢◌, ℕ, Bool, true, false, List
 use Rattle.std.specs.Prelude.{◌⊎◌, ◌||◌, nat_eq, flat_map}
 use Rattle.std.specs.Option.{option_map_or, option_and_then}
 use Rattle.std.proofs.lemmas.Bool.Decides.{nat_tests}
-use Rattle.world_model.specs.Words.{NodeId, PortNo, End, number_of_channel, FlowId, default_payload, ifmp_packet_of, is_estab, Record, cut, at, put, without, Action, Say, Ask, Note, CutChain, TakeBack, Withdraw, Setup, Label, Grant, GrantState, Idle, ByController, ByInput, Leaving, grant_label, Session, Work, labels_of, closing, left_in, left_of, withdrawing_in, withdrawing_of, withdrawing, taking_back_in, taking_back, resets, Linked, LabelChain, port_key, chain_key, linked_at, chain_of, default_home, cuts_of, closes_by, begins, with_work, does, does_in_estab, resets_as, resets_of, resets_port, performs, performs_in_estab, Rule, works_as, works, at_port, is_clearing, last_bound}
-use Rattle.world_model.specs.ifmp_wire.Message.{octets_of as ifmp_octets}
-use Rattle.world_model.specs.ipv4_forward.declared.table.Route.{Route}
-use Rattle.world_model.specs.gsmp_wire.declared.request.Request.TheVariants.{DeleteAll}
+use Rattle.law_controller.specs.world_model.Words.{NodeId, PortNo, End, number_of_channel, FlowId, default_payload, ifmp_packet_of, is_estab, Record, cut, at, put, without, Action, Say, Ask, Note, CutChain, TakeBack, Withdraw, Setup, Label, Grant, GrantState, Idle, ByController, ByInput, Leaving, grant_label, Session, Work, labels_of, closing, left_in, left_of, withdrawing_in, withdrawing_of, withdrawing, taking_back_in, taking_back, resets, Linked, LabelChain, port_key, chain_key, linked_at, chain_of, default_home, cuts_of, closes_by, begins, with_work, does, does_in_estab, resets_as, resets_of, resets_port, performs, performs_in_estab, Rule, works_as, works, at_port, is_clearing, last_bound}
+use Rattle.law_controller.specs.world_model.ifmp_wire.Message.{octets_of as ifmp_octets}
+use Rattle.law_controller.specs.world_model.ipv4_forward.declared.table.Route.{Route}
+use Rattle.law_controller.specs.world_model.gsmp_wire.declared.request.Request.TheVariants.{DeleteAll}
 use Rattle.law_controller.specs.ordered_lists.Ordered.{Every}
 use Rattle.law_controller.proofs.ordered_lists.Every.{every_all, every_map, every_map2, every_join, every_right}
-use Rattle.world_model.specs.port_model.declared.action.Action.TheVariants as actions
-use Rattle.world_model.specs.port_model.Grants.{input_of}
+use Rattle.law_controller.specs.world_model.port_model.declared.action.Action.TheVariants as actions
+use Rattle.law_controller.specs.world_model.port_model.Grants.{input_of}
 use Rattle.law_controller.specs.law_port_facts.Port.{IsPort, IsAction, AnyChannel}
 use Rattle.law_controller.proofs.law_port_facts.Keyed.{on_both, on_each, by_eq, at_key, at_every, at_put_same, put_every, put_order, each_found}
 use Rattle.law_controller.proofs.law_port_facts.Steps.{GoesOn}
-use Rattle.world_model.specs.Controller.{Acted, note}
+use Rattle.law_controller.specs.world_model.Controller.{Acted, note}
 use Rattle.law_controller.specs.law_controller_facts.Sound.{IsSound}
 use Rattle.law_controller.proofs.law_controller_facts.Moves.{Worked, worked_kept, by_rule, Found, placing, moves_to, HasPorts, found_setup, found_at_own, begun}
 use Rattle.law_controller.proofs.law_controller_facts.Joining.{every_flat_map, each_there}

@@ -4,17 +4,17 @@
 use Rattle.std.proofs.Common.{append-nil, append_assoc, ◌≡◌, ℕ, Bool, true, false, List, [], ◌∷◌, ◌++◌, length, Option, Some, refl, sym, ◌∙◌, ap, subst, if◌then◌else◌, fold, inl, inr}
 use Rattle.std.specs.Prelude.{◌==◌, nat_le}
 use Rattle.std.specs.Option.{option_map_or}
-use Rattle.world_model.specs.Words.{NodeId, PortNo, Channel, End, Mark, next_control, with_control, number_of_channel, FlowId, next_hop_of, flow_destination, best, Via, is_estab, Request, MoveBranch, Record, Loss, PoolFull, Journal, noted, frame_cells, made, Standing, is_led_home, last_transaction, Setup, home_of, Label, Session, labels_of, Action, at, put, Controller, Linked, LabelChain, port_key, with_desk, default_channel, sends_control, says_gsmp, sends_request, asks_next, asks, takes_back, withdraws_input, node_resets, last_bound}
-use Rattle.world_model.specs.ipv4_forward.declared.table.Route.{Route}
-use Rattle.world_model.specs.gsmp_wire.Layout.{octets_of as gsmp_octets}
-use Rattle.world_model.specs.gsmp_wire.declared.message.Message.{Message as GsmpMessage}
-use Rattle.world_model.specs.frame_model.Sending.{Sent}
+use Rattle.law_controller.specs.world_model.Words.{NodeId, PortNo, Channel, End, Mark, next_control, with_control, number_of_channel, FlowId, next_hop_of, flow_destination, best, Via, is_estab, Request, MoveBranch, Record, Loss, PoolFull, Journal, noted, frame_cells, made, Standing, is_led_home, last_transaction, Setup, home_of, Label, Session, labels_of, Action, at, put, Controller, Linked, LabelChain, port_key, with_desk, default_channel, sends_control, says_gsmp, sends_request, asks_next, asks, takes_back, withdraws_input, node_resets, last_bound}
+use Rattle.law_controller.specs.world_model.ipv4_forward.declared.table.Route.{Route}
+use Rattle.law_controller.specs.world_model.gsmp_wire.Layout.{octets_of as gsmp_octets}
+use Rattle.law_controller.specs.world_model.gsmp_wire.declared.message.Message.{Message as GsmpMessage}
+use Rattle.law_controller.specs.world_model.frame_model.Sending.{Sent}
 use Rattle.law_controller.specs.ordered_lists.Ordered.{Every, InOrder}
 use Rattle.law_controller.proofs.ordered_lists.Every.{every_map, every_map2, every_join}
-use Rattle.world_model.specs.port_model.Desk.{asked, message_at}
+use Rattle.law_controller.specs.world_model.port_model.Desk.{asked, message_at}
 use Rattle.law_controller.proofs.law_port_facts.Keyed.{on_both, at_every, put_every}
-use Rattle.world_model.specs.Controller.{Acted, free_slots, note}
-use Rattle.world_model.specs.Sending.{with_cells, sends}
+use Rattle.law_controller.specs.world_model.Controller.{Acted, free_slots, note}
+use Rattle.law_controller.specs.world_model.Sending.{with_cells, sends}
 use Rattle.law_controller.specs.law_controller_facts.Sound.{IsSound, IsShutLinked}
 use Rattle.law_controller_bindings.specs.Bindings.{site, IsBoundLast, IsOfNode}
 use Rattle.law_controller_bindings.proofs.Lasts.{none_some, SameLast, same_behind, BindNothing, Grows, stays_so, grows_then, grows_where, grows_behind, noted_grows, noted_in, cuts_in, Has}

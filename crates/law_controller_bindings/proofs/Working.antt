@@ -5,19 +5,19 @@ use Rattle.std.proofs.Common.{◌≡◌, ◌≢◌, ℕ, ◌<◌, Bool, true, fa
 use Rattle.std.specs.Prelude.{◌⊎◌, not, ◌||◌, ◌+◌, is_some, nat_lt, nat_eq}
 use Rattle.std.specs.Option.{option_map, option_map_or, option_and_then}
 use Rattle.std.proofs.lemmas.Bool.Decides.{nat_tests}
-use Rattle.world_model.specs.Words.{End, Peer, number_of_channel, label_channel_of, FlowId, Said, Answer, Quiet, Send, Open, State, Clearing, SynSent, SynRcvd, Estab, Side, IsSide, is_open, is_estab, same_peer, hello_of, ifmp_answer, heard_from, AddBranch, DeleteTree, Record, Bind, Free, Opened, at, put, without, entered, key_le, Desk, on_input, Action, Say, Ask, Note, CutChain, TakeBack, Setup, label_end, control_end, Label, LabelState, Wiring, Offered, Recalled, Wired, label_number, is_bound, is_spare, Grant, GrantState, Idle, ByController, ByInput, Leaving, grant_label, Session, Work, halts, with_session, with_label, with_new_label, without_label, with_grants, without_grant, labels_of, label_at, desk_after, has_room, Unnumbered, last_number, spent_number, own_of, is_spent, tells_in, tells, closes, reclaim_ack, first_session, opens, accepts, joins_label, lent, given_back_in, given_back, freed_in, LabelChain, is_clearing, last_bound}
-use Rattle.world_model.specs.adjacency_table.declared.message.Answer.TheVariants.{Reset}
-use Rattle.world_model.specs.adjacency_table.Side as sides
-use Rattle.world_model.specs.ifmp_wire.declared.message.Message.TheVariants.{Adjacency}
-use Rattle.world_model.specs.link_model.declared.record.Record.TheVariants.{Join}
+use Rattle.law_controller.specs.world_model.Words.{End, Peer, number_of_channel, label_channel_of, FlowId, Said, Answer, Quiet, Send, Open, State, Clearing, SynSent, SynRcvd, Estab, Side, IsSide, is_open, is_estab, same_peer, hello_of, ifmp_answer, heard_from, AddBranch, DeleteTree, Record, Bind, Free, Opened, at, put, without, entered, key_le, Desk, on_input, Action, Say, Ask, Note, CutChain, TakeBack, Setup, label_end, control_end, Label, LabelState, Wiring, Offered, Recalled, Wired, label_number, is_bound, is_spare, Grant, GrantState, Idle, ByController, ByInput, Leaving, grant_label, Session, Work, halts, with_session, with_label, with_new_label, without_label, with_grants, without_grant, labels_of, label_at, desk_after, has_room, Unnumbered, last_number, spent_number, own_of, is_spent, tells_in, tells, closes, reclaim_ack, first_session, opens, accepts, joins_label, lent, given_back_in, given_back, freed_in, LabelChain, is_clearing, last_bound}
+use Rattle.law_controller.specs.world_model.adjacency_table.declared.message.Answer.TheVariants.{Reset}
+use Rattle.law_controller.specs.world_model.adjacency_table.Side as sides
+use Rattle.law_controller.specs.world_model.ifmp_wire.declared.message.Message.TheVariants.{Adjacency}
+use Rattle.law_controller.specs.world_model.link_model.declared.record.Record.TheVariants.{Join}
 use Rattle.law_controller.specs.ordered_lists.Ordered.{Every, InOrder}
 use Rattle.law_controller.proofs.ordered_lists.Every.{every_all, every_map}
 use Rattle.law_controller.proofs.ordered_lists.InOrder.{order_map}
-use Rattle.world_model.specs.port_model.declared.action.Action.TheVariants as actions
-use Rattle.world_model.specs.port_model.Grants.{input_of}
-use Rattle.world_model.specs.port_model.Port.{Port, acts}
-use Rattle.world_model.specs.port_model.Saying.{peer_of}
-use Rattle.world_model.specs.port_model.Adjacency.{answers}
+use Rattle.law_controller.specs.world_model.port_model.declared.action.Action.TheVariants as actions
+use Rattle.law_controller.specs.world_model.port_model.Grants.{input_of}
+use Rattle.law_controller.specs.world_model.port_model.Port.{Port, acts}
+use Rattle.law_controller.specs.world_model.port_model.Saying.{peer_of}
+use Rattle.law_controller.specs.world_model.port_model.Adjacency.{answers}
 use Rattle.law_controller.specs.law_port_facts.Port.{setup_port, AnyChannel, IsLabel, IsBefore, IsWork}
 use Rattle.law_controller.proofs.law_port_facts.Keyed.{on_both, by_eq, at_key, at_every, at_put_same, at_put_other, put_every, without_every, entered_every, every_more}
 use Rattle.law_controller.proofs.law_port_facts.Steps.{IsTurn, hears, ages, StepOn, GoesOn, greeting, telling, closing, noting, turning, heard, minding, relabelling, wiring, binding, quitting, unwiring, freeing, accepting, granting, regranting, starting, ending, taking_back, steps_to, goes_on_keeps}
@@ -27,7 +27,7 @@ use Rattle.law_controller.proofs.law_port_facts.Kept.{step_kept}
 use Rattle.law_controller.proofs.law_controller_facts.Unmet.{put_each}
 use Rattle.law_controller.specs.Match.{joined_in}
 use Rattle.law_controller.proofs.Pairing.{SamePairs, goes_pairs}
-use Rattle.world_model.specs.network_model.declared.link.LinkEnd.{LinkEnd}
+use Rattle.law_controller.specs.world_model.network_model.declared.link.LinkEnd.{LinkEnd}
 use Rattle.law_controller_bindings.specs.Bindings.{site, IsBoundLast, IsOfNode}
 use Rattle.law_controller_bindings.proofs.Lasts.{some_same, none_some, noted_in, cuts_in, Has, IsQuiet, more_noted, more_last, more_own, more_cuts, new_cut, bound_now, bound_elsewhere}
 

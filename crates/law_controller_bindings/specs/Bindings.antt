@@ -1,12 +1,12 @@
 -- What the labels, the joins and the chains of a controller stand for
 
 use Rattle.std.specs.Prelude.{◌≡◌, ◌≢◌, ◌≤◌, true, List, [], ◌∷◌, ◌++◌, length, drop, Some}
-use Rattle.world_model.specs.Words.{NodeId, PortNo, number_of_channel, FlowId, flow_ttl, next_hop_of, flow_destination, best, Via, Record, Label, Wiring, is_bound, label_at, labels_of, Linked, LabelChain, joins_of, label_on, last_bound}
-use Rattle.world_model.specs.link_model.declared.record.Record.TheVariants as kinds
+use Rattle.law_controller.specs.world_model.Words.{NodeId, PortNo, number_of_channel, FlowId, flow_ttl, next_hop_of, flow_destination, best, Via, Record, Label, Wiring, is_bound, label_at, labels_of, Linked, LabelChain, joins_of, label_on, last_bound}
+use Rattle.law_controller.specs.world_model.link_model.declared.record.Record.TheVariants as kinds
 use Rattle.law_controller.specs.ordered_lists.Ordered.{Every}
-use Rattle.world_model.specs.Controller.{Acted}
-use Rattle.world_model.specs.Joins.{Join}
-use Rattle.world_model.specs.network_model.declared.link.LinkEnd.{LinkEnd}
+use Rattle.law_controller.specs.world_model.Controller.{Acted}
+use Rattle.law_controller.specs.world_model.Joins.{Join}
+use Rattle.law_controller.specs.world_model.network_model.declared.link.LinkEnd.{LinkEnd}
 use Rattle.law_controller.specs.law_controller_facts.Inputs.{Input, Meanwhile, takes_input, takes_inputs}
 use Rattle.law_controller.specs.law_controller_facts.Sound.{Opening, IsOwn, opened_by}
 use Rattle.law_controller.specs.Law.{IsOpening}

@@ -2,10 +2,10 @@
 
 use Rattle.std.proofs.Common.{◌≡◌, true, false, List, refl, ◌∙◌, ap, subst, if◌then◌else◌}
 use Rattle.std.specs.Prelude.{◌==◌}
-use Rattle.world_model.specs.Words.{End, is_estab, Request, MoveBranch, last_transaction, Setup, home_of, asks_next, asks, takes_back, node_resets}
+use Rattle.law_controller.specs.world_model.Words.{End, is_estab, Request, MoveBranch, last_transaction, Setup, home_of, asks_next, asks, takes_back, node_resets}
 use Rattle.branch_desk.specs.Requests.{has_function}
 use Rattle.law_controller.specs.law_port_facts.Port.{IsLabelEnd, IsShaped, asks_ports, empties_control, empties_port, opens_input, opens_output, leads_label, leads_grant, joins_label, parts_label, frees_label}
-use Rattle.world_model.specs.Controller.{Acted}
+use Rattle.law_controller.specs.world_model.Controller.{Acted}
 use Rattle.law_controller.specs.law_controller_facts.Conditions as facts
 use Rattle.law_controller.proofs.law_controller_facts.Conditions.{label_has_home}
 use Rattle.law_controller.proofs.Laws.{few_stand}

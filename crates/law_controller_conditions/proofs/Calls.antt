@@ -1,8 +1,8 @@
 -- the conditions of a router's calls, of what is held
 
 use Rattle.std.proofs.Common.{◌≡◌, List, [], ◌∷◌, Option, None, Some, refl, ◌∙◌, subst, fold}
-use Rattle.world_model.specs.Words.{PortNo, gsmp_received, ticked, Linked, linked_at, cuts_default_of, cuts_default, cuts_gsmp, node_resets, node_restarts}
-use Rattle.world_model.specs.Controller.{Acted, ports_of}
+use Rattle.law_controller.specs.world_model.Words.{PortNo, gsmp_received, ticked, Linked, linked_at, cuts_default_of, cuts_default, cuts_gsmp, node_resets, node_restarts}
+use Rattle.law_controller.specs.world_model.Controller.{Acted, ports_of}
 use Rattle.law_controller.proofs.law_controller_facts.Moves.{hears, ages}
 use Rattle.law_controller_conditions.specs.Kept.{AreIn}
 use Rattle.law_controller_conditions.specs.Calls.{CanBeAsked, CanBeReset, PortsCanWork, SwitchCanBeMet}

@@ -3,16 +3,16 @@
 use Rattle.std.proofs.Common.{◌≡◌, ℕ, Bool, true, false, List, length, Option, None, Some, refl, sym, subst, if◌then◌else◌, map}
 use Rattle.std.specs.Prelude.{nat_le}
 use Rattle.std.specs.Option.{option_and_then}
-use Rattle.world_model.specs.Words.{PortNo, Channel, Mark, label_number_of, next_control, with_control, hop_of, onward, Hop, Here, On, kind_of, default_payload, labelled_payload, Loss, PoolFull, Journal, noted, frame_cells, made, next_mark, Reassembly, Setup, control_end, Label, label_number, is_bound, Grant, label_at, labels_of, Controller, Linked, linked_at, chains_with, default_channel, default_home, sends_control, is_control, sends_next, goes_by, grant_by, routes, ForGsmp, ForDefault, ForLabel, port_on, on_link, same_channel, label_taker, taker_at, taker_of, with_reassembly}
-use Rattle.world_model.specs.ipv4_forward.declared.outcome.Hop.TheVariants.{NoRoute, Expired}
-use Rattle.world_model.specs.frame_model.Sending.{Sent}
-use Rattle.controller_link.specs.Cells.{is_channel}
+use Rattle.law_controller.specs.world_model.Words.{PortNo, Channel, Mark, label_number_of, next_control, with_control, hop_of, onward, Hop, Here, On, kind_of, default_payload, labelled_payload, Loss, PoolFull, Journal, noted, frame_cells, made, next_mark, Reassembly, Setup, control_end, Label, label_number, is_bound, Grant, label_at, labels_of, Controller, Linked, linked_at, chains_with, default_channel, default_home, sends_control, is_control, sends_next, goes_by, grant_by, routes, ForGsmp, ForDefault, ForLabel, port_on, on_link, same_channel, label_taker, taker_at, taker_of, with_reassembly}
+use Rattle.law_controller.specs.world_model.ipv4_forward.declared.outcome.Hop.TheVariants.{NoRoute, Expired}
+use Rattle.law_controller.specs.world_model.frame_model.Sending.{Sent}
+use Rattle.controller_router.specs.controller_link.Cells.{is_channel}
 use Rattle.law_controller.specs.law_port_facts.Port.{IsLabel}
 use Rattle.law_controller.proofs.law_port_facts.Keyed.{on_both, at_key, at_every}
-use Rattle.world_model.specs.Controller.{Acted, free_slots}
-use Rattle.world_model.specs.Sending.{with_cells, sends}
-use Rattle.world_model.specs.Packets.{forwarded}
-use Rattle.world_model.specs.Cells.{Taker}
+use Rattle.law_controller.specs.world_model.Controller.{Acted, free_slots}
+use Rattle.law_controller.specs.world_model.Sending.{with_cells, sends}
+use Rattle.law_controller.specs.world_model.Packets.{forwarded}
+use Rattle.law_controller.specs.world_model.Cells.{Taker}
 use Rattle.law_controller.proofs.law_controller_facts.Moves.{gathering, chaining, Moves, moves_to, HasPorts, found_setup, found_at_own, found_port}
 use Rattle.law_controller.proofs.law_controller_facts.Events.{routes_goes}
 use Rattle.law_controller.proofs.law_controller_facts.Flows.{moves_flow}

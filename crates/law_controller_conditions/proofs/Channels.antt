@@ -3,14 +3,14 @@
 use Rattle.std.proofs.Common.{◌≡◌, ℕ, true, false, List, [], ◌∷◌, Option, Some, refl, ◌∙◌, ap, map, is_some}
 use Rattle.std.specs.Prelude.{◌&&◌, nat_le}
 use Rattle.std.specs.Option.{option_map, option_map_or}
-use Rattle.world_model.specs.Words.{PortNo, is_label_number, at, Setup, is_in_range, Linked, port_key}
+use Rattle.law_controller.specs.world_model.Words.{PortNo, is_label_number, at, Setup, is_in_range, Linked, port_key}
 use Rattle.law_controller.specs.law_port_facts.Port.{setup_port}
 use Rattle.law_controller.proofs.law_port_facts.Keyed.{at_map}
 use Rattle.law_controller.proofs.law_port_facts.Rules.{and_second}
-use Rattle.world_model.specs.controller_model.declared.range.PortRange.{PortRange}
+use Rattle.law_controller.specs.world_model.controller_model.declared.range.PortRange.{PortRange}
 use Rattle.law_controller.specs.law_controller_facts.Sound.{linked_setup}
-use Rattle.controller_link.specs.Cells.{range_key, is_label_of, is_channel}
-use Rattle.controller_link.specs.declared.taker.Taker.TheVariants.{Default, Label}
+use Rattle.controller_router.specs.controller_link.Cells.{range_key, is_label_of, is_channel}
+use Rattle.controller_router.specs.controller_link.declared.taker.Taker.TheVariants.{Default, Label}
 use Rattle.controller_router.specs.Node.{linked_range}
 
 abbrev setup_range : Setup → PortRange

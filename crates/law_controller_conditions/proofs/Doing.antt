@@ -1,14 +1,14 @@
 -- what a port's reset asks can be done, one thing after the other
 
 use Rattle.std.proofs.Common.{◌≡◌, Bool, true, List, [], ◌∷◌, ◌++◌, Option, Some, refl, sym, ◌∙◌, subst, if◌then◌else◌, fold}
-use Rattle.world_model.specs.Words.{PortNo, End, Clearing, is_estab, IsLinkPort, at, Desk, Action, Say, Ask, Note, CutChain, TakeBack, Withdraw, Setup, Work, desk_with, resets, Linked, port_key, linked_at, begins, with_work, does, does_in_estab, resets_of, resets_port}
+use Rattle.law_controller.specs.world_model.Words.{PortNo, End, Clearing, is_estab, IsLinkPort, at, Desk, Action, Say, Ask, Note, CutChain, TakeBack, Withdraw, Setup, Work, desk_with, resets, Linked, port_key, linked_at, begins, with_work, does, does_in_estab, resets_of, resets_port}
 use Rattle.law_controller.specs.ordered_lists.Ordered.{Every}
 use Rattle.law_controller.proofs.ordered_lists.Every.{every_map, every_map2}
-use Rattle.world_model.specs.port_model.declared.action.Action.TheVariants as actions
+use Rattle.law_controller.specs.world_model.port_model.declared.action.Action.TheVariants as actions
 use Rattle.law_controller.specs.law_port_facts.Port.{setup_port, IsAction}
 use Rattle.law_controller.proofs.law_port_facts.Keyed.{at_key, at_every, at_put_same, every_more}
 use Rattle.law_controller.proofs.law_port_facts.Joins.{resets_kept}
-use Rattle.world_model.specs.Controller.{Acted}
+use Rattle.law_controller.specs.world_model.Controller.{Acted}
 use Rattle.law_controller.proofs.law_controller_facts.Moves.{by_reset, placing, Moves, moves_to, moves_fold, HasPorts, found_setup, found_at_own, found_port, begun}
 use Rattle.law_controller.proofs.law_controller_facts.Performing.{does_in_estab_goes}
 use Rattle.law_controller.specs.Actions as law

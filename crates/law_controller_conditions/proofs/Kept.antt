@@ -2,9 +2,9 @@
 
 use Rattle.std.proofs.Common.{ℕ, ◌≤◌, ◌<◌, List, arith, inr}
 use Rattle.std.specs.Prelude.{◌+◌}
-use Rattle.world_model.specs.Words.{HasNumbersLeft, AreDrawn, Setup, Controller}
+use Rattle.law_controller.specs.world_model.Words.{HasNumbersLeft, AreDrawn, Setup, Controller}
 use Rattle.law_controller.specs.ordered_lists.Ordered.{Every}
-use Rattle.world_model.specs.Controller.{Acted}
+use Rattle.law_controller.specs.world_model.Controller.{Acted}
 use Rattle.law_controller.specs.law_controller_facts.Inputs.{Input, CellComes, PacketEnters, Ticks, Restarts, ChangeComes, FrameIsForged, CellLeaves, Meanwhile, takes_input}
 use Rattle.law_controller.specs.law_controller_facts.Sound.{IsOwn, NeverFall}
 use Rattle.law_controller.specs.law_controller_facts.Said.{HasFlowsAt}

@@ -3,30 +3,30 @@
 use Rattle.std.proofs.Common.{◌≡◌, ℕ, Bool, true, false, List, [], ◌∷◌, ◌++◌, Option, None, Some, Result, Ok, Err, refl, subst, if◌then◌else◌, drop, map, fold}
 use Rattle.std.specs.Prelude.{◌==◌, not, nat_le, nat_lt, find}
 use Rattle.std.specs.Option.{option_map}
-use Rattle.world_model.specs.Words.{PortNo, Channel, Mark, Addr, Network, Party, Answer, Said, greeting_of, gsmp_answer, gsmp_received, Step, is_estab, ticked, Cell, protocol_of, source_of, destination_of, ttl_of, PacketFault, is_same, has_prefix, is_best, best, renewed, changed_by, changed, hop_by, hop_of, onward, RouteChange, Hop, Here, On, Next, Local, Via, default_payload, labelled_payload, default_unwrapped, unwrapped, EncapsFault, kind_of, IsLinkPort, Tested, tested, last_mark, next_mark, Reassembly, Refusal, Answered, Unknown, Done, Ports, Failed, after_answer, answered, sent_again, control_end, Label, Grant, hears, counts, used, Linked, linked_at, with_desk, default_channel, default_home, sends_control, says_gsmp, sends_request, cuts_default_of, cuts_default, cuts_gsmp, node_resets, is_control, sends_next, goes_by, grant_by, routes, control_protocol, inject_refusal, causes, clears, takes_answer, answer_comes, releases, tries_joins, gsmp_holds, ForGsmp, ForDefault, ForLabel, reassembly_of, with_reassembly, label_holds, ifmp_holds, counted_at, packet_holds, default_holds, frame_holds, takes_cell, taker_of, sends_again, ticks_port, ticks_ports, ticks_by}
-use Rattle.world_model.specs.adjacency_table.declared.message.Answer.TheVariants as answers_of
-use Rattle.world_model.specs.ipv4_packet.Packet.{first_fault}
-use Rattle.world_model.specs.ipv4_forward.declared.outcome.Hop.TheVariants.{NoRoute, Expired}
-use Rattle.world_model.specs.ipv4_forward.declared.table.Route.{Route}
-use Rattle.world_model.specs.ifmp_wire.declared.message.Message.{Message as IfmpMessage}
-use Rattle.world_model.specs.ifmp_wire.declared.reader.Fault.{Fault as IfmpFault}
-use Rattle.world_model.specs.ifmp_wire.Fields.{decoded as ifmp_decoded}
-use Rattle.world_model.specs.gsmp_wire.Layout.{octets_of as gsmp_octets}
-use Rattle.world_model.specs.gsmp_wire.Fields.{decoded as gsmp_decoded}
-use Rattle.world_model.specs.gsmp_wire.declared.message.Message.{Message}
-use Rattle.world_model.specs.gsmp_wire.declared.message.Message.TheVariants as messages
-use Rattle.world_model.specs.gsmp_wire.declared.fault.Fault.{Fault as GsmpFault}
-use Rattle.world_model.specs.frame_model.Reassembly.{Taken, taken}
+use Rattle.law_controller.specs.world_model.Words.{PortNo, Channel, Mark, Addr, Network, Party, Answer, Said, greeting_of, gsmp_answer, gsmp_received, Step, is_estab, ticked, Cell, protocol_of, source_of, destination_of, ttl_of, PacketFault, is_same, has_prefix, is_best, best, renewed, changed_by, changed, hop_by, hop_of, onward, RouteChange, Hop, Here, On, Next, Local, Via, default_payload, labelled_payload, default_unwrapped, unwrapped, EncapsFault, kind_of, IsLinkPort, Tested, tested, last_mark, next_mark, Reassembly, Refusal, Answered, Unknown, Done, Ports, Failed, after_answer, answered, sent_again, control_end, Label, Grant, hears, counts, used, Linked, linked_at, with_desk, default_channel, default_home, sends_control, says_gsmp, sends_request, cuts_default_of, cuts_default, cuts_gsmp, node_resets, is_control, sends_next, goes_by, grant_by, routes, control_protocol, inject_refusal, causes, clears, takes_answer, answer_comes, releases, tries_joins, gsmp_holds, ForGsmp, ForDefault, ForLabel, reassembly_of, with_reassembly, label_holds, ifmp_holds, counted_at, packet_holds, default_holds, frame_holds, takes_cell, taker_of, sends_again, ticks_port, ticks_ports, ticks_by}
+use Rattle.law_controller.specs.world_model.adjacency_table.declared.message.Answer.TheVariants as answers_of
+use Rattle.law_controller.specs.world_model.ipv4_packet.Packet.{first_fault}
+use Rattle.law_controller.specs.world_model.ipv4_forward.declared.outcome.Hop.TheVariants.{NoRoute, Expired}
+use Rattle.law_controller.specs.world_model.ipv4_forward.declared.table.Route.{Route}
+use Rattle.law_controller.specs.world_model.ifmp_wire.declared.message.Message.{Message as IfmpMessage}
+use Rattle.law_controller.specs.world_model.ifmp_wire.declared.reader.Fault.{Fault as IfmpFault}
+use Rattle.law_controller.specs.world_model.ifmp_wire.Fields.{decoded as ifmp_decoded}
+use Rattle.law_controller.specs.world_model.gsmp_wire.Layout.{octets_of as gsmp_octets}
+use Rattle.law_controller.specs.world_model.gsmp_wire.Fields.{decoded as gsmp_decoded}
+use Rattle.law_controller.specs.world_model.gsmp_wire.declared.message.Message.{Message}
+use Rattle.law_controller.specs.world_model.gsmp_wire.declared.message.Message.TheVariants as messages
+use Rattle.law_controller.specs.world_model.gsmp_wire.declared.fault.Fault.{Fault as GsmpFault}
+use Rattle.law_controller.specs.world_model.frame_model.Reassembly.{Taken, taken}
 use Rattle.law_controller.specs.ordered_lists.Ordered.{Every}
 use Rattle.law_controller.proofs.ordered_lists.Every.{every_map, every_mapped, every_join}
-use Rattle.world_model.specs.port_model.Ticks as port_ticks
+use Rattle.law_controller.specs.world_model.port_model.Ticks as port_ticks
 use Rattle.law_controller.proofs.law_port_facts.Keyed.{on_both}
 use Rattle.law_controller.proofs.law_port_facts.Found.{find_every}
-use Rattle.world_model.specs.Controller.{Acted, free_slots, ports_of}
-use Rattle.world_model.specs.Sending.{sends}
-use Rattle.world_model.specs.Packets.{forwarded}
-use Rattle.world_model.specs.Gsmp.{answers, steps, told}
-use Rattle.world_model.specs.Cells.{Taker, opened_frame, ends_frame}
+use Rattle.law_controller.specs.world_model.Controller.{Acted, free_slots, ports_of}
+use Rattle.law_controller.specs.world_model.Sending.{sends}
+use Rattle.law_controller.specs.world_model.Packets.{forwarded}
+use Rattle.law_controller.specs.world_model.Gsmp.{answers, steps, told}
+use Rattle.law_controller.specs.world_model.Cells.{Taker, opened_frame, ends_frame}
 use Rattle.law_controller.specs.law_controller_facts.Inputs.{Input, CellComes, PacketEnters, Ticks, Restarts, ChangeComes, FrameIsForged, CellLeaves, Meanwhile, enters_unless, takes_input}
 use Rattle.law_controller.proofs.law_controller_facts.Joining.{every_filter}
 use Rattle.law_controller_conditions.specs.Routes.{LeadsToLink, IsLinkRoute, MayLead, IsLinkChange, IsLinkInput, RoutesLeadToLinks}

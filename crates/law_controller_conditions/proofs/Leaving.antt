@@ -2,22 +2,22 @@
 
 use Rattle.std.proofs.Common.{ℕ, true, List, [], ◌∷◌, length, Option, None, Some, if◌then◌else◌, map, fold}
 use Rattle.std.specs.Prelude.{◌==◌, nat_le, flat_map}
-use Rattle.world_model.specs.Words.{PortNo, Channel, End, Mark, number_of_channel, next_control, with_control, is_estab, ifmp_packet_of, changed, RouteChange, default_payload, Request, AddBranch, MoveBranch, DeleteTree, VerifyTree, PortManagement, Loss, Part, PoolFull, noted, frame_cells, made, Standing, empty_desk, is_led_home, last_transaction, Action, Say, Ask, Note, CutChain, TakeBack, Withdraw, home_of, Work, resets, restarts, closes, Label, Controller, Linked, linked_at, with_linked, with_desk, default_channel, default_end, default_home, sends_control, sends_request, asks_next, asks, takes_back, begins, with_work, cuts_of, closes_by, port_restarts_of, port_restarts, resets_gsmp, node_resets, does, does_in_estab, resets_of, performs, performs_in_estab, Rule, works, at_port, join_of, parts, releases_join, releases_input, released_inputs, resets_spent, releases, enters_grant, enters_label, join_for, may_join, joins, tries_label, label_on, tries_join, inputs_at, tries_joins, meets, up_ports, empties, default_branches, ends_meeting, has_emptied, port_of_input, tells_port, behind_delete_all, causes_in_estab, causes, may_clear, clears_of, clears_port, clears, changed_joins, takes_join_back, begins_change, takes_change, may_take, takes_each, takes_changes}
-use Rattle.world_model.specs.ipv4_forward.declared.table.Route.{Route}
-use Rattle.world_model.specs.ifmp_wire.Message.{octets_of as ifmp_octets}
-use Rattle.world_model.specs.gsmp_wire.Layout.{octets_of as gsmp_octets}
-use Rattle.world_model.specs.gsmp_wire.declared.request.Request.TheVariants.{DeleteAll, AllPorts}
-use Rattle.world_model.specs.frame_model.Sending.{Sent}
+use Rattle.law_controller.specs.world_model.Words.{PortNo, Channel, End, Mark, number_of_channel, next_control, with_control, is_estab, ifmp_packet_of, changed, RouteChange, default_payload, Request, AddBranch, MoveBranch, DeleteTree, VerifyTree, PortManagement, Loss, Part, PoolFull, noted, frame_cells, made, Standing, empty_desk, is_led_home, last_transaction, Action, Say, Ask, Note, CutChain, TakeBack, Withdraw, home_of, Work, resets, restarts, closes, Label, Controller, Linked, linked_at, with_linked, with_desk, default_channel, default_end, default_home, sends_control, sends_request, asks_next, asks, takes_back, begins, with_work, cuts_of, closes_by, port_restarts_of, port_restarts, resets_gsmp, node_resets, does, does_in_estab, resets_of, performs, performs_in_estab, Rule, works, at_port, join_of, parts, releases_join, releases_input, released_inputs, resets_spent, releases, enters_grant, enters_label, join_for, may_join, joins, tries_label, label_on, tries_join, inputs_at, tries_joins, meets, up_ports, empties, default_branches, ends_meeting, has_emptied, port_of_input, tells_port, behind_delete_all, causes_in_estab, causes, may_clear, clears_of, clears_port, clears, changed_joins, takes_join_back, begins_change, takes_change, may_take, takes_each, takes_changes}
+use Rattle.law_controller.specs.world_model.ipv4_forward.declared.table.Route.{Route}
+use Rattle.law_controller.specs.world_model.ifmp_wire.Message.{octets_of as ifmp_octets}
+use Rattle.law_controller.specs.world_model.gsmp_wire.Layout.{octets_of as gsmp_octets}
+use Rattle.law_controller.specs.world_model.gsmp_wire.declared.request.Request.TheVariants.{DeleteAll, AllPorts}
+use Rattle.law_controller.specs.world_model.frame_model.Sending.{Sent}
 use Rattle.law_controller.specs.ordered_lists.Ordered.{Every}
-use Rattle.world_model.specs.port_model.Desk.{asked, message_at}
-use Rattle.world_model.specs.port_model.declared.action.Action.TheVariants as actions
-use Rattle.world_model.specs.port_model.Resets.{cleared}
-use Rattle.world_model.specs.port_model.Joins as port_joins
-use Rattle.world_model.specs.port_model.Answers as port_answers
+use Rattle.law_controller.specs.world_model.port_model.Desk.{asked, message_at}
+use Rattle.law_controller.specs.world_model.port_model.declared.action.Action.TheVariants as actions
+use Rattle.law_controller.specs.world_model.port_model.Resets.{cleared}
+use Rattle.law_controller.specs.world_model.port_model.Joins as port_joins
+use Rattle.law_controller.specs.world_model.port_model.Answers as port_answers
 use Rattle.law_controller.proofs.law_port_facts.Keyed.{on_both}
-use Rattle.world_model.specs.Controller.{Acted, free_slots, ports_of, note}
-use Rattle.world_model.specs.Sending.{with_cells, sends}
-use Rattle.world_model.specs.Joins.{Join, output_of}
+use Rattle.law_controller.specs.world_model.Controller.{Acted, free_slots, ports_of, note}
+use Rattle.law_controller.specs.world_model.Sending.{with_cells, sends}
+use Rattle.law_controller.specs.world_model.Joins.{Join, output_of}
 
 module _ (T : List Route → Type 0) (Q : RouteChange → Type 0) where
   abbrev pub Has : Acted → Type 0

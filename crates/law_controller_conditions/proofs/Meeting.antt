@@ -3,27 +3,27 @@
 use Rattle.std.proofs.Common.{◌≡◌, Option, Bool, true, false, List, [], ◌∷◌, None, Some, refl, sym, ◌∙◌, ap, subst, if◌then◌else◌, inl, inr, map, fold}
 use Rattle.std.specs.Prelude.{◌==◌, ◌||◌, not, filter, flat_map}
 use Rattle.std.specs.List.{list_any}
-use Rattle.world_model.specs.Words.{PortNo, End, Party, Answer, Quiet, Send, Open, Said, same_party, heard_in, greeting_of, gsmp_answer, Side, IsSide, is_estab, is_open, Request, AddBranch, MoveBranch, DeleteTree, VerifyTree, PortManagement, IsLinkPort, next_control, with_control, is_delete_all, withdraws, all_on, Desk, Standing, empty_desk, last_transaction, Setup, with_desk, default_channel, default_end, default_home, Linked, linked_at, with_linked, says_gsmp, asks_next, asks, begins, node_resets, meets, up_ports, empties, default_branches, ends_meeting, is_deleting, has_emptied, port_of_input, tells_port, behind_delete_all, causes_in_estab, causes, may_clear, clears_of, clears_port, clears}
-use Rattle.world_model.specs.adjacency_table.declared.message.Answer.TheVariants.{Reset}
-use Rattle.world_model.specs.adjacency_table.Side as sides
-use Rattle.world_model.specs.gsmp_wire.Layout.{octets_of as gsmp_octets}
-use Rattle.world_model.specs.gsmp_wire.declared.message.Message.{Message}
-use Rattle.world_model.specs.gsmp_wire.declared.message.Message.TheVariants as messages
-use Rattle.world_model.specs.gsmp_wire.declared.request.Request.TheVariants.{DeleteAll, AllPorts}
+use Rattle.law_controller.specs.world_model.Words.{PortNo, End, Party, Answer, Quiet, Send, Open, Said, same_party, heard_in, greeting_of, gsmp_answer, Side, IsSide, is_estab, is_open, Request, AddBranch, MoveBranch, DeleteTree, VerifyTree, PortManagement, IsLinkPort, next_control, with_control, is_delete_all, withdraws, all_on, Desk, Standing, empty_desk, last_transaction, Setup, with_desk, default_channel, default_end, default_home, Linked, linked_at, with_linked, says_gsmp, asks_next, asks, begins, node_resets, meets, up_ports, empties, default_branches, ends_meeting, is_deleting, has_emptied, port_of_input, tells_port, behind_delete_all, causes_in_estab, causes, may_clear, clears_of, clears_port, clears}
+use Rattle.law_controller.specs.world_model.adjacency_table.declared.message.Answer.TheVariants.{Reset}
+use Rattle.law_controller.specs.world_model.adjacency_table.Side as sides
+use Rattle.law_controller.specs.world_model.gsmp_wire.Layout.{octets_of as gsmp_octets}
+use Rattle.law_controller.specs.world_model.gsmp_wire.declared.message.Message.{Message}
+use Rattle.law_controller.specs.world_model.gsmp_wire.declared.message.Message.TheVariants as messages
+use Rattle.law_controller.specs.world_model.gsmp_wire.declared.request.Request.TheVariants.{DeleteAll, AllPorts}
 use Rattle.law_controller.specs.ordered_lists.Ordered.{Every}
 use Rattle.law_controller.proofs.ordered_lists.Every.{every_map, every_join}
 use Rattle.law_controller.proofs.ordered_lists.Parts.{part_filtered, every_part}
-use Rattle.world_model.specs.port_model.Messages.{is_up}
-use Rattle.world_model.specs.port_model.Requests.{input_of}
-use Rattle.world_model.specs.port_model.Desk.{asked, message_at}
-use Rattle.world_model.specs.port_model.Answers as port_answers
-use Rattle.world_model.specs.port_model.Resets.{cleared}
+use Rattle.law_controller.specs.world_model.port_model.Messages.{is_up}
+use Rattle.law_controller.specs.world_model.port_model.Requests.{input_of}
+use Rattle.law_controller.specs.world_model.port_model.Desk.{asked, message_at}
+use Rattle.law_controller.specs.world_model.port_model.Answers as port_answers
+use Rattle.law_controller.specs.world_model.port_model.Resets.{cleared}
 use Rattle.law_controller.specs.law_port_facts.Port.{IsLinked, IsDefaultEnd, IsShaped, asks_ports, empties_control, empties_port, opens_input, opens_output}
 use Rattle.law_controller.proofs.law_port_facts.Keyed.{on_both, on_each}
 use Rattle.law_controller.proofs.law_port_facts.Rules.{done_goes}
 use Rattle.law_controller.proofs.law_port_facts.Turns.{IsTurned, received_turns, ticked_turns}
-use Rattle.world_model.specs.Controller.{Acted, ports_of}
-use Rattle.world_model.specs.Gsmp.{answers, steps}
+use Rattle.law_controller.specs.world_model.Controller.{Acted, ports_of}
+use Rattle.law_controller.specs.world_model.Gsmp.{answers, steps}
 use Rattle.law_controller.proofs.law_controller_facts.Moves.{IsGsmpTurn, hears, ages, turning, ending_meeting, meeting, moves_to, moves_ports, HasPorts, clearing, found_at_own}
 use Rattle.law_controller.proofs.law_controller_facts.Performing.{says_gsmp_goes, asks_goes, asks_each, ports_linked}
 use Rattle.law_controller.proofs.law_controller_facts.Events.{meets_goes}

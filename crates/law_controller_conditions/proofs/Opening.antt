@@ -2,12 +2,12 @@
 
 use Rattle.std.proofs.Common.{◌≢◌, ℕ, zero, suc, ◌<◌, List, [], ◌∷◌, length, get_or, arith}
 use Rattle.std.proofs.lemmas.List.{length-map}
-use Rattle.world_model.specs.Words.{IsLinkPort, Setup, setup_of}
+use Rattle.law_controller.specs.world_model.Words.{IsLinkPort, Setup, setup_of}
 use Rattle.law_controller.specs.ordered_lists.Ordered.{Every, InOrder}
 use Rattle.law_controller.proofs.ordered_lists.Every.{every_map, every_mapped}
 use Rattle.law_controller.specs.law_port_facts.Port.{IsRanged}
-use Rattle.controller_link.proofs.Blocks.{few_ports, link_port, port_below}
-use Rattle.world_model.specs.controller_model.declared.range.PortRange.{PortRange}
+use Rattle.controller_router.proofs.controller_link.Blocks.{few_ports, link_port, port_below}
+use Rattle.law_controller.specs.world_model.controller_model.declared.range.PortRange.{PortRange}
 use Rattle.law_controller.specs.law_controller_facts.Sound.{Opening, DifferInPort, opened_by, setups_by}
 use Rattle.law_controller.proofs.law_controller_facts.Flows.{always_flowing}
 use Rattle.law_controller.specs.Law.{IsOpening}

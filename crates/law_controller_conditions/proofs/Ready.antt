@@ -1,11 +1,11 @@
 -- what holds of a controller in the midst of an event, and the numbers before a rule whose numbers can be given out
 
 use Rattle.std.proofs.Common.{◌≡◌, ℕ, ◌≤◌, ◌<◌, List, Some, refl, arith}
-use Rattle.world_model.specs.Words.{PortNo, Setup, Linked, port_key, linked_at, begins}
+use Rattle.law_controller.specs.world_model.Words.{PortNo, Setup, Linked, port_key, linked_at, begins}
 use Rattle.law_controller.specs.ordered_lists.Ordered.{Every}
 use Rattle.law_controller.specs.law_port_facts.Port.{setup_port, IsRanged}
 use Rattle.law_controller.proofs.law_port_facts.Keyed.{at_every}
-use Rattle.world_model.specs.Controller.{Acted}
+use Rattle.law_controller.specs.world_model.Controller.{Acted}
 use Rattle.law_controller.specs.law_controller_facts.Sound.{NeverFall}
 use Rattle.law_controller.specs.law_controller_facts.Said.{HasFlowsAt}
 use Rattle.law_controller.proofs.law_controller_facts.Moves.{Moves, HasPorts, found_setup, found_at_own, begun}

@@ -2,12 +2,12 @@
 
 use Rattle.std.proofs.Common.{◌≡◌, Bool, List, [], ◌∷◌, ◌++◌, length, Some, refl, ◌∙◌, ap, if◌then◌else◌, inl, inr}
 use Rattle.std.specs.Prelude.{◌⊎◌, not, nat_le, nat_lt}
-use Rattle.world_model.specs.Words.{Cell, Journal, Tested, tested, last_mark, Reassembly, most_cells, passed_over, without_slot, too_long, ForGsmp, ForDefault, ForLabel, reassembly_of, with_reassembly, taker_of, takes_cell}
-use Rattle.world_model.specs.frame_model.Reassembly.{Taken, joined, taken}
+use Rattle.law_controller.specs.world_model.Words.{Cell, Journal, Tested, tested, last_mark, Reassembly, most_cells, passed_over, without_slot, too_long, ForGsmp, ForDefault, ForLabel, reassembly_of, with_reassembly, taker_of, takes_cell}
+use Rattle.law_controller.specs.world_model.frame_model.Reassembly.{Taken, joined, taken}
 use Rattle.reassembly.specs.Receipt.{ended}
 use Rattle.law_controller.proofs.law_port_facts.Keyed.{on_both}
-use Rattle.world_model.specs.Controller.{Acted, free_slots}
-use Rattle.world_model.specs.Cells.{Taker, opened_frame, ends_frame, cell_comes}
+use Rattle.law_controller.specs.world_model.Controller.{Acted, free_slots}
+use Rattle.law_controller.specs.world_model.Cells.{Taker, opened_frame, ends_frame, cell_comes}
 use Rattle.controller_router.specs.Cells.{receipt}
 use Rattle.law_controller_conditions.specs.Cells.{after_receipt}
 

@@ -3,12 +3,12 @@
 use Rattle.std.proofs.Common.{◌≡◌, ℕ, ◌<◌, true, List, [], ◌∷◌, Option, None, Some, refl, sym, ◌∙◌, ap, subst, arith, map, fold, is_some}
 use Rattle.std.specs.Prelude.{◌+◌}
 use Rattle.std.specs.Option.{option_map}
-use Rattle.world_model.specs.Words.{PortNo, GivenOut, at, Action, Say, Ask, Note, CutChain, TakeBack, Withdraw, Setup, restarts, Linked, port_key, linked_at, begins, with_work, cuts_of, closes_by, port_restarts_of, port_restarts, resets_gsmp, node_resets}
+use Rattle.law_controller.specs.world_model.Words.{PortNo, GivenOut, at, Action, Say, Ask, Note, CutChain, TakeBack, Withdraw, Setup, restarts, Linked, port_key, linked_at, begins, with_work, cuts_of, closes_by, port_restarts_of, port_restarts, resets_gsmp, node_resets}
 use Rattle.law_controller.specs.ordered_lists.Ordered.{Every}
-use Rattle.world_model.specs.port_model.declared.action.Action.TheVariants as actions
+use Rattle.law_controller.specs.world_model.port_model.declared.action.Action.TheVariants as actions
 use Rattle.law_controller.specs.law_port_facts.Port.{setup_port, IsLinked}
 use Rattle.law_controller.proofs.law_port_facts.Keyed.{at_map}
-use Rattle.world_model.specs.Controller.{Acted, ports_of}
+use Rattle.law_controller.specs.world_model.Controller.{Acted, ports_of}
 use Rattle.law_controller.specs.law_controller_facts.Sound.{linked_setup}
 use Rattle.law_controller.proofs.law_controller_facts.Moves.{Fine, fine_moves, fine_fold, fine_ports, HasPorts, found_setup, reset_ports}
 use Rattle.law_controller.proofs.law_controller_facts.Performing.{Any, any_ports, ports_linked, port_restarts_of_fine}

@@ -3,17 +3,17 @@
 
 use Rattle.std.proofs.Common.{◌≡◌, ℕ, Bool, true, false, List, [], ◌∷◌, Some, refl, sym, ◌∙◌, ap, subst, if◌then◌else◌, fold}
 use Rattle.std.specs.Prelude.{nat_eq}
-use Rattle.world_model.specs.Words.{PortNo, Addr, is_estab, Request, InRange, at, put, Setup, is_spent, closes, hears, counts, Linked, port_key, linked_at, with_linked, begins, Rule, resets_port, works, at_port, resets_spent, ticks_port}
-use Rattle.world_model.specs.ifmp_wire.declared.message.Message.{Message}
-use Rattle.world_model.specs.port_model.Ticks as port_ticks
-use Rattle.world_model.specs.port_model.Answers as port_answers
+use Rattle.law_controller.specs.world_model.Words.{PortNo, Addr, is_estab, Request, InRange, at, put, Setup, is_spent, closes, hears, counts, Linked, port_key, linked_at, with_linked, begins, Rule, resets_port, works, at_port, resets_spent, ticks_port}
+use Rattle.law_controller.specs.world_model.ifmp_wire.declared.message.Message.{Message}
+use Rattle.law_controller.specs.world_model.port_model.Ticks as port_ticks
+use Rattle.law_controller.specs.world_model.port_model.Answers as port_answers
 use Rattle.law_controller.specs.law_port_facts.Port.{IsShut}
 use Rattle.law_controller.proofs.law_port_facts.Rules.{counts_goes, done_goes}
 use Rattle.law_controller.proofs.law_port_facts.Hearings.{hears_goes, ticks_goes}
 use Rattle.law_controller.proofs.law_port_facts.Steps as steps_of
 use Rattle.law_controller.proofs.law_port_facts.Steps.{Goes, steps_to}
 use Rattle.law_controller.proofs.law_port_facts.Keyed.{at_key}
-use Rattle.world_model.specs.Controller.{Acted}
+use Rattle.law_controller.specs.world_model.Controller.{Acted}
 use Rattle.law_controller.proofs.law_controller_facts.Moves.{by_rule, Moves, stays, further, moves_ports, HasPorts, found_at_own, found_port}
 use Rattle.law_controller.proofs.law_controller_facts.Performing.{at_port_goes}
 use Rattle.law_controller.proofs.Actions.{asks_what_can_be_done, heard_anyway}

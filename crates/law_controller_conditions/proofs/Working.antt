@@ -3,14 +3,14 @@
 use Rattle.std.proofs.Common.{◌≡◌, Bool, true, false, List, [], ◌∷◌, ◌++◌, Option, Some, refl, sym, ◌∙◌, ap, subst, if◌then◌else◌, inl, inr, fold}
 use Rattle.std.specs.Prelude.{◌⊎◌}
 use Rattle.std.specs.List.{list_any}
-use Rattle.world_model.specs.Words.{PortNo, End, Clearing, is_estab, at, Desk, Action, Say, Ask, Note, CutChain, TakeBack, Withdraw, Setup, Work, desk_with, Linked, port_key, linked_at, begins, with_work, does, does_in_estab, performs, performs_in_estab, Rule, works, works_as, at_port}
+use Rattle.law_controller.specs.world_model.Words.{PortNo, End, Clearing, is_estab, at, Desk, Action, Say, Ask, Note, CutChain, TakeBack, Withdraw, Setup, Work, desk_with, Linked, port_key, linked_at, begins, with_work, does, does_in_estab, performs, performs_in_estab, Rule, works, works_as, at_port}
 use Rattle.law_controller.specs.ordered_lists.Ordered.{Every}
 use Rattle.law_controller.proofs.ordered_lists.Every.{every_map}
-use Rattle.world_model.specs.port_model.declared.action.Action.TheVariants as actions
+use Rattle.law_controller.specs.world_model.port_model.declared.action.Action.TheVariants as actions
 use Rattle.law_controller.specs.law_port_facts.Port.{setup_port, IsAction}
 use Rattle.law_controller.proofs.law_port_facts.Keyed.{at_key, at_every, at_put_same}
 use Rattle.law_controller.proofs.law_port_facts.Steps.{Goes}
-use Rattle.world_model.specs.Controller.{Acted}
+use Rattle.law_controller.specs.world_model.Controller.{Acted}
 use Rattle.law_controller.specs.law_controller_facts.Sound.{IsShutLinked}
 use Rattle.law_controller.proofs.law_controller_facts.Moves.{by_rule, placing, Found, Moves, moves_to, moves_fold, moves_ports, HasPorts, found_setup, found_at_own, begun}
 use Rattle.law_controller.proofs.law_controller_facts.Performing.{performs_in_estab_goes}

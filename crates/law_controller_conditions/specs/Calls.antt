@@ -2,15 +2,15 @@
 -- where what the rule leaves has numbers that can be given out
 
 use Rattle.std.specs.Prelude.{◌≡◌, ℕ, true, false, List, fold}
-use Rattle.world_model.specs.Words.{PortNo, Addr, End, Greeting, gsmp_answer, gsmp_received, is_estab, ticked, IsLinkPort, Request, InRange, Standing, hears, counts, asks, takes_back, node_resets, node_restarts, Rule, resets_port, at_port, resets_spent, empties, causes_in_estab, ticks_port, ticks_ports}
-use Rattle.world_model.specs.gsmp_wire.declared.request.Request.TheVariants.{DeleteAll}
-use Rattle.world_model.specs.ifmp_wire.declared.message.Message.{Message}
+use Rattle.law_controller.specs.world_model.Words.{PortNo, Addr, End, Greeting, gsmp_answer, gsmp_received, is_estab, ticked, IsLinkPort, Request, InRange, Standing, hears, counts, asks, takes_back, node_resets, node_restarts, Rule, resets_port, at_port, resets_spent, empties, causes_in_estab, ticks_port, ticks_ports}
+use Rattle.law_controller.specs.world_model.gsmp_wire.declared.request.Request.TheVariants.{DeleteAll}
+use Rattle.law_controller.specs.world_model.ifmp_wire.declared.message.Message.{Message}
 use Rattle.law_controller.specs.ordered_lists.Ordered.{Every}
-use Rattle.world_model.specs.port_model.Answers.{done}
-use Rattle.world_model.specs.port_model.Ticks as port_ticks
+use Rattle.law_controller.specs.world_model.port_model.Answers.{done}
+use Rattle.law_controller.specs.world_model.port_model.Ticks as port_ticks
 use Rattle.law_controller.specs.law_port_facts.Port.{IsLabelEnd, IsShaped}
-use Rattle.world_model.specs.Controller.{Acted, ports_of}
-use Rattle.world_model.specs.Gsmp.{steps}
+use Rattle.law_controller.specs.world_model.Controller.{Acted, ports_of}
+use Rattle.law_controller.specs.world_model.Gsmp.{steps}
 use Rattle.law_controller.specs.Order.{IsDeleting}
 use Rattle.controller_router.specs.Conditions.{CanAsk, CanTakeBack, CanResetNode, CanResetPort, CanWork, EachCanTick, CanFollow, turned_to}
 use Rattle.controller_router.specs.Meeting.{CanResetSpent, EachCanResetSpent, CanEmpty, CanCause}

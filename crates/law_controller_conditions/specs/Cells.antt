@@ -2,11 +2,11 @@
 -- that it ended acts; all of it still holds in between, and once a packet is sent on, which changes no port
 
 use Rattle.std.specs.Prelude.{◌≡◌, ℕ, true, List, map, Some}
-use Rattle.world_model.specs.Words.{Channel, Mark, Cell, Journal, Reassembly, with_reassembly, taker_of, routes}
+use Rattle.law_controller.specs.world_model.Words.{Channel, Mark, Cell, Journal, Reassembly, with_reassembly, taker_of, routes}
 use Rattle.reassembly.specs.Receipt.{Received}
-use Rattle.controller_link.specs.Cells.{is_channel}
-use Rattle.world_model.specs.Controller.{Acted}
-use Rattle.world_model.specs.Cells.{Taker, opened_frame, cell_comes}
+use Rattle.controller_router.specs.controller_link.Cells.{is_channel}
+use Rattle.law_controller.specs.world_model.Controller.{Acted}
+use Rattle.law_controller.specs.world_model.Cells.{Taker, opened_frame, cell_comes}
 use Rattle.controller_router.specs.Node.{linked_range}
 use Rattle.controller_router.specs.Cells.{IsFound, channel_of, gathered, receipt}
 use Rattle.law_controller_conditions.specs.Kept.{IsKept}

@@ -1,7 +1,7 @@
 -- What holds of one controller, in the midst of an event and between events, and that numbers are left
 
 use Rattle.std.specs.Prelude.{◌≤◌, ◌<◌, ◌^◌, List, length}
-use Rattle.world_model.specs.Words.{GivenOut, IsLinkPort, Setup, Controller}
+use Rattle.law_controller.specs.world_model.Words.{GivenOut, IsLinkPort, Setup, Controller}
 use Rattle.law_controller.specs.ordered_lists.Ordered.{Every}
 use Rattle.law_controller.specs.law_port_facts.Port.{IsRanged}
 use Rattle.law_controller.specs.law_controller_facts.Sound.{IsSound}

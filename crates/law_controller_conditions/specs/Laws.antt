@@ -1,9 +1,9 @@
 -- What holds between events: from the opening on, after every input, and what an input draws
 
 use Rattle.std.specs.Prelude.{◌≡◌, ◌≤◌, true, map, All}
-use Rattle.world_model.specs.Words.{HasNumbersLeft, AreDrawn, is_label_number, ArePorts, Controller}
-use Rattle.world_model.specs.controller_model.declared.range.PortRange.{PortRange}
-use Rattle.world_model.specs.Controller.{Acted}
+use Rattle.law_controller.specs.world_model.Words.{HasNumbersLeft, AreDrawn, is_label_number, ArePorts, Controller}
+use Rattle.law_controller.specs.world_model.controller_model.declared.range.PortRange.{PortRange}
+use Rattle.law_controller.specs.world_model.Controller.{Acted}
 use Rattle.law_controller.specs.law_controller_facts.Inputs.{Input, takes_input}
 use Rattle.law_controller.specs.law_controller_facts.Sound.{Opening, IsOwn, opened_by}
 use Rattle.law_controller_conditions.specs.Kept.{IsHeld, IsKept, AreIn}

@@ -1,10 +1,10 @@
 -- The routes that a controller holds, and the changes that wait, lead to ports of links
 
 use Rattle.std.specs.Prelude.{◌≡◌, ℕ, List, Option, None, Some}
-use Rattle.world_model.specs.Words.{hop_of, RouteChange, On, Next, Local, Via, PortNo, IsLinkPort, Controller}
-use Rattle.world_model.specs.ipv4_forward.declared.table.Route.{Route}
+use Rattle.law_controller.specs.world_model.Words.{hop_of, RouteChange, On, Next, Local, Via, PortNo, IsLinkPort, Controller}
+use Rattle.law_controller.specs.world_model.ipv4_forward.declared.table.Route.{Route}
 use Rattle.law_controller.specs.ordered_lists.Ordered.{Every}
-use Rattle.world_model.specs.Controller.{Acted}
+use Rattle.law_controller.specs.world_model.Controller.{Acted}
 use Rattle.law_controller.specs.law_controller_facts.Inputs.{Input, ChangeComes, takes_input}
 use Rattle.law_controller.specs.law_controller_facts.Sound.{Opening, opened_by}
 

@@ -3,13 +3,13 @@
 use Rattle.std.proofs.Common.{◌≡◌, ◌<◌, Bool, true, false, List, refl, sym, ◌∙◌, subst, arith}
 use Rattle.std.specs.Prelude.{◌&&◌, nat_le, IsTrue}
 use Rattle.std.proofs.lemmas.Bool.Decides.{nat_tests}
-use Rattle.world_model.specs.Words.{Channel, End, is_label_channel, is_label_number, label_channel_of, Request, IsLinkPort, Standing, Setup, Controller, joins_of}
+use Rattle.claims_model.specs.world_model.Words.{Channel, End, is_label_channel, is_label_number, label_channel_of, Request, IsLinkPort, Standing, Setup, Controller, joins_of}
 use Rattle.law_port_facts.specs.ordered_lists.Ordered.{Every}
 use Rattle.law_port_facts.proofs.ordered_lists.Every.{every_map}
 use Rattle.law_port_facts.specs.Port.{setup_port, IsLabelEnd, IsShaped, asks_ports, empties_control, empties_port, opens_input, opens_output, leads_label, leads_grant, joins_label, parts_label, frees_label}
 use Rattle.law_port_facts.proofs.Keyed.{at_every}
 use Rattle.law_port_facts.proofs.Rules.{and_first}
-use Rattle.world_model.specs.Controller.{Acted}
+use Rattle.claims_model.specs.world_model.Controller.{Acted}
 use Rattle.law_controller_facts.specs.Sound.{IsSound, Always}
 use Rattle.law_controller_facts.specs.Conditions.{MovesLabels, HasMovingRequests, IsGranted, HasGrantedJoins, HasHome}
 use Rattle.law_controller_facts.proofs.Moves.{HasPorts}

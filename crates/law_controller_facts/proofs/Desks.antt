@@ -4,20 +4,20 @@ use Rattle.std.proofs.Common.{◌≡◌, ℕ, ◌≤◌, ◌<◌, ◌+◌, Bool,
 use Rattle.std.specs.Prelude.{not, nat_le, ◌==◌, filter}
 use Rattle.std.specs.Option.{option_map_or}
 use Rattle.std.proofs.lemmas.Bool.Decides.{nat_tests}
-use Rattle.world_model.specs.Words.{PortNo, Channel, End, Mark, Party, next_control, with_control, Side, IsSide, is_estab, is_open, same_party, heard_in, Loss, PoolFull, noted, frame_cells, made, Request, AddBranch, MoveBranch, DeleteTree, VerifyTree, PortManagement, same_end, is_on, is_delete_all, withdraws, Desk, Standing, last_transaction, Answered, Unknown, Done, Ports, Failed, after_answer, Setup, Controller, resets_gsmp}
-use Rattle.world_model.specs.adjacency_table.Side as sides
-use Rattle.world_model.specs.frame_model.Sending.{Sent}
-use Rattle.world_model.specs.gsmp_wire.declared.request.Request.TheVariants.{DeleteAll, AllPorts}
+use Rattle.claims_model.specs.world_model.Words.{PortNo, Channel, End, Mark, Party, next_control, with_control, Side, IsSide, is_estab, is_open, same_party, heard_in, Loss, PoolFull, noted, frame_cells, made, Request, AddBranch, MoveBranch, DeleteTree, VerifyTree, PortManagement, same_end, is_on, is_delete_all, withdraws, Desk, Standing, last_transaction, Answered, Unknown, Done, Ports, Failed, after_answer, Setup, Controller, resets_gsmp}
+use Rattle.claims_model.specs.world_model.adjacency_table.Side as sides
+use Rattle.claims_model.specs.world_model.frame_model.Sending.{Sent}
+use Rattle.claims_model.specs.world_model.gsmp_wire.declared.request.Request.TheVariants.{DeleteAll, AllPorts}
 use Rattle.law_port_facts.specs.ordered_lists.Ordered.{Every, InOrder}
 use Rattle.law_port_facts.proofs.ordered_lists.Every.{every_join, every_map}
 use Rattle.law_port_facts.proofs.ordered_lists.InOrder.{order_join}
 use Rattle.law_port_facts.proofs.ordered_lists.Parts.{part_filtered, every_part, order_part}
-use Rattle.world_model.specs.port_model.Requests.{input_of}
-use Rattle.world_model.specs.port_model.Desk.{asked}
+use Rattle.claims_model.specs.world_model.port_model.Requests.{input_of}
+use Rattle.claims_model.specs.world_model.port_model.Desk.{asked}
 use Rattle.law_port_facts.proofs.Keyed.{on_both}
 use Rattle.law_port_facts.proofs.Turns.{IsTurned, received_turns, ticked_turns}
-use Rattle.world_model.specs.Controller.{Acted, free_slots}
-use Rattle.world_model.specs.Sending.{with_cells, sends}
+use Rattle.claims_model.specs.world_model.Controller.{Acted, free_slots}
+use Rattle.claims_model.specs.world_model.Sending.{with_cells, sends}
 use Rattle.law_controller_facts.specs.Sound.{IsEarlier, HaveOwnInputs, HaveOwnPorts}
 use Rattle.law_controller_facts.proofs.Moves.{IsGsmpTurn, hears, ages, Move, noting, taking_notes, sending, sending_control, asking, withdrawing, answering, meeting, ending_meeting, turning, placing, clearing, gathering, chaining, routing, popping}
 

@@ -2,26 +2,26 @@
 
 use Rattle.std.proofs.Common.{◌≡◌, ℕ, ◌≤◌, ◌+◌, Bool, true, false, List, [], ◌∷◌, ◌++◌, length, Option, None, Some, refl, sym, ◌∙◌, ap, arith, if◌then◌else◌, map, fold}
 use Rattle.std.specs.Prelude.{◌==◌, nat_lt, drop, flat_map, Result, Ok, Err}
-use Rattle.world_model.specs.Words.{PortNo, Channel, End, Mark, Party, number_of_channel, GivenOut, protocol_of, source_of, PacketFault, hop_of, onward, Hop, Here, On, RouteChange, Cell, kind_of, default_payload, labelled_payload, EncapsFault, default_unwrapped, unwrapped, Request, AddBranch, MoveBranch, DeleteTree, VerifyTree, PortManagement, State, Said, Answer, Quiet, Send, Open, Reply, Silent, Says, Resets, tick_reply, Side, is_estab, followed_tick, ticked, greeting_of, gsmp_answer, gsmp_received, Part, Reassembly, Tested, tested, last_mark, next_mark, empty_desk, sent_again, Answered, Unknown, Done, Ports, Failed, answered, after_answer, Setup, home_of, control_end, Label, Grant, Work, closes, counts, used, hears, Controller, Linked, linked_at, with_linked, with_desk, chains_with, default_end, default_home, sends_control, says_gsmp, asks, sends_request, begins, node_resets, join_of, parts, gives_back, releases_join, releases_input, released_inputs, resets_spent, releases, join_for, may_join, enters_grant, enters_label, joins, tries_label, label_on, tries_join, inputs_at, tries_joins, changed_joins, takes_join_back, begins_change, takes_change, may_take, takes_each, takes_changes, change_comes, meets, up_ports, default_branches, ends_meeting, has_emptied, port_of_input, tells_port, behind_delete_all, causes_in_estab, causes, may_clear, clears_of, clears_port, clears, takes_answer, answer_comes, gsmp_holds, is_control, sends_next, goes_by, grant_by, routes, control_protocol, ForGsmp, ForDefault, ForLabel, reassembly_of, with_reassembly, label_holds, ifmp_holds, counted_at, packet_holds, default_holds, frame_holds, sends_again, ticks_port, ticks_ports, ticks_by}
-use Rattle.world_model.specs.ipv4_packet.Packet.{first_fault}
-use Rattle.world_model.specs.ipv4_forward.declared.outcome.Hop.TheVariants.{NoRoute, Expired}
-use Rattle.world_model.specs.ifmp_wire.declared.message.Message.{Message as IfmpMessage}
-use Rattle.world_model.specs.ifmp_wire.declared.reader.Fault.{Fault as IfmpFault}
-use Rattle.world_model.specs.ifmp_wire.Fields.{decoded as ifmp_decoded}
-use Rattle.world_model.specs.gsmp_wire.Fields.{decoded as gsmp_decoded}
-use Rattle.world_model.specs.gsmp_wire.declared.fault.Fault.{Fault as GsmpFault}
-use Rattle.world_model.specs.gsmp_wire.declared.message.Message.{Message}
-use Rattle.world_model.specs.gsmp_wire.declared.message.Message.TheVariants as messages
-use Rattle.world_model.specs.gsmp_wire.declared.request.Request.TheVariants.{DeleteAll, AllPorts}
-use Rattle.world_model.specs.adjacency_table.declared.message.Answer.TheVariants.{Reset}
-use Rattle.world_model.specs.adjacency_table.Side as sides
-use Rattle.world_model.specs.adjacency_table.Side.{counted}
-use Rattle.world_model.specs.frame_model.Reassembly.{Taken, taken}
-use Rattle.world_model.specs.port_model.Desk.{message_at}
-use Rattle.world_model.specs.port_model.Answers as port_answers
-use Rattle.world_model.specs.port_model.Joins as port_joins
-use Rattle.world_model.specs.port_model.Resets.{cleared}
-use Rattle.world_model.specs.port_model.Ticks as port_ticks
+use Rattle.claims_model.specs.world_model.Words.{PortNo, Channel, End, Mark, Party, number_of_channel, GivenOut, protocol_of, source_of, PacketFault, hop_of, onward, Hop, Here, On, RouteChange, Cell, kind_of, default_payload, labelled_payload, EncapsFault, default_unwrapped, unwrapped, Request, AddBranch, MoveBranch, DeleteTree, VerifyTree, PortManagement, State, Said, Answer, Quiet, Send, Open, Reply, Silent, Says, Resets, tick_reply, Side, is_estab, followed_tick, ticked, greeting_of, gsmp_answer, gsmp_received, Part, Reassembly, Tested, tested, last_mark, next_mark, empty_desk, sent_again, Answered, Unknown, Done, Ports, Failed, answered, after_answer, Setup, home_of, control_end, Label, Grant, Work, closes, counts, used, hears, Controller, Linked, linked_at, with_linked, with_desk, chains_with, default_end, default_home, sends_control, says_gsmp, asks, sends_request, begins, node_resets, join_of, parts, gives_back, releases_join, releases_input, released_inputs, resets_spent, releases, join_for, may_join, enters_grant, enters_label, joins, tries_label, label_on, tries_join, inputs_at, tries_joins, changed_joins, takes_join_back, begins_change, takes_change, may_take, takes_each, takes_changes, change_comes, meets, up_ports, default_branches, ends_meeting, has_emptied, port_of_input, tells_port, behind_delete_all, causes_in_estab, causes, may_clear, clears_of, clears_port, clears, takes_answer, answer_comes, gsmp_holds, is_control, sends_next, goes_by, grant_by, routes, control_protocol, ForGsmp, ForDefault, ForLabel, reassembly_of, with_reassembly, label_holds, ifmp_holds, counted_at, packet_holds, default_holds, frame_holds, sends_again, ticks_port, ticks_ports, ticks_by}
+use Rattle.claims_model.specs.world_model.ipv4_packet.Packet.{first_fault}
+use Rattle.claims_model.specs.world_model.ipv4_forward.declared.outcome.Hop.TheVariants.{NoRoute, Expired}
+use Rattle.claims_model.specs.world_model.ifmp_wire.declared.message.Message.{Message as IfmpMessage}
+use Rattle.claims_model.specs.world_model.ifmp_wire.declared.reader.Fault.{Fault as IfmpFault}
+use Rattle.claims_model.specs.world_model.ifmp_wire.Fields.{decoded as ifmp_decoded}
+use Rattle.claims_model.specs.world_model.gsmp_wire.Fields.{decoded as gsmp_decoded}
+use Rattle.claims_model.specs.world_model.gsmp_wire.declared.fault.Fault.{Fault as GsmpFault}
+use Rattle.claims_model.specs.world_model.gsmp_wire.declared.message.Message.{Message}
+use Rattle.claims_model.specs.world_model.gsmp_wire.declared.message.Message.TheVariants as messages
+use Rattle.claims_model.specs.world_model.gsmp_wire.declared.request.Request.TheVariants.{DeleteAll, AllPorts}
+use Rattle.claims_model.specs.world_model.adjacency_table.declared.message.Answer.TheVariants.{Reset}
+use Rattle.claims_model.specs.world_model.adjacency_table.Side as sides
+use Rattle.claims_model.specs.world_model.adjacency_table.Side.{counted}
+use Rattle.claims_model.specs.world_model.frame_model.Reassembly.{Taken, taken}
+use Rattle.claims_model.specs.world_model.port_model.Desk.{message_at}
+use Rattle.claims_model.specs.world_model.port_model.Answers as port_answers
+use Rattle.claims_model.specs.world_model.port_model.Joins as port_joins
+use Rattle.claims_model.specs.world_model.port_model.Resets.{cleared}
+use Rattle.claims_model.specs.world_model.port_model.Ticks as port_ticks
 use Rattle.law_port_facts.specs.Port.{Lives}
 use Rattle.law_port_facts.proofs.Keyed.{on_both}
 use Rattle.law_port_facts.proofs.Steps.{Goes}
@@ -29,14 +29,14 @@ use Rattle.law_port_facts.proofs.Rules.{used_goes, counts_goes, done_goes}
 use Rattle.law_port_facts.proofs.Hearings.{hears_goes, ticks_goes}
 use Rattle.law_port_facts.proofs.Instances.{goes_gave, closes_gave, parted_gave, joined_gave, lent_gave, given_back_gave}
 use Rattle.law_port_facts.proofs.Halting.{EndsOnce, goes_once, closes_once, parted_none, joined_none, lent_none, given_back_none}
-use Rattle.world_model.specs.Controller.{Acted, free_slots, ports_of, note}
-use Rattle.world_model.specs.Sending.{sends}
-use Rattle.world_model.specs.Joins.{Join, output_of}
-use Rattle.world_model.specs.Meeting.{done}
-use Rattle.world_model.specs.Gsmp.{answers, steps, told}
-use Rattle.world_model.specs.Packets.{forwarded}
-use Rattle.world_model.specs.Cells.{Taker, opened_frame, ends_frame, after_cell, cell_comes}
-use Rattle.world_model.specs.Ticks.{ticks}
+use Rattle.claims_model.specs.world_model.Controller.{Acted, free_slots, ports_of, note}
+use Rattle.claims_model.specs.world_model.Sending.{sends}
+use Rattle.claims_model.specs.world_model.Joins.{Join, output_of}
+use Rattle.claims_model.specs.world_model.Meeting.{done}
+use Rattle.claims_model.specs.world_model.Gsmp.{answers, steps, told}
+use Rattle.claims_model.specs.world_model.Packets.{forwarded}
+use Rattle.claims_model.specs.world_model.Cells.{Taker, opened_frame, ends_frame, after_cell, cell_comes}
+use Rattle.claims_model.specs.world_model.Ticks.{ticks}
 use Rattle.law_controller_facts.proofs.Lifetimes.{decoded_lives}
 use Rattle.law_controller_facts.proofs.Moves.{HasPorts, found_port, moves_ports}
 use Rattle.law_controller_facts.proofs.Events.{routes_goes, by_taker, kept_ports}

@@ -2,16 +2,16 @@
 
 use Rattle.std.proofs.Common.{◌≡◌, ℕ, ◌≤◌, ◌+◌, Bool, true, false, List, [], ◌∷◌, length, Option, None, Some, refl, ◌∙◌, ap, arith, if◌then◌else◌, map, fold}
 use Rattle.std.specs.Prelude.{◌==◌, nat_le}
-use Rattle.world_model.specs.Words.{PortNo, Channel, End, Mark, Party, with_control, next_control, Side, is_estab, Request, MoveBranch, Loss, PoolFull, noted, frame_cells, made, nothing_taken, is_led_home, last_transaction, Action, Say, Ask, Note, CutChain, TakeBack, Withdraw, home_of, Work, resets, restarts, Controller, Linked, port_key, linked_at, with_linked, with_desk, chains_with, default_channel, default_home, sends_control, says_gsmp, asks_next, asks, takes_back, cuts_of, cuts_label, cuts_default_of, cuts_default, cuts_gsmp, begins, with_work, closes_by, port_restarts_as, port_restarts_of, port_restarts, resets_gsmp, node_resets, node_restarts, does, does_in_estab, resets_of, resets_port, performs, performs_in_estab, Rule, works_as, works, at_port}
-use Rattle.world_model.specs.gsmp_wire.Layout.{octets_of as gsmp_octets}
-use Rattle.world_model.specs.gsmp_wire.declared.message.Message.{Message as GsmpMessage}
-use Rattle.world_model.specs.frame_model.Sending.{Sent}
-use Rattle.world_model.specs.port_model.Desk.{asked, message_at}
-use Rattle.world_model.specs.port_model.declared.action.Action.TheVariants.{Reset}
+use Rattle.claims_model.specs.world_model.Words.{PortNo, Channel, End, Mark, Party, with_control, next_control, Side, is_estab, Request, MoveBranch, Loss, PoolFull, noted, frame_cells, made, nothing_taken, is_led_home, last_transaction, Action, Say, Ask, Note, CutChain, TakeBack, Withdraw, home_of, Work, resets, restarts, Controller, Linked, port_key, linked_at, with_linked, with_desk, chains_with, default_channel, default_home, sends_control, says_gsmp, asks_next, asks, takes_back, cuts_of, cuts_label, cuts_default_of, cuts_default, cuts_gsmp, begins, with_work, closes_by, port_restarts_as, port_restarts_of, port_restarts, resets_gsmp, node_resets, node_restarts, does, does_in_estab, resets_of, resets_port, performs, performs_in_estab, Rule, works_as, works, at_port}
+use Rattle.claims_model.specs.world_model.gsmp_wire.Layout.{octets_of as gsmp_octets}
+use Rattle.claims_model.specs.world_model.gsmp_wire.declared.message.Message.{Message as GsmpMessage}
+use Rattle.claims_model.specs.world_model.frame_model.Sending.{Sent}
+use Rattle.claims_model.specs.world_model.port_model.Desk.{asked, message_at}
+use Rattle.claims_model.specs.world_model.port_model.declared.action.Action.TheVariants.{Reset}
 use Rattle.law_port_facts.proofs.Keyed.{on_both, on_each, put_length}
 use Rattle.law_port_facts.proofs.Halting.{resets_among, resets_one}
-use Rattle.world_model.specs.Controller.{Acted, free_slots, ports_of, note}
-use Rattle.world_model.specs.Sending.{with_cells, sends}
+use Rattle.claims_model.specs.world_model.Controller.{Acted, free_slots, ports_of, note}
+use Rattle.claims_model.specs.world_model.Sending.{with_cells, sends}
 
 -- what a node reset would draw: in Estab one for the node and one for each port, and else it was reset before
 abbrev pub left_by : Bool → ℕ → ℕ

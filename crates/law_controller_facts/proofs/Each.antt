@@ -2,17 +2,17 @@
 
 use Rattle.std.proofs.Common.{◌≡◌, ℕ, List, Some}
 use Rattle.std.specs.Prelude.{Result}
-use Rattle.world_model.specs.Words.{PortNo, Channel, End, Mark, Party, RouteChange, Cell, is_estab, Request, MoveBranch, Action, Setup, home_of, Work, Linked, linked_at, sends_control, asks, takes_back, withdraws_input, begins, node_resets, node_restarts, Rule, resets_port, performs_in_estab, works_as, at_port, routes, releases_input, resets_spent, releases, tries_join, tries_joins, begins_change, takes_changes, change_comes, meets, causes, clears, gsmp_holds, sends_again, ticks_port, ticks_ports}
-use Rattle.world_model.specs.adjacency_table.Side as sides
-use Rattle.world_model.specs.gsmp_wire.declared.fault.Fault.{Fault}
-use Rattle.world_model.specs.gsmp_wire.declared.message.Message.{Message}
+use Rattle.claims_model.specs.world_model.Words.{PortNo, Channel, End, Mark, Party, RouteChange, Cell, is_estab, Request, MoveBranch, Action, Setup, home_of, Work, Linked, linked_at, sends_control, asks, takes_back, withdraws_input, begins, node_resets, node_restarts, Rule, resets_port, performs_in_estab, works_as, at_port, routes, releases_input, resets_spent, releases, tries_join, tries_joins, begins_change, takes_changes, change_comes, meets, causes, clears, gsmp_holds, sends_again, ticks_port, ticks_ports}
+use Rattle.claims_model.specs.world_model.adjacency_table.Side as sides
+use Rattle.claims_model.specs.world_model.gsmp_wire.declared.fault.Fault.{Fault}
+use Rattle.claims_model.specs.world_model.gsmp_wire.declared.message.Message.{Message}
 use Rattle.law_port_facts.specs.Port.{IsLabelEnd, IsShaped, IsAction}
-use Rattle.world_model.specs.Controller.{Acted}
-use Rattle.world_model.specs.Sending.{sends}
-use Rattle.world_model.specs.Meeting.{done}
-use Rattle.world_model.specs.Gsmp.{steps}
-use Rattle.world_model.specs.Cells.{cell_comes}
-use Rattle.world_model.specs.Ticks.{ticks}
+use Rattle.claims_model.specs.world_model.Controller.{Acted}
+use Rattle.claims_model.specs.world_model.Sending.{sends}
+use Rattle.claims_model.specs.world_model.Meeting.{done}
+use Rattle.claims_model.specs.world_model.Gsmp.{steps}
+use Rattle.claims_model.specs.world_model.Cells.{cell_comes}
+use Rattle.claims_model.specs.world_model.Ticks.{ticks}
 use Rattle.law_controller_facts.specs.Sound.{IsSound, NeverFall}
 use Rattle.law_controller_facts.proofs.Moves.{IsGsmpTurn, Worked, Found, sending, sending_control, withdrawing, Moves, moves_to}
 use Rattle.law_controller_facts.proofs.Performing.{node_resets_goes, node_restarts_goes, asks_goes, takes_back_goes, resets_port_goes, performs_in_estab_goes, works_as_goes, at_port_goes}

@@ -3,15 +3,15 @@
 use Rattle.std.proofs.Common.{◌≡◌, ℕ, true, List, [], ◌∷◌, Option, None, Some, refl, sym, ◌∙◌, ap, subst, map}
 use Rattle.std.specs.Prelude.{not, nat_lt, ◌&&◌, is_none, flat_map, length}
 use Rattle.std.specs.Option.{option_map, option_and_then}
-use Rattle.world_model.specs.Words.{PortNo, End, number_of_channel, best, FlowId, next_hop_of, same_flow, flow_destination, MoveBranch, at, on_input, most_asked, Setup, home_of, label_end, Label, LabelState, Wiring, Offered, Recalled, Wired, label_number, Grant, GrantState, Idle, ByController, ByInput, Leaving, grant_label, grant_for, is_by_controller, label_at, labels_of, Controller, Linked, linked_at, begins, works, route_stays, port_by, join_through, join_by, join_for, is_offered, may_join, enters_grant, enters_label, joins, tries_label, label_on, tries_join, inputs_at, tries_joins}
+use Rattle.claims_model.specs.world_model.Words.{PortNo, End, number_of_channel, best, FlowId, next_hop_of, same_flow, flow_destination, MoveBranch, at, on_input, most_asked, Setup, home_of, label_end, Label, LabelState, Wiring, Offered, Recalled, Wired, label_number, Grant, GrantState, Idle, ByController, ByInput, Leaving, grant_label, grant_for, is_by_controller, label_at, labels_of, Controller, Linked, linked_at, begins, works, route_stays, port_by, join_through, join_by, join_for, is_offered, may_join, enters_grant, enters_label, joins, tries_label, label_on, tries_join, inputs_at, tries_joins}
 use Rattle.law_port_facts.specs.ordered_lists.Ordered.{Every}
-use Rattle.world_model.specs.port_model.Joins as port_joins
+use Rattle.claims_model.specs.world_model.port_model.Joins as port_joins
 use Rattle.law_port_facts.specs.Port.{IsLabelEnd, IsLabel, IsGrant, IsPort, joins_label}
 use Rattle.law_port_facts.proofs.Keyed.{on_each, at_every, apart_at}
 use Rattle.law_port_facts.proofs.Found.{find_passes}
 use Rattle.law_port_facts.proofs.Rules.{and_first}
-use Rattle.world_model.specs.Controller.{Acted}
-use Rattle.world_model.specs.Joins.{Join, output_of}
+use Rattle.claims_model.specs.world_model.Controller.{Acted}
+use Rattle.claims_model.specs.world_model.Joins.{Join, output_of}
 use Rattle.law_controller_facts.proofs.Moves.{by_joining, by_lending, Found, stays, HasPorts, found_setup, found_at_own, found_port, moves_fold, goes_on}
 use Rattle.law_controller_facts.proofs.Performing.{To, asks_goes, at_port_goes}
 use Rattle.law_controller_facts.proofs.Joining.{every_flat_map, labels_at, same_image, image_is, each_there}

@@ -3,39 +3,39 @@
 use Rattle.std.proofs.Common.{◌≡◌, ℕ, true, List, [], ◌∷◌, Option, None, Some, refl, if◌then◌else◌, map, fold, inl, inr}
 use Rattle.std.specs.Prelude.{nat_lt, ◌&&◌, ◌==◌, drop, flat_map, find, Result, Ok, Err}
 use Rattle.std.specs.Option.{option_and_then}
-use Rattle.world_model.specs.Words.{PortNo, Channel, Mark, Party, label_number_of, protocol_of, source_of, PacketFault, hop_of, onward, Hop, Here, On, Cell, kind_of, default_payload, labelled_payload, EncapsFault, default_unwrapped, unwrapped, PortRow, Request, AddBranch, MoveBranch, DeleteTree, VerifyTree, PortManagement, Said, Answer, Quiet, Send, Open, is_estab, ticked, greeting_of, gsmp_answer, gsmp_received, Unbound, Bad, Loss, Delivered, Dropped, encaps_refusal, packet_refusal, ifmp_refusal, gsmp_refusal, Reassembly, Tested, tested, last_mark, next_mark, Standing, empty_desk, sent_again, Head, head_of, is_of_type, Answered, Unknown, Done, Ports, Failed, succeeded, outcome, answered_with, after_answer, Setup, control_end, Label, is_bound, Grant, label_at, counts, used, hears, Linked, linked_at, with_linked, with_desk, chains_with, default_channel, default_end, default_home, sends_control, says_gsmp, asks, sends_request, releases, tries_joins, meets, up_ports, empties, default_branches, ends_meeting, has_emptied, port_of_input, tells_port, behind_delete_all, causes_in_estab, causes, may_clear, clears_of, clears_port, clears, takes_answer, answer_comes, gsmp_holds, is_control, sends_next, goes_by, grant_by, routes, control_protocol, ForGsmp, ForDefault, ForLabel, port_on, on_link, same_channel, label_taker, taker_at, reassembly_of, with_reassembly, label_holds, ifmp_holds, counted_at, packet_holds, default_holds, frame_holds, takes_cell, sends_again, ticks_port, ticks_ports, ticks_by}
-use Rattle.world_model.specs.ipv4_packet.Packet.{first_fault}
-use Rattle.world_model.specs.ipv4_forward.declared.outcome.Hop.TheVariants.{NoRoute, Expired}
-use Rattle.world_model.specs.ifmp_wire.declared.message.Message.{Message as IfmpMessage}
-use Rattle.world_model.specs.ifmp_wire.declared.reader.Fault.{Fault as IfmpFault}
-use Rattle.world_model.specs.ifmp_wire.Fields.{decoded as ifmp_decoded}
-use Rattle.world_model.specs.gsmp_wire.Fields.{decoded as gsmp_decoded}
-use Rattle.world_model.specs.gsmp_wire.declared.fault.Fault.{Fault as GsmpFault}
-use Rattle.world_model.specs.gsmp_wire.declared.message.Message.{Message}
-use Rattle.world_model.specs.gsmp_wire.declared.message.Message.TheVariants as messages
-use Rattle.world_model.specs.gsmp_wire.declared.request.Request.TheVariants.{DeleteAll, AllPorts}
-use Rattle.world_model.specs.adjacency_table.declared.message.Answer.TheVariants.{Reset}
-use Rattle.world_model.specs.adjacency_table.Side as sides
-use Rattle.world_model.specs.link_model.declared.record.Layer.TheVariants as layers
-use Rattle.world_model.specs.link_model.declared.record.DropCause.TheVariants as causes_of
-use Rattle.world_model.specs.frame_model.Reassembly.{Taken, taken}
+use Rattle.claims_model.specs.world_model.Words.{PortNo, Channel, Mark, Party, label_number_of, protocol_of, source_of, PacketFault, hop_of, onward, Hop, Here, On, Cell, kind_of, default_payload, labelled_payload, EncapsFault, default_unwrapped, unwrapped, PortRow, Request, AddBranch, MoveBranch, DeleteTree, VerifyTree, PortManagement, Said, Answer, Quiet, Send, Open, is_estab, ticked, greeting_of, gsmp_answer, gsmp_received, Unbound, Bad, Loss, Delivered, Dropped, encaps_refusal, packet_refusal, ifmp_refusal, gsmp_refusal, Reassembly, Tested, tested, last_mark, next_mark, Standing, empty_desk, sent_again, Head, head_of, is_of_type, Answered, Unknown, Done, Ports, Failed, succeeded, outcome, answered_with, after_answer, Setup, control_end, Label, is_bound, Grant, label_at, counts, used, hears, Linked, linked_at, with_linked, with_desk, chains_with, default_channel, default_end, default_home, sends_control, says_gsmp, asks, sends_request, releases, tries_joins, meets, up_ports, empties, default_branches, ends_meeting, has_emptied, port_of_input, tells_port, behind_delete_all, causes_in_estab, causes, may_clear, clears_of, clears_port, clears, takes_answer, answer_comes, gsmp_holds, is_control, sends_next, goes_by, grant_by, routes, control_protocol, ForGsmp, ForDefault, ForLabel, port_on, on_link, same_channel, label_taker, taker_at, reassembly_of, with_reassembly, label_holds, ifmp_holds, counted_at, packet_holds, default_holds, frame_holds, takes_cell, sends_again, ticks_port, ticks_ports, ticks_by}
+use Rattle.claims_model.specs.world_model.ipv4_packet.Packet.{first_fault}
+use Rattle.claims_model.specs.world_model.ipv4_forward.declared.outcome.Hop.TheVariants.{NoRoute, Expired}
+use Rattle.claims_model.specs.world_model.ifmp_wire.declared.message.Message.{Message as IfmpMessage}
+use Rattle.claims_model.specs.world_model.ifmp_wire.declared.reader.Fault.{Fault as IfmpFault}
+use Rattle.claims_model.specs.world_model.ifmp_wire.Fields.{decoded as ifmp_decoded}
+use Rattle.claims_model.specs.world_model.gsmp_wire.Fields.{decoded as gsmp_decoded}
+use Rattle.claims_model.specs.world_model.gsmp_wire.declared.fault.Fault.{Fault as GsmpFault}
+use Rattle.claims_model.specs.world_model.gsmp_wire.declared.message.Message.{Message}
+use Rattle.claims_model.specs.world_model.gsmp_wire.declared.message.Message.TheVariants as messages
+use Rattle.claims_model.specs.world_model.gsmp_wire.declared.request.Request.TheVariants.{DeleteAll, AllPorts}
+use Rattle.claims_model.specs.world_model.adjacency_table.declared.message.Answer.TheVariants.{Reset}
+use Rattle.claims_model.specs.world_model.adjacency_table.Side as sides
+use Rattle.claims_model.specs.world_model.link_model.declared.record.Layer.TheVariants as layers
+use Rattle.claims_model.specs.world_model.link_model.declared.record.DropCause.TheVariants as causes_of
+use Rattle.claims_model.specs.world_model.frame_model.Reassembly.{Taken, taken}
 use Rattle.law_port_facts.specs.ordered_lists.Ordered.{Every}
-use Rattle.world_model.specs.port_model.Messages.{is_up}
-use Rattle.world_model.specs.port_model.Answers as port_answers
-use Rattle.world_model.specs.port_model.Resets.{cleared}
-use Rattle.world_model.specs.port_model.Ticks as port_ticks
+use Rattle.claims_model.specs.world_model.port_model.Messages.{is_up}
+use Rattle.claims_model.specs.world_model.port_model.Answers as port_answers
+use Rattle.claims_model.specs.world_model.port_model.Resets.{cleared}
+use Rattle.claims_model.specs.world_model.port_model.Ticks as port_ticks
 use Rattle.law_port_facts.specs.Port.{IsLinked, IsDefaultEnd, Lives, IsShaped, asks_ports, empties_control, empties_port, opens_input, opens_output}
 use Rattle.law_port_facts.proofs.Keyed.{on_both, on_each}
 use Rattle.law_port_facts.proofs.Found.{find_every}
 use Rattle.law_port_facts.proofs.Rules.{used_goes, counts_goes, done_goes}
 use Rattle.law_port_facts.proofs.Hearings.{hears_goes, ticks_goes}
-use Rattle.world_model.specs.Controller.{Acted, free_slots, ports_of}
-use Rattle.world_model.specs.Sending.{sends}
-use Rattle.world_model.specs.Meeting.{done}
-use Rattle.world_model.specs.Gsmp.{answers, steps, told}
-use Rattle.world_model.specs.Packets.{forwarded}
-use Rattle.world_model.specs.Cells.{Taker, opened_frame, after_test, ends_frame, after_cell, cell_comes}
-use Rattle.world_model.specs.Ticks.{ticks}
+use Rattle.claims_model.specs.world_model.Controller.{Acted, free_slots, ports_of}
+use Rattle.claims_model.specs.world_model.Sending.{sends}
+use Rattle.claims_model.specs.world_model.Meeting.{done}
+use Rattle.claims_model.specs.world_model.Gsmp.{answers, steps, told}
+use Rattle.claims_model.specs.world_model.Packets.{forwarded}
+use Rattle.claims_model.specs.world_model.Cells.{Taker, opened_frame, after_test, ends_frame, after_cell, cell_comes}
+use Rattle.claims_model.specs.world_model.Ticks.{ticks}
 use Rattle.law_controller_facts.proofs.Lifetimes.{decoded_lives}
 use Rattle.law_controller_facts.proofs.Moves.{IsGsmpTurn, hears as hears_greeting, ages, by_rule, Found, noting, taking_notes, sending, sending_control, answering, meeting, ending_meeting, turning, clearing, gathering, chaining, stays, moves_to, further, HasPorts, IsShapedStanding, found_at_own, found_port, moves_ports, moves_fold, goes_on}
 use Rattle.law_controller_facts.proofs.Performing.{To, Any, any_ports, ports_linked, says_gsmp_goes, node_resets_goes, sends_request_goes, asks_goes, asks_each, at_port_goes}

@@ -2,21 +2,21 @@
 
 use Rattle.std.proofs.Common.{ℕ, ◌<◌, List, [], ◌∷◌, length, None, Some, refl, sym, subst, arith}
 use Rattle.std.specs.Prelude.{◌+◌, ◌^◌, nat_le}
-use Rattle.world_model.specs.Words.{Channel, Mark, next_control, with_control, Redirect, Reclaim, ReclaimAck, LabelRange, Error, InRange, Loss, PoolFull, noted, frame_cells, made, Desk, empty_desk, Setup, Work, label_at, Controller, port_key, setup_of, opens_ports}
-use Rattle.world_model.specs.ifmp_wire.declared.message.Message.{Message}
-use Rattle.world_model.specs.ifmp_wire.declared.message.Message.TheVariants.{Adjacency}
-use Rattle.world_model.specs.frame_model.Sending.{Sent}
+use Rattle.claims_model.specs.world_model.Words.{Channel, Mark, next_control, with_control, Redirect, Reclaim, ReclaimAck, LabelRange, Error, InRange, Loss, PoolFull, noted, frame_cells, made, Desk, empty_desk, Setup, Work, label_at, Controller, port_key, setup_of, opens_ports}
+use Rattle.claims_model.specs.world_model.ifmp_wire.declared.message.Message.{Message}
+use Rattle.claims_model.specs.world_model.ifmp_wire.declared.message.Message.TheVariants.{Adjacency}
+use Rattle.claims_model.specs.world_model.frame_model.Sending.{Sent}
 use Rattle.law_port_facts.specs.ordered_lists.Ordered.{Every}
-use Rattle.world_model.specs.port_model.Port.{Port}
-use Rattle.world_model.specs.port_model.Resets.{cleared}
+use Rattle.claims_model.specs.world_model.port_model.Port.{Port}
+use Rattle.claims_model.specs.world_model.port_model.Resets.{cleared}
 use Rattle.law_port_facts.specs.Port.{IsHeard, HasFlows}
 use Rattle.law_port_facts.proofs.Keyed.{on_both, at_every, put_every}
 use Rattle.law_port_facts.proofs.Rules.{counts_goes, done_goes}
 use Rattle.law_port_facts.proofs.Hearings.{hears_goes, ticks_goes}
 use Rattle.law_port_facts.proofs.Said.{goes_flows, closes_flows_of, resets_flows, parted_flows, lent_flows, given_back_flows, goes_said, given_back_said}
-use Rattle.world_model.specs.controller_model.declared.range.PortRange.{PortRange}
-use Rattle.world_model.specs.Controller.{Acted, free_slots}
-use Rattle.world_model.specs.Sending.{with_cells, sends}
+use Rattle.claims_model.specs.world_model.controller_model.declared.range.PortRange.{PortRange}
+use Rattle.claims_model.specs.world_model.Controller.{Acted, free_slots}
+use Rattle.claims_model.specs.world_model.Sending.{with_cells, sends}
 use Rattle.law_controller_facts.specs.Inputs.{Input, CellComes, PacketEnters, Ticks, Restarts, ChangeComes, FrameIsForged, CellLeaves, Meanwhile, takes_input, takes_inputs}
 use Rattle.law_controller_facts.specs.Sound.{IsSound, IsOwn, Always, opened_by, setups_by}
 use Rattle.law_controller_facts.specs.Said.{HasFlowsAt, HasFlowingPorts, SaysInRange}

@@ -4,16 +4,16 @@ use Rattle.std.proofs.Common.{◌≡◌, ℕ, Bool, true, false, List, [], ◌�
 use Rattle.std.specs.Prelude.{◌+◌, filter, flat_map}
 use Rattle.std.specs.List.{filter_map, cons_option}
 use Rattle.std.specs.Option.{option_map}
-use Rattle.world_model.specs.Words.{PortNo, End, number_of_channel, changed, RouteChange, Request, Part, Routes, same_end, at, put, in_order, Setup, label_end, is_in_range, Label, Grant, grant_label, label_at, labels_of, joins_label, parted, given_back, closes, Linked, port_key, linked_at, begins, works, works_as, join_to, joins_at, end_le, joins_of, join_of, parts, releases_join, releases_input, released_inputs, resets_spent, releases, is_changed, changed_joins, takes_join_back, begins_change, takes_change, may_take, takes_each, takes_changes, change_comes}
+use Rattle.claims_model.specs.world_model.Words.{PortNo, End, number_of_channel, changed, RouteChange, Request, Part, Routes, same_end, at, put, in_order, Setup, label_end, is_in_range, Label, Grant, grant_label, label_at, labels_of, joins_label, parted, given_back, closes, Linked, port_key, linked_at, begins, works, works_as, join_to, joins_at, end_le, joins_of, join_of, parts, releases_join, releases_input, released_inputs, resets_spent, releases, is_changed, changed_joins, takes_join_back, begins_change, takes_change, may_take, takes_each, takes_changes, change_comes}
 use Rattle.law_port_facts.specs.ordered_lists.Ordered.{Every, InOrder}
 use Rattle.law_port_facts.proofs.ordered_lists.Every.{every_join, every_map}
 use Rattle.law_port_facts.proofs.ordered_lists.InOrder.{order_unmapped}
-use Rattle.world_model.specs.port_model.Grants.{input_of}
+use Rattle.claims_model.specs.world_model.port_model.Grants.{input_of}
 use Rattle.law_port_facts.specs.Port.{IsLabelEnd, IsGrant, IsPort, parts_label}
 use Rattle.law_port_facts.proofs.Keyed.{on_both, by_eq, at_key, at_every, at_put_same, at_put_other, entered_every, each_found}
 use Rattle.law_port_facts.proofs.Found.{find_every}
-use Rattle.world_model.specs.Controller.{Acted, ports_of, note}
-use Rattle.world_model.specs.Joins.{Join, output_of}
+use Rattle.claims_model.specs.world_model.Controller.{Acted, ports_of, note}
+use Rattle.claims_model.specs.world_model.Joins.{Join, output_of}
 use Rattle.law_controller_facts.specs.Sound.{linked_setup, IsLinkedPort, AreApart}
 use Rattle.law_controller_facts.proofs.Moves.{by_closing, by_parting, by_giving_back, Found, noting, routing, stays, moves_to, further, HasPorts, found_setup, found_at_own, found_port, moves_fold, goes_on}
 use Rattle.law_controller_facts.proofs.Performing.{To, Any, any_ports, takes_back_goes, at_port_goes}

@@ -3,13 +3,13 @@
 use Rattle.std.proofs.Common.{◌≡◌, ◌≢◌, ℕ, ◌≤◌, List, [], ◌∷◌, Option, None, Some, refl, ap, arith, map, ◌+◌, length, ◌*◌}
 use Rattle.std.proofs.lemmas.List.{length-map}
 use Rattle.std.specs.Prelude.{drop}
-use Rattle.world_model.specs.Words.{Refusal, Setup, setup_of, opens_ports, inject_refusal, injected}
+use Rattle.claims_model.specs.world_model.Words.{Refusal, Setup, setup_of, opens_ports, inject_refusal, injected}
 use Rattle.law_port_facts.specs.ordered_lists.Ordered.{Every, InOrder}
 use Rattle.law_port_facts.proofs.ordered_lists.InOrder.{order_mapped}
 use Rattle.law_port_facts.proofs.Joins.{begun_kept}
-use Rattle.world_model.specs.controller_model.declared.range.PortRange.{PortRange}
-use Rattle.world_model.specs.Controller.{Acted}
-use Rattle.world_model.specs.Sending.{sends}
+use Rattle.claims_model.specs.world_model.controller_model.declared.range.PortRange.{PortRange}
+use Rattle.claims_model.specs.world_model.Controller.{Acted}
+use Rattle.claims_model.specs.world_model.Sending.{sends}
 use Rattle.law_controller_facts.specs.Inputs.{Input, CellComes, PacketEnters, Ticks, Restarts, ChangeComes, FrameIsForged, CellLeaves, Meanwhile, enters_unless, takes_input, takes_inputs}
 use Rattle.law_controller_facts.specs.Sound.{linked_setup, IsLinkedPort, AreApart, IsSound, HasSoundSide, HasSoundPorts, HasShapedRequests, HasSoundDesk, HasShutPorts, IsShutLinked, Always, IsOwn, NumbersNeverFall, DrawsFewInstances, DrawsFewMarks, Opening, opened_by, setups_by}
 use Rattle.law_controller_facts.proofs.Moves.{Moves, stays, moves_to, sending, popping, HasPorts, moves_ports, moves_keep}

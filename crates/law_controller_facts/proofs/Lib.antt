@@ -1,6 +1,7 @@
 pub use Rattle.law_port_facts.proofs.octet_fields as octet_fields
 pub use Rattle.law_port_facts.proofs.ordered_lists as ordered_lists
 pub use Rattle.law_port_facts.proofs as law_port_facts
+pub use Rattle.claims_model.proofs.world_model as world_model
 pub mod Onward
 pub mod Moves
 pub mod Nodes

@@ -5,14 +5,14 @@ use Rattle.std.specs.Prelude.{nat_le, nat_lt, not, drop, slice_index, ◌&&◌, 
 use Rattle.std.specs.Option.{option_or}
 use Rattle.std.proofs.lemmas.Bool.Decides.{nat_tests}
 use Rattle.law_port_facts.specs.octet_fields.Fields.{u16_at}
-use Rattle.world_model.specs.ifmp_wire.declared.message.Message.{Message}
-use Rattle.world_model.specs.ifmp_wire.declared.reader.Fault.{Fault}
-use Rattle.world_model.specs.Words.{ZeroLifetime, FlowFields, op_at, head_fault, kind_fault, kind_at, lifetime_fault, identifier_fault, flow_fault, body_fault, flow_in, flow_at, FlowKind, IsFlow, has_ports, has_fields}
-use Rattle.world_model.specs.ifmp_wire.declared.reader.Fault.TheVariants.{Reserved}
-use Rattle.world_model.specs.ifmp_wire.Tests.{first_fault}
-use Rattle.world_model.specs.ifmp_wire.Fields.{decoded, decoded_by, message_at}
-use Rattle.world_model.specs.ipv4_packet.declared.flow.FlowKind.TheVariants.{One as ConnectionKind, Two as HostsKind}
-use Rattle.world_model.specs.ipv4_packet.Identifier.{has_zeros}
+use Rattle.claims_model.specs.world_model.ifmp_wire.declared.message.Message.{Message}
+use Rattle.claims_model.specs.world_model.ifmp_wire.declared.reader.Fault.{Fault}
+use Rattle.claims_model.specs.world_model.Words.{ZeroLifetime, FlowFields, op_at, head_fault, kind_fault, kind_at, lifetime_fault, identifier_fault, flow_fault, body_fault, flow_in, flow_at, FlowKind, IsFlow, has_ports, has_fields}
+use Rattle.claims_model.specs.world_model.ifmp_wire.declared.reader.Fault.TheVariants.{Reserved}
+use Rattle.claims_model.specs.world_model.ifmp_wire.Tests.{first_fault}
+use Rattle.claims_model.specs.world_model.ifmp_wire.Fields.{decoded, decoded_by, message_at}
+use Rattle.claims_model.specs.world_model.ipv4_packet.declared.flow.FlowKind.TheVariants.{One as ConnectionKind, Two as HostsKind}
+use Rattle.claims_model.specs.world_model.ipv4_packet.Identifier.{has_zeros}
 use Rattle.law_port_facts.specs.Port.{Lives}
 use Rattle.law_port_facts.proofs.Keyed.{on_both, on_each}
 use Rattle.law_port_facts.proofs.Rules.{and_second, and_first}

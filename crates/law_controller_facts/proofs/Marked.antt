@@ -5,21 +5,21 @@ use Rattle.std.specs.Prelude.{not, ◌&&◌, ◌||◌, nat_lt, take, filter, fla
 use Rattle.std.specs.List.{filter_map, cons_option, list_any}
 use Rattle.std.proofs.lemmas.List.{length-map}
 use Rattle.std.proofs.lemmas.List.{length-take}
-use Rattle.world_model.specs.Words.{PortNo, End, label_channel_of, number_of_channel, RouteChange, Request, AddBranch, MoveBranch, DeleteTree, VerifyTree, PortManagement, is_estab, Part, leads_home, Setup, home_of, Label, Grant, GrantState, Idle, ByController, ByInput, Leaving, grant_label, Session, Work, with_session, with_grants, without_grant, label_at, Unnumbered, closes, tells, tells_in, reclaim_ack, own_of, last_number, spent_number, Linked, with_linked, default_end, default_home, asks, begins, join_to, joins_at, end_le, joins_of, join_of, parts, gives_back, releases_join, releases_input, released_inputs, resets_spent, releases, joins, is_changed, changed_joins, takes_join_back, begins_change, takes_change, may_take, takes_each, takes_changes, up_ports, default_branches, ends_meeting, has_emptied, port_of_input, tells_port, behind_delete_all, causes_in_estab, causes, may_clear, clears_of, same_end, put, without, entered, in_order, Action, Say}
-use Rattle.world_model.specs.gsmp_wire.declared.request.Request.TheVariants.{DeleteAll, AllPorts}
-use Rattle.world_model.specs.port_model.Messages.{is_up}
-use Rattle.world_model.specs.port_model.Port.{acts}
-use Rattle.world_model.specs.port_model.Saying.{peer_of}
-use Rattle.world_model.specs.port_model.Answers as port_answers
-use Rattle.world_model.specs.port_model.Joins as port_joins
-use Rattle.world_model.specs.port_model.Resets.{cleared}
+use Rattle.claims_model.specs.world_model.Words.{PortNo, End, label_channel_of, number_of_channel, RouteChange, Request, AddBranch, MoveBranch, DeleteTree, VerifyTree, PortManagement, is_estab, Part, leads_home, Setup, home_of, Label, Grant, GrantState, Idle, ByController, ByInput, Leaving, grant_label, Session, Work, with_session, with_grants, without_grant, label_at, Unnumbered, closes, tells, tells_in, reclaim_ack, own_of, last_number, spent_number, Linked, with_linked, default_end, default_home, asks, begins, join_to, joins_at, end_le, joins_of, join_of, parts, gives_back, releases_join, releases_input, released_inputs, resets_spent, releases, joins, is_changed, changed_joins, takes_join_back, begins_change, takes_change, may_take, takes_each, takes_changes, up_ports, default_branches, ends_meeting, has_emptied, port_of_input, tells_port, behind_delete_all, causes_in_estab, causes, may_clear, clears_of, same_end, put, without, entered, in_order, Action, Say}
+use Rattle.claims_model.specs.world_model.gsmp_wire.declared.request.Request.TheVariants.{DeleteAll, AllPorts}
+use Rattle.claims_model.specs.world_model.port_model.Messages.{is_up}
+use Rattle.claims_model.specs.world_model.port_model.Port.{acts}
+use Rattle.claims_model.specs.world_model.port_model.Saying.{peer_of}
+use Rattle.claims_model.specs.world_model.port_model.Answers as port_answers
+use Rattle.claims_model.specs.world_model.port_model.Joins as port_joins
+use Rattle.claims_model.specs.world_model.port_model.Resets.{cleared}
 use Rattle.law_port_facts.specs.Port.{IsPort}
 use Rattle.law_port_facts.proofs.Keyed.{on_both}
 use Rattle.law_port_facts.proofs.Rules.{done_goes}
-use Rattle.world_model.specs.Controller.{Acted, ports_of, note}
-use Rattle.world_model.specs.Joins.{Join, output_of}
+use Rattle.claims_model.specs.world_model.Controller.{Acted, ports_of, note}
+use Rattle.claims_model.specs.world_model.Joins.{Join, output_of}
 use Rattle.std.specs.Option.{option_map}
-use Rattle.world_model.specs.ipv4_forward.declared.table.Route.{Route}
+use Rattle.claims_model.specs.world_model.ipv4_forward.declared.table.Route.{Route}
 use Rattle.law_port_facts.specs.ordered_lists.Ordered.{Every}
 use Rattle.law_port_facts.proofs.Found.{find_every}
 use Rattle.law_port_facts.proofs.Weights.{weigh, still, tells_cost, closes_cost, grant_cost, gone_grant_cost, done_cost}

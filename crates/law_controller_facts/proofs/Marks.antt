@@ -2,14 +2,14 @@
 
 use Rattle.std.proofs.Common.{◌≡◌, ℕ, ◌≤◌, ◌+◌, ◌*◌, List, [], ◌∷◌, length, Option, None, Some, refl, ◌∙◌, arith, if◌then◌else◌, fold}
 use Rattle.std.specs.Prelude.{◌==◌}
-use Rattle.world_model.specs.Words.{PortNo, End, is_estab, Request, MoveBranch, is_led_home, last_transaction, Action, Say, Ask, Note, CutChain, TakeBack, Withdraw, Setup, home_of, Work, resets, restarts, Linked, linked_at, asks_next, asks, takes_back, cuts_of, cuts_label, begins, with_work, closes_by, port_restarts_of, port_restarts, resets_gsmp, node_resets, does, does_in_estab, resets_of, performs, performs_in_estab, Rule, works_as, works, at_port}
+use Rattle.claims_model.specs.world_model.Words.{PortNo, End, is_estab, Request, MoveBranch, is_led_home, last_transaction, Action, Say, Ask, Note, CutChain, TakeBack, Withdraw, Setup, home_of, Work, resets, restarts, Linked, linked_at, asks_next, asks, takes_back, cuts_of, cuts_label, begins, with_work, closes_by, port_restarts_of, port_restarts, resets_gsmp, node_resets, does, does_in_estab, resets_of, performs, performs_in_estab, Rule, works_as, works, at_port}
 use Rattle.law_port_facts.specs.ordered_lists.Ordered.{Every}
-use Rattle.world_model.specs.port_model.declared.action.Action.TheVariants.{Reset}
+use Rattle.claims_model.specs.world_model.port_model.declared.action.Action.TheVariants.{Reset}
 use Rattle.law_port_facts.specs.Port.{IsAction, IsWork}
 use Rattle.law_port_facts.proofs.Keyed.{on_both}
 use Rattle.law_port_facts.proofs.Weights.{weight, weigh, Costs}
 use Rattle.law_port_facts.proofs.Weighed.{resets_weight}
-use Rattle.world_model.specs.Controller.{Acted, ports_of}
+use Rattle.claims_model.specs.world_model.Controller.{Acted, ports_of}
 use Rattle.law_controller_facts.proofs.Moves.{Worked, worked_kept, Found, placing, moves_to, HasPorts, found_setup, found_at_own, found_port, begun, moves_ports}
 use Rattle.law_controller_facts.proofs.Performing.{To, performs_in_estab_goes}
 

@@ -4,23 +4,23 @@ use Rattle.std.proofs.Common.{◌≡◌, ℕ, suc, Bool, true, false, List, [], 
 use Rattle.std.specs.Prelude.{not, ◌==◌, ◌&&◌, nat_le, filter}
 use Rattle.std.specs.Option.{option_map}
 use Rattle.std.proofs.lemmas.Bool.Decides.{nat_tests}
-use Rattle.world_model.specs.Words.{PortNo, Channel, End, Mark, Greeting, Party, RouteChange, Cell, next_control, with_control, State, Clearing, SynSent, SynRcvd, Estab, Side, is_estab, ticked, gsmp_received, Record, Loss, PoolFull, Journal, noted, frame_cells, made, Reassembly, Request, at, put, is_on, withdraws, Desk, Standing, empty_desk, last_transaction, Answered, Unknown, Done, Ports, Failed, after_answer, Setup, Label, Offered, Grant, ByController, grant_label, Work, label_at, closes, parted, lent, given_back, resets, restarts, Controller, Linked, port_key, linked_at, with_linked, with_desk, sends_control, withdraws_input, begins, with_work, resets_gsmp, node_resets, may_clear, is_clearing, awaits_nothing}
-use Rattle.world_model.specs.ipv4_forward.declared.table.Route.{Route}
-use Rattle.world_model.specs.adjacency_table.Side as sides
-use Rattle.world_model.specs.frame_model.Sending.{Sent}
+use Rattle.claims_model.specs.world_model.Words.{PortNo, Channel, End, Mark, Greeting, Party, RouteChange, Cell, next_control, with_control, State, Clearing, SynSent, SynRcvd, Estab, Side, is_estab, ticked, gsmp_received, Record, Loss, PoolFull, Journal, noted, frame_cells, made, Reassembly, Request, at, put, is_on, withdraws, Desk, Standing, empty_desk, last_transaction, Answered, Unknown, Done, Ports, Failed, after_answer, Setup, Label, Offered, Grant, ByController, grant_label, Work, label_at, closes, parted, lent, given_back, resets, restarts, Controller, Linked, port_key, linked_at, with_linked, with_desk, sends_control, withdraws_input, begins, with_work, resets_gsmp, node_resets, may_clear, is_clearing, awaits_nothing}
+use Rattle.claims_model.specs.world_model.ipv4_forward.declared.table.Route.{Route}
+use Rattle.claims_model.specs.world_model.adjacency_table.Side as sides
+use Rattle.claims_model.specs.world_model.frame_model.Sending.{Sent}
 use Rattle.law_port_facts.specs.ordered_lists.Ordered.{Every}
-use Rattle.world_model.specs.port_model.Messages.{is_up}
-use Rattle.world_model.specs.port_model.Desk.{asked}
-use Rattle.world_model.specs.port_model.Port.{Port}
-use Rattle.world_model.specs.port_model.Joins.{joined}
-use Rattle.world_model.specs.port_model.Resets.{cleared}
+use Rattle.claims_model.specs.world_model.port_model.Messages.{is_up}
+use Rattle.claims_model.specs.world_model.port_model.Desk.{asked}
+use Rattle.claims_model.specs.world_model.port_model.Port.{Port}
+use Rattle.claims_model.specs.world_model.port_model.Joins.{joined}
+use Rattle.claims_model.specs.world_model.port_model.Resets.{cleared}
 use Rattle.law_port_facts.specs.Port.{setup_port, IsLabelEnd, IsPort, IsShaped, IsWork}
 use Rattle.law_port_facts.proofs.Keyed.{on_both, at_key, at_every, at_map, map_put, put_every, every_more}
 use Rattle.law_port_facts.proofs.Steps.{Goes}
 use Rattle.law_port_facts.proofs.Kept.{closes_kept, goes_kept}
 use Rattle.law_port_facts.proofs.Joins.{parted_kept, joined_kept, lent_kept, given_back_kept, resets_kept, restarts_kept, cleared_kept}
-use Rattle.world_model.specs.Controller.{Acted, free_slots, note}
-use Rattle.world_model.specs.Sending.{with_cells, sends}
+use Rattle.claims_model.specs.world_model.Controller.{Acted, free_slots, note}
+use Rattle.claims_model.specs.world_model.Sending.{with_cells, sends}
 use Rattle.law_controller_facts.specs.Sound.{linked_setup, IsLinkedPort, ArePorts}
 
 -- what a message or a tick makes of the side of the adjacency with the switch

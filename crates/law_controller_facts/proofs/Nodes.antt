@@ -2,12 +2,12 @@
 
 use Rattle.std.proofs.Common.{◌≡◌, List, length}
 use Rattle.std.specs.Prelude.{nat_le}
-use Rattle.world_model.specs.Words.{NodeId, next_control, Loss, noted, frame_cells, made, Setup, Controller}
-use Rattle.world_model.specs.link_model.declared.record.Cause.TheVariants as causes
-use Rattle.world_model.specs.frame_model.Sending.{Sent}
+use Rattle.claims_model.specs.world_model.Words.{NodeId, next_control, Loss, noted, frame_cells, made, Setup, Controller}
+use Rattle.claims_model.specs.world_model.link_model.declared.record.Cause.TheVariants as causes
+use Rattle.claims_model.specs.world_model.frame_model.Sending.{Sent}
 use Rattle.law_port_facts.proofs.Keyed.{on_both}
-use Rattle.world_model.specs.Controller.{Acted}
-use Rattle.world_model.specs.Sending.{with_cells}
+use Rattle.claims_model.specs.world_model.Controller.{Acted}
+use Rattle.claims_model.specs.world_model.Sending.{with_cells}
 use Rattle.law_controller_facts.proofs.Moves.{Move, noting, taking_notes, sending, sending_control, asking, withdrawing, answering, meeting, ending_meeting, turning, placing, clearing, gathering, chaining, routing, popping, Moves, moves_keep}
 
 -- *A controller* keeps its node

@@ -1,9 +1,9 @@
 -- the numbers that a run gives out never fall by what a controller does
 
 use Rattle.std.proofs.Common.{◌≡◌, ℕ, ◌≤◌, ◌+◌, List, refl, arith}
-use Rattle.world_model.specs.Words.{Setup, Work, Desk, begins, resets_gsmp}
+use Rattle.claims_model.specs.world_model.Words.{Setup, Work, Desk, begins, resets_gsmp}
 use Rattle.law_port_facts.proofs.Instances.{goes_gave, closes_gave, parted_gave, joined_gave, lent_gave, given_back_gave}
-use Rattle.world_model.specs.Controller.{Acted}
+use Rattle.claims_model.specs.world_model.Controller.{Acted}
 use Rattle.law_controller_facts.specs.Sound.{NeverFall}
 use Rattle.law_controller_facts.proofs.Moves.{Worked, by_rule, by_closing, by_reset, by_restart, by_parting, by_joining, by_lending, by_giving_back, Move, noting, taking_notes, sending, sending_control, asking, withdrawing, answering, meeting, ending_meeting, turning, placing, clearing, gathering, chaining, routing, popping, Moves, moves_keep}
 

@@ -4,10 +4,10 @@ use Rattle.std.proofs.Common.{◌≡◌, ℕ, zero, suc, ◌-◌, ◌/◌, ◌%�
 use Rattle.std.specs.Int.{w16, to_be_bytes}
 use Rattle.std.proofs.lemmas.Bool.Decides.{nat_tests}
 use Rattle.law_port_facts.proofs.octet_fields.FieldLemmas.{AreOctets, AreOctets-take, AreOctets-drop}
-use Rattle.world_model.specs.Words.{PacketFault, Version, Options, TooLong, Checksum, ttl_of, total_length_of, header_sum, with_ttl, canonical, canonical_checksum, IsPacket, onward}
-use Rattle.world_model.specs.ipv4_packet.declared.validate.PacketFault.TheVariants.{Short, Length}
-use Rattle.world_model.specs.ipv4_packet.Packet.{first_fault}
-use Rattle.world_model.proofs.flow_encaps.RebuiltLemmas.{AreOctets-pair}
+use Rattle.claims_model.specs.world_model.Words.{PacketFault, Version, Options, TooLong, Checksum, ttl_of, total_length_of, header_sum, with_ttl, canonical, canonical_checksum, IsPacket, onward}
+use Rattle.claims_model.specs.world_model.ipv4_packet.declared.validate.PacketFault.TheVariants.{Short, Length}
+use Rattle.claims_model.specs.world_model.ipv4_packet.Packet.{first_fault}
+use Rattle.claims_model.proofs.world_model.flow_encaps.RebuiltLemmas.{AreOctets-pair}
 
 -- *Octets*, behind a hop
 octets_append : (front back : List ℕ) → AreOctets front → AreOctets back → AreOctets (front ++ back)

@@ -2,18 +2,18 @@
 
 use Rattle.std.proofs.Common.{◌≡◌, ℕ, true, List, [], ◌∷◌, Option, None, Some, refl, sym, subst, if◌then◌else◌, map, fold}
 use Rattle.std.specs.Prelude.{◌==◌, is_some}
-use Rattle.world_model.specs.Words.{PortNo, End, is_estab, Request, MoveBranch, cut, nothing_taken, ifmp_packet_of, default_payload, at, Standing, is_led_home, last_transaction, Action, Say, Ask, Note, CutChain, TakeBack, Withdraw, Setup, home_of, Work, resets, restarts, Linked, linked_at, with_desk, chain_of, chains_with, default_channel, default_home, says_gsmp, says_ifmp, sends_request, asks_next, asks, takes_back, cuts_of, cuts_label, cuts_default_of, cuts_default, cuts_gsmp, begins, with_work, closes_by, port_restarts_of, port_restarts, resets_gsmp, node_resets, node_restarts, does, does_in_estab, resets_of, resets_port, performs, performs_in_estab, Rule, works_as, works, at_port}
-use Rattle.world_model.specs.gsmp_wire.Layout.{octets_of as gsmp_octets}
-use Rattle.world_model.specs.gsmp_wire.declared.message.Message.{Message as GsmpMessage}
-use Rattle.world_model.specs.ifmp_wire.declared.message.Message.{Message as IfmpMessage}
-use Rattle.world_model.specs.ifmp_wire.Message.{octets_of as ifmp_octets}
+use Rattle.claims_model.specs.world_model.Words.{PortNo, End, is_estab, Request, MoveBranch, cut, nothing_taken, ifmp_packet_of, default_payload, at, Standing, is_led_home, last_transaction, Action, Say, Ask, Note, CutChain, TakeBack, Withdraw, Setup, home_of, Work, resets, restarts, Linked, linked_at, with_desk, chain_of, chains_with, default_channel, default_home, says_gsmp, says_ifmp, sends_request, asks_next, asks, takes_back, cuts_of, cuts_label, cuts_default_of, cuts_default, cuts_gsmp, begins, with_work, closes_by, port_restarts_of, port_restarts, resets_gsmp, node_resets, node_restarts, does, does_in_estab, resets_of, resets_port, performs, performs_in_estab, Rule, works_as, works, at_port}
+use Rattle.claims_model.specs.world_model.gsmp_wire.Layout.{octets_of as gsmp_octets}
+use Rattle.claims_model.specs.world_model.gsmp_wire.declared.message.Message.{Message as GsmpMessage}
+use Rattle.claims_model.specs.world_model.ifmp_wire.declared.message.Message.{Message as IfmpMessage}
+use Rattle.claims_model.specs.world_model.ifmp_wire.Message.{octets_of as ifmp_octets}
 use Rattle.law_port_facts.specs.ordered_lists.Ordered.{Every}
-use Rattle.world_model.specs.port_model.Desk.{asked, message_at}
-use Rattle.world_model.specs.port_model.declared.action.Action.TheVariants.{Reset}
+use Rattle.claims_model.specs.world_model.port_model.Desk.{asked, message_at}
+use Rattle.claims_model.specs.world_model.port_model.declared.action.Action.TheVariants.{Reset}
 use Rattle.law_port_facts.specs.Port.{setup_port, IsLinked, IsShaped, parts_label, IsAction}
 use Rattle.law_port_facts.proofs.Keyed.{on_both, on_each, each_key_found}
 use Rattle.law_port_facts.proofs.Joins.{resets_kept, restarts_kept}
-use Rattle.world_model.specs.Controller.{Acted, ports_of}
+use Rattle.claims_model.specs.world_model.Controller.{Acted, ports_of}
 use Rattle.law_controller_facts.specs.Sound.{linked_setup}
 use Rattle.law_controller_facts.proofs.Moves.{Worked, by_reset, by_restart, Found, noting, taking_notes, sending_control, asking, withdrawing, placing, gathering, chaining, Moves, stays, moves_to, further, HasPorts, found_setup, found_at_own, begun, moves_fold, goes_on, worked_kept, Fine, rests, goes_to, and_on, fine_moves, fine_ports, fine_fold, reset_ports, resets_node}
 

@@ -2,8 +2,8 @@
 
 use Rattle.std.proofs.Common.{Bool, ◌∙◌, ap, if◌then◌else◌}
 use Rattle.std.specs.Prelude.{drop}
-use Rattle.world_model.specs.ifmp_wire.Fields.{decoded as ifmp_decoded}
-use Rattle.world_model.specs.Words.{gsmp_holds, routes, label_holds, ifmp_holds, counted_at, packet_holds, default_holds}
+use Rattle.claims_model.specs.world_model.ifmp_wire.Fields.{decoded as ifmp_decoded}
+use Rattle.claims_model.specs.world_model.Words.{gsmp_holds, routes, label_holds, ifmp_holds, counted_at, packet_holds, default_holds}
 use Rattle.law_controller_facts.specs.Refused.{RefusedIsRecorded}
 
 pub refused_is_recorded : RefusedIsRecorded

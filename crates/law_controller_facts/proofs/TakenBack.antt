@@ -1,16 +1,16 @@
 -- a join that is taken back stays until it is released
 
-use Rattle.world_model.specs.port_model.declared.action.Action.TheVariants as actions
+use Rattle.claims_model.specs.world_model.port_model.declared.action.Action.TheVariants as actions
 use Rattle.std.proofs.Common.{◌≡◌, ℕ, true, false, List, [], ◌∷◌, length, Option, None, Some, refl, ◌∙◌, if◌then◌else◌, fold, ◌⊎◌, inl, inr}
 use Rattle.std.specs.Prelude.{◌==◌, nat_le}
-use Rattle.world_model.specs.Words.{PortNo, RouteChange, Request, MoveBranch, Loss, is_led_home, last_transaction, home_of, Linked, linked_at, Controller, with_desk, default_channel, begins, with_work, cuts_of, closes_by, port_restarts_of, port_restarts, resets_gsmp, node_resets, changed_joins, takes_join_back, begins_change, Channel, Mark, next_control, with_control, is_estab, frame_cells, made, restarts, asks, asks_next, PoolFull, noted, Action, Say, Ask, Note, CutChain, TakeBack, Withdraw}
-use Rattle.world_model.specs.port_model.Desk.{asked, message_at}
+use Rattle.claims_model.specs.world_model.Words.{PortNo, RouteChange, Request, MoveBranch, Loss, is_led_home, last_transaction, home_of, Linked, linked_at, Controller, with_desk, default_channel, begins, with_work, cuts_of, closes_by, port_restarts_of, port_restarts, resets_gsmp, node_resets, changed_joins, takes_join_back, begins_change, Channel, Mark, next_control, with_control, is_estab, frame_cells, made, restarts, asks, asks_next, PoolFull, noted, Action, Say, Ask, Note, CutChain, TakeBack, Withdraw}
+use Rattle.claims_model.specs.world_model.port_model.Desk.{asked, message_at}
 use Rattle.law_port_facts.proofs.Keyed.{on_both}
-use Rattle.world_model.specs.Controller.{Acted, ports_of, free_slots}
-use Rattle.world_model.specs.Joins.{Join, output_of}
-use Rattle.world_model.specs.frame_model.Sending.{Sent}
-use Rattle.world_model.specs.Sending.{with_cells, sends}
-use Rattle.world_model.specs.gsmp_wire.Layout.{octets_of as gsmp_octets}
+use Rattle.claims_model.specs.world_model.Controller.{Acted, ports_of, free_slots}
+use Rattle.claims_model.specs.world_model.Joins.{Join, output_of}
+use Rattle.claims_model.specs.world_model.frame_model.Sending.{Sent}
+use Rattle.claims_model.specs.world_model.Sending.{with_cells, sends}
+use Rattle.claims_model.specs.world_model.gsmp_wire.Layout.{octets_of as gsmp_octets}
 
 -- the ports and the table stay, or the switch isn't met any more
 abbrev pub Stays : Acted → Acted → Type 0

@@ -4,19 +4,19 @@ use Rattle.std.proofs.Common.{◌≡◌, ◌≢◌, ℕ, Bool, true, false, List
 use Rattle.std.specs.Prelude.{nat_eq, nat_le, ◌||◌, ◌&&◌, ◌==◌}
 use Rattle.std.specs.List.{list_any}
 use Rattle.std.proofs.lemmas.Bool.Decides.{nat_tests}
-use Rattle.world_model.specs.Words.{PortNo, Channel, Mark, next_control, with_control, Loss, PoolFull, noted, frame_cells, made, nothing_taken, at, put, Desk, Action, Say, Ask, Note, CutChain, TakeBack, Withdraw, Setup, Work, restarts, Controller, Linked, port_key, linked_at, chains_with, may_clear, is_clearing, awaits_nothing, cuts_of, begins, with_work, closes_by, port_restarts_of, port_restarts, resets_gsmp, node_resets}
-use Rattle.world_model.specs.frame_model.Sending.{Sent}
+use Rattle.claims_model.specs.world_model.Words.{PortNo, Channel, Mark, next_control, with_control, Loss, PoolFull, noted, frame_cells, made, nothing_taken, at, put, Desk, Action, Say, Ask, Note, CutChain, TakeBack, Withdraw, Setup, Work, restarts, Controller, Linked, port_key, linked_at, chains_with, may_clear, is_clearing, awaits_nothing, cuts_of, begins, with_work, closes_by, port_restarts_of, port_restarts, resets_gsmp, node_resets}
+use Rattle.claims_model.specs.world_model.frame_model.Sending.{Sent}
 use Rattle.law_port_facts.specs.ordered_lists.Ordered.{Every, InOrder}
 use Rattle.law_port_facts.proofs.ordered_lists.Every.{every_map}
 use Rattle.law_port_facts.proofs.ordered_lists.InOrder.{order_unmapped}
-use Rattle.world_model.specs.port_model.Messages.{is_up}
-use Rattle.world_model.specs.port_model.declared.action.Action.TheVariants.{Reset}
-use Rattle.world_model.specs.port_model.Port.{Port}
+use Rattle.claims_model.specs.world_model.port_model.Messages.{is_up}
+use Rattle.claims_model.specs.world_model.port_model.declared.action.Action.TheVariants.{Reset}
+use Rattle.claims_model.specs.world_model.port_model.Port.{Port}
 use Rattle.law_port_facts.specs.Port.{IsShut}
 use Rattle.law_port_facts.proofs.Keyed.{on_both, by_eq, at_key, at_every, put_every}
 use Rattle.law_port_facts.proofs.Shut.{goes_shut, closes_shut, resets_shut, restarts_shut, parted_shut, joined_shut, no_grant}
-use Rattle.world_model.specs.Controller.{Acted, free_slots, ports_of}
-use Rattle.world_model.specs.Sending.{with_cells, sends}
+use Rattle.claims_model.specs.world_model.Controller.{Acted, free_slots, ports_of}
+use Rattle.claims_model.specs.world_model.Sending.{with_cells, sends}
 use Rattle.law_controller_facts.specs.Sound.{linked_setup, AreApart, IsShutLinked}
 use Rattle.law_controller_facts.proofs.Moves.{Worked, by_rule, by_closing, by_reset, by_restart, by_parting, by_joining, by_lending, by_giving_back, Move, noting, taking_notes, sending, sending_control, asking, withdrawing, answering, meeting, ending_meeting, turning, placing, clearing, gathering, chaining, routing, popping, fine_ports, Moves, moves_keep_whole, HasPorts, move_ports, moves_ports, reset_ports}
 use Rattle.law_controller_facts.proofs.Performing.{node_resets_goes, port_restarts_of_fine}

@@ -1,11 +1,11 @@
 -- What the calls of a controller's parts ask of the requests that stand and of its joins
 
 use Rattle.std.specs.Prelude.{◌≡◌, ◌≤◌, ◌<◌, ◌==◌, false, List, Some, IsTrue}
-use Rattle.world_model.specs.Words.{End, is_label_channel, Request, MoveBranch, PortManagement, at, Standing, Setup, grant_label, Controller, Linked, linked_at, joins_of}
+use Rattle.claims_model.specs.world_model.Words.{End, is_label_channel, Request, MoveBranch, PortManagement, at, Standing, Setup, grant_label, Controller, Linked, linked_at, joins_of}
 use Rattle.law_port_facts.specs.ordered_lists.Ordered.{Every}
-use Rattle.world_model.specs.port_model.Grants.{input_of}
+use Rattle.claims_model.specs.world_model.port_model.Grants.{input_of}
 use Rattle.law_port_facts.specs.Port.{IsLabelEnd}
-use Rattle.world_model.specs.Joins.{Join, output_of}
+use Rattle.claims_model.specs.world_model.Joins.{Join, output_of}
 
 -- *Requests*: none manages a port. A Move Branch moves the branch of a label's channel, and moves it to a
 -- label's channel or to the control link

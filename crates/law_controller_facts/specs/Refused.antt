@@ -1,13 +1,13 @@
 -- A frame that passed its test and that a decoder refuses: one record, and nothing else
 
 use Rattle.std.specs.Prelude.{◌≡◌, ℕ, true, ◌==◌, List, drop, None, Some, Ok, Err}
-use Rattle.world_model.specs.Words.{Mark, protocol_of, PacketFault, EncapsFault, default_unwrapped, unwrapped, Encaps, Packet, Ifmp, Gsmp, Bad, encaps_refusal, packet_refusal, ifmp_refusal, gsmp_refusal, Label, Linked, control_protocol, ForGsmp, ForDefault, ForLabel, frame_holds}
-use Rattle.world_model.specs.ipv4_packet.Packet.{first_fault}
-use Rattle.world_model.specs.ifmp_wire.declared.reader.Fault.{Fault as IfmpFault}
-use Rattle.world_model.specs.ifmp_wire.Fields.{decoded as ifmp_decoded}
-use Rattle.world_model.specs.gsmp_wire.declared.fault.Fault.{Fault as GsmpFault}
-use Rattle.world_model.specs.gsmp_wire.Fields.{decoded as gsmp_decoded}
-use Rattle.world_model.specs.Controller.{Acted, note}
+use Rattle.claims_model.specs.world_model.Words.{Mark, protocol_of, PacketFault, EncapsFault, default_unwrapped, unwrapped, Encaps, Packet, Ifmp, Gsmp, Bad, encaps_refusal, packet_refusal, ifmp_refusal, gsmp_refusal, Label, Linked, control_protocol, ForGsmp, ForDefault, ForLabel, frame_holds}
+use Rattle.claims_model.specs.world_model.ipv4_packet.Packet.{first_fault}
+use Rattle.claims_model.specs.world_model.ifmp_wire.declared.reader.Fault.{Fault as IfmpFault}
+use Rattle.claims_model.specs.world_model.ifmp_wire.Fields.{decoded as ifmp_decoded}
+use Rattle.claims_model.specs.world_model.gsmp_wire.declared.fault.Fault.{Fault as GsmpFault}
+use Rattle.claims_model.specs.world_model.gsmp_wire.Fields.{decoded as gsmp_decoded}
+use Rattle.claims_model.specs.world_model.Controller.{Acted, note}
 
 -- on the GSMP channel; on a default channel by its encapsulation, as a packet, or as a message of IFMP; on a label's
 -- channel by its encapsulation

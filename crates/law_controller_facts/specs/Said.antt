@@ -1,11 +1,11 @@
 -- What a port says is in the range of IFMP's messages, and its flows are flows that packets can have
 
 use Rattle.std.specs.Prelude.{◌≡◌, ℕ, false, List, Some}
-use Rattle.world_model.specs.Words.{Addr, Request, InRange, at, Desk, Setup, Grant, grant_label, Work, hears, counts, given_back, Controller, Linked}
-use Rattle.world_model.specs.ifmp_wire.declared.message.Message.{Message}
+use Rattle.claims_model.specs.world_model.Words.{Addr, Request, InRange, at, Desk, Setup, Grant, grant_label, Work, hears, counts, given_back, Controller, Linked}
+use Rattle.claims_model.specs.world_model.ifmp_wire.declared.message.Message.{Message}
 use Rattle.law_port_facts.specs.ordered_lists.Ordered.{Every}
-use Rattle.world_model.specs.port_model.Ticks.{ticks}
-use Rattle.world_model.specs.port_model.Answers.{done}
+use Rattle.claims_model.specs.world_model.port_model.Ticks.{ticks}
+use Rattle.claims_model.specs.world_model.port_model.Answers.{done}
 use Rattle.law_port_facts.specs.Port.{setup_port, IsWork, HasFlows, IsSayable, IsRanged}
 
 -- *Flows* of the labels and grants of each port

@@ -1,15 +1,15 @@
 -- What holds of one controller, whatever cells come
 
 use Rattle.std.specs.Prelude.{◌≡◌, ◌≢◌, ℕ, ◌≤◌, ◌<◌, ◌+◌, true, false, List, [], length, map, Some}
-use Rattle.world_model.specs.Words.{End, NodeId, PortNo, Addr, GivenOut, Journal, IsSide, is_estab, is_delete_all, Standing, last_transaction, Timers, Setup, Policy, Controller, Linked, setup_of, after_opening}
-use Rattle.world_model.specs.ipv4_forward.declared.table.Route.{Route}
+use Rattle.claims_model.specs.world_model.Words.{End, NodeId, PortNo, Addr, GivenOut, Journal, IsSide, is_estab, is_delete_all, Standing, last_transaction, Timers, Setup, Policy, Controller, Linked, setup_of, after_opening}
+use Rattle.claims_model.specs.world_model.ipv4_forward.declared.table.Route.{Route}
 use Rattle.law_port_facts.specs.ordered_lists.Ordered.{Every, InOrder}
-use Rattle.world_model.specs.port_model.Requests.{input_of}
+use Rattle.claims_model.specs.world_model.port_model.Requests.{input_of}
 use Rattle.law_port_facts.specs.Port.{setup_port, IsPort, IsShut, IsShaped}
-use Rattle.world_model.specs.controller_model.declared.range.PortRange.{PortRange}
-use Rattle.world_model.specs.Controller.{Acted}
-use Rattle.world_model.specs.Opening.{opened}
-use Rattle.law_controller_facts.specs.Inputs.{Input, Meanwhile, takes_input, takes_inputs}
+use Rattle.claims_model.specs.world_model.controller_model.declared.range.PortRange.{PortRange}
+use Rattle.claims_model.specs.world_model.Controller.{Acted}
+use Rattle.claims_model.specs.world_model.Opening.{opened}
+use Rattle.claims_model.specs.Inputs.{Input, Meanwhile, takes_input, takes_inputs}
 
 abbrev pub linked_setup : Linked → Setup
 linked_setup linked = linked.setup

@@ -1,7 +1,7 @@
 //! Invariants of one controller of an IP switch, whatever cells come, forged ones among them: of its ports, the
 //! requests that stand, its desk, and that the numbers of a run never fall.
 //!
-//! `specs/Inputs` has what may come to a controller, `specs/Sound` what holds of it. The proof goes by
+//! `claims_model` has what may come to a controller, `specs/Sound` what holds of it. The proof goes by
 //! the smallest moves of which every rule is made (`proofs/Moves`, and of a port
 //! `law_port_facts::proofs::Steps`): what each of them keeps, every rule keeps. There is no code that runs.
 #![tactic(auto)]

@@ -2,16 +2,16 @@
 
 use Rattle.std.proofs.Common.{◌≡◌, true, List, [], ◌∷◌, ◌++◌, None, Some, refl, map, fold, if◌then◌else◌}
 use Rattle.std.specs.Prelude.{flat_map}
-use Rattle.world_model.specs.Words.{PortNo, End, Party, RouteChange, Answer, Quiet, Send, Open, Greeting, Step, is_estab, gsmp_answer, Request, AddBranch, empty_desk, sent_again, with_desk, default_end, default_home, says_gsmp, node_resets, sends_request, asks, takes_back, changed_joins, takes_join_back, begins_change, takes_change, may_take, takes_each, takes_changes, change_comes, meets, up_ports, empties, default_branches, ends_meeting, has_emptied, behind_delete_all, sends_again}
-use Rattle.world_model.specs.adjacency_table.declared.message.Answer.TheVariants.{Reset}
-use Rattle.world_model.specs.gsmp_wire.declared.request.Request.TheVariants.{DeleteAll, AllPorts}
-use Rattle.world_model.specs.gsmp_wire.declared.message.Message.{Message}
-use Rattle.world_model.specs.gsmp_wire.declared.message.Message.TheVariants.{Adjacency}
-use Rattle.world_model.specs.port_model.Desk.{message_at}
+use Rattle.law_arrival_views.specs.world_model.Words.{PortNo, End, Party, RouteChange, Answer, Quiet, Send, Open, Greeting, Step, is_estab, gsmp_answer, Request, AddBranch, empty_desk, sent_again, with_desk, default_end, default_home, says_gsmp, node_resets, sends_request, asks, takes_back, changed_joins, takes_join_back, begins_change, takes_change, may_take, takes_each, takes_changes, change_comes, meets, up_ports, empties, default_branches, ends_meeting, has_emptied, behind_delete_all, sends_again}
+use Rattle.law_arrival_views.specs.world_model.adjacency_table.declared.message.Answer.TheVariants.{Reset}
+use Rattle.law_arrival_views.specs.world_model.gsmp_wire.declared.request.Request.TheVariants.{DeleteAll, AllPorts}
+use Rattle.law_arrival_views.specs.world_model.gsmp_wire.declared.message.Message.{Message}
+use Rattle.law_arrival_views.specs.world_model.gsmp_wire.declared.message.Message.TheVariants.{Adjacency}
+use Rattle.law_arrival_views.specs.world_model.port_model.Desk.{message_at}
 use Rattle.law_label_steps.proofs.law_port_facts.Keyed.{on_both}
-use Rattle.world_model.specs.Controller.{Acted}
-use Rattle.world_model.specs.Joins.{output_of}
-use Rattle.world_model.specs.Gsmp.{answers, steps}
+use Rattle.law_arrival_views.specs.world_model.Controller.{Acted}
+use Rattle.law_arrival_views.specs.world_model.Joins.{output_of}
+use Rattle.law_arrival_views.specs.world_model.Gsmp.{answers, steps}
 
 -- *One controller follows another*: itself, on from one that follows, where nothing changes that bears on ports, frames
 -- or numbers, and by the smallest things that are done

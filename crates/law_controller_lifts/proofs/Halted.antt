@@ -3,14 +3,14 @@
 use Rattle.std.proofs.Common.{◌≡◌, ℕ, ◌≤◌, ◌+◌, true, false, List, [], ◌∷◌, ◌++◌, Option, None, Some, refl, sym, ◌∙◌, ap, arith}
 use Rattle.std.specs.Prelude.{nat_lt, ◌||◌}
 use Rattle.std.specs.Option.{option_map, option_map_or}
-use Rattle.world_model.specs.Words.{End, Peer, Said, Answer, Quiet, Send, Open, hello_of, ifmp_answer, AddBranch, DeleteTree, Bind, Free, Opened, number_of_channel, put, without, entered, key_le, Desk, on_input, Action, Say, Ask, Note, CutChain, TakeBack, Setup, label_end, control_end, Label, Wiring, Offered, Wired, label_number, Grant, Idle, ByController, grant_label, Session, Work, halts, with_session, with_label, without_label, with_new_label, with_grants, desk_after, has_room, Unnumbered, last_number, own_of, greets, tells_in, tells, is_spent, closes, spent_number, first_session, opens, accepts}
-use Rattle.world_model.specs.adjacency_table.declared.message.Answer.TheVariants.{Reset}
-use Rattle.world_model.specs.ifmp_wire.declared.message.Message.TheVariants.{Adjacency}
-use Rattle.world_model.specs.link_model.declared.record.Record.TheVariants.{Join}
-use Rattle.world_model.specs.port_model.declared.action.Action.TheVariants as actions
-use Rattle.world_model.specs.port_model.Port.{acts}
-use Rattle.world_model.specs.port_model.Saying.{peer_of}
-use Rattle.world_model.specs.port_model.Adjacency.{answers}
+use Rattle.law_arrival_views.specs.world_model.Words.{End, Peer, Said, Answer, Quiet, Send, Open, hello_of, ifmp_answer, AddBranch, DeleteTree, Bind, Free, Opened, number_of_channel, put, without, entered, key_le, Desk, on_input, Action, Say, Ask, Note, CutChain, TakeBack, Setup, label_end, control_end, Label, Wiring, Offered, Wired, label_number, Grant, Idle, ByController, grant_label, Session, Work, halts, with_session, with_label, without_label, with_new_label, with_grants, desk_after, has_room, Unnumbered, last_number, own_of, greets, tells_in, tells, is_spent, closes, spent_number, first_session, opens, accepts}
+use Rattle.law_arrival_views.specs.world_model.adjacency_table.declared.message.Answer.TheVariants.{Reset}
+use Rattle.law_arrival_views.specs.world_model.ifmp_wire.declared.message.Message.TheVariants.{Adjacency}
+use Rattle.law_arrival_views.specs.world_model.link_model.declared.record.Record.TheVariants.{Join}
+use Rattle.law_arrival_views.specs.world_model.port_model.declared.action.Action.TheVariants as actions
+use Rattle.law_arrival_views.specs.world_model.port_model.Port.{acts}
+use Rattle.law_arrival_views.specs.world_model.port_model.Saying.{peer_of}
+use Rattle.law_arrival_views.specs.world_model.port_model.Adjacency.{answers}
 use Rattle.law_label_steps.proofs.law_port_facts.Keyed.{on_both, on_each}
 use Rattle.law_label_steps.proofs.law_port_facts.Halting.{resets_among, resets_more}
 use Rattle.law_label_steps.proofs.law_port_facts.Steps.{Step, greeting, telling, closing, noting, turning, heard, minding, relabelling, wiring, binding, quitting, unwiring, freeing, accepting, granting, regranting, starting, ending, taking_back, Goes, goes_keeps}

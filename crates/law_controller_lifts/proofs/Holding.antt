@@ -1,13 +1,13 @@
 -- a controller that is ready stays so where a packet is sent on
 
 use Rattle.std.proofs.Common.{ℕ, List, Option, None, Some, refl}
-use Rattle.world_model.specs.Words.{PortNo, Channel, Mark, hop_of, onward, Hop, Here, On, kind_of, default_payload, labelled_payload, next_mark, Setup, control_end, Grant, default_home, sends_control, is_control, sends_next, goes_by, grant_by, routes}
-use Rattle.world_model.specs.ipv4_forward.declared.outcome.Hop.TheVariants.{NoRoute, Expired}
+use Rattle.law_arrival_views.specs.world_model.Words.{PortNo, Channel, Mark, hop_of, onward, Hop, Here, On, kind_of, default_payload, labelled_payload, next_mark, Setup, control_end, Grant, default_home, sends_control, is_control, sends_next, goes_by, grant_by, routes}
+use Rattle.law_arrival_views.specs.world_model.ipv4_forward.declared.outcome.Hop.TheVariants.{NoRoute, Expired}
 use Rattle.law_label_steps.proofs.law_port_facts.Keyed.{on_both}
-use Rattle.world_model.specs.port_model.Port.{Port}
-use Rattle.world_model.specs.Controller.{Acted}
-use Rattle.world_model.specs.Sending.{sends}
-use Rattle.world_model.specs.Packets.{forwarded}
+use Rattle.law_arrival_views.specs.world_model.port_model.Port.{Port}
+use Rattle.law_arrival_views.specs.world_model.Controller.{Acted}
+use Rattle.law_arrival_views.specs.world_model.Sending.{sends}
+use Rattle.law_arrival_views.specs.world_model.Packets.{forwarded}
 use Rattle.law_arrival_views.proofs.law_controller_facts.Events.{routes_goes}
 use Rattle.law_controller_lifts.proofs.Kept.{IsClosed, Goes, same_ports, sends_goes, control_goes}
 use Rattle.law_controller_lifts.proofs.Unspent.{Unspent, unspent_closed}

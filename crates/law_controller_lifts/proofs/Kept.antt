@@ -2,15 +2,15 @@
 
 use Rattle.std.proofs.Common.{◌≡◌, ℕ, ◌≤◌, ◌<◌, ◌+◌, false, List, [], ◌∷◌, Option, None, Some, refl, sym, subst, arith, fold, if◌then◌else◌}
 use Rattle.std.specs.Prelude.{◌^◌, ◌==◌}
-use Rattle.world_model.specs.Words.{PortNo, End, Channel, Mark, next_control, with_control, is_estab, Request, MoveBranch, nothing_taken, cut, is_led_home, last_transaction, Action, Say, Ask, Note, CutChain, TakeBack, Withdraw, Setup, home_of, Work, resets, restarts, Linked, port_key, linked_at, with_linked, with_desk, chain_of, chains_with, default_channel, sends_control, cuts_of, cuts_label, begins, with_work, closes_by, port_restarts_as, port_restarts_of, port_restarts, resets_gsmp, node_resets, asks_next, asks, takes_back, withdraws_input, does, does_in_estab, resets_as, resets_of, resets_port, performs, performs_in_estab, Rule, works_as, works, at_port}
-use Rattle.world_model.specs.gsmp_wire.Layout.{octets_of as gsmp_octets}
+use Rattle.law_arrival_views.specs.world_model.Words.{PortNo, End, Channel, Mark, next_control, with_control, is_estab, Request, MoveBranch, nothing_taken, cut, is_led_home, last_transaction, Action, Say, Ask, Note, CutChain, TakeBack, Withdraw, Setup, home_of, Work, resets, restarts, Linked, port_key, linked_at, with_linked, with_desk, chain_of, chains_with, default_channel, sends_control, cuts_of, cuts_label, begins, with_work, closes_by, port_restarts_as, port_restarts_of, port_restarts, resets_gsmp, node_resets, asks_next, asks, takes_back, withdraws_input, does, does_in_estab, resets_as, resets_of, resets_port, performs, performs_in_estab, Rule, works_as, works, at_port}
+use Rattle.law_arrival_views.specs.world_model.gsmp_wire.Layout.{octets_of as gsmp_octets}
 use Rattle.law_label_steps.specs.ordered_lists.Ordered.{Every}
 use Rattle.law_label_steps.proofs.law_port_facts.Keyed.{on_both, at_every, put_every}
-use Rattle.world_model.specs.port_model.Desk.{asked, message_at}
-use Rattle.world_model.specs.port_model.declared.action.Action.TheVariants.{Reset}
-use Rattle.world_model.specs.port_model.Port.{Port}
-use Rattle.world_model.specs.Controller.{Acted, ports_of, note}
-use Rattle.world_model.specs.Sending.{sends}
+use Rattle.law_arrival_views.specs.world_model.port_model.Desk.{asked, message_at}
+use Rattle.law_arrival_views.specs.world_model.port_model.declared.action.Action.TheVariants.{Reset}
+use Rattle.law_arrival_views.specs.world_model.port_model.Port.{Port}
+use Rattle.law_arrival_views.specs.world_model.Controller.{Acted, ports_of, note}
+use Rattle.law_arrival_views.specs.world_model.Sending.{sends}
 use Rattle.law_arrival_views.proofs.law_controller_views.Sends.{sent_cases}
 
 -- *A property of ports*, by what stays the same of them and the port, that a reset and a restart keep, where the next

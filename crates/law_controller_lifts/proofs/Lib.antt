@@ -9,6 +9,7 @@ pub use Rattle.law_label_steps.proofs as law_label_steps
 pub use Rattle.law_arrival_views.proofs.law_shown_cells as law_shown_cells
 pub use Rattle.law_arrival_views.proofs.law_controller_views as law_controller_views
 pub use Rattle.law_arrival_views.proofs as law_arrival_views
+pub use Rattle.law_arrival_views.proofs.world_model as world_model
 pub mod Lifts
 pub mod Halted
 pub mod Kept

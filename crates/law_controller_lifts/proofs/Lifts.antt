@@ -3,12 +3,12 @@
 use Rattle.std.proofs.Common.{◌≡◌, ℕ, ◌<◌, Bool, true, List, [], ◌∷◌, Option, None, Some, Result, refl, sym, ◌∙◌, ap, subst, arith, if◌then◌else◌}
 use Rattle.std.specs.Prelude.{◌^◌, ◌==◌, drop}
 use Rattle.std.specs.Option.{option_map, option_and_then}
-use Rattle.world_model.specs.Words.{PortNo, Addr, End, ifmp_packet_of, protocol_of, source_of, EncapsFault, FlowId, FitsFields, Request, Redirect, Reclaim, ReclaimAck, LabelRange, Error, InRange, FitsMessage, at, put, empty_desk, Action, Say, Ask, Note, CutChain, TakeBack, Withdraw, Setup, Label, Grant, ByInput, grant_label, Session, Work, with_session, label_at, counts, packet_flow, used_label, used, joins_label, parted, lent, given_back, Linked, port_key, linked_at, begins}
-use Rattle.world_model.specs.ifmp_wire.declared.message.Message.{Message}
-use Rattle.world_model.specs.ifmp_wire.declared.message.Message.TheVariants.{Adjacency}
-use Rattle.world_model.specs.ifmp_wire.declared.reader.Fault.{Fault}
-use Rattle.world_model.specs.ifmp_wire.Message.{octets_of}
-use Rattle.world_model.specs.ifmp_wire.Fields.{decoded}
+use Rattle.law_arrival_views.specs.world_model.Words.{PortNo, Addr, End, ifmp_packet_of, protocol_of, source_of, EncapsFault, FlowId, FitsFields, Request, Redirect, Reclaim, ReclaimAck, LabelRange, Error, InRange, FitsMessage, at, put, empty_desk, Action, Say, Ask, Note, CutChain, TakeBack, Withdraw, Setup, Label, Grant, ByInput, grant_label, Session, Work, with_session, label_at, counts, packet_flow, used_label, used, joins_label, parted, lent, given_back, Linked, port_key, linked_at, begins}
+use Rattle.law_arrival_views.specs.world_model.ifmp_wire.declared.message.Message.{Message}
+use Rattle.law_arrival_views.specs.world_model.ifmp_wire.declared.message.Message.TheVariants.{Adjacency}
+use Rattle.law_arrival_views.specs.world_model.ifmp_wire.declared.reader.Fault.{Fault}
+use Rattle.law_arrival_views.specs.world_model.ifmp_wire.Message.{octets_of}
+use Rattle.law_arrival_views.specs.world_model.ifmp_wire.Fields.{decoded}
 use Rattle.law_arrival_views.proofs.law_wire.Ifmp.{read_back}
 use Rattle.law_arrival_views.proofs.law_wire.Packets.{protocol_is, source_is, message_is, unwrapped_again}
 use Rattle.law_label_steps.specs.ordered_lists.Ordered.{Every}
@@ -19,16 +19,16 @@ use Rattle.law_label_steps.proofs.law_port_facts.Rules.{used_goes, counts_goes, 
 use Rattle.law_label_steps.proofs.law_port_facts.Hearings.{hears_goes, ticks_goes}
 use Rattle.law_label_steps.specs.law_port_facts.Port as facts
 use Rattle.law_label_steps.specs.law_label_line.Cells.{Role}
-use Rattle.world_model.specs.port_model.declared.action.Action.TheVariants.{Reset}
-use Rattle.world_model.specs.port_model.Answers.{done}
-use Rattle.world_model.specs.port_model.Ticks.{ticks}
-use Rattle.world_model.specs.port_model.Joins.{joined}
-use Rattle.world_model.specs.Controller.{Acted}
+use Rattle.law_arrival_views.specs.world_model.port_model.declared.action.Action.TheVariants.{Reset}
+use Rattle.law_arrival_views.specs.world_model.port_model.Answers.{done}
+use Rattle.law_arrival_views.specs.world_model.port_model.Ticks.{ticks}
+use Rattle.law_arrival_views.specs.world_model.port_model.Joins.{joined}
+use Rattle.law_arrival_views.specs.world_model.Controller.{Acted}
 use Rattle.law_arrival_views.specs.law_controller_facts.Said.{HasFlowsAt, IsAtWork}
 use Rattle.law_arrival_views.proofs.law_controller_facts.Moves.{found_setup, begun}
 use Rattle.law_arrival_views.proofs.law_controller_facts.Laws.{has_ports}
 use Rattle.law_arrival_views.proofs.law_controller_facts.Flows.{says_in_range}
-use Rattle.world_model.specs.Ways.{told}
+use Rattle.law_arrival_views.specs.world_model.Ways.{told}
 use Rattle.law_label_steps.specs.law_port_views.Link.{LinkLabel}
 use Rattle.law_label_steps.proofs.law_port_views.Refreshing.{ticks_lead}
 use Rattle.law_label_steps.proofs.law_port_views.Answering.{used_leads, joined_leads, parted_leads, done_leads}

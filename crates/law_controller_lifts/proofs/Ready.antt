@@ -2,21 +2,21 @@
 
 use Rattle.std.proofs.Common.{◌≡◌, ℕ, ◌≤◌, ◌<◌, false, List, [], ◌∷◌, Option, None, Some, refl, arith, fold}
 use Rattle.std.specs.Prelude.{◌^◌}
-use Rattle.world_model.specs.Words.{PortNo, Addr, Request, InRange, FitsMessage, Setup, Work, hears, used, Linked, linked_at, begins, with_work, Rule, performs_in_estab, works_as, works, at_port, ticks_port, ticks_ports}
-use Rattle.world_model.specs.ifmp_wire.declared.message.Message.{Message}
+use Rattle.law_arrival_views.specs.world_model.Words.{PortNo, Addr, Request, InRange, FitsMessage, Setup, Work, hears, used, Linked, linked_at, begins, with_work, Rule, performs_in_estab, works_as, works, at_port, ticks_port, ticks_ports}
+use Rattle.law_arrival_views.specs.world_model.ifmp_wire.declared.message.Message.{Message}
 use Rattle.law_label_steps.specs.ordered_lists.Ordered.{Every}
 use Rattle.law_label_steps.proofs.law_port_facts.Instances.{goes_gave}
 use Rattle.law_label_steps.proofs.law_port_facts.Rules.{used_goes, done_goes}
 use Rattle.law_label_steps.proofs.law_port_facts.Hearings.{hears_goes, ticks_goes}
-use Rattle.world_model.specs.port_model.Port.{Port}
-use Rattle.world_model.specs.port_model.Answers.{done}
-use Rattle.world_model.specs.port_model.Ticks.{ticks}
+use Rattle.law_arrival_views.specs.world_model.port_model.Port.{Port}
+use Rattle.law_arrival_views.specs.world_model.port_model.Answers.{done}
+use Rattle.law_arrival_views.specs.world_model.port_model.Ticks.{ticks}
 use Rattle.law_label_steps.proofs.law_port_views.Refreshing.{room_ticks}
 use Rattle.law_arrival_views.specs.law_port_widths.Widths.{FitsPort, FitsWork, FitsSetup}
 use Rattle.law_arrival_views.proofs.law_port_widths.Rules.{hears_fit, used_fit, done_fit, ticks_fit, resets_fit, restarts_fit}
 use Rattle.law_label_steps.specs.Follows.{IsUnspent}
 use Rattle.law_label_steps.proofs.Unspent.{hears_unspent, used_unspent, done_unspent}
-use Rattle.world_model.specs.Controller.{Acted, ports_of}
+use Rattle.law_arrival_views.specs.world_model.Controller.{Acted, ports_of}
 use Rattle.law_arrival_views.proofs.law_controller_facts.Moves.{Worked, by_rule, HasPorts, Moves, found_at_own}
 use Rattle.law_arrival_views.proofs.law_controller_facts.Performing.{works_as_goes}
 use Rattle.law_arrival_views.proofs.law_controller_facts.Laws.{has_ports, moves_sound}

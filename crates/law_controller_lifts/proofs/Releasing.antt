@@ -4,18 +4,18 @@ use Rattle.std.proofs.Common.{◌≡◌, ◌≢◌, ℕ, ◌<◌, Bool, true, fa
 use Rattle.std.specs.Prelude.{◌^◌, ◌||◌, nat_eq}
 use Rattle.std.specs.List.{list_any}
 use Rattle.std.proofs.lemmas.Bool.Decides.{nat_tests}
-use Rattle.world_model.specs.Words.{PortNo, End, number_of_channel, is_estab, Request, same_end, Part, at, Setup, Grant, grant_label, Work, halts, is_spent, closes, parted, given_back, Controller, Linked, port_key, linked_at, begins, with_work, resets_as, resets_of, resets_port, does_in_estab, works_as, works, at_port, join_of, joins_of, parts, releases_join, releases_input, released_inputs, resets_spent, releases, resets}
+use Rattle.law_arrival_views.specs.world_model.Words.{PortNo, End, number_of_channel, is_estab, Request, same_end, Part, at, Setup, Grant, grant_label, Work, halts, is_spent, closes, parted, given_back, Controller, Linked, port_key, linked_at, begins, with_work, resets_as, resets_of, resets_port, does_in_estab, works_as, works, at_port, join_of, joins_of, parts, releases_join, releases_input, released_inputs, resets_spent, releases, resets}
 use Rattle.law_label_steps.specs.ordered_lists.Ordered.{Every}
 use Rattle.law_label_steps.specs.law_port_facts.Port.{setup_port, IsRanged}
 use Rattle.law_label_steps.proofs.law_port_facts.Keyed.{on_each, at_key, at_every, put_every}
 use Rattle.law_label_steps.proofs.law_port_facts.Found.{find_every}
 use Rattle.law_label_steps.proofs.law_port_facts.Instances.{closes_gave, parted_gave, given_back_gave}
-use Rattle.world_model.specs.port_model.Port.{Port}
+use Rattle.law_arrival_views.specs.world_model.port_model.Port.{Port}
 use Rattle.law_arrival_views.specs.law_port_widths.Widths.{FitsWork, FitsSetup}
 use Rattle.law_arrival_views.proofs.law_port_widths.Keeping.{found_grant, closes_fit}
 use Rattle.law_arrival_views.proofs.law_port_widths.Rules.{parted_fit, given_back_fit}
-use Rattle.world_model.specs.Controller.{Acted, ports_of, note}
-use Rattle.world_model.specs.Joins.{Join}
+use Rattle.law_arrival_views.specs.world_model.Controller.{Acted, ports_of, note}
+use Rattle.law_arrival_views.specs.world_model.Joins.{Join}
 use Rattle.law_arrival_views.specs.law_controller_facts.Sound.{IsSound}
 use Rattle.law_arrival_views.specs.law_controller_facts.Said.{HasFlowsAt, HasFlowingPorts, IsAtWork}
 use Rattle.law_arrival_views.proofs.law_controller_facts.Moves.{by_closing, Moves, moves_to, placing, HasPorts, found_setup, found_at_own, begun, moves_ports}

@@ -3,9 +3,9 @@
 use Rattle.std.proofs.Common.{◌≡◌, ℕ, ◌≤◌, ◌<◌, List, [], ◌∷◌, Option, None, Some, refl, sym, ◌∙◌, subst, arith, fold}
 use Rattle.std.specs.Prelude.{◌^◌, ◌&&◌, flat_map}
 use Rattle.std.specs.Option.{option_map}
-use Rattle.world_model.specs.Words.{PortNo, End, Party, number_of_channel, best, FlowId, next_hop_of, flow_destination, same_flow, Answer, Quiet, Send, Open, Said, ticked, MoveBranch, at, Setup, home_of, Label, Grant, grant_label, grant_for, is_by_controller, ByController, label_at, Linked, linked_at, begins, at_port, port_by, join_through, join_by, join_for, may_join, enters_grant, enters_label, joins, tries_label, label_on, tries_join, inputs_at, tries_joins, sends_again, ticks_port, ticks_ports, ticks_by}
-use Rattle.world_model.specs.adjacency_table.declared.message.Answer.TheVariants.{Reset}
-use Rattle.world_model.specs.adjacency_table.Side as sides
+use Rattle.law_arrival_views.specs.world_model.Words.{PortNo, End, Party, number_of_channel, best, FlowId, next_hop_of, flow_destination, same_flow, Answer, Quiet, Send, Open, Said, ticked, MoveBranch, at, Setup, home_of, Label, Grant, grant_label, grant_for, is_by_controller, ByController, label_at, Linked, linked_at, begins, at_port, port_by, join_through, join_by, join_for, may_join, enters_grant, enters_label, joins, tries_label, label_on, tries_join, inputs_at, tries_joins, sends_again, ticks_port, ticks_ports, ticks_by}
+use Rattle.law_arrival_views.specs.world_model.adjacency_table.declared.message.Answer.TheVariants.{Reset}
+use Rattle.law_arrival_views.specs.world_model.adjacency_table.Side as sides
 use Rattle.law_label_steps.specs.ordered_lists.Ordered.{Every}
 use Rattle.law_label_steps.specs.law_port_facts.Port.{IsLabelEnd, IsPort}
 use Rattle.law_label_steps.proofs.law_port_facts.Keyed.{on_both, apart_at}
@@ -14,15 +14,15 @@ use Rattle.law_label_steps.proofs.law_port_facts.Rules.{and_first}
 use Rattle.law_label_steps.proofs.law_port_facts.Instances.{goes_gave, joined_gave, lent_gave}
 use Rattle.law_label_steps.proofs.law_port_facts.Hearings.{ticks_goes}
 use Rattle.law_label_steps.specs.law_label_line.Cells.{Role}
-use Rattle.world_model.specs.port_model.Port.{Port}
-use Rattle.world_model.specs.port_model.Joins as port_joins
-use Rattle.world_model.specs.port_model.Ticks as port_ticks
+use Rattle.law_arrival_views.specs.world_model.port_model.Port.{Port}
+use Rattle.law_arrival_views.specs.world_model.port_model.Joins as port_joins
+use Rattle.law_arrival_views.specs.world_model.port_model.Ticks as port_ticks
 use Rattle.law_label_steps.specs.law_port_views.Link.{LinkLabel}
 use Rattle.law_label_steps.proofs.law_port_views.Answering.{joined_leads, lent_leads}
-use Rattle.world_model.specs.Controller.{Acted, ports_of}
-use Rattle.world_model.specs.Joins.{Join, output_of}
-use Rattle.world_model.specs.Gsmp.{steps}
-use Rattle.world_model.specs.Ticks.{ticks}
+use Rattle.law_arrival_views.specs.world_model.Controller.{Acted, ports_of}
+use Rattle.law_arrival_views.specs.world_model.Joins.{Join, output_of}
+use Rattle.law_arrival_views.specs.world_model.Gsmp.{steps}
+use Rattle.law_arrival_views.specs.world_model.Ticks.{ticks}
 use Rattle.law_arrival_views.proofs.law_controller_facts.Moves.{ages, Found, HasPorts, found_at_own, found_port, moves_ports, further}
 use Rattle.law_arrival_views.proofs.law_controller_facts.Laws.{has_ports}
 use Rattle.law_arrival_views.proofs.law_controller_facts.Joining.{every_flat_map, each_there}

@@ -2,14 +2,14 @@
 
 use Rattle.std.proofs.Common.{◌≡◌, ◌≢◌, ◌≤◌, ◌<◌, Bool, true, false, List, [], ◌∷◌, Option, None, Some, refl, sym, ◌∙◌, ap, subst, arith, fold, ◌⊎◌, inl, inr}
 use Rattle.std.specs.Prelude.{◌^◌}
-use Rattle.world_model.specs.Words.{PortNo, is_estab, Action, Say, Ask, Note, CutChain, TakeBack, Withdraw, Setup, Session, Work, is_spent, resets, Linked, port_key, linked_at, begins, with_work, does_in_estab, resets_as, resets_of, resets_port, performs_in_estab, works_as}
+use Rattle.law_arrival_views.specs.world_model.Words.{PortNo, is_estab, Action, Say, Ask, Note, CutChain, TakeBack, Withdraw, Setup, Session, Work, is_spent, resets, Linked, port_key, linked_at, begins, with_work, does_in_estab, resets_as, resets_of, resets_port, performs_in_estab, works_as}
 use Rattle.law_label_steps.specs.ordered_lists.Ordered.{Every}
 use Rattle.law_label_steps.specs.law_port_facts.Port.{IsAction, IsWork}
 use Rattle.law_label_steps.proofs.law_port_facts.Keyed.{on_each, at_key}
 use Rattle.law_label_steps.proofs.law_port_facts.Halting.{resets_among}
-use Rattle.world_model.specs.port_model.declared.action.Action.TheVariants.{Reset}
-use Rattle.world_model.specs.port_model.Port.{Port}
-use Rattle.world_model.specs.Controller.{Acted}
+use Rattle.law_arrival_views.specs.world_model.port_model.declared.action.Action.TheVariants.{Reset}
+use Rattle.law_arrival_views.specs.world_model.port_model.Port.{Port}
+use Rattle.law_arrival_views.specs.world_model.Controller.{Acted}
 use Rattle.law_arrival_views.specs.law_controller_facts.Sound.{IsSound, IsShutLinked}
 use Rattle.law_arrival_views.proofs.law_controller_facts.Moves.{Worked, Found, moves_to, placing, found_setup, found_at_own, begun, worked_kept}
 use Rattle.law_arrival_views.proofs.law_controller_facts.Laws.{has_ports, moves_sound}

@@ -3,14 +3,14 @@
 
 use Rattle.std.proofs.Common.{◌≡◌, ℕ, List, [], ◌∷◌, Option, None, Some, refl, ◌∙◌, ap, arith, fold, if◌then◌else◌}
 use Rattle.std.specs.Prelude.{◌==◌}
-use Rattle.world_model.specs.Words.{PortNo, End, Channel, next_control, with_control, is_estab, Request, MoveBranch, is_led_home, last_transaction, Say, Ask, Note, CutChain, TakeBack, Withdraw, resets, restarts, sends_control, cuts_of, begins, with_work, closes_by, port_restarts_of, port_restarts, resets_gsmp, node_resets, asks_next, asks, takes_back, does, does_in_estab, resets_of, performs, performs_in_estab, Rule, works, at_port, GivenOut, at, Action, Setup, home_of, Linked, port_key, linked_at, with_desk, default_channel}
+use Rattle.law_arrival_views.specs.world_model.Words.{PortNo, End, Channel, next_control, with_control, is_estab, Request, MoveBranch, is_led_home, last_transaction, Say, Ask, Note, CutChain, TakeBack, Withdraw, resets, restarts, sends_control, cuts_of, begins, with_work, closes_by, port_restarts_of, port_restarts, resets_gsmp, node_resets, asks_next, asks, takes_back, does, does_in_estab, resets_of, performs, performs_in_estab, Rule, works, at_port, GivenOut, at, Action, Setup, home_of, Linked, port_key, linked_at, with_desk, default_channel}
 use Rattle.law_label_steps.proofs.law_port_facts.Keyed.{on_both}
-use Rattle.world_model.specs.port_model.Desk.{asked}
-use Rattle.world_model.specs.port_model.declared.action.Action.TheVariants.{Reset}
+use Rattle.law_arrival_views.specs.world_model.port_model.Desk.{asked}
+use Rattle.law_arrival_views.specs.world_model.port_model.declared.action.Action.TheVariants.{Reset}
 use Rattle.law_arrival_views.proofs.law_controller_views.Sends.{sent_cases}
 use Rattle.law_label_steps.specs.law_label_line.Cells.{Role}
-use Rattle.world_model.specs.port_model.Port.{Port}
-use Rattle.world_model.specs.Controller.{Acted, ports_of}
+use Rattle.law_arrival_views.specs.world_model.port_model.Port.{Port}
+use Rattle.law_arrival_views.specs.world_model.Controller.{Acted, ports_of}
 use Rattle.law_label_steps.specs.law_port_views.Link.{LinkLabel}
 use Rattle.law_arrival_views.specs.law_controller_views.Ends.{EndLeads}
 use Rattle.law_arrival_views.specs.law_controller_views.Lifted.{IsProper, Growing}

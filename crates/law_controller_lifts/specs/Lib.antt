@@ -10,3 +10,4 @@ pub use Rattle.law_label_steps.specs as law_label_steps
 pub use Rattle.law_arrival_views.specs.law_shown_cells as law_shown_cells
 pub use Rattle.law_arrival_views.specs.law_controller_views as law_controller_views
 pub use Rattle.law_arrival_views.specs as law_arrival_views
+pub use Rattle.law_arrival_views.specs.world_model as world_model

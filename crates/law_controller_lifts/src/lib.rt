@@ -7,14 +7,14 @@
 #![tactic(auto)]
 
 ghost use Rattle.std.specs.Prelude.{◌≡◌, ◌<◌, ◌^◌, [], List, Some, ℕ};
-ghost use Rattle.world_model.specs.Words.{PortNo, Addr, End, FlowId, FitsFields, Request, InRange, FitsMessage, at, Setup, Grant, grant_label, hears, counts, packet_flow, used, Linked, linked_at, at_port};
-ghost use Rattle.world_model.specs.ifmp_wire.declared.message.Message.{Message};
+ghost use Rattle.law_arrival_views.specs.world_model.Words.{PortNo, Addr, End, FlowId, FitsFields, Request, InRange, FitsMessage, at, Setup, Grant, grant_label, hears, counts, packet_flow, used, Linked, linked_at, at_port};
+ghost use Rattle.law_arrival_views.specs.world_model.ifmp_wire.declared.message.Message.{Message};
 ghost use Rattle.law_label_steps.specs.law_label_line.Cells.{Role};
-ghost use Rattle.world_model.specs.port_model.Answers.{done};
-ghost use Rattle.world_model.specs.port_model.Joins as joins;
-ghost use Rattle.world_model.specs.port_model.Ticks as port_ticks;
-ghost use Rattle.world_model.specs.Controller.{Acted};
-ghost use Rattle.world_model.specs.Ticks.{ticks};
+ghost use Rattle.law_arrival_views.specs.world_model.port_model.Answers.{done};
+ghost use Rattle.law_arrival_views.specs.world_model.port_model.Joins as joins;
+ghost use Rattle.law_arrival_views.specs.world_model.port_model.Ticks as port_ticks;
+ghost use Rattle.law_arrival_views.specs.world_model.Controller.{Acted};
+ghost use Rattle.law_arrival_views.specs.world_model.Ticks.{ticks};
 ghost use Rattle.law_arrival_views.specs.law_controller_facts.Sound.{IsSound};
 ghost use Rattle.law_label_steps.specs.law_port_views.Link.{LinkLabel};
 ghost use Rattle.law_arrival_views.specs.law_controller_views.Ends.{EndLeads};

@@ -2,13 +2,13 @@
 -- it asked; a rule of any other port leaves the line
 
 use Rattle.std.proofs.Common.{◌≡◌, ◌≢◌, ℕ, ◌≤◌, false, List, [], Option, None, Some, refl, sym, ◌∙◌, ap, subst}
-use Rattle.world_model.specs.Words.{PortNo, at, Action, Work, Linked, port_key, linked_at, begins, with_work, Rule, works_as, works, at_port}
+use Rattle.law_controller_facts.specs.world_model.Words.{PortNo, at, Action, Work, Linked, port_key, linked_at, begins, with_work, Rule, works_as, works, at_port}
 use Rattle.law_controller_facts.specs.ordered_lists.Ordered.{Every}
 use Rattle.law_controller_facts.proofs.law_port_facts.Keyed.{by_eq, at_key}
 use Rattle.law_shown_cells.specs.law_label_line.Cells as lines
 use Rattle.law_shown_cells.specs.law_label_line.Cells.{Role, Downstream, Upstream}
 use Rattle.law_shown_cells.specs.law_label_line.Line.{Line}
-use Rattle.world_model.specs.Controller.{Acted}
+use Rattle.law_controller_facts.specs.world_model.Controller.{Acted}
 use Rattle.law_shown_cells.specs.law_port_views.Link.{LinkLabel}
 use Rattle.law_shown_cells.specs.law_port_views.Shown.{Part, part_of, ShownAt, Shown}
 use Rattle.law_shown_cells.specs.law_port_views.Reaching.{ReachesFrom, Reaches, Leads}

@@ -1,7 +1,7 @@
 -- the queues between the two controllers: a cell goes on from one queue to the next, or is gone
 
 use Rattle.std.proofs.Common.{◌≡◌, List, [], ◌∷◌, ◌++◌, refl, sym, ◌∙◌, ap, subst, append-nil, remove}
-use Rattle.world_model.specs.Words.{Cell, Frame}
+use Rattle.law_controller_facts.specs.world_model.Words.{Cell, Frame}
 use Rattle.law_shown_cells.specs.law_label_line.Cells as lines
 use Rattle.law_shown_cells.specs.law_label_line.Cells.{Role, Downstream, Upstream, Way, InOutput, ToController, ToSwitch}
 use Rattle.law_shown_cells.specs.law_label_line.Line.{Line}

@@ -1,11 +1,11 @@
 -- a controller of a node that is neither end: it makes frames and draws numbers, and that is all that the line sees of it
 
 use Rattle.std.proofs.Common.{◌≡◌, ℕ, ◌≤◌, ◌+◌, List, [], ◌∷◌, ◌++◌, Some, refl, sym, subst, arith, fold}
-use Rattle.world_model.specs.Words.{PortNo, End as ChannelEnd, Channel, next_control, with_control, Request, Action, Setup, Linked, linked_at, chain_of, sends_control, cuts_of, cuts_default_of, cuts_gsmp, begins, resets_gsmp, node_resets, asks, takes_back, Rule, at_port, takes_change, with_desk, after_answer, gsmp_received}
+use Rattle.law_controller_facts.specs.world_model.Words.{PortNo, End as ChannelEnd, Channel, next_control, with_control, Request, Action, Setup, Linked, linked_at, chain_of, sends_control, cuts_of, cuts_default_of, cuts_gsmp, begins, resets_gsmp, node_resets, asks, takes_back, Rule, at_port, takes_change, with_desk, after_answer, gsmp_received}
 use Rattle.law_controller_facts.proofs.ordered_lists.Every.{every_all}
-use Rattle.world_model.specs.Controller.{Acted, note}
-use Rattle.world_model.specs.gsmp_wire.declared.message.Message.{Message}
-use Rattle.world_model.specs.Gsmp.{told}
+use Rattle.law_controller_facts.specs.world_model.Controller.{Acted, note}
+use Rattle.law_controller_facts.specs.world_model.gsmp_wire.declared.message.Message.{Message}
+use Rattle.law_controller_facts.specs.world_model.Gsmp.{told}
 use Rattle.law_shown_cells.specs.Seen.{IsUnmade, Extends}
 use Rattle.law_shown_cells.proofs.Made.{extends_made, unmade_next}
 use Rattle.law_shown_cells.proofs.Tested.{cut_frames}

@@ -1,13 +1,13 @@
 -- what an end shows while the other one moves, and the whole network behind a move of one end
 
 use Rattle.std.proofs.Common.{◌≡◌, ℕ, ◌≤◌, ◌+◌, List, [], ◌++◌, refl, sym, ◌∙◌, ap, subst, arith}
-use Rattle.world_model.specs.Words.{Frame, Action, Work, Controller, Linked}
+use Rattle.law_controller_facts.specs.world_model.Words.{Frame, Action, Work, Controller, Linked}
 use Rattle.law_shown_cells.specs.law_label_line.Cells as lines
 use Rattle.law_shown_cells.specs.law_label_line.Cells.{Role, Downstream, Upstream, Way}
 use Rattle.law_shown_cells.specs.law_label_line.Line as states
 use Rattle.law_shown_cells.specs.law_label_line.Line.{Line}
 use Rattle.law_shown_cells.specs.law_label_line.Moves.{run}
-use Rattle.world_model.specs.Controller.{Acted}
+use Rattle.law_controller_facts.specs.world_model.Controller.{Acted}
 use Rattle.law_shown_cells.specs.law_port_views.Link.{LinkLabel, other}
 use Rattle.law_shown_cells.specs.law_port_views.Shown.{Part, part_of, rest_of, ShownAt}
 use Rattle.law_shown_cells.proofs.law_port_views.Reach.{run_join}

@@ -4,18 +4,18 @@
 use Rattle.std.proofs.Common.{◌≡◌, ◌≢◌, ℕ, ◌<◌, ◌≤◌, ◌+◌, Bool, true, false, List, [], ◌∷◌, ◌++◌, Option, None, Some, refl, sym, ◌∙◌, ap, ap₂, subst, arith, append_assoc, length, replicate, remove, zero, suc, if◌then◌else◌}
 use Rattle.std.specs.Prelude.{nat_le, ◌==◌, ◌&&◌}
 use Rattle.std.proofs.lemmas.Bool.Decides.{nat_tests}
-use Rattle.world_model.specs.Words.{PortNo, Addr, Mark, Channel, channel_on_control, label_channel_of, is_label_channel, GivenOut, next_control, with_control, Cell, Frame, Loss, PoolFull, payload_of, noted, frame_cells, made, Action, Say, Ask, Note, CutChain, TakeBack, Withdraw, Work, Controller, Linked, linked_at, default_channel, sends_control, says_ifmp}
-use Rattle.world_model.specs.ifmp_wire.declared.message.Message.{Message}
-use Rattle.world_model.specs.frame_model.Sending.{Sent}
+use Rattle.law_controller_facts.specs.world_model.Words.{PortNo, Addr, Mark, Channel, channel_on_control, label_channel_of, is_label_channel, GivenOut, next_control, with_control, Cell, Frame, Loss, PoolFull, payload_of, noted, frame_cells, made, Action, Say, Ask, Note, CutChain, TakeBack, Withdraw, Work, Controller, Linked, linked_at, default_channel, sends_control, says_ifmp}
+use Rattle.law_controller_facts.specs.world_model.ifmp_wire.declared.message.Message.{Message}
+use Rattle.law_controller_facts.specs.world_model.frame_model.Sending.{Sent}
 use Rattle.law_controller_facts.specs.ordered_lists.Ordered.{Every}
 use Rattle.law_controller_facts.proofs.law_port_facts.Keyed.{on_both}
 use Rattle.law_shown_cells.specs.law_label_line.Cells as lines
 use Rattle.law_shown_cells.specs.law_label_line.Cells.{Role, Downstream, Upstream, Way, split, preceded, lost, ToSwitch}
 use Rattle.law_shown_cells.specs.law_label_line.Line.{Line}
 use Rattle.law_shown_cells.specs.law_label_line.Moves.{Move, Split, Lose, step, run}
-use Rattle.world_model.specs.port_model.declared.action.Action.TheVariants.{Reset}
-use Rattle.world_model.specs.Controller.{Acted, free_slots}
-use Rattle.world_model.specs.Sending.{with_cells, sends}
+use Rattle.law_controller_facts.specs.world_model.port_model.declared.action.Action.TheVariants.{Reset}
+use Rattle.law_controller_facts.specs.world_model.Controller.{Acted, free_slots}
+use Rattle.law_controller_facts.specs.world_model.Sending.{with_cells, sends}
 use Rattle.law_shown_cells.specs.law_port_views.Link.{LinkLabel, other}
 use Rattle.law_shown_cells.specs.law_port_views.Heard.{heard_by, framed, is_own, IsOwn, asked, asked_all}
 use Rattle.law_shown_cells.specs.law_port_views.Shown.{Part, part_of, rest_of, ShownAt}

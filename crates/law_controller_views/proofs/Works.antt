@@ -2,21 +2,21 @@
 
 use Rattle.std.proofs.Common.{◌≡◌, ◌≢◌, ℕ, ◌≤◌, Bool, false, List, [], ◌∷◌, ◌++◌, Option, None, Some, refl, sym, ◌∙◌, ap, subst, arith, append-nil, fold, if◌then◌else◌}
 use Rattle.std.specs.Prelude.{◌==◌}
-use Rattle.world_model.specs.Words.{PortNo, End as ChannelEnd, next_control, is_estab, Request, MoveBranch, Cell, Frame, Record, payload_of, Journal, Reassembly, nothing_taken, cut, at, put, Desk, withdrawn, is_led_home, last_transaction, Action, Say, Ask, Note, CutChain, TakeBack, Withdraw, Setup, home_of, Work, resets, restarts, closing, Linked, port_key, linked_at, with_linked, with_desk, chain_of, chains_with, default_channel, default_home, says_gsmp, says_ifmp, cuts_of, cuts_label, begins, with_work, closes_by, port_restarts_as, port_restarts_of, port_restarts, resets_gsmp, node_resets, asks_next, asks, takes_back, withdraws_input, does, does_in_estab, resets_as, resets_of, resets_port, performs, performs_in_estab}
-use Rattle.world_model.specs.gsmp_wire.declared.message.Message.{Message as GsmpMessage}
-use Rattle.world_model.specs.gsmp_wire.Layout.{octets_of as gsmp_octets}
-use Rattle.world_model.specs.ifmp_wire.declared.message.Message.{Message}
+use Rattle.law_controller_facts.specs.world_model.Words.{PortNo, End as ChannelEnd, next_control, is_estab, Request, MoveBranch, Cell, Frame, Record, payload_of, Journal, Reassembly, nothing_taken, cut, at, put, Desk, withdrawn, is_led_home, last_transaction, Action, Say, Ask, Note, CutChain, TakeBack, Withdraw, Setup, home_of, Work, resets, restarts, closing, Linked, port_key, linked_at, with_linked, with_desk, chain_of, chains_with, default_channel, default_home, says_gsmp, says_ifmp, cuts_of, cuts_label, begins, with_work, closes_by, port_restarts_as, port_restarts_of, port_restarts, resets_gsmp, node_resets, asks_next, asks, takes_back, withdraws_input, does, does_in_estab, resets_as, resets_of, resets_port, performs, performs_in_estab}
+use Rattle.law_controller_facts.specs.world_model.gsmp_wire.declared.message.Message.{Message as GsmpMessage}
+use Rattle.law_controller_facts.specs.world_model.gsmp_wire.Layout.{octets_of as gsmp_octets}
+use Rattle.law_controller_facts.specs.world_model.ifmp_wire.declared.message.Message.{Message}
 use Rattle.law_controller_facts.specs.ordered_lists.Ordered.{Every}
 use Rattle.law_controller_facts.proofs.ordered_lists.Every.{every_left}
 use Rattle.law_controller_facts.proofs.law_port_facts.Keyed.{by_eq, on_both, at_key, at_put_same, at_put_other}
 use Rattle.law_shown_cells.specs.law_label_line.Cells as lines
 use Rattle.law_shown_cells.specs.law_label_line.Cells.{Role, Downstream, Upstream}
 use Rattle.law_shown_cells.specs.law_label_line.Line.{Line}
-use Rattle.world_model.specs.port_model.Desk.{asked as desk_asked, message_at}
-use Rattle.world_model.specs.port_model.declared.action.Action.TheVariants.{Reset}
-use Rattle.world_model.specs.port_model.Port.{Port}
+use Rattle.law_controller_facts.specs.world_model.port_model.Desk.{asked as desk_asked, message_at}
+use Rattle.law_controller_facts.specs.world_model.port_model.declared.action.Action.TheVariants.{Reset}
+use Rattle.law_controller_facts.specs.world_model.port_model.Port.{Port}
 use Rattle.law_shown_cells.proofs.law_port_views.Resets.{resetting}
-use Rattle.world_model.specs.Controller.{Acted, ports_of, note}
+use Rattle.law_controller_facts.specs.world_model.Controller.{Acted, ports_of, note}
 use Rattle.law_shown_cells.specs.law_port_views.Link.{LinkLabel, other}
 use Rattle.law_shown_cells.specs.law_port_views.Heard.{IsOwn, asked_all}
 use Rattle.law_shown_cells.specs.law_port_views.Shown.{Part, part_of, rest_of, ShownAt, Shown}

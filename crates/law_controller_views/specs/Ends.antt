@@ -2,12 +2,12 @@
 -- and the queues between them
 
 use Rattle.std.specs.Prelude.{◌≡◌, ℕ, ◌≤◌, false, List, [], Some}
-use Rattle.world_model.specs.Words.{GivenOut, Cell, Frame, Action, Work, Controller, Linked, linked_at}
+use Rattle.law_controller_facts.specs.world_model.Words.{GivenOut, Cell, Frame, Action, Work, Controller, Linked, linked_at}
 use Rattle.law_shown_cells.specs.law_label_line.Cells as lines
 use Rattle.law_shown_cells.specs.law_label_line.Cells.{Role, Downstream, Upstream, Way}
 use Rattle.law_shown_cells.specs.law_label_line.Line.{Line}
 use Rattle.law_shown_cells.specs.law_label_line.Moves.{Move, run}
-use Rattle.world_model.specs.Controller.{Acted}
+use Rattle.law_controller_facts.specs.world_model.Controller.{Acted}
 use Rattle.law_shown_cells.specs.law_port_views.Link.{LinkLabel, other}
 use Rattle.law_shown_cells.specs.law_port_views.Shown.{Part, part_of, ShownAt, rest_of}
 use Rattle.law_shown_cells.specs.Seen.{IsUnmade, Extends}

@@ -6,6 +6,7 @@ pub use Rattle.law_shown_cells.specs.law_label_line as law_label_line
 pub use Rattle.law_port_widths.specs as law_port_widths
 pub use Rattle.law_shown_cells.specs.law_port_views as law_port_views
 pub use Rattle.law_shown_cells.specs as law_shown_cells
+pub use Rattle.law_controller_facts.specs.world_model as world_model
 pub mod Ends
 pub mod Lifted
 pub mod Queues

@@ -1,13 +1,13 @@
 -- What a rule of a port has to be for its controller to lead the line: the lift from a port to its controller
 
 use Rattle.std.specs.Prelude.{◌≡◌, ℕ, ◌<◌, ◌≤◌, true, List, Some}
-use Rattle.world_model.specs.Words.{PortNo, Addr, is_label_number, ifmp_packet_of, default_payload, Action, Say, Linked, linked_at, begins, Rule}
-use Rattle.world_model.specs.ifmp_wire.declared.message.Message.{Message}
-use Rattle.world_model.specs.ifmp_wire.Message.{octets_of as ifmp_octets}
+use Rattle.law_controller_facts.specs.world_model.Words.{PortNo, Addr, is_label_number, ifmp_packet_of, default_payload, Action, Say, Linked, linked_at, begins, Rule}
+use Rattle.law_controller_facts.specs.world_model.ifmp_wire.declared.message.Message.{Message}
+use Rattle.law_controller_facts.specs.world_model.ifmp_wire.Message.{octets_of as ifmp_octets}
 use Rattle.law_controller_facts.specs.ordered_lists.Ordered.{Every}
 use Rattle.law_shown_cells.specs.law_label_line.Cells as lines
 use Rattle.law_shown_cells.specs.law_label_line.Cells.{Role}
-use Rattle.world_model.specs.Controller.{Acted}
+use Rattle.law_controller_facts.specs.world_model.Controller.{Acted}
 use Rattle.law_shown_cells.specs.law_port_views.Link.{LinkLabel}
 use Rattle.law_shown_cells.specs.law_port_views.Reaching.{Leads}
 use Rattle.law_shown_cells.specs.Seen.{IsUnmade}

@@ -1,7 +1,7 @@
 -- What a switch does with the first cell of a queue between the two controllers, as the line sees it
 
 use Rattle.std.specs.Prelude.{◌≡◌, List, [], ◌∷◌, ◌++◌}
-use Rattle.world_model.specs.Words.{Cell}
+use Rattle.law_controller_facts.specs.world_model.Words.{Cell}
 use Rattle.law_shown_cells.specs.law_label_line.Cells.{Role}
 use Rattle.law_shown_cells.specs.law_port_views.Link.{LinkLabel, other}
 use Rattle.law_shown_cells.specs.Label.{OnLink, OnControl, seen}

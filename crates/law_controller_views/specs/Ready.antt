@@ -3,10 +3,10 @@
 use Rattle.std.specs.Prelude.{◌≡◌, ◌<◌, ◌^◌, false, List}
 use Rattle.law_controller_facts.specs.ordered_lists.Ordered.{Every}
 use Rattle.law_shown_cells.specs.law_label_line.Cells.{Role}
-use Rattle.world_model.specs.Words.{Setup, is_spent, ticked, Controller, Linked, tries_joins, sends_again, ticks_ports}
+use Rattle.law_controller_facts.specs.world_model.Words.{Setup, is_spent, ticked, Controller, Linked, tries_joins, sends_again, ticks_ports}
 use Rattle.law_controller_facts.specs.law_port_facts.Port.{IsRanged}
-use Rattle.world_model.specs.Controller.{Acted}
-use Rattle.world_model.specs.Gsmp.{steps}
+use Rattle.law_controller_facts.specs.world_model.Controller.{Acted}
+use Rattle.law_controller_facts.specs.world_model.Gsmp.{steps}
 use Rattle.law_controller_facts.specs.Sound.{IsSound}
 use Rattle.law_controller_facts.specs.Said.{HasFlowingPorts}
 use Rattle.law_shown_cells.specs.law_port_views.Link.{LinkLabel}

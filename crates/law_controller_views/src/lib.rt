@@ -8,10 +8,10 @@
 #![tactic(auto)]
 
 ghost use Rattle.std.specs.Prelude.{◌≡◌, [], ◌∷◌, ◌≤◌, List, Some, ℕ};
-ghost use Rattle.world_model.specs.Words.{PortNo, Cell, Request, Action, Linked, linked_at, begins, node_resets, asks, Rule, at_port, resets_port};
+ghost use Rattle.law_controller_facts.specs.world_model.Words.{PortNo, Cell, Request, Action, Linked, linked_at, begins, node_resets, asks, Rule, at_port, resets_port};
 ghost use Rattle.law_shown_cells.specs.law_label_line.Cells.{Role};
 ghost use Rattle.law_shown_cells.specs.law_label_line.Line.{Line};
-ghost use Rattle.world_model.specs.Controller.{Acted};
+ghost use Rattle.law_controller_facts.specs.world_model.Controller.{Acted};
 ghost use Rattle.law_shown_cells.specs.law_port_views.Link.{LinkLabel};
 ghost use Rattle.law_controller_views.specs.Ends.{EndLeads, Quietly, Net, Goes, Pieces, asking, idle, placed};
 ghost use Rattle.law_controller_views.specs.Lifted.{IsProper, IsLifted, Growing};

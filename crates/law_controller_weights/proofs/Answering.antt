@@ -26,8 +26,8 @@ use Rattle.world_model.specs.Controller.{Acted, free_slots, ports_of, note}
 use Rattle.world_model.specs.Sending.{with_cells, sends}
 use Rattle.world_model.specs.Joins.{Join, output_of}
 use Rattle.world_model.specs.Meeting.{done}
-use Rattle.law_action_weights.specs.law_quiet.Costs.{total, request_weight, reset_weight, deleting_weight, listing_weight, meeting_weight}
-use Rattle.law_action_weights.specs.law_quiet.Weights.{Bound, standing_cost, desk_weight, state_cost, changes_left}
+use Rattle.law_action_weights.specs.claims_model.Costs.{total, request_weight, reset_weight, deleting_weight, listing_weight, meeting_weight}
+use Rattle.law_action_weights.specs.claims_model.Weights.{Bound, standing_cost, desk_weight, state_cost, changes_left}
 use Rattle.law_run_facts.proofs.law_port_facts.Keyed.{on_both, on_each}
 use Rattle.law_action_weights.proofs.law_port_weights.Sums.{total_found, total_mono}
 use Rattle.law_action_weights.proofs.law_port_weights.Works.{cost_of_grant}

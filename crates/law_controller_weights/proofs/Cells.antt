@@ -33,8 +33,8 @@ use Rattle.world_model.specs.Controller.{Acted, free_slots, note}
 use Rattle.world_model.specs.Gsmp.{answers, steps, told}
 use Rattle.world_model.specs.Cells.{Taker, after_test, ends_frame, after_cell, cell_comes}
 use Rattle.law_run_facts.proofs.law_shown_cells.Made.{extends_on}
-use Rattle.law_action_weights.specs.law_quiet.Costs.{frame_weight, meeting_weight, greeting_weight, answering_cost, if_said, message_cost, if_told, offer_weight, forwarding, packet_cost, if_unwrapped, controller_cost, default_cost}
-use Rattle.law_action_weights.specs.law_quiet.Weights.{Bearing, ToController, Plain, Labelled, Bound, bearing_of, bearing_on, cost_of, port_weight, changes_left}
+use Rattle.law_action_weights.specs.claims_model.Costs.{frame_weight, meeting_weight, greeting_weight, answering_cost, if_said, message_cost, if_told, offer_weight, forwarding, packet_cost, if_unwrapped, controller_cost, default_cost}
+use Rattle.law_action_weights.specs.claims_model.Weights.{Bearing, ToController, Plain, Labelled, Bound, bearing_of, bearing_on, cost_of, port_weight, changes_left}
 use Rattle.law_action_weights.proofs.law_port_weights.Below.{IsBelow, received_below}
 use Rattle.law_action_weights.proofs.law_port_weights.Rules.{hears_cost, used_free}
 use Rattle.law_action_weights.specs.law_port_weights.Law.{ServesOnce}

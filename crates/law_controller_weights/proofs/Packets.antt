@@ -17,8 +17,8 @@ use Rattle.world_model.specs.Sending.{sends}
 use Rattle.world_model.specs.Packets.{forwarded}
 use Rattle.world_model.specs.Topology.{peer_of}
 use Rattle.law_run_facts.proofs.law_shown_cells.Made.{made_elsewhere}
-use Rattle.law_action_weights.specs.law_quiet.Costs.{forwarding}
-use Rattle.law_action_weights.specs.law_quiet.Weights.{Bearing, ToSwitch, Plain, Labelled, Bound, bearing_of, bearing_on, hops_at}
+use Rattle.law_action_weights.specs.claims_model.Costs.{forwarding}
+use Rattle.law_action_weights.specs.claims_model.Weights.{Bearing, ToSwitch, Plain, Labelled, Bound, bearing_of, bearing_on, hops_at}
 use Rattle.law_controller_weights.specs.Coming.{IsToldGrant, HasToldGrants}
 use Rattle.law_action_weights.proofs.Judging.{Weighs, more, still, frame_cost, sent_cost, control_cost, bearing_home}
 use Rattle.law_action_weights.proofs.law_frame_weights.Readings.{packet_reads}

@@ -10,8 +10,8 @@ use Rattle.law_run_facts.specs.law_controller_facts.Sound.{IsSound}
 use Rattle.world_model.specs.Controller.{Acted, free_slots}
 use Rattle.world_model.specs.Cells.{Taker, cell_comes}
 use Rattle.world_model.specs.Topology.{peer_of}
-use Rattle.law_action_weights.specs.law_quiet.Weights.{Bound, hops_at, bearing_of, cost_of, cell_weight, controller_weight}
-use Rattle.law_action_weights.specs.law_quiet.Costs.{total}
+use Rattle.law_action_weights.specs.claims_model.Weights.{Bound, hops_at, bearing_of, cost_of, cell_weight, controller_weight}
+use Rattle.law_action_weights.specs.claims_model.Costs.{total}
 use Rattle.law_action_weights.specs.Fine.{IsFine}
 
 -- the grants of a port are of labels, whose cells have the hops that their flows' packets have

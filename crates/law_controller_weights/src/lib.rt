@@ -1,4 +1,4 @@
-//! The ranking function over a controller: a cell that comes to it adds nothing to the measure of `law_quiet`, but
+//! The ranking function over a controller: a cell that comes to it adds nothing to the measure of `claims_model`, but
 //! for what the frame that it ends may cause. Definitions and laws alone: `specs/Coming` has what is asked of the cell,
 //! and the statement.
 //!

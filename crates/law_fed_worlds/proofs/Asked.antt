@@ -2,9 +2,9 @@
 
 use Rattle.std.proofs.Common.{◌≡◌, ℕ, zero, suc, ◌<◌, List, [], ◌∷◌, length, Option, None, Some, refl, sym, ◌∙◌, ap, subst, arith, slice_index_or}
 use Rattle.std.specs.Option.{option_and_then}
-use Rattle.world_model.specs.Words.{End, number_of_channel, Request, at, Standing, Setup, home_of, Grant, grant_label, Controller, Linked, linked_at, leads, World, site_key, world_after}
+use Rattle.law_branch_shapes.specs.world_model.Words.{End, number_of_channel, Request, at, Standing, Setup, home_of, Grant, grant_label, Controller, Linked, linked_at, leads, World, site_key, world_after}
 use Rattle.law_branch_shapes.specs.ordered_lists.Ordered.{Every}
-use Rattle.world_model.specs.port_model.Grants.{input_of}
+use Rattle.law_branch_shapes.specs.world_model.port_model.Grants.{input_of}
 use Rattle.law_branch_shapes.specs.law_port_facts.Port.{IsShaped, asks_ports, empties_control, empties_port, opens_input, opens_output, leads_label, leads_grant, joins_label, parts_label, frees_label}
 use Rattle.law_branch_shapes.proofs.law_port_facts.Keyed.{at_every}
 use Rattle.law_branch_shapes.specs.law_controller_facts.Sound.{setups_by}
@@ -13,7 +13,7 @@ use Rattle.law_branch_shapes.specs.law_controller.Match.{lent_in, lent_at, Moves
 use Rattle.law_branch_shapes.proofs.law_controller.Laws.{always_matched}
 use Rattle.law_branch_shapes.proofs.law_lifetimes.Opened.{IsFed, opening_fed}
 use Rattle.law_branch_shapes.proofs.law_lifetimes.Runs.{run_fed}
-use Rattle.world_model.specs.World.{opened}
+use Rattle.law_branch_shapes.specs.world_model.World.{opened}
 use Rattle.law_branch_shapes.specs.law_world_views.Pairs.{IsJoin}
 use Rattle.law_fed_worlds.specs.Feeding.{AskedAreJoined}
 

@@ -3,13 +3,13 @@
 use Rattle.std.proofs.Common.{◌≡◌, List, [], ◌∷◌, ◌++◌, Option, None, Some, refl, sym, ◌∙◌, ap, subst, append_assoc}
 use Rattle.std.specs.Option.{option_and_then}
 use Rattle.std.specs.FinMap.{get}
-use Rattle.world_model.specs.Words.{Down, End, IsLinkPort, Setup, Controller, setup_of, Topology, World, Site, site_key, site_at, queue_at, next, worlds_from, world_after, records_of, IsTame}
-use Rattle.world_model.specs.crossbar_model.declared.branch.Branch.{Branch}
+use Rattle.law_branch_shapes.specs.world_model.Words.{Down, End, IsLinkPort, Setup, Controller, setup_of, Topology, World, Site, site_key, site_at, queue_at, next, worlds_from, world_after, records_of, IsTame}
+use Rattle.law_branch_shapes.specs.world_model.crossbar_model.declared.branch.Branch.{Branch}
 use Rattle.law_branch_shapes.proofs.ordered_lists.Every.{every_mapped}
 use Rattle.law_branch_shapes.proofs.law_port_facts.Keyed.{at_every}
 use Rattle.law_branch_shapes.proofs.law_controller_facts.Laws.{always_sound}
-use Rattle.world_model.specs.network_model.declared.event.Event.{Event}
-use Rattle.world_model.specs.World.{opened}
+use Rattle.law_branch_shapes.specs.world_model.network_model.declared.event.Event.{Event}
+use Rattle.law_branch_shapes.specs.world_model.World.{opened}
 use Rattle.law_branch_shapes.proofs.law_lifetimes.Opened.{IsFed, opening_fed}
 use Rattle.law_branch_shapes.proofs.law_lifetimes.Runs.{run_fed}
 use Rattle.law_branch_shapes.specs.law_world_views.Between.{setups_of}

@@ -4,10 +4,10 @@ use Rattle.std.proofs.Common.{◌≡◌, ◌≢◌, ℕ, ◌≤◌, ◌<◌, ◌
 use Rattle.std.specs.Prelude.{is_some}
 use Rattle.std.specs.FinMap.{get}
 use Rattle.std.specs.Option.{option_map, option_and_then}
-use Rattle.world_model.specs.Words.{NodeId, PortNo, Down, Channel, End, number_of_channel, IsLinkPort, at, Setup, home_of, Grant, grant_label, Controller, Linked, default_end, World, Site, site_at, queue_at, output_at}
-use Rattle.world_model.specs.crossbar_model.declared.branch.Branch.{Branch}
+use Rattle.law_branch_shapes.specs.world_model.Words.{NodeId, PortNo, Down, Channel, End, number_of_channel, IsLinkPort, at, Setup, home_of, Grant, grant_label, Controller, Linked, default_end, World, Site, site_at, queue_at, output_at}
+use Rattle.law_branch_shapes.specs.world_model.crossbar_model.declared.branch.Branch.{Branch}
 use Rattle.law_branch_shapes.specs.ordered_lists.Ordered.{Every}
-use Rattle.world_model.specs.port_model.Grants.{input_of}
+use Rattle.law_branch_shapes.specs.world_model.port_model.Grants.{input_of}
 use Rattle.law_branch_shapes.specs.law_port_facts.Port.{setup_port, IsLinked}
 use Rattle.law_branch_shapes.proofs.law_port_facts.Keyed.{by_eq, at_key, at_every}
 use Rattle.law_branch_shapes.specs.law_controller_facts.Conditions.{HasHome}

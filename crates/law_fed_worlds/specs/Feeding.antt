@@ -2,9 +2,9 @@
 -- switch that one list of cells leads to a label at most
 
 use Rattle.std.specs.Prelude.{◌≡◌, ◌<◌, true, List, [], ◌++◌, Contains, Some}
-use Rattle.world_model.specs.Words.{NodeId, Down, End, Standing, Policy, home_of, Topology, World, Site, queue_at, run, world_after, records_of, on_channel, output_at, HasCauses, IsTame, IsRun, leads}
-use Rattle.world_model.specs.network_model.declared.event.Event.{Event}
-use Rattle.world_model.specs.World.{opened}
+use Rattle.law_branch_shapes.specs.world_model.Words.{NodeId, Down, End, Standing, Policy, home_of, Topology, World, Site, queue_at, run, world_after, records_of, on_channel, output_at, HasCauses, IsTame, IsRun, leads}
+use Rattle.law_branch_shapes.specs.world_model.network_model.declared.event.Event.{Event}
+use Rattle.law_branch_shapes.specs.world_model.World.{opened}
 use Rattle.law_branch_shapes.specs.law_world_views.Pairs.{IsJoin}
 use Rattle.law_branch_shapes.specs.law_world_views.Between.{EachSite, HasShapes}
 use Rattle.law_branch_shapes.specs.law_world_views.Tied.{HasJoins}

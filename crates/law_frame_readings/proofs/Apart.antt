@@ -5,15 +5,15 @@ use Rattle.std.specs.Prelude.{◌==◌, nat_lt, slice_index}
 use Rattle.std.specs.Str.{bytes_eq}
 use Rattle.std.proofs.lemmas.List.{take-append-drop}
 use Rattle.std.proofs.lemmas.Slice.Eq.{bytes_eq-Decides}
-use Rattle.world_model.specs.Words.{total_length_of, FlowId, FlowKind, kind_of, EncapsFault, BadSnap, llc_snap, default_payload, labelled_payload, Carries, default_unwrapped, snap_header, refusal, refusal_by, type_of}
-use Rattle.world_model.proofs.ipv4_packet.HeaderLemmas.{on_header}
-use Rattle.world_model.specs.ipv4_packet.declared.flow.FlowKind.TheVariants.{One as ConnectionKind, Two as HostsKind}
-use Rattle.world_model.specs.flow_encaps.declared.default.EncapsFault.TheVariants.{Short}
-use Rattle.world_model.specs.gsmp_wire.declared.fault.Fault.{Fault}
-use Rattle.world_model.specs.gsmp_wire.declared.fault.Fault.TheVariants as faults
-use Rattle.world_model.specs.gsmp_wire.declared.message.Message.{Message}
-use Rattle.world_model.specs.gsmp_wire.Layout.{octets_of}
-use Rattle.world_model.specs.gsmp_wire.Fields.{decoded_by, decoded}
+use Rattle.law_controller_lifts.specs.world_model.Words.{total_length_of, FlowId, FlowKind, kind_of, EncapsFault, BadSnap, llc_snap, default_payload, labelled_payload, Carries, default_unwrapped, snap_header, refusal, refusal_by, type_of}
+use Rattle.law_controller_lifts.proofs.world_model.ipv4_packet.HeaderLemmas.{on_header}
+use Rattle.law_controller_lifts.specs.world_model.ipv4_packet.declared.flow.FlowKind.TheVariants.{One as ConnectionKind, Two as HostsKind}
+use Rattle.law_controller_lifts.specs.world_model.flow_encaps.declared.default.EncapsFault.TheVariants.{Short}
+use Rattle.law_controller_lifts.specs.world_model.gsmp_wire.declared.fault.Fault.{Fault}
+use Rattle.law_controller_lifts.specs.world_model.gsmp_wire.declared.fault.Fault.TheVariants as faults
+use Rattle.law_controller_lifts.specs.world_model.gsmp_wire.declared.message.Message.{Message}
+use Rattle.law_controller_lifts.specs.world_model.gsmp_wire.Layout.{octets_of}
+use Rattle.law_controller_lifts.specs.world_model.gsmp_wire.Fields.{decoded_by, decoded}
 
 -- *The default encapsulation*: what unwraps is the payload of that packet
 pub default_is : (payload packet : List ℕ) → default_unwrapped payload ≡ Ok packet → payload ≡ default_payload packet

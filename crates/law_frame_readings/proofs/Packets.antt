@@ -3,15 +3,15 @@
 use Rattle.std.proofs.Common.{◌≡◌, ℕ, ◌/◌, ◌%◌, ◌≤◌, Bool, true, false, not, List, length, Option, None, Some, refl, ◌∙◌, ap, arith, if◌then◌else◌}
 use Rattle.std.specs.Prelude.{◌==◌, nat_lt, slice_index}
 use Rattle.std.proofs.lemmas.Bool.Decides.{nat_tests}
-use Rattle.world_model.specs.Words.{Mark, PacketFault, Version, Options, TooLong, Checksum, protocol_of, total_length_of, header_sum, ifmp_packet_of, IsPacket, FlowId, identifier, Redirect, Reclaim, ReclaimAck, LabelRange, Error, Refusal, ControlProtocol, control_protocol, refused_by}
-use Rattle.world_model.specs.ipv4_packet.declared.validate.PacketFault.TheVariants.{Short, Length}
-use Rattle.world_model.specs.ipv4_packet.Packet.{first_fault}
-use Rattle.world_model.proofs.ipv4_packet.MessageLemmas.{IsPacket-ifmp_packet_of}
-use Rattle.world_model.specs.ipv4_packet.declared.flow.FlowId.TheVariants.{One, Two}
-use Rattle.world_model.specs.ifmp_wire.declared.message.Message.{Message}
-use Rattle.world_model.specs.ifmp_wire.declared.message.Message.TheVariants.{Adjacency}
-use Rattle.world_model.specs.ifmp_wire.Message.{octets_of}
-use Rattle.world_model.specs.ifmp_wire.Fields.{decoded}
+use Rattle.law_controller_lifts.specs.world_model.Words.{Mark, PacketFault, Version, Options, TooLong, Checksum, protocol_of, total_length_of, header_sum, ifmp_packet_of, IsPacket, FlowId, identifier, Redirect, Reclaim, ReclaimAck, LabelRange, Error, Refusal, ControlProtocol, control_protocol, refused_by}
+use Rattle.law_controller_lifts.specs.world_model.ipv4_packet.declared.validate.PacketFault.TheVariants.{Short, Length}
+use Rattle.law_controller_lifts.specs.world_model.ipv4_packet.Packet.{first_fault}
+use Rattle.law_controller_lifts.proofs.world_model.ipv4_packet.MessageLemmas.{IsPacket-ifmp_packet_of}
+use Rattle.law_controller_lifts.specs.world_model.ipv4_packet.declared.flow.FlowId.TheVariants.{One, Two}
+use Rattle.law_controller_lifts.specs.world_model.ifmp_wire.declared.message.Message.{Message}
+use Rattle.law_controller_lifts.specs.world_model.ifmp_wire.declared.message.Message.TheVariants.{Adjacency}
+use Rattle.law_controller_lifts.specs.world_model.ifmp_wire.Message.{octets_of}
+use Rattle.law_controller_lifts.specs.world_model.ifmp_wire.Fields.{decoded}
 use Rattle.law_controller_lifts.proofs.law_wire.Ifmp.{read_back}
 use Rattle.law_controller_lifts.proofs.law_wire.Packets.{protocol_is, source_is, message_is}
 use Rattle.law_controller_lifts.specs.law_shown_cells.Label.{Told}

@@ -2,17 +2,17 @@
 
 use Rattle.std.proofs.Common.{◌≡◌, ◌≢◌, ℕ, Bool, List, [], ◌∷◌, take, drop, Option, None, Some, Result, Ok, Err, refl, sym, ◌∙◌, ap, subst, if◌then◌else◌}
 use Rattle.std.specs.Option.{option_map, option_and_then}
-use Rattle.world_model.specs.Words.{Mark, source_of, ifmp_packet_of, FlowId, EncapsFault, default_payload, Carries, default_unwrapped, unwrapped_by, unwrapped, Standing, Frame, payload_of, ifmp_in, ifmp_of, gsmp_of, ifmp_under, gsmp_under, copy_of, copy_under}
-use Rattle.world_model.proofs.flow_encaps.CarryLemmas.{packet-carried, unwrap_fault-carried}
-use Rattle.world_model.specs.ifmp_wire.declared.message.Message.{Message as IfmpMessage}
-use Rattle.world_model.specs.ifmp_wire.Message.{octets_of as ifmp_octets}
-use Rattle.world_model.specs.ifmp_wire.Fields.{decoded as ifmp_decoded}
-use Rattle.world_model.specs.gsmp_wire.declared.fault.Fault.{Fault}
-use Rattle.world_model.specs.gsmp_wire.declared.message.Message.{Message as GsmpMessage}
-use Rattle.world_model.specs.gsmp_wire.Fields.{decoded as gsmp_decoded}
+use Rattle.law_controller_lifts.specs.world_model.Words.{Mark, source_of, ifmp_packet_of, FlowId, EncapsFault, default_payload, Carries, default_unwrapped, unwrapped_by, unwrapped, Standing, Frame, payload_of, ifmp_in, ifmp_of, gsmp_of, ifmp_under, gsmp_under, copy_of, copy_under}
+use Rattle.law_controller_lifts.proofs.world_model.flow_encaps.CarryLemmas.{packet-carried, unwrap_fault-carried}
+use Rattle.law_controller_lifts.specs.world_model.ifmp_wire.declared.message.Message.{Message as IfmpMessage}
+use Rattle.law_controller_lifts.specs.world_model.ifmp_wire.Message.{octets_of as ifmp_octets}
+use Rattle.law_controller_lifts.specs.world_model.ifmp_wire.Fields.{decoded as ifmp_decoded}
+use Rattle.law_controller_lifts.specs.world_model.gsmp_wire.declared.fault.Fault.{Fault}
+use Rattle.law_controller_lifts.specs.world_model.gsmp_wire.declared.message.Message.{Message as GsmpMessage}
+use Rattle.law_controller_lifts.specs.world_model.gsmp_wire.Fields.{decoded as gsmp_decoded}
 use Rattle.law_world_views.proofs.law_gsmp_reading.Read.{message_is_read}
 use Rattle.law_controller_lifts.proofs.Lifts.{readable}
-use Rattle.world_model.specs.Ways.{told}
+use Rattle.law_controller_lifts.specs.world_model.Ways.{told}
 use Rattle.law_controller_lifts.specs.law_shown_cells.Label.{Told, told_in, told_of}
 use Rattle.law_world_views.specs.Made.{IsFit, IsMadeAs, plain, labelled, told as told_as, said as said_as, AreMade}
 use Rattle.law_frame_readings.specs.Reading.{IsToldAs, IsSaidAs, Holds, sent, told as holds_told, HasTold, HasSaid}

@@ -13,4 +13,5 @@ pub use Rattle.law_controller_lifts.specs.law_controller_views as law_controller
 pub use Rattle.law_world_views.specs.law_input_views as law_input_views
 pub use Rattle.law_world_views.specs.law_gsmp_reading as law_gsmp_reading
 pub use Rattle.law_world_views.specs as law_world_views
+pub use Rattle.law_controller_lifts.specs.world_model as world_model
 pub mod Reading

@@ -1,14 +1,14 @@
 -- What a receiver reads in a frame that was made in a network: what its maker wrote, and nothing else
 
 use Rattle.std.specs.Prelude.{◌≡◌, ◌≢◌, ℕ, ◌<◌, ◌^◌, ◌==◌, true, false, List, drop, None, Some, Ok}
-use Rattle.world_model.specs.Words.{Mark, protocol_of, source_of, ifmp_packet_of, FlowId, default_payload, Carries, default_unwrapped, unwrapped, InRange, FitsMessage, Fits, Standing, Frame, payload_of, control_protocol, ifmp_under, gsmp_under, copy_of, copy_under}
-use Rattle.world_model.specs.ipv4_packet.Packet.{first_fault}
-use Rattle.world_model.specs.ifmp_wire.declared.message.Message.{Message as IfmpMessage}
-use Rattle.world_model.specs.ifmp_wire.Message.{octets_of as ifmp_octets}
-use Rattle.world_model.specs.ifmp_wire.Fields.{decoded as ifmp_decoded}
-use Rattle.world_model.specs.gsmp_wire.declared.message.Message.{Message as GsmpMessage}
-use Rattle.world_model.specs.gsmp_wire.Layout.{octets_of as gsmp_octets}
-use Rattle.world_model.specs.gsmp_wire.Fields.{decoded as gsmp_decoded}
+use Rattle.law_controller_lifts.specs.world_model.Words.{Mark, protocol_of, source_of, ifmp_packet_of, FlowId, default_payload, Carries, default_unwrapped, unwrapped, InRange, FitsMessage, Fits, Standing, Frame, payload_of, control_protocol, ifmp_under, gsmp_under, copy_of, copy_under}
+use Rattle.law_controller_lifts.specs.world_model.ipv4_packet.Packet.{first_fault}
+use Rattle.law_controller_lifts.specs.world_model.ifmp_wire.declared.message.Message.{Message as IfmpMessage}
+use Rattle.law_controller_lifts.specs.world_model.ifmp_wire.Message.{octets_of as ifmp_octets}
+use Rattle.law_controller_lifts.specs.world_model.ifmp_wire.Fields.{decoded as ifmp_decoded}
+use Rattle.law_controller_lifts.specs.world_model.gsmp_wire.declared.message.Message.{Message as GsmpMessage}
+use Rattle.law_controller_lifts.specs.world_model.gsmp_wire.Layout.{octets_of as gsmp_octets}
+use Rattle.law_controller_lifts.specs.world_model.gsmp_wire.Fields.{decoded as gsmp_decoded}
 use Rattle.law_world_views.specs.law_gsmp_reading.Said.{IsSaid}
 use Rattle.law_controller_lifts.specs.law_controller_views.Lifted.{payload_by}
 use Rattle.law_controller_lifts.specs.law_shown_cells.Label.{Told, told_of}

@@ -5,10 +5,10 @@ use Rattle.std.specs.Prelude.{◌==◌}
 use Rattle.std.specs.List.{range_with_len}
 use Rattle.std.proofs.lemmas.List.FromFn.{map-range_with_len_more}
 use Rattle.std.proofs.lemmas.Bool.Decides.{nat_tests}
-use Rattle.world_model.specs.Words.{Channel, Mark, Cell, frame_cells}
+use Rattle.law_port_weights.specs.world_model.Words.{Channel, Mark, Cell, frame_cells}
 use Rattle.aal5_frames.specs.Frame.{cell_of, cells_for, pdu_of}
 use Rattle.aal5_frames.proofs.Cells.{cells_all, length-pdu_of}
-use Rattle.law_port_weights.specs.law_quiet.Costs.{total}
+use Rattle.law_port_weights.specs.claims_model.Costs.{total}
 use Rattle.law_port_weights.proofs.Sums.{total_more}
 
 module _ (weigh : Cell → ℕ) (each cost : ℕ) (channel : Channel) (mark : Mark) where

@@ -2,24 +2,24 @@
 
 use Rattle.std.proofs.Common.{◌≡◌, ℕ, ◌≤◌, ◌+◌, ◌*◌, Bool, true, false, List, ◌∷◌, drop, Option, None, Some, Result, Ok, Err, refl, ◌∙◌, ap, arith, if◌then◌else◌}
 use Rattle.std.specs.Prelude.{◌==◌, slice_index}
-use Rattle.world_model.specs.Words.{Addr, HelloKind, Syn, Synack, Ack, Rstack, protocol_of, ttl_of, ifmp_packet_of, PacketFault, default_payload, refusal, type_of, control_protocol}
-use Rattle.world_model.specs.ipv4_packet.Packet.{first_fault}
-use Rattle.world_model.specs.gsmp_wire.declared.message.BranchKind.TheVariants as kinds
-use Rattle.world_model.specs.gsmp_wire.declared.message.Message as gsmp
-use Rattle.world_model.specs.gsmp_wire.declared.message.Message.TheVariants as said
-use Rattle.world_model.specs.gsmp_wire.declared.fault.Fault as gsmp_faults
-use Rattle.world_model.specs.gsmp_wire.Fields as gsmp_fields
-use Rattle.world_model.specs.gsmp_wire.Layout as gsmp_layout
-use Rattle.world_model.specs.gsmp_wire.Layout.{octets_of as gsmp_octets}
-use Rattle.world_model.specs.ifmp_wire.declared.message.Message as ifmp
-use Rattle.world_model.specs.ifmp_wire.declared.message.Message.TheVariants as told
-use Rattle.world_model.specs.ifmp_wire.declared.reader.Fault as ifmp_faults
-use Rattle.world_model.specs.ifmp_wire.Fields as ifmp_fields
-use Rattle.world_model.specs.ifmp_wire.Message as ifmp_layout
-use Rattle.world_model.specs.ifmp_wire.Message.{octets_of as ifmp_octets}
-use Rattle.world_model.specs.ifmp_wire.Tests as tests
+use Rattle.law_port_weights.specs.world_model.Words.{Addr, HelloKind, Syn, Synack, Ack, Rstack, protocol_of, ttl_of, ifmp_packet_of, PacketFault, default_payload, refusal, type_of, control_protocol}
+use Rattle.law_port_weights.specs.world_model.ipv4_packet.Packet.{first_fault}
+use Rattle.law_port_weights.specs.world_model.gsmp_wire.declared.message.BranchKind.TheVariants as kinds
+use Rattle.law_port_weights.specs.world_model.gsmp_wire.declared.message.Message as gsmp
+use Rattle.law_port_weights.specs.world_model.gsmp_wire.declared.message.Message.TheVariants as said
+use Rattle.law_port_weights.specs.world_model.gsmp_wire.declared.fault.Fault as gsmp_faults
+use Rattle.law_port_weights.specs.world_model.gsmp_wire.Fields as gsmp_fields
+use Rattle.law_port_weights.specs.world_model.gsmp_wire.Layout as gsmp_layout
+use Rattle.law_port_weights.specs.world_model.gsmp_wire.Layout.{octets_of as gsmp_octets}
+use Rattle.law_port_weights.specs.world_model.ifmp_wire.declared.message.Message as ifmp
+use Rattle.law_port_weights.specs.world_model.ifmp_wire.declared.message.Message.TheVariants as told
+use Rattle.law_port_weights.specs.world_model.ifmp_wire.declared.reader.Fault as ifmp_faults
+use Rattle.law_port_weights.specs.world_model.ifmp_wire.Fields as ifmp_fields
+use Rattle.law_port_weights.specs.world_model.ifmp_wire.Message as ifmp_layout
+use Rattle.law_port_weights.specs.world_model.ifmp_wire.Message.{octets_of as ifmp_octets}
+use Rattle.law_port_weights.specs.world_model.ifmp_wire.Tests as tests
 use Rattle.law_wire.proofs.Packets.{protocol_is, message_is, unwrapped_again}
-use Rattle.law_port_weights.specs.law_quiet.Costs.{rank, answer_weight, frame_weight, meeting_weight, greeting_weight, hello_weight, asking_cost, answering_cost, if_said, switch_cost, controller_cost, message_cost, if_told, offer_weight, forwarding, packet_cost, if_unwrapped, default_cost}
+use Rattle.law_port_weights.specs.claims_model.Costs.{rank, answer_weight, frame_weight, meeting_weight, greeting_weight, hello_weight, asking_cost, answering_cost, if_said, switch_cost, controller_cost, message_cost, if_told, offer_weight, forwarding, packet_cost, if_unwrapped, default_cost}
 
 -- *GSMP*
 greeting_again : (kind : HelloKind) → rank (gsmp_fields.hello_kind (gsmp_layout.hello_code kind)) ≡ rank kind

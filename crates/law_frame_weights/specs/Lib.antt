@@ -1,2 +1,2 @@
-pub use Rattle.law_port_weights.specs.law_quiet as law_quiet
+pub use Rattle.law_port_weights.specs.claims_model as claims_model
 pub use Rattle.law_port_weights.specs as law_port_weights

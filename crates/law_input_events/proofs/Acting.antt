@@ -3,24 +3,24 @@
 use Rattle.std.proofs.Common.{◌≡◌, ℕ, ◌+◌, ◌<◌, ◌≤◌, ◌^◌, Bool, true, false, List, [], ◌∷◌, ◌++◌, length, Option, None, Some, refl, sym, ◌∙◌, subst, arith, if◌then◌else◌}
 use Rattle.std.specs.Prelude.{nat_le}
 use Rattle.std.specs.FinMap.{get, keys}
-use Rattle.world_model.specs.Words.{End, NodeId, PortNo, Greeting, Party, next_control, with_control, Answer, Quiet, Send, Open, gsmp_answer, ticked, Cell, IsLinkPort, Routed, routed, Loss, payload_of, noted, frame_cells, made, Setup, control_port, gsmp_channel, all_ended, Controller, default_channel, same_channel, inject_refusal, injected, Refusal, node_restarts, change_comes, Site, World, site_at, with_site, controller_acts, switch_acts}
-use Rattle.world_model.specs.adjacency_table.declared.message.Answer.TheVariants.{Reset}
-use Rattle.world_model.specs.adjacency_table.Side as sides
-use Rattle.world_model.specs.crossbar_model.declared.routed.Routed.TheVariants as routes_of
-use Rattle.world_model.specs.crossbar_model.Crossbar.{input_of}
-use Rattle.world_model.specs.gsmp_wire.Layout.{octets_of}
-use Rattle.world_model.specs.gsmp_wire.declared.message.Message as gsmp
-use Rattle.world_model.specs.gsmp_wire.declared.message.Message.TheVariants.{Adjacency}
-use Rattle.world_model.specs.link_model.declared.record.Cause.TheVariants as causes
-use Rattle.world_model.specs.frame_model.Sending.{Sent}
+use Rattle.law_input_premises.specs.world_model.Words.{End, NodeId, PortNo, Greeting, Party, next_control, with_control, Answer, Quiet, Send, Open, gsmp_answer, ticked, Cell, IsLinkPort, Routed, routed, Loss, payload_of, noted, frame_cells, made, Setup, control_port, gsmp_channel, all_ended, Controller, default_channel, same_channel, inject_refusal, injected, Refusal, node_restarts, change_comes, Site, World, site_at, with_site, controller_acts, switch_acts}
+use Rattle.law_input_premises.specs.world_model.adjacency_table.declared.message.Answer.TheVariants.{Reset}
+use Rattle.law_input_premises.specs.world_model.adjacency_table.Side as sides
+use Rattle.law_input_premises.specs.world_model.crossbar_model.declared.routed.Routed.TheVariants as routes_of
+use Rattle.law_input_premises.specs.world_model.crossbar_model.Crossbar.{input_of}
+use Rattle.law_input_premises.specs.world_model.gsmp_wire.Layout.{octets_of}
+use Rattle.law_input_premises.specs.world_model.gsmp_wire.declared.message.Message as gsmp
+use Rattle.law_input_premises.specs.world_model.gsmp_wire.declared.message.Message.TheVariants.{Adjacency}
+use Rattle.law_input_premises.specs.world_model.link_model.declared.record.Cause.TheVariants as causes
+use Rattle.law_input_premises.specs.world_model.frame_model.Sending.{Sent}
 use Rattle.law_input_premises.specs.ordered_lists.Ordered.{Every}
 use Rattle.law_input_premises.specs.law_port_facts.Port.{IsLabelEnd}
 use Rattle.law_input_premises.proofs.law_port_facts.Keyed.{on_both}
-use Rattle.world_model.specs.Switch as switches
-use Rattle.world_model.specs.Conduct as conduct
-use Rattle.world_model.specs.Controller.{Acted}
-use Rattle.world_model.specs.Cells.{cell_comes}
-use Rattle.world_model.specs.Ticks.{ticks}
+use Rattle.law_input_premises.specs.world_model.Switch as switches
+use Rattle.law_input_premises.specs.world_model.Conduct as conduct
+use Rattle.law_input_premises.specs.world_model.Controller.{Acted}
+use Rattle.law_input_premises.specs.world_model.Cells.{cell_comes}
+use Rattle.law_input_premises.specs.world_model.Ticks.{ticks}
 use Rattle.law_input_premises.specs.law_controller_facts.Inputs.{Input, CellComes, PacketEnters, Ticks, Restarts, ChangeComes, enters_unless, takes_input}
 use Rattle.law_input_premises.specs.law_controller_facts.Sound.{IsOwn}
 use Rattle.law_input_premises.proofs.law_controller_facts.Conditions.{label_has_home}
@@ -28,7 +28,7 @@ use Rattle.law_input_premises.proofs.law_controller_facts.Laws.{input_goes}
 use Rattle.law_input_premises.proofs.law_controller_facts.Nodes.{moves_node}
 use Rattle.law_input_premises.proofs.law_controller.Whole.{Whole, holds_of}
 use Rattle.law_input_premises.proofs.law_controller.Events.{input_holds}
-use Rattle.world_model.specs.World.{at_controller, at_switch}
+use Rattle.law_input_premises.specs.world_model.World.{at_controller, at_switch}
 use Rattle.law_input_premises.specs.law_shown_cells.Seen.{IsUnmade, Extends}
 use Rattle.law_input_premises.proofs.law_shown_cells.Made.{extends_self, extends_made}
 use Rattle.law_world_views.specs.law_controller_views.Ends.{Grows}

@@ -3,16 +3,16 @@
 use Rattle.std.proofs.Common.{◌≡◌, ℕ, ◌<◌, ◌≤◌, ◌^◌, Bool, true, List, [], ◌∷◌, length, Option, None, Some, refl, ◌∙◌, ap, arith, if◌then◌else◌}
 use Rattle.std.specs.Prelude.{◌==◌, map}
 use Rattle.std.proofs.lemmas.Bool.Decides.{nat_tests}
-use Rattle.world_model.specs.Words.{Channel, End, FitsRows, Fits, BranchKind, Add, Delete, Verify, Move, Request, Journal, Standing, head_of, Switch, asked_in, is_request, end_at, failure_of, failure_code, count_of, handled, handled_by, copy_of, copy_by}
-use Rattle.world_model.specs.gsmp_wire.declared.message.BranchKind.TheVariants.{DeleteAll}
-use Rattle.world_model.specs.gsmp_wire.declared.message.Message.{Message}
-use Rattle.world_model.specs.gsmp_wire.declared.message.Message.TheVariants.{Adjacency, Branch, Port, AllPorts}
-use Rattle.world_model.specs.gsmp_wire.declared.request.Request.TheVariants as requests
+use Rattle.law_input_premises.specs.world_model.Words.{Channel, End, FitsRows, Fits, BranchKind, Add, Delete, Verify, Move, Request, Journal, Standing, head_of, Switch, asked_in, is_request, end_at, failure_of, failure_code, count_of, handled, handled_by, copy_of, copy_by}
+use Rattle.law_input_premises.specs.world_model.gsmp_wire.declared.message.BranchKind.TheVariants.{DeleteAll}
+use Rattle.law_input_premises.specs.world_model.gsmp_wire.declared.message.Message.{Message}
+use Rattle.law_input_premises.specs.world_model.gsmp_wire.declared.message.Message.TheVariants.{Adjacency, Branch, Port, AllPorts}
+use Rattle.law_input_premises.specs.world_model.gsmp_wire.declared.request.Request.TheVariants as requests
 use Rattle.law_input_premises.specs.law_gsmp_reading.Said.{HasResult, succeeds, fails, HasBranches, no_branch, one_branch, NamesEnds, HasRows, all_told, all_failed, IsSaid}
-use Rattle.world_model.specs.switch_model.declared.port.PortState.{PortState}
-use Rattle.world_model.specs.switch_model.declared.request.Failure.{Failure}
-use Rattle.world_model.specs.switch_model.declared.request.Failure.TheVariants.{NoPort, BadSession, PortDown, OutOfRange, Busy, NoConnection, SessionsSpent}
-use Rattle.world_model.specs.Answers.{row_of}
+use Rattle.law_input_premises.specs.world_model.switch_model.declared.port.PortState.{PortState}
+use Rattle.law_input_premises.specs.world_model.switch_model.declared.request.Failure.{Failure}
+use Rattle.law_input_premises.specs.world_model.switch_model.declared.request.Failure.TheVariants.{NoPort, BadSession, PortDown, OutOfRange, Busy, NoConnection, SessionsSpent}
+use Rattle.law_input_premises.specs.world_model.Answers.{row_of}
 use Rattle.law_input_premises.specs.law_input_steps.Asking.{IsReadable, IsAsked}
 use Rattle.law_input_premises.proofs.Written.{IsWritten, written}
 use Rattle.law_input_premises.proofs.Reading.{readable}

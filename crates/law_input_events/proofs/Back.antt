@@ -4,18 +4,18 @@ use Rattle.std.proofs.Common.{◌≡◌, ℕ, ◌+◌, ◌<◌, ◌≤◌, ◌^�
 use Rattle.std.specs.Prelude.{◌==◌, ◌&&◌, nat_lt}
 use Rattle.std.specs.Option.{option_and_then}
 use Rattle.std.proofs.lemmas.Bool.Decides.{nat_tests}
-use Rattle.world_model.specs.Words.{Greeting, HelloKind, Party, End, NodeId, side_of, step_by, gsmp_answer, gsmp_received, SideByInstances, row_for, Side, Step, is_estab, Cell, IsLinkPort, queue_of, popped, Request, AddBranch, MoveBranch, DeleteTree, VerifyTree, PortManagement, FitsRows, PortRow, PortNo, payload_of, last_mark, payload_in, Standing, Head, head_of, is_of_type, Answered, Unknown, Done, Ports, Failed, succeeded, outcome, answered_with, answered, without_request, Setup, with_desk, default_channel, same_channel, takes_answer, answer_comes, asked_in, Switch, control_port, numbers_of, gsmp_of, gsmp_under, copy_by}
-use Rattle.world_model.proofs.adjacency_table.EndsLemmas.{gsmp_received_by_instances}
-use Rattle.world_model.specs.gsmp_wire.Fields.{decoded}
-use Rattle.world_model.specs.gsmp_wire.declared.fault.Fault.{Fault}
-use Rattle.world_model.specs.gsmp_wire.declared.message.BranchKind.TheVariants as kinds
-use Rattle.world_model.specs.gsmp_wire.declared.message.Message.{Message}
-use Rattle.world_model.specs.gsmp_wire.declared.message.Message.TheVariants as messages
-use Rattle.world_model.specs.gsmp_wire.declared.message.Message.TheVariants.{Adjacency}
-use Rattle.world_model.specs.gsmp_wire.declared.request.Request.TheVariants.{DeleteAll, AllPorts}
-use Rattle.world_model.specs.port_model.Messages.{is_up}
+use Rattle.law_input_premises.specs.world_model.Words.{Greeting, HelloKind, Party, End, NodeId, side_of, step_by, gsmp_answer, gsmp_received, SideByInstances, row_for, Side, Step, is_estab, Cell, IsLinkPort, queue_of, popped, Request, AddBranch, MoveBranch, DeleteTree, VerifyTree, PortManagement, FitsRows, PortRow, PortNo, payload_of, last_mark, payload_in, Standing, Head, head_of, is_of_type, Answered, Unknown, Done, Ports, Failed, succeeded, outcome, answered_with, answered, without_request, Setup, with_desk, default_channel, same_channel, takes_answer, answer_comes, asked_in, Switch, control_port, numbers_of, gsmp_of, gsmp_under, copy_by}
+use Rattle.law_input_premises.proofs.world_model.adjacency_table.EndsLemmas.{gsmp_received_by_instances}
+use Rattle.law_input_premises.specs.world_model.gsmp_wire.Fields.{decoded}
+use Rattle.law_input_premises.specs.world_model.gsmp_wire.declared.fault.Fault.{Fault}
+use Rattle.law_input_premises.specs.world_model.gsmp_wire.declared.message.BranchKind.TheVariants as kinds
+use Rattle.law_input_premises.specs.world_model.gsmp_wire.declared.message.Message.{Message}
+use Rattle.law_input_premises.specs.world_model.gsmp_wire.declared.message.Message.TheVariants as messages
+use Rattle.law_input_premises.specs.world_model.gsmp_wire.declared.message.Message.TheVariants.{Adjacency}
+use Rattle.law_input_premises.specs.world_model.gsmp_wire.declared.request.Request.TheVariants.{DeleteAll, AllPorts}
+use Rattle.law_input_premises.specs.world_model.port_model.Messages.{is_up}
 use Rattle.law_input_premises.specs.law_port_facts.Port.{IsLabelEnd}
-use Rattle.world_model.specs.frame_model.Frame.{octets_of as cell_octets}
+use Rattle.law_input_premises.specs.world_model.frame_model.Frame.{octets_of as cell_octets}
 use Rattle.law_input_premises.specs.ordered_lists.Ordered.{Every}
 use Rattle.law_input_premises.proofs.ordered_lists.Every.{every_right}
 use Rattle.law_input_premises.proofs.law_port_facts.Found.{find_every, find_passes}
@@ -24,14 +24,14 @@ use Rattle.law_input_premises.specs.law_branch_line.Words as lines
 use Rattle.law_input_premises.specs.law_branch_line.Words.{ToController, SwitchGreets, Answer, Outcome, Success, Failure}
 use Rattle.law_input_premises.specs.law_branch_line.Line.{Line}
 use Rattle.law_input_premises.specs.law_branch_line.Law.{RepeatsDrawn, HasDrawn, IsReached}
-use Rattle.world_model.specs.Controller.{Acted, ports_of, free_slots}
-use Rattle.world_model.specs.Meeting.{done}
+use Rattle.law_input_premises.specs.world_model.Controller.{Acted, ports_of, free_slots}
+use Rattle.law_input_premises.specs.world_model.Meeting.{done}
 use Rattle.law_input_premises.proofs.law_controller_facts.Laws.{moves_sound}
 use Rattle.law_input_premises.proofs.law_controller_facts.Moves.{gathering, moves_to}
 use Rattle.law_input_premises.specs.law_controller.Order.{IsOther, IsDeleting, IsMeeting, listing, emptying}
 use Rattle.law_input_premises.proofs.law_controller.Whole.{Whole}
-use Rattle.world_model.specs.switch_model.declared.request.Asked.{Asked}
-use Rattle.world_model.specs.Ways.{told}
+use Rattle.law_input_premises.specs.world_model.switch_model.declared.request.Asked.{Asked}
+use Rattle.law_input_premises.specs.world_model.Ways.{told}
 use Rattle.law_input_premises.specs.law_shown_cells.Seen.{Seen, Nothing, Word, Unknown}
 use Rattle.law_input_premises.proofs.law_shown_cells.Shows.{First, no_word, a_word, first_of}
 use Rattle.law_input_premises.specs.law_input_views.Words.{word_of, is_own_greeting, seen_answer, seen_answer_to, seen_outcome, seen_on_gsmp, seen_cell, erased_back}

@@ -3,21 +3,21 @@
 use Rattle.std.proofs.Common.{◌≡◌, ℕ, ◌≤◌, Bool, true, false, not, List, [], ◌∷◌, ◌++◌, length, Option, None, Some, Result, Ok, Err, refl, sym, ◌∙◌, subst, arith, if◌then◌else◌}
 use Rattle.std.specs.Prelude.{◌==◌, ◌&&◌, nat_le, nat_lt}
 use Rattle.std.specs.FinMap as finite
-use Rattle.world_model.specs.Words.{End, NodeId, GivenOut, is_estab, gsmp_received, Cell, last_mark, payload_in, tested_by, Reassembly, marks_of, most_cells, passed_over, without_slot, too_long, Move, Request, Loss, PoolFull, Frame, Journal, noted, Changed, branches_after, inputs_on, asked_in, is_request, failure_of, Handled, handled, handled_asked, handled_by, Site, World, site_at, with_site}
-use Rattle.world_model.specs.frame_model.Frame.{octets_of, passed}
-use Rattle.world_model.specs.frame_model.Reassembly.{Taken, joined}
-use Rattle.world_model.specs.gsmp_wire.Fields.{decoded}
-use Rattle.world_model.specs.gsmp_wire.declared.fault.Fault.{Fault}
-use Rattle.world_model.specs.gsmp_wire.declared.message.Message.{Message}
-use Rattle.world_model.specs.gsmp_wire.declared.message.Message.TheVariants.{Adjacency, Branch, Port, AllPorts}
-use Rattle.world_model.specs.gsmp_wire.declared.request.Request.TheVariants as requests
+use Rattle.law_input_premises.specs.world_model.Words.{End, NodeId, GivenOut, is_estab, gsmp_received, Cell, last_mark, payload_in, tested_by, Reassembly, marks_of, most_cells, passed_over, without_slot, too_long, Move, Request, Loss, PoolFull, Frame, Journal, noted, Changed, branches_after, inputs_on, asked_in, is_request, failure_of, Handled, handled, handled_asked, handled_by, Site, World, site_at, with_site}
+use Rattle.law_input_premises.specs.world_model.frame_model.Frame.{octets_of, passed}
+use Rattle.law_input_premises.specs.world_model.frame_model.Reassembly.{Taken, joined}
+use Rattle.law_input_premises.specs.world_model.gsmp_wire.Fields.{decoded}
+use Rattle.law_input_premises.specs.world_model.gsmp_wire.declared.fault.Fault.{Fault}
+use Rattle.law_input_premises.specs.world_model.gsmp_wire.declared.message.Message.{Message}
+use Rattle.law_input_premises.specs.world_model.gsmp_wire.declared.message.Message.TheVariants.{Adjacency, Branch, Port, AllPorts}
+use Rattle.law_input_premises.specs.world_model.gsmp_wire.declared.request.Request.TheVariants as requests
 use Rattle.law_input_premises.proofs.law_port_facts.Keyed.{on_each, on_both}
-use Rattle.world_model.specs.switch_model.declared.request.Asked.{Asked}
-use Rattle.world_model.specs.switch_model.declared.request.Failure.{Failure}
-use Rattle.world_model.specs.Switch as switches
-use Rattle.world_model.specs.Switch.{free_slots}
-use Rattle.world_model.specs.Requests.{cleared}
-use Rattle.world_model.specs.Conduct as conduct
+use Rattle.law_input_premises.specs.world_model.switch_model.declared.request.Asked.{Asked}
+use Rattle.law_input_premises.specs.world_model.switch_model.declared.request.Failure.{Failure}
+use Rattle.law_input_premises.specs.world_model.Switch as switches
+use Rattle.law_input_premises.specs.world_model.Switch.{free_slots}
+use Rattle.law_input_premises.specs.world_model.Requests.{cleared}
+use Rattle.law_input_premises.specs.world_model.Conduct as conduct
 use Rattle.law_input_premises.specs.law_shown_cells.Seen.{IsUnmade, Extends}
 use Rattle.law_input_premises.specs.law_input_steps.Part.{part_of, IsNumbered}
 use Rattle.law_input_premises.proofs.law_input_steps.Handled.{all_ended_frames, moved_frames, ended_frames}

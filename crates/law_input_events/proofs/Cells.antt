@@ -3,22 +3,22 @@
 use Rattle.std.proofs.Common.{◌≡◌, ℕ, Bool, true, false, not, List, [], ◌∷◌, ◌++◌, length, drop, Option, None, Some, Result, Ok, Err, refl, sym, subst, arith, if◌then◌else◌}
 use Rattle.std.specs.Prelude.{◌==◌, nat_le, nat_lt}
 use Rattle.std.specs.Option.{option_and_then}
-use Rattle.world_model.specs.Words.{PortNo, Mark, label_number_of, protocol_of, source_of, PacketFault, Cell, IsLinkPort, EncapsFault, default_unwrapped, unwrapped, Unbound, Bad, Loss, Journal, encaps_refusal, packet_refusal, ifmp_refusal, last_mark, payload_in, Tested, tested, Reassembly, most_cells, passed_over, without_slot, too_long, Setup, Label, is_bound, label_at, counts, used, hears, Linked, linked_at, chains_with, default_channel, begins, routes, control_protocol, Rule, at_port, ForGsmp, ForDefault, ForLabel, port_on, on_link, same_channel, label_taker, taker_at, reassembly_of, with_reassembly, label_holds, ifmp_holds, counted_at, packet_holds, default_holds, frame_holds, takes_cell}
-use Rattle.world_model.specs.ipv4_packet.Packet.{first_fault}
-use Rattle.world_model.specs.ifmp_wire.declared.message.Message.{Message}
-use Rattle.world_model.specs.ifmp_wire.declared.reader.Fault.{Fault}
-use Rattle.world_model.specs.ifmp_wire.Fields.{decoded as ifmp_decoded}
-use Rattle.world_model.specs.link_model.declared.record.Layer.TheVariants as layers
-use Rattle.world_model.specs.frame_model.Frame.{octets_of}
-use Rattle.world_model.specs.frame_model.Reassembly.{Taken, taken, joined}
+use Rattle.law_input_premises.specs.world_model.Words.{PortNo, Mark, label_number_of, protocol_of, source_of, PacketFault, Cell, IsLinkPort, EncapsFault, default_unwrapped, unwrapped, Unbound, Bad, Loss, Journal, encaps_refusal, packet_refusal, ifmp_refusal, last_mark, payload_in, Tested, tested, Reassembly, most_cells, passed_over, without_slot, too_long, Setup, Label, is_bound, label_at, counts, used, hears, Linked, linked_at, chains_with, default_channel, begins, routes, control_protocol, Rule, at_port, ForGsmp, ForDefault, ForLabel, port_on, on_link, same_channel, label_taker, taker_at, reassembly_of, with_reassembly, label_holds, ifmp_holds, counted_at, packet_holds, default_holds, frame_holds, takes_cell}
+use Rattle.law_input_premises.specs.world_model.ipv4_packet.Packet.{first_fault}
+use Rattle.law_input_premises.specs.world_model.ifmp_wire.declared.message.Message.{Message}
+use Rattle.law_input_premises.specs.world_model.ifmp_wire.declared.reader.Fault.{Fault}
+use Rattle.law_input_premises.specs.world_model.ifmp_wire.Fields.{decoded as ifmp_decoded}
+use Rattle.law_input_premises.specs.world_model.link_model.declared.record.Layer.TheVariants as layers
+use Rattle.law_input_premises.specs.world_model.frame_model.Frame.{octets_of}
+use Rattle.law_input_premises.specs.world_model.frame_model.Reassembly.{Taken, taken, joined}
 use Rattle.law_input_premises.specs.ordered_lists.Ordered.{Every}
 use Rattle.law_input_premises.specs.law_port_facts.Port.{Lives}
 use Rattle.law_input_premises.proofs.law_port_facts.Hearings.{hears_goes}
 use Rattle.law_input_premises.proofs.law_port_facts.Keyed.{on_both, on_each}
 use Rattle.law_input_premises.proofs.law_port_facts.Steps.{Goes}
 use Rattle.law_input_premises.proofs.law_port_facts.Rules.{counts_goes, used_goes}
-use Rattle.world_model.specs.Controller.{Acted, free_slots}
-use Rattle.world_model.specs.Cells.{Taker, opened_frame, ends_frame, cell_comes}
+use Rattle.law_input_premises.specs.world_model.Controller.{Acted, free_slots}
+use Rattle.law_input_premises.specs.world_model.Cells.{Taker, opened_frame, ends_frame, cell_comes}
 use Rattle.law_input_premises.proofs.law_controller_facts.Lifetimes.{decoded_lives}
 use Rattle.law_input_premises.proofs.law_controller_facts.Moves.{Found, found_at_own, found_port}
 use Rattle.law_input_premises.proofs.law_controller_facts.Laws.{has_ports}

@@ -3,20 +3,20 @@
 use Rattle.std.proofs.Common.{◌≡◌, ◌≤◌, Bool, true, false, not, ◌||◌, List, [], ◌∷◌, ◌++◌, fold, flat_map, map, filter, find, Option, None, Some, refl, sym, ◌∙◌, ap, subst, arith, inr, if◌then◌else◌}
 use Rattle.std.specs.Prelude.{◌==◌, filter_map}
 use Rattle.std.specs.List.{list_any}
-use Rattle.world_model.specs.Words.{End, NodeId, PortNo, with_control, next_control, Side, is_estab, IsLinkPort, Request, AddBranch, MoveBranch, DeleteTree, VerifyTree, PortManagement, Desk, Standing, last_transaction, withdraws, is_delete_all, leads_home, Done, without_request, after_answer, in_order, Setup, home_of, Grant, Session, Work, halts, is_spent, closes, Linked, port_key, linked_at, with_desk, default_channel, default_end, default_home, asks, asks_next, begins, node_resets, works, works_as, end_le, join_to, joins_at, released_inputs, releases_input, resets_spent, releases, is_deleting, has_emptied, up_ports, default_branches, ends_meeting, causes_in_estab, causes, clears, takes_changes, Switch}
-use Rattle.world_model.specs.gsmp_wire.Layout.{octets_of as gsmp_octets}
-use Rattle.world_model.specs.gsmp_wire.declared.request.Request.TheVariants.{DeleteAll, AllPorts}
+use Rattle.law_input_premises.specs.world_model.Words.{End, NodeId, PortNo, with_control, next_control, Side, is_estab, IsLinkPort, Request, AddBranch, MoveBranch, DeleteTree, VerifyTree, PortManagement, Desk, Standing, last_transaction, withdraws, is_delete_all, leads_home, Done, without_request, after_answer, in_order, Setup, home_of, Grant, Session, Work, halts, is_spent, closes, Linked, port_key, linked_at, with_desk, default_channel, default_end, default_home, asks, asks_next, begins, node_resets, works, works_as, end_le, join_to, joins_at, released_inputs, releases_input, resets_spent, releases, is_deleting, has_emptied, up_ports, default_branches, ends_meeting, causes_in_estab, causes, clears, takes_changes, Switch}
+use Rattle.law_input_premises.specs.world_model.gsmp_wire.Layout.{octets_of as gsmp_octets}
+use Rattle.law_input_premises.specs.world_model.gsmp_wire.declared.request.Request.TheVariants.{DeleteAll, AllPorts}
 use Rattle.law_input_premises.specs.ordered_lists.Ordered.{Every}
 use Rattle.law_input_premises.proofs.ordered_lists.Every.{every_join, every_map}
 use Rattle.law_input_premises.proofs.ordered_lists.Parts.{every_part, part_filtered}
-use Rattle.world_model.specs.port_model.Desk.{asked, message_at}
-use Rattle.world_model.specs.port_model.Messages.{is_up}
-use Rattle.world_model.specs.port_model.Requests.{input_of}
+use Rattle.law_input_premises.specs.world_model.port_model.Desk.{asked, message_at}
+use Rattle.law_input_premises.specs.world_model.port_model.Messages.{is_up}
+use Rattle.law_input_premises.specs.world_model.port_model.Requests.{input_of}
 use Rattle.law_input_premises.specs.law_port_facts.Port.{IsLinked, IsShaped, IsDefaultEnd, opens_input, opens_output}
 use Rattle.law_input_premises.proofs.law_port_facts.Keyed.{at_every, on_both, on_each}
-use Rattle.world_model.specs.Controller.{Acted, ports_of}
-use Rattle.world_model.specs.Joins.{Join}
-use Rattle.world_model.specs.Meeting.{done}
+use Rattle.law_input_premises.specs.world_model.Controller.{Acted, ports_of}
+use Rattle.law_input_premises.specs.world_model.Joins.{Join}
+use Rattle.law_input_premises.specs.world_model.Meeting.{done}
 use Rattle.law_input_premises.specs.law_controller_facts.Sound.{IsShutLinked}
 use Rattle.law_input_premises.proofs.law_controller_facts.Laws.{has_ports, moves_sound}
 use Rattle.law_input_premises.proofs.law_controller_facts.Performing.{ports_linked}

@@ -5,24 +5,24 @@ use Rattle.std.specs.Prelude.{nat_lt}
 use Rattle.std.specs.FinMap.{get}
 use Rattle.std.specs.Option.{option_map_or}
 use Rattle.std.proofs.lemmas.Bool.Decides.{nat_tests}
-use Rattle.world_model.specs.Words.{Channel, End, NodeId, PortNo, Place, Down, Up, Out, Cell, queue_of, Refusal, Switch, control_port, default_channel, same_channel, inject_refusal, injected, node_restarts, change_comes, Topology, Site, World, site_at, with_site, controller_acts, switch_acts, place_node, queue_in, queue_at, with_queue_in, with_queue_of, with_queue, injects_by, arrives_at, carries_head, loses_head, step, gsmp_under, IsLinkPort, Setup}
-use Rattle.world_model.specs.crossbar_model.Crossbar.{input_of}
+use Rattle.law_input_premises.specs.world_model.Words.{Channel, End, NodeId, PortNo, Place, Down, Up, Out, Cell, queue_of, Refusal, Switch, control_port, default_channel, same_channel, inject_refusal, injected, node_restarts, change_comes, Topology, Site, World, site_at, with_site, controller_acts, switch_acts, place_node, queue_in, queue_at, with_queue_in, with_queue_of, with_queue, injects_by, arrives_at, carries_head, loses_head, step, gsmp_under, IsLinkPort, Setup}
+use Rattle.law_input_premises.specs.world_model.crossbar_model.Crossbar.{input_of}
 use Rattle.law_input_premises.proofs.ordered_lists.Parts.{IsPart, left, part_whole}
 use Rattle.law_input_premises.proofs.law_port_facts.Keyed.{by_eq}
-use Rattle.world_model.specs.Switch as switches
-use Rattle.world_model.specs.Conduct as conduct
-use Rattle.world_model.specs.Controller.{free_slots}
-use Rattle.world_model.specs.Cells.{cell_comes}
-use Rattle.world_model.specs.Ticks.{ticks}
-use Rattle.world_model.specs.network_model.declared.event.Event.{Event}
-use Rattle.world_model.specs.network_model.declared.event.Event.TheVariants.{Inject, Carry, Lose, Tick, TickSwitch, Restart, RestartSwitch, Forge, Route}
-use Rattle.world_model.specs.network_model.declared.link.LinkEnd.{LinkEnd}
-use Rattle.world_model.specs.Topology.{peer_of}
-use Rattle.world_model.specs.World.{at_controller, at_switch}
-use Rattle.world_model.specs.Step.{acts}
+use Rattle.law_input_premises.specs.world_model.Switch as switches
+use Rattle.law_input_premises.specs.world_model.Conduct as conduct
+use Rattle.law_input_premises.specs.world_model.Controller.{free_slots}
+use Rattle.law_input_premises.specs.world_model.Cells.{cell_comes}
+use Rattle.law_input_premises.specs.world_model.Ticks.{ticks}
+use Rattle.law_input_premises.specs.world_model.network_model.declared.event.Event.{Event}
+use Rattle.law_input_premises.specs.world_model.network_model.declared.event.Event.TheVariants.{Inject, Carry, Lose, Tick, TickSwitch, Restart, RestartSwitch, Forge, Route}
+use Rattle.law_input_premises.specs.world_model.network_model.declared.link.LinkEnd.{LinkEnd}
+use Rattle.law_input_premises.specs.world_model.Topology.{peer_of}
+use Rattle.law_input_premises.specs.world_model.World.{at_controller, at_switch}
+use Rattle.law_input_premises.specs.world_model.Step.{acts}
 use Rattle.law_input_premises.specs.law_shown_cells.Seen.{IsUnmade}
 use Rattle.law_input_premises.proofs.law_shown_cells.Made.{extends_self}
-use Rattle.world_model.specs.gsmp_wire.declared.message.Message.{Message}
+use Rattle.law_input_premises.specs.world_model.gsmp_wire.declared.message.Message.{Message}
 use Rattle.law_input_premises.specs.law_input_steps.Part.{Part, part_of, part_at, part_beside, IsNumbered, Reaches, AnyLine}
 use Rattle.law_input_premises.specs.law_input_steps.Hearing.{IsEnded, LeadsAway, PassesTrue}
 use Rattle.law_input_premises.proofs.law_input_steps.SwitchCells.{gsmp_cell_comes}
@@ -38,7 +38,7 @@ use Rattle.law_input_events.proofs.Returning.{gsmp_cell_grows as gsmp_back_grows
 use Rattle.law_input_events.proofs.Carrying.{gsmp_cell_grows, mid_there, then_lines}
 use Rattle.law_input_premises.specs.ordered_lists.Ordered.{Every}
 use Rattle.law_input_premises.specs.law_port_facts.Port.{IsLabelEnd}
-use Rattle.world_model.specs.Controller.{Acted}
+use Rattle.law_input_premises.specs.world_model.Controller.{Acted}
 use Rattle.law_input_premises.specs.law_controller_facts.Inputs.{CellComes}
 use Rattle.law_input_premises.proofs.law_controller_facts.Laws.{input_goes}
 use Rattle.law_input_premises.proofs.law_controller.Whole.{Whole}

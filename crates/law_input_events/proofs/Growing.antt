@@ -2,27 +2,27 @@
 
 use Rattle.std.proofs.Common.{◌≡◌, ◌≢◌, ℕ, ◌≤◌, true, List, [], ◌∷◌, ◌++◌, length, Option, None, Some, refl, sym, subst, arith, fold, flat_map}
 use Rattle.std.specs.Prelude.{nat_le}
-use Rattle.world_model.specs.Words.{Channel, End, PortNo, Mark, Greeting, Party, number_of_channel, GivenOut, Answer, Quiet, Send, Open, Said, gsmp_answer, is_estab, ticked, hop_of, onward, RouteChange, Hop, Here, On, kind_of, default_payload, labelled_payload, MoveBranch, Frame, Loss, PoolFull, payload_of, noted, frame_cells, made, next_mark, empty_desk, sent_again, Setup, home_of, control_end, Label, Grant, Work, Controller, Linked, linked_at, with_desk, default_channel, default_home, sends_control, says_gsmp, sends_request, begins, cuts_default_of, cuts_default, cuts_gsmp, node_resets, node_restarts, Rule, at_port, is_control, sends_next, goes_by, grant_by, routes, join_for, may_join, enters_grant, enters_label, joins, tries_label, label_on, tries_join, inputs_at, tries_joins, meets, changed_joins, takes_join_back, begins_change, takes_change, may_take, takes_each, takes_changes, change_comes, sends_again, ticks_port, ticks_ports, ticks_by}
-use Rattle.world_model.specs.adjacency_table.declared.message.Answer.TheVariants.{Reset}
-use Rattle.world_model.specs.adjacency_table.Side as sides
-use Rattle.world_model.specs.ipv4_forward.declared.outcome.Hop.TheVariants.{NoRoute, Expired}
-use Rattle.world_model.specs.gsmp_wire.Layout.{octets_of as gsmp_octets}
-use Rattle.world_model.specs.gsmp_wire.declared.message.Message.TheVariants as messages
-use Rattle.world_model.specs.gsmp_wire.declared.request.Request.TheVariants.{AllPorts}
-use Rattle.world_model.specs.frame_model.Sending.{Sent}
-use Rattle.world_model.specs.port_model.Desk.{message_at}
-use Rattle.world_model.specs.port_model.Joins as port_joins
-use Rattle.world_model.specs.port_model.Ticks as port_ticks
+use Rattle.law_input_premises.specs.world_model.Words.{Channel, End, PortNo, Mark, Greeting, Party, number_of_channel, GivenOut, Answer, Quiet, Send, Open, Said, gsmp_answer, is_estab, ticked, hop_of, onward, RouteChange, Hop, Here, On, kind_of, default_payload, labelled_payload, MoveBranch, Frame, Loss, PoolFull, payload_of, noted, frame_cells, made, next_mark, empty_desk, sent_again, Setup, home_of, control_end, Label, Grant, Work, Controller, Linked, linked_at, with_desk, default_channel, default_home, sends_control, says_gsmp, sends_request, begins, cuts_default_of, cuts_default, cuts_gsmp, node_resets, node_restarts, Rule, at_port, is_control, sends_next, goes_by, grant_by, routes, join_for, may_join, enters_grant, enters_label, joins, tries_label, label_on, tries_join, inputs_at, tries_joins, meets, changed_joins, takes_join_back, begins_change, takes_change, may_take, takes_each, takes_changes, change_comes, sends_again, ticks_port, ticks_ports, ticks_by}
+use Rattle.law_input_premises.specs.world_model.adjacency_table.declared.message.Answer.TheVariants.{Reset}
+use Rattle.law_input_premises.specs.world_model.adjacency_table.Side as sides
+use Rattle.law_input_premises.specs.world_model.ipv4_forward.declared.outcome.Hop.TheVariants.{NoRoute, Expired}
+use Rattle.law_input_premises.specs.world_model.gsmp_wire.Layout.{octets_of as gsmp_octets}
+use Rattle.law_input_premises.specs.world_model.gsmp_wire.declared.message.Message.TheVariants as messages
+use Rattle.law_input_premises.specs.world_model.gsmp_wire.declared.request.Request.TheVariants.{AllPorts}
+use Rattle.law_input_premises.specs.world_model.frame_model.Sending.{Sent}
+use Rattle.law_input_premises.specs.world_model.port_model.Desk.{message_at}
+use Rattle.law_input_premises.specs.world_model.port_model.Joins as port_joins
+use Rattle.law_input_premises.specs.world_model.port_model.Ticks as port_ticks
 use Rattle.law_input_premises.proofs.law_port_facts.Hearings.{ticks_goes}
 use Rattle.law_input_premises.proofs.law_port_facts.Instances.{joined_gave, lent_gave}
 use Rattle.law_input_premises.proofs.law_port_facts.Keyed.{on_both, on_each}
 use Rattle.law_input_premises.proofs.law_port_facts.Steps.{Goes}
-use Rattle.world_model.specs.Controller.{Acted, free_slots, ports_of}
-use Rattle.world_model.specs.Sending.{with_cells, sends}
-use Rattle.world_model.specs.Packets.{forwarded}
-use Rattle.world_model.specs.Joins.{Join, output_of}
-use Rattle.world_model.specs.Gsmp.{answers, steps}
-use Rattle.world_model.specs.Ticks.{ticks}
+use Rattle.law_input_premises.specs.world_model.Controller.{Acted, free_slots, ports_of}
+use Rattle.law_input_premises.specs.world_model.Sending.{with_cells, sends}
+use Rattle.law_input_premises.specs.world_model.Packets.{forwarded}
+use Rattle.law_input_premises.specs.world_model.Joins.{Join, output_of}
+use Rattle.law_input_premises.specs.world_model.Gsmp.{answers, steps}
+use Rattle.law_input_premises.specs.world_model.Ticks.{ticks}
 use Rattle.law_input_premises.proofs.law_controller_facts.Moves.{by_rule}
 use Rattle.law_input_premises.proofs.law_controller_facts.Numbers.{worked_draws}
 use Rattle.law_input_premises.specs.law_shown_cells.Seen.{IsUnmade, Extends}

@@ -3,21 +3,21 @@
 use Rattle.std.proofs.Common.{◌≡◌, ℕ, ◌+◌, ◌<◌, ◌^◌, Bool, true, false, List, [], ◌∷◌, ◌++◌, Option, None, Some, Result, Ok, Err, refl, sym, ◌∙◌, ap, subst, if◌then◌else◌}
 use Rattle.std.specs.Prelude.{nat_lt}
 use Rattle.std.specs.Option.{option_and_then}
-use Rattle.world_model.specs.Words.{Greeting, HelloKind, Party, End, NodeId, side_of, step_by, gsmp_answer, gsmp_received, SideByInstances, row_for, enters, after_row, Side, Step, Row, Reply, Silent, Says, Resets, Cell, FitsParty, payload_of, last_mark, payload_in, Setup, Controller, default_channel, same_channel, gsmp_of, gsmp_under}
-use Rattle.world_model.proofs.adjacency_table.EndsLemmas.{gsmp_received_by_instances}
-use Rattle.world_model.specs.gsmp_wire.Fields.{decoded}
-use Rattle.world_model.specs.gsmp_wire.declared.fault.Fault.{Fault}
-use Rattle.world_model.specs.gsmp_wire.declared.message.Message.{Message}
-use Rattle.world_model.specs.gsmp_wire.declared.message.Message.TheVariants.{Adjacency}
-use Rattle.world_model.specs.frame_model.Frame.{octets_of as cell_octets}
+use Rattle.law_input_premises.specs.world_model.Words.{Greeting, HelloKind, Party, End, NodeId, side_of, step_by, gsmp_answer, gsmp_received, SideByInstances, row_for, enters, after_row, Side, Step, Row, Reply, Silent, Says, Resets, Cell, FitsParty, payload_of, last_mark, payload_in, Setup, Controller, default_channel, same_channel, gsmp_of, gsmp_under}
+use Rattle.law_input_premises.proofs.world_model.adjacency_table.EndsLemmas.{gsmp_received_by_instances}
+use Rattle.law_input_premises.specs.world_model.gsmp_wire.Fields.{decoded}
+use Rattle.law_input_premises.specs.world_model.gsmp_wire.declared.fault.Fault.{Fault}
+use Rattle.law_input_premises.specs.world_model.gsmp_wire.declared.message.Message.{Message}
+use Rattle.law_input_premises.specs.world_model.gsmp_wire.declared.message.Message.TheVariants.{Adjacency}
+use Rattle.law_input_premises.specs.world_model.frame_model.Frame.{octets_of as cell_octets}
 use Rattle.law_input_premises.specs.ordered_lists.Ordered.{Every}
 use Rattle.law_input_premises.proofs.ordered_lists.Every.{every_right}
 use Rattle.law_input_premises.specs.law_branch_line.Words.{ToSwitch, ControllerGreets}
 use Rattle.law_input_premises.specs.law_branch_line.Line.{Line}
 use Rattle.law_input_premises.specs.law_branch_line.Law.{IsDrawn, NamesDrawn, HasDrawn, IsReached}
 use Rattle.law_input_premises.proofs.law_branch_line.Drawn.{row_drawn}
-use Rattle.world_model.specs.Switch as switches
-use Rattle.world_model.specs.Ways.{told}
+use Rattle.law_input_premises.specs.world_model.Switch as switches
+use Rattle.law_input_premises.specs.world_model.Ways.{told}
 use Rattle.law_input_premises.specs.law_shown_cells.Seen.{Seen, Nothing, Word, Unknown}
 use Rattle.law_input_premises.proofs.law_shown_cells.Shows.{First, no_word, a_word, first_of}
 use Rattle.law_input_premises.specs.law_input_views.Words.{is_own_greeting, seen_request, seen_on_gsmp, seen_cell, erased}

@@ -1,6 +1,7 @@
 pub use Rattle.law_input_premises.proofs.law_controller as law_controller
 pub use Rattle.law_input_premises.proofs.law_input_steps as law_input_steps
 pub use Rattle.law_input_premises.proofs as law_input_premises
+pub use Rattle.law_input_premises.proofs.world_model as world_model
 pub mod Packets
 pub mod Cells
 pub mod Growing

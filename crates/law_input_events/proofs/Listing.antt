@@ -4,23 +4,23 @@ use Rattle.std.proofs.Common.{◌≡◌, ℕ, ◌+◌, ◌<◌, ◌≤◌, suc, 
 use Rattle.std.specs.Prelude.{◌==◌, nat_lt, nat_eq}
 use Rattle.std.proofs.lemmas.Bool.Decides.{nat_tests}
 use Rattle.std.proofs.lemmas.List.{length-map}
-use Rattle.world_model.specs.Words.{End, NodeId, PortNo, State, Clearing, SynSent, SynRcvd, Estab, Side, is_estab, IsLinkPort, FitsRows, PortRow, at, Standing, last_transaction, message_of, without_request, Setup, Linked, with_desk, up_ports, Switch, control_port, numbers_of}
-use Rattle.world_model.specs.gsmp_wire.declared.request.Request.TheVariants.{AllPorts, DeleteAll}
+use Rattle.law_input_premises.specs.world_model.Words.{End, NodeId, PortNo, State, Clearing, SynSent, SynRcvd, Estab, Side, is_estab, IsLinkPort, FitsRows, PortRow, at, Standing, last_transaction, message_of, without_request, Setup, Linked, with_desk, up_ports, Switch, control_port, numbers_of}
+use Rattle.law_input_premises.specs.world_model.gsmp_wire.declared.request.Request.TheVariants.{AllPorts, DeleteAll}
 use Rattle.law_input_premises.specs.ordered_lists.Ordered.{Every, InOrder}
 use Rattle.law_input_premises.proofs.ordered_lists.Every.{every_all, every_map}
-use Rattle.world_model.specs.port_model.Messages.{is_up}
+use Rattle.law_input_premises.specs.world_model.port_model.Messages.{is_up}
 use Rattle.law_input_premises.specs.law_port_facts.Port.{setup_port, IsLinked, IsLabelEnd, empties_control, empties_port}
 use Rattle.law_input_premises.specs.law_branch_line.Line.{Line}
 use Rattle.law_input_premises.specs.law_branch_line.Law.{AsksFirst, IsReached}
 use Rattle.law_input_premises.proofs.law_branch_line.First.{always_first}
 use Rattle.law_input_premises.proofs.law_branch_line.Reached.{holds_reached}
-use Rattle.world_model.specs.Controller.{Acted, ports_of}
+use Rattle.law_input_premises.specs.world_model.Controller.{Acted, ports_of}
 use Rattle.law_input_premises.specs.law_controller_facts.Sound.{linked_setup}
 use Rattle.law_input_premises.proofs.law_controller_facts.Laws.{has_ports}
 use Rattle.law_input_premises.proofs.law_controller_facts.Performing.{ports_linked}
 use Rattle.law_input_premises.proofs.law_controller.Whole.{Whole}
-use Rattle.world_model.specs.switch_model.declared.port.PortState.{PortState}
-use Rattle.world_model.specs.Answers.{row_of}
+use Rattle.law_input_premises.specs.world_model.switch_model.declared.port.PortState.{PortState}
+use Rattle.law_input_premises.specs.world_model.Answers.{row_of}
 use Rattle.law_input_premises.specs.law_input_views.Shown.{before_of, behind_of, PhaseShows}
 use Rattle.law_input_premises.specs.law_input_steps.Asking.{IsReadable}
 use Rattle.law_input_premises.specs.law_input_steps.Meeting.{AreDistinct, Untouched, MayEmpty, IsAround}

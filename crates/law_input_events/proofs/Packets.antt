@@ -2,15 +2,15 @@
 
 use Rattle.std.proofs.Common.{◌≡◌, ◌≢◌, ℕ, ◌≤◌, List, [], ◌∷◌, ◌++◌, length, Option, None, Some, refl, ap, arith}
 use Rattle.std.specs.Prelude.{nat_le}
-use Rattle.world_model.specs.Words.{Channel, End, NodeId, PortNo, Mark, hop_of, onward, Hop, Here, On, kind_of, default_payload, labelled_payload, Delivered, Dropped, Loss, PoolFull, Frame, payload_of, noted, frame_cells, made, next_mark, control_end, Grant, Switch, Controller, default_channel, default_home, sends_control, is_control, sends_next, goes_by, grant_by, routes}
-use Rattle.world_model.specs.ipv4_forward.declared.outcome.Hop.TheVariants.{NoRoute, Expired}
-use Rattle.world_model.specs.link_model.declared.record.DropCause.TheVariants.{NoRoute as NoRouteCause, Expired as ExpiredCause}
-use Rattle.world_model.specs.frame_model.Sending.{Sent}
+use Rattle.law_input_premises.specs.world_model.Words.{Channel, End, NodeId, PortNo, Mark, hop_of, onward, Hop, Here, On, kind_of, default_payload, labelled_payload, Delivered, Dropped, Loss, PoolFull, Frame, payload_of, noted, frame_cells, made, next_mark, control_end, Grant, Switch, Controller, default_channel, default_home, sends_control, is_control, sends_next, goes_by, grant_by, routes}
+use Rattle.law_input_premises.specs.world_model.ipv4_forward.declared.outcome.Hop.TheVariants.{NoRoute, Expired}
+use Rattle.law_input_premises.specs.world_model.link_model.declared.record.DropCause.TheVariants.{NoRoute as NoRouteCause, Expired as ExpiredCause}
+use Rattle.law_input_premises.specs.world_model.frame_model.Sending.{Sent}
 use Rattle.law_input_premises.proofs.law_port_facts.Keyed.{on_both, on_each}
 use Rattle.law_input_premises.specs.law_branch_line.Line.{Line}
-use Rattle.world_model.specs.Controller.{Acted, free_slots}
-use Rattle.world_model.specs.Sending.{with_cells, sends}
-use Rattle.world_model.specs.Packets.{forwarded}
+use Rattle.law_input_premises.specs.world_model.Controller.{Acted, free_slots}
+use Rattle.law_input_premises.specs.world_model.Sending.{with_cells, sends}
+use Rattle.law_input_premises.specs.world_model.Packets.{forwarded}
 use Rattle.law_input_premises.proofs.law_shown_cells.Shows.{shows_behind}
 use Rattle.law_input_premises.proofs.law_shown_cells.Made.{extends_made, unmade_packet}
 use Rattle.law_input_premises.specs.law_input_views.Words.{erased, seen_request}

@@ -2,27 +2,27 @@
 
 use Rattle.std.proofs.Common.{◌≡◌, ℕ, ◌≤◌, Bool, true, List, [], ◌∷◌, fold, flat_map, map, Option, None, Some, Result, Ok, Err, refl, sym, subst, arith, if◌then◌else◌}
 use Rattle.std.specs.Prelude.{nat_lt}
-use Rattle.world_model.specs.Words.{PortNo, number_of_channel, gsmp_received, is_estab, Cell, Request, AddBranch, MoveBranch, DeleteTree, VerifyTree, PortManagement, Part, Bad, Gsmp, gsmp_refusal, payload_in, last_mark, tested_by, Answered, Unknown, Done, Ports, Failed, answered, after_answer, Setup, closes, Linked, linked_at, with_linked, with_desk, default_channel, default_end, default_home, asks, same_channel, ForGsmp, takes_cell, taker_at, port_on, on_link, gsmp_holds, join_of, parts, releases_join, releases_input, released_inputs, resets_spent, releases, up_ports, default_branches, ends_meeting, has_emptied, tells_port, causes_in_estab, causes, may_clear, clears_of, clears_port, clears, answers_desk, answer_comes, begins}
-use Rattle.world_model.specs.gsmp_wire.Fields.{decoded}
-use Rattle.world_model.specs.gsmp_wire.declared.fault.Fault.{Fault}
-use Rattle.world_model.specs.gsmp_wire.declared.message.Message.{Message}
-use Rattle.world_model.specs.gsmp_wire.declared.message.Message.TheVariants as messages
-use Rattle.world_model.specs.gsmp_wire.declared.request.Request.TheVariants.{DeleteAll, AllPorts}
-use Rattle.world_model.specs.frame_model.Frame.{octets_of}
-use Rattle.world_model.specs.frame_model.Reassembly.{Taken, taken}
-use Rattle.world_model.specs.port_model.Joins as port_joins
-use Rattle.world_model.specs.port_model.Answers as port_answers
-use Rattle.world_model.specs.port_model.Resets.{cleared}
+use Rattle.law_input_premises.specs.world_model.Words.{PortNo, number_of_channel, gsmp_received, is_estab, Cell, Request, AddBranch, MoveBranch, DeleteTree, VerifyTree, PortManagement, Part, Bad, Gsmp, gsmp_refusal, payload_in, last_mark, tested_by, Answered, Unknown, Done, Ports, Failed, answered, after_answer, Setup, closes, Linked, linked_at, with_linked, with_desk, default_channel, default_end, default_home, asks, same_channel, ForGsmp, takes_cell, taker_at, port_on, on_link, gsmp_holds, join_of, parts, releases_join, releases_input, released_inputs, resets_spent, releases, up_ports, default_branches, ends_meeting, has_emptied, tells_port, causes_in_estab, causes, may_clear, clears_of, clears_port, clears, answers_desk, answer_comes, begins}
+use Rattle.law_input_premises.specs.world_model.gsmp_wire.Fields.{decoded}
+use Rattle.law_input_premises.specs.world_model.gsmp_wire.declared.fault.Fault.{Fault}
+use Rattle.law_input_premises.specs.world_model.gsmp_wire.declared.message.Message.{Message}
+use Rattle.law_input_premises.specs.world_model.gsmp_wire.declared.message.Message.TheVariants as messages
+use Rattle.law_input_premises.specs.world_model.gsmp_wire.declared.request.Request.TheVariants.{DeleteAll, AllPorts}
+use Rattle.law_input_premises.specs.world_model.frame_model.Frame.{octets_of}
+use Rattle.law_input_premises.specs.world_model.frame_model.Reassembly.{Taken, taken}
+use Rattle.law_input_premises.specs.world_model.port_model.Joins as port_joins
+use Rattle.law_input_premises.specs.world_model.port_model.Answers as port_answers
+use Rattle.law_input_premises.specs.world_model.port_model.Resets.{cleared}
 use Rattle.law_input_premises.proofs.law_port_facts.Instances.{parted_gave, given_back_gave}
 use Rattle.law_input_premises.proofs.law_port_facts.Keyed.{on_both}
 use Rattle.law_input_premises.proofs.law_port_facts.Rules.{done_goes}
 use Rattle.law_input_premises.proofs.law_port_facts.Steps.{steps_to}
 use Rattle.law_input_premises.proofs.law_port_facts.Steps as steps_of
-use Rattle.world_model.specs.Controller.{Acted, free_slots, ports_of, note}
-use Rattle.world_model.specs.Cells.{after_test, ends_frame, after_cell, cell_comes}
-use Rattle.world_model.specs.Gsmp.{told}
-use Rattle.world_model.specs.Joins.{Join}
-use Rattle.world_model.specs.Meeting.{port_of, done}
+use Rattle.law_input_premises.specs.world_model.Controller.{Acted, free_slots, ports_of, note}
+use Rattle.law_input_premises.specs.world_model.Cells.{after_test, ends_frame, after_cell, cell_comes}
+use Rattle.law_input_premises.specs.world_model.Gsmp.{told}
+use Rattle.law_input_premises.specs.world_model.Joins.{Join}
+use Rattle.law_input_premises.specs.world_model.Meeting.{port_of, done}
 use Rattle.law_world_views.specs.law_controller_views.Lifted.{Growing}
 use Rattle.law_world_views.proofs.law_controller_views.Growing.{grow_self, grow_on, grow_fold, node_resets_grow, asks_grow, at_port_grow}
 use Rattle.law_input_premises.proofs.law_input_steps.Resets.{note_still}

@@ -1,7 +1,7 @@
 -- a network whose site at one node changes: lines of its inputs follow, and those of other nodes stay
 
 use Rattle.std.proofs.Common.{◌≡◌, ◌≢◌, ℕ, ◌≤◌, List, Some, refl, sym, ◌∙◌, ap, subst}
-use Rattle.world_model.specs.Words.{End, NodeId, GivenOut, Frame, at, put, Site, World, site_key, site_at, with_site}
+use Rattle.law_input_premises.specs.world_model.Words.{End, NodeId, GivenOut, Frame, at, put, Site, World, site_key, site_at, with_site}
 use Rattle.law_input_premises.proofs.law_port_facts.Keyed.{at_key, at_put_same, at_put_other, by_eq}
 use Rattle.law_input_premises.specs.law_branch_line.Line.{Line}
 use Rattle.law_input_premises.specs.law_branch_line.Law.{IsReached}

@@ -1,9 +1,9 @@
 -- what both ends of a control link say at a tick is read as it was said, since instances are drawn in order
 
 use Rattle.std.proofs.Common.{◌≡◌, ℕ, ◌+◌, ◌<◌, ◌≤◌, ◌^◌, sym, subst, arith}
-use Rattle.world_model.specs.Words.{End, NodeId, Party, Reply, Silent, Says, Resets, tick_reply, Side, Step, ticked, gsmp_answer, SideByInstances, side_of, tick_by, FitsParty}
-use Rattle.world_model.specs.adjacency_table.Side.{counted}
-use Rattle.world_model.proofs.adjacency_table.EndsLemmas.{ticked_by_instances}
+use Rattle.law_input_premises.specs.world_model.Words.{End, NodeId, Party, Reply, Silent, Says, Resets, tick_reply, Side, Step, ticked, gsmp_answer, SideByInstances, side_of, tick_by, FitsParty}
+use Rattle.law_input_premises.specs.world_model.adjacency_table.Side.{counted}
+use Rattle.law_input_premises.proofs.world_model.adjacency_table.EndsLemmas.{ticked_by_instances}
 use Rattle.law_input_premises.specs.law_branch_line.Line.{Line}
 use Rattle.law_input_premises.specs.law_branch_line.Law.{HasDrawn, IsReached}
 use Rattle.law_input_premises.proofs.law_branch_line.Drawn.{always_drawn}

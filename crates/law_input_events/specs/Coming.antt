@@ -2,24 +2,24 @@
 
 use Rattle.std.specs.Prelude.{◌≡◌, ◌≢◌, ℕ, ◌≤◌, ◌<◌, true, false, nat_lt, List, [], ◌∷◌, ◌++◌, length, map, Contains, Option, None, Some}
 use Rattle.std.specs.FinMap.{get}
-use Rattle.world_model.specs.Words.{End, NodeId, PortNo, Mark, HasNumbersLeft, Cell, hop_of, On, Fits, FitsRows, queue_of, control_port, numbers_of, Standing, Setup, Frame, payload_of, next_mark, Controller, default_channel, same_channel, is_control, Place, Down, Up, Out, Topology, Site, World, site_at, queue_at, gsmp_under, copy_of}
-use Rattle.world_model.specs.gsmp_wire.declared.message.Message.{Message}
-use Rattle.world_model.specs.gsmp_wire.declared.message.Message.TheVariants.{AllPorts}
+use Rattle.law_input_premises.specs.world_model.Words.{End, NodeId, PortNo, Mark, HasNumbersLeft, Cell, hop_of, On, Fits, FitsRows, queue_of, control_port, numbers_of, Standing, Setup, Frame, payload_of, next_mark, Controller, default_channel, same_channel, is_control, Place, Down, Up, Out, Topology, Site, World, site_at, queue_at, gsmp_under, copy_of}
+use Rattle.law_input_premises.specs.world_model.gsmp_wire.declared.message.Message.{Message}
+use Rattle.law_input_premises.specs.world_model.gsmp_wire.declared.message.Message.TheVariants.{AllPorts}
 use Rattle.law_input_premises.specs.ordered_lists.Ordered.{Every, InOrder}
 use Rattle.law_input_premises.specs.law_gsmp_reading.Said.{IsSaid}
-use Rattle.world_model.specs.port_model.Messages.{is_up}
+use Rattle.law_input_premises.specs.world_model.port_model.Messages.{is_up}
 use Rattle.law_input_premises.specs.law_port_facts.Port.{IsShaped}
-use Rattle.world_model.specs.switch_model.declared.port.PortState.{PortState}
-use Rattle.world_model.specs.Answers.{row_of}
-use Rattle.world_model.specs.Controller.{ports_of}
-use Rattle.world_model.specs.network_model.declared.event.Event.{Event}
-use Rattle.world_model.specs.network_model.declared.event.Event.TheVariants.{Carry, Lose, Forge}
-use Rattle.world_model.specs.network_model.declared.link.LinkEnd.{LinkEnd}
-use Rattle.world_model.specs.Topology.{peer_of}
+use Rattle.law_input_premises.specs.world_model.switch_model.declared.port.PortState.{PortState}
+use Rattle.law_input_premises.specs.world_model.Answers.{row_of}
+use Rattle.law_input_premises.specs.world_model.Controller.{ports_of}
+use Rattle.law_input_premises.specs.world_model.network_model.declared.event.Event.{Event}
+use Rattle.law_input_premises.specs.world_model.network_model.declared.event.Event.TheVariants.{Carry, Lose, Forge}
+use Rattle.law_input_premises.specs.world_model.network_model.declared.link.LinkEnd.{LinkEnd}
+use Rattle.law_input_premises.specs.world_model.Topology.{peer_of}
 use Rattle.law_input_premises.specs.law_shown_cells.Seen.{IsUnmade}
 use Rattle.law_input_premises.specs.law_input_steps.Hearing.{IsEnded, LeadsAway, PassesTrue}
-use Rattle.world_model.specs.Switch as switches
-use Rattle.world_model.specs.Controller as controllers
+use Rattle.law_input_premises.specs.world_model.Switch as switches
+use Rattle.law_input_premises.specs.world_model.Controller as controllers
 use Rattle.law_input_premises.specs.Steady.{IsSteady}
 use Rattle.law_world_views.specs.Between.{EachSite, setups_of, IsInput, HasInputLine}
 

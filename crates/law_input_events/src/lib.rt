@@ -5,8 +5,8 @@
 //! forge no frame and let none pass its test by chance on the GSMP channel. There is no code that runs.
 #![tactic(auto)]
 
-ghost use Rattle.world_model.specs.network_model.declared.event.Event.{Event};
-ghost use Rattle.world_model.specs.Words.{Topology, World, step};
+ghost use Rattle.law_input_premises.specs.world_model.network_model.declared.event.Event.{Event};
+ghost use Rattle.law_input_premises.specs.world_model.Words.{Topology, World, step};
 ghost use Rattle.law_input_events.specs.Coming.{HasLines, IsOrdinary, IsRunning};
 
 /// From a network between events that shows a state of the machine of each input, each such event leads each by moves

@@ -4,15 +4,15 @@
 use Rattle.std.proofs.Common.{◌≡◌, ℕ, ◌≤◌, ◌<◌, Bool, true, false, not, List, [], ◌∷◌, Some, refl, sym, ◌∙◌, ap, subst, arith, if◌then◌else◌, filter}
 use Rattle.std.specs.Prelude.{◌==◌}
 use Rattle.std.proofs.lemmas.Bool.Decides.{nat_tests}
-use Rattle.world_model.specs.Words.{End, PortNo, next_control, with_control, is_estab, Request, AddBranch, MoveBranch, DeleteTree, VerifyTree, PortManagement, same_end, is_delete_all, withdraws, Desk, Standing, all_on, is_led_home, last_transaction, Setup, home_of, with_desk, default_channel, asks_next, asks, takes_back, node_resets}
-use Rattle.world_model.specs.gsmp_wire.Layout.{octets_of as gsmp_octets}
-use Rattle.world_model.specs.gsmp_wire.declared.request.Request.TheVariants.{DeleteAll, AllPorts}
+use Rattle.law_controller.specs.world_model.Words.{End, PortNo, next_control, with_control, is_estab, Request, AddBranch, MoveBranch, DeleteTree, VerifyTree, PortManagement, same_end, is_delete_all, withdraws, Desk, Standing, all_on, is_led_home, last_transaction, Setup, home_of, with_desk, default_channel, asks_next, asks, takes_back, node_resets}
+use Rattle.law_controller.specs.world_model.gsmp_wire.Layout.{octets_of as gsmp_octets}
+use Rattle.law_controller.specs.world_model.gsmp_wire.declared.request.Request.TheVariants.{DeleteAll, AllPorts}
 use Rattle.law_controller.specs.ordered_lists.Ordered.{Every}
 use Rattle.law_controller.proofs.ordered_lists.Every.{every_map, every_right}
-use Rattle.world_model.specs.port_model.Requests.{input_of}
-use Rattle.world_model.specs.port_model.Desk.{asked, message_at}
+use Rattle.law_controller.specs.world_model.port_model.Requests.{input_of}
+use Rattle.law_controller.specs.world_model.port_model.Desk.{asked, message_at}
 use Rattle.law_controller.specs.law_port_facts.Port.{IsShaped, asks_ports, empties_control, empties_port, opens_input, opens_output, leads_label, leads_grant, joins_label, parts_label, frees_label}
-use Rattle.world_model.specs.Controller.{Acted}
+use Rattle.law_controller.specs.world_model.Controller.{Acted}
 use Rattle.law_controller.specs.Order.{IsApart, IsLinkInput}
 use Rattle.law_controller.proofs.Lists.{any_each}
 use Rattle.law_controller.proofs.Desk.{asked_all}

@@ -2,14 +2,14 @@
 
 use Rattle.std.proofs.Common.{◌≡◌, ℕ, ◌≤◌, Bool, true, false, List, [], ◌∷◌, sym, subst, fold}
 use Rattle.std.specs.Prelude.{◌+◌}
-use Rattle.world_model.specs.Words.{End, changed, RouteChange, is_estab, Routes, Setup, Linked, joins_of, is_changed, changed_joins, takes_join_back, begins_change, takes_change}
-use Rattle.world_model.specs.ipv4_forward.declared.table.Route.{Route}
+use Rattle.law_controller.specs.world_model.Words.{End, changed, RouteChange, is_estab, Routes, Setup, Linked, joins_of, is_changed, changed_joins, takes_join_back, begins_change, takes_change}
+use Rattle.law_controller.specs.world_model.ipv4_forward.declared.table.Route.{Route}
 use Rattle.law_controller.specs.ordered_lists.Ordered.{Every}
 use Rattle.law_controller.proofs.ordered_lists.Every.{every_map}
 use Rattle.law_controller.specs.law_port_facts.Port.{IsLabelEnd, parts_label}
 use Rattle.law_controller.proofs.law_port_facts.Keyed.{on_both}
-use Rattle.world_model.specs.Controller.{Acted, note}
-use Rattle.world_model.specs.Joins.{Join, output_of}
+use Rattle.law_controller.specs.world_model.Controller.{Acted, note}
+use Rattle.law_controller.specs.world_model.Joins.{Join, output_of}
 use Rattle.law_controller.proofs.law_controller_facts.Moves.{routing, moves_to, HasPorts}
 use Rattle.law_controller.proofs.law_controller_facts.Joining.{IsJoin, joins_are, join_input, join_output, every_filter}
 use Rattle.law_controller.proofs.law_controller_facts.Laws.{has_ports, moves_sound}

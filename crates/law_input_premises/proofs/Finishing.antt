@@ -4,17 +4,17 @@ use Rattle.std.proofs.Common.{◌≡◌, ◌≤◌, ℕ, Bool, true, false, List
 use Rattle.std.specs.Prelude.{◌==◌, find}
 use Rattle.std.specs.Option.{option_map_or}
 use Rattle.std.proofs.lemmas.Bool.Decides.{nat_tests}
-use Rattle.world_model.specs.Words.{PortNo, End, is_estab, IsLinkPort, Request, AddBranch, MoveBranch, DeleteTree, VerifyTree, PortManagement, is_delete_all, Standing, all_on, Done, after_answer, Setup, Linked, linked_at, with_linked, with_desk, default_end, default_home, asks, begins, releases, ends_meeting, has_emptied, is_clearing, tells_port, causes_in_estab, causes, may_clear, clears_of, clears_port, clears}
-use Rattle.world_model.specs.gsmp_wire.declared.request.Request.TheVariants.{DeleteAll, AllPorts}
+use Rattle.law_controller.specs.world_model.Words.{PortNo, End, is_estab, IsLinkPort, Request, AddBranch, MoveBranch, DeleteTree, VerifyTree, PortManagement, is_delete_all, Standing, all_on, Done, after_answer, Setup, Linked, linked_at, with_linked, with_desk, default_end, default_home, asks, begins, releases, ends_meeting, has_emptied, is_clearing, tells_port, causes_in_estab, causes, may_clear, clears_of, clears_port, clears}
+use Rattle.law_controller.specs.world_model.gsmp_wire.declared.request.Request.TheVariants.{DeleteAll, AllPorts}
 use Rattle.law_controller.specs.ordered_lists.Ordered.{Every}
-use Rattle.world_model.specs.port_model.Answers as port_answers
-use Rattle.world_model.specs.port_model.Resets.{cleared}
+use Rattle.law_controller.specs.world_model.port_model.Answers as port_answers
+use Rattle.law_controller.specs.world_model.port_model.Resets.{cleared}
 use Rattle.law_controller.specs.law_port_facts.Port.{IsDefaultEnd, IsShaped, empties_control, empties_port, opens_input}
 use Rattle.law_controller.proofs.law_port_facts.Found.{find_every}
 use Rattle.law_controller.proofs.law_port_facts.Keyed.{on_each}
 use Rattle.law_controller.proofs.law_port_facts.Rules.{done_goes}
-use Rattle.world_model.specs.Controller.{Acted, ports_of}
-use Rattle.world_model.specs.Meeting.{port_of}
+use Rattle.law_controller.specs.world_model.Controller.{Acted, ports_of}
+use Rattle.law_controller.specs.world_model.Meeting.{port_of}
 use Rattle.law_controller.proofs.law_controller_facts.Moves.{IsShapedStanding, found_at_own}
 use Rattle.law_controller.specs.Order.{IsClearingAt, IsOfClearing}
 use Rattle.law_controller.proofs.Ordering.{of_input, for_default}

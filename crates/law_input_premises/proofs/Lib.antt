@@ -6,6 +6,7 @@ pub use Rattle.law_input_steps.proofs.law_branch_line as law_branch_line
 pub use Rattle.law_input_steps.proofs.law_shown_cells as law_shown_cells
 pub use Rattle.law_input_steps.proofs.law_input_views as law_input_views
 pub use Rattle.law_input_steps.proofs as law_input_steps
+pub use Rattle.law_controller.proofs.world_model as world_model
 pub mod Unhalted
 pub mod Rows
 pub mod Asking

@@ -3,14 +3,14 @@
 
 use Rattle.std.proofs.Common.{ℕ, ◌<◌, ◌^◌, zero, suc, List, [], ◌∷◌, refl, ap, arith}
 use Rattle.std.specs.Prelude.{All}
-use Rattle.world_model.specs.Words.{NodeId, HelloKind, Syn, Synack, Rstack, Ack, Party, greeting_of, nobody, SideByInstances, greeting, said_by, IsLinkPort, Bits, FitsParty, FitsRows, Fits, PortRow, last_transaction, message_of, Setup}
-use Rattle.world_model.specs.gsmp_wire.declared.message.Message.{Message}
-use Rattle.world_model.specs.gsmp_wire.declared.message.Message.TheVariants.{Adjacency}
-use Rattle.world_model.specs.gsmp_wire.declared.request.Request.TheVariants.{AllPorts}
+use Rattle.law_controller.specs.world_model.Words.{NodeId, HelloKind, Syn, Synack, Rstack, Ack, Party, greeting_of, nobody, SideByInstances, greeting, said_by, IsLinkPort, Bits, FitsParty, FitsRows, Fits, PortRow, last_transaction, message_of, Setup}
+use Rattle.law_controller.specs.world_model.gsmp_wire.declared.message.Message.{Message}
+use Rattle.law_controller.specs.world_model.gsmp_wire.declared.message.Message.TheVariants.{Adjacency}
+use Rattle.law_controller.specs.world_model.gsmp_wire.declared.request.Request.TheVariants.{AllPorts}
 use Rattle.law_gsmp_reading.specs.Said.{IsSaid}
 use Rattle.law_gsmp_reading.proofs.Read.{message_is_read}
 use Rattle.law_controller.specs.ordered_lists.Ordered.{Every}
-use Rattle.world_model.specs.Ways.{told}
+use Rattle.law_controller.specs.world_model.Ways.{told}
 use Rattle.law_input_steps.specs.law_input_views.Shown.{controller_of, switch_of}
 use Rattle.law_input_steps.specs.Asking.{IsReadable}
 use Rattle.law_input_premises.specs.Read.{AreRead}

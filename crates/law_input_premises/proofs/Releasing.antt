@@ -2,19 +2,19 @@
 
 use Rattle.std.proofs.Common.{◌≡◌, ◌≤◌, ℕ, true, false, List, [], ◌∷◌, Option, None, Some, refl, sym, ◌∙◌, ap, subst, arith, map, fold}
 use Rattle.std.specs.Option.{option_map}
-use Rattle.world_model.specs.Words.{PortNo, End, number_of_channel, IsLinkPort, Request, Part, leads_home, Desk, on_input, Action, Say, Ask, Note, CutChain, TakeBack, Withdraw, Setup, home_of, Label, label_number, Grant, GrantState, Idle, ByController, ByInput, Leaving, grant_label, Session, Work, label_at, with_grants, without_grant, closes, reclaim_ack, label_channel_of, put, without, Linked, linked_at, begins, with_work, performs_in_estab, joins_of, join_of, parts, releases_input, released_inputs, resets_spent}
+use Rattle.law_controller.specs.world_model.Words.{PortNo, End, number_of_channel, IsLinkPort, Request, Part, leads_home, Desk, on_input, Action, Say, Ask, Note, CutChain, TakeBack, Withdraw, Setup, home_of, Label, label_number, Grant, GrantState, Idle, ByController, ByInput, Leaving, grant_label, Session, Work, label_at, with_grants, without_grant, closes, reclaim_ack, label_channel_of, put, without, Linked, linked_at, begins, with_work, performs_in_estab, joins_of, join_of, parts, releases_input, released_inputs, resets_spent}
 use Rattle.law_controller.specs.ordered_lists.Ordered.{Every}
 use Rattle.law_controller.proofs.ordered_lists.Every.{every_map, every_map2, every_mapped}
-use Rattle.world_model.specs.port_model.declared.action.Action.TheVariants as actions
-use Rattle.world_model.specs.port_model.Joins as port_joins
+use Rattle.law_controller.specs.world_model.port_model.declared.action.Action.TheVariants as actions
+use Rattle.law_controller.specs.world_model.port_model.Joins as port_joins
 use Rattle.law_controller.specs.law_port_facts.Port.{IsLabelEnd}
 use Rattle.law_controller.proofs.law_port_facts.Keyed.{on_both}
 use Rattle.law_controller.proofs.law_port_facts.Found.{filter_passes}
 use Rattle.law_controller.proofs.law_port_facts.Instances.{parted_gave, given_back_gave}
 use Rattle.law_controller.proofs.law_port_facts.Steps as steps_of
 use Rattle.law_controller.proofs.law_port_facts.Steps.{steps_to}
-use Rattle.world_model.specs.Controller.{Acted, ports_of, note}
-use Rattle.world_model.specs.Joins.{Join}
+use Rattle.law_controller.specs.world_model.Controller.{Acted, ports_of, note}
+use Rattle.law_controller.specs.world_model.Joins.{Join}
 use Rattle.law_controller.proofs.law_controller_facts.Moves.{HasPorts, found_setup, found_at_own}
 use Rattle.law_controller.proofs.law_controller_facts.Joining.{IsJoin, joins_are, join_input, every_filter}
 use Rattle.law_controller.proofs.law_controller_facts.Laws.{has_ports}

@@ -3,15 +3,15 @@
 use Rattle.std.proofs.Common.{◌≡◌, ℕ, ◌≤◌, Bool, true, false, List, [], ◌∷◌, ◌++◌, Option, None, Some, refl, sym, ◌∙◌, subst, arith, fold, flat_map, map, if◌then◌else◌, inl, inr}
 use Rattle.std.specs.Prelude.{◌⊎◌}
 use Rattle.std.proofs.lemmas.Bool.Decides.{nat_tests}
-use Rattle.world_model.specs.Words.{PortNo, End, Clearing, is_estab, same_end, IsLinkPort, at, all_on, Action, Say, Ask, Note, CutChain, TakeBack, Withdraw, Setup, Label, Grant, GrantState, Idle, ByController, ByInput, Leaving, Session, Work, closing, withdrawing_in, withdrawing_of, withdrawing, taking_back_in, taking_back, resets, Linked, port_key, linked_at, begins, with_work, does, does_in_estab}
-use Rattle.world_model.specs.gsmp_wire.declared.request.Request.TheVariants.{DeleteAll}
+use Rattle.law_controller.specs.world_model.Words.{PortNo, End, Clearing, is_estab, same_end, IsLinkPort, at, all_on, Action, Say, Ask, Note, CutChain, TakeBack, Withdraw, Setup, Label, Grant, GrantState, Idle, ByController, ByInput, Leaving, Session, Work, closing, withdrawing_in, withdrawing_of, withdrawing, taking_back_in, taking_back, resets, Linked, port_key, linked_at, begins, with_work, does, does_in_estab}
+use Rattle.law_controller.specs.world_model.gsmp_wire.declared.request.Request.TheVariants.{DeleteAll}
 use Rattle.law_controller.specs.ordered_lists.Ordered.{Every}
 use Rattle.law_controller.proofs.ordered_lists.Every.{every_map, every_map2}
-use Rattle.world_model.specs.port_model.declared.action.Action.TheVariants as actions
+use Rattle.law_controller.specs.world_model.port_model.declared.action.Action.TheVariants as actions
 use Rattle.law_controller.specs.law_port_facts.Port.{setup_port, IsAction, parts_label}
 use Rattle.law_controller.proofs.law_port_facts.Keyed.{at_key, at_every, at_put_same, every_more}
 use Rattle.law_controller.proofs.law_port_facts.Joins.{resets_kept}
-use Rattle.world_model.specs.Controller.{Acted}
+use Rattle.law_controller.specs.world_model.Controller.{Acted}
 use Rattle.law_controller.proofs.law_controller_facts.Moves.{by_reset, Found, HasPorts, found_setup, found_at_own, found_port, begun}
 use Rattle.law_controller.proofs.law_controller_facts.Laws.{has_ports}
 use Rattle.law_controller.specs.Order.{lends_at, is_lent}

@@ -2,22 +2,22 @@
 
 use Rattle.std.proofs.Common.{◌≡◌, true, ℕ, List, [], ◌∷◌, length, Option, None, Some, refl, ◌∙◌, ap, if◌then◌else◌, fold, flat_map}
 use Rattle.std.specs.Prelude.{◌==◌, nat_le}
-use Rattle.world_model.specs.Words.{PortNo, Channel, End, Mark, next_control, with_control, number_of_channel, is_estab, Request, AddBranch, MoveBranch, DeleteTree, VerifyTree, PortManagement, ifmp_packet_of, RouteChange, default_payload, Loss, Part, PoolFull, noted, frame_cells, made, Desk, is_led_home, last_transaction, sent_again, Action, Say, Ask, Note, CutChain, TakeBack, Withdraw, home_of, Work, resets, closes, Controller, Linked, linked_at, with_linked, with_desk, default_channel, default_end, default_home, sends_control, sends_request, asks_next, asks, takes_back, begins, with_work, cuts_of, resets_gsmp, port_restarts, node_resets, does, does_in_estab, resets_of, performs, performs_in_estab, Rule, works, at_port, join_of, join_for, may_join, parts, releases_join, releases_input, released_inputs, resets_spent, releases, enters_grant, enters_label, joins, tries_label, label_on, tries_join, tells_port, up_ports, default_branches, ends_meeting, has_emptied, behind_delete_all, causes_in_estab, causes, may_clear, clears_of, clears_port, clears, changed_joins, takes_join_back, begins_change, sends_again, ticks_port, Label}
-use Rattle.world_model.specs.gsmp_wire.declared.request.Request.TheVariants.{DeleteAll, AllPorts}
-use Rattle.world_model.specs.gsmp_wire.Layout.{octets_of as gsmp_octets}
-use Rattle.world_model.specs.ifmp_wire.Message.{octets_of as ifmp_octets}
-use Rattle.world_model.specs.frame_model.Sending.{Sent}
-use Rattle.world_model.specs.port_model.Desk.{asked, message_at}
-use Rattle.world_model.specs.port_model.declared.action.Action.TheVariants as actions
-use Rattle.world_model.specs.port_model.Resets.{cleared}
-use Rattle.world_model.specs.port_model.Joins as port_joins
-use Rattle.world_model.specs.port_model.Answers as port_answers
+use Rattle.law_controller.specs.world_model.Words.{PortNo, Channel, End, Mark, next_control, with_control, number_of_channel, is_estab, Request, AddBranch, MoveBranch, DeleteTree, VerifyTree, PortManagement, ifmp_packet_of, RouteChange, default_payload, Loss, Part, PoolFull, noted, frame_cells, made, Desk, is_led_home, last_transaction, sent_again, Action, Say, Ask, Note, CutChain, TakeBack, Withdraw, home_of, Work, resets, closes, Controller, Linked, linked_at, with_linked, with_desk, default_channel, default_end, default_home, sends_control, sends_request, asks_next, asks, takes_back, begins, with_work, cuts_of, resets_gsmp, port_restarts, node_resets, does, does_in_estab, resets_of, performs, performs_in_estab, Rule, works, at_port, join_of, join_for, may_join, parts, releases_join, releases_input, released_inputs, resets_spent, releases, enters_grant, enters_label, joins, tries_label, label_on, tries_join, tells_port, up_ports, default_branches, ends_meeting, has_emptied, behind_delete_all, causes_in_estab, causes, may_clear, clears_of, clears_port, clears, changed_joins, takes_join_back, begins_change, sends_again, ticks_port, Label}
+use Rattle.law_controller.specs.world_model.gsmp_wire.declared.request.Request.TheVariants.{DeleteAll, AllPorts}
+use Rattle.law_controller.specs.world_model.gsmp_wire.Layout.{octets_of as gsmp_octets}
+use Rattle.law_controller.specs.world_model.ifmp_wire.Message.{octets_of as ifmp_octets}
+use Rattle.law_controller.specs.world_model.frame_model.Sending.{Sent}
+use Rattle.law_controller.specs.world_model.port_model.Desk.{asked, message_at}
+use Rattle.law_controller.specs.world_model.port_model.declared.action.Action.TheVariants as actions
+use Rattle.law_controller.specs.world_model.port_model.Resets.{cleared}
+use Rattle.law_controller.specs.world_model.port_model.Joins as port_joins
+use Rattle.law_controller.specs.world_model.port_model.Answers as port_answers
 use Rattle.law_controller.proofs.law_port_facts.Keyed.{on_both}
-use Rattle.world_model.specs.Controller.{Acted, ports_of, note, free_slots}
-use Rattle.world_model.specs.Sending.{with_cells, sends}
-use Rattle.world_model.specs.Joins.{Join, output_of}
-use Rattle.world_model.specs.Meeting.{port_of}
-use Rattle.world_model.specs.port_model.Ticks as port_ticks
+use Rattle.law_controller.specs.world_model.Controller.{Acted, ports_of, note, free_slots}
+use Rattle.law_controller.specs.world_model.Sending.{with_cells, sends}
+use Rattle.law_controller.specs.world_model.Joins.{Join, output_of}
+use Rattle.law_controller.specs.world_model.Meeting.{port_of}
+use Rattle.law_controller.specs.world_model.port_model.Ticks as port_ticks
 use Rattle.law_input_steps.proofs.Resets.{still_fold, restarts_still}
 
 abbrev pub KeepsRows : Acted → Acted → Type 0

@@ -1,7 +1,7 @@
 -- what is so of a controller between events gives all that its calls need
 
 use Rattle.std.proofs.Common.{inr}
-use Rattle.world_model.specs.Controller.{Acted}
+use Rattle.law_controller.specs.world_model.Controller.{Acted}
 use Rattle.law_controller.proofs.Whole.{Whole}
 use Rattle.law_input_premises.specs.Read.{AreRead}
 use Rattle.law_input_premises.specs.Steady.{IsSteady}

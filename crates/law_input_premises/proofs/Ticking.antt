@@ -1,19 +1,19 @@
 -- a tick of a controller may be done: what stands is sent again, each port ticks, and joins are tried
 
 use Rattle.std.proofs.Common.{◌≡◌, ◌≤◌, ◌<◌, ℕ, suc, zero, List, [], ◌∷◌, ◌++◌, take, None, Some, refl, sym, ◌∙◌, subst, arith, fold, flat_map, append_assoc}
-use Rattle.world_model.specs.Words.{PortNo, End, Greeting, Party, Answer, Quiet, Send, Open, gsmp_answer, ticked, IsLinkPort, PortRow, Desk, Standing, empty_desk, last_transaction, sent_again, Setup, Linked, with_desk, default_channel, says_gsmp, begins, inputs_at, meets, ticks_port}
-use Rattle.world_model.specs.adjacency_table.declared.message.Answer.TheVariants.{Reset}
-use Rattle.world_model.specs.adjacency_table.Side as sides
-use Rattle.world_model.specs.gsmp_wire.Layout.{octets_of as gsmp_octets}
-use Rattle.world_model.specs.gsmp_wire.declared.message.Message.{Message}
-use Rattle.world_model.specs.gsmp_wire.declared.message.Message.TheVariants.{Adjacency}
-use Rattle.world_model.specs.gsmp_wire.declared.request.Request.TheVariants.{AllPorts}
+use Rattle.law_controller.specs.world_model.Words.{PortNo, End, Greeting, Party, Answer, Quiet, Send, Open, gsmp_answer, ticked, IsLinkPort, PortRow, Desk, Standing, empty_desk, last_transaction, sent_again, Setup, Linked, with_desk, default_channel, says_gsmp, begins, inputs_at, meets, ticks_port}
+use Rattle.law_controller.specs.world_model.adjacency_table.declared.message.Answer.TheVariants.{Reset}
+use Rattle.law_controller.specs.world_model.adjacency_table.Side as sides
+use Rattle.law_controller.specs.world_model.gsmp_wire.Layout.{octets_of as gsmp_octets}
+use Rattle.law_controller.specs.world_model.gsmp_wire.declared.message.Message.{Message}
+use Rattle.law_controller.specs.world_model.gsmp_wire.declared.message.Message.TheVariants.{Adjacency}
+use Rattle.law_controller.specs.world_model.gsmp_wire.declared.request.Request.TheVariants.{AllPorts}
 use Rattle.law_controller.specs.ordered_lists.Ordered.{Every}
-use Rattle.world_model.specs.port_model.Ticks as port_ticks
+use Rattle.law_controller.specs.world_model.port_model.Ticks as port_ticks
 use Rattle.law_controller.specs.law_port_facts.Port.{IsLabelEnd, IsPort, IsShaped}
 use Rattle.law_controller.proofs.law_port_facts.Hearings.{ticks_goes}
-use Rattle.world_model.specs.Controller.{Acted, ports_of}
-use Rattle.world_model.specs.Gsmp.{answers, steps}
+use Rattle.law_controller.specs.world_model.Controller.{Acted, ports_of}
+use Rattle.law_controller.specs.world_model.Gsmp.{answers, steps}
 use Rattle.law_controller.proofs.law_controller_facts.Moves.{ages, Found, HasPorts}
 use Rattle.law_controller.proofs.law_controller_facts.Joining.{every_flat_map, each_there}
 use Rattle.law_controller.proofs.law_controller_facts.Entering.{inputs_of_port}

@@ -2,15 +2,15 @@
 
 use Rattle.std.proofs.Common.{◌≡◌, ◌≤◌, ℕ, true, List, [], ◌∷◌, length, Option, None, Some, refl, sym, ◌∙◌, ap, subst, arith}
 use Rattle.std.specs.Prelude.{◌&&◌, not, is_none, nat_lt}
-use Rattle.world_model.specs.Words.{End, number_of_channel, flow_destination, MoveBranch, at, on_input, most_asked, Setup, home_of, Label, Offered, label_number, Grant, ByController, grant_label, Work, label_at, labels_of, Linked, linked_at, begins, with_work, performs_in_estab, join_for, is_offered, may_join, enters_grant, enters_label, joins, tries_label, label_on, tries_join, route_stays}
+use Rattle.law_controller.specs.world_model.Words.{End, number_of_channel, flow_destination, MoveBranch, at, on_input, most_asked, Setup, home_of, Label, Offered, label_number, Grant, ByController, grant_label, Work, label_at, labels_of, Linked, linked_at, begins, with_work, performs_in_estab, join_for, is_offered, may_join, enters_grant, enters_label, joins, tries_label, label_on, tries_join, route_stays}
 use Rattle.law_controller.specs.ordered_lists.Ordered.{Every}
-use Rattle.world_model.specs.port_model.Joins as port_joins
+use Rattle.law_controller.specs.world_model.port_model.Joins as port_joins
 use Rattle.law_controller.specs.law_port_facts.Port.{IsLabelEnd, joins_label}
 use Rattle.law_controller.proofs.law_port_facts.Keyed.{on_each}
 use Rattle.law_controller.proofs.law_port_facts.Instances.{joined_gave, lent_gave}
 use Rattle.law_controller.proofs.law_port_facts.Rules.{and_first}
-use Rattle.world_model.specs.Controller.{Acted}
-use Rattle.world_model.specs.Joins.{Join, output_of}
+use Rattle.law_controller.specs.world_model.Controller.{Acted}
+use Rattle.law_controller.specs.world_model.Joins.{Join, output_of}
 use Rattle.law_controller.proofs.law_controller_facts.Moves.{Found, HasPorts}
 use Rattle.law_controller.proofs.law_controller_facts.Joining.{image_is}
 use Rattle.law_controller.proofs.law_controller_facts.Entering.{granted_end, is_offered_by, OnPort, on_port, lends_labels, IsFor, found_for}

@@ -3,17 +3,17 @@
 use Rattle.std.proofs.Common.{◌≡◌, ℕ, Bool, true, false, List, [], ◌∷◌, ◌++◌, Option, None, Some, refl, sym, ◌∙◌, ap, subst, if◌then◌else◌, is_some}
 use Rattle.std.specs.Prelude.{◌+◌, ◌||◌, nat_lt}
 use Rattle.std.specs.Option.{option_map, option_map_or}
-use Rattle.world_model.specs.Words.{Peer, End, number_of_channel, State, Clearing, Said, Answer, Quiet, Send, Open, Side, IsSide, is_estab, ifmp_answer, hello_of, heard_from, same_peer, AddBranch, DeleteTree, Bind, Free, Opened, at, put, without, entered, key_le, Desk, on_input, Action, Say, Ask, Note, CutChain, TakeBack, Withdraw, Setup, label_end, control_end, Label, Wiring, Offered, Wired, label_number, Grant, Idle, ByController, grant_label, Session, Work, halts, with_session, with_label, with_new_label, without_label, with_grants, desk_after, has_room, Unnumbered, last_number, spent_number, own_of, is_spent, tells_in, tells, closes, first_session, opens, accepts}
-use Rattle.world_model.specs.adjacency_table.declared.message.Answer.TheVariants.{Reset}
-use Rattle.world_model.specs.adjacency_table.Side as sides
-use Rattle.world_model.specs.ifmp_wire.declared.message.Message.TheVariants.{Adjacency}
-use Rattle.world_model.specs.link_model.declared.record.Record.TheVariants.{Join}
+use Rattle.law_controller.specs.world_model.Words.{Peer, End, number_of_channel, State, Clearing, Said, Answer, Quiet, Send, Open, Side, IsSide, is_estab, ifmp_answer, hello_of, heard_from, same_peer, AddBranch, DeleteTree, Bind, Free, Opened, at, put, without, entered, key_le, Desk, on_input, Action, Say, Ask, Note, CutChain, TakeBack, Withdraw, Setup, label_end, control_end, Label, Wiring, Offered, Wired, label_number, Grant, Idle, ByController, grant_label, Session, Work, halts, with_session, with_label, with_new_label, without_label, with_grants, desk_after, has_room, Unnumbered, last_number, spent_number, own_of, is_spent, tells_in, tells, closes, first_session, opens, accepts}
+use Rattle.law_controller.specs.world_model.adjacency_table.declared.message.Answer.TheVariants.{Reset}
+use Rattle.law_controller.specs.world_model.adjacency_table.Side as sides
+use Rattle.law_controller.specs.world_model.ifmp_wire.declared.message.Message.TheVariants.{Adjacency}
+use Rattle.law_controller.specs.world_model.link_model.declared.record.Record.TheVariants.{Join}
 use Rattle.law_controller.specs.ordered_lists.Ordered.{Every}
 use Rattle.law_controller.proofs.ordered_lists.Every.{every_join}
-use Rattle.world_model.specs.port_model.declared.action.Action.TheVariants as actions
-use Rattle.world_model.specs.port_model.Port.{acts}
-use Rattle.world_model.specs.port_model.Saying.{peer_of}
-use Rattle.world_model.specs.port_model.Adjacency.{answers}
+use Rattle.law_controller.specs.world_model.port_model.declared.action.Action.TheVariants as actions
+use Rattle.law_controller.specs.world_model.port_model.Port.{acts}
+use Rattle.law_controller.specs.world_model.port_model.Saying.{peer_of}
+use Rattle.law_controller.specs.world_model.port_model.Adjacency.{answers}
 use Rattle.law_controller.specs.law_port_facts.Port.{setup_port, IsPort, IsWork}
 use Rattle.law_controller.proofs.law_port_facts.Keyed.{on_both}
 use Rattle.law_controller.proofs.law_port_facts.Kept.{step_kept}

@@ -3,15 +3,15 @@
 use Rattle.std.proofs.Common.{◌≡◌, ◌≤◌, Bool, true, false, List, [], ◌∷◌, ◌++◌, Option, None, Some, refl, sym, ◌∙◌, ap, subst, fold, if◌then◌else◌, inl, inr}
 use Rattle.std.specs.Prelude.{◌⊎◌}
 use Rattle.std.specs.List.{list_any}
-use Rattle.world_model.specs.Words.{PortNo, End, Clearing, is_estab, Request, AddBranch, MoveBranch, DeleteTree, VerifyTree, PortManagement, IsLinkPort, at, put, is_delete_all, Desk, Standing, all_on, Action, Say, Ask, Note, CutChain, TakeBack, Withdraw, Setup, Work, desk_with, Linked, port_key, linked_at, begins, with_work, does, does_in_estab, performs, performs_in_estab, Rule}
-use Rattle.world_model.specs.gsmp_wire.declared.request.Request.TheVariants.{DeleteAll, AllPorts}
+use Rattle.law_controller.specs.world_model.Words.{PortNo, End, Clearing, is_estab, Request, AddBranch, MoveBranch, DeleteTree, VerifyTree, PortManagement, IsLinkPort, at, put, is_delete_all, Desk, Standing, all_on, Action, Say, Ask, Note, CutChain, TakeBack, Withdraw, Setup, Work, desk_with, Linked, port_key, linked_at, begins, with_work, does, does_in_estab, performs, performs_in_estab, Rule}
+use Rattle.law_controller.specs.world_model.gsmp_wire.declared.request.Request.TheVariants.{DeleteAll, AllPorts}
 use Rattle.law_controller.specs.ordered_lists.Ordered.{Every}
 use Rattle.law_controller.proofs.ordered_lists.Every.{every_map}
-use Rattle.world_model.specs.port_model.declared.action.Action.TheVariants as actions
+use Rattle.law_controller.specs.world_model.port_model.declared.action.Action.TheVariants as actions
 use Rattle.law_controller.specs.law_port_facts.Port.{setup_port, IsAction, parts_label}
 use Rattle.law_controller.proofs.law_port_facts.Keyed.{at_every, at_put_same, every_more}
 use Rattle.law_controller.proofs.law_port_facts.Steps.{Goes}
-use Rattle.world_model.specs.Controller.{Acted}
+use Rattle.law_controller.specs.world_model.Controller.{Acted}
 use Rattle.law_controller.specs.law_controller_facts.Sound.{IsShutLinked}
 use Rattle.law_controller.proofs.law_controller_facts.Moves.{by_rule, Found, HasPorts, found_setup, found_at_own, begun}
 use Rattle.law_controller.proofs.law_controller_facts.Numbers.{worked_draws}

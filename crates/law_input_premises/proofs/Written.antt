@@ -4,12 +4,12 @@ use Rattle.std.proofs.Common.{◌≡◌, ℕ, ◌<◌, ◌≤◌, ◌^◌, Bool,
 use Rattle.std.specs.Prelude.{◌==◌}
 use Rattle.std.specs.Option.{option_map_or}
 use Rattle.std.proofs.lemmas.Bool.Decides.{nat_tests}
-use Rattle.world_model.specs.Words.{Channel, End, PortNo, is_label_channel, IsLinkPort, FitsChannel, FitsRows, Fits, Request, AddBranch, MoveBranch, DeleteTree, PortRow, at, session_of, message_of, Setup, home_of}
-use Rattle.world_model.specs.gsmp_wire.declared.message.Message.{Message}
-use Rattle.world_model.specs.gsmp_wire.declared.request.Request.TheVariants.{DeleteAll, AllPorts}
+use Rattle.law_controller.specs.world_model.Words.{Channel, End, PortNo, is_label_channel, IsLinkPort, FitsChannel, FitsRows, Fits, Request, AddBranch, MoveBranch, DeleteTree, PortRow, at, session_of, message_of, Setup, home_of}
+use Rattle.law_controller.specs.world_model.gsmp_wire.declared.message.Message.{Message}
+use Rattle.law_controller.specs.world_model.gsmp_wire.declared.request.Request.TheVariants.{DeleteAll, AllPorts}
 use Rattle.law_gsmp_reading.specs.Said.{asks, no_branch, all_asked, IsSaid}
 use Rattle.law_controller.specs.ordered_lists.Ordered.{Every}
-use Rattle.world_model.specs.port_model.Messages.{row_of}
+use Rattle.law_controller.specs.world_model.port_model.Messages.{row_of}
 use Rattle.law_controller.specs.law_port_facts.Port.{setup_port, IsLabelEnd, IsLinked, IsDefaultEnd, IsShaped, asks_ports, empties_control, empties_port, opens_input, opens_output, leads_label, leads_grant, joins_label, parts_label, frees_label}
 use Rattle.law_controller.proofs.law_port_facts.Keyed.{at_key, at_every}
 use Rattle.law_controller.proofs.law_controller_facts.Conditions.{of_label, label_has_home}

@@ -7,5 +7,6 @@ pub use Rattle.law_input_steps.specs.law_shown_cells as law_shown_cells
 pub use Rattle.law_input_steps.specs.law_input_views as law_input_views
 pub use Rattle.law_input_steps.specs as law_input_steps
 pub use Rattle.law_gsmp_reading.specs as law_gsmp_reading
+pub use Rattle.law_controller.specs.world_model as world_model
 pub mod Read
 pub mod Steady

@@ -1,7 +1,7 @@
 -- What a controller asks is read by its switch as it was said, by the records that the controller keeps of the ports
 
 use Rattle.std.specs.Prelude.{ℕ, ◌<◌, List}
-use Rattle.world_model.specs.Words.{Request, PortRow, last_transaction, message_of, Setup}
+use Rattle.law_controller.specs.world_model.Words.{Request, PortRow, last_transaction, message_of, Setup}
 use Rattle.law_controller.specs.law_port_facts.Port.{IsShaped}
 use Rattle.law_input_steps.specs.Asking.{IsReadable}
 

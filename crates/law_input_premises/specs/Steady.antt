@@ -1,6 +1,6 @@
 -- What is so of a controller between events, as far as the lines of its inputs need it
 
-use Rattle.world_model.specs.Words.{IsLinkPort, FitsRows, Setup, Controller}
+use Rattle.law_controller.specs.world_model.Words.{IsLinkPort, FitsRows, Setup, Controller}
 use Rattle.law_controller.specs.ordered_lists.Ordered.{Every}
 use Rattle.std.specs.Prelude.{List}
 use Rattle.law_controller.specs.law_controller_facts.Sound.{IsSound}

@@ -9,11 +9,11 @@
 #![tactic(auto)]
 
 ghost use Rattle.std.specs.Prelude.{◌≡◌, ◌≤◌, ◌<◌, ◌^◌, ℕ, Bool, Option, Some, find, true};
-ghost use Rattle.world_model.specs.Words.{End, NodeId, PortNo, Addr, ticked, gsmp_answer, greeting_of, said_by, SideByInstances, greeting, HelloKind, Standing, without_request, hears, linked_at, with_desk};
-ghost use Rattle.world_model.specs.gsmp_wire.declared.message.Message.TheVariants.{Adjacency};
-ghost use Rattle.world_model.specs.ifmp_wire.declared.message.Message.{Message};
+ghost use Rattle.law_controller.specs.world_model.Words.{End, NodeId, PortNo, Addr, ticked, gsmp_answer, greeting_of, said_by, SideByInstances, greeting, HelloKind, Standing, without_request, hears, linked_at, with_desk};
+ghost use Rattle.law_controller.specs.world_model.gsmp_wire.declared.message.Message.TheVariants.{Adjacency};
+ghost use Rattle.law_controller.specs.world_model.ifmp_wire.declared.message.Message.{Message};
 ghost use Rattle.law_controller.specs.law_port_facts.Port.{Lives};
-ghost use Rattle.world_model.specs.Controller.{Acted};
+ghost use Rattle.law_controller.specs.world_model.Controller.{Acted};
 ghost use Rattle.law_input_steps.specs.law_input_views.Shown.{controller_of, switch_of};
 ghost use Rattle.law_input_steps.specs.Asking.{CanApply, IsReadable};
 ghost use Rattle.law_input_steps.specs.Hearing.{Reads};

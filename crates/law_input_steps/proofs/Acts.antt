@@ -2,17 +2,17 @@
 
 use Rattle.std.proofs.Common.{◌≡◌, ◌≢◌, ◌≤◌, Bool, true, false, not, List, [], ◌∷◌, Option, Some, None, refl, sym, ◌∙◌, ap, subst, filter, fold, arith, if◌then◌else◌}
 use Rattle.std.specs.Prelude.{◌==◌}
-use Rattle.world_model.specs.Words.{Channel, End, NodeId, PortNo, is_estab, Request, AddBranch, MoveBranch, DeleteTree, VerifyTree, PortManagement, same_end, is_on, Standing, is_led_home, last_transaction, message_of, Action, Say, Ask, Note, CutChain, TakeBack, Withdraw, home_of, Work, resets, Switch, Linked, linked_at, with_desk, default_channel, default_home, asks_next, asks, takes_back, withdraws_input, begins, with_work, node_resets, does, does_in_estab, resets_as, resets_of, performs, performs_in_estab, Rule, works_as, works, at_port}
-use Rattle.world_model.specs.gsmp_wire.declared.request.Request.TheVariants.{DeleteAll, AllPorts}
-use Rattle.world_model.specs.gsmp_wire.Layout.{octets_of}
+use Rattle.law_input_views.specs.world_model.Words.{Channel, End, NodeId, PortNo, is_estab, Request, AddBranch, MoveBranch, DeleteTree, VerifyTree, PortManagement, same_end, is_on, Standing, is_led_home, last_transaction, message_of, Action, Say, Ask, Note, CutChain, TakeBack, Withdraw, home_of, Work, resets, Switch, Linked, linked_at, with_desk, default_channel, default_home, asks_next, asks, takes_back, withdraws_input, begins, with_work, node_resets, does, does_in_estab, resets_as, resets_of, performs, performs_in_estab, Rule, works_as, works, at_port}
+use Rattle.law_input_views.specs.world_model.gsmp_wire.declared.request.Request.TheVariants.{DeleteAll, AllPorts}
+use Rattle.law_input_views.specs.world_model.gsmp_wire.Layout.{octets_of}
 use Rattle.law_input_views.specs.ordered_lists.Ordered.{Every, InOrder}
 use Rattle.law_input_views.proofs.ordered_lists.Every.{every_map}
 use Rattle.law_input_views.proofs.ordered_lists.Parts.{IsPart, part_mapped}
-use Rattle.world_model.specs.port_model.Desk.{asked}
-use Rattle.world_model.specs.port_model.declared.action.Action.TheVariants.{Reset}
+use Rattle.law_input_views.specs.world_model.port_model.Desk.{asked}
+use Rattle.law_input_views.specs.world_model.port_model.declared.action.Action.TheVariants.{Reset}
 use Rattle.law_input_views.specs.law_branch_line.Line.{Other, Meeting, Listing, Emptying, Met, MetAndAsked, Line}
 use Rattle.law_input_views.specs.law_branch_line.Asking.{has_met}
-use Rattle.world_model.specs.Controller.{Acted}
+use Rattle.law_input_views.specs.world_model.Controller.{Acted}
 use Rattle.law_input_views.specs.Words.{is_own, own_of, other_of, others_of}
 use Rattle.law_input_views.specs.Shown.{AskedShows, IsAllPorts, IsDeleteAll, PhaseShows}
 use Rattle.law_input_steps.specs.Part.{Part, part_at, Stands, Reaches, AnyLine, Leads}

@@ -1,15 +1,15 @@
 -- requests that stand are sent again
 
 use Rattle.std.proofs.Common.{◌≡◌, ℕ, Bool, true, false, not, List, [], ◌∷◌, ◌++◌, Some, refl, sym, ◌∙◌, ap, subst, filter, map, fold, replicate, append_assoc, if◌then◌else◌, arith}
-use Rattle.world_model.specs.Words.{End, NodeId, next_control, with_control, is_estab, frame_cells, Desk, Standing, sent_again, Switch, default_channel, sends_request, sends_again}
-use Rattle.world_model.specs.gsmp_wire.Layout.{octets_of}
+use Rattle.law_input_views.specs.world_model.Words.{End, NodeId, next_control, with_control, is_estab, frame_cells, Desk, Standing, sent_again, Switch, default_channel, sends_request, sends_again}
+use Rattle.law_input_views.specs.world_model.gsmp_wire.Layout.{octets_of}
 use Rattle.law_input_views.specs.ordered_lists.Ordered.{Every, InOrder}
-use Rattle.world_model.specs.port_model.Desk.{message_at}
+use Rattle.law_input_views.specs.world_model.port_model.Desk.{message_at}
 use Rattle.law_input_views.specs.law_branch_line.Words.{ToSwitch, Copy, OnInput, Elsewhere}
 use Rattle.law_input_views.specs.law_branch_line.Line.{Asked, Apart, Unasked, Stands as Standing_at, Answered, Line}
 use Rattle.law_input_views.specs.law_branch_line.Asking.{ask_again}
 use Rattle.law_input_views.specs.law_branch_line.Moves.{Move, AskAgain, AskOtherAgain, step}
-use Rattle.world_model.specs.Controller.{Acted}
+use Rattle.law_input_views.specs.world_model.Controller.{Acted}
 use Rattle.law_input_views.specs.Words.{own_request, type_of, is_own, own_of, other_of, others_of}
 use Rattle.law_input_views.specs.Shown.{AskedShows, ShowsRequests}
 use Rattle.law_input_steps.specs.Part.{Part, part_at, Stands, Reaches, AnyLine, Leads}

@@ -4,11 +4,11 @@ use Rattle.std.proofs.Common.{◌≡◌, ℕ, ◌<◌, Bool, true, false, not, L
 use Rattle.std.specs.List.{list_any}
 use Rattle.std.specs.Prelude.{◌&&◌, ◌==◌}
 use Rattle.std.proofs.lemmas.Bool.Decides.{nat_tests}
-use Rattle.world_model.specs.Words.{End, NodeId, is_estab, Request, AddBranch, MoveBranch, DeleteTree, VerifyTree, PortManagement, same_end, Desk, Standing, is_of_type, without_request}
-use Rattle.world_model.specs.gsmp_wire.declared.message.BranchKind.TheVariants as kinds
-use Rattle.world_model.specs.gsmp_wire.declared.message.Message.{Message}
-use Rattle.world_model.specs.gsmp_wire.declared.message.Message.TheVariants as messages
-use Rattle.world_model.specs.gsmp_wire.declared.request.Request.TheVariants.{DeleteAll, AllPorts}
+use Rattle.law_input_views.specs.world_model.Words.{End, NodeId, is_estab, Request, AddBranch, MoveBranch, DeleteTree, VerifyTree, PortManagement, same_end, Desk, Standing, is_of_type, without_request}
+use Rattle.law_input_views.specs.world_model.gsmp_wire.declared.message.BranchKind.TheVariants as kinds
+use Rattle.law_input_views.specs.world_model.gsmp_wire.declared.message.Message.{Message}
+use Rattle.law_input_views.specs.world_model.gsmp_wire.declared.message.Message.TheVariants as messages
+use Rattle.law_input_views.specs.world_model.gsmp_wire.declared.request.Request.TheVariants.{DeleteAll, AllPorts}
 use Rattle.law_input_views.specs.ordered_lists.Ordered.{Every, InOrder}
 use Rattle.law_input_views.proofs.ordered_lists.Every.{every_map, every_left, every_right, every_join, every_mapped}
 use Rattle.law_input_views.proofs.ordered_lists.InOrder.{order_right, order_across}

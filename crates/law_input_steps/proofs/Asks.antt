@@ -2,15 +2,15 @@
 
 use Rattle.std.proofs.Common.{◌≡◌, ℕ, ◌+◌, ◌<◌, Bool, true, false, not, List, [], ◌∷◌, ◌++◌, Option, Some, None, refl, sym, ◌∙◌, ap, subst, filter, map, replicate, append_assoc, append-nil, if◌then◌else◌, arith}
 use Rattle.std.specs.Prelude.{◌&&◌}
-use Rattle.world_model.specs.Words.{End, NodeId, Party, next_control, with_control, Side, is_estab, Cell, Request, AddBranch, MoveBranch, DeleteTree, VerifyTree, PortManagement, PortRow, Frame, payload_of, frame_cells, same_end, Desk, Standing, message_of, default_channel}
-use Rattle.world_model.specs.gsmp_wire.declared.message.Message.{Message}
-use Rattle.world_model.specs.gsmp_wire.declared.request.Request.TheVariants.{DeleteAll, AllPorts}
-use Rattle.world_model.specs.gsmp_wire.Layout.{octets_of}
+use Rattle.law_input_views.specs.world_model.Words.{End, NodeId, Party, next_control, with_control, Side, is_estab, Cell, Request, AddBranch, MoveBranch, DeleteTree, VerifyTree, PortManagement, PortRow, Frame, payload_of, frame_cells, same_end, Desk, Standing, message_of, default_channel}
+use Rattle.law_input_views.specs.world_model.gsmp_wire.declared.message.Message.{Message}
+use Rattle.law_input_views.specs.world_model.gsmp_wire.declared.request.Request.TheVariants.{DeleteAll, AllPorts}
+use Rattle.law_input_views.specs.world_model.gsmp_wire.Layout.{octets_of}
 use Rattle.law_input_views.specs.ordered_lists.Ordered.{Every, InOrder}
 use Rattle.law_input_views.proofs.ordered_lists.Every.{every_map, every_join}
 use Rattle.law_input_views.proofs.ordered_lists.InOrder.{order_join, order_mapped}
 use Rattle.law_input_views.proofs.ordered_lists.Parts.{IsPart, part_filtered, every_part, order_part}
-use Rattle.world_model.specs.port_model.Desk.{asked, message_at}
+use Rattle.law_input_views.specs.world_model.port_model.Desk.{asked, message_at}
 use Rattle.law_input_views.specs.law_branch_line.Words as lines
 use Rattle.law_input_views.specs.law_branch_line.Words.{ToSwitch, Copy, OnInput, Elsewhere}
 use Rattle.law_input_views.specs.law_branch_line.Line.{Asked, Apart, Unasked, Stands as Standing_at, Answered, Other, Meeting, Listing, Emptying, Met, MetAndAsked, Controller, Line}

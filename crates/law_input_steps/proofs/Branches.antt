@@ -12,12 +12,12 @@ use Rattle.std.specs.FinMap as finite
 use Rattle.std.specs.FinMap.{IsAntisymmetric, nat_cmp-IsAntisymmetric}
 use Rattle.std.specs.Option.{option_map, option_map_or}
 use Rattle.std.proofs.lemmas.Cmp.{tied_itself}
-use Rattle.world_model.specs.Words.{End, PortNo, end_cmp, Branches, new_branch, same_end, Request, AddBranch, MoveBranch, DeleteTree, VerifyTree, PortManagement, Changed, added_by, moved_by, ended_by, all_ended, inputs_on, branches_after, is_busy, lacks_branch}
+use Rattle.law_input_views.specs.world_model.Words.{End, PortNo, end_cmp, Branches, new_branch, same_end, Request, AddBranch, MoveBranch, DeleteTree, VerifyTree, PortManagement, Changed, added_by, moved_by, ended_by, all_ended, inputs_on, branches_after, is_busy, lacks_branch}
 use Rattle.law_input_views.specs.ordered_lists.Ordered.{Every}
-use Rattle.world_model.specs.crossbar_model.declared.branch.Branch.{Branch}
-use Rattle.world_model.specs.crossbar_model.Crossbar.{output_of}
-use Rattle.world_model.specs.gsmp_wire.declared.request.Request.TheVariants.{DeleteAll, AllPorts}
-use Rattle.world_model.specs.Requests.{ended, cleared}
+use Rattle.law_input_views.specs.world_model.crossbar_model.declared.branch.Branch.{Branch}
+use Rattle.law_input_views.specs.world_model.crossbar_model.Crossbar.{output_of}
+use Rattle.law_input_views.specs.world_model.gsmp_wire.declared.request.Request.TheVariants.{DeleteAll, AllPorts}
+use Rattle.law_input_views.specs.world_model.Requests.{ended, cleared}
 use Rattle.law_input_views.specs.law_branch_line.Words as lines
 use Rattle.law_input_views.specs.law_branch_line.Switch.{branch_after}
 use Rattle.law_input_views.specs.Words.{word_of}

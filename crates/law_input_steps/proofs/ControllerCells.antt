@@ -2,19 +2,19 @@
 
 use Rattle.std.proofs.Common.{◌≡◌, ℕ, Bool, true, false, not, List, [], ◌∷◌, ◌++◌, Option, Some, None, refl, sym, ◌∙◌, ap, subst, length, drop, slice_set, slice_index_or, if◌then◌else◌}
 use Rattle.std.specs.Prelude.{nat_le, nat_lt}
-use Rattle.world_model.specs.Words.{End, NodeId, Cell, Frame, Loss, Chance, PoolFull, payload_of, is_frame, Journal, noted, last_mark, payload_in, tested, tested_by, Reassembly, marks_of, most_cells, passed_over, without_slot, too_long, queue_of, popped, Switch, control_port, default_channel, same_channel, ForGsmp, takes_cell, taker_at, port_on, on_link, gsmp_holds, linked_at, gsmp_of}
-use Rattle.world_model.specs.gsmp_wire.declared.message.Message.{Message}
-use Rattle.world_model.specs.gsmp_wire.declared.message.Message.TheVariants as messages
-use Rattle.world_model.specs.gsmp_wire.Fields.{decoded}
-use Rattle.world_model.specs.frame_model.Frame.{octets_of, passed}
-use Rattle.world_model.specs.frame_model.Reassembly.{Taken, taken, joined}
+use Rattle.law_input_views.specs.world_model.Words.{End, NodeId, Cell, Frame, Loss, Chance, PoolFull, payload_of, is_frame, Journal, noted, last_mark, payload_in, tested, tested_by, Reassembly, marks_of, most_cells, passed_over, without_slot, too_long, queue_of, popped, Switch, control_port, default_channel, same_channel, ForGsmp, takes_cell, taker_at, port_on, on_link, gsmp_holds, linked_at, gsmp_of}
+use Rattle.law_input_views.specs.world_model.gsmp_wire.declared.message.Message.{Message}
+use Rattle.law_input_views.specs.world_model.gsmp_wire.declared.message.Message.TheVariants as messages
+use Rattle.law_input_views.specs.world_model.gsmp_wire.Fields.{decoded}
+use Rattle.law_input_views.specs.world_model.frame_model.Frame.{octets_of, passed}
+use Rattle.law_input_views.specs.world_model.frame_model.Reassembly.{Taken, taken, joined}
 use Rattle.law_input_views.proofs.ordered_lists.Parts.{IsPart, left, part_whole, part_none}
 use Rattle.law_input_views.proofs.law_port_facts.Keyed.{on_each}
 use Rattle.law_input_views.specs.law_branch_line.Words.{ToController}
 use Rattle.law_input_views.specs.law_branch_line.Line.{Line}
 use Rattle.law_input_views.specs.law_branch_line.Moves.{CarryToController, carry_to_controller}
-use Rattle.world_model.specs.Controller.{Acted, free_slots}
-use Rattle.world_model.specs.Cells.{after_test, ends_frame, after_cell, cell_comes}
+use Rattle.law_input_views.specs.world_model.Controller.{Acted, free_slots}
+use Rattle.law_input_views.specs.world_model.Cells.{after_test, ends_frame, after_cell, cell_comes}
 use Rattle.law_input_views.specs.law_shown_cells.Seen.{Seen, Nothing, Word, nothing}
 use Rattle.law_input_views.proofs.law_shown_cells.Shows.{First, no_word, a_word, first_of, one_hidden, shows_behind}
 use Rattle.law_input_views.specs.Words.{erased_back, seen_answer, seen_on_gsmp, seen_cell}

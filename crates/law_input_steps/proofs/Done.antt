@@ -1,18 +1,18 @@
 -- what the controller does at a success, once the switch is met: releases, what the answer causes, clearings, changes of routes
 
 use Rattle.std.proofs.Common.{◌≡◌, ℕ, Bool, true, false, List, [], ◌∷◌, fold, flat_map, Option, None, Some, refl, sym, ◌∙◌, ap, subst, arith, if◌then◌else◌}
-use Rattle.world_model.specs.Words.{End, NodeId, PortNo, number_of_channel, RouteChange, is_estab, Request, AddBranch, MoveBranch, DeleteTree, VerifyTree, PortManagement, Part as Parted, closes, Switch, Linked, linked_at, with_linked, with_desk, default_end, default_home, join_of, parts, releases_join, releases_input, released_inputs, resets_spent, releases, tells_port, has_emptied, ends_meeting, behind_delete_all, causes_in_estab, causes, may_clear, clears_of, clears_port, clears, default_branches, up_ports, takes_answer, answer_comes, asks, changed_joins, takes_join_back, begins_change, takes_change, may_take, takes_each, takes_changes, Standing, Head, Answered, Done, answered, without_request, asked_in}
-use Rattle.world_model.specs.gsmp_wire.declared.request.Request.TheVariants.{DeleteAll, AllPorts}
-use Rattle.world_model.specs.port_model.Joins as port_joins
-use Rattle.world_model.specs.port_model.Answers as port_answers
-use Rattle.world_model.specs.port_model.Resets.{cleared}
-use Rattle.world_model.specs.Controller.{Acted, ports_of, note}
-use Rattle.world_model.specs.Joins.{Join, output_of}
-use Rattle.world_model.specs.Meeting.{port_of, done}
-use Rattle.world_model.specs.gsmp_wire.declared.message.Message.{Message}
+use Rattle.law_input_views.specs.world_model.Words.{End, NodeId, PortNo, number_of_channel, RouteChange, is_estab, Request, AddBranch, MoveBranch, DeleteTree, VerifyTree, PortManagement, Part as Parted, closes, Switch, Linked, linked_at, with_linked, with_desk, default_end, default_home, join_of, parts, releases_join, releases_input, released_inputs, resets_spent, releases, tells_port, has_emptied, ends_meeting, behind_delete_all, causes_in_estab, causes, may_clear, clears_of, clears_port, clears, default_branches, up_ports, takes_answer, answer_comes, asks, changed_joins, takes_join_back, begins_change, takes_change, may_take, takes_each, takes_changes, Standing, Head, Answered, Done, answered, without_request, asked_in}
+use Rattle.law_input_views.specs.world_model.gsmp_wire.declared.request.Request.TheVariants.{DeleteAll, AllPorts}
+use Rattle.law_input_views.specs.world_model.port_model.Joins as port_joins
+use Rattle.law_input_views.specs.world_model.port_model.Answers as port_answers
+use Rattle.law_input_views.specs.world_model.port_model.Resets.{cleared}
+use Rattle.law_input_views.specs.world_model.Controller.{Acted, ports_of, note}
+use Rattle.law_input_views.specs.world_model.Joins.{Join, output_of}
+use Rattle.law_input_views.specs.world_model.Meeting.{port_of, done}
+use Rattle.law_input_views.specs.world_model.gsmp_wire.declared.message.Message.{Message}
 use Rattle.law_input_views.specs.law_branch_line.Words.{Answer, Success}
 use Rattle.law_input_views.specs.law_branch_line.Line.{Line}
-use Rattle.world_model.specs.switch_model.declared.request.Asked.{Asked}
+use Rattle.law_input_views.specs.world_model.switch_model.declared.request.Asked.{Asked}
 use Rattle.law_input_views.specs.Words.{word_of}
 use Rattle.law_input_views.specs.Shown.{IsAllPorts}
 use Rattle.law_input_steps.specs.Asking.{CanEach, MayAsk}

@@ -2,22 +2,22 @@
 
 use Rattle.std.proofs.Common.{◌≡◌, ℕ, Bool, true, false, not, List, [], ◌∷◌, ◌++◌, refl, sym, ◌∙◌, ap, subst, replicate, append_assoc, append-nil, arith, if◌then◌else◌}
 use Rattle.std.specs.Prelude.{◌&&◌}
-use Rattle.world_model.specs.Words.{End, NodeId, Greeting, HelloKind, Syn, Synack, Rstack, Ack, Party, next_control, with_control, State, Clearing, SynSent, SynRcvd, Estab, Side, Step, is_estab, ticked, Reply, Silent, Says, Resets, Row, row, tick_reply, SideByInstances, row_for, after_row, enters, is_reset, greeting, side_of, said_by, step_by, tick_by, greeting_of, gsmp_answer, gsmp_received, frame_cells, empty_desk, message_of, Switch, default_channel, with_desk, says_gsmp, asks_next, node_resets, meets}
-use Rattle.world_model.specs.adjacency_table.Side.{counted}
-use Rattle.world_model.proofs.adjacency_table.EndsLemmas.{gsmp_received_by_instances, ticked_by_instances}
-use Rattle.world_model.specs.gsmp_wire.declared.message.Message.{Message}
-use Rattle.world_model.specs.gsmp_wire.declared.message.Message.TheVariants.{Adjacency}
-use Rattle.world_model.specs.gsmp_wire.declared.request.Request.TheVariants.{AllPorts}
-use Rattle.world_model.specs.gsmp_wire.Layout.{octets_of}
+use Rattle.law_input_views.specs.world_model.Words.{End, NodeId, Greeting, HelloKind, Syn, Synack, Rstack, Ack, Party, next_control, with_control, State, Clearing, SynSent, SynRcvd, Estab, Side, Step, is_estab, ticked, Reply, Silent, Says, Resets, Row, row, tick_reply, SideByInstances, row_for, after_row, enters, is_reset, greeting, side_of, said_by, step_by, tick_by, greeting_of, gsmp_answer, gsmp_received, frame_cells, empty_desk, message_of, Switch, default_channel, with_desk, says_gsmp, asks_next, node_resets, meets}
+use Rattle.law_input_views.specs.world_model.adjacency_table.Side.{counted}
+use Rattle.law_input_views.proofs.world_model.adjacency_table.EndsLemmas.{gsmp_received_by_instances, ticked_by_instances}
+use Rattle.law_input_views.specs.world_model.gsmp_wire.declared.message.Message.{Message}
+use Rattle.law_input_views.specs.world_model.gsmp_wire.declared.message.Message.TheVariants.{Adjacency}
+use Rattle.law_input_views.specs.world_model.gsmp_wire.declared.request.Request.TheVariants.{AllPorts}
+use Rattle.law_input_views.specs.world_model.gsmp_wire.Layout.{octets_of}
 use Rattle.law_input_views.proofs.ordered_lists.Parts.{IsPart, part_whole, part_none, part_join}
-use Rattle.world_model.specs.port_model.Desk.{asked}
+use Rattle.law_input_views.specs.world_model.port_model.Desk.{asked}
 use Rattle.law_input_views.specs.law_branch_line.Words.{ToSwitch, ControllerGreets, Copy, Elsewhere, ToController, SwitchGreets}
 use Rattle.law_input_views.specs.law_branch_line.Line.{Line, Controller as LineController, spoken, Unasked, Listing}
 use Rattle.law_input_views.specs.law_branch_line.Asking.{say}
 use Rattle.law_input_views.specs.law_branch_line.Controller.{reset_node, meet, meet_on_entering, tick_controller}
 use Rattle.law_input_views.specs.law_branch_line.Moves.{ControllerTakes, ControllerTicks, LoseAtController, AskOtherAgain}
-use Rattle.world_model.specs.Controller.{Acted}
-use Rattle.world_model.specs.Gsmp.{answers, steps}
+use Rattle.law_input_views.specs.world_model.Controller.{Acted}
+use Rattle.law_input_views.specs.world_model.Gsmp.{answers, steps}
 use Rattle.law_input_views.specs.law_shown_cells.Seen.{Word}
 use Rattle.law_input_views.specs.Words.{own_of, is_own_greeting, seen_on_gsmp, erased}
 use Rattle.law_input_views.specs.Shown.{controller_of, switch_of, AskedShows}

@@ -2,27 +2,27 @@
 
 use Rattle.std.proofs.Common.{◌≡◌, ℕ, Bool, true, false, List, [], ◌∷◌, Option, Some, None, refl, sym, ◌∙◌, ap, subst, if◌then◌else◌}
 use Rattle.std.specs.Prelude.{◌&&◌}
-use Rattle.world_model.specs.Words.{End, NodeId, Mark, HelloKind, Side, is_estab, Move, Request, Frame, Journal, Branches, cut_by_move, Head, head_of, Controller, numbers_of, Changed, asked_in, is_request, noted_cut, moved_by, ended_by, all_ended, inputs_on, branches_after, ports_after, applies, failure_of, is_busy, lacks_branch, Handled, handled, handled_asked, handled_by, refused, carried_out, failure_answer, success_answer, replied, requested, copy_of, copy_by}
-use Rattle.world_model.specs.gsmp_wire.declared.message.Message.{Message}
-use Rattle.world_model.specs.gsmp_wire.declared.message.Message.TheVariants.{Adjacency, Branch, Port, AllPorts}
-use Rattle.world_model.specs.gsmp_wire.declared.message.BranchKind.TheVariants as kinds
-use Rattle.world_model.specs.gsmp_wire.declared.request.Request.TheVariants as requests
+use Rattle.law_input_views.specs.world_model.Words.{End, NodeId, Mark, HelloKind, Side, is_estab, Move, Request, Frame, Journal, Branches, cut_by_move, Head, head_of, Controller, numbers_of, Changed, asked_in, is_request, noted_cut, moved_by, ended_by, all_ended, inputs_on, branches_after, ports_after, applies, failure_of, is_busy, lacks_branch, Handled, handled, handled_asked, handled_by, refused, carried_out, failure_answer, success_answer, replied, requested, copy_of, copy_by}
+use Rattle.law_input_views.specs.world_model.gsmp_wire.declared.message.Message.{Message}
+use Rattle.law_input_views.specs.world_model.gsmp_wire.declared.message.Message.TheVariants.{Adjacency, Branch, Port, AllPorts}
+use Rattle.law_input_views.specs.world_model.gsmp_wire.declared.message.BranchKind.TheVariants as kinds
+use Rattle.law_input_views.specs.world_model.gsmp_wire.declared.request.Request.TheVariants as requests
 use Rattle.law_input_views.specs.ordered_lists.Ordered.{Every}
-use Rattle.world_model.specs.crossbar_model.declared.branch.Branch.{Branch as Led}
-use Rattle.world_model.specs.crossbar_model.Crossbar.{output_of}
+use Rattle.law_input_views.specs.world_model.crossbar_model.declared.branch.Branch.{Branch as Led}
+use Rattle.law_input_views.specs.world_model.crossbar_model.Crossbar.{output_of}
 use Rattle.std.specs.FinMap as finite
 use Rattle.law_input_views.specs.law_branch_line.Words as lines
 use Rattle.law_input_views.specs.law_branch_line.Words.{ToSwitch, ControllerGreets, Copy, ToController, Answer, Success, Failure}
 use Rattle.law_input_views.specs.law_branch_line.Line.{Line}
 use Rattle.law_input_views.specs.law_branch_line.Switch.{reply, takes_requests, branch_after, handle}
 use Rattle.law_input_views.specs.law_branch_line.Moves.{SwitchTakes, LoseAtSwitch}
-use Rattle.world_model.specs.switch_model.declared.port.PortState.{PortState}
-use Rattle.world_model.specs.switch_model.declared.request.Asked.{Asked}
-use Rattle.world_model.specs.switch_model.declared.request.Failure.{Failure as Cause}
-use Rattle.world_model.specs.switch_model.declared.request.Failure.TheVariants.{NoPort, BadSession, PortDown, OutOfRange, Busy, NoConnection, SessionsSpent}
-use Rattle.world_model.specs.Switch.{Acted}
-use Rattle.world_model.specs.Requests.{ended}
-use Rattle.world_model.specs.Conduct.{greeted, told}
+use Rattle.law_input_views.specs.world_model.switch_model.declared.port.PortState.{PortState}
+use Rattle.law_input_views.specs.world_model.switch_model.declared.request.Asked.{Asked}
+use Rattle.law_input_views.specs.world_model.switch_model.declared.request.Failure.{Failure as Cause}
+use Rattle.law_input_views.specs.world_model.switch_model.declared.request.Failure.TheVariants.{NoPort, BadSession, PortDown, OutOfRange, Busy, NoConnection, SessionsSpent}
+use Rattle.law_input_views.specs.world_model.Switch.{Acted}
+use Rattle.law_input_views.specs.world_model.Requests.{ended}
+use Rattle.law_input_views.specs.world_model.Conduct.{greeted, told}
 use Rattle.law_input_views.specs.law_shown_cells.Seen.{Seen, Nothing, Word, Unknown}
 use Rattle.law_input_views.specs.Words.{is_own_greeting, seen_copy, word_of, erased}
 use Rattle.law_input_views.specs.Shown.{controller_of, switch_of}

@@ -2,18 +2,18 @@
 
 use Rattle.std.proofs.Common.{◌≡◌, ℕ, Bool, true, false, List, [], ◌∷◌, Option, Some, None, Result, Ok, Err, refl, sym, ◌∙◌, ap, subst, find, if◌then◌else◌}
 use Rattle.std.specs.Prelude.{◌==◌, ◌&&◌}
-use Rattle.world_model.specs.Words.{End, NodeId, HelloKind, gsmp_received, Standing, Head, head_of, is_of_type, asked_in, Switch, gsmp_holds, answer_comes, takes_answer, gsmp_of, copy_by}
-use Rattle.world_model.specs.gsmp_wire.declared.fault.Fault.{Fault}
-use Rattle.world_model.specs.gsmp_wire.declared.message.Message.{Message}
-use Rattle.world_model.specs.gsmp_wire.declared.message.Message.TheVariants as messages
-use Rattle.world_model.specs.gsmp_wire.Fields.{decoded}
-use Rattle.world_model.specs.port_model.DeskAnswers as answers
+use Rattle.law_input_views.specs.world_model.Words.{End, NodeId, HelloKind, gsmp_received, Standing, Head, head_of, is_of_type, asked_in, Switch, gsmp_holds, answer_comes, takes_answer, gsmp_of, copy_by}
+use Rattle.law_input_views.specs.world_model.gsmp_wire.declared.fault.Fault.{Fault}
+use Rattle.law_input_views.specs.world_model.gsmp_wire.declared.message.Message.{Message}
+use Rattle.law_input_views.specs.world_model.gsmp_wire.declared.message.Message.TheVariants as messages
+use Rattle.law_input_views.specs.world_model.gsmp_wire.Fields.{decoded}
+use Rattle.law_input_views.specs.world_model.port_model.DeskAnswers as answers
 use Rattle.law_input_views.specs.law_branch_line.Words as lines
 use Rattle.law_input_views.specs.law_branch_line.Words.{ToController, SwitchGreets, Answer}
 use Rattle.law_input_views.specs.law_branch_line.Line.{Line}
-use Rattle.world_model.specs.switch_model.declared.request.Asked.{Asked}
-use Rattle.world_model.specs.Controller.{Acted}
-use Rattle.world_model.specs.Gsmp.{told, steps}
+use Rattle.law_input_views.specs.world_model.switch_model.declared.request.Asked.{Asked}
+use Rattle.law_input_views.specs.world_model.Controller.{Acted}
+use Rattle.law_input_views.specs.world_model.Gsmp.{told, steps}
 use Rattle.law_input_views.specs.law_shown_cells.Seen.{Seen, Nothing, Word, Unknown}
 use Rattle.law_input_views.specs.Words.{is_own_greeting, seen_answer, seen_answer_to, seen_outcome, outcome_of, erased_back}
 use Rattle.law_input_views.specs.Shown.{controller_of, switch_of}

@@ -4,19 +4,19 @@
 use Rattle.std.proofs.Common.{◌≡◌, ℕ, ◌+◌, ◌<◌, ◌≤◌, Bool, true, false, not, List, [], ◌∷◌, ◌++◌, refl, sym, ◌∙◌, ap, subst, filter, map, fold, length, replicate, zero, suc, append-nil, if◌then◌else◌, arith}
 use Rattle.std.specs.Prelude.{◌==◌}
 use Rattle.std.proofs.lemmas.Bool.Decides.{nat_tests}
-use Rattle.world_model.specs.Words.{End, NodeId, PortNo, next_control, is_estab, Cell, Request, AddBranch, MoveBranch, DeleteTree, VerifyTree, PortManagement, frame_cells, withdraws, Standing, last_transaction, message_of, Switch, default_channel, with_desk, asks, asks_next, node_resets}
-use Rattle.world_model.specs.gsmp_wire.declared.request.Request.TheVariants.{DeleteAll, AllPorts}
-use Rattle.world_model.specs.gsmp_wire.Layout.{octets_of}
+use Rattle.law_input_views.specs.world_model.Words.{End, NodeId, PortNo, next_control, is_estab, Cell, Request, AddBranch, MoveBranch, DeleteTree, VerifyTree, PortManagement, frame_cells, withdraws, Standing, last_transaction, message_of, Switch, default_channel, with_desk, asks, asks_next, node_resets}
+use Rattle.law_input_views.specs.world_model.gsmp_wire.declared.request.Request.TheVariants.{DeleteAll, AllPorts}
+use Rattle.law_input_views.specs.world_model.gsmp_wire.Layout.{octets_of}
 use Rattle.law_input_views.specs.ordered_lists.Ordered.{Every}
 use Rattle.law_input_views.proofs.ordered_lists.Every.{every_map, every_join}
 use Rattle.law_input_views.proofs.ordered_lists.Parts.{IsPart, part_whole, part_none, part_join}
-use Rattle.world_model.specs.port_model.Desk.{asked}
+use Rattle.law_input_views.specs.world_model.port_model.Desk.{asked}
 use Rattle.law_input_views.specs.law_branch_line.Words as lines
 use Rattle.law_input_views.specs.law_branch_line.Words.{Request as LineRequest, OnInput, Elsewhere, delete_all, ToSwitch, Copy, message_type, Success, ToController, Answer}
 use Rattle.law_input_views.specs.law_branch_line.Line.{Stands as Standing_at, Meeting, Emptying, Line, Controller}
 use Rattle.law_input_views.specs.law_branch_line.Asking.{ask, ask_each, number_taken}
 use Rattle.law_input_views.specs.law_branch_line.Controller.{deletes, empty_ports}
-use Rattle.world_model.specs.Controller.{Acted}
+use Rattle.law_input_views.specs.world_model.Controller.{Acted}
 use Rattle.law_input_views.specs.law_shown_cells.Seen.{Seen, Shows, nothing, hidden, word}
 use Rattle.law_input_views.specs.Words.{word_of, is_own, own_of, other_of}
 use Rattle.law_input_views.specs.Shown.{AskedShows, IsDeleteAll, PhaseShows}

@@ -5,8 +5,8 @@ use Rattle.std.specs.Prelude.{◌&&◌, ◌==◌}
 use Rattle.std.specs.Str.{bytes_eq}
 use Rattle.std.proofs.lemmas.Bool.Decides.{nat_tests}
 use Rattle.std.proofs.lemmas.Slice.Eq.{bytes_eq-Decides}
-use Rattle.world_model.specs.Words.{Greeting, Party, HelloKind, Syn, Synack, Rstack, Ack, Answer, Reply, answer_of, SideByInstances, greeting, said_by, same_party, nobody, greeting_of, gsmp_answer}
-use Rattle.world_model.specs.adjacency_table.Side.{opened}
+use Rattle.law_input_views.specs.world_model.Words.{Greeting, Party, HelloKind, Syn, Synack, Rstack, Ack, Answer, Reply, answer_of, SideByInstances, greeting, said_by, same_party, nobody, greeting_of, gsmp_answer}
+use Rattle.law_input_views.specs.world_model.adjacency_table.Side.{opened}
 use Rattle.law_input_views.specs.law_shown_cells.Seen.{Word, Unknown}
 use Rattle.law_input_views.specs.Words.{is_party, names_far, is_own_greeting, seen_greeting}
 pub use Rattle.law_input_steps.specs.Hearing.{Reads}

@@ -1,7 +1,7 @@
 -- cells leave the queues and the chains of the control link: they are lost, or go on
 
 use Rattle.std.proofs.Common.{◌≡◌, List, [], ◌∷◌, ◌++◌, refl, sym, ap, subst}
-use Rattle.world_model.specs.Words.{End, NodeId, Cell}
+use Rattle.law_input_views.specs.world_model.Words.{End, NodeId, Cell}
 use Rattle.law_input_views.proofs.ordered_lists.Parts.{IsPart, none, kept, left}
 use Rattle.law_input_views.specs.law_branch_line.Words.{ToSwitch}
 use Rattle.law_input_views.specs.law_branch_line.Line.{Line}

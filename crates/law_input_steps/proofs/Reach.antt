@@ -1,7 +1,7 @@
 -- what a site shows, taken apart and put together; moves lead on
 
 use Rattle.std.proofs.Common.{◌≤◌, List, [], ◌++◌, refl, ◌∙◌, ap, arith}
-use Rattle.world_model.specs.Words.{End, NodeId, GivenOut, Frame, Site}
+use Rattle.law_input_views.specs.world_model.Words.{End, NodeId, GivenOut, Frame, Site}
 use Rattle.law_input_views.specs.law_branch_line.Line.{Line}
 use Rattle.law_input_views.specs.law_branch_line.Moves.{run}
 use Rattle.law_input_views.specs.law_shown_cells.Seen.{IsUnmade, Extends}

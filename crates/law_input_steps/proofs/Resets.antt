@@ -1,13 +1,13 @@
 -- the node of a controller is reset or restarts
 
 use Rattle.std.proofs.Common.{◌≡◌, ℕ, ◌+◌, ◌≤◌, false, List, [], ◌∷◌, Option, Some, None, refl, sym, ◌∙◌, ap, subst, fold, arith}
-use Rattle.world_model.specs.Words.{End, NodeId, PortNo, Party, next_instance, with_instance, SynSent, Side, fresh, Frame, Record, noted, Desk, emptied, Action, Say, Ask, Note, CutChain, TakeBack, Withdraw, Work, restarts, Switch, Linked, linked_at, chain_of, cuts_of, cuts_default_of, cuts_default, cuts_gsmp, begins, with_work, closes_by, port_restarts_as, port_restarts_of, port_restarts, resets_gsmp, node_resets, node_restarts}
+use Rattle.law_input_views.specs.world_model.Words.{End, NodeId, PortNo, Party, next_instance, with_instance, SynSent, Side, fresh, Frame, Record, noted, Desk, emptied, Action, Say, Ask, Note, CutChain, TakeBack, Withdraw, Work, restarts, Switch, Linked, linked_at, chain_of, cuts_of, cuts_default_of, cuts_default, cuts_gsmp, begins, with_work, closes_by, port_restarts_as, port_restarts_of, port_restarts, resets_gsmp, node_resets, node_restarts}
 use Rattle.law_input_views.proofs.ordered_lists.Parts.{part_none}
-use Rattle.world_model.specs.port_model.declared.action.Action.TheVariants.{Reset}
+use Rattle.law_input_views.specs.world_model.port_model.declared.action.Action.TheVariants.{Reset}
 use Rattle.law_input_views.specs.law_branch_line.Line.{Line}
 use Rattle.law_input_views.specs.law_branch_line.Controller.{reset_node}
 use Rattle.law_input_views.specs.law_branch_line.Moves.{ControllerResets}
-use Rattle.world_model.specs.Controller.{Acted, ports_of}
+use Rattle.law_input_views.specs.world_model.Controller.{Acted, ports_of}
 use Rattle.law_input_views.specs.law_shown_cells.Seen.{IsUnmade}
 use Rattle.law_input_views.proofs.law_shown_cells.Made.{extends_self}
 use Rattle.law_input_views.proofs.law_shown_cells.Tested.{cut_frames}

@@ -2,15 +2,15 @@
 
 use Rattle.std.proofs.Common.{◌≡◌, ◌≢◌, ℕ, ◌+◌, Bool, true, false, List, [], ◌∷◌, ◌++◌, Some, sym, ap, append-nil, append_assoc, arith, length, replicate, zero, suc}
 use Rattle.std.specs.Prelude.{nat_le}
-use Rattle.world_model.specs.Words.{Channel, End, NodeId, Mark, next_control, with_control, Cell, Loss, PoolFull, payload_of, noted, frame_cells, made, Switch, Controller, default_channel, sends_control}
-use Rattle.world_model.specs.frame_model.Sending.{Sent}
+use Rattle.law_input_views.specs.world_model.Words.{Channel, End, NodeId, Mark, next_control, with_control, Cell, Loss, PoolFull, payload_of, noted, frame_cells, made, Switch, Controller, default_channel, sends_control}
+use Rattle.law_input_views.specs.world_model.frame_model.Sending.{Sent}
 use Rattle.law_input_views.proofs.ordered_lists.Parts.{IsPart, part_whole}
 use Rattle.law_input_views.proofs.law_port_facts.Keyed.{on_both}
 use Rattle.law_input_views.specs.law_branch_line.Words.{ToSwitch}
 use Rattle.law_input_views.specs.law_branch_line.Line.{Line}
 use Rattle.law_input_views.specs.law_branch_line.Moves.{Move, step}
-use Rattle.world_model.specs.Controller.{Acted, free_slots}
-use Rattle.world_model.specs.Sending.{with_cells, sends}
+use Rattle.law_input_views.specs.world_model.Controller.{Acted, free_slots}
+use Rattle.law_input_views.specs.world_model.Sending.{with_cells, sends}
 use Rattle.law_input_views.specs.law_shown_cells.Seen.{Seen, Shows, Extends, IsUnmade}
 use Rattle.law_input_views.proofs.law_shown_cells.Shows.{shows_join, shows_behind}
 use Rattle.law_input_views.proofs.law_shown_cells.Made.{extends_made, made_is, unmade_next}

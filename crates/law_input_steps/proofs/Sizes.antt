@@ -1,9 +1,9 @@
 -- a Delete All has one cell
 
 use Rattle.std.proofs.Common.{◌≡◌, ℕ, ◌*◌, List, length, refl, ap, arith}
-use Rattle.world_model.specs.Words.{Channel, Mark, PortNo, PortRow, Cell, frame_cells, message_of}
-use Rattle.world_model.specs.gsmp_wire.declared.request.Request.TheVariants.{DeleteAll}
-use Rattle.world_model.specs.gsmp_wire.Layout.{octets_of}
+use Rattle.law_input_views.specs.world_model.Words.{Channel, Mark, PortNo, PortRow, Cell, frame_cells, message_of}
+use Rattle.law_input_views.specs.world_model.gsmp_wire.declared.request.Request.TheVariants.{DeleteAll}
+use Rattle.law_input_views.specs.world_model.gsmp_wire.Layout.{octets_of}
 use Rattle.law_input_views.specs.aal5_frames.Frame.{pdu_of}
 use Rattle.law_input_views.proofs.aal5_frames.Cells.{cells_all, length-pdu_of}
 

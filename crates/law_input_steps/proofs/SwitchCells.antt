@@ -3,21 +3,21 @@
 use Rattle.std.proofs.Common.{◌≡◌, ℕ, ◌+◌, Bool, true, false, not, List, [], ◌∷◌, ◌++◌, Option, Some, None, Result, Ok, Err, refl, sym, ◌∙◌, ap, subst, length, map, arith, if◌then◌else◌}
 use Rattle.std.specs.Prelude.{nat_le, nat_lt}
 use Rattle.std.specs.FinMap as finite
-use Rattle.world_model.specs.Words.{End, NodeId, Instance, Party, next_instance, with_instance, SynSent, Side, fresh, Cell, Frame, Loss, Chance, PoolFull, payload_of, is_frame, Journal, noted, last_mark, payload_in, tested, tested_by, Reassembly, marks_of, most_cells, passed_over, without_slot, too_long, Controller, default_channel, same_channel, numbers_of, Changed, all_ended, read, gsmp_cell, restarted, gsmp_of}
-use Rattle.world_model.specs.gsmp_wire.declared.fault.Fault.{Fault}
-use Rattle.world_model.specs.gsmp_wire.declared.message.Message.{Message}
-use Rattle.world_model.specs.gsmp_wire.Fields.{decoded}
-use Rattle.world_model.specs.frame_model.Frame.{octets_of, passed}
-use Rattle.world_model.specs.frame_model.Reassembly.{Taken, joined}
+use Rattle.law_input_views.specs.world_model.Words.{End, NodeId, Instance, Party, next_instance, with_instance, SynSent, Side, fresh, Cell, Frame, Loss, Chance, PoolFull, payload_of, is_frame, Journal, noted, last_mark, payload_in, tested, tested_by, Reassembly, marks_of, most_cells, passed_over, without_slot, too_long, Controller, default_channel, same_channel, numbers_of, Changed, all_ended, read, gsmp_cell, restarted, gsmp_of}
+use Rattle.law_input_views.specs.world_model.gsmp_wire.declared.fault.Fault.{Fault}
+use Rattle.law_input_views.specs.world_model.gsmp_wire.declared.message.Message.{Message}
+use Rattle.law_input_views.specs.world_model.gsmp_wire.Fields.{decoded}
+use Rattle.law_input_views.specs.world_model.frame_model.Frame.{octets_of, passed}
+use Rattle.law_input_views.specs.world_model.frame_model.Reassembly.{Taken, joined}
 use Rattle.law_input_views.proofs.ordered_lists.Parts.{IsPart, left, part_whole, part_none}
 use Rattle.law_input_views.proofs.law_port_facts.Keyed.{on_each}
 use Rattle.law_input_views.specs.law_branch_line.Words.{ToSwitch}
 use Rattle.law_input_views.specs.law_branch_line.Line.{Line}
 use Rattle.law_input_views.specs.law_branch_line.Switch.{restart_switch}
 use Rattle.law_input_views.specs.law_branch_line.Moves.{CarryToSwitch, SwitchRestarts, carry_to_switch}
-use Rattle.world_model.specs.switch_model.declared.port.PortState.{PortState}
-use Rattle.world_model.specs.Switch.{Acted, begun, free_slots}
-use Rattle.world_model.specs.Conduct.{after_test, ends_frame, after_cell}
+use Rattle.law_input_views.specs.world_model.switch_model.declared.port.PortState.{PortState}
+use Rattle.law_input_views.specs.world_model.Switch.{Acted, begun, free_slots}
+use Rattle.law_input_views.specs.world_model.Conduct.{after_test, ends_frame, after_cell}
 use Rattle.law_input_views.specs.law_shown_cells.Seen.{Nothing, Word, nothing}
 pub use Rattle.law_input_views.proofs.law_shown_cells.Tested.{frame_is}
 use Rattle.law_input_views.proofs.law_shown_cells.Tested.{broken_frames, last_is, cut_frames}

@@ -1,15 +1,15 @@
 -- the switch puts a cell of another channel out: the branches lead where they led, and the cell is nothing to the line
 
 use Rattle.std.proofs.Common.{◌≡◌, ◌≢◌, ℕ, zero, suc, ◌≤◌, Bool, true, false, List, [], ◌∷◌, ◌++◌, Option, None, Some, refl, sym, ap, subst, length, slice_set, slice_index_or, arith, if◌then◌else◌}
-use Rattle.world_model.specs.Words.{End, NodeId, PortNo, Cell, Loss, Unconnected, PoolFull, noted, queue_of, on_channel_of, unfinished_after, switched_on, route_on, Controller, default_channel, switched_cell}
+use Rattle.law_input_views.specs.world_model.Words.{End, NodeId, PortNo, Cell, Loss, Unconnected, PoolFull, noted, queue_of, on_channel_of, unfinished_after, switched_on, route_on, Controller, default_channel, switched_cell}
 use Rattle.std.specs.FinMap as finite
 use Rattle.law_input_views.proofs.law_shown_cells.Shows.{one_hidden, shows_behind}
 use Rattle.std.specs.Prelude.{◌==◌}
 use Rattle.std.proofs.lemmas.Bool.Decides.{nat_tests}
-use Rattle.world_model.specs.crossbar_model.declared.branch.Branch.{Branch}
-use Rattle.world_model.specs.crossbar_model.Crossbar.{input_of, forwarded}
-use Rattle.world_model.specs.Switch.{Acted, free_slots}
-use Rattle.world_model.specs.Conduct.{counted, passed}
+use Rattle.law_input_views.specs.world_model.crossbar_model.declared.branch.Branch.{Branch}
+use Rattle.law_input_views.specs.world_model.crossbar_model.Crossbar.{input_of, forwarded}
+use Rattle.law_input_views.specs.world_model.Switch.{Acted, free_slots}
+use Rattle.law_input_views.specs.world_model.Conduct.{counted, passed}
 use Rattle.law_input_views.specs.Words.{seen_answer}
 use Rattle.law_input_views.specs.Shown.{controller_of, switch_of, ShowsAnswers}
 use Rattle.law_input_views.proofs.Cells.{cell_elsewhere}

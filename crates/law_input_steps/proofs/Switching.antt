@@ -2,21 +2,21 @@
 
 use Rattle.std.proofs.Common.{◌≡◌, ℕ, ◌+◌, ◌≤◌, Bool, true, false, List, [], ◌∷◌, ◌++◌, Option, Some, refl, sym, ◌∙◌, ap, subst, length, append-nil, arith, slice_set, slice_index_or, if◌then◌else◌}
 use Rattle.std.specs.Prelude.{nat_le}
-use Rattle.world_model.specs.Words.{End, NodeId, Mark, Greeting, HelloKind, Syn, Synack, Rstack, Ack, Party, next_control, with_control, next_instance, with_instance, SynSent, Side, Step, fresh, ticked, Reply, Silent, Says, Resets, Row, tick_reply, SideByInstances, row_for, after_row, enters, is_reset, greeting, side_of, said_by, step_by, tick_by, greeting_of, gsmp_answer, gsmp_received, Cell, Loss, PoolFull, payload_of, noted, frame_cells, made, Crossbar, queue_of, sent, Controller, default_channel, Switch, control_port, gsmp_channel, reset, tick_comes}
-use Rattle.world_model.specs.adjacency_table.Side.{counted}
-use Rattle.world_model.proofs.adjacency_table.EndsLemmas.{gsmp_received_by_instances, ticked_by_instances}
-use Rattle.world_model.specs.gsmp_wire.declared.message.Message.{Message}
-use Rattle.world_model.specs.gsmp_wire.declared.message.Message.TheVariants.{Adjacency}
-use Rattle.world_model.specs.gsmp_wire.Layout.{octets_of}
-use Rattle.world_model.specs.frame_model.Sending.{Sent}
+use Rattle.law_input_views.specs.world_model.Words.{End, NodeId, Mark, Greeting, HelloKind, Syn, Synack, Rstack, Ack, Party, next_control, with_control, next_instance, with_instance, SynSent, Side, Step, fresh, ticked, Reply, Silent, Says, Resets, Row, tick_reply, SideByInstances, row_for, after_row, enters, is_reset, greeting, side_of, said_by, step_by, tick_by, greeting_of, gsmp_answer, gsmp_received, Cell, Loss, PoolFull, payload_of, noted, frame_cells, made, Crossbar, queue_of, sent, Controller, default_channel, Switch, control_port, gsmp_channel, reset, tick_comes}
+use Rattle.law_input_views.specs.world_model.adjacency_table.Side.{counted}
+use Rattle.law_input_views.proofs.world_model.adjacency_table.EndsLemmas.{gsmp_received_by_instances, ticked_by_instances}
+use Rattle.law_input_views.specs.world_model.gsmp_wire.declared.message.Message.{Message}
+use Rattle.law_input_views.specs.world_model.gsmp_wire.declared.message.Message.TheVariants.{Adjacency}
+use Rattle.law_input_views.specs.world_model.gsmp_wire.Layout.{octets_of}
+use Rattle.law_input_views.specs.world_model.frame_model.Sending.{Sent}
 use Rattle.law_input_views.proofs.law_port_facts.Keyed.{on_both}
 use Rattle.law_input_views.specs.law_branch_line.Words.{ToController, SwitchGreets, ControllerGreets}
 use Rattle.law_input_views.specs.law_branch_line.Line.{Line, spoken}
 use Rattle.law_input_views.specs.law_branch_line.Switch.{reply, reset_switch, tick_switch}
 use Rattle.law_input_views.specs.law_branch_line.Moves.{SwitchTakes, SwitchTicks, SwitchResets, LoseAtSwitch}
 use Rattle.law_input_views.specs.law_branch_line.Words as lines
-use Rattle.world_model.specs.Switch.{Acted, free_slots}
-use Rattle.world_model.specs.Conduct.{with_cells, sends, says, answers, steps, greeted}
+use Rattle.law_input_views.specs.world_model.Switch.{Acted, free_slots}
+use Rattle.law_input_views.specs.world_model.Conduct.{with_cells, sends, says, answers, steps, greeted}
 use Rattle.law_input_views.specs.law_shown_cells.Seen.{Seen, Nothing, Word}
 use Rattle.law_input_views.specs.Words.{is_own_greeting, seen_answer, seen_on_gsmp, erased_back}
 use Rattle.law_input_views.specs.Shown.{controller_of, switch_of, ShowsAnswers}

@@ -4,20 +4,20 @@ use Rattle.std.proofs.Common.{◌≡◌, ℕ, ◌<◌, Bool, true, false, not, �
 use Rattle.std.specs.List.{list_any}
 use Rattle.std.specs.Prelude.{◌==◌}
 use Rattle.std.proofs.lemmas.Bool.Decides.{nat_tests}
-use Rattle.world_model.specs.Words.{End, NodeId, PortNo, is_estab, PortRow, Standing, Head, without_request, Switch, asked_in, with_desk, asks, node_resets, empties, up_ports, takes_answer, answer_comes}
-use Rattle.world_model.specs.gsmp_wire.declared.message.BranchKind.TheVariants as kinds
-use Rattle.world_model.specs.gsmp_wire.declared.message.Message.{Message}
-use Rattle.world_model.specs.gsmp_wire.declared.message.Message.TheVariants as messages
-use Rattle.world_model.specs.gsmp_wire.declared.request.Request.TheVariants.{AllPorts}
+use Rattle.law_input_views.specs.world_model.Words.{End, NodeId, PortNo, is_estab, PortRow, Standing, Head, without_request, Switch, asked_in, with_desk, asks, node_resets, empties, up_ports, takes_answer, answer_comes}
+use Rattle.law_input_views.specs.world_model.gsmp_wire.declared.message.BranchKind.TheVariants as kinds
+use Rattle.law_input_views.specs.world_model.gsmp_wire.declared.message.Message.{Message}
+use Rattle.law_input_views.specs.world_model.gsmp_wire.declared.message.Message.TheVariants as messages
+use Rattle.law_input_views.specs.world_model.gsmp_wire.declared.request.Request.TheVariants.{AllPorts}
 use Rattle.law_input_views.specs.ordered_lists.Ordered.{Every, InOrder}
-use Rattle.world_model.specs.port_model.DeskAnswers as answers
+use Rattle.law_input_views.specs.world_model.port_model.DeskAnswers as answers
 use Rattle.law_input_views.specs.law_branch_line.Words.{Request as LineRequest, message_type, Success, ToController, Answer}
 use Rattle.law_input_views.specs.law_branch_line.Line.{Other, Meeting, Listing, Emptying, Met, MetAndAsked, Line}
 use Rattle.law_input_views.specs.law_branch_line.Asking.{has_met}
 use Rattle.law_input_views.specs.law_branch_line.Controller.{answers_asked, answers_other, input_answered, other_answered, hear_answer, empty_ports}
 use Rattle.law_input_views.specs.law_branch_line.Moves.{ControllerTakes, LoseAtController}
-use Rattle.world_model.specs.switch_model.declared.request.Asked.{Asked}
-use Rattle.world_model.specs.Controller.{Acted}
+use Rattle.law_input_views.specs.world_model.switch_model.declared.request.Asked.{Asked}
+use Rattle.law_input_views.specs.world_model.Controller.{Acted}
 use Rattle.law_input_views.specs.Words.{type_of, word_of, is_own, own_of, other_of, others_of}
 use Rattle.law_input_views.specs.Shown.{AskedShows, IsAllPorts, IsDeleteAll, PhaseShows}
 use Rattle.law_input_steps.specs.Part.{Part, part_at, IsEarlier, Stands, Reaches, AnyLine}

@@ -1,13 +1,13 @@
 -- a tick of a controller, whole: the adjacency with its switch, the requests that stand, each port, joins
 
 use Rattle.std.proofs.Common.{◌≡◌, Bool, true, false, flat_map, Option, None, Some, refl, if◌then◌else◌}
-use Rattle.world_model.specs.Words.{End, NodeId, Party, number_of_channel, Answer, Quiet, Send, Open, Said, ticked, MoveBranch, home_of, Label, Switch, join_for, may_join, enters_grant, enters_label, joins, tries_label, label_on, tries_join, inputs_at, tries_joins, ticks_port, ticks_by}
-use Rattle.world_model.specs.adjacency_table.declared.message.Answer.TheVariants.{Reset}
-use Rattle.world_model.specs.port_model.Joins as port_joins
-use Rattle.world_model.specs.port_model.Ticks as port_ticks
-use Rattle.world_model.specs.Controller.{Acted, ports_of}
-use Rattle.world_model.specs.Joins.{Join, output_of}
-use Rattle.world_model.specs.Ticks.{ticks}
+use Rattle.law_input_views.specs.world_model.Words.{End, NodeId, Party, number_of_channel, Answer, Quiet, Send, Open, Said, ticked, MoveBranch, home_of, Label, Switch, join_for, may_join, enters_grant, enters_label, joins, tries_label, label_on, tries_join, inputs_at, tries_joins, ticks_port, ticks_by}
+use Rattle.law_input_views.specs.world_model.adjacency_table.declared.message.Answer.TheVariants.{Reset}
+use Rattle.law_input_views.specs.world_model.port_model.Joins as port_joins
+use Rattle.law_input_views.specs.world_model.port_model.Ticks as port_ticks
+use Rattle.law_input_views.specs.world_model.Controller.{Acted, ports_of}
+use Rattle.law_input_views.specs.world_model.Joins.{Join, output_of}
+use Rattle.law_input_views.specs.world_model.Ticks.{ticks}
 use Rattle.law_input_steps.specs.Part.{part_at, Leads}
 use Rattle.law_input_steps.specs.Ticks.{CanTickPort, CanJoin, CanJoinLabel, CanTryJoin, after_steps, after_again, after_ports, CanTick}
 use Rattle.law_input_steps.proofs.Reach.{leads_self, leads_then}

@@ -1,15 +1,15 @@
 -- When a request may be asked, as the line of an input tells, and when a controller may do what a port asks
 
 use Rattle.std.specs.Prelude.{◌≡◌, ◌≤◌, ◌==◌, Bool, true, false, List, [], ◌∷◌, ◌++◌, Option, None, Some}
-use Rattle.world_model.specs.Words.{End, PortNo, is_estab, Request, AddBranch, MoveBranch, DeleteTree, VerifyTree, PortManagement, same_end, Desk, Standing, is_led_home, last_transaction, message_of, Action, Say, Ask, Note, CutChain, TakeBack, Withdraw, home_of, Work, resets, Linked, linked_at, begins, with_work, does_in_estab, performs_in_estab, Rule, gsmp_of}
-use Rattle.world_model.specs.gsmp_wire.declared.message.Message.{Message}
-use Rattle.world_model.specs.gsmp_wire.Layout.{octets_of}
-use Rattle.world_model.specs.gsmp_wire.declared.request.Request.TheVariants.{DeleteAll, AllPorts}
+use Rattle.law_input_views.specs.world_model.Words.{End, PortNo, is_estab, Request, AddBranch, MoveBranch, DeleteTree, VerifyTree, PortManagement, same_end, Desk, Standing, is_led_home, last_transaction, message_of, Action, Say, Ask, Note, CutChain, TakeBack, Withdraw, home_of, Work, resets, Linked, linked_at, begins, with_work, does_in_estab, performs_in_estab, Rule, gsmp_of}
+use Rattle.law_input_views.specs.world_model.gsmp_wire.declared.message.Message.{Message}
+use Rattle.law_input_views.specs.world_model.gsmp_wire.Layout.{octets_of}
+use Rattle.law_input_views.specs.world_model.gsmp_wire.declared.request.Request.TheVariants.{DeleteAll, AllPorts}
 use Rattle.law_input_views.specs.ordered_lists.Ordered.{Every}
-use Rattle.world_model.specs.port_model.Desk.{message_at}
-use Rattle.world_model.specs.port_model.declared.action.Action.TheVariants.{Reset}
+use Rattle.law_input_views.specs.world_model.port_model.Desk.{message_at}
+use Rattle.law_input_views.specs.world_model.port_model.declared.action.Action.TheVariants.{Reset}
 use Rattle.law_input_views.specs.law_branch_line.Words as lines
-use Rattle.world_model.specs.Controller.{Acted}
+use Rattle.law_input_views.specs.world_model.Controller.{Acted}
 
 -- what a receiver reads in the octets of a message is the message
 abbrev pub IsReadable : Message → Type 0

@@ -1,13 +1,13 @@
 -- When all that a controller does at a success may be done, once the switch is met, as the line of an input tells
 
 use Rattle.std.specs.Prelude.{◌≡◌, true, false, List, [], ◌∷◌, fold, Option, None, Some}
-use Rattle.world_model.specs.Words.{End, PortNo, number_of_channel, RouteChange, is_estab, Request, AddBranch, MoveBranch, DeleteTree, VerifyTree, PortManagement, Part as Parted, is_led_home, home_of, closes, linked_at, default_end, default_home, join_of, parts, releases_input, released_inputs, resets_spent, releases, causes, clears, changed_joins, takes_join_back, begins_change, takes_change, may_take}
-use Rattle.world_model.specs.gsmp_wire.declared.request.Request.TheVariants.{DeleteAll, AllPorts}
-use Rattle.world_model.specs.port_model.Joins as port_joins
-use Rattle.world_model.specs.port_model.Answers as port_answers
-use Rattle.world_model.specs.Controller.{Acted, ports_of, note}
-use Rattle.world_model.specs.Joins.{Join, output_of}
-use Rattle.world_model.specs.Meeting.{port_of}
+use Rattle.law_input_views.specs.world_model.Words.{End, PortNo, number_of_channel, RouteChange, is_estab, Request, AddBranch, MoveBranch, DeleteTree, VerifyTree, PortManagement, Part as Parted, is_led_home, home_of, closes, linked_at, default_end, default_home, join_of, parts, releases_input, released_inputs, resets_spent, releases, causes, clears, changed_joins, takes_join_back, begins_change, takes_change, may_take}
+use Rattle.law_input_views.specs.world_model.gsmp_wire.declared.request.Request.TheVariants.{DeleteAll, AllPorts}
+use Rattle.law_input_views.specs.world_model.port_model.Joins as port_joins
+use Rattle.law_input_views.specs.world_model.port_model.Answers as port_answers
+use Rattle.law_input_views.specs.world_model.Controller.{Acted, ports_of, note}
+use Rattle.law_input_views.specs.world_model.Joins.{Join, output_of}
+use Rattle.law_input_views.specs.world_model.Meeting.{port_of}
 use Rattle.law_input_steps.specs.Asking.{CanEach, MayAsk, CanApply}
 
 -- *A release*: the label isn't joined any more, and the grant is given back

@@ -2,18 +2,18 @@
 -- it is written
 
 use Rattle.std.specs.Prelude.{◌≡◌, ◌≢◌, ◌==◌, ℕ, ◌≤◌, Bool, true, false, not, nat_le, nat_lt, List, [], ◌∷◌, ◌++◌, length, None, Some, Ok, Option}
-use Rattle.world_model.specs.Words.{Greeting, Party, Answer, Quiet, Send, Open, gsmp_answer, gsmp_received, Cell, Frame, is_frame, last_mark, payload_in, Standing, Controller, default_channel, same_channel, Reassembly, most_cells, Switch, is_request, handled, copy_of, End, NodeId, queue_of, popped, gsmp_holds, answer_comes, is_estab, PortRow, message_of, answered, Done, Ports, control_port, gsmp_of}
-use Rattle.world_model.specs.adjacency_table.declared.message.Answer.TheVariants.{Reset}
-use Rattle.world_model.specs.gsmp_wire.declared.message.Message.{Message}
-use Rattle.world_model.specs.gsmp_wire.declared.message.Message.TheVariants.{Adjacency}
-use Rattle.world_model.specs.gsmp_wire.Fields.{decoded}
-use Rattle.world_model.specs.frame_model.Frame.{octets_of as cell_octets}
-use Rattle.world_model.specs.Switch.{Acted, free_slots}
-use Rattle.world_model.specs.crossbar_model.declared.branch.Branch.{Branch}
+use Rattle.law_input_views.specs.world_model.Words.{Greeting, Party, Answer, Quiet, Send, Open, gsmp_answer, gsmp_received, Cell, Frame, is_frame, last_mark, payload_in, Standing, Controller, default_channel, same_channel, Reassembly, most_cells, Switch, is_request, handled, copy_of, End, NodeId, queue_of, popped, gsmp_holds, answer_comes, is_estab, PortRow, message_of, answered, Done, Ports, control_port, gsmp_of}
+use Rattle.law_input_views.specs.world_model.adjacency_table.declared.message.Answer.TheVariants.{Reset}
+use Rattle.law_input_views.specs.world_model.gsmp_wire.declared.message.Message.{Message}
+use Rattle.law_input_views.specs.world_model.gsmp_wire.declared.message.Message.TheVariants.{Adjacency}
+use Rattle.law_input_views.specs.world_model.gsmp_wire.Fields.{decoded}
+use Rattle.law_input_views.specs.world_model.frame_model.Frame.{octets_of as cell_octets}
+use Rattle.law_input_views.specs.world_model.Switch.{Acted, free_slots}
+use Rattle.law_input_views.specs.world_model.crossbar_model.declared.branch.Branch.{Branch}
 use Rattle.law_input_views.specs.law_branch_line.Words.{ToController}
 use Rattle.law_input_views.specs.law_branch_line.Line.{Line}
-use Rattle.world_model.specs.Controller as controllers
-use Rattle.world_model.specs.gsmp_wire.declared.request.Request.TheVariants.{AllPorts}
+use Rattle.law_input_views.specs.world_model.Controller as controllers
+use Rattle.law_input_views.specs.world_model.gsmp_wire.declared.request.Request.TheVariants.{AllPorts}
 use Rattle.law_input_views.specs.law_shown_cells.Seen.{Nothing, Word}
 use Rattle.law_input_views.specs.Words.{erased_back, seen_answer}
 use Rattle.law_input_views.specs.Shown.{controller_of, switch_of}

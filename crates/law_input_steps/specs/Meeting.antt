@@ -1,9 +1,9 @@
 -- What an answer leaves of the desk, and when all ports may be asked to be emptied
 
 use Rattle.std.specs.Prelude.{◌≡◌, ℕ, ◌+◌, ◌<◌, ◌≤◌, Bool, true, false, ◌==◌, ◌&&◌, List, [], ◌∷◌, ◌++◌, length, find, Option}
-use Rattle.world_model.specs.Words.{End, PortNo, is_estab, withdraws, Desk, Standing, last_transaction, message_of, Head, is_of_type, without_request}
-use Rattle.world_model.specs.gsmp_wire.declared.message.Message.{Message}
-use Rattle.world_model.specs.gsmp_wire.declared.request.Request.TheVariants.{DeleteAll}
+use Rattle.law_input_views.specs.world_model.Words.{End, PortNo, is_estab, withdraws, Desk, Standing, last_transaction, message_of, Head, is_of_type, without_request}
+use Rattle.law_input_views.specs.world_model.gsmp_wire.declared.message.Message.{Message}
+use Rattle.law_input_views.specs.world_model.gsmp_wire.declared.request.Request.TheVariants.{DeleteAll}
 use Rattle.law_input_views.specs.ordered_lists.Ordered.{Every, InOrder}
 use Rattle.law_input_views.specs.law_branch_line.Line.{Answered, Met, Line}
 use Rattle.law_input_steps.specs.Part.{Part}

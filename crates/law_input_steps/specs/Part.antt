@@ -1,15 +1,15 @@
 -- What a site shows of the line of one input, part by part, and that moves lead from one site to the next
 
 use Rattle.std.specs.Prelude.{◌≡◌, ◌+◌, ◌<◌, ◌≤◌, Bool, true, List, [], Option}
-use Rattle.world_model.specs.Words.{End, NodeId, PortNo, Party, GivenOut, Side, is_estab, side_of, Cell, Frame, queue_of, Desk, Standing, control_port, numbers_of, Switch, Controller, Site}
+use Rattle.law_input_views.specs.world_model.Words.{End, NodeId, PortNo, Party, GivenOut, Side, is_estab, side_of, Cell, Frame, queue_of, Desk, Standing, control_port, numbers_of, Switch, Controller, Site}
 use Rattle.law_input_views.specs.ordered_lists.Ordered.{Every, InOrder}
-use Rattle.world_model.specs.crossbar_model.Crossbar.{output_of}
+use Rattle.law_input_views.specs.world_model.crossbar_model.Crossbar.{output_of}
 use Rattle.law_input_views.specs.law_branch_line.Line as lines
 use Rattle.law_input_views.specs.law_branch_line.Line.{Line}
 use Rattle.law_input_views.specs.law_branch_line.Asking.{has_met}
 use Rattle.law_input_views.specs.law_branch_line.Moves.{Move, run}
-use Rattle.world_model.specs.Switch as switches
-use Rattle.world_model.specs.Controller as controllers
+use Rattle.law_input_views.specs.world_model.Switch as switches
+use Rattle.law_input_views.specs.world_model.Controller as controllers
 use Rattle.law_input_views.specs.law_shown_cells.Seen.{IsUnmade}
 use Rattle.law_input_views.specs.Words.{own_of, others_of}
 use Rattle.law_input_views.specs.Shown.{controller_of, switch_of, AskedShows, PhaseShows, before_of, behind_of, ShowsRequests, ShowsAnswers}

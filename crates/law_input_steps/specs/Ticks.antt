@@ -1,13 +1,13 @@
 -- When all that a tick of a controller does may be done, as the line of an input tells
 
 use Rattle.std.specs.Prelude.{◌≡◌, true, flat_map, Option, None, Some}
-use Rattle.world_model.specs.Words.{End, PortNo, number_of_channel, ticked, gsmp_answer, MoveBranch, sent_again, home_of, Label, linked_at, join_for, may_join, enters_grant, enters_label, label_on, tries_join, inputs_at, sends_again, ticks_port, ticks_ports}
+use Rattle.law_input_views.specs.world_model.Words.{End, PortNo, number_of_channel, ticked, gsmp_answer, MoveBranch, sent_again, home_of, Label, linked_at, join_for, may_join, enters_grant, enters_label, label_on, tries_join, inputs_at, sends_again, ticks_port, ticks_ports}
 use Rattle.law_input_views.specs.ordered_lists.Ordered.{Every}
-use Rattle.world_model.specs.port_model.Joins as port_joins
-use Rattle.world_model.specs.port_model.Ticks as port_ticks
-use Rattle.world_model.specs.Controller.{Acted, ports_of}
-use Rattle.world_model.specs.Gsmp.{steps}
-use Rattle.world_model.specs.Joins.{Join, output_of}
+use Rattle.law_input_views.specs.world_model.port_model.Joins as port_joins
+use Rattle.law_input_views.specs.world_model.port_model.Ticks as port_ticks
+use Rattle.law_input_views.specs.world_model.Controller.{Acted, ports_of}
+use Rattle.law_input_views.specs.world_model.Gsmp.{steps}
+use Rattle.law_input_views.specs.world_model.Joins.{Join, output_of}
 use Rattle.law_input_steps.specs.Asking.{CanEach, MayAsk, CanApply, IsReady}
 use Rattle.law_input_steps.specs.Hearing.{Reads}
 

@@ -1,8 +1,8 @@
 -- cells of the control link, as an input's line sees them
 
 use Rattle.std.proofs.Common.{◌≡◌, ◌≢◌, ℕ, Bool, true, false, List, [], ◌∷◌, ◌++◌, Option, None, Some, refl, sym, ◌∙◌, ap, subst, length, replicate, if◌then◌else◌}
-use Rattle.world_model.specs.Words.{Channel, End, NodeId, Mark, Cell, Frame, payload_of, frame_cells, default_channel, same_channel}
-use Rattle.world_model.specs.gsmp_wire.declared.message.Message.{Message}
+use Rattle.law_shown_cells.specs.world_model.Words.{Channel, End, NodeId, Mark, Cell, Frame, payload_of, frame_cells, default_channel, same_channel}
+use Rattle.law_shown_cells.specs.world_model.gsmp_wire.declared.message.Message.{Message}
 use Rattle.law_shown_cells.specs.ordered_lists.Ordered.{Every}
 use Rattle.law_branch_line.specs.Words as lines
 use Rattle.law_shown_cells.specs.Seen.{Seen, Nothing, Word, Unknown, Shows, nothing, hidden, word, Extends}

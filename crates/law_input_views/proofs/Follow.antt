@@ -1,7 +1,7 @@
 -- moves of an input's line lead on, from one site to the next; instances are drawn elsewhere
 
 use Rattle.std.proofs.Common.{◌≡◌, ℕ, zero, suc, ◌+◌, List, [], ◌∷◌, ◌++◌, refl, ◌∙◌, ap, subst, replicate, arith}
-use Rattle.world_model.specs.Words.{End, NodeId, Frame, Site}
+use Rattle.law_shown_cells.specs.world_model.Words.{End, NodeId, Frame, Site}
 use Rattle.law_branch_line.specs.Line.{Line}
 use Rattle.law_branch_line.specs.Moves.{Move, DrawElsewhere, step, run}
 use Rattle.law_branch_line.specs.Law.{IsReached}

@@ -1,9 +1,9 @@
 -- what a site does elsewhere leaves the line of an input
 
 use Rattle.std.proofs.Common.{◌≡◌, ℕ, List, [], sym, ◌∙◌, ap, subst, arith}
-use Rattle.world_model.specs.Words.{End, NodeId, Party, Side, is_estab, side_of, Frame, Reassembly, Desk, numbers_of, Site}
+use Rattle.law_shown_cells.specs.world_model.Words.{End, NodeId, Party, Side, is_estab, side_of, Frame, Reassembly, Desk, numbers_of, Site}
 use Rattle.law_branch_line.specs.Line.{Line}
-use Rattle.world_model.specs.switch_model.declared.port.PortState.{PortState}
+use Rattle.law_shown_cells.specs.world_model.switch_model.declared.port.PortState.{PortState}
 use Rattle.law_input_views.specs.Words.{own_of, others_of}
 use Rattle.law_input_views.specs.Shown.{controller_of, switch_of, AskedShows, PhaseShows, before_of, behind_of, ShowsRequests, ShowsAnswers, InputShows}
 use Rattle.law_input_views.specs.Quiet.{IsQuietAt}

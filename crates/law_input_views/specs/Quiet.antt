@@ -1,8 +1,8 @@
 -- What is nothing to the line of an input: what a site does elsewhere
 
 use Rattle.std.specs.Prelude.{◌≡◌, ℕ, ◌≤◌, List}
-use Rattle.world_model.specs.Words.{End, NodeId, Frame, queue_of, control_port, Site}
-use Rattle.world_model.specs.crossbar_model.Crossbar.{output_of}
+use Rattle.law_shown_cells.specs.world_model.Words.{End, NodeId, Frame, queue_of, control_port, Site}
+use Rattle.law_shown_cells.specs.world_model.crossbar_model.Crossbar.{output_of}
 use Rattle.law_branch_line.specs.Words as lines
 use Rattle.law_shown_cells.specs.Seen.{Extends}
 use Rattle.law_input_views.specs.Shown.{ShowsRequests, ShowsAnswers}

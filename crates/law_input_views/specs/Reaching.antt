@@ -1,7 +1,7 @@
 -- That moves of an input's line lead from what a site shows to what it shows next
 
 use Rattle.std.specs.Prelude.{◌≡◌, ℕ, List}
-use Rattle.world_model.specs.Words.{End, NodeId, Frame, Site}
+use Rattle.law_shown_cells.specs.world_model.Words.{End, NodeId, Frame, Site}
 use Rattle.law_branch_line.specs.Line.{Line}
 use Rattle.law_branch_line.specs.Moves.{Move, run}
 use Rattle.law_branch_line.specs.Law.{IsReached}

@@ -2,10 +2,10 @@
 -- more than they do
 
 use Rattle.std.specs.Prelude.{◌≡◌, ℕ, ◌+◌, ◌≤◌, Bool, true, false, nat_lt, List, [], ◌∷◌, filter, length, Some}
-use Rattle.world_model.specs.Words.{End, NodeId, PortNo, Party, is_estab, side_of, Cell, Request, Frame, queue_of, Standing, control_port, numbers_of, controller_party, switch_party, Site}
-use Rattle.world_model.specs.gsmp_wire.declared.request.Request.TheVariants.{AllPorts, DeleteAll}
+use Rattle.law_shown_cells.specs.world_model.Words.{End, NodeId, PortNo, Party, is_estab, side_of, Cell, Request, Frame, queue_of, Standing, control_port, numbers_of, controller_party, switch_party, Site}
+use Rattle.law_shown_cells.specs.world_model.gsmp_wire.declared.request.Request.TheVariants.{AllPorts, DeleteAll}
 use Rattle.law_shown_cells.specs.ordered_lists.Ordered.{Every}
-use Rattle.world_model.specs.crossbar_model.Crossbar.{output_of}
+use Rattle.law_shown_cells.specs.world_model.crossbar_model.Crossbar.{output_of}
 use Rattle.law_branch_line.specs.Words as lines
 use Rattle.law_branch_line.specs.Line.{Asked, Apart, Unasked, Stands, Answered, Meeting, Listing, Emptying, Met, MetAndAsked, Line}
 use Rattle.law_branch_line.specs.Asking.{has_met}

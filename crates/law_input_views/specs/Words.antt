@@ -1,10 +1,10 @@
 -- What the messages of GSMP (RFC 1987) between a controller and its switch are to the line of one input
 
 use Rattle.std.specs.Prelude.{ℕ, Bool, not, ◌&&◌, ◌==◌, List, map, filter, is_some, Option, None, Some, if◌then◌else◌}
-use Rattle.world_model.specs.Words.{End, Greeting, Party, HelloKind, Syn, same_party, nobody, Cell, Request, AddBranch, MoveBranch, DeleteTree, VerifyTree, PortManagement, same_end, Frame, payload_of, Standing, Head, head_of, asked_in, default_channel, same_channel, gsmp_of, copy_of, copy_by}
-use Rattle.world_model.specs.gsmp_wire.declared.message.Message.{Message}
-use Rattle.world_model.specs.gsmp_wire.declared.message.Message.TheVariants.{Adjacency}
-use Rattle.world_model.specs.gsmp_wire.declared.request.Request.TheVariants.{DeleteAll, AllPorts}
+use Rattle.law_shown_cells.specs.world_model.Words.{End, Greeting, Party, HelloKind, Syn, same_party, nobody, Cell, Request, AddBranch, MoveBranch, DeleteTree, VerifyTree, PortManagement, same_end, Frame, payload_of, Standing, Head, head_of, asked_in, default_channel, same_channel, gsmp_of, copy_of, copy_by}
+use Rattle.law_shown_cells.specs.world_model.gsmp_wire.declared.message.Message.{Message}
+use Rattle.law_shown_cells.specs.world_model.gsmp_wire.declared.message.Message.TheVariants.{Adjacency}
+use Rattle.law_shown_cells.specs.world_model.gsmp_wire.declared.request.Request.TheVariants.{DeleteAll, AllPorts}
 use Rattle.law_branch_line.specs.Words as lines
 use Rattle.law_branch_line.specs.Line.{Other}
 use Rattle.law_shown_cells.specs.Seen.{Seen, Nothing, Word, Unknown}

@@ -8,7 +8,7 @@
 #![tactic(auto)]
 
 ghost use Rattle.std.specs.Prelude.{◌≡◌, ◌+◌, List, replicate, ℕ};
-ghost use Rattle.world_model.specs.Words.{End, NodeId, Frame, Site};
+ghost use Rattle.law_shown_cells.specs.world_model.Words.{End, NodeId, Frame, Site};
 ghost use Rattle.law_branch_line.specs.Line.{Line};
 ghost use Rattle.law_branch_line.specs.Moves.{DrawElsewhere, run};
 ghost use Rattle.law_input_views.specs.Shown.{InputShows};

@@ -22,12 +22,12 @@ use Rattle.port_model.specs.declared.action.Action.TheVariants.{Say, Ask, Note, 
 use Rattle.port_model.specs.Port.{Work}
 use Rattle.port_model.specs.Resets.{restarts}
 use Rattle.port_model.specs.Setup.{home_of}
-use Rattle.world_model.specs.Asking.{asks, asks_next, takes_back}
-use Rattle.world_model.specs.Changes.{begins_change, changed_joins, takes_join_back}
-use Rattle.world_model.specs.Controller.{Acted, Controller, Linked, free_slots, linked_at, ports_of, with_desk}
-use Rattle.world_model.specs.Joins.{Join, output_of}
-use Rattle.world_model.specs.Resets.{begins, closes_by, cuts_of, node_resets, port_restarts, port_restarts_of, resets_gsmp, with_work}
-use Rattle.world_model.specs.Sending.{sends, with_cells}
+use Rattle.controller_joins.specs.world_model.Asking.{asks, asks_next, takes_back}
+use Rattle.controller_joins.specs.world_model.Changes.{begins_change, changed_joins, takes_join_back}
+use Rattle.controller_joins.specs.world_model.Controller.{Acted, Controller, Linked, free_slots, linked_at, ports_of, with_desk}
+use Rattle.controller_joins.specs.world_model.Joins.{Join, output_of}
+use Rattle.controller_joins.specs.world_model.Resets.{begins, closes_by, cuts_of, node_resets, port_restarts, port_restarts_of, resets_gsmp, with_work}
+use Rattle.controller_joins.specs.world_model.Sending.{sends, with_cells}
 use Rattle.controller_joins.specs.Joined.{joined_of}
 use Rattle.controller_joins.specs.declared.places.Joined.{Joined}
 use Rattle.law_join_facts.proofs.Ordered.{on_both}

@@ -12,7 +12,7 @@ use Rattle.keyed_lists.specs.Keyed.{entered, in_order}
 use Rattle.net_types.specs.declared.channel.End.{End}
 use Rattle.crossbar_model.specs.Channels.{end_cmp}
 use Rattle.crossbar_model.specs.Crossbar.{same_end}
-use Rattle.world_model.specs.Joins.{end_le}
+use Rattle.controller_joins.specs.world_model.Joins.{end_le}
 use Rattle.controller_joins.specs.Joined.{AreInOrder}
 use Rattle.controller_joins.specs.declared.places.Joined.{Joined}
 use Rattle.controller_joins.proofs.Ends.{apart_below}

@@ -4,7 +4,7 @@ use Rattle.std.proofs.Common.{◌≡◌, ℕ, ◌<◌, ◌==◌, nat_lt, nat_le,
 use Rattle.std.proofs.lemmas.Bool.Decides.{nat_tests}
 use Rattle.net_types.specs.declared.channel.End.{End}
 use Rattle.crossbar_model.specs.Crossbar.{same_end}
-use Rattle.world_model.specs.Joins.{end_le}
+use Rattle.controller_joins.specs.world_model.Joins.{end_le}
 
 -- one level: its number, and then the rest
 abbrev level : ℕ → ℕ → Bool → Bool

@@ -12,10 +12,10 @@ use Rattle.port_model.specs.Grants.{ByController, grant_label, input_of}
 use Rattle.port_model.specs.Joins.{joined, joins_label, lent}
 use Rattle.port_model.specs.Labels.{Label}
 use Rattle.port_model.specs.Port.{Work, label_at}
-use Rattle.world_model.specs.Controller.{Acted, Controller, Linked, linked_at, port_key, ports_of}
-use Rattle.world_model.specs.Joins.{Join, enters_grant, enters_label, joins_of, label_on, output_of}
-use Rattle.world_model.specs.Performing.{works}
-use Rattle.world_model.specs.Resets.{begins, with_work}
+use Rattle.controller_joins.specs.world_model.Controller.{Acted, Controller, Linked, linked_at, port_key, ports_of}
+use Rattle.controller_joins.specs.world_model.Joins.{Join, enters_grant, enters_label, joins_of, label_on, output_of}
+use Rattle.controller_joins.specs.world_model.Performing.{works}
+use Rattle.controller_joins.specs.world_model.Resets.{begins, with_work}
 use Rattle.controller_joins.specs.Joined.{joined_of}
 use Rattle.controller_joins.specs.declared.places.Joined.{Joined}
 use Rattle.law_join_facts.specs.Joins.{joined_at, joined_in}

@@ -5,8 +5,8 @@ use Rattle.std.specs.Prelude.{flat_map}
 use Rattle.std.proofs.lemmas.Grind.{flat_map-append}
 use Rattle.std.proofs.lemmas.List.{map-append}
 use Rattle.keyed_lists.specs.Keyed.{at, put, in_order}
-use Rattle.world_model.specs.Controller.{Controller, Linked, port_key}
-use Rattle.world_model.specs.Joins.{Join, end_le, joins_at}
+use Rattle.controller_joins.specs.world_model.Controller.{Controller, Linked, port_key}
+use Rattle.controller_joins.specs.world_model.Joins.{Join, end_le, joins_at}
 use Rattle.controller_joins.specs.Joined.{joined_of}
 use Rattle.controller_joins.specs.declared.places.Joined.{Joined}
 use Rattle.law_join_facts.specs.Joins.{joined_at, joined_in}

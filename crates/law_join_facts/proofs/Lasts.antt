@@ -25,11 +25,11 @@ use Rattle.port_model.specs.declared.action.Action.TheVariants.{Say, Ask, Note, 
 use Rattle.port_model.specs.Port.{Port, Work, labels_of}
 use Rattle.port_model.specs.Resets.{left_of, restarts, resets}
 use Rattle.port_model.specs.Setup.{home_of}
-use Rattle.world_model.specs.Controller.{Acted, Controller, Linked, free_slots, linked_at, port_key, ports_of, with_desk}
-use Rattle.world_model.specs.Sending.{sends, with_cells}
-use Rattle.world_model.specs.Asking.{asks, asks_next, takes_back, withdraws_input}
-use Rattle.world_model.specs.Resets.{begins, closes_by, cuts_of, node_resets, port_restarts, port_restarts_of, resets_gsmp, with_work}
-use Rattle.world_model.specs.Performing.{Rule, at_port, does, does_in_estab, performs, performs_in_estab, resets_as, resets_of, resets_port, works, works_as}
+use Rattle.controller_joins.specs.world_model.Controller.{Acted, Controller, Linked, free_slots, linked_at, port_key, ports_of, with_desk}
+use Rattle.controller_joins.specs.world_model.Sending.{sends, with_cells}
+use Rattle.controller_joins.specs.world_model.Asking.{asks, asks_next, takes_back, withdraws_input}
+use Rattle.controller_joins.specs.world_model.Resets.{begins, closes_by, cuts_of, node_resets, port_restarts, port_restarts_of, resets_gsmp, with_work}
+use Rattle.controller_joins.specs.world_model.Performing.{Rule, at_port, does, does_in_estab, performs, performs_in_estab, resets_as, resets_of, resets_port, works, works_as}
 use Rattle.controller_joins.specs.declared.places.Joined.{Joined}
 use Rattle.law_join_facts.specs.Joins.{Differ, HaveNumbers, joined_at}
 use Rattle.law_join_facts.proofs.Ordered.{on_both, on_each}

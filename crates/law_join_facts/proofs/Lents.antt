@@ -10,7 +10,7 @@ use Rattle.net_types.specs.declared.node.PortNo.{PortNo}
 use Rattle.keyed_lists.specs.Keyed.{at, put, without}
 use Rattle.port_model.specs.Grants.{Grant, GrantState, Idle, ByController, ByInput, Leaving, grant_label, input_of}
 use Rattle.port_model.specs.Resets.{left_in, left_of}
-use Rattle.world_model.specs.Joins.{join_to}
+use Rattle.controller_joins.specs.world_model.Joins.{join_to}
 use Rattle.controller_joins.specs.Joined.{joined_of}
 use Rattle.controller_joins.specs.declared.places.Joined.{Joined}
 use Rattle.law_join_facts.proofs.Comes.{OneMore}

@@ -20,10 +20,10 @@ use Rattle.port_model.specs.Labels.{Label}
 use Rattle.ifmp_wire.specs.declared.message.Message.{Message}
 use Rattle.port_model.specs.Port.{Session, Work, acts, label_at, without_grant}
 use Rattle.port_model.specs.Saying.{Unnumbered, last_number, numbered, own_of, peer_of, reclaim_ack, spent_number, tells_in}
-use Rattle.world_model.specs.Controller.{Acted, Controller, Linked, linked_at, note, port_key, ports_of}
-use Rattle.world_model.specs.Joins.{Join, end_le, gives_back, join_of, join_to, joins_at, joins_of, parts}
-use Rattle.world_model.specs.Performing.{Rule, performs_in_estab, works}
-use Rattle.world_model.specs.Resets.{begins, with_work}
+use Rattle.controller_joins.specs.world_model.Controller.{Acted, Controller, Linked, linked_at, note, port_key, ports_of}
+use Rattle.controller_joins.specs.world_model.Joins.{Join, end_le, gives_back, join_of, join_to, joins_at, joins_of, parts}
+use Rattle.controller_joins.specs.world_model.Performing.{Rule, performs_in_estab, works}
+use Rattle.controller_joins.specs.world_model.Resets.{begins, with_work}
 use Rattle.link_model.specs.declared.record.Record.TheVariants.{Part}
 use Rattle.controller_joins.specs.Joined.{joined_of}
 use Rattle.controller_joins.specs.declared.places.Joined.{Joined}

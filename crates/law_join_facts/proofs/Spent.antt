@@ -8,21 +8,21 @@ use Rattle.adjacency_table.specs.declared.message.Answer.{Answer}
 use Rattle.adjacency_table.specs.declared.message.Answer.TheVariants as answer_variants
 use Rattle.adjacency_table.specs.declared.message.Answer.TheVariants.{Quiet, Send, Open}
 use Rattle.gsmp_wire.specs.declared.message.Message.TheVariants.{Adjacency}
-use Rattle.world_model.specs.Gsmp.{answers}
-use Rattle.world_model.specs.Sending.{says_gsmp}
+use Rattle.controller_joins.specs.world_model.Gsmp.{answers}
+use Rattle.controller_joins.specs.world_model.Sending.{says_gsmp}
 use Rattle.net_types.specs.declared.node.PortNo.{PortNo}
 use Rattle.gsmp_wire.specs.declared.request.Request.{Request}
 use Rattle.gsmp_wire.specs.declared.request.Request.TheVariants.{AddBranch, MoveBranch, DeleteTree, VerifyTree, DeleteAll, PortManagement, AllPorts}
 use Rattle.port_model.specs.declared.action.Action.TheVariants.{Reset}
 use Rattle.port_model.specs.Answers as port_answers
 use Rattle.port_model.specs.Saying.{closes, is_spent}
-use Rattle.world_model.specs.Controller.{Acted, Linked, default_end, default_home, linked_at, ports_of, with_desk, with_linked}
-use Rattle.world_model.specs.Asking.{asks}
-use Rattle.world_model.specs.Joins.{resets_spent}
-use Rattle.world_model.specs.Meeting.{behind_delete_all, causes, causes_in_estab, clears_of, clears_port, default_branches, ends_meeting, empties, has_emptied, may_clear, meets, port_of, tells_port, up_ports}
-use Rattle.world_model.specs.Resets.{begins, cuts_default, cuts_default_of, cuts_gsmp, node_resets, node_restarts}
-use Rattle.world_model.specs.Ticks.{sends_again}
-use Rattle.world_model.specs.Asking.{sends_request}
+use Rattle.controller_joins.specs.world_model.Controller.{Acted, Linked, default_end, default_home, linked_at, ports_of, with_desk, with_linked}
+use Rattle.controller_joins.specs.world_model.Asking.{asks}
+use Rattle.controller_joins.specs.world_model.Joins.{resets_spent}
+use Rattle.controller_joins.specs.world_model.Meeting.{behind_delete_all, causes, causes_in_estab, clears_of, clears_port, default_branches, ends_meeting, empties, has_emptied, may_clear, meets, port_of, tells_port, up_ports}
+use Rattle.controller_joins.specs.world_model.Resets.{begins, cuts_default, cuts_default_of, cuts_gsmp, node_resets, node_restarts}
+use Rattle.controller_joins.specs.world_model.Ticks.{sends_again}
+use Rattle.controller_joins.specs.world_model.Asking.{sends_request}
 use Rattle.port_model.specs.Desk.{Standing, empty_desk, sent_again}
 use Rattle.law_join_facts.specs.Joins.{joined_at}
 use Rattle.law_join_facts.proofs.Ordered.{on_both}

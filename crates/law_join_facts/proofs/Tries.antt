@@ -18,11 +18,11 @@ use Rattle.port_model.specs.Joins.{joined, joins_label, lent}
 use Rattle.port_model.specs.Labels.{Label, label_number}
 use Rattle.port_model.specs.Port.{Session, Work, label_at, labels_of}
 use Rattle.port_model.specs.Setup.{home_of, label_end}
-use Rattle.world_model.specs.Asking.{asks}
-use Rattle.world_model.specs.Controller.{Acted, Controller, Linked, linked_at, port_key, ports_of}
-use Rattle.world_model.specs.Joins.{Join, enters_grant, enters_label, inputs_at, join_for, joins, label_on, may_join, output_of, tries_join, tries_label}
-use Rattle.world_model.specs.Performing.{works}
-use Rattle.world_model.specs.Resets.{begins, with_work}
+use Rattle.controller_joins.specs.world_model.Asking.{asks}
+use Rattle.controller_joins.specs.world_model.Controller.{Acted, Controller, Linked, linked_at, port_key, ports_of}
+use Rattle.controller_joins.specs.world_model.Joins.{Join, enters_grant, enters_label, inputs_at, join_for, joins, label_on, may_join, output_of, tries_join, tries_label}
+use Rattle.controller_joins.specs.world_model.Performing.{works}
+use Rattle.controller_joins.specs.world_model.Resets.{begins, with_work}
 use Rattle.law_join_facts.specs.Joins.{Differ, HaveNumbers, inputs_on}
 use Rattle.law_join_facts.proofs.Changing.{asks_asked}
 use Rattle.law_join_facts.proofs.Lasts.{AreDifferent, IsBare, asks_lasts, own}

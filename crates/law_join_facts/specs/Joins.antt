@@ -5,8 +5,8 @@ use Rattle.std.specs.Option.{option_map_or}
 use Rattle.net_types.specs.declared.channel.End.{End}
 use Rattle.net_types.specs.declared.node.PortNo.{PortNo}
 use Rattle.ordered_lists.specs.Ordered.{InOrder}
-use Rattle.world_model.specs.Controller.{Controller, Linked, linked_at, ports_of}
-use Rattle.world_model.specs.Joins.{inputs_at, joins_at, joins_of}
+use Rattle.controller_joins.specs.world_model.Controller.{Controller, Linked, linked_at, ports_of}
+use Rattle.controller_joins.specs.world_model.Joins.{inputs_at, joins_at, joins_of}
 use Rattle.controller_joins.specs.Joined.{joined_of}
 use Rattle.controller_joins.specs.declared.places.Joined.{Joined}
 

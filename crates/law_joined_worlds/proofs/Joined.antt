@@ -25,7 +25,7 @@ use Rattle.law_fed_worlds.specs.law_controller.Match.{lent_in, lent_at}
 use Rattle.world_model.specs.network_model.declared.event.Event.{Event}
 use Rattle.world_model.specs.network_model.declared.event.Event.TheVariants.{Inject, Carry, Lose, Tick, TickSwitch, Restart, RestartSwitch, Forge, Route}
 use Rattle.world_model.specs.Ways.{told}
-use Rattle.law_fed_worlds.specs.law_lifetimes.Run.{if_at, comes_to}
+use Rattle.law_fed_worlds.specs.law_lifetimes.Lifetimes.{if_at, comes_to}
 use Rattle.law_fed_worlds.proofs.law_lifetimes.Feeding.{after_of}
 use Rattle.law_running_worlds.specs.law_input_events.Coming.{CanCarry, IsOrdinary}
 use Rattle.law_run_facts.specs.Nodes.{IsNodeOfRun}

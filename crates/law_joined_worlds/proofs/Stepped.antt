@@ -12,7 +12,7 @@ use Rattle.law_frame_readings.specs.law_controller_facts.Inputs.{Input, CellCome
 use Rattle.world_model.specs.network_model.declared.event.Event.{Event}
 use Rattle.world_model.specs.network_model.declared.event.Event.TheVariants.{Inject, Carry, Lose, Tick, TickSwitch, Restart, RestartSwitch, Forge, Route}
 use Rattle.world_model.specs.World.{opened}
-use Rattle.law_fed_worlds.specs.law_lifetimes.Run.{if_at, head_comes, head_leaves, comes_to}
+use Rattle.law_fed_worlds.specs.law_lifetimes.Lifetimes.{if_at, head_comes, head_leaves, comes_to}
 use Rattle.law_fed_worlds.proofs.law_lifetimes.Opened.{opening_fed}
 use Rattle.law_fed_worlds.proofs.law_lifetimes.Feeding.{after_of}
 use Rattle.law_fed_worlds.proofs.law_lifetimes.Runs.{run_fed, next_there}

@@ -5,19 +5,19 @@ use Rattle.std.proofs.Common.{◌≡◌, ℕ, Bool, true, false, List, Option, N
 use Rattle.std.specs.Prelude.{◌==◌, ◌&&◌, not, filter, find}
 use Rattle.std.specs.Option.{option_map_or}
 use Rattle.std.proofs.lemmas.Bool.Decides.{nat_tests}
-use Rattle.world_model.specs.Words.{PortNo, gsmp_received, is_estab, Request, AddBranch, MoveBranch, DeleteTree, VerifyTree, PortManagement, PortRow, is_delete_all, Desk, Standing, Head, head_of, is_of_type, Answered, Unknown, Done, Ports, Failed, succeeded, outcome, answered_with, answered, after_answer, Setup, Linked, with_desk, begins, releases, is_clearing, causes, causes_in_estab, clears, takes_answer, answer_comes}
-use Rattle.world_model.specs.gsmp_wire.declared.message.Message.{Message}
-use Rattle.world_model.specs.gsmp_wire.declared.message.Message.TheVariants as messages
-use Rattle.world_model.specs.gsmp_wire.declared.request.Request.TheVariants.{DeleteAll, AllPorts}
+use Rattle.controller_joining.specs.world_model.Words.{PortNo, gsmp_received, is_estab, Request, AddBranch, MoveBranch, DeleteTree, VerifyTree, PortManagement, PortRow, is_delete_all, Desk, Standing, Head, head_of, is_of_type, Answered, Unknown, Done, Ports, Failed, succeeded, outcome, answered_with, answered, after_answer, Setup, Linked, with_desk, begins, releases, is_clearing, causes, causes_in_estab, clears, takes_answer, answer_comes}
+use Rattle.controller_joining.specs.world_model.gsmp_wire.declared.message.Message.{Message}
+use Rattle.controller_joining.specs.world_model.gsmp_wire.declared.message.Message.TheVariants as messages
+use Rattle.controller_joining.specs.world_model.gsmp_wire.declared.request.Request.TheVariants.{DeleteAll, AllPorts}
 use Rattle.law_controller_conditions.specs.ordered_lists.Ordered.{Every}
-use Rattle.world_model.specs.port_model.Answers as port_answers
+use Rattle.controller_joining.specs.world_model.port_model.Answers as port_answers
 use Rattle.law_controller_conditions.specs.law_port_facts.Port.{IsShaped}
 use Rattle.law_controller_conditions.proofs.law_port_facts.Found.{find_every, find_passes}
 use Rattle.law_controller_conditions.proofs.law_port_facts.Keyed.{on_both}
 use Rattle.law_controller_conditions.proofs.law_port_facts.Rules.{and_second, done_goes}
-use Rattle.world_model.specs.Controller.{Acted}
-use Rattle.world_model.specs.Meeting.{done}
-use Rattle.world_model.specs.Gsmp.{told}
+use Rattle.controller_joining.specs.world_model.Controller.{Acted}
+use Rattle.controller_joining.specs.world_model.Meeting.{done}
+use Rattle.controller_joining.specs.world_model.Gsmp.{told}
 use Rattle.law_controller_conditions.specs.law_controller_facts.Conditions.{MovesLabels}
 use Rattle.law_controller_conditions.specs.law_controller_facts.Said.{HasFlowsAt}
 use Rattle.law_controller_conditions.proofs.law_controller_facts.Conditions.{shaped_moves}

@@ -2,14 +2,14 @@
 
 use Rattle.std.proofs.Common.{◌≡◌, ℕ, Bool, true, false, List, [], ◌∷◌, sym, subst, if◌then◌else◌, fold}
 use Rattle.std.specs.Prelude.{◌+◌}
-use Rattle.world_model.specs.Words.{changed, RouteChange, is_estab, Routes, Setup, Linked, joins_of, is_changed, changed_joins, takes_join_back, begins_change, takes_change, may_take, takes_each, takes_changes}
-use Rattle.world_model.specs.ipv4_forward.declared.table.Route.{Route}
+use Rattle.controller_joining.specs.world_model.Words.{changed, RouteChange, is_estab, Routes, Setup, Linked, joins_of, is_changed, changed_joins, takes_join_back, begins_change, takes_change, may_take, takes_each, takes_changes}
+use Rattle.controller_joining.specs.world_model.ipv4_forward.declared.table.Route.{Route}
 use Rattle.law_controller_conditions.specs.ordered_lists.Ordered.{Every}
 use Rattle.law_controller_conditions.proofs.ordered_lists.Every.{every_map}
 use Rattle.law_controller_conditions.specs.law_port_facts.Port.{IsLabelEnd, parts_label}
 use Rattle.law_controller_conditions.proofs.law_port_facts.Keyed.{on_both}
-use Rattle.world_model.specs.Controller.{Acted, note}
-use Rattle.world_model.specs.Joins.{Join, output_of}
+use Rattle.controller_joining.specs.world_model.Controller.{Acted, note}
+use Rattle.controller_joining.specs.world_model.Joins.{Join, output_of}
 use Rattle.law_controller_conditions.proofs.law_controller_facts.Moves.{routing, Moves, moves_to, stays, further, moves_ports, HasPorts}
 use Rattle.law_controller_conditions.proofs.law_controller_facts.Performing.{takes_back_goes}
 use Rattle.law_controller_conditions.proofs.law_controller_facts.Joining.{IsJoin, joins_are, join_input, join_output, begins_change_goes, takes_change_goes, every_filter}

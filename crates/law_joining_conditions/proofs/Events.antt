@@ -3,7 +3,7 @@
 use Rattle.std.proofs.Common.{refl, subst}
 use Rattle.law_controller_conditions.proofs.law_port_facts.Rules.{counts_goes}
 use Rattle.law_controller_conditions.proofs.law_port_facts.Hearings.{hears_goes}
-use Rattle.world_model.specs.Words.{begins}
+use Rattle.controller_joining.specs.world_model.Words.{begins}
 use Rattle.law_controller_conditions.specs.law_controller_facts.Inputs.{Ticks, Restarts, ChangeComes}
 use Rattle.law_controller_conditions.proofs.law_controller_facts.Moves.{found_port}
 use Rattle.law_controller_conditions.specs.controller_router.Meeting.{with_change}

@@ -2,14 +2,14 @@
 
 use Rattle.std.proofs.Common.{◌≡◌, ℕ, ◌<◌, Bool, List, Option, None, Result, refl, ap, subst, arith, if◌then◌else◌, drop}
 use Rattle.std.specs.Prelude.{◌+◌}
-use Rattle.world_model.specs.Words.{PortNo, Mark, GivenOut, source_of, PacketFault, EncapsFault, Journal, Reassembly, routes, gsmp_holds, ForGsmp, ForDefault, ForLabel, with_reassembly, ifmp_holds, counted_at, packet_holds, default_holds, frame_holds}
-use Rattle.world_model.specs.gsmp_wire.declared.message.Message.{Message}
-use Rattle.world_model.specs.gsmp_wire.declared.fault.Fault.{Fault as GsmpFault}
-use Rattle.world_model.specs.ifmp_wire.declared.message.Message.{Message as IfmpMessage}
-use Rattle.world_model.specs.ifmp_wire.declared.reader.Fault.{Fault as IfmpFault}
-use Rattle.world_model.specs.ifmp_wire.Fields.{decoded as ifmp_decoded}
-use Rattle.world_model.specs.Controller.{Acted}
-use Rattle.world_model.specs.Cells.{Taker, opened_frame}
+use Rattle.controller_joining.specs.world_model.Words.{PortNo, Mark, GivenOut, source_of, PacketFault, EncapsFault, Journal, Reassembly, routes, gsmp_holds, ForGsmp, ForDefault, ForLabel, with_reassembly, ifmp_holds, counted_at, packet_holds, default_holds, frame_holds}
+use Rattle.controller_joining.specs.world_model.gsmp_wire.declared.message.Message.{Message}
+use Rattle.controller_joining.specs.world_model.gsmp_wire.declared.fault.Fault.{Fault as GsmpFault}
+use Rattle.controller_joining.specs.world_model.ifmp_wire.declared.message.Message.{Message as IfmpMessage}
+use Rattle.controller_joining.specs.world_model.ifmp_wire.declared.reader.Fault.{Fault as IfmpFault}
+use Rattle.controller_joining.specs.world_model.ifmp_wire.Fields.{decoded as ifmp_decoded}
+use Rattle.controller_joining.specs.world_model.Controller.{Acted}
+use Rattle.controller_joining.specs.world_model.Cells.{Taker, opened_frame}
 use Rattle.law_controller_conditions.specs.law_controller_facts.Inputs.{CellComes}
 use Rattle.law_controller_conditions.specs.Kept.{IsKept, AreIn}
 use Rattle.law_controller_conditions.specs.controller_router.Cells.{gathered, receipt}

@@ -3,12 +3,12 @@
 use Rattle.std.proofs.Common.{◌≡◌, Bool, List, [], ◌∷◌, None, Some, refl, sym, ◌∙◌, ap, if◌then◌else◌}
 use Rattle.law_controller_conditions.specs.ordered_lists.Ordered.{Every, InOrder}
 use Rattle.law_controller_conditions.proofs.ordered_lists.Every.{every_map}
-use Rattle.world_model.specs.Words.{at, Setup, Grant, grant_label, Linked, linked_at, joins_of}
+use Rattle.controller_joining.specs.world_model.Words.{at, Setup, Grant, grant_label, Linked, linked_at, joins_of}
 use Rattle.grant_table.specs.Table.{AreApart}
 use Rattle.law_controller_conditions.specs.law_port_facts.Port.{IsApart}
 use Rattle.law_controller_conditions.proofs.law_port_facts.Keyed.{by_eq}
-use Rattle.world_model.specs.Controller.{Acted}
-use Rattle.world_model.specs.Joins.{Join}
+use Rattle.controller_joining.specs.world_model.Controller.{Acted}
+use Rattle.controller_joining.specs.world_model.Joins.{Join}
 use Rattle.law_controller_conditions.proofs.law_controller_facts.Moves.{HasPorts, found_port}
 use Rattle.law_controller_conditions.proofs.law_controller_facts.Joining.{IsJoin, joins_are}
 use Rattle.controller_joining.specs.Conditions.{IsGrantOf, HasGrants}

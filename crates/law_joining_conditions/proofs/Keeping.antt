@@ -4,26 +4,26 @@ use Rattle.std.proofs.Common.{◌≡◌, ◌≢◌, ℕ, Bool, true, false, List
 use Rattle.std.specs.Prelude.{◌||◌, nat_eq}
 use Rattle.std.specs.List.{filter_map, cons_option}
 use Rattle.std.specs.Option.{option_map, option_map_or}
-use Rattle.world_model.specs.Words.{PortNo, End, Peer, number_of_channel, Said, Answer, Quiet, Send, Open, hello_of, ifmp_answer, AddBranch, DeleteTree, Bind, Free, Opened, at, put, without, entered, key_le, Desk, on_input, Action, Say, Ask, Note, CutChain, TakeBack, Setup, label_end, control_end, Label, Wiring, Offered, Wired, label_number, Grant, Idle, ByController, grant_label, Session, Work, halts, with_session, with_label, with_new_label, without_label, with_grants, desk_after, has_room, is_spent, first_session, accepts, Linked, linked_at, begins, Rule, join_to}
-use Rattle.world_model.specs.adjacency_table.declared.message.Answer.TheVariants.{Reset}
-use Rattle.world_model.specs.ifmp_wire.declared.message.Message.TheVariants.{Adjacency}
-use Rattle.world_model.specs.link_model.declared.record.Record.TheVariants.{Join as JoinRecord}
+use Rattle.controller_joining.specs.world_model.Words.{PortNo, End, Peer, number_of_channel, Said, Answer, Quiet, Send, Open, hello_of, ifmp_answer, AddBranch, DeleteTree, Bind, Free, Opened, at, put, without, entered, key_le, Desk, on_input, Action, Say, Ask, Note, CutChain, TakeBack, Setup, label_end, control_end, Label, Wiring, Offered, Wired, label_number, Grant, Idle, ByController, grant_label, Session, Work, halts, with_session, with_label, with_new_label, without_label, with_grants, desk_after, has_room, is_spent, first_session, accepts, Linked, linked_at, begins, Rule, join_to}
+use Rattle.controller_joining.specs.world_model.adjacency_table.declared.message.Answer.TheVariants.{Reset}
+use Rattle.controller_joining.specs.world_model.ifmp_wire.declared.message.Message.TheVariants.{Adjacency}
+use Rattle.controller_joining.specs.world_model.link_model.declared.record.Record.TheVariants.{Join as JoinRecord}
 use Rattle.law_controller_conditions.specs.ordered_lists.Ordered.{Every, InOrder}
-use Rattle.world_model.specs.port_model.declared.action.Action.TheVariants as actions
-use Rattle.world_model.specs.port_model.Grants as grants
-use Rattle.world_model.specs.port_model.Port.{acts}
-use Rattle.world_model.specs.port_model.Adjacency.{answers}
+use Rattle.controller_joining.specs.world_model.port_model.declared.action.Action.TheVariants as actions
+use Rattle.controller_joining.specs.world_model.port_model.Grants as grants
+use Rattle.controller_joining.specs.world_model.port_model.Port.{acts}
+use Rattle.controller_joining.specs.world_model.port_model.Adjacency.{answers}
 use Rattle.law_controller_conditions.specs.law_port_facts.Port.{setup_port, IsWork}
 use Rattle.law_controller_conditions.proofs.law_port_facts.Keyed.{on_both, by_eq, at_key}
 use Rattle.law_controller_conditions.proofs.law_port_facts.Steps.{Step, Goes, greeting, telling, closing, noting, turning, heard, minding, relabelling, wiring, binding, quitting, unwiring, freeing, accepting, granting, regranting, starting, ending, taking_back, goes_keeps}
 use Rattle.law_controller_conditions.proofs.law_port_facts.Kept.{step_kept}
-use Rattle.world_model.specs.Controller.{Acted}
-use Rattle.world_model.specs.Joins.{Join}
+use Rattle.controller_joining.specs.world_model.Controller.{Acted}
+use Rattle.controller_joining.specs.world_model.Joins.{Join}
 use Rattle.law_controller_conditions.proofs.law_controller_facts.Moves.{found_setup, found_at_own, begun}
 use Rattle.law_controller_conditions.proofs.law_controller.Releasing.{tells_parts}
 use Rattle.law_controller_conditions.proofs.Ready.{Ready, ready_ports}
-use Rattle.controller_joins.specs.Joined.{joined_of}
-use Rattle.controller_joins.specs.declared.places.Joined.{Joined}
+use Rattle.controller_joining.specs.controller_joins.Joined.{joined_of}
+use Rattle.controller_joining.specs.controller_joins.declared.places.Joined.{Joined}
 use Rattle.controller_joining.specs.Conditions.{KeepsJoins}
 
 -- *Lists*: what a list gives of the elements with a key

@@ -1,3 +1,4 @@
+pub use Rattle.law_controller_conditions.proofs as law_controller_conditions
 pub mod Keeping
 pub mod Granting
 pub mod Releasing

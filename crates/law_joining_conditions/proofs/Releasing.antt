@@ -3,16 +3,16 @@
 use Rattle.std.proofs.Common.{◌≡◌, Bool, true, false, List, [], ◌∷◌, Option, None, Some, refl, sym, ◌∙◌, ap, subst, if◌then◌else◌, map, fold, arith}
 use Rattle.std.specs.Option.{option_map}
 use Rattle.std.proofs.lemmas.Bool.Decides.{nat_tests}
-use Rattle.world_model.specs.Words.{PortNo, End, same_end, Request, at, leads_home, Desk, on_input, Action, Say, Ask, Note, CutChain, TakeBack, Withdraw, Setup, home_of, grant_label, Work, given_back, Linked, port_key, linked_at, begins, with_work, performs, performs_in_estab, works, joins_of, join_of, parts, gives_back, releases_join, releases_input, released_inputs, releases}
+use Rattle.controller_joining.specs.world_model.Words.{PortNo, End, same_end, Request, at, leads_home, Desk, on_input, Action, Say, Ask, Note, CutChain, TakeBack, Withdraw, Setup, home_of, grant_label, Work, given_back, Linked, port_key, linked_at, begins, with_work, performs, performs_in_estab, works, joins_of, join_of, parts, gives_back, releases_join, releases_input, released_inputs, releases}
 use Rattle.law_controller_conditions.specs.ordered_lists.Ordered.{Every}
 use Rattle.law_controller_conditions.proofs.ordered_lists.Every.{every_map, every_map2, every_mapped}
-use Rattle.world_model.specs.port_model.declared.action.Action.TheVariants as actions
-use Rattle.world_model.specs.port_model.Grants as grants
+use Rattle.controller_joining.specs.world_model.port_model.declared.action.Action.TheVariants as actions
+use Rattle.controller_joining.specs.world_model.port_model.Grants as grants
 use Rattle.law_controller_conditions.specs.law_port_facts.Port.{setup_port, IsLabelEnd, IsAction}
 use Rattle.law_controller_conditions.proofs.law_port_facts.Found.{filter_passes, find_every}
 use Rattle.law_controller_conditions.proofs.law_port_facts.Keyed.{at_key}
-use Rattle.world_model.specs.Controller.{Acted, ports_of}
-use Rattle.world_model.specs.Joins.{Join}
+use Rattle.controller_joining.specs.world_model.Controller.{Acted, ports_of}
+use Rattle.controller_joining.specs.world_model.Joins.{Join}
 use Rattle.law_controller_conditions.proofs.law_controller_facts.Moves.{by_giving_back, Found, placing, Moves, moves_to, stays, further, moves_fold, moves_ports, HasPorts, found_setup, found_at_own, found_port}
 use Rattle.law_controller_conditions.proofs.law_controller_facts.Performing.{performs_in_estab_goes}
 use Rattle.law_controller_conditions.proofs.law_controller_facts.Conditions.{of_label}

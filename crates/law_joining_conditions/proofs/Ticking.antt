@@ -2,18 +2,18 @@
 
 use Rattle.std.proofs.Common.{ℕ, ◌≤◌, ◌<◌, List, [], ◌∷◌, None, Some, refl, arith, fold}
 use Rattle.std.specs.Prelude.{◌+◌}
-use Rattle.world_model.specs.Words.{PortNo, Party, HasNumbersLeft, Answer, Quiet, Send, Open, Said, greeting_of, gsmp_answer, ticked, empty_desk, Setup, with_desk, says_gsmp, begins, node_resets, meets, tries_joins, sends_again, ticks_port, ticks_ports, ticks_by}
-use Rattle.world_model.specs.adjacency_table.declared.message.Answer.TheVariants.{Reset}
-use Rattle.world_model.specs.adjacency_table.Side as sides
-use Rattle.world_model.specs.gsmp_wire.declared.message.Message.{Message}
-use Rattle.world_model.specs.gsmp_wire.declared.message.Message.TheVariants as messages
-use Rattle.world_model.specs.gsmp_wire.declared.request.Request.TheVariants.{AllPorts}
+use Rattle.controller_joining.specs.world_model.Words.{PortNo, Party, HasNumbersLeft, Answer, Quiet, Send, Open, Said, greeting_of, gsmp_answer, ticked, empty_desk, Setup, with_desk, says_gsmp, begins, node_resets, meets, tries_joins, sends_again, ticks_port, ticks_ports, ticks_by}
+use Rattle.controller_joining.specs.world_model.adjacency_table.declared.message.Answer.TheVariants.{Reset}
+use Rattle.controller_joining.specs.world_model.adjacency_table.Side as sides
+use Rattle.controller_joining.specs.world_model.gsmp_wire.declared.message.Message.{Message}
+use Rattle.controller_joining.specs.world_model.gsmp_wire.declared.message.Message.TheVariants as messages
+use Rattle.controller_joining.specs.world_model.gsmp_wire.declared.request.Request.TheVariants.{AllPorts}
 use Rattle.law_controller_conditions.specs.ordered_lists.Ordered.{Every}
-use Rattle.world_model.specs.port_model.Ticks as port_ticks
+use Rattle.controller_joining.specs.world_model.port_model.Ticks as port_ticks
 use Rattle.law_controller_conditions.proofs.law_port_facts.Hearings.{ticks_goes}
-use Rattle.world_model.specs.Controller.{Acted, ports_of}
-use Rattle.world_model.specs.Gsmp.{answers, steps}
-use Rattle.world_model.specs.Ticks.{ticks}
+use Rattle.controller_joining.specs.world_model.Controller.{Acted, ports_of}
+use Rattle.controller_joining.specs.world_model.Gsmp.{answers, steps}
+use Rattle.controller_joining.specs.world_model.Ticks.{ticks}
 use Rattle.law_controller_conditions.specs.law_controller_facts.Said.{HasFlowsAt}
 use Rattle.law_controller_conditions.proofs.law_controller_facts.Moves.{IsGsmpTurn, ages, Moves, further}
 use Rattle.law_controller_conditions.proofs.law_controller_facts.Entering.{tries_joins_goes}

@@ -6,16 +6,16 @@ use Rattle.std.specs.List.{list_any}
 use Rattle.std.specs.Option.{option_map_or}
 use Rattle.std.proofs.lemmas.Bool.Decides.{nat_tests}
 use Rattle.std.proofs.lemmas.List.{length-map}
-use Rattle.world_model.specs.Words.{End, number_of_channel, flow_destination, same_end, MoveBranch, at, on_input, most_asked, Setup, home_of, label_end, Label, Offered, label_number, Grant, ByController, grant_label, label_at, labels_of, Linked, linked_at, joins_of, join_for, is_offered, may_join, enters_grant, joins, tries_label, label_on, tries_join, inputs_at, tries_joins, route_stays}
+use Rattle.controller_joining.specs.world_model.Words.{End, number_of_channel, flow_destination, same_end, MoveBranch, at, on_input, most_asked, Setup, home_of, label_end, Label, Offered, label_number, Grant, ByController, grant_label, label_at, labels_of, Linked, linked_at, joins_of, join_for, is_offered, may_join, enters_grant, joins, tries_label, label_on, tries_join, inputs_at, tries_joins, route_stays}
 use Rattle.law_controller_conditions.specs.ordered_lists.Ordered.{Every}
 use Rattle.law_controller_conditions.proofs.ordered_lists.Every.{every_map}
-use Rattle.world_model.specs.port_model.Joins as port_joins
+use Rattle.controller_joining.specs.world_model.port_model.Joins as port_joins
 use Rattle.law_controller_conditions.specs.law_port_facts.Port.{IsLabelEnd, IsPort, joins_label}
 use Rattle.law_controller_conditions.proofs.law_port_facts.Keyed.{on_each}
 use Rattle.law_controller_conditions.proofs.law_port_facts.Rules.{and_first, and_second}
 use Rattle.law_controller_conditions.proofs.law_port_facts.Weighed.{labels_count}
-use Rattle.world_model.specs.Controller.{Acted}
-use Rattle.world_model.specs.Joins.{Join, output_of}
+use Rattle.controller_joining.specs.world_model.Controller.{Acted}
+use Rattle.controller_joining.specs.world_model.Joins.{Join, output_of}
 use Rattle.law_controller_conditions.proofs.law_controller_facts.Moves.{by_lending, by_joining, Found, Moves, stays, further, moves_ports, HasPorts, found_setup, found_at_own, found_port}
 use Rattle.law_controller_conditions.proofs.law_controller_facts.Performing.{at_port_goes}
 use Rattle.law_controller_conditions.proofs.law_controller_facts.Joining.{image_is, every_flat_map, each_there}

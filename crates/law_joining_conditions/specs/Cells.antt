@@ -1,14 +1,14 @@
 -- What the calls ask where a cell ends a frame that passes its test: between events, with numbers left
 
 use Rattle.std.specs.Prelude.{◌≡◌, ℕ, ◌==◌, true, false, List, drop, None, Some, Ok}
-use Rattle.world_model.specs.Words.{PortNo, Mark, HasNumbersLeft, protocol_of, source_of, Cell, default_unwrapped, InRange, routes, control_protocol, ForGsmp, ForDefault, ForLabel, taker_of}
-use Rattle.world_model.specs.ipv4_packet.Packet.{first_fault}
-use Rattle.world_model.specs.gsmp_wire.declared.message.Message.{Message}
-use Rattle.world_model.specs.gsmp_wire.Fields.{decoded as gsmp_decoded}
-use Rattle.world_model.specs.ifmp_wire.declared.message.Message.{Message as IfmpMessage}
-use Rattle.world_model.specs.ifmp_wire.Fields.{decoded as ifmp_decoded}
-use Rattle.world_model.specs.Controller.{Acted}
-use Rattle.world_model.specs.Cells.{Taker}
+use Rattle.controller_joining.specs.world_model.Words.{PortNo, Mark, HasNumbersLeft, protocol_of, source_of, Cell, default_unwrapped, InRange, routes, control_protocol, ForGsmp, ForDefault, ForLabel, taker_of}
+use Rattle.controller_joining.specs.world_model.ipv4_packet.Packet.{first_fault}
+use Rattle.controller_joining.specs.world_model.gsmp_wire.declared.message.Message.{Message}
+use Rattle.controller_joining.specs.world_model.gsmp_wire.Fields.{decoded as gsmp_decoded}
+use Rattle.controller_joining.specs.world_model.ifmp_wire.declared.message.Message.{Message as IfmpMessage}
+use Rattle.controller_joining.specs.world_model.ifmp_wire.Fields.{decoded as ifmp_decoded}
+use Rattle.controller_joining.specs.world_model.Controller.{Acted}
+use Rattle.controller_joining.specs.world_model.Cells.{Taker}
 use Rattle.law_controller_conditions.specs.controller_router.Conditions.{HasMark}
 use Rattle.law_controller_conditions.specs.controller_router.Cells.{gathered, receipt}
 use Rattle.controller_joining.specs.Conditions.{CanWorkOn}

@@ -1,11 +1,11 @@
 -- What a router's calls ask of the controller that it is, where an event comes to it: between events, with numbers left
 
 use Rattle.std.specs.Prelude.{ℕ, List}
-use Rattle.world_model.specs.Words.{PortNo, Addr, HasNumbersLeft, RouteChange, InRange, at_port}
-use Rattle.world_model.specs.gsmp_wire.declared.message.Message.{Message}
-use Rattle.world_model.specs.ifmp_wire.declared.message.Message.{Message as IfmpMessage}
-use Rattle.world_model.specs.Controller.{Acted}
-use Rattle.world_model.specs.Gsmp.{told}
+use Rattle.controller_joining.specs.world_model.Words.{PortNo, Addr, HasNumbersLeft, RouteChange, InRange, at_port}
+use Rattle.controller_joining.specs.world_model.gsmp_wire.declared.message.Message.{Message}
+use Rattle.controller_joining.specs.world_model.ifmp_wire.declared.message.Message.{Message as IfmpMessage}
+use Rattle.controller_joining.specs.world_model.Controller.{Acted}
+use Rattle.controller_joining.specs.world_model.Gsmp.{told}
 use Rattle.law_controller_conditions.specs.controller_router.Conditions.{CanResetNode}
 use Rattle.law_controller_conditions.specs.controller_router.Meeting.{with_change}
 use Rattle.controller_joining.specs.Conditions.{CanTick, CanTakeChanges, CanWorkOn}

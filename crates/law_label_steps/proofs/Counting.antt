@@ -3,16 +3,16 @@
 use Rattle.std.proofs.Common.{◌≡◌, ℕ, Bool, true, false, List, [], Option, None, Some, refl, sym, ◌∙◌, ap, subst, if◌then◌else◌}
 use Rattle.std.specs.Prelude.{◌&&◌, is_some, not}
 use Rattle.std.specs.Option.{option_map, option_map_or}
-use Rattle.port_model.specs.Words.{Channel, label_channel_of, State, Estab, is_estab, FlowId, same_flow, AddBranch, at, Desk, Setup, is_between, label_numbers, label_end, control_end, Label, Wiring, label_number, serves, is_spare, lowest_spare, label_for, counted_once, Session, Work, with_session, with_new_label, label_at, labels_of, packet_flow, wires, counts_in, used_label, counts_flow, counts_by, counts}
+use Rattle.law_port_views.specs.port_model.Words.{Channel, label_channel_of, State, Estab, is_estab, FlowId, same_flow, AddBranch, at, Desk, Setup, is_between, label_numbers, label_end, control_end, Label, Wiring, label_number, serves, is_spare, lowest_spare, label_for, counted_once, Session, Work, with_session, with_new_label, label_at, labels_of, packet_flow, wires, counts_in, used_label, counts_flow, counts_by, counts}
 use Rattle.law_port_views.specs.ordered_lists.Ordered.{InOrder}
 use Rattle.law_port_views.specs.law_label_line.Cells.{Role, Downstream, Upstream, Cell}
 use Rattle.law_port_views.specs.law_label_line.Line as lines
 use Rattle.law_port_views.specs.law_label_line.Line.{Line}
 use Rattle.law_port_views.specs.law_label_line.Downstream.{wire}
 use Rattle.law_port_views.specs.law_label_line.Moves.{Wire}
-use Rattle.port_model.specs.declared.action.Action.{Action}
-use Rattle.port_model.specs.declared.action.Action.TheVariants.{Ask}
-use Rattle.port_model.specs.Port.{acts}
+use Rattle.law_port_views.specs.port_model.declared.action.Action.{Action}
+use Rattle.law_port_views.specs.port_model.declared.action.Action.TheVariants.{Ask}
+use Rattle.law_port_views.specs.port_model.Port.{acts}
 use Rattle.law_port_views.specs.law_port_facts.Port.{IsBefore}
 use Rattle.law_port_views.proofs.law_port_facts.Keyed.{by_eq, find_at}
 use Rattle.law_port_views.proofs.law_port_facts.Found.{find_passes}

@@ -6,7 +6,7 @@ use Rattle.std.specs.Option.{option_map}
 use Rattle.law_port_views.proofs.law_port_facts.Keyed.{on_both, on_each}
 use Rattle.law_port_views.specs.law_label_line.Cells.{Role, Cell}
 use Rattle.law_port_views.specs.law_label_line.Line.{Line}
-use Rattle.port_model.specs.Words.{Label, Session, Work, halts, with_session, with_label, closes, is_spent, last_number}
+use Rattle.law_port_views.specs.port_model.Words.{Label, Session, Work, halts, with_session, with_label, closes, is_spent, last_number}
 use Rattle.law_port_views.specs.Link.{LinkLabel}
 use Rattle.law_port_views.specs.Shown.{Shown}
 use Rattle.law_port_views.specs.Reaching.{Leads}

@@ -3,7 +3,7 @@
 use Rattle.std.proofs.Common.{◌≡◌, ◌≢◌, ℕ, ◌≤◌, Bool, true, false, List, Option, None, Some, refl, sym, ◌∙◌, ap, subst, arith, if◌then◌else◌}
 use Rattle.std.specs.Prelude.{◌+◌, nat_lt, nat_le}
 use Rattle.std.proofs.lemmas.Bool.Decides.{nat_tests}
-use Rattle.port_model.specs.Words.{Instance, End, label_channel_of, is_label_number, Estab, at, put, without, Label, Grant, GrantState, Idle, ByController, ByInput, Leaving, grant_label, Session, Work, with_grant, without_grant, label_at, Unnumbered, last_number, spent_number, own_of, tells_in, tells, closes, reclaim_ack, joins_label, parted, lent, given_back_in, given_back}
+use Rattle.law_port_views.specs.port_model.Words.{Instance, End, label_channel_of, is_label_number, Estab, at, put, without, Label, Grant, GrantState, Idle, ByController, ByInput, Leaving, grant_label, Session, Work, with_grant, without_grant, label_at, Unnumbered, last_number, spent_number, own_of, tells_in, tells, closes, reclaim_ack, joins_label, parted, lent, given_back_in, given_back}
 use Rattle.law_port_views.proofs.law_port_facts.Keyed.{on_each, by_eq}
 use Rattle.law_port_views.specs.law_label_line.Cells as lines
 use Rattle.law_port_views.specs.law_label_line.Cells.{Role, Downstream, Upstream, Cell, frame}
@@ -12,10 +12,10 @@ use Rattle.law_port_views.specs.law_label_line.Line.{Line}
 use Rattle.law_port_views.specs.law_label_line.Downstream.{sends_numbered}
 use Rattle.law_port_views.specs.law_label_line.Upstream as up
 use Rattle.law_port_views.specs.law_label_line.Moves.{SendOther, Lend, Release}
-use Rattle.port_model.specs.declared.action.Action.TheVariants.{Say}
-use Rattle.port_model.specs.Port.{acts}
-use Rattle.port_model.specs.Saying.{peer_of, numbered}
-use Rattle.port_model.specs.Joins.{joined, ended}
+use Rattle.law_port_views.specs.port_model.declared.action.Action.TheVariants.{Say}
+use Rattle.law_port_views.specs.port_model.Port.{acts}
+use Rattle.law_port_views.specs.port_model.Saying.{peer_of, numbered}
+use Rattle.law_port_views.specs.port_model.Joins.{joined, ended}
 use Rattle.law_port_views.specs.Link.{LinkLabel}
 use Rattle.law_port_views.specs.Flows.{flow_number}
 use Rattle.law_port_views.specs.Heard.{heard_by, IsSaid}

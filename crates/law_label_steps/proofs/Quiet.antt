@@ -4,7 +4,7 @@ use Rattle.std.proofs.Common.{◌≡◌, List, [], Option, None, Some, refl, sym
 use Rattle.std.specs.Prelude.{is_some}
 use Rattle.std.specs.Option.{option_map, option_map_or}
 use Rattle.law_port_views.proofs.law_port_facts.Keyed.{on_both}
-use Rattle.port_model.specs.Words.{at, label_number, Session, Work, with_session, label_at}
+use Rattle.law_port_views.specs.port_model.Words.{at, label_number, Session, Work, with_session, label_at}
 use Rattle.law_port_views.specs.law_label_line.Cells.{Role, Downstream, Upstream, Cell}
 use Rattle.law_port_views.specs.law_label_line.Line.{Line}
 use Rattle.law_port_views.specs.Link.{LinkLabel}

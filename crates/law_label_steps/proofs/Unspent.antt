@@ -3,19 +3,19 @@
 
 use Rattle.std.proofs.Common.{ℕ, true, false, List, [], ◌∷◌, ◌++◌, Option, None, Some, refl, map}
 use Rattle.std.specs.Prelude.{max, nat_lt, ◌==◌}
-use Rattle.port_model.specs.Words.{Addr, Hello, Channel, label_number_of, number_of_channel, ifmp_received, heard_from, FlowId, same_flow, Request, AddBranch, MoveBranch, DeleteTree, VerifyTree, PortManagement, Bind, Free, Redirect, Reclaim, ReclaimAck, LabelRange, Error, Desk, put, Setup, label_end, Label, LabelState, Wiring, Offered, Recalled, Wired, label_number, Grant, GrantState, Idle, ByController, ByInput, Leaving, Acceptance, New, Refreshed, IsLeaving, GrantsFull, acceptance, grant_on, grant_label, Work, with_session, with_label, without_label, with_grants, with_grant, without_grant, label_at, labels_of, known_of, has_room, redirect, reclaim_ack, label_range, error, quits_label, quits_in, quits_found, quits, is_good, learns, takes, expects, accepts, grants_label, recalls_offered, reclaimed_in, reclaimed, acknowledged_in, acknowledged, narrowed, recalls_outside, ranged, error_comes, label_by, hears, used_label, used, bound_in, bound, freed_in, freed, started_in, started, resets, restarts}
-use Rattle.port_model.specs.gsmp_wire.declared.request.Request.TheVariants.{DeleteAll, AllPorts}
-use Rattle.port_model.specs.link_model.declared.record.Record.TheVariants.{Join}
-use Rattle.port_model.specs.ifmp_wire.declared.message.Message.{Message}
-use Rattle.port_model.specs.ifmp_wire.declared.message.Message.TheVariants.{Adjacency}
+use Rattle.law_port_views.specs.port_model.Words.{Addr, Hello, Channel, label_number_of, number_of_channel, ifmp_received, heard_from, FlowId, same_flow, Request, AddBranch, MoveBranch, DeleteTree, VerifyTree, PortManagement, Bind, Free, Redirect, Reclaim, ReclaimAck, LabelRange, Error, Desk, put, Setup, label_end, Label, LabelState, Wiring, Offered, Recalled, Wired, label_number, Grant, GrantState, Idle, ByController, ByInput, Leaving, Acceptance, New, Refreshed, IsLeaving, GrantsFull, acceptance, grant_on, grant_label, Work, with_session, with_label, without_label, with_grants, with_grant, without_grant, label_at, labels_of, known_of, has_room, redirect, reclaim_ack, label_range, error, quits_label, quits_in, quits_found, quits, is_good, learns, takes, expects, accepts, grants_label, recalls_offered, reclaimed_in, reclaimed, acknowledged_in, acknowledged, narrowed, recalls_outside, ranged, error_comes, label_by, hears, used_label, used, bound_in, bound, freed_in, freed, started_in, started, resets, restarts}
+use Rattle.law_port_views.specs.port_model.gsmp_wire.declared.request.Request.TheVariants.{DeleteAll, AllPorts}
+use Rattle.law_port_views.specs.port_model.link_model.declared.record.Record.TheVariants.{Join}
+use Rattle.law_port_views.specs.port_model.ifmp_wire.declared.message.Message.{Message}
+use Rattle.law_port_views.specs.port_model.ifmp_wire.declared.message.Message.TheVariants.{Adjacency}
 use Rattle.law_port_views.proofs.law_port_facts.Keyed.{on_both}
-use Rattle.port_model.specs.declared.action.Action.TheVariants.{CutChain, Note, TakeBack}
-use Rattle.port_model.specs.Grants.{OutOfRange, Taken}
-use Rattle.port_model.specs.Port.{acts}
-use Rattle.port_model.specs.Saying.{says}
-use Rattle.port_model.specs.Adjacency.{steps, greeted}
-use Rattle.port_model.specs.Redirection.{redirected}
-use Rattle.port_model.specs.Answers.{done}
+use Rattle.law_port_views.specs.port_model.declared.action.Action.TheVariants.{CutChain, Note, TakeBack}
+use Rattle.law_port_views.specs.port_model.Grants.{OutOfRange, Taken}
+use Rattle.law_port_views.specs.port_model.Port.{acts}
+use Rattle.law_port_views.specs.port_model.Saying.{says}
+use Rattle.law_port_views.specs.port_model.Adjacency.{steps, greeted}
+use Rattle.law_port_views.specs.port_model.Redirection.{redirected}
+use Rattle.law_port_views.specs.port_model.Answers.{done}
 use Rattle.law_port_views.proofs.Recalling.{room_acts, room_session, room_grants, room_says, room_expects}
 use Rattle.law_port_views.proofs.Recalls.{room_recalls, room_outside}
 use Rattle.law_port_views.proofs.Ticking.{room_steps}

@@ -2,7 +2,7 @@
 
 use Rattle.std.specs.Prelude.{◌≡◌, false, List}
 use Rattle.law_port_views.specs.law_label_line.Cells.{Role, Cell}
-use Rattle.port_model.specs.Words.{Work, is_spent}
+use Rattle.law_port_views.specs.port_model.Words.{Work, is_spent}
 use Rattle.law_port_views.specs.Link.{LinkLabel}
 use Rattle.law_port_views.specs.Reaching.{Leads}
 

@@ -7,12 +7,12 @@
 #![tactic(auto)]
 
 ghost use Rattle.std.specs.Prelude.{◌≡◌, List, Some, false, true, ℕ};
-ghost use Rattle.port_model.specs.Words.{End, Addr, is_label_number, Request, at, Desk, Setup, Grant, ByController, grant_label, Work, labels_of, counts, used, parted, lent, given_back, closes, hears, resets, restarts};
-ghost use Rattle.port_model.specs.ifmp_wire.declared.message.Message.{Message};
+ghost use Rattle.law_port_views.specs.port_model.Words.{End, Addr, is_label_number, Request, at, Desk, Setup, Grant, ByController, grant_label, Work, labels_of, counts, used, parted, lent, given_back, closes, hears, resets, restarts};
+ghost use Rattle.law_port_views.specs.port_model.ifmp_wire.declared.message.Message.{Message};
 ghost use Rattle.law_port_views.specs.ordered_lists.Ordered.{InOrder};
-ghost use Rattle.port_model.specs.Answers.{done};
-ghost use Rattle.port_model.specs.Ticks.{ticks};
-ghost use Rattle.port_model.specs.Joins.{joined};
+ghost use Rattle.law_port_views.specs.port_model.Answers.{done};
+ghost use Rattle.law_port_views.specs.port_model.Ticks.{ticks};
+ghost use Rattle.law_port_views.specs.port_model.Joins.{joined};
 ghost use Rattle.law_port_views.specs.law_port_facts.Port.{IsBefore};
 ghost use Rattle.law_port_views.specs.law_label_line.Cells.{Role, Upstream, Cell};
 ghost use Rattle.law_port_views.specs.law_label_line.Line.{Line};

@@ -19,7 +19,7 @@ use Rattle.law_label_events.specs.law_controller_views.Ready.{FitsLink}
 use Rattle.law_label_events.specs.law_world_views.Ready.{setups_of}
 use Rattle.law_label_events.specs.law_world_views.Shown.{end_of, AreApart}
 use Rattle.law_label_events.specs.law_world_views.Between.{IsPortEnd, default, label, IsShapedBranch, home, out, joined, HasAddress, IsLinkLabel}
-use Rattle.law_label_events.specs.law_world_views.Kept.{HasAddresses}
+use Rattle.law_label_events.specs.law_world_views.Fronts.{HasAddresses}
 use Rattle.law_label_events.proofs.law_world_views.Labels.{in_range_label}
 use Rattle.law_running_worlds.proofs.law_causes.Shown.{IsPeer, peer_back}
 use Rattle.law_label_events.specs.Queues as events

@@ -12,7 +12,8 @@ use Rattle.world_model.specs.network_model.declared.link.LinkEnd.{LinkEnd}
 use Rattle.world_model.specs.World.{opened}
 use Rattle.law_label_events.specs.law_port_views.Link.{LinkLabel}
 use Rattle.law_label_events.specs.law_world_views.Between.{HasAddress, IsLinkLabel, HasAllLabels}
-use Rattle.law_label_events.specs.law_world_views.Kept.{Keeps, Begins, HasAddresses}
+use Rattle.law_label_events.specs.law_world_views.Kept.{Keeps, Begins}
+use Rattle.law_label_events.specs.law_world_views.Fronts.{HasAddresses}
 use Rattle.law_run_facts.specs.Drawn.{ByPort, own_at}
 use Rattle.law_run_facts.proofs.Runs.{runs_draw_once}
 use Rattle.law_run_facts.specs.Nodes.{IsNodeOfRun, HasSite, HasPort}

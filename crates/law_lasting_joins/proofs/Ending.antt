@@ -3,18 +3,18 @@
 use Rattle.std.proofs.Common.{◌≡◌, ℕ, Bool, true, false, List, [], ◌∷◌, Option, None, Some, Result, Ok, Err, refl, sym, ◌∙◌, ap, subst, if◌then◌else◌}
 use Rattle.std.specs.Prelude.{not, nat_lt}
 use Rattle.std.specs.List.{list_any}
-use Rattle.world_model.specs.Words.{End, Mark, Cell, is_estab, gsmp_received, default_unwrapped, unwrapped, Request, AddBranch, MoveBranch, DeleteTree, VerifyTree, PortManagement, last_mark, payload_in, tested_by, Desk, Standing, Answered, Unknown, Done, Ports, Failed, answered, after_answer, without_request, Setup, Controller, default_channel, default_end, default_home, with_desk, asks, releases, port_of_input, is_deleting, has_emptied, ends_meeting, causes_in_estab, causes, clears, takes_answer, answer_comes, gsmp_holds, ForGsmp, ForDefault, ForLabel, same_channel, reassembly_of, with_reassembly, frame_holds, takes_cell}
-use Rattle.world_model.specs.gsmp_wire.declared.fault.Fault.{Fault}
-use Rattle.world_model.specs.gsmp_wire.declared.message.Message.{Message}
-use Rattle.world_model.specs.gsmp_wire.declared.message.Message.TheVariants as messages
-use Rattle.world_model.specs.gsmp_wire.declared.request.Request.TheVariants.{DeleteAll, AllPorts}
-use Rattle.world_model.specs.gsmp_wire.Fields.{decoded as gsmp_decoded}
-use Rattle.world_model.specs.frame_model.Frame.{octets_of}
-use Rattle.world_model.specs.frame_model.Reassembly.{Taken, taken}
-use Rattle.world_model.specs.Controller.{Acted, free_slots, ports_of}
-use Rattle.world_model.specs.Meeting.{done}
-use Rattle.world_model.specs.Gsmp.{told}
-use Rattle.world_model.specs.Cells.{Taker, opened_frame, ends_frame, cell_comes}
+use Rattle.law_controller.specs.world_model.Words.{End, Mark, Cell, is_estab, gsmp_received, default_unwrapped, unwrapped, Request, AddBranch, MoveBranch, DeleteTree, VerifyTree, PortManagement, last_mark, payload_in, tested_by, Desk, Standing, Answered, Unknown, Done, Ports, Failed, answered, after_answer, without_request, Setup, Controller, default_channel, default_end, default_home, with_desk, asks, releases, port_of_input, is_deleting, has_emptied, ends_meeting, causes_in_estab, causes, clears, takes_answer, answer_comes, gsmp_holds, ForGsmp, ForDefault, ForLabel, same_channel, reassembly_of, with_reassembly, frame_holds, takes_cell}
+use Rattle.law_controller.specs.world_model.gsmp_wire.declared.fault.Fault.{Fault}
+use Rattle.law_controller.specs.world_model.gsmp_wire.declared.message.Message.{Message}
+use Rattle.law_controller.specs.world_model.gsmp_wire.declared.message.Message.TheVariants as messages
+use Rattle.law_controller.specs.world_model.gsmp_wire.declared.request.Request.TheVariants.{DeleteAll, AllPorts}
+use Rattle.law_controller.specs.world_model.gsmp_wire.Fields.{decoded as gsmp_decoded}
+use Rattle.law_controller.specs.world_model.frame_model.Frame.{octets_of}
+use Rattle.law_controller.specs.world_model.frame_model.Reassembly.{Taken, taken}
+use Rattle.law_controller.specs.world_model.Controller.{Acted, free_slots, ports_of}
+use Rattle.law_controller.specs.world_model.Meeting.{done}
+use Rattle.law_controller.specs.world_model.Gsmp.{told}
+use Rattle.law_controller.specs.world_model.Cells.{Taker, opened_frame, ends_frame, cell_comes}
 use Rattle.law_controller.specs.law_controller_facts.Sound.{IsSound}
 use Rattle.law_controller.proofs.law_controller_facts.Laws.{has_ports, moves_sound}
 use Rattle.law_controller.proofs.law_controller_facts.Moves.{HasPorts, answering, moves_to, moves_ports}

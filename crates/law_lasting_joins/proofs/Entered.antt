@@ -3,16 +3,16 @@
 use Rattle.std.proofs.Common.{◌≡◌, ℕ, Bool, true, false, List, [], ◌∷◌, length, Option, None, Some, refl, sym, ◌∙◌, ap, subst, fold, if◌then◌else◌}
 use Rattle.std.specs.Prelude.{◌&&◌, not, nat_lt, is_none}
 use Rattle.std.specs.Option.{option_map, option_map_or, option_and_then}
-use Rattle.world_model.specs.Words.{End, PortNo, number_of_channel, best, Next, Local, Via, FlowId, next_hop_of, same_flow, flow_destination, MoveBranch, at, put, on_input, most_asked, Setup, home_of, label_end, Label, Offered, label_number, Grant, ByController, ByInput, grant_label, grant_for, is_by_controller, Session, label_at, labels_of, Linked, port_key, linked_at, begins, works, route_stays, join_through, join_by, port_by, join_for, is_offered, may_join, enters_grant, enters_label, joins, label_on, tries_label, tries_join}
+use Rattle.law_controller.specs.world_model.Words.{End, PortNo, number_of_channel, best, Next, Local, Via, FlowId, next_hop_of, same_flow, flow_destination, MoveBranch, at, put, on_input, most_asked, Setup, home_of, label_end, Label, Offered, label_number, Grant, ByController, ByInput, grant_label, grant_for, is_by_controller, Session, label_at, labels_of, Linked, port_key, linked_at, begins, works, route_stays, join_through, join_by, port_by, join_for, is_offered, may_join, enters_grant, enters_label, joins, label_on, tries_label, tries_join}
 use Rattle.law_controller.specs.ordered_lists.Ordered.{Every}
-use Rattle.world_model.specs.port_model.Grants as grants
-use Rattle.world_model.specs.port_model.Joins as port_joins
+use Rattle.law_controller.specs.world_model.port_model.Grants as grants
+use Rattle.law_controller.specs.world_model.port_model.Joins as port_joins
 use Rattle.law_controller.specs.law_port_facts.Port.{IsLabelEnd, IsGrant}
 use Rattle.law_controller.proofs.law_port_facts.Keyed.{at_key, at_every, apart_at, at_put_same}
 use Rattle.law_controller.proofs.law_port_facts.Found.{find_passes}
 use Rattle.law_controller.proofs.law_port_facts.Rules.{and_first, and_second}
-use Rattle.world_model.specs.Controller.{Acted}
-use Rattle.world_model.specs.Joins.{Join, output_of}
+use Rattle.law_controller.specs.world_model.Controller.{Acted}
+use Rattle.law_controller.specs.world_model.Joins.{Join, output_of}
 use Rattle.law_controller.specs.law_controller_facts.Sound.{IsSound, IsShutLinked}
 use Rattle.law_controller.proofs.law_controller_facts.Laws.{has_ports, moves_sound}
 use Rattle.law_controller.proofs.law_controller_facts.Moves.{HasPorts, Found, by_joining, by_lending, found_setup, found_at_own, found_port, moves_ports}

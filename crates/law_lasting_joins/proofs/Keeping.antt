@@ -2,12 +2,12 @@
 
 use Rattle.std.proofs.Common.{◌≡◌, ℕ, Bool, true, List, [], ◌∷◌, sym, subst, fold, if◌then◌else◌}
 use Rattle.std.specs.Prelude.{map, filter}
-use Rattle.world_model.specs.Words.{End, PortNo, is_estab, Request, AddBranch, MoveBranch, DeleteTree, VerifyTree, PortManagement, leads_home, Setup, home_of, asks, joins_of, releases_input, released_inputs, resets_spent, releases, ends_meeting, has_emptied, causes_in_estab, causes, clears_port, clears, port_of_input, default_end, default_home}
-use Rattle.world_model.specs.gsmp_wire.declared.request.Request.TheVariants.{DeleteAll, AllPorts}
+use Rattle.law_controller.specs.world_model.Words.{End, PortNo, is_estab, Request, AddBranch, MoveBranch, DeleteTree, VerifyTree, PortManagement, leads_home, Setup, home_of, asks, joins_of, releases_input, released_inputs, resets_spent, releases, ends_meeting, has_emptied, causes_in_estab, causes, clears_port, clears, port_of_input, default_end, default_home}
+use Rattle.law_controller.specs.world_model.gsmp_wire.declared.request.Request.TheVariants.{DeleteAll, AllPorts}
 use Rattle.law_controller.specs.ordered_lists.Ordered.{Every}
 use Rattle.law_controller.proofs.law_port_facts.Keyed.{on_each}
-use Rattle.world_model.specs.Controller.{Acted, ports_of}
-use Rattle.world_model.specs.Joins.{Join}
+use Rattle.law_controller.specs.world_model.Controller.{Acted, ports_of}
+use Rattle.law_controller.specs.world_model.Joins.{Join}
 use Rattle.law_controller.proofs.law_controller_facts.Moves.{HasPorts, moves_ports}
 use Rattle.law_controller.proofs.law_controller_facts.Joining.{releases_input_goes, resets_spent_goes, releases_goes}
 use Rattle.law_lasting_joins.proofs.Lent.{Keeps, itself, keeps_on, keeps_fold, asks_keep, tells_keep, spent_keeps, input_keeps, clears_keep}

@@ -2,31 +2,31 @@
 
 use Rattle.std.proofs.Common.{◌≡◌, ℕ, true, List, [], ◌∷◌, ◌++◌, drop, Option, None, Some, Result, Ok, Err, refl, sym, ◌∙◌, ap, subst, fold}
 use Rattle.std.specs.Prelude.{◌==◌, not, map}
-use Rattle.world_model.specs.Words.{Channel, End, PortNo, Mark, Greeting, Party, next_control, with_control, Answer, Quiet, Send, Open, Step, is_estab, gsmp_answer, gsmp_received, protocol_of, source_of, PacketFault, hop_of, onward, RouteChange, Hop, Here, On, EncapsFault, default_unwrapped, unwrapped, Request, MoveBranch, Standing, empty_desk, sent_again, Answered, Unknown, Done, Ports, Failed, answered, after_answer, without_request, Setup, home_of, Label, counts, used, hears, Linked, linked_at, with_desk, sends_control, says_gsmp, sends_request, asks, begins, node_resets, Rule, at_port, releases, meets, up_ports, empties, causes, clears, takes_answer, answer_comes, gsmp_holds, changed_joins, takes_join_back, begins_change, takes_change, may_take, takes_each, takes_changes, change_comes, is_control, sends_next, goes_by, grant_by, routes, control_protocol, ForGsmp, ForDefault, ForLabel, label_holds, ifmp_holds, counted_at, packet_holds, default_holds, frame_holds, sends_again, ticks_port, ticks_ports}
-use Rattle.world_model.specs.adjacency_table.declared.message.Answer.TheVariants.{Reset}
-use Rattle.world_model.specs.ipv4_packet.Packet.{first_fault}
-use Rattle.world_model.specs.ipv4_forward.declared.outcome.Hop.TheVariants.{NoRoute, Expired}
-use Rattle.world_model.specs.ifmp_wire.declared.message.Message.{Message as IfmpMessage}
-use Rattle.world_model.specs.ifmp_wire.declared.reader.Fault.{Fault as IfmpFault}
-use Rattle.world_model.specs.ifmp_wire.Fields.{decoded as ifmp_decoded}
-use Rattle.world_model.specs.gsmp_wire.declared.fault.Fault.{Fault}
-use Rattle.world_model.specs.gsmp_wire.declared.message.Message.{Message}
-use Rattle.world_model.specs.gsmp_wire.declared.message.Message.TheVariants as messages
-use Rattle.world_model.specs.gsmp_wire.declared.request.Request.TheVariants.{DeleteAll, AllPorts}
-use Rattle.world_model.specs.gsmp_wire.Fields.{decoded as gsmp_decoded}
-use Rattle.world_model.specs.port_model.Ticks as port_ticks
+use Rattle.law_controller.specs.world_model.Words.{Channel, End, PortNo, Mark, Greeting, Party, next_control, with_control, Answer, Quiet, Send, Open, Step, is_estab, gsmp_answer, gsmp_received, protocol_of, source_of, PacketFault, hop_of, onward, RouteChange, Hop, Here, On, EncapsFault, default_unwrapped, unwrapped, Request, MoveBranch, Standing, empty_desk, sent_again, Answered, Unknown, Done, Ports, Failed, answered, after_answer, without_request, Setup, home_of, Label, counts, used, hears, Linked, linked_at, with_desk, sends_control, says_gsmp, sends_request, asks, begins, node_resets, Rule, at_port, releases, meets, up_ports, empties, causes, clears, takes_answer, answer_comes, gsmp_holds, changed_joins, takes_join_back, begins_change, takes_change, may_take, takes_each, takes_changes, change_comes, is_control, sends_next, goes_by, grant_by, routes, control_protocol, ForGsmp, ForDefault, ForLabel, label_holds, ifmp_holds, counted_at, packet_holds, default_holds, frame_holds, sends_again, ticks_port, ticks_ports}
+use Rattle.law_controller.specs.world_model.adjacency_table.declared.message.Answer.TheVariants.{Reset}
+use Rattle.law_controller.specs.world_model.ipv4_packet.Packet.{first_fault}
+use Rattle.law_controller.specs.world_model.ipv4_forward.declared.outcome.Hop.TheVariants.{NoRoute, Expired}
+use Rattle.law_controller.specs.world_model.ifmp_wire.declared.message.Message.{Message as IfmpMessage}
+use Rattle.law_controller.specs.world_model.ifmp_wire.declared.reader.Fault.{Fault as IfmpFault}
+use Rattle.law_controller.specs.world_model.ifmp_wire.Fields.{decoded as ifmp_decoded}
+use Rattle.law_controller.specs.world_model.gsmp_wire.declared.fault.Fault.{Fault}
+use Rattle.law_controller.specs.world_model.gsmp_wire.declared.message.Message.{Message}
+use Rattle.law_controller.specs.world_model.gsmp_wire.declared.message.Message.TheVariants as messages
+use Rattle.law_controller.specs.world_model.gsmp_wire.declared.request.Request.TheVariants.{DeleteAll, AllPorts}
+use Rattle.law_controller.specs.world_model.gsmp_wire.Fields.{decoded as gsmp_decoded}
+use Rattle.law_controller.specs.world_model.port_model.Ticks as port_ticks
 use Rattle.law_controller.specs.law_port_facts.Port.{Lives, IsShaped, AnyChannel}
 use Rattle.law_controller.proofs.law_port_facts.Keyed.{on_both}
 use Rattle.law_controller.proofs.law_port_facts.Rules.{used_goes, counts_goes}
 use Rattle.law_controller.proofs.law_port_facts.Hearings.{hears_goes, ticks_goes}
 use Rattle.law_controller.proofs.law_port_facts.Steps.{GoesOn, Goes}
-use Rattle.world_model.specs.Controller.{Acted, note, ports_of}
-use Rattle.world_model.specs.Sending.{sends}
-use Rattle.world_model.specs.Joins.{Join, output_of}
-use Rattle.world_model.specs.Meeting.{done}
-use Rattle.world_model.specs.Gsmp.{answers, steps, told}
-use Rattle.world_model.specs.Packets.{forwarded}
-use Rattle.world_model.specs.Cells.{Taker}
+use Rattle.law_controller.specs.world_model.Controller.{Acted, note, ports_of}
+use Rattle.law_controller.specs.world_model.Sending.{sends}
+use Rattle.law_controller.specs.world_model.Joins.{Join, output_of}
+use Rattle.law_controller.specs.world_model.Meeting.{done}
+use Rattle.law_controller.specs.world_model.Gsmp.{answers, steps, told}
+use Rattle.law_controller.specs.world_model.Packets.{forwarded}
+use Rattle.law_controller.specs.world_model.Cells.{Taker}
 use Rattle.law_controller.proofs.law_controller_facts.Lifetimes.{decoded_lives}
 use Rattle.law_controller.proofs.law_controller_facts.Moves.{HasPorts, Found, by_rule, found_setup, found_at_own, found_port, begun, moves_ports}
 use Rattle.law_controller.proofs.law_controller_facts.Joining.{every_filter}

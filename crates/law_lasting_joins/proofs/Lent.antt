@@ -3,24 +3,24 @@
 use Rattle.std.proofs.Common.{◌≡◌, ◌≢◌, ℕ, true, false, List, [], ◌∷◌, ◌++◌, Option, None, Some, refl, sym, ◌∙◌, ap, subst, fold, if◌then◌else◌}
 use Rattle.std.specs.Prelude.{◌==◌, ◌+◌, nat_lt, nat_le, length}
 use Rattle.std.specs.Option.{option_and_then}
-use Rattle.world_model.specs.Words.{PortNo, Channel, End, Mark, label_channel_of, label_number_of, number_of_channel, next_control, with_control, Side, is_estab, Party, Request, AddBranch, MoveBranch, DeleteTree, VerifyTree, PortManagement, same_end, Part, nothing_taken, at, put, is_led_home, last_transaction, Action, Say, Ask, Note, CutChain, TakeBack, Withdraw, Setup, home_of, Label, LabelState, Wiring, Offered, Recalled, Wired, Grant, GrantState, Idle, ByController, ByInput, Leaving, grant_label, Session, Work, without_grant, label_at, Unnumbered, last_number, spent_number, tells_in, tells, closes, reclaim_ack, label_by, joins_label, parted, given_back_in, given_back, resets, Loss, PoolFull, noted, frame_cells, made, Controller, Linked, port_key, linked_at, with_linked, with_desk, chains_with, default_channel, sends_control, asks_next, asks, takes_back, begins, with_work, cuts_of, node_resets, does, does_in_estab, resets_of, resets_port, performs, performs_in_estab, Rule, works, at_port, join_of, joins_of, parts, gives_back, releases_join, releases_input, resets_spent, tells_port, may_clear, clears_of, clears_port}
-use Rattle.world_model.specs.gsmp_wire.declared.request.Request.TheVariants.{DeleteAll, AllPorts}
+use Rattle.law_controller.specs.world_model.Words.{PortNo, Channel, End, Mark, label_channel_of, label_number_of, number_of_channel, next_control, with_control, Side, is_estab, Party, Request, AddBranch, MoveBranch, DeleteTree, VerifyTree, PortManagement, same_end, Part, nothing_taken, at, put, is_led_home, last_transaction, Action, Say, Ask, Note, CutChain, TakeBack, Withdraw, Setup, home_of, Label, LabelState, Wiring, Offered, Recalled, Wired, Grant, GrantState, Idle, ByController, ByInput, Leaving, grant_label, Session, Work, without_grant, label_at, Unnumbered, last_number, spent_number, tells_in, tells, closes, reclaim_ack, label_by, joins_label, parted, given_back_in, given_back, resets, Loss, PoolFull, noted, frame_cells, made, Controller, Linked, port_key, linked_at, with_linked, with_desk, chains_with, default_channel, sends_control, asks_next, asks, takes_back, begins, with_work, cuts_of, node_resets, does, does_in_estab, resets_of, resets_port, performs, performs_in_estab, Rule, works, at_port, join_of, joins_of, parts, gives_back, releases_join, releases_input, resets_spent, tells_port, may_clear, clears_of, clears_port}
+use Rattle.law_controller.specs.world_model.gsmp_wire.declared.request.Request.TheVariants.{DeleteAll, AllPorts}
 use Rattle.law_controller.specs.ordered_lists.Ordered.{Every}
-use Rattle.world_model.specs.port_model.Desk.{asked}
-use Rattle.world_model.specs.port_model.declared.action.Action.TheVariants.{Reset}
-use Rattle.world_model.specs.port_model.Grants as grants
-use Rattle.world_model.specs.port_model.Port.{acts}
-use Rattle.world_model.specs.port_model.Saying.{numbered}
-use Rattle.world_model.specs.port_model.Answers as answers
-use Rattle.world_model.specs.port_model.Resets.{cleared}
+use Rattle.law_controller.specs.world_model.port_model.Desk.{asked}
+use Rattle.law_controller.specs.world_model.port_model.declared.action.Action.TheVariants.{Reset}
+use Rattle.law_controller.specs.world_model.port_model.Grants as grants
+use Rattle.law_controller.specs.world_model.port_model.Port.{acts}
+use Rattle.law_controller.specs.world_model.port_model.Saying.{numbered}
+use Rattle.law_controller.specs.world_model.port_model.Answers as answers
+use Rattle.law_controller.specs.world_model.port_model.Resets.{cleared}
 use Rattle.law_controller.specs.law_port_facts.Port.{IsAction}
 use Rattle.law_controller.proofs.law_port_facts.Keyed.{on_both, by_eq, at_put_other}
 use Rattle.law_controller.proofs.law_port_facts.Found.{find_passes, session_grants, closes_port}
 use Rattle.law_controller.proofs.law_port_facts.Rules.{IsTree, done_goes}
-use Rattle.world_model.specs.frame_model.Sending.{Sent}
-use Rattle.world_model.specs.Controller.{free_slots, Acted, note}
-use Rattle.world_model.specs.Sending.{with_cells, sends}
-use Rattle.world_model.specs.Joins.{Join}
+use Rattle.law_controller.specs.world_model.frame_model.Sending.{Sent}
+use Rattle.law_controller.specs.world_model.Controller.{free_slots, Acted, note}
+use Rattle.law_controller.specs.world_model.Sending.{with_cells, sends}
+use Rattle.law_controller.specs.world_model.Joins.{Join}
 use Rattle.law_controller.proofs.law_controller_facts.Moves.{Worked, worked_kept, by_rule, by_closing, by_parting, by_giving_back, Found, placing, moves_to, HasPorts, found_setup, found_at_own, found_port, begun, moves_ports, noting}
 use Rattle.law_controller.proofs.law_controller_facts.Performing.{performs_in_estab_goes}
 use Rattle.law_controller.proofs.law_controller_facts.Joining.{IsJoin, joins_are, granted_there, parts_grants, parts_goes}

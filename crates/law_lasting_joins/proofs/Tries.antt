@@ -3,22 +3,22 @@
 use Rattle.std.proofs.Common.{◌≡◌, ℕ, Bool, true, false, List, [], ◌∷◌, length, Option, None, Some, refl, sym, ◌∙◌, ap, subst, fold, if◌then◌else◌}
 use Rattle.std.specs.Prelude.{◌&&◌, not, nat_lt, is_none, flat_map}
 use Rattle.std.specs.Option.{option_map, option_and_then}
-use Rattle.world_model.specs.Words.{End, PortNo, Party, number_of_channel, label_number_of, Cell, Answer, Quiet, Send, Open, Said, Step, ticked, best, FlowId, next_hop_of, same_flow, flow_destination, MoveBranch, Journal, last_mark, payload_in, tested_by, nothing_taken, at, on_input, most_asked, Setup, home_of, Label, Offered, label_number, is_bound, Grant, ByController, ByInput, grant_label, grant_for, is_by_controller, Work, labels_of, label_at, Linked, port_key, default_channel, linked_at, route_stays, begins, with_work, cuts_default_of, cuts_default, cuts_gsmp, node_resets, node_restarts, at_port, join_through, join_by, port_by, join_for, is_offered, may_join, enters_grant, enters_label, joins, tries_label, label_on, tries_join, inputs_at, tries_joins, chains_with, ForGsmp, ForDefault, ForLabel, same_channel, label_taker, taker_at, port_on, on_link, reassembly_of, with_reassembly, takes_cell, sends_again, ticks_ports, ticks_by}
-use Rattle.world_model.specs.adjacency_table.declared.message.Answer.TheVariants.{Reset}
-use Rattle.world_model.specs.frame_model.Frame.{octets_of}
-use Rattle.world_model.specs.frame_model.Reassembly.{Taken, taken}
+use Rattle.law_controller.specs.world_model.Words.{End, PortNo, Party, number_of_channel, label_number_of, Cell, Answer, Quiet, Send, Open, Said, Step, ticked, best, FlowId, next_hop_of, same_flow, flow_destination, MoveBranch, Journal, last_mark, payload_in, tested_by, nothing_taken, at, on_input, most_asked, Setup, home_of, Label, Offered, label_number, is_bound, Grant, ByController, ByInput, grant_label, grant_for, is_by_controller, Work, labels_of, label_at, Linked, port_key, default_channel, linked_at, route_stays, begins, with_work, cuts_default_of, cuts_default, cuts_gsmp, node_resets, node_restarts, at_port, join_through, join_by, port_by, join_for, is_offered, may_join, enters_grant, enters_label, joins, tries_label, label_on, tries_join, inputs_at, tries_joins, chains_with, ForGsmp, ForDefault, ForLabel, same_channel, label_taker, taker_at, port_on, on_link, reassembly_of, with_reassembly, takes_cell, sends_again, ticks_ports, ticks_by}
+use Rattle.law_controller.specs.world_model.adjacency_table.declared.message.Answer.TheVariants.{Reset}
+use Rattle.law_controller.specs.world_model.frame_model.Frame.{octets_of}
+use Rattle.law_controller.specs.world_model.frame_model.Reassembly.{Taken, taken}
 use Rattle.law_controller.specs.ordered_lists.Ordered.{Every}
-use Rattle.world_model.specs.port_model.Grants as grants
-use Rattle.world_model.specs.port_model.Joins as port_joins
+use Rattle.law_controller.specs.world_model.port_model.Grants as grants
+use Rattle.law_controller.specs.world_model.port_model.Joins as port_joins
 use Rattle.law_controller.specs.law_port_facts.Port.{IsLabelEnd}
 use Rattle.law_controller.proofs.law_port_facts.Keyed.{on_both, on_each, by_eq, apart_at, at_put_other}
 use Rattle.law_controller.proofs.law_port_facts.Found.{find_passes}
 use Rattle.law_controller.proofs.law_port_facts.Rules.{and_first}
-use Rattle.world_model.specs.Controller.{Acted, free_slots, ports_of}
-use Rattle.world_model.specs.Joins.{Join, output_of}
-use Rattle.world_model.specs.Gsmp.{steps}
-use Rattle.world_model.specs.Cells.{Taker, opened_frame, ends_frame, cell_comes}
-use Rattle.world_model.specs.Ticks.{ticks}
+use Rattle.law_controller.specs.world_model.Controller.{Acted, free_slots, ports_of}
+use Rattle.law_controller.specs.world_model.Joins.{Join, output_of}
+use Rattle.law_controller.specs.world_model.Gsmp.{steps}
+use Rattle.law_controller.specs.world_model.Cells.{Taker, opened_frame, ends_frame, cell_comes}
+use Rattle.law_controller.specs.world_model.Ticks.{ticks}
 use Rattle.law_controller.proofs.law_controller_facts.Moves.{HasPorts, Found, by_joining, by_lending, ages, found_at_own, found_port, moves_ports}
 use Rattle.law_controller.proofs.law_controller_facts.Performing.{at_port_goes}
 use Rattle.law_controller.proofs.law_controller_facts.Joining.{every_flat_map, each_there, image_is}

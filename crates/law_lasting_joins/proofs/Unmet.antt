@@ -3,12 +3,12 @@
 use Rattle.std.proofs.Common.{◌≡◌, false, List, [], ◌∷◌, Option, None, Some, refl, sym, ◌∙◌, ap, subst, fold, if◌then◌else◌}
 use Rattle.std.specs.Prelude.{map, filter}
 use Rattle.std.specs.Option.{option_and_then}
-use Rattle.world_model.specs.Words.{PortNo, Request, leads_home, Setup, home_of, Grant, Session, Work, halts, is_spent, closes, Linked, port_key, linked_at, begins, works_as, works, joins_of, releases_input, resets_spent, releases}
+use Rattle.law_controller.specs.world_model.Words.{PortNo, Request, leads_home, Setup, home_of, Grant, Session, Work, halts, is_spent, closes, Linked, port_key, linked_at, begins, works_as, works, joins_of, releases_input, resets_spent, releases}
 use Rattle.law_controller.specs.ordered_lists.Ordered.{Every}
-use Rattle.world_model.specs.port_model.Grants as grants
+use Rattle.law_controller.specs.world_model.port_model.Grants as grants
 use Rattle.law_controller.proofs.law_port_facts.Keyed.{at_every}
-use Rattle.world_model.specs.Controller.{Acted, ports_of}
-use Rattle.world_model.specs.Joins.{Join}
+use Rattle.law_controller.specs.world_model.Controller.{Acted, ports_of}
+use Rattle.law_controller.specs.world_model.Joins.{Join}
 use Rattle.law_controller.specs.law_controller_facts.Sound.{IsSound, IsShutLinked}
 use Rattle.law_controller.proofs.law_controller_facts.Laws.{has_ports, moves_sound}
 use Rattle.law_controller.proofs.law_controller_facts.Joining.{IsJoin, joins_are, resets_spent_goes}

@@ -4,15 +4,15 @@ use Rattle.std.proofs.Common.{◌≡◌, ◌≢◌, ℕ, suc, ◌≤◌, true, f
 use Rattle.std.specs.Prelude.{◌-◌, ◌==◌, ◌⊎◌, nat_eq, is_some}
 use Rattle.std.specs.Option.{option_map_or}
 use Rattle.std.proofs.lemmas.Bool.Decides.{nat_tests}
-use Rattle.world_model.specs.Words.{Peer, Answer, Quiet, Send, Open, Said, ticked, ifmp_answer, hello_of, Opened, at, put, without, Desk, Action, Say, Note, TakeBack, Setup, label_end, Grant, GrantState, Idle, ByController, ByInput, Leaving, grant_label, is_leaving, Session, Work, with_grants, with_grant, without_grant, first_session, expires, ages_in, ages_found, ages, ticks_session}
-use Rattle.world_model.specs.adjacency_table.declared.message.Answer.TheVariants.{Reset}
-use Rattle.world_model.specs.ifmp_wire.declared.message.Message.TheVariants.{Adjacency}
-use Rattle.world_model.specs.port_model.Port.{Port, acts}
-use Rattle.world_model.specs.port_model.Adjacency.{answers, steps}
-use Rattle.world_model.specs.port_model.Ticks.{ticks}
+use Rattle.law_controller.specs.world_model.Words.{Peer, Answer, Quiet, Send, Open, Said, ticked, ifmp_answer, hello_of, Opened, at, put, without, Desk, Action, Say, Note, TakeBack, Setup, label_end, Grant, GrantState, Idle, ByController, ByInput, Leaving, grant_label, is_leaving, Session, Work, with_grants, with_grant, without_grant, first_session, expires, ages_in, ages_found, ages, ticks_session}
+use Rattle.law_controller.specs.world_model.adjacency_table.declared.message.Answer.TheVariants.{Reset}
+use Rattle.law_controller.specs.world_model.ifmp_wire.declared.message.Message.TheVariants.{Adjacency}
+use Rattle.law_controller.specs.world_model.port_model.Port.{Port, acts}
+use Rattle.law_controller.specs.world_model.port_model.Adjacency.{answers, steps}
+use Rattle.law_controller.specs.world_model.port_model.Ticks.{ticks}
 use Rattle.law_controller.proofs.law_port_facts.Keyed.{on_both, on_each, by_eq, at_key, at_put_same, at_put_other}
 use Rattle.law_controller.proofs.law_port_facts.Found.{acts_port}
-use Rattle.law_lifetimes.specs.Aging.{is_over}
+use Rattle.law_lifetimes.specs.Expiry.{is_over}
 use Rattle.law_lifetimes.proofs.Calm.{Calm, rest_calm}
 use Rattle.law_lifetimes.proofs.Grants.{AnyActions, any_more, calm_now}
 

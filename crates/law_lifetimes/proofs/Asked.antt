@@ -3,13 +3,13 @@
 use Rattle.std.proofs.Common.{◌≡◌, ◌≢◌, ℕ, true, false, List, [], ◌∷◌, ◌++◌, Option, None, Some, refl, sym, ◌∙◌, ap, subst, arith, if◌then◌else◌, inl, inr, map, fold}
 use Rattle.std.specs.Prelude.{◌⊎◌, ◌==◌, ◌-◌, is_some}
 use Rattle.std.proofs.lemmas.Bool.Decides.{nat_tests}
-use Rattle.world_model.specs.Words.{End, ticked, at, Desk, Action, TakeBack, Setup, label_end, Grant, GrantState, Idle, ByController, ByInput, Leaving, grant_label, Session, Work, with_grants, with_grant, expires, ages_in, ages_found, ages, ticks_session}
+use Rattle.law_controller.specs.world_model.Words.{End, ticked, at, Desk, Action, TakeBack, Setup, label_end, Grant, GrantState, Idle, ByController, ByInput, Leaving, grant_label, Session, Work, with_grants, with_grant, expires, ages_in, ages_found, ages, ticks_session}
 use Rattle.law_controller.specs.ordered_lists.Ordered.{Every}
-use Rattle.world_model.specs.port_model.Port.{acts}
-use Rattle.world_model.specs.port_model.Adjacency.{steps}
-use Rattle.world_model.specs.port_model.Ticks.{ticks}
+use Rattle.law_controller.specs.world_model.port_model.Port.{acts}
+use Rattle.law_controller.specs.world_model.port_model.Adjacency.{steps}
+use Rattle.law_controller.specs.world_model.port_model.Ticks.{ticks}
 use Rattle.law_controller.proofs.law_port_facts.Keyed.{on_both, by_eq, every_more}
-use Rattle.law_lifetimes.specs.Aging.{is_over}
+use Rattle.law_lifetimes.specs.Expiry.{is_over}
 use Rattle.law_lifetimes.proofs.Calm.{IsTame, Calm, steps_calm, rest_calm}
 use Rattle.law_lifetimes.proofs.Ages.{Among, found_among, still_live, ages_live, ages_other, GoesOn, ticked_on}
 

@@ -3,18 +3,18 @@
 use Rattle.std.proofs.Common.{◌≡◌, ℕ, Bool, true, false, List, [], ◌∷◌, ◌++◌, Option, None, Some, map, fold}
 use Rattle.std.specs.Prelude.{◌+◌, ◌&&◌, ◌||◌, ◌==◌, nat_lt, nat_le, min, max, is_none}
 use Rattle.std.specs.Option.{option_map, option_map_or}
-use Rattle.world_model.specs.Words.{Addr, Channel, End, Instance, Hello, Peer, number_of_channel, Answer, Quiet, Send, Open, heard_from, ifmp_answer, ifmp_received, FlowId, same_flow, Request, AddBranch, DeleteTree, Opened, Bind, Free, put, without, entered, key_le, Desk, on_input, Action, Say, Ask, Note, CutChain, TakeBack, Withdraw, Setup, label_end, control_end, Label, LabelState, Wiring, Offered, Recalled, Wired, label_number, label_for, lowest_spare, Grant, counted_once, packets_in, Session, Work, halts, with_session, with_label, with_new_label, without_label, label_at, labels_of, known_of, desk_after, has_room, Unnumbered, last_number, own_of, spent_number, greets, tells_in, tells, is_spent, closes, redirect, reclaim, label_range, first_session, opens, unwires, quits_label, quits_in, quits_found, quits, is_good, learns, packet_flow, wires, used_label, counts_flow, counts_by, counts, used, reclaims_in, reclaims, unjoins, recalls, recalls_in, recalls_offered, acknowledged_in, acknowledged, narrowed, is_outside, recalls_outside, ranged, error_comes, bound_in, bound, freed_in, freed, joined_to, joins_label, parted, refreshes, one_older, one_idler, idles, ticks_in, ticks_found, ticks_label, asks_for_ack, nudges, moves_windows}
-use Rattle.world_model.specs.adjacency_table.declared.message.Answer.TheVariants.{Reset}
-use Rattle.world_model.specs.adjacency_table.Side as sides
-use Rattle.world_model.specs.gsmp_wire.declared.request.Request.TheVariants.{DeleteAll}
-use Rattle.world_model.specs.ifmp_wire.declared.message.Message.TheVariants.{Adjacency}
-use Rattle.world_model.specs.link_model.declared.record.Record.TheVariants.{Join}
-use Rattle.world_model.specs.port_model.declared.action.Action.TheVariants as actions
-use Rattle.world_model.specs.port_model.Counts.{moved}
-use Rattle.world_model.specs.port_model.Port.{acts}
-use Rattle.world_model.specs.port_model.Saying.{peer_of, says}
-use Rattle.world_model.specs.port_model.Adjacency.{answers, steps, greeted}
-use Rattle.world_model.specs.port_model.Joins.{joined}
+use Rattle.law_controller.specs.world_model.Words.{Addr, Channel, End, Instance, Hello, Peer, number_of_channel, Answer, Quiet, Send, Open, heard_from, ifmp_answer, ifmp_received, FlowId, same_flow, Request, AddBranch, DeleteTree, Opened, Bind, Free, put, without, entered, key_le, Desk, on_input, Action, Say, Ask, Note, CutChain, TakeBack, Withdraw, Setup, label_end, control_end, Label, LabelState, Wiring, Offered, Recalled, Wired, label_number, label_for, lowest_spare, Grant, counted_once, packets_in, Session, Work, halts, with_session, with_label, with_new_label, without_label, label_at, labels_of, known_of, desk_after, has_room, Unnumbered, last_number, own_of, spent_number, greets, tells_in, tells, is_spent, closes, redirect, reclaim, label_range, first_session, opens, unwires, quits_label, quits_in, quits_found, quits, is_good, learns, packet_flow, wires, used_label, counts_flow, counts_by, counts, used, reclaims_in, reclaims, unjoins, recalls, recalls_in, recalls_offered, acknowledged_in, acknowledged, narrowed, is_outside, recalls_outside, ranged, error_comes, bound_in, bound, freed_in, freed, joined_to, joins_label, parted, refreshes, one_older, one_idler, idles, ticks_in, ticks_found, ticks_label, asks_for_ack, nudges, moves_windows}
+use Rattle.law_controller.specs.world_model.adjacency_table.declared.message.Answer.TheVariants.{Reset}
+use Rattle.law_controller.specs.world_model.adjacency_table.Side as sides
+use Rattle.law_controller.specs.world_model.gsmp_wire.declared.request.Request.TheVariants.{DeleteAll}
+use Rattle.law_controller.specs.world_model.ifmp_wire.declared.message.Message.TheVariants.{Adjacency}
+use Rattle.law_controller.specs.world_model.link_model.declared.record.Record.TheVariants.{Join}
+use Rattle.law_controller.specs.world_model.port_model.declared.action.Action.TheVariants as actions
+use Rattle.law_controller.specs.world_model.port_model.Counts.{moved}
+use Rattle.law_controller.specs.world_model.port_model.Port.{acts}
+use Rattle.law_controller.specs.world_model.port_model.Saying.{peer_of, says}
+use Rattle.law_controller.specs.world_model.port_model.Adjacency.{answers, steps, greeted}
+use Rattle.law_controller.specs.world_model.port_model.Joins.{joined}
 use Rattle.law_controller.proofs.law_port_facts.Keyed.{on_both}
 
 -- a request that leads an input to the control link, if anywhere

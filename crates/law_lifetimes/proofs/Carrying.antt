@@ -2,18 +2,18 @@
 
 use Rattle.std.proofs.Common.{◌≡◌, ℕ, true, false, List, [], ◌∷◌, ◌++◌, length, Option, None, Some, refl, sym, subst, if◌then◌else◌, inl, inr, map, fold}
 use Rattle.std.specs.Prelude.{◌==◌, nat_le, flat_map, ◌⊎◌}
-use Rattle.world_model.specs.Words.{PortNo, Channel, End, Mark, next_control, with_control, is_estab, Cell, ifmp_packet_of, default_payload, Request, MoveBranch, Loss, PoolFull, noted, frame_cells, made, cut, nothing_taken, at, Standing, is_led_home, last_transaction, Action, Say, Ask, Note, CutChain, TakeBack, Withdraw, Setup, home_of, Label, Grant, GrantState, Idle, ByController, ByInput, Leaving, Session, Work, closing, withdrawing_in, withdrawing_of, withdrawing, taking_back_in, taking_back, resets, Controller, Linked, LabelChain, port_key, linked_at, with_linked, with_desk, chain_of, chains_with, default_channel, default_home, sends_control, sends_request, asks_next, asks, takes_back, withdraws_input, begins, with_work, cuts_of, node_resets, does, does_in_estab, resets_of, performs, performs_in_estab, Rule, works, at_port}
-use Rattle.world_model.specs.gsmp_wire.Layout.{octets_of as gsmp_octets}
-use Rattle.world_model.specs.gsmp_wire.declared.request.Request.TheVariants.{DeleteAll}
-use Rattle.world_model.specs.ifmp_wire.Message.{octets_of as ifmp_octets}
-use Rattle.world_model.specs.frame_model.Sending.{Sent}
+use Rattle.law_controller.specs.world_model.Words.{PortNo, Channel, End, Mark, next_control, with_control, is_estab, Cell, ifmp_packet_of, default_payload, Request, MoveBranch, Loss, PoolFull, noted, frame_cells, made, cut, nothing_taken, at, Standing, is_led_home, last_transaction, Action, Say, Ask, Note, CutChain, TakeBack, Withdraw, Setup, home_of, Label, Grant, GrantState, Idle, ByController, ByInput, Leaving, Session, Work, closing, withdrawing_in, withdrawing_of, withdrawing, taking_back_in, taking_back, resets, Controller, Linked, LabelChain, port_key, linked_at, with_linked, with_desk, chain_of, chains_with, default_channel, default_home, sends_control, sends_request, asks_next, asks, takes_back, withdraws_input, begins, with_work, cuts_of, node_resets, does, does_in_estab, resets_of, performs, performs_in_estab, Rule, works, at_port}
+use Rattle.law_controller.specs.world_model.gsmp_wire.Layout.{octets_of as gsmp_octets}
+use Rattle.law_controller.specs.world_model.gsmp_wire.declared.request.Request.TheVariants.{DeleteAll}
+use Rattle.law_controller.specs.world_model.ifmp_wire.Message.{octets_of as ifmp_octets}
+use Rattle.law_controller.specs.world_model.frame_model.Sending.{Sent}
 use Rattle.law_controller.specs.ordered_lists.Ordered.{Every}
 use Rattle.law_controller.proofs.ordered_lists.Every.{every_join}
-use Rattle.world_model.specs.port_model.Desk.{asked, message_at}
-use Rattle.world_model.specs.port_model.declared.action.Action.TheVariants as actions
+use Rattle.law_controller.specs.world_model.port_model.Desk.{asked, message_at}
+use Rattle.law_controller.specs.world_model.port_model.declared.action.Action.TheVariants as actions
 use Rattle.law_controller.proofs.law_port_facts.Keyed.{on_both, on_each, at_key}
-use Rattle.world_model.specs.Controller.{Acted, free_slots}
-use Rattle.world_model.specs.Sending.{with_cells, sends}
+use Rattle.law_controller.specs.world_model.Controller.{Acted, free_slots}
+use Rattle.law_controller.specs.world_model.Sending.{with_cells, sends}
 use Rattle.law_controller.proofs.law_controller_facts.Joining.{every_flat_map}
 use Rattle.law_controller.proofs.Holding.{node_closed}
 use Rattle.law_lifetimes.proofs.Calm.{LeadsBack, IsTame}

@@ -3,17 +3,18 @@
 use Rattle.std.proofs.Common.{◌≡◌, ℕ, zero, suc, ◌≤◌, Bool, true, false, List, [], ◌∷◌, Option, None, Some, refl, subst, arith, if◌then◌else◌, sym, ◌∙◌, ap}
 use Rattle.std.specs.Prelude.{◌+◌, ◌-◌}
 use Rattle.std.specs.Option.{option_and_then}
-use Rattle.world_model.specs.Words.{PortNo, at, Setup, Grant, grant_label, is_leaving, Controller, Linked, port_key, linked_at}
+use Rattle.law_controller.specs.world_model.Words.{PortNo, at, Setup, Grant, grant_label, is_leaving, Controller, Linked, port_key, linked_at}
 use Rattle.law_controller.proofs.ordered_lists.Every.{every_map}
 use Rattle.law_controller.specs.law_port_facts.Port.{IsGrant}
 use Rattle.law_controller.proofs.law_port_facts.Keyed.{by_eq, at_key, at_every}
-use Rattle.world_model.specs.Controller.{Acted}
-use Rattle.world_model.specs.Ticks as controller_ticks
+use Rattle.law_controller.specs.world_model.Controller.{Acted}
+use Rattle.law_controller.specs.world_model.Ticks as controller_ticks
 use Rattle.law_controller.specs.law_controller_facts.Inputs.{Input, CellComes, PacketEnters, Ticks, Restarts, ChangeComes, FrameIsForged, CellLeaves, Meanwhile, takes_input, takes_inputs}
 use Rattle.law_controller.specs.law_controller_facts.Sound.{IsSound, IsLinkedPort, Opening, opened_by, setups_by}
 use Rattle.law_controller.proofs.law_controller_facts.Laws.{input_sound, inputs_sound, always_sound}
 use Rattle.law_controller.specs.Law.{IsOpening}
-use Rattle.law_lifetimes.specs.Aging.{reaches_at, one_tick, ticks_among, NotSet, NoneSets, IsCounted, grant_at, HasEnded}
+use Rattle.law_lifetimes.specs.Aging.{one_tick, ticks_among, NotSet, NoneSets, IsCounted}
+use Rattle.law_lifetimes.specs.Expiry.{reaches_at, grant_at, HasEnded}
 use Rattle.law_lifetimes.specs.Law.{IsSet, HadAsMuch, IsSetAlone, EndsByLifetime, IsEndedByReset}
 use Rattle.law_lifetimes.proofs.Performing.{frame_fits}
 use Rattle.law_lifetimes.proofs.Events.{cell_comes_fits, enters_fits, ticks_fits, restarts_fits, changes_fits}

@@ -3,32 +3,32 @@
 use Rattle.std.proofs.Common.{◌≡◌, ℕ, true, List, [], ◌∷◌, ◌++◌, Option, None, Some, Result, Ok, Err, refl, sym, ◌∙◌, ap, subst, fold}
 use Rattle.std.specs.Prelude.{◌==◌, nat_lt, drop}
 use Rattle.std.specs.Option.{option_and_then}
-use Rattle.world_model.specs.Words.{Addr, PortNo, Channel, Mark, Greeting, Party, label_number_of, Answer, Quiet, Send, Open, Said, is_estab, ticked, gsmp_answer, gsmp_received, protocol_of, source_of, PacketFault, hop_of, onward, RouteChange, Hop, Here, On, Cell, kind_of, default_payload, labelled_payload, EncapsFault, default_unwrapped, unwrapped, Refusal, cut, nothing_taken, Tested, tested, last_mark, next_mark, frame_cells, next_control, with_control, at, sent_again, Setup, control_end, Label, is_bound, Grant, New, is_by_controller, grant_matching, label_at, counts, used, hears, Controller, Linked, port_key, linked_at, with_linked, chains_with, default_channel, default_home, sends_control, says_gsmp, sends_request, begins, cuts_default_of, cuts_default, cuts_gsmp, node_resets, node_restarts, tries_joins, gsmp_holds, is_control, goes_by, grant_by, routes, control_protocol, inject_refusal, ForGsmp, ForDefault, ForLabel, port_on, on_link, same_channel, label_taker, taker_at, taker_of, reassembly_of, with_reassembly, label_holds, ifmp_holds, counted_at, packet_holds, default_holds, frame_holds, takes_cell, change_comes, sends_again, ticks_port, ticks_ports, ticks_by}
-use Rattle.world_model.specs.adjacency_table.declared.message.Answer.TheVariants.{Reset}
-use Rattle.world_model.specs.adjacency_table.Side as sides
-use Rattle.world_model.specs.ipv4_packet.Packet.{first_fault}
-use Rattle.world_model.specs.ipv4_forward.declared.outcome.Hop.TheVariants.{NoRoute, Expired}
-use Rattle.world_model.specs.ifmp_wire.declared.message.Message.{Message as IfmpMessage}
-use Rattle.world_model.specs.ifmp_wire.declared.reader.Fault.{Fault as IfmpFault}
-use Rattle.world_model.specs.ifmp_wire.Fields.{decoded as ifmp_decoded}
-use Rattle.world_model.specs.gsmp_wire.Layout.{octets_of as gsmp_octets}
-use Rattle.world_model.specs.gsmp_wire.Fields.{decoded as gsmp_decoded}
-use Rattle.world_model.specs.gsmp_wire.declared.fault.Fault.{Fault as GsmpFault}
-use Rattle.world_model.specs.gsmp_wire.declared.message.Message.{Message}
-use Rattle.world_model.specs.gsmp_wire.declared.message.Message.TheVariants as messages
-use Rattle.world_model.specs.frame_model.Reassembly.{Taken, taken}
+use Rattle.law_controller.specs.world_model.Words.{Addr, PortNo, Channel, Mark, Greeting, Party, label_number_of, Answer, Quiet, Send, Open, Said, is_estab, ticked, gsmp_answer, gsmp_received, protocol_of, source_of, PacketFault, hop_of, onward, RouteChange, Hop, Here, On, Cell, kind_of, default_payload, labelled_payload, EncapsFault, default_unwrapped, unwrapped, Refusal, cut, nothing_taken, Tested, tested, last_mark, next_mark, frame_cells, next_control, with_control, at, sent_again, Setup, control_end, Label, is_bound, Grant, New, is_by_controller, grant_matching, label_at, counts, used, hears, Controller, Linked, port_key, linked_at, with_linked, chains_with, default_channel, default_home, sends_control, says_gsmp, sends_request, begins, cuts_default_of, cuts_default, cuts_gsmp, node_resets, node_restarts, tries_joins, gsmp_holds, is_control, goes_by, grant_by, routes, control_protocol, inject_refusal, ForGsmp, ForDefault, ForLabel, port_on, on_link, same_channel, label_taker, taker_at, taker_of, reassembly_of, with_reassembly, label_holds, ifmp_holds, counted_at, packet_holds, default_holds, frame_holds, takes_cell, change_comes, sends_again, ticks_port, ticks_ports, ticks_by}
+use Rattle.law_controller.specs.world_model.adjacency_table.declared.message.Answer.TheVariants.{Reset}
+use Rattle.law_controller.specs.world_model.adjacency_table.Side as sides
+use Rattle.law_controller.specs.world_model.ipv4_packet.Packet.{first_fault}
+use Rattle.law_controller.specs.world_model.ipv4_forward.declared.outcome.Hop.TheVariants.{NoRoute, Expired}
+use Rattle.law_controller.specs.world_model.ifmp_wire.declared.message.Message.{Message as IfmpMessage}
+use Rattle.law_controller.specs.world_model.ifmp_wire.declared.reader.Fault.{Fault as IfmpFault}
+use Rattle.law_controller.specs.world_model.ifmp_wire.Fields.{decoded as ifmp_decoded}
+use Rattle.law_controller.specs.world_model.gsmp_wire.Layout.{octets_of as gsmp_octets}
+use Rattle.law_controller.specs.world_model.gsmp_wire.Fields.{decoded as gsmp_decoded}
+use Rattle.law_controller.specs.world_model.gsmp_wire.declared.fault.Fault.{Fault as GsmpFault}
+use Rattle.law_controller.specs.world_model.gsmp_wire.declared.message.Message.{Message}
+use Rattle.law_controller.specs.world_model.gsmp_wire.declared.message.Message.TheVariants as messages
+use Rattle.law_controller.specs.world_model.frame_model.Reassembly.{Taken, taken}
 use Rattle.law_controller.specs.ordered_lists.Ordered.{Every}
-use Rattle.world_model.specs.port_model.Port.{Port}
-use Rattle.world_model.specs.port_model.Ticks as port_ticks
+use Rattle.law_controller.specs.world_model.port_model.Port.{Port}
+use Rattle.law_controller.specs.world_model.port_model.Ticks as port_ticks
 use Rattle.law_controller.proofs.law_port_facts.Keyed.{on_both, on_each, at_key, at_put_same}
-use Rattle.world_model.specs.Controller.{Acted, free_slots, ports_of}
-use Rattle.world_model.specs.Sending.{sends}
-use Rattle.world_model.specs.Gsmp.{answers, steps, told}
-use Rattle.world_model.specs.Packets.{forwarded}
-use Rattle.world_model.specs.Cells.{Taker, opened_frame, ends_frame, cell_comes}
-use Rattle.world_model.specs.Ticks.{ticks}
+use Rattle.law_controller.specs.world_model.Controller.{Acted, free_slots, ports_of}
+use Rattle.law_controller.specs.world_model.Sending.{sends}
+use Rattle.law_controller.specs.world_model.Gsmp.{answers, steps, told}
+use Rattle.law_controller.specs.world_model.Packets.{forwarded}
+use Rattle.law_controller.specs.world_model.Cells.{Taker, opened_frame, ends_frame, cell_comes}
+use Rattle.law_controller.specs.world_model.Ticks.{ticks}
 use Rattle.law_controller.specs.law_controller_facts.Inputs.{CellComes, enters_unless}
-use Rattle.law_lifetimes.specs.Setting.{payload_of, Hears, Accepts, anew, again}
+use Rattle.law_lifetimes.specs.Expiry.{payload_of, Hears, Accepts, anew, again}
 use Rattle.law_lifetimes.specs.Aging.{NotSet}
 use Rattle.law_lifetimes.proofs.Grants.{IsFate, Unset, hears_all, counts_all, used_all, ticks_all}
 use Rattle.law_lifetimes.proofs.Performing.{IsKept, Fits as FitsIn, found_fits, fold_fits, frame_fits, sends_fits, sends_control_fits, sends_request_fits, placed_fits, node_fits, at_port_fits}

@@ -4,28 +4,28 @@ use Rattle.std.proofs.Common.{◌≡◌, ◌≢◌, ℕ, Bool, true, false, List
 use Rattle.std.specs.Prelude.{◌+◌, ◌==◌, nat_le, drop}
 use Rattle.std.specs.Option.{option_map, option_map_or}
 use Rattle.std.proofs.lemmas.Bool.Decides.{nat_tests}
-use Rattle.world_model.specs.Words.{NodeId, PortNo, Place, Down, Up, Out, Channel, Mark, GivenOut, next_control, with_control, Cell, Refusal, Loss, Forged, PoolFull, Journal, noted, frame_cells, made, at, put, Switch, control_port, Setup, Controller, node_restarts, inject_refusal, injected, change_comes, Topology, World, Site, site_key, site_at, controller_acts, switch_acts, queue_in, queue_at, with_queue_in, with_queue_of, with_queue, injects_by, injects, arrives_at, carries_head, loses_head, forges}
-use Rattle.world_model.specs.frame_model.Sending.{Sent}
+use Rattle.law_controller.specs.world_model.Words.{NodeId, PortNo, Place, Down, Up, Out, Channel, Mark, GivenOut, next_control, with_control, Cell, Refusal, Loss, Forged, PoolFull, Journal, noted, frame_cells, made, at, put, Switch, control_port, Setup, Controller, node_restarts, inject_refusal, injected, change_comes, Topology, World, Site, site_key, site_at, controller_acts, switch_acts, queue_in, queue_at, with_queue_in, with_queue_of, with_queue, injects_by, injects, arrives_at, carries_head, loses_head, forges}
+use Rattle.law_controller.specs.world_model.frame_model.Sending.{Sent}
 use Rattle.law_controller.specs.ordered_lists.Ordered.{Every}
-use Rattle.world_model.specs.Switch as switches
-use Rattle.world_model.specs.Conduct as switch
+use Rattle.law_controller.specs.world_model.Switch as switches
+use Rattle.law_controller.specs.world_model.Conduct as switch
 use Rattle.law_controller.proofs.law_port_facts.Keyed.{on_both, by_eq, at_key, at_every, at_put_same, at_put_other, put_every}
-use Rattle.world_model.specs.Controller.{Acted, free_slots}
-use Rattle.world_model.specs.Sending.{with_cells, sends}
-use Rattle.world_model.specs.Cells as controller
-use Rattle.world_model.specs.Ticks as controller_ticks
+use Rattle.law_controller.specs.world_model.Controller.{Acted, free_slots}
+use Rattle.law_controller.specs.world_model.Sending.{with_cells, sends}
+use Rattle.law_controller.specs.world_model.Cells as controller
+use Rattle.law_controller.specs.world_model.Ticks as controller_ticks
 use Rattle.law_controller.specs.law_controller_facts.Inputs.{Input, CellComes, PacketEnters, Ticks, Restarts, ChangeComes, FrameIsForged, CellLeaves, Meanwhile, enters_unless, takes_input, takes_inputs}
 use Rattle.law_controller.specs.law_controller_facts.Sound.{IsSound, IsOwn, opened_by, setups_by}
 use Rattle.law_controller.proofs.law_controller_facts.Moves.{Move, noting, taking_notes, sending, sending_control, asking, withdrawing, answering, meeting, ending_meeting, turning, placing, clearing, gathering, chaining, routing, popping, moves_keep}
 use Rattle.law_controller.proofs.law_controller_facts.Laws.{input_goes, always_sound}
-use Rattle.world_model.specs.network_model.declared.event.Event.{Event}
-use Rattle.world_model.specs.network_model.declared.event.Event.TheVariants.{Inject, Carry, Lose, Tick, TickSwitch, Restart, RestartSwitch, Forge, Route}
-use Rattle.world_model.specs.network_model.declared.link.LinkEnd.{LinkEnd}
-use Rattle.world_model.specs.Topology.{peer_of}
-use Rattle.world_model.specs.World.{at_controller, at_switch}
-use Rattle.world_model.specs.Step as steps
-use Rattle.world_model.specs.Step.{acts}
-use Rattle.law_lifetimes.specs.Run.{if_at, head_comes, head_leaves, comes_to}
+use Rattle.law_controller.specs.world_model.network_model.declared.event.Event.{Event}
+use Rattle.law_controller.specs.world_model.network_model.declared.event.Event.TheVariants.{Inject, Carry, Lose, Tick, TickSwitch, Restart, RestartSwitch, Forge, Route}
+use Rattle.law_controller.specs.world_model.network_model.declared.link.LinkEnd.{LinkEnd}
+use Rattle.law_controller.specs.world_model.Topology.{peer_of}
+use Rattle.law_controller.specs.world_model.World.{at_controller, at_switch}
+use Rattle.law_controller.specs.world_model.Step as steps
+use Rattle.law_controller.specs.world_model.Step.{acts}
+use Rattle.law_lifetimes.specs.Lifetimes.{if_at, head_comes, head_leaves, comes_to}
 use Rattle.law_lifetimes.proofs.Opened.{IsFed}
 
 -- *A controller stays at its node*

@@ -2,19 +2,19 @@
 
 use Rattle.std.proofs.Common.{◌≡◌, ℕ, ◌≤◌, Bool, true, false, List, [], ◌∷◌, ◌++◌, length, Option, None, Some, refl, sym, ap, subst, arith, if◌then◌else◌, map, fold}
 use Rattle.std.specs.Prelude.{◌-◌, ◌==◌, not, nat_lt}
-use Rattle.world_model.specs.Words.{Addr, Channel, End, Instance, label_channel_of, label_number_of, is_label_number, FlowId, same_flow, Request, AddBranch, MoveBranch, DeleteTree, VerifyTree, PortManagement, Redirect, Reclaim, ReclaimAck, LabelRange, Error, at, put, without, Desk, empty_desk, most_asked, ticked, Action, TakeBack, Setup, is_in_range, label_end, Grant, GrantState, Idle, ByController, ByInput, Leaving, grant_label, grant_on, is_leaving, most_grants, Acceptance, New, Refreshed, IsLeaving, GrantsFull, acceptance_beside, acceptance_of, acceptance, Session, Work, with_grants, with_grant, without_grant, has_room, Unnumbered, closes, reclaim_ack, label_range, error, counts, used, takes, expects, accepts, grants_label, reclaimed_in, reclaimed, acknowledged, ranged, error_comes, label_by, hears, bound, freed, started_in, started, joined_to, lent, given_back_in, given_back, parted, expires, ages_in, ages_found, ages, ticks_session, left_in, left_of, resets, restarts}
-use Rattle.world_model.specs.gsmp_wire.declared.request.Request.TheVariants.{DeleteAll, AllPorts}
-use Rattle.world_model.specs.ifmp_wire.declared.message.Message.{Message}
-use Rattle.world_model.specs.ifmp_wire.declared.message.Message.TheVariants.{Adjacency}
+use Rattle.law_controller.specs.world_model.Words.{Addr, Channel, End, Instance, label_channel_of, label_number_of, is_label_number, FlowId, same_flow, Request, AddBranch, MoveBranch, DeleteTree, VerifyTree, PortManagement, Redirect, Reclaim, ReclaimAck, LabelRange, Error, at, put, without, Desk, empty_desk, most_asked, ticked, Action, TakeBack, Setup, is_in_range, label_end, Grant, GrantState, Idle, ByController, ByInput, Leaving, grant_label, grant_on, is_leaving, most_grants, Acceptance, New, Refreshed, IsLeaving, GrantsFull, acceptance_beside, acceptance_of, acceptance, Session, Work, with_grants, with_grant, without_grant, has_room, Unnumbered, closes, reclaim_ack, label_range, error, counts, used, takes, expects, accepts, grants_label, reclaimed_in, reclaimed, acknowledged, ranged, error_comes, label_by, hears, bound, freed, started_in, started, joined_to, lent, given_back_in, given_back, parted, expires, ages_in, ages_found, ages, ticks_session, left_in, left_of, resets, restarts}
+use Rattle.law_controller.specs.world_model.gsmp_wire.declared.request.Request.TheVariants.{DeleteAll, AllPorts}
+use Rattle.law_controller.specs.world_model.ifmp_wire.declared.message.Message.{Message}
+use Rattle.law_controller.specs.world_model.ifmp_wire.declared.message.Message.TheVariants.{Adjacency}
 use Rattle.law_controller.specs.ordered_lists.Ordered.{Every}
-use Rattle.world_model.specs.port_model.Grants.{OutOfRange, Taken}
-use Rattle.world_model.specs.port_model.Port.{Port, acts}
-use Rattle.world_model.specs.port_model.Saying.{says}
-use Rattle.world_model.specs.port_model.Adjacency.{steps, greeted}
-use Rattle.world_model.specs.port_model.Redirection.{redirected}
-use Rattle.world_model.specs.port_model.Answers.{done}
-use Rattle.world_model.specs.port_model.Joins.{ended, joined}
-use Rattle.world_model.specs.port_model.Ticks.{ticks}
+use Rattle.law_controller.specs.world_model.port_model.Grants.{OutOfRange, Taken}
+use Rattle.law_controller.specs.world_model.port_model.Port.{Port, acts}
+use Rattle.law_controller.specs.world_model.port_model.Saying.{says}
+use Rattle.law_controller.specs.world_model.port_model.Adjacency.{steps, greeted}
+use Rattle.law_controller.specs.world_model.port_model.Redirection.{redirected}
+use Rattle.law_controller.specs.world_model.port_model.Answers.{done}
+use Rattle.law_controller.specs.world_model.port_model.Joins.{ended, joined}
+use Rattle.law_controller.specs.world_model.port_model.Ticks.{ticks}
 use Rattle.law_controller.proofs.law_port_facts.Keyed.{on_both, on_each, at_every, put_every, without_every, every_more}
 use Rattle.law_controller.proofs.law_port_facts.Rules.{and_first}
 use Rattle.law_controller.proofs.law_controller_facts.Joining.{every_flat_map}

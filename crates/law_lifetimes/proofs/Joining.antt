@@ -3,22 +3,22 @@
 use Rattle.std.proofs.Common.{◌≡◌, ℕ, true, false, List, [], ◌∷◌, ◌++◌, Option, None, Some, refl, sym, ◌∙◌, subst, if◌then◌else◌, map, fold}
 use Rattle.std.specs.Prelude.{◌&&◌, flat_map}
 use Rattle.std.specs.Option.{option_map, option_map_or, option_or}
-use Rattle.world_model.specs.Words.{PortNo, Channel, End, Mark, number_of_channel, Cell, is_estab, best, RouteChange, FlowId, flow_of, next_hop_of, flow_destination, same_flow, Request, AddBranch, MoveBranch, DeleteTree, VerifyTree, PortManagement, Part, frame_cells, same_end, empty_desk, Answered, Unknown, Done, Ports, Failed, answered, after_answer, Setup, home_of, Label, Grant, GrantState, Idle, ByController, ByInput, Leaving, is_by_controller, is_leaving, grant_for, grant_of_kind, grant_matching, closes, Linked, port_key, linked_at, with_linked, with_desk, default_end, default_home, asks, begins, at_port, join_to, joins_at, end_le, joins_of, join_of, parts, releases_join, releases_input, released_inputs, resets_spent, releases, port_by, join_through, join_by, join_for, may_join, enters_grant, enters_label, joins, tries_label, label_on, tries_join, inputs_at, tries_joins, meets, up_ports, empties, default_branches, ends_meeting, has_emptied, tells_port, behind_delete_all, causes_in_estab, causes, may_clear, clears_of, clears_port, clears, answers_desk, answer_comes, changed_joins, takes_join_back, begins_change, takes_change, may_take, takes_each, takes_changes, change_comes}
-use Rattle.world_model.specs.ipv4_packet.declared.flow.FlowKind.TheVariants.{One, Two}
-use Rattle.world_model.specs.gsmp_wire.declared.request.Request.TheVariants.{DeleteAll, AllPorts}
-use Rattle.world_model.specs.gsmp_wire.declared.message.Message.{Message}
+use Rattle.law_controller.specs.world_model.Words.{PortNo, Channel, End, Mark, number_of_channel, Cell, is_estab, best, RouteChange, FlowId, flow_of, next_hop_of, flow_destination, same_flow, Request, AddBranch, MoveBranch, DeleteTree, VerifyTree, PortManagement, Part, frame_cells, same_end, empty_desk, Answered, Unknown, Done, Ports, Failed, answered, after_answer, Setup, home_of, Label, Grant, GrantState, Idle, ByController, ByInput, Leaving, is_by_controller, is_leaving, grant_for, grant_of_kind, grant_matching, closes, Linked, port_key, linked_at, with_linked, with_desk, default_end, default_home, asks, begins, at_port, join_to, joins_at, end_le, joins_of, join_of, parts, releases_join, releases_input, released_inputs, resets_spent, releases, port_by, join_through, join_by, join_for, may_join, enters_grant, enters_label, joins, tries_label, label_on, tries_join, inputs_at, tries_joins, meets, up_ports, empties, default_branches, ends_meeting, has_emptied, tells_port, behind_delete_all, causes_in_estab, causes, may_clear, clears_of, clears_port, clears, answers_desk, answer_comes, changed_joins, takes_join_back, begins_change, takes_change, may_take, takes_each, takes_changes, change_comes}
+use Rattle.law_controller.specs.world_model.ipv4_packet.declared.flow.FlowKind.TheVariants.{One, Two}
+use Rattle.law_controller.specs.world_model.gsmp_wire.declared.request.Request.TheVariants.{DeleteAll, AllPorts}
+use Rattle.law_controller.specs.world_model.gsmp_wire.declared.message.Message.{Message}
 use Rattle.law_controller.specs.ordered_lists.Ordered.{Every}
-use Rattle.world_model.specs.port_model.Grants.{input_of}
-use Rattle.world_model.specs.port_model.Port.{Port}
-use Rattle.world_model.specs.port_model.Joins as port_joins
-use Rattle.world_model.specs.port_model.Answers as port_answers
-use Rattle.world_model.specs.port_model.Resets.{cleared}
+use Rattle.law_controller.specs.world_model.port_model.Grants.{input_of}
+use Rattle.law_controller.specs.world_model.port_model.Port.{Port}
+use Rattle.law_controller.specs.world_model.port_model.Joins as port_joins
+use Rattle.law_controller.specs.world_model.port_model.Answers as port_answers
+use Rattle.law_controller.specs.world_model.port_model.Resets.{cleared}
 use Rattle.law_controller.proofs.law_port_facts.Keyed.{on_both, at_key}
 use Rattle.law_controller.proofs.law_port_facts.Found.{find_every, find_passes}
 use Rattle.law_controller.proofs.law_port_facts.Rules.{and_first}
-use Rattle.world_model.specs.Controller.{Acted, ports_of, note}
-use Rattle.world_model.specs.Joins.{Join, output_of}
-use Rattle.world_model.specs.Meeting.{port_of, done}
+use Rattle.law_controller.specs.world_model.Controller.{Acted, ports_of, note}
+use Rattle.law_controller.specs.world_model.Joins.{Join, output_of}
+use Rattle.law_controller.specs.world_model.Meeting.{port_of, done}
 use Rattle.law_controller.proofs.law_controller_facts.Joining.{every_flat_map, every_filter_map, every_in_order}
 use Rattle.law_lifetimes.proofs.Grants.{IsFate, lent_all, given_back_all, joined_all, parted_all, closes_all, done_all, resets_all, restarts_all}
 use Rattle.law_lifetimes.proofs.Performing.{IsKept, Fits as FitsIn, found_fits, fold_fits, placed_fits, node_fits, asks_fits, takes_back_fits, at_port_fits}

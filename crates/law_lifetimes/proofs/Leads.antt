@@ -4,9 +4,9 @@ use Rattle.std.proofs.Common.{◌≡◌, ℕ, ◌≤◌, Bool, true, false, List
 use Rattle.std.specs.Prelude.{◌&&◌, ◌||◌, ◌==◌, not, filter}
 use Rattle.std.specs.List.{list_any}
 use Rattle.std.proofs.lemmas.Bool.Decides.{nat_tests}
-use Rattle.world_model.specs.Words.{End, PortNo, same_end, Request, AddBranch, MoveBranch, DeleteTree, VerifyTree, PortManagement, is_on, is_on_port, is_delete_all, withdraws, leads_home, Desk, Standing, withdrawn, is_led_home, on_input, all_on, home_of}
-use Rattle.world_model.specs.gsmp_wire.declared.request.Request.TheVariants.{DeleteAll, AllPorts}
-use Rattle.world_model.specs.port_model.Desk.{asked}
+use Rattle.law_controller.specs.world_model.Words.{End, PortNo, same_end, Request, AddBranch, MoveBranch, DeleteTree, VerifyTree, PortManagement, is_on, is_on_port, is_delete_all, withdraws, leads_home, Desk, Standing, withdrawn, is_led_home, on_input, all_on, home_of}
+use Rattle.law_controller.specs.world_model.gsmp_wire.declared.request.Request.TheVariants.{DeleteAll, AllPorts}
+use Rattle.law_controller.specs.world_model.port_model.Desk.{asked}
 use Rattle.law_controller.proofs.law_port_facts.Keyed.{on_each}
 use Rattle.law_controller.proofs.law_port_facts.Rules.{and_first}
 use Rattle.law_controller.proofs.Lists.{either}

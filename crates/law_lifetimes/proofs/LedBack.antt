@@ -3,27 +3,27 @@
 use Rattle.std.proofs.Common.{◌≡◌, ◌≢◌, ℕ, ◌≤◌, Bool, true, false, List, [], ◌∷◌, length, Option, None, Some, refl, sym, ◌∙◌, ap, subst, arith, if◌then◌else◌, inl, inr, map, fold}
 use Rattle.std.specs.Prelude.{◌⊎◌, ◌&&◌, ◌+◌, ◌-◌, not, nat_lt, is_none, is_some, flat_map}
 use Rattle.std.specs.Option.{option_map, option_map_or, option_and_then}
-use Rattle.world_model.specs.Words.{PortNo, End, Greeting, Party, number_of_channel, Answer, Quiet, Send, Open, Said, is_estab, ticked, gsmp_answer, best, FlowId, next_hop_of, flow_destination, same_flow, IsLinkPort, same_end, MoveBranch, at, Desk, empty_desk, sent_again, is_led_home, on_input, all_on, most_asked, TakeBack, Setup, home_of, label_end, Label, Grant, ByInput, grant_label, grant_for, is_by_controller, is_leaving, Work, label_at, joins_label, Controller, Linked, port_key, linked_at, with_desk, default_channel, says_gsmp, sends_request, asks, begins, with_work, node_resets, performs, works, works_as, port_by, join_through, join_by, join_for, is_offered, may_join, enters_grant, enters_label, joins, tries_label, label_on, tries_join, inputs_at, tries_joins, route_stays, meets, setup_of, sends_again, ticks_port, ticks_ports, ticks_by}
-use Rattle.world_model.specs.adjacency_table.declared.message.Answer.TheVariants.{Reset}
-use Rattle.world_model.specs.adjacency_table.Side as sides
-use Rattle.world_model.specs.gsmp_wire.Layout.{octets_of as gsmp_octets}
-use Rattle.world_model.specs.gsmp_wire.declared.message.Message.TheVariants as messages
-use Rattle.world_model.specs.gsmp_wire.declared.request.Request.TheVariants.{AllPorts}
+use Rattle.law_controller.specs.world_model.Words.{PortNo, End, Greeting, Party, number_of_channel, Answer, Quiet, Send, Open, Said, is_estab, ticked, gsmp_answer, best, FlowId, next_hop_of, flow_destination, same_flow, IsLinkPort, same_end, MoveBranch, at, Desk, empty_desk, sent_again, is_led_home, on_input, all_on, most_asked, TakeBack, Setup, home_of, label_end, Label, Grant, ByInput, grant_label, grant_for, is_by_controller, is_leaving, Work, label_at, joins_label, Controller, Linked, port_key, linked_at, with_desk, default_channel, says_gsmp, sends_request, asks, begins, with_work, node_resets, performs, works, works_as, port_by, join_through, join_by, join_for, is_offered, may_join, enters_grant, enters_label, joins, tries_label, label_on, tries_join, inputs_at, tries_joins, route_stays, meets, setup_of, sends_again, ticks_port, ticks_ports, ticks_by}
+use Rattle.law_controller.specs.world_model.adjacency_table.declared.message.Answer.TheVariants.{Reset}
+use Rattle.law_controller.specs.world_model.adjacency_table.Side as sides
+use Rattle.law_controller.specs.world_model.gsmp_wire.Layout.{octets_of as gsmp_octets}
+use Rattle.law_controller.specs.world_model.gsmp_wire.declared.message.Message.TheVariants as messages
+use Rattle.law_controller.specs.world_model.gsmp_wire.declared.request.Request.TheVariants.{AllPorts}
 use Rattle.law_controller.specs.ordered_lists.Ordered.{Every}
 use Rattle.law_controller.proofs.ordered_lists.Every.{every_mapped}
-use Rattle.world_model.specs.port_model.Desk.{asked}
-use Rattle.world_model.specs.port_model.Grants.{input_of}
-use Rattle.world_model.specs.port_model.Port.{Port}
-use Rattle.world_model.specs.port_model.Joins as port_joins
-use Rattle.world_model.specs.port_model.Ticks as port_ticks
+use Rattle.law_controller.specs.world_model.port_model.Desk.{asked}
+use Rattle.law_controller.specs.world_model.port_model.Grants.{input_of}
+use Rattle.law_controller.specs.world_model.port_model.Port.{Port}
+use Rattle.law_controller.specs.world_model.port_model.Joins as port_joins
+use Rattle.law_controller.specs.world_model.port_model.Ticks as port_ticks
 use Rattle.law_controller.specs.law_port_facts.Port.{setup_port, IsLabelEnd, IsGrant, IsPort}
 use Rattle.law_controller.proofs.law_port_facts.Keyed.{on_both, on_each, by_eq, at_key, at_every, at_map, put_every, apart_at}
 use Rattle.law_controller.proofs.law_port_facts.Found.{find_passes}
 use Rattle.law_controller.proofs.law_port_facts.Rules.{and_first, and_second}
-use Rattle.world_model.specs.Controller.{Acted, ports_of}
-use Rattle.world_model.specs.Joins.{Join, output_of}
-use Rattle.world_model.specs.Gsmp.{answers, steps}
-use Rattle.world_model.specs.Ticks.{ticks}
+use Rattle.law_controller.specs.world_model.Controller.{Acted, ports_of}
+use Rattle.law_controller.specs.world_model.Joins.{Join, output_of}
+use Rattle.law_controller.specs.world_model.Gsmp.{answers, steps}
+use Rattle.law_controller.specs.world_model.Ticks.{ticks}
 use Rattle.law_controller.specs.law_controller_facts.Inputs.{takes_input, takes_inputs}
 use Rattle.law_controller.specs.law_controller_facts.Sound.{IsSound, IsLinkedPort, linked_setup, Opening, opened_by, setups_by}
 use Rattle.law_controller.proofs.law_controller_facts.Moves.{Found, HasPorts, ages, found_setup, found_at_own, found_port}
@@ -36,7 +36,8 @@ use Rattle.law_controller.proofs.Entering.{IsHeldAt, held_at, joins_holds}
 use Rattle.law_controller.proofs.Whole.{Whole, holds_of}
 use Rattle.law_controller.proofs.Events.{steps_holds, sends_again_holds, ticks_port_holds, input_holds, inputs_hold}
 use Rattle.law_controller.proofs.Laws.{always_holds}
-use Rattle.law_lifetimes.specs.Aging.{is_over, reaches, IsCounted}
+use Rattle.law_lifetimes.specs.Aging.{IsCounted}
+use Rattle.law_lifetimes.specs.Expiry.{is_over, reaches}
 use Rattle.law_lifetimes.specs.Law.{IsLedBack}
 use Rattle.law_lifetimes.proofs.Calm.{IsTame}
 use Rattle.law_lifetimes.proofs.Leads.{IsLed, end_is, led_by, tame_led, back_led, other_led, taken_led, withdrawn_led}

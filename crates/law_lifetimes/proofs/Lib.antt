@@ -1,4 +1,5 @@
-pub use Rattle.aal5_frames.proofs as aal5_frames
+pub use Rattle.law_rule_walks.proofs.aal5_frames as aal5_frames
+pub use Rattle.law_rule_walks.proofs as law_rule_walks
 pub mod Calm
 pub mod Grants
 pub mod Ages

@@ -5,15 +5,15 @@ use Rattle.std.specs.Prelude.{◌+◌, ◌==◌, filter, find, is_some, reverse}
 use Rattle.std.specs.List.{range_with_len}
 use Rattle.std.specs.Option.{option_map_or}
 use Rattle.std.proofs.lemmas.Bool.Decides.{nat_tests}
-use Rattle.world_model.specs.Words.{NodeId, PortNo, GivenOut, Journal, IsLinkPort, Policy, Topology, Node, default_range, range_among, ranges_of, timers_of, World, Site, opened_site, with_opened, opens_each, empty_world}
+use Rattle.law_controller.specs.world_model.Words.{NodeId, PortNo, GivenOut, Journal, IsLinkPort, Policy, Topology, Node, default_range, range_among, ranges_of, timers_of, World, Site, opened_site, with_opened, opens_each, empty_world}
 use Rattle.law_controller.specs.ordered_lists.Ordered.{Every, InOrder}
 use Rattle.law_controller.proofs.law_port_facts.Keyed.{every_more}
-use Rattle.world_model.specs.controller_model.declared.range.PortRange.{PortRange}
+use Rattle.law_controller.specs.world_model.controller_model.declared.range.PortRange.{PortRange}
 use Rattle.law_controller.specs.law_controller_facts.Inputs.{Input, takes_inputs}
 use Rattle.law_controller.specs.law_controller_facts.Sound.{Opening, DifferInPort, opened_by}
 use Rattle.law_controller.specs.Law.{IsOpening}
-use Rattle.world_model.specs.Topology.{peer_of, ports_of}
-use Rattle.world_model.specs.World.{opened}
+use Rattle.law_controller.specs.world_model.Topology.{peer_of, ports_of}
+use Rattle.law_controller.specs.world_model.World.{opened}
 
 abbrev port_number : ℕ → PortNo
 port_number n = record { 0 = n }

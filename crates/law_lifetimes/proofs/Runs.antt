@@ -4,21 +4,23 @@ use Rattle.std.proofs.Common.{◌≡◌, ℕ, Bool, true, false, List, [], ◌�
 use Rattle.std.specs.Prelude.{◌+◌, ◌==◌, ◌&&◌}
 use Rattle.std.specs.Option.{option_map, option_map_or, option_and_then}
 use Rattle.std.proofs.lemmas.Bool.Decides.{nat_tests}
-use Rattle.world_model.specs.Words.{NodeId, PortNo, Down, Up, Out, GivenOut, Journal, Cell, Policy, control_end, Controller, Topology, World, Site, site_key, site_at, controller_at, queue_in, queue_at, put_away, next, world_after}
+use Rattle.law_controller.specs.world_model.Words.{NodeId, PortNo, Down, Up, Out, GivenOut, Journal, Cell, Policy, control_end, Controller, Topology, World, Site, site_key, site_at, controller_at, queue_in, queue_at, put_away, next, world_after}
 use Rattle.law_controller.specs.ordered_lists.Ordered.{Every}
 use Rattle.law_controller.proofs.law_port_facts.Keyed.{at_every}
-use Rattle.world_model.specs.Controller.{Acted}
-use Rattle.world_model.specs.Ticks.{ticks}
+use Rattle.law_controller.specs.world_model.Controller.{Acted}
+use Rattle.law_controller.specs.world_model.Ticks.{ticks}
 use Rattle.law_controller.specs.law_controller_facts.Inputs.{Input, Ticks, Meanwhile, takes_input, takes_inputs}
 use Rattle.law_controller.specs.law_controller_facts.Sound.{Opening, opened_by}
 use Rattle.law_controller.specs.Law.{IsOpening}
-use Rattle.world_model.specs.network_model.declared.event.Event.{Event}
-use Rattle.world_model.specs.network_model.declared.event.Event.TheVariants.{Inject, Carry, Lose, Tick, TickSwitch, Restart, RestartSwitch, Forge, Route}
-use Rattle.world_model.specs.World.{opened}
-use Rattle.law_lifetimes.specs.Setting.{Sets}
-use Rattle.law_lifetimes.specs.Aging.{reaches_at, has_switch, one_tick, ticks_among, NotSet, NoneSets, IsCounted, grant_at, HasEnded}
-use Rattle.law_lifetimes.specs.Law.{HasLeft, stays_queued, SendsNone, EndsByReset}
-use Rattle.law_lifetimes.specs.Run.{acted_in, if_at, head_comes, head_leaves, comes_to, NoneSetsIn, is_tick_of, reaches_in, ticks_in, IsCountedIn, grant_in, IsSetIn, IsSetInRuns, EndsInRuns, stays_in, IsConductIn, SendsNoMoreInRuns, IsLedBackInRuns, IsEndedByResetInRuns}
+use Rattle.law_controller.specs.world_model.network_model.declared.event.Event.{Event}
+use Rattle.law_controller.specs.world_model.network_model.declared.event.Event.TheVariants.{Inject, Carry, Lose, Tick, TickSwitch, Restart, RestartSwitch, Forge, Route}
+use Rattle.law_controller.specs.world_model.World.{opened}
+use Rattle.law_lifetimes.specs.Expiry.{Sets}
+use Rattle.law_lifetimes.specs.Aging.{one_tick, ticks_among, NotSet, NoneSets, IsCounted}
+use Rattle.law_lifetimes.specs.Expiry.{reaches_at, has_switch, grant_at, HasEnded}
+use Rattle.law_lifetimes.specs.Expiry.{HasLeft, stays_queued, SendsNone, EndsByReset}
+use Rattle.law_lifetimes.specs.Run.{IsSetInRuns, EndsInRuns, SendsNoMoreInRuns, IsLedBackInRuns, IsEndedByResetInRuns}
+use Rattle.law_lifetimes.specs.Lifetimes.{acted_in, if_at, head_comes, head_leaves, comes_to, NoneSetsIn, is_tick_of, reaches_in, ticks_in, IsCountedIn, grant_in, IsSetIn, stays_in, IsConductIn}
 use Rattle.law_lifetimes.proofs.Opened.{IsFed, opening_fed}
 use Rattle.law_lifetimes.proofs.Feeding.{inputs_join, after_of, event_steps}
 use Rattle.law_lifetimes.proofs.Ending.{is_set, ends_by_lifetime, is_ended_by_reset}

@@ -4,30 +4,30 @@ use Rattle.std.proofs.Common.{◌≡◌, ◌≢◌, ℕ, Bool, true, false, List
 use Rattle.std.specs.Prelude.{not, ◌==◌, nat_eq, nat_lt, nat_le, drop, is_some}
 use Rattle.std.specs.Option.{option_and_then}
 use Rattle.std.proofs.lemmas.Bool.Decides.{nat_tests}
-use Rattle.world_model.specs.Words.{Addr, PortNo, Channel, Mark, label_number_of, next_control, with_control, PacketFault, Cell, is_estab, FlowId, same_flow, Redirect, tested, last_mark, frame_cells, made, noted, Loss, PoolFull, Request, AddBranch, at, put, Desk, most_asked, last_transaction, Ask, Setup, is_in_range, control_end, label_end, Grant, Idle, grant_label, is_leaving, most_grants, Acceptance, New, Refreshed, IsLeaving, GrantsFull, acceptance_beside, acceptance_of, acceptance, Work, with_grant, Session, expects, accepts, grants_label, is_from_peer, is_due, hears, Controller, Linked, port_key, linked_at, with_linked, with_desk, default_channel, asks_next, asks, begins, with_work, node_resets, performs, performs_in_estab, works, works_as, at_port, routes, ForDefault, port_on, taker_of, ifmp_holds, counted_at, packet_holds, default_holds, takes_cell}
-use Rattle.world_model.specs.ipv4_packet.Packet.{first_fault}
-use Rattle.world_model.specs.ifmp_wire.declared.message.Message.{Message}
-use Rattle.world_model.specs.ifmp_wire.Fields.{decoded}
-use Rattle.world_model.specs.frame_model.Reassembly.{Taken, taken}
-use Rattle.world_model.specs.frame_model.Sending.{Sent}
-use Rattle.world_model.specs.gsmp_wire.Layout.{octets_of as gsmp_octets}
+use Rattle.law_controller.specs.world_model.Words.{Addr, PortNo, Channel, Mark, label_number_of, next_control, with_control, PacketFault, Cell, is_estab, FlowId, same_flow, Redirect, tested, last_mark, frame_cells, made, noted, Loss, PoolFull, Request, AddBranch, at, put, Desk, most_asked, last_transaction, Ask, Setup, is_in_range, control_end, label_end, Grant, Idle, grant_label, is_leaving, most_grants, Acceptance, New, Refreshed, IsLeaving, GrantsFull, acceptance_beside, acceptance_of, acceptance, Work, with_grant, Session, expects, accepts, grants_label, is_from_peer, is_due, hears, Controller, Linked, port_key, linked_at, with_linked, with_desk, default_channel, asks_next, asks, begins, with_work, node_resets, performs, performs_in_estab, works, works_as, at_port, routes, ForDefault, port_on, taker_of, ifmp_holds, counted_at, packet_holds, default_holds, takes_cell}
+use Rattle.law_controller.specs.world_model.ipv4_packet.Packet.{first_fault}
+use Rattle.law_controller.specs.world_model.ifmp_wire.declared.message.Message.{Message}
+use Rattle.law_controller.specs.world_model.ifmp_wire.Fields.{decoded}
+use Rattle.law_controller.specs.world_model.frame_model.Reassembly.{Taken, taken}
+use Rattle.law_controller.specs.world_model.frame_model.Sending.{Sent}
+use Rattle.law_controller.specs.world_model.gsmp_wire.Layout.{octets_of as gsmp_octets}
 use Rattle.law_controller.specs.ordered_lists.Ordered.{Every, InOrder}
 use Rattle.law_controller.proofs.ordered_lists.Every.{every_map}
-use Rattle.world_model.specs.port_model.Desk.{asked, message_at}
-use Rattle.world_model.specs.port_model.Grants.{OutOfRange, Taken as TakenBy}
-use Rattle.world_model.specs.port_model.Redirection.{redirected}
+use Rattle.law_controller.specs.world_model.port_model.Desk.{asked, message_at}
+use Rattle.law_controller.specs.world_model.port_model.Grants.{OutOfRange, Taken as TakenBy}
+use Rattle.law_controller.specs.world_model.port_model.Redirection.{redirected}
 use Rattle.law_controller.proofs.law_port_facts.Keyed.{on_both, on_each, at_key, at_put_same, put_order, every_more}
-use Rattle.world_model.specs.Controller.{Acted, free_slots}
-use Rattle.world_model.specs.Sending.{with_cells, sends}
-use Rattle.world_model.specs.Cells.{Taker, opened_frame, ends_frame, cell_comes}
+use Rattle.law_controller.specs.world_model.Controller.{Acted, free_slots}
+use Rattle.law_controller.specs.world_model.Sending.{with_cells, sends}
+use Rattle.law_controller.specs.world_model.Cells.{Taker, opened_frame, ends_frame, cell_comes}
 use Rattle.law_controller.specs.law_controller_facts.Inputs.{Input, CellComes, takes_input}
 use Rattle.law_controller.specs.law_controller_facts.Sound.{IsSound}
 use Rattle.law_controller.proofs.law_controller_facts.Moves.{found_port}
 use Rattle.law_controller.proofs.law_controller_facts.Laws.{has_ports}
 use Rattle.law_controller.proofs.Holding.{node_closed}
-use Rattle.law_lifetimes.specs.Setting.{payload_of, Hears, Accepts, anew, again, Sets}
-use Rattle.law_lifetimes.specs.Aging.{has_switch, grant_at}
-use Rattle.law_lifetimes.specs.Law.{HasLeft, IsReset}
+use Rattle.law_lifetimes.specs.Expiry.{payload_of, Hears, Accepts, anew, again, Sets}
+use Rattle.law_lifetimes.specs.Expiry.{has_switch, grant_at}
+use Rattle.law_lifetimes.specs.Expiry.{HasLeft, IsReset}
 use Rattle.law_lifetimes.proofs.Performing.{performs_fits, fold_fits}
 use Rattle.law_lifetimes.proofs.Events.{taker_belongs, put_there}
 use Rattle.law_lifetimes.proofs.Ticking.{put_apart, Short, AnyQueue, KShort, kept_short, FitsShort, other_short, ports_apart}

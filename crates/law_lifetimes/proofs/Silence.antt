@@ -4,22 +4,23 @@ use Rattle.std.proofs.Common.{◌≡◌, ℕ, ◌≤◌, ◌<◌, Bool, true, fa
 use Rattle.std.specs.Prelude.{◌+◌, ◌*◌, ◌/◌, ◌%◌, ◌&&◌, ◌==◌, nat_lt, nat_le}
 use Rattle.std.specs.List.{range_with_len}
 use Rattle.std.proofs.lemmas.Bool.Decides.{nat_tests}
-use Rattle.world_model.specs.Words.{PortNo, Channel, Mark, is_label_number, label_number_of, Cell, frame_cells, Setup, is_in_range, control_end, Grant, is_leaving, is_by_controller, New, Refreshed, IsLeaving, GrantsFull, Acceptance, acceptance, Linked, same_channel, ForDefault, port_on}
-use Rattle.world_model.proofs.net_types.Labels.{number_of_channel-label_channel_of}
-use Rattle.aal5_frames.specs.Frame.{cells_with, cell_of, pdu_of}
+use Rattle.law_controller.specs.world_model.Words.{PortNo, Channel, Mark, is_label_number, label_number_of, Cell, frame_cells, Setup, is_in_range, control_end, Grant, is_leaving, is_by_controller, New, Refreshed, IsLeaving, GrantsFull, Acceptance, acceptance, Linked, same_channel, ForDefault, port_on}
+use Rattle.law_rule_walks.proofs.world_model.net_types.Labels.{number_of_channel-label_channel_of}
+use Rattle.law_rule_walks.specs.aal5_frames.Frame.{cells_with, cell_of, pdu_of}
 use Rattle.law_controller.specs.ordered_lists.Ordered.{Every}
 use Rattle.law_controller.proofs.ordered_lists.Every.{every_all, every_join, every_mapped}
-use Rattle.world_model.specs.port_model.Grants.{OutOfRange, Taken as TakenBy}
+use Rattle.law_controller.specs.world_model.port_model.Grants.{OutOfRange, Taken as TakenBy}
 use Rattle.law_controller.specs.law_port_facts.Port.{IsGrant, IsPort}
 use Rattle.law_controller.proofs.law_port_facts.Rules.{and_second, and_first}
-use Rattle.world_model.specs.Controller.{Acted}
+use Rattle.law_controller.specs.world_model.Controller.{Acted}
 use Rattle.law_controller.specs.law_controller_facts.Inputs.{Input, CellComes, PacketEnters, Ticks, Restarts, ChangeComes, FrameIsForged, CellLeaves, Meanwhile, takes_input, takes_inputs}
 use Rattle.law_controller.specs.law_controller_facts.Sound.{IsSound, IsLinkedPort, opened_by, setups_by}
 use Rattle.law_controller.proofs.law_controller_facts.Laws.{has_ports, always_sound}
 use Rattle.law_controller.proofs.law_controller_facts.Moves.{found_port}
-use Rattle.law_lifetimes.specs.Setting.{Accepts, anew, again, Sets}
+use Rattle.law_lifetimes.specs.Expiry.{Accepts, anew, again, Sets}
 use Rattle.law_lifetimes.specs.Aging.{NotSet}
-use Rattle.law_lifetimes.specs.Law.{stays_queued, SendsNone, IsConduct, SendsNoMore}
+use Rattle.law_lifetimes.specs.Law.{SendsNoMore}
+use Rattle.law_lifetimes.specs.Expiry.{stays_queued, SendsNone, IsConduct}
 use Rattle.law_lifetimes.proofs.Grants.{IsFate, accepted_new, accepted_again, in_range_label}
 use Rattle.law_lifetimes.proofs.Performing.{Fits as FitsIn}
 use Rattle.law_lifetimes.proofs.Joining.{K as KIn, kept as kept_in, by_controller_lives}

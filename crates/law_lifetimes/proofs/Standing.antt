@@ -3,19 +3,19 @@
 use Rattle.std.proofs.Common.{◌≡◌, ℕ, ◌≤◌, ◌+◌, Bool, true, false, List, length, Option, None, Some, refl, sym, ◌∙◌, ap, arith, inl, inr}
 use Rattle.std.specs.Prelude.{◌⊎◌, ◌<◌, ◌&&◌, not, nat_le, is_some}
 use Rattle.std.specs.Option.{option_map_or}
-use Rattle.world_model.specs.Words.{PortNo, Channel, Mark, next_control, with_control, Reply, Silent, Says, Resets, tick_reply, is_estab, followed_tick, ticked, Loss, PoolFull, noted, frame_cells, made, Action, Setup, Controller, Linked, port_key, linked_at, sends_control, performs_in_estab}
-use Rattle.world_model.specs.adjacency_table.Side.{counted}
-use Rattle.world_model.specs.frame_model.Sending.{Sent}
+use Rattle.law_controller.specs.world_model.Words.{PortNo, Channel, Mark, next_control, with_control, Reply, Silent, Says, Resets, tick_reply, is_estab, followed_tick, ticked, Loss, PoolFull, noted, frame_cells, made, Action, Setup, Controller, Linked, port_key, linked_at, sends_control, performs_in_estab}
+use Rattle.law_controller.specs.world_model.adjacency_table.Side.{counted}
+use Rattle.law_controller.specs.world_model.frame_model.Sending.{Sent}
 use Rattle.law_controller.proofs.law_port_facts.Keyed.{on_both, at_every}
-use Rattle.world_model.specs.Controller.{Acted, free_slots}
-use Rattle.world_model.specs.Sending.{with_cells, sends}
-use Rattle.world_model.specs.Ticks.{ticks}
+use Rattle.law_controller.specs.world_model.Controller.{Acted, free_slots}
+use Rattle.law_controller.specs.world_model.Sending.{with_cells, sends}
+use Rattle.law_controller.specs.world_model.Ticks.{ticks}
 use Rattle.law_rule_walks.proofs.Controllers.{Keeps, DrawsAt, draws_works}
 use Rattle.law_rule_walks.proofs.Controllers as controllers
 use Rattle.law_controller.proofs.ordered_lists.Every.{every_all}
 use Rattle.law_controller.specs.law_controller_facts.Sound.{IsSound, IsShutLinked}
-use Rattle.law_lifetimes.specs.Aging.{is_over, reaches, reaches_at, has_switch}
-use Rattle.law_lifetimes.specs.Law.{IsReset}
+use Rattle.law_lifetimes.specs.Expiry.{is_over, reaches, reaches_at, has_switch}
+use Rattle.law_lifetimes.specs.Expiry.{IsReset}
 
 -- *The session stands*, or the node has an instance above that which was the last
 module _ (n : ℕ) where

@@ -4,31 +4,31 @@ use Rattle.std.proofs.Common.{◌≡◌, ◌≢◌, ℕ, suc, ◌≤◌, Bool, t
 use Rattle.std.specs.Prelude.{◌&&◌, ◌⊎◌, not, nat_eq, is_some}
 use Rattle.std.specs.Option.{option_map_or}
 use Rattle.std.proofs.lemmas.Bool.Decides.{nat_tests}
-use Rattle.world_model.specs.Words.{PortNo, Channel, Mark, Greeting, Party, Cell, Answer, Quiet, Send, Open, Said, is_estab, ticked, gsmp_answer, frame_cells, at, put, empty_desk, sent_again, Setup, control_end, Grant, GrantState, Idle, ByController, ByInput, Leaving, grant_label, is_leaving, is_by_controller, Work, left_in, left_of, Linked, port_key, linked_at, with_desk, default_channel, says_gsmp, sends_request, begins, with_work, performs, performs_in_estab, works, works_as, tries_joins, meets, sends_again, ticks_port, ticks_ports, ticks_by}
-use Rattle.world_model.specs.adjacency_table.declared.message.Answer.TheVariants.{Reset}
-use Rattle.world_model.specs.adjacency_table.Side as sides
-use Rattle.world_model.specs.gsmp_wire.Layout.{octets_of as gsmp_octets}
-use Rattle.world_model.specs.gsmp_wire.declared.message.Message.{Message}
-use Rattle.world_model.specs.gsmp_wire.declared.message.Message.TheVariants as messages
-use Rattle.world_model.specs.gsmp_wire.declared.request.Request.TheVariants.{AllPorts}
+use Rattle.law_controller.specs.world_model.Words.{PortNo, Channel, Mark, Greeting, Party, Cell, Answer, Quiet, Send, Open, Said, is_estab, ticked, gsmp_answer, frame_cells, at, put, empty_desk, sent_again, Setup, control_end, Grant, GrantState, Idle, ByController, ByInput, Leaving, grant_label, is_leaving, is_by_controller, Work, left_in, left_of, Linked, port_key, linked_at, with_desk, default_channel, says_gsmp, sends_request, begins, with_work, performs, performs_in_estab, works, works_as, tries_joins, meets, sends_again, ticks_port, ticks_ports, ticks_by}
+use Rattle.law_controller.specs.world_model.adjacency_table.declared.message.Answer.TheVariants.{Reset}
+use Rattle.law_controller.specs.world_model.adjacency_table.Side as sides
+use Rattle.law_controller.specs.world_model.gsmp_wire.Layout.{octets_of as gsmp_octets}
+use Rattle.law_controller.specs.world_model.gsmp_wire.declared.message.Message.{Message}
+use Rattle.law_controller.specs.world_model.gsmp_wire.declared.message.Message.TheVariants as messages
+use Rattle.law_controller.specs.world_model.gsmp_wire.declared.request.Request.TheVariants.{AllPorts}
 use Rattle.law_controller.specs.ordered_lists.Ordered.{Every, InOrder}
 use Rattle.law_controller.proofs.ordered_lists.Every.{every_all, every_map, every_map2}
 use Rattle.law_controller.proofs.ordered_lists.InOrder.{order_unmapped}
-use Rattle.world_model.specs.port_model.Port.{Port}
-use Rattle.world_model.specs.port_model.Ticks as port_ticks
+use Rattle.law_controller.specs.world_model.port_model.Port.{Port}
+use Rattle.law_controller.specs.world_model.port_model.Ticks as port_ticks
 use Rattle.law_controller.specs.law_port_facts.Port.{IsWork}
 use Rattle.law_controller.proofs.law_port_facts.Keyed.{on_both, by_eq, at_key, at_every, each_found}
 use Rattle.law_controller.proofs.law_port_facts.Hearings.{ticks_goes}
 use Rattle.law_controller.proofs.law_port_facts.Kept.{goes_kept}
-use Rattle.world_model.specs.Controller.{Acted, ports_of}
-use Rattle.world_model.specs.Gsmp.{answers, steps}
-use Rattle.world_model.specs.Ticks.{ticks}
+use Rattle.law_controller.specs.world_model.Controller.{Acted, ports_of}
+use Rattle.law_controller.specs.world_model.Gsmp.{answers, steps}
+use Rattle.law_controller.specs.world_model.Ticks.{ticks}
 use Rattle.law_controller.specs.law_controller_facts.Sound.{IsSound, linked_setup, AreApart}
 use Rattle.law_controller.proofs.law_controller_facts.Moves.{ages, found_setup, found_at_own, begun}
 use Rattle.law_controller.proofs.law_controller_facts.Joining.{every_flat_map}
 use Rattle.law_controller.proofs.law_controller_facts.Laws.{has_ports}
 use Rattle.law_controller.proofs.law_controller_facts.Each.{steps_keeps, sends_again_keeps, ticks_port_keeps}
-use Rattle.law_lifetimes.specs.Aging.{is_over, reaches, reaches_at}
+use Rattle.law_lifetimes.specs.Expiry.{is_over, reaches, reaches_at}
 use Rattle.law_lifetimes.proofs.Grants.{IsFate, ticks_all}
 use Rattle.law_lifetimes.proofs.Ages.{AtMost, ticks_left}
 use Rattle.law_lifetimes.proofs.Performing.{IsKept, Fits as FitsIn, found_fits, fold_fits, sends_control_fits, sends_request_fits, node_fits, asks_fits, performs_fits, at_port_fits}

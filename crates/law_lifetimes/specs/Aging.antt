@@ -1,31 +1,11 @@
 -- Which ticks reach the lifetimes of a port, and when a lifetime has passed
 
-use Rattle.std.specs.Prelude.{◌≡◌, ℕ, ◌+◌, ◌&&◌, not, Bool, true, false, List, [], ◌∷◌, Option, None, Some, is_some, if◌then◌else◌}
-use Rattle.std.specs.Option.{option_map_or, option_and_then}
-use Rattle.world_model.specs.Words.{PortNo, Answer, is_estab, ticked, at, Grant, grant_label, is_leaving, Controller, Linked, linked_at}
-use Rattle.world_model.specs.adjacency_table.declared.message.Answer.TheVariants.{Reset}
-use Rattle.world_model.specs.Controller.{Acted}
+use Rattle.std.specs.Prelude.{◌≡◌, ℕ, ◌+◌, List, [], ◌∷◌, if◌then◌else◌}
+use Rattle.law_controller.specs.world_model.Words.{PortNo}
+use Rattle.law_controller.specs.world_model.Controller.{Acted}
 use Rattle.law_controller.specs.law_controller_facts.Inputs.{Input, Ticks, takes_input, takes_inputs}
 use Rattle.law_controller.specs.law_controller_facts.Sound.{Opening, opened_by}
-use Rattle.law_lifetimes.specs.Setting.{Sets}
-
--- *A tick reaches the lifetimes of a port* that is in Estab, where it ends neither the adjacency with the switch nor
--- the port's own
-abbrev pub is_over : {M K : Type 0} → Answer M K → Bool
-is_over Reset = true
-is_over answer = false
-
-abbrev pub reaches : Controller → Linked → Bool
-reaches c linked =
-    not (is_over (ticked c.adjacency).answer)
-    && (is_some linked.port.session && not (is_over (ticked linked.port.adjacency).answer))
-
-abbrev pub reaches_at : Controller → PortNo → Bool
-reaches_at c port = option_map_or (reaches c) (linked_at c port) false
-
--- *The session with the switch stands*: the node's side of it is in Estab. A node reset ends it
-abbrev pub has_switch : Controller → Bool
-has_switch c = is_estab c.adjacency.state
+use Rattle.law_controller.specs.law_controller_facts.claims_model.Expiry.{Sets, reaches_at}
 
 -- how many of these inputs are ticks that reach them
 abbrev pub one_tick : Acted → PortNo → Input → ℕ
@@ -54,11 +34,3 @@ pub record IsCounted (o : Opening) (port : PortNo) (label lifetime : ℕ) (a : A
   pub unset : NoneSets (takes_input (takes_inputs (opened_by o) before) setting) port label after
   pub counted : ticks_among (takes_input (takes_inputs (opened_by o) before) setting) port after ≡ ticks
   pub now : takes_inputs (takes_input (takes_inputs (opened_by o) before) setting) after ≡ a
-
--- *A grant* of a label at a port; one that has ended, or is leaving
-abbrev pub grant_at : Controller → PortNo → (label : ℕ) → Option Grant
-grant_at c port label = option_and_then (λ linked. at grant_label label linked.port.grants) (linked_at c port)
-
-abbrev pub HasEnded : Option Grant → Type 0
-HasEnded None = Unit {0}
-HasEnded (Some grant) = is_leaving grant.state ≡ true

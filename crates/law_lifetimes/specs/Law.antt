@@ -1,24 +1,17 @@
 -- What holds of a grant whose lifetime has passed
 
-use Rattle.std.specs.Prelude.{◌≡◌, ℕ, ◌≤◌, ◌<◌, ◌+◌, true, false, List, ◌++◌, drop, Some, Option}
-use Rattle.world_model.specs.Words.{PortNo, Channel, End, Cell, is_led_home, home_of, control_end, Grant, ByInput, is_leaving, same_channel}
-use Rattle.law_controller.specs.ordered_lists.Ordered.{Every}
-use Rattle.world_model.specs.Controller.{Acted}
-use Rattle.world_model.specs.Ticks.{ticks}
-use Rattle.law_controller.specs.law_controller_facts.Inputs.{Input, FrameIsForged, CellLeaves, takes_input, takes_inputs}
+use Rattle.std.specs.Prelude.{◌≡◌, ℕ, ◌≤◌, ◌+◌, true, false, List, Some, Option}
+use Rattle.law_controller.specs.world_model.Words.{PortNo, End, is_led_home, home_of, control_end, Grant, ByInput, is_leaving}
+use Rattle.law_controller.specs.world_model.Controller.{Acted}
+use Rattle.law_controller.specs.world_model.Ticks.{ticks}
+use Rattle.law_controller.specs.law_controller_facts.Inputs.{Input, takes_input, takes_inputs}
 use Rattle.law_controller.specs.law_controller_facts.Sound.{Opening, opened_by}
 use Rattle.law_controller.specs.Law.{IsOpening}
-use Rattle.law_lifetimes.specs.Setting.{Sets}
-use Rattle.law_lifetimes.specs.Aging.{reaches_at, has_switch, NotSet, IsCounted, grant_at, HasEnded}
+use Rattle.law_controller.specs.law_controller_facts.claims_model.Expiry.{Sets, reaches_at, has_switch, grant_at, HasEnded, HasLeft, stays_queued, SendsNone, IsConduct, EndsByReset}
+use Rattle.law_lifetimes.specs.Aging.{NotSet, IsCounted}
 
 -- *It is set*: after an input that sets it the grant is there, isn't leaving and has just that left of its lifetime, unless
 -- the node was reset in that input: then the session with the switch doesn't stand
-pub record HasLeft (granted : Option Grant) (lifetime : ℕ) : Type 0 where
-  pub grant : Grant
-  pub there : granted ≡ Some grant
-  pub live : is_leaving grant.state ≡ false
-  pub left : grant.lifetime ≡ lifetime
-
 abbrev pub IsSet : Type 0
 IsSet = (o : Opening) (inputs : List Input) (port : PortNo) (label lifetime : ℕ) (input : Input) → IsOpening o
     → Sets (takes_inputs (opened_by o) inputs) input port label lifetime
@@ -44,22 +37,7 @@ abbrev pub EndsByLifetime : Type 0
 EndsByLifetime = (o : Opening) (port : PortNo) (label lifetime : ℕ) (a : Acted) (ticks : ℕ) → IsOpening o
     → IsCounted o port label lifetime a ticks → lifetime ≤ ticks → HasEnded (grant_at a.controller port label)
 
--- *No frame is sent by it*: what joins the queue to the switch is on other channels than the label's, but for frames
--- that are forged
-abbrev pub stays_queued : Input → List Cell → List Cell
-stays_queued CellLeaves queue = drop 1 queue
-stays_queued input queue = queue
-
-pub record SendsNone (channel : Channel) (before after : List Cell) : Type 0 where
-  pub sent : List Cell
-  pub joined : after ≡ before ++ sent
-  pub others : Every (λ (cell : Cell). same_channel cell.header.channel channel ≡ false) sent
-
-abbrev pub IsConduct : Input → Type 0
-IsConduct (FrameIsForged channel mark payload) = ⊥
-IsConduct input = Unit {0}
-
--- in no later input, until the lifetime of a grant of the label is set
+-- *No frame is sent by it* in any later input, until the lifetime of a grant of the label is set
 abbrev pub SendsNoMore : Type 0
 SendsNoMore = (o : Opening) (port : PortNo) (label lifetime : ℕ) (a : Acted) (ticks : ℕ) → IsOpening o
     → IsCounted o port label lifetime a ticks → lifetime ≤ ticks
@@ -76,14 +54,6 @@ IsLedBack = (o : Opening) (port : PortNo) (label lifetime : ℕ) (a : Acted) (be
     → has_switch (ticks a).controller ≡ true
     → is_led_home (ticks a).controller.desk input (home_of input) ≡ true
 
--- *Nothing but a node reset ends the session* in an input that sets a lifetime, or in a tick that reaches the lifetimes of a
--- port: where it doesn't stand afterwards, the node's side has a new instance, above all that were given out before
-abbrev pub IsReset : (before after : Acted) → Type 0
-IsReset before after = before.numbers.instances < after.controller.adjacency.own.instance.0
-
-pub record EndsByReset (a : Acted) (port : PortNo) : Type 0 where
-  pub setting : (input : Input) (label lifetime : ℕ) → Sets a input port label lifetime → has_switch (takes_input a input).controller ≡ false → IsReset a (takes_input a input)
-  pub tick : reaches_at a.controller port ≡ true → has_switch (ticks a).controller ≡ false → IsReset a (ticks a)
-
+-- *Nothing but a node reset ends the session* in such an input or tick
 abbrev pub IsEndedByReset : Type 0
 IsEndedByReset = (o : Opening) (inputs : List Input) (port : PortNo) → IsOpening o → EndsByReset (takes_inputs (opened_by o) inputs) port

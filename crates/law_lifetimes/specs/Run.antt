@@ -1,99 +1,14 @@
 -- Lifetimes in a run: of any topology, policy and list of events, forged frames among them
 
-use Rattle.std.specs.Prelude.{◌≡◌, ℕ, ◌≤◌, ◌+◌, ◌==◌, ◌&&◌, Bool, true, false, List, [], ◌∷◌, Option, None, Some, if◌then◌else◌}
-use Rattle.std.specs.Option.{option_map_or, option_and_then}
-use Rattle.world_model.specs.Words.{NodeId, PortNo, Place, Down, Up, Out, End, next_control, Cell, is_led_home, Policy, home_of, control_end, Grant, ByInput, Controller, Topology, World, controller_at, queue_at, put_away, next, world_after}
-use Rattle.world_model.specs.Controller.{Acted}
-use Rattle.law_controller.specs.law_controller_facts.Inputs.{Input, CellComes, PacketEnters, Ticks, Restarts, ChangeComes, FrameIsForged, CellLeaves}
-use Rattle.world_model.specs.network_model.declared.event.Event.{Event}
-use Rattle.world_model.specs.network_model.declared.event.Event.TheVariants.{Inject, Carry, Lose, Tick, Restart, Forge, Route}
-use Rattle.world_model.specs.World.{opened}
-use Rattle.law_lifetimes.specs.Setting.{Sets}
-use Rattle.law_lifetimes.specs.Aging.{reaches_at, has_switch, grant_at, HasEnded}
-use Rattle.law_lifetimes.specs.Law.{HasLeft, stays_queued, SendsNone, IsConduct, EndsByReset}
-
--- a controller of a world, with the notes and the numbers that it has in an event
-abbrev pub acted_in : World → Controller → Acted
-acted_in w c = record { controller = c; notes = (put_away w).notes; numbers = w.numbers }
-
--- *What comes to the controller of a node* in an event, if anything does
-abbrev pub if_at : (at node : NodeId) → Option Input → Option Input
-if_at at node input = if at.0 == node.0 then input else None
-
-abbrev pub head_comes : List Cell → Option Input
-head_comes [] = None
-head_comes (cell ∷ cells) = Some (CellComes cell)
-
-abbrev pub head_leaves : List Cell → Option Input
-head_leaves [] = None
-head_leaves (cell ∷ cells) = Some CellLeaves
-
-abbrev pub carry_comes : World → NodeId → Place → Option Input
-carry_comes w node (Down at) = if_at at node (head_leaves (queue_at w (Down at)))
-carry_comes w node (Up at) = if_at at node (head_comes (queue_at w (Up at)))
-carry_comes w node (Out at port) = None
-
-abbrev pub loss_comes : World → NodeId → Place → Option Input
-loss_comes w node (Down at) = if_at at node (head_leaves (queue_at w (Down at)))
-loss_comes w node place = None
-
-abbrev pub comes_to : World → NodeId → Event → Option Input
-comes_to w node (Inject at octets) = if_at at node (Some (PacketEnters (w.sent + 1) octets))
-comes_to w node (Carry place) = carry_comes w node place
-comes_to w node (Lose place) = loss_comes w node place
-comes_to w node (Tick at) = if_at at node (Some Ticks)
-comes_to w node (Restart at) = if_at at node (Some Restarts)
-comes_to w node (Forge (Down at) channel payload) = if_at at node (Some (FrameIsForged channel (next_control w.numbers) payload))
-comes_to w node (Route at change) = if_at at node (Some (ChangeComes change))
-comes_to w node event = None
-
--- *An event sets the lifetime* of the grant of a label at a port of a node
-pub record SetsIn (w : World) (event : Event) (node : NodeId) (port : PortNo) (label lifetime : ℕ) : Type 0 where
-  pub controller : Controller
-  pub there : controller_at w node ≡ Some controller
-  pub input : Input
-  pub comes : comes_to w node event ≡ Some input
-  pub sets : Sets (acted_in w controller) input port label lifetime
-
-abbrev pub NotSetIn : World → Event → NodeId → PortNo → (label : ℕ) → Type 0
-NotSetIn w event node port label = (lifetime : ℕ) → SetsIn w event node port label lifetime → ⊥
-
-abbrev pub NoneSetsIn : Topology → World → NodeId → PortNo → (label : ℕ) → List Event → Type 0
-NoneSetsIn topology w node port label [] = Unit {0}
-NoneSetsIn topology w node port label (event ∷ events) = NotSetIn w event node port label × NoneSetsIn topology (next topology w event) node port label events
-
--- *Ticks that reach the lifetimes* of a port of a node
-abbrev pub is_tick_of : NodeId → Event → Bool
-is_tick_of node (Tick at) = at.0 == node.0
-is_tick_of node event = false
-
-abbrev pub reaches_in : World → NodeId → PortNo → Bool
-reaches_in w node port = option_map_or (λ c. reaches_at c port) (controller_at w node) false
-
-abbrev pub ticks_in : Topology → World → NodeId → PortNo → List Event → ℕ
-ticks_in topology w node port [] = 0
-ticks_in topology w node port (event ∷ events) =
-    (if is_tick_of node event && reaches_in w node port then 1 else 0) + ticks_in topology (next topology w event) node port events
-
--- *A lifetime is counted* from its setting in a run
-pub record IsCountedIn (policy : Policy) (topology : Topology) (node : NodeId) (port : PortNo) (label lifetime : ℕ) (w : World) (ticks : ℕ) : Type 0 where
-  pub before : List Event
-  pub setting : Event
-  pub sets : SetsIn (world_after topology (opened policy topology) before) setting node port label lifetime
-  pub after : List Event
-  pub unset : NoneSetsIn topology (next topology (world_after topology (opened policy topology) before) setting) node port label after
-  pub counted : ticks_in topology (next topology (world_after topology (opened policy topology) before) setting) node port after ≡ ticks
-  pub now : world_after topology (next topology (world_after topology (opened policy topology) before) setting) after ≡ w
-
-abbrev pub grant_in : World → NodeId → PortNo → (label : ℕ) → Option Grant
-grant_in w node port label = option_and_then (λ c. grant_at c port label) (controller_at w node)
+use Rattle.std.specs.Prelude.{◌≡◌, ℕ, ◌≤◌, ◌+◌, true, List, Some}
+use Rattle.law_controller.specs.world_model.Words.{NodeId, PortNo, Down, End, Policy, control_end, Grant, ByInput, Controller, Topology, World, controller_at, queue_at, next, world_after}
+use Rattle.law_controller.specs.world_model.network_model.declared.event.Event.{Event}
+use Rattle.law_controller.specs.world_model.network_model.declared.event.Event.TheVariants.{Tick}
+use Rattle.law_controller.specs.world_model.World.{opened}
+use Rattle.law_controller.specs.law_controller_facts.claims_model.Expiry.{HasEnded, SendsNone, EndsByReset}
+use Rattle.law_controller.specs.law_controller_facts.claims_model.Lifetimes.{acted_in, comes_to, SetsIn, NotSetIn, reaches_in, IsCountedIn, grant_in, IsSetIn, stays_in, IsConductIn, IsLedIn}
 
 -- *It is set*, where the node isn't reset in the event
-pub record IsSetIn (w : World) (node : NodeId) (port : PortNo) (label lifetime : ℕ) : Type 0 where
-  pub controller : Controller
-  pub there : controller_at w node ≡ Some controller
-  pub set : has_switch controller ≡ true → HasLeft (grant_at controller port label) lifetime
-
 abbrev pub IsSetInRuns : Type 0
 IsSetInRuns = (policy : Policy) (topology : Topology) (events : List Event) (event : Event) (node : NodeId) (port : PortNo) (label lifetime : ℕ)
     → SetsIn (world_after topology (opened policy topology) events) event node port label lifetime
@@ -105,14 +20,6 @@ EndsInRuns = (policy : Policy) (topology : Topology) (node : NodeId) (port : Por
     → IsCountedIn policy topology node port label lifetime w ticks → lifetime ≤ ticks → HasEnded (grant_in w node port label)
 
 -- *No frame is sent by it* in any event, until the lifetime of a grant of the label is set
-abbrev pub stays_in : Option Input → List Cell → List Cell
-stays_in None queue = queue
-stays_in (Some input) queue = stays_queued input queue
-
-abbrev pub IsConductIn : Option Input → Type 0
-IsConductIn None = Unit {0}
-IsConductIn (Some input) = IsConduct input
-
 abbrev pub SendsNoMoreInRuns : Type 0
 SendsNoMoreInRuns = (policy : Policy) (topology : Topology) (node : NodeId) (port : PortNo) (label lifetime : ℕ) (w : World) (ticks : ℕ)
     → IsCountedIn policy topology node port label lifetime w ticks → lifetime ≤ ticks
@@ -120,11 +27,6 @@ SendsNoMoreInRuns = (policy : Policy) (topology : Topology) (node : NodeId) (por
     → SendsNone (control_end port label).channel (stays_in (comes_to w node event) (queue_at w (Down node))) (queue_at (next topology w event) (Down node))
 
 -- *Its input is led back* at the end of the last tick, where it is lent before and the node isn't reset in it
-pub record IsLedIn (w : World) (node : NodeId) (input : End) : Type 0 where
-  pub controller : Controller
-  pub there : controller_at w node ≡ Some controller
-  pub led : has_switch controller ≡ true → is_led_home controller.desk input (home_of input) ≡ true
-
 abbrev pub IsLedBackInRuns : Type 0
 IsLedBackInRuns = (policy : Policy) (topology : Topology) (node : NodeId) (port : PortNo) (label lifetime : ℕ) (w : World) (before : ℕ)
     → IsCountedIn policy topology node port label lifetime w before → lifetime ≤ before + 1 → reaches_in w node port ≡ true

@@ -3,7 +3,7 @@
 //! unless the node is reset in that tick. So it is of one controller, whatever cells come, and at each node of every
 //! run.
 //!
-//! `specs/Setting` says how a lifetime is set, `specs/Aging` which ticks count, `specs/Law` has the
+//! `claims_model` says how a lifetime is set and which ticks reach it; `specs/Aging` counts them, `specs/Law` has the
 //! statements of a controller and `specs/Run` those of a run. The proof takes one tick at a time of what
 //! a grant has left (`proofs/Ages` of a port, `proofs/Ticking` of a controller); no other rule gives a
 //! grant more, but a REDIRECT that is accepted (`proofs/Grants` to `proofs/Events`). There is no code

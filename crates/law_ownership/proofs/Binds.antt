@@ -2,9 +2,9 @@
 
 use Rattle.std.proofs.Common.{◌≡◌, ℕ, zero, suc, List, [], ◌∷◌, ◌++◌, Some, refl, sym, ◌∙◌, ap, subst}
 use Rattle.std.specs.Prelude.{Contains, slice_get}
-use Rattle.world_model.specs.Words.{Bind, Topology, World, next, worlds_from, world_after, IsUnused}
-use Rattle.world_model.specs.network_model.declared.event.Event.{Event}
-use Rattle.world_model.specs.World.{opened}
+use Rattle.law_frame_readings.specs.world_model.Words.{Bind, Topology, World, next, worlds_from, world_after, IsUnused}
+use Rattle.law_frame_readings.specs.world_model.network_model.declared.event.Event.{Event}
+use Rattle.law_frame_readings.specs.world_model.World.{opened}
 use Rattle.law_ownership.specs.Binds.{EachBindIsUnused}
 
 record IsStep (topology : Topology) (w : World) (events : List Event) (old new : World) : Type 0 where

@@ -1,11 +1,12 @@
 -- copies are in the order of their numbers: the law of the line of their input, as the network shows it
 
 use Rattle.std.proofs.Common.{◌≡◌, ℕ, ◌≤◌, Bool, true, false, List, [], ◌∷◌, ◌++◌, Option, None, Some, refl, sym, ◌∙◌, ap, subst, arith, if◌then◌else◌, filter}
-use Rattle.std.specs.Prelude.{is_some}
+use Rattle.std.specs.Prelude.{is_some, option_map, ◌==◌}
 use Rattle.std.specs.Option.{option_map_or, option_and_then}
-use Rattle.world_model.specs.Words.{End, NodeId, Party, Down, Estab, Side, Cell, Move, Frame, payload_of, Standing, default_channel, same_channel, Site, queue_in, gsmp_of, copy_of, copy_under, to_switch, on_channel}
-use Rattle.world_model.specs.gsmp_wire.declared.message.Message.{Message}
-use Rattle.world_model.specs.gsmp_wire.declared.message.Message.TheVariants.{Adjacency, Branch, Port, AllPorts}
+use Rattle.law_frame_readings.specs.world_model.Words.{End, NodeId, Party, Down, Estab, Side, Cell, Move, Request, AddBranch, MoveBranch, DeleteTree, VerifyTree, PortManagement, same_end, Controller, Linked, port_key, Frame, payload_of, Standing, default_channel, same_channel, Site, queue_in, gsmp_of, copy_of, copy_under, to_switch, on_channel}
+use Rattle.law_frame_readings.specs.world_model.gsmp_wire.declared.message.Message.{Message}
+use Rattle.law_frame_readings.specs.world_model.gsmp_wire.declared.message.Message.TheVariants.{Adjacency, Branch, Port, AllPorts}
+use Rattle.law_frame_readings.specs.world_model.gsmp_wire.declared.request.Request.TheVariants as requests
 use Rattle.law_frame_readings.specs.ordered_lists.Ordered.{InOrder}
 use Rattle.law_frame_readings.proofs.ordered_lists.InOrder.{order_map}
 use Rattle.law_branch_line.specs.Words as lines
@@ -14,11 +15,39 @@ use Rattle.law_branch_line.specs.Law as laws
 use Rattle.law_branch_line.specs.Law.{Always, IsAskedUnder, HasOnlyNewInEstab}
 use Rattle.law_frame_readings.specs.law_shown_cells.Seen.{Seen, Nothing, Word, nothing, hidden, word}
 use Rattle.law_frame_readings.proofs.law_shown_cells.Shows.{shows_join}
-use Rattle.law_frame_readings.specs.law_input_views.Words.{own_request, type_of, word_by, word_of, is_own, seen_copy, seen_request, seen_on_gsmp, seen_cell, erased}
+use Rattle.law_frame_readings.specs.law_input_views.Words.{own_request, type_of, word_by, word_of, seen_copy, seen_request, seen_on_gsmp, seen_cell, erased}
 use Rattle.law_frame_readings.specs.law_input_views.Shown.{controller_of, switch_of, ShowsRequests}
-use Rattle.law_frame_readings.specs.law_world_views.Between.{HasInputLine}
-use Rattle.law_ownership.specs.Copies.{IsBefore, CopiesAreInOrder}
+use Rattle.law_frame_readings.specs.law_world_views.Between.{HasInputLine, IsInput}
+use Rattle.law_frame_readings.specs.law_port_facts.Port.{setup_port}
+use Rattle.law_frame_readings.proofs.law_port_facts.Keyed.{at_map}
+use Rattle.law_ownership.specs.Copies.{CopiesAreInOrder}
+use Rattle.law_ownership.specs.Order.{IsBefore, concerns, IsLabelInput}
 use Rattle.law_ownership.proofs.Matching.{Matches, none, silent, apart, says, order_matched}
+
+-- a request that concerns the input is one of those of its line
+if_some : {X : Type 0} (b : Bool) (x : X) → b ≡ true → is_some (if b then Some x else None) ≡ true
+if_some true x e = refl
+if_some false x e = absurd (cc e)
+
+concerned : (input : End) (request : Request) → concerns input request ≡ true → is_some (own_request input request) ≡ true
+concerned input (AddBranch on output) e = if_some (same_end input on) (lines.AddBranch output) e
+concerned input (MoveBranch on from to) e = if_some (same_end input on) (lines.MoveBranch from to) e
+concerned input (DeleteTree on) e = if_some (same_end input on) lines.DeleteTree e
+concerned input (VerifyTree on) e = absurd (cc e)
+concerned input (requests.DeleteAll port) e = if_some (port.0 == input.port.0) lines.DeleteAll e
+concerned input (PortManagement port function) e = absurd (cc e)
+concerned input requests.AllPorts e = absurd (cc e)
+
+-- the label of a port of a link
+label_input : (c : Controller) (input : End) → IsLabelInput c input → IsInput c input
+label_input c input label = record {
+  setup = label.linked.setup;
+  number = label.number;
+  linked = at_map port_key setup_port (λ (linked : Linked). linked.setup) (λ linked. refl) label.linked.setup.port.0 c.ports
+      ∙ ap (λ (o : Option Linked). option_map (λ linked. linked.setup) o) label.there;
+  in_range = label.in_range;
+  is = label.is;
+}
 
 some_is : {X : Type 0} (x y : X) → Some x ≡ Some y → x ≡ y
 some_is x y e = cc
@@ -103,11 +132,11 @@ module _ (node : NodeId) (input : End) (frames : List Frame) where
   copy_says c s e = at_mark c.header.last (payload_of frames c.mark) s e
 
   -- the word of a cell that is a copy which concerns the input
-  own_word : (c : Cell) (v : lines.ToSwitch) (s : Standing) → Says c v → copy_under frames c.mark ≡ Some s → is_own input s ≡ true
+  own_word : (c : Cell) (v : lines.ToSwitch) (s : Standing) → Says c v → copy_under frames c.mark ≡ Some s → concerns input s.request ≡ true
       → (under : ℕ) × (r : lines.InputRequest) × (v ≡ lines.Copy under s.number (lines.OnInput r))
   own_word c v s h copy own =
       let u : (under : ℕ) × (v ≡ lines.Copy under s.number (word_of input s.request)) = unerased v s.number (word_of input s.request) (sym (copy_says c s copy) ∙ h) in
-      let o : (r : lines.InputRequest) × (word_of input s.request ≡ lines.OnInput r) = own_is (own_request input s.request) (type_of s.request) own in
+      let o : (r : lines.InputRequest) × (word_of input s.request ≡ lines.OnInput r) = own_is (own_request input s.request) (type_of s.request) (concerned input s.request own) in
       (u.0, o.0, u.1 ∙ ap (λ (q : lines.Request). lines.Copy u.0 s.number q) o.1)
 
   not_silent : (c : Cell) (s : Standing) → Silent c → copy_under frames c.mark ≡ Some s → ⊥
@@ -133,7 +162,7 @@ copies_in_order only_new ordered past kept node site found estab input is = subs
     (order_map laws.IsBefore IsAfter (IsAskedUnder line.controller.adjacency.own) (way_to_switch line) (λ v w p q r. all_under line.controller.adjacency.own v w p q r) (new line_estab).requests in_order))
   where
     h : HasInputLine past.now node site input
-    h = kept.world.inputs node site found input is
+    h = kept.world.inputs node site found input (label_input site.controller input is)
 
     line : Line
     line = h.line

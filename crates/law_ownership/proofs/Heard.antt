@@ -3,11 +3,11 @@
 use Rattle.std.proofs.Common.{◌≡◌, ℕ, Bool, true, false, zero, suc, List, [], ◌∷◌, ◌++◌, Option, None, Some, refl, sym, ◌∙◌, ap, subst, arith, if◌then◌else◌, filter, ◌⊎◌, inl, inr}
 use Rattle.std.specs.Prelude.{Contains, ◌&&◌, ◌==◌}
 use Rattle.std.specs.Option.{option_map, option_and_then}
-use Rattle.world_model.specs.Words.{Hello, HelloKind, Ack, PortNo, label_channel_of, Cell, source_of, default_unwrapped, Redirect, Reclaim, ReclaimAck, LabelRange, Error, Frame, payload_of, default_channel, default_home, same_channel, ifmp_in, ifmp_of, ifmp_under, on_channel, Numbered}
-use Rattle.world_model.specs.ifmp_wire.declared.message.Message.{Message}
-use Rattle.world_model.specs.ifmp_wire.declared.message.Message.TheVariants.{Adjacency}
-use Rattle.world_model.specs.Ways.{told}
-use Rattle.world_model.specs.Sent.{numbered}
+use Rattle.law_frame_readings.specs.world_model.Words.{Hello, HelloKind, Ack, PortNo, label_channel_of, Cell, source_of, default_unwrapped, Redirect, Reclaim, ReclaimAck, LabelRange, Error, Frame, payload_of, default_channel, default_home, same_channel, ifmp_in, ifmp_of, ifmp_under, on_channel, Numbered}
+use Rattle.law_frame_readings.specs.world_model.ifmp_wire.declared.message.Message.{Message}
+use Rattle.law_frame_readings.specs.world_model.ifmp_wire.declared.message.Message.TheVariants.{Adjacency}
+use Rattle.law_frame_readings.specs.world_model.Ways.{told}
+use Rattle.law_frame_readings.specs.world_model.Sent.{numbered}
 use Rattle.law_label_line.specs.Cells as lines
 use Rattle.law_label_line.specs.Cells.{Role, Downstream, Upstream}
 use Rattle.law_label_line.specs.Law.{IfNumbered}

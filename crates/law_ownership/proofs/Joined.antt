@@ -4,9 +4,9 @@ use Rattle.std.proofs.Common.{◌≡◌, ℕ, ◌<◌, Bool, true, false, List, 
 use Rattle.std.specs.Prelude.{is_some}
 use Rattle.std.proofs.Common.{inl, inr}
 use Rattle.std.specs.Option.{option_map, option_map_or, option_and_then}
-use Rattle.world_model.specs.Words.{End, is_label_number, label_channel_of, number_of_channel, State, Clearing, SynSent, SynRcvd, Estab, is_estab, IsLinkPort, at, Setup, label_end, home_of, control_end, Label, LabelState, Wiring, Offered, Recalled, Wired, label_number, Grant, Session, labels_of, Controller, Linked, linked_at, port_key, is_clearing, Site, site_at, session_at, output_at, Past, Way, IsWay, IsSpare, IsWiring, held}
-use Rattle.world_model.specs.crossbar_model.Crossbar.{output_of}
-use Rattle.world_model.specs.port_model.Grants.{input_of}
+use Rattle.law_frame_readings.specs.world_model.Words.{End, is_label_number, label_channel_of, number_of_channel, State, Clearing, SynSent, SynRcvd, Estab, is_estab, IsLinkPort, at, Setup, label_end, home_of, control_end, Label, LabelState, Wiring, Offered, Recalled, Wired, label_number, Grant, Session, labels_of, Controller, Linked, linked_at, port_key, is_clearing, Site, site_at, session_at, output_at, Past, Way, IsWay, IsSpare, IsWiring, held}
+use Rattle.law_frame_readings.specs.world_model.crossbar_model.Crossbar.{output_of}
+use Rattle.law_frame_readings.specs.world_model.port_model.Grants.{input_of}
 use Rattle.law_frame_readings.specs.law_port_facts.Port.{IsLabelEnd, IsLabel, IsShut, setup_port}
 use Rattle.law_frame_readings.proofs.law_port_facts.Keyed.{at_every}
 use Rattle.law_frame_readings.specs.law_controller_facts.Sound.{IsLinkedPort, IsShutLinked}

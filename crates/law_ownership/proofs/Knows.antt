@@ -3,10 +3,10 @@
 use Rattle.std.proofs.Common.{◌≡◌, true, Option, None, Some, refl, sym, ◌∙◌, ap, subst}
 use Rattle.std.specs.Prelude.{is_some}
 use Rattle.std.specs.Option.{option_map, option_and_then}
-use Rattle.world_model.specs.Words.{Peer, Side, IsSide, knows_peer, Linked, linked_at, port_key, Site, site_at, side_at, Past, KnowsCleared, HasStored}
+use Rattle.law_frame_readings.specs.world_model.Words.{Peer, Side, IsSide, knows_peer, Linked, linked_at, port_key, Site, site_at, side_at, Past, KnowsCleared, HasStored}
 use Rattle.law_frame_readings.proofs.law_port_facts.Keyed.{at_every}
 use Rattle.law_frame_readings.specs.law_controller_facts.Sound.{IsLinkedPort}
-use Rattle.world_model.specs.network_model.declared.link.LinkEnd.{LinkEnd}
+use Rattle.law_frame_readings.specs.world_model.network_model.declared.link.LinkEnd.{LinkEnd}
 use Rattle.law_frame_readings.specs.law_world_views.Tied.{HasClearedInstances}
 use Rattle.law_frame_readings.specs.law_world_views.Between.{setups_of}
 use Rattle.law_ownership.specs.Owning.{IsKept}

@@ -2,16 +2,16 @@
 
 use Rattle.std.proofs.Common.{◌≡◌, ℕ, ◌<◌, ◌≤◌, Bool, true, List, Option, None, Some, refl, sym}
 use Rattle.std.specs.Option.{option_and_then}
-use Rattle.world_model.specs.Words.{Hello, Ack, Cell, Frame, ifmp_under, Numbered}
-use Rattle.world_model.specs.ifmp_wire.declared.message.Message.{Message}
-use Rattle.world_model.specs.ifmp_wire.declared.message.Message.TheVariants.{Adjacency}
+use Rattle.law_frame_readings.specs.world_model.Words.{Hello, Ack, Cell, Frame, ifmp_under, Numbered}
+use Rattle.law_frame_readings.specs.world_model.ifmp_wire.declared.message.Message.{Message}
+use Rattle.law_frame_readings.specs.world_model.ifmp_wire.declared.message.Message.TheVariants.{Adjacency}
 use Rattle.law_frame_readings.specs.ordered_lists.Ordered.{Every, InOrder}
 use Rattle.law_frame_readings.proofs.ordered_lists.Every.{every_map}
 use Rattle.law_label_line.specs.Cells as lines
 use Rattle.law_label_line.specs.Cells.{Downstream, Upstream}
 use Rattle.law_label_line.specs.Law.{IfNumbered, IsAbove, IsFrom, IsFromSaid}
 use Rattle.law_label_line.specs.Law as laws
-use Rattle.world_model.specs.Sent.{numbered}
+use Rattle.law_frame_readings.specs.world_model.Sent.{numbered}
 use Rattle.law_frame_readings.specs.law_port_views.Link.{LinkLabel}
 use Rattle.law_ownership.specs.Order.{Rises}
 use Rattle.law_ownership.proofs.Matching.{Matches, every_matched, order_matched}

@@ -3,15 +3,15 @@
 use Rattle.std.proofs.Common.{◌≡◌, ℕ, true, List, [], ◌++◌, Option, None, Some, refl, sym, ◌∙◌, ap, subst, append-nil, if◌then◌else◌}
 use Rattle.std.specs.Prelude.{Contains, not}
 use Rattle.std.specs.Option.{option_map, option_map_or, option_and_then}
-use Rattle.world_model.specs.Words.{Instance, Hello, HelloKind, Ack, Peer, Addr, Channel, Down, Up, Out, State, Estab, Side, knows_peer, SideByInstances, router, side_of, Cell, queue_of, Redirect, Reclaim, ReclaimAck, LabelRange, Error, names_of, Frame, Session, Linked, default_channel, default_home, same_channel, control_port, World, Site, queue_at, queue_in, session_at, side_at, chain_at, on_channel, on_default_channel, Past, Way, IsWay, IsOwn, WasCleared, Numbered, HasNoneBelow, HasArrived}
-use Rattle.world_model.specs.ifmp_wire.declared.message.Message.{Message}
-use Rattle.world_model.specs.ifmp_wire.declared.message.Message.TheVariants.{Adjacency}
+use Rattle.law_frame_readings.specs.world_model.Words.{Instance, Hello, HelloKind, Ack, Peer, Addr, Channel, Down, Up, Out, State, Estab, Side, knows_peer, SideByInstances, router, side_of, Cell, queue_of, Redirect, Reclaim, ReclaimAck, LabelRange, Error, names_of, Frame, Session, Linked, default_channel, default_home, same_channel, control_port, World, Site, queue_at, queue_in, session_at, side_at, chain_at, on_channel, on_default_channel, Past, Way, IsWay, IsOwn, WasCleared, Numbered, HasNoneBelow, HasArrived}
+use Rattle.law_frame_readings.specs.world_model.ifmp_wire.declared.message.Message.{Message}
+use Rattle.law_frame_readings.specs.world_model.ifmp_wire.declared.message.Message.TheVariants.{Adjacency}
 use Rattle.law_frame_readings.specs.ordered_lists.Ordered.{Every}
 use Rattle.law_label_line.specs.Cells as lines
 use Rattle.law_label_line.specs.Cells.{Role, Downstream, Upstream}
 use Rattle.law_label_line.specs.Line.{Line}
 use Rattle.law_label_line.specs.Law.{Always, NumbersAreInOrder}
-use Rattle.world_model.specs.Sent.{numbered}
+use Rattle.law_frame_readings.specs.world_model.Sent.{numbered}
 use Rattle.law_frame_readings.specs.law_port_views.Link.{LinkLabel}
 use Rattle.law_frame_readings.specs.law_port_views.Shown.{known_number, expected_number}
 use Rattle.law_frame_readings.specs.law_shown_cells.Label.{OnControl, ShowsCells}

@@ -1,7 +1,7 @@
 -- copies of requests and REDIRECTs are on their own channels
 
 use Rattle.std.proofs.Common.{ℕ, refl}
-use Rattle.world_model.specs.Words.{Past, Way, IsWay, Redirect, label_channel_of}
+use Rattle.law_frame_readings.specs.world_model.Words.{Past, Way, IsWay, Redirect, label_channel_of}
 use Rattle.law_unused_labels.specs.Unused.{HasOwnChannels}
 use Rattle.law_ownership.specs.Owning.{HasOwnWays}
 

@@ -3,8 +3,8 @@
 use Rattle.std.proofs.Common.{◌≡◌, ℕ, Bool, true, [], Option, None, Some, refl, sym, ◌∙◌, ap, subst, if◌then◌else◌}
 use Rattle.std.specs.Prelude.{Contains}
 use Rattle.std.specs.Option.{option_map_or}
-use Rattle.world_model.specs.Words.{End, Instance, is_label_number, label_channel_of, FlowId, Reclaim, ReclaimAck, at, Label, LabelState, Wiring, Offered, Recalled, Wired, Grant, Leaving, grant_label, Session, Linked, port_key, World, session_at, grants_at, Past, Way, IsWay, HasNoReclaim, IsNotRecalled, IsNotRecalledIn, held}
-use Rattle.world_model.specs.ifmp_wire.declared.message.Message.{Message}
+use Rattle.law_frame_readings.specs.world_model.Words.{End, Instance, is_label_number, label_channel_of, FlowId, Reclaim, ReclaimAck, at, Label, LabelState, Wiring, Offered, Recalled, Wired, Grant, Leaving, grant_label, Session, Linked, port_key, World, session_at, grants_at, Past, Way, IsWay, HasNoReclaim, IsNotRecalled, IsNotRecalledIn, held}
+use Rattle.law_frame_readings.specs.world_model.ifmp_wire.declared.message.Message.{Message}
 use Rattle.law_frame_readings.proofs.law_port_facts.Keyed.{at_every, each_found}
 use Rattle.law_frame_readings.specs.law_controller_facts.Sound.{IsLinkedPort}
 use Rattle.law_label_line.specs.Cells as lines

@@ -6,10 +6,10 @@ use Rattle.std.specs.Prelude.{Contains, is_some, ◌&&◌, nat_lt, nat_le}
 use Rattle.std.proofs.Common.{inl, inr}
 use Rattle.std.proofs.lemmas.List.Elements.{Contains-append_cases, Contains-append_left, Contains-append_right}
 use Rattle.std.proofs.lemmas.Bool.Decides.{nat_tests}
-use Rattle.world_model.specs.Words.{NodeId, PortNo, Down, Up, Out, Channel, End, is_label_number, is_label_channel, label_channel_of, number_of_channel, Cell, Standing, control_end, label_end, default_channel, same_channel, port_on, on_link, queue_at, IsTopology, to_switch, requests_chain_at, gsmp_to_switch, on_channel, copy_under, Past, last_bound, Way, IsWay, User, ByCell, ByBranch, ByRequest, Uses, on_the_link, off_the_link, granted, connected, copied, from_controller, StandsForLast}
-use Rattle.world_model.specs.network_model.declared.link.LinkEnd.{LinkEnd}
-use Rattle.world_model.specs.Topology.{peer_of}
-use Rattle.world_model.specs.Users.{asked, redirected}
+use Rattle.law_frame_readings.specs.world_model.Words.{NodeId, PortNo, Down, Up, Out, Channel, End, is_label_number, is_label_channel, label_channel_of, number_of_channel, Cell, Standing, control_end, label_end, default_channel, same_channel, port_on, on_link, queue_at, IsTopology, to_switch, requests_chain_at, gsmp_to_switch, on_channel, copy_under, Past, last_bound, Way, IsWay, User, ByCell, ByBranch, ByRequest, Uses, on_the_link, off_the_link, granted, connected, copied, from_controller, StandsForLast}
+use Rattle.law_frame_readings.specs.world_model.network_model.declared.link.LinkEnd.{LinkEnd}
+use Rattle.law_frame_readings.specs.world_model.Topology.{peer_of}
+use Rattle.law_frame_readings.specs.world_model.Users.{asked, redirected}
 use Rattle.law_frame_readings.proofs.law_port_facts.Keyed.{by_eq}
 use Rattle.law_frame_readings.proofs.law_shown_cells.Frames.{differ}
 use Rattle.law_unused_labels.proofs.law_causes.Shown.{IsPeer, peer_back}

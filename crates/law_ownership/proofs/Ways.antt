@@ -6,15 +6,15 @@ use Rattle.std.specs.Prelude.{Contains, is_some, slice_get, slice_index}
 use Rattle.std.proofs.Common.{inl, inr}
 use Rattle.std.specs.Option.{option_map}
 use Rattle.std.proofs.lemmas.List.Elements.{Contains-append_cases, Contains-append_left, Contains-append_right}
-use Rattle.world_model.specs.Words.{NodeId, PortNo, Down, Up, Out, Channel, channel_on_control, Instance, Mark, Peer, Addr, Side, Cell, names_of, Frame, payload_of, Standing, default_channel, default_home, same_channel, port_on, on_link, Topology, is_linked, World, next, worlds_from, world_after, queue_at, side_at, chain_at, on_channel, on_the_way, on_default_channel, ifmp_under, gsmp_under, copy_under, Past, past_of, frames_of, Way, IsWay, IsOwn, WasCleared, WaitsAs}
-use Rattle.world_model.specs.ifmp_wire.declared.message.Message.{Message}
-use Rattle.world_model.specs.gsmp_wire.declared.message.Message.{Message as GsmpMessage}
-use Rattle.world_model.specs.gsmp_wire.Layout.{octets_of as gsmp_octets}
+use Rattle.law_frame_readings.specs.world_model.Words.{NodeId, PortNo, Down, Up, Out, Channel, channel_on_control, Instance, Mark, Peer, Addr, Side, Cell, names_of, Frame, payload_of, Standing, default_channel, default_home, same_channel, port_on, on_link, Topology, is_linked, World, next, worlds_from, world_after, queue_at, side_at, chain_at, on_channel, on_the_way, on_default_channel, ifmp_under, gsmp_under, copy_under, Past, past_of, frames_of, Way, IsWay, IsOwn, WasCleared, WaitsAs}
+use Rattle.law_frame_readings.specs.world_model.ifmp_wire.declared.message.Message.{Message}
+use Rattle.law_frame_readings.specs.world_model.gsmp_wire.declared.message.Message.{Message as GsmpMessage}
+use Rattle.law_frame_readings.specs.world_model.gsmp_wire.Layout.{octets_of as gsmp_octets}
 use Rattle.law_frame_readings.specs.law_controller_views.Lifted.{payload_by}
-use Rattle.world_model.specs.network_model.declared.link.LinkEnd.{LinkEnd}
-use Rattle.world_model.specs.Topology.{peer_of}
-use Rattle.world_model.specs.network_model.declared.event.Event.{Event}
-use Rattle.world_model.specs.World.{opened}
+use Rattle.law_frame_readings.specs.world_model.network_model.declared.link.LinkEnd.{LinkEnd}
+use Rattle.law_frame_readings.specs.world_model.Topology.{peer_of}
+use Rattle.law_frame_readings.specs.world_model.network_model.declared.event.Event.{Event}
+use Rattle.law_frame_readings.specs.world_model.World.{opened}
 use Rattle.law_frame_readings.proofs.law_shown_cells.Frames.{same_self, same_is}
 use Rattle.law_unused_labels.proofs.law_causes.Shown.{IsPeer, peer_back}
 use Rattle.law_unused_labels.proofs.law_causes.Ends.{control_parts}

@@ -4,10 +4,10 @@ use Rattle.std.proofs.Common.{◌≡◌, Bool, true, List, ◌++◌}
 use Rattle.std.specs.Prelude.{Contains}
 use Rattle.std.proofs.Common.{inl, inr}
 use Rattle.std.proofs.lemmas.List.Elements.{Contains-append_cases}
-use Rattle.world_model.specs.Words.{Channel, Down, Up, Out, Cell, default_channel, default_home, same_channel, World, queue_at, chain_at, on_channel, on_default_channel}
+use Rattle.law_frame_readings.specs.world_model.Words.{Channel, Down, Up, Out, Cell, default_channel, default_home, same_channel, World, queue_at, chain_at, on_channel, on_default_channel}
 use Rattle.law_label_line.specs.Cells as lines
 use Rattle.law_label_line.specs.Law.{IsNoReclaim}
-use Rattle.world_model.specs.network_model.declared.link.LinkEnd.{LinkEnd}
+use Rattle.law_frame_readings.specs.world_model.network_model.declared.link.LinkEnd.{LinkEnd}
 use Rattle.law_frame_readings.specs.law_shown_cells.Label.{erased}
 use Rattle.law_unused_labels.proofs.Reading.{filtered}
 

@@ -1,8 +1,8 @@
 -- Before each event that binds a label nobody uses it, over a run
 
 use Rattle.std.specs.Prelude.{◌≡◌, List, ◌∷◌, ◌++◌}
-use Rattle.world_model.specs.Words.{Policy, Topology, past_of, BindsUnused}
-use Rattle.world_model.specs.network_model.declared.event.Event.{Event}
+use Rattle.law_frame_readings.specs.world_model.Words.{Policy, Topology, past_of, BindsUnused}
+use Rattle.law_frame_readings.specs.world_model.network_model.declared.event.Event.{Event}
 use Rattle.law_frame_readings.specs.law_world_views.Kept.{BindsUnusedAt}
 
 -- at each event of a run

@@ -1,4 +1,4 @@
-pub mod Order
+pub use Rattle.law_run_facts.specs.law_controller_facts.claims_model.Order as Order
 pub mod Owning
 pub mod Copies
 pub mod Places

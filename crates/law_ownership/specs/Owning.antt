@@ -1,15 +1,15 @@
 -- What is so of each label of each link in a network of a run, between its events: that it is owned
 
 use Rattle.std.specs.Prelude.{◌≡◌, true, Contains, Some}
-use Rattle.world_model.specs.Words.{Down, Cell, names_of, Standing, IsLinkPort, Setup, default_channel, same_channel, IsTopology, World, queue_at, side_at, on_the_way, on_default_channel, ifmp_under, copy_under, Past, Way, IsWay, IsOwn, WasCleared, AreOwned}
-use Rattle.world_model.specs.ifmp_wire.declared.message.Message.{Message}
+use Rattle.law_frame_readings.specs.world_model.Words.{Down, Cell, names_of, Standing, IsLinkPort, Setup, default_channel, same_channel, IsTopology, World, queue_at, side_at, on_the_way, on_default_channel, ifmp_under, copy_under, Past, Way, IsWay, IsOwn, WasCleared, AreOwned}
+use Rattle.law_frame_readings.specs.world_model.ifmp_wire.declared.message.Message.{Message}
 use Rattle.law_frame_readings.specs.ordered_lists.Ordered.{Every}
-use Rattle.world_model.specs.network_model.declared.link.LinkEnd.{LinkEnd}
+use Rattle.law_frame_readings.specs.world_model.network_model.declared.link.LinkEnd.{LinkEnd}
 use Rattle.law_frame_readings.specs.law_controller_facts.Sound.{IsSound}
 use Rattle.law_run_facts.specs.law_controller.Match.{IsMatched}
 use Rattle.law_frame_readings.specs.law_world_views.Tied.{tells_its_own}
 use Rattle.law_frame_readings.specs.law_world_views.Between.{EachSite, IsWorld, setups_of}
-use Rattle.law_ownership.specs.Order.{IsInOrder}
+use Rattle.law_run_facts.specs.law_controller_facts.claims_model.Order.{AreInOrder}
 
 -- a network of a run whose controllers are sound, with joins and grants that match
 pub record IsKept (past : Past) : Type 0 where
@@ -42,10 +42,6 @@ pub record HasOwnWays (past : Past) : Type 0 where
 -- *Each label of each link is owned*
 abbrev pub LabelsAreOwned : Type 0
 LabelsAreOwned = (past : Past) → IsKept past → HasOwnWays past → AreOwned past
-
--- *What is said on each way of each link* is in the order of its numbers
-abbrev pub AreInOrder : Past → Type 0
-AreInOrder past = (way : Way) → IsWay past.topology way → IsInOrder past.now way.down way.up
 
 abbrev pub WaysAreInOrder : Type 0
 WaysAreInOrder = (past : Past) → IsKept past → HasOwnWays past → AreInOrder past

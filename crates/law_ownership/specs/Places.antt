@@ -1,9 +1,9 @@
 -- On which channels control frames go between a controller and its switch
 
 use Rattle.std.specs.Prelude.{◌≡◌, true, List, Contains, Some, ◌⊎◌}
-use Rattle.world_model.specs.Words.{NodeId, Down, Up, Cell, Policy, default_channel, same_channel, port_on, Topology, is_linked, IsNode, queue_at, gsmp_under, Past, past_of, frames_of}
-use Rattle.world_model.specs.gsmp_wire.declared.message.Message.{Message}
-use Rattle.world_model.specs.network_model.declared.event.Event.{Event}
+use Rattle.law_frame_readings.specs.world_model.Words.{NodeId, Down, Up, Cell, Policy, default_channel, same_channel, port_on, Topology, is_linked, IsNode, queue_at, gsmp_under, Past, past_of, frames_of}
+use Rattle.law_frame_readings.specs.world_model.gsmp_wire.declared.message.Message.{Message}
+use Rattle.law_frame_readings.specs.world_model.network_model.declared.event.Event.{Event}
 use Rattle.law_ownership.specs.Owning.{IsKept, HasOwnWays}
 
 -- *A control frame* is GSMP's, on GSMP's channel, or it goes by a port of a link

@@ -2,12 +2,12 @@
 
 use Rattle.std.proofs.Common.{◌≡◌, ◌⊎◌, inl, inr, ℕ, zero, suc, ◌+◌, ◌*◌, ◌/◌, ◌%◌, Bool, true, false, List, [], ◌∷◌, length, Option, None, Some, refl, sym, ◌∙◌, ap, subst, arith, count_by}
 use Rattle.std.specs.Prelude.{Contains, slice_get, is_some}
-use Rattle.world_model.specs.Words.{NodeId, PortNo, Place, Down, Up, Out, Channel, Mark, channel_on_control, number_of_channel, label_channel_of, Cell, FlowId, Frame, payload_of, Record, Delivered, Dropped, Bind, Policy, Fate, IsDelivered, IsDropped, is_fate_of, has_loss_of, default_channel, port_on, on_link, same_channel, Topology, is_linked, IsTopology, IsPlace, World, queue_at, tallied, put_away, IsFateAt, Past, past_of, frames_of, bound_by, last_bound, Way, IsWay, User, ByCell, Uses, on_the_link, off_the_link, from_controller, IsUnused, WasAccepted, fates_of, IsTrueFate}
+use Rattle.law_arrival_views.specs.world_model.Words.{NodeId, PortNo, Place, Down, Up, Out, Channel, Mark, channel_on_control, number_of_channel, label_channel_of, Cell, FlowId, Frame, payload_of, Record, Delivered, Dropped, Bind, Policy, Fate, IsDelivered, IsDropped, is_fate_of, has_loss_of, default_channel, port_on, on_link, same_channel, Topology, is_linked, IsTopology, IsPlace, World, queue_at, tallied, put_away, IsFateAt, Past, past_of, frames_of, bound_by, last_bound, Way, IsWay, User, ByCell, Uses, on_the_link, off_the_link, from_controller, IsUnused, WasAccepted, fates_of, IsTrueFate}
 use Rattle.law_arrival_views.specs.ordered_lists.Ordered.{Every}
 use Rattle.law_packet_worlds.proofs.Lists.{count_by-append}
-use Rattle.world_model.specs.network_model.declared.event.Event.{Event}
-use Rattle.world_model.specs.network_model.declared.link.LinkEnd.{LinkEnd}
-use Rattle.world_model.specs.Topology.{peer_of}
+use Rattle.law_arrival_views.specs.world_model.network_model.declared.event.Event.{Event}
+use Rattle.law_arrival_views.specs.world_model.network_model.declared.link.LinkEnd.{LinkEnd}
+use Rattle.law_arrival_views.specs.world_model.Topology.{peer_of}
 use Rattle.law_run_facts.specs.law_world_views.Marks.{Heading, heading_at, HasCome, Means, early, control, local, plain, labelled, last_cells}
 use Rattle.law_run_facts.specs.law_world_views.Between.{IsWorld}
 use Rattle.law_run_facts.specs.law_world_views.Kept.{behind}

@@ -5,12 +5,12 @@ use Rattle.std.specs.Prelude.{Contains, slice_get}
 use Rattle.std.specs.List.{list_any, count_by}
 use Rattle.std.specs.Option.{option_or}
 use Rattle.std.proofs.lemmas.Bool.Decides.{nat_tests}
-use Rattle.world_model.specs.Words.{FlowId, Record, Bind, NodeId, PortNo, bound_by, last_bound, is_bind}
-use Rattle.world_model.specs.link_model.declared.record.Record.TheVariants as records
+use Rattle.law_arrival_views.specs.world_model.Words.{FlowId, Record, Bind, NodeId, PortNo, bound_by, last_bound, is_bind}
+use Rattle.law_arrival_views.specs.world_model.link_model.declared.record.Record.TheVariants as records
 use Rattle.law_arrival_views.specs.ordered_lists.Ordered.{Every}
 use Rattle.law_run_facts.proofs.Frames.{bound_then}
 use Rattle.law_packet_worlds.proofs.Lists.{or_left, or_right, count_by-skip}
-use Rattle.world_model.specs.network_model.declared.link.LinkEnd.{LinkEnd}
+use Rattle.law_arrival_views.specs.world_model.network_model.declared.link.LinkEnd.{LinkEnd}
 
 bound_none : (ys : List Record) (end : LinkEnd) (label : ℕ) → Every (λ (item : Record). bound_by end label item ≡ None) ys → last_bound ys end label ≡ None
 bound_none [] end label each = refl

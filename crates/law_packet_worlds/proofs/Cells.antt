@@ -3,14 +3,14 @@
 use Rattle.std.proofs.Common.{◌≡◌, ℕ, ◌==◌, ◌&&◌, Bool, true, false, cond, List, [], ◌∷◌, ◌++◌, Option, None, Some, refl, sym, ◌∙◌, ap, subst, if◌then◌else◌, inl}
 use Rattle.std.specs.Prelude.{nat_lt}
 use Rattle.std.specs.Option.{option_and_then}
-use Rattle.world_model.specs.Words.{NodeId, PortNo, Down, Up, Channel, Mark, number_of_channel, label_number_of, Cell, Loss, Chance, PoolFull, Unbound, is_frame, payload_of, Journal, noted, Reassembly, skipping_from, broken, marks_of, tested, tested_by, last_mark, payload_in, Label, is_bound, label_at, Controller, Linked, port_key, linked_at, chains_with, default_channel, ForGsmp, ForDefault, ForLabel, port_on, on_link, same_channel, label_taker, taker_at, taker_of, reassembly_of, with_reassembly, frame_holds, takes_cell, last_bound, IsTame}
-use Rattle.world_model.specs.frame_model.Reassembly.{Taken, taken}
-use Rattle.world_model.specs.frame_model.Frame.{passed, octets_of}
+use Rattle.law_arrival_views.specs.world_model.Words.{NodeId, PortNo, Down, Up, Channel, Mark, number_of_channel, label_number_of, Cell, Loss, Chance, PoolFull, Unbound, is_frame, payload_of, Journal, noted, Reassembly, skipping_from, broken, marks_of, tested, tested_by, last_mark, payload_in, Label, is_bound, label_at, Controller, Linked, port_key, linked_at, chains_with, default_channel, ForGsmp, ForDefault, ForLabel, port_on, on_link, same_channel, label_taker, taker_at, taker_of, reassembly_of, with_reassembly, frame_holds, takes_cell, last_bound, IsTame}
+use Rattle.law_arrival_views.specs.world_model.frame_model.Reassembly.{Taken, taken}
+use Rattle.law_arrival_views.specs.world_model.frame_model.Frame.{passed, octets_of}
 use Rattle.law_arrival_views.specs.ordered_lists.Ordered.{Every}
 use Rattle.law_arrival_views.proofs.law_port_facts.Keyed.{on_each, at_key, at_every, put_every}
-use Rattle.world_model.specs.Controller.{Acted, free_slots, note}
-use Rattle.world_model.specs.Cells.{Taker, opened_frame, after_test, ends_frame, after_cell, cell_comes}
-use Rattle.world_model.specs.Topology.{peer_of}
+use Rattle.law_arrival_views.specs.world_model.Controller.{Acted, free_slots, note}
+use Rattle.law_arrival_views.specs.world_model.Cells.{Taker, opened_frame, after_test, ends_frame, after_cell, cell_comes}
+use Rattle.law_arrival_views.specs.world_model.Topology.{peer_of}
 use Rattle.law_run_facts.specs.law_world_views.Marks.{heading_at, Means}
 use Rattle.law_packet_worlds.proofs.Ledger.{entered, broken_cells, is_made}
 use Rattle.law_packet_worlds.proofs.Cut.{one}

@@ -3,7 +3,7 @@
 use Rattle.std.proofs.Common.{◌≡◌, ℕ, ◌+◌, ◌-◌, ◌*◌, ◌==◌, true, false, cond, List, [], ◌∷◌, ◌++◌, map, length, refl, ◌∙◌, ap, arith, zero-add}
 use Rattle.std.specs.List.{range_with_len}
 use Rattle.std.proofs.lemmas.List.FromFn.{map-range_with_len_more, length-map-range_with_len}
-use Rattle.world_model.specs.Words.{Channel, Mark, Cell, frame_cells}
+use Rattle.law_arrival_views.specs.world_model.Words.{Channel, Mark, Cell, frame_cells}
 use Rattle.law_arrival_views.specs.aal5_frames.Frame.{cell_of, cells_for, pdu_of}
 use Rattle.law_arrival_views.proofs.aal5_frames.Cells.{cells_all, length-pdu_of}
 use Rattle.law_arrival_views.specs.ordered_lists.Ordered.{Every}

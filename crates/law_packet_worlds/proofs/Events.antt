@@ -3,21 +3,21 @@
 use Rattle.std.proofs.Common.{◌≡◌, ◌⊎◌, inl, inr, ℕ, suc, ◌<◌, ◌+◌, Bool, true, false, List, [], ◌∷◌, length, cond, Option, None, Some, refl, sym, ◌∙◌, ap, subst, arith}
 use Rattle.std.specs.Prelude.{Contains, is_some, ◌==◌}
 use Rattle.std.proofs.lemmas.Bool.Decides.{nat_tests}
-use Rattle.world_model.specs.Words.{NodeId, PortNo, Place, Down, Up, Out, Mark, RouteChange, Cell, Loss, Lost, control_port, injected, change_comes, node_restarts, IsTopology, IsNode, IsPlace, World, Site, site_at, with_site, controller_acts, switch_acts, queue_at, with_queue, with_queue_in, same_queue, Past, IsTame, arrives_at, arrives, carries_head, loses_head}
+use Rattle.law_arrival_views.specs.world_model.Words.{NodeId, PortNo, Place, Down, Up, Out, Mark, RouteChange, Cell, Loss, Lost, control_port, injected, change_comes, node_restarts, IsTopology, IsNode, IsPlace, World, Site, site_at, with_site, controller_acts, switch_acts, queue_at, with_queue, with_queue_in, same_queue, Past, IsTame, arrives_at, arrives, carries_head, loses_head}
 use Rattle.law_arrival_views.specs.ordered_lists.Ordered.{Every}
 use Rattle.law_arrival_views.proofs.ordered_lists.Every.{every_map}
-use Rattle.world_model.specs.crossbar_model.Crossbar.{input_of}
-use Rattle.world_model.specs.Switch as switches
-use Rattle.world_model.specs.Conduct as switch
-use Rattle.world_model.specs.Controller.{Acted, ports_of}
-use Rattle.world_model.specs.Cells as takes
-use Rattle.world_model.specs.Ticks.{ticks}
-use Rattle.world_model.specs.network_model.declared.link.LinkEnd.{LinkEnd}
-use Rattle.world_model.specs.Topology.{peer_of}
-use Rattle.world_model.specs.World.{at_controller, at_switch}
-use Rattle.world_model.specs.Step.{note}
-use Rattle.world_model.proofs.Lists.{length_set}
-use Rattle.world_model.proofs.Queues.{Sets}
+use Rattle.law_arrival_views.specs.world_model.crossbar_model.Crossbar.{input_of}
+use Rattle.law_arrival_views.specs.world_model.Switch as switches
+use Rattle.law_arrival_views.specs.world_model.Conduct as switch
+use Rattle.law_arrival_views.specs.world_model.Controller.{Acted, ports_of}
+use Rattle.law_arrival_views.specs.world_model.Cells as takes
+use Rattle.law_arrival_views.specs.world_model.Ticks.{ticks}
+use Rattle.law_arrival_views.specs.world_model.network_model.declared.link.LinkEnd.{LinkEnd}
+use Rattle.law_arrival_views.specs.world_model.Topology.{peer_of}
+use Rattle.law_arrival_views.specs.world_model.World.{at_controller, at_switch}
+use Rattle.law_arrival_views.specs.world_model.Step.{note}
+use Rattle.law_arrival_views.proofs.world_model.Lists.{length_set}
+use Rattle.law_arrival_views.proofs.world_model.Queues.{Sets}
 use Rattle.law_run_facts.specs.law_world_views.Marks.{Heading, heading_at, HasCome, IsNewest, Means}
 use Rattle.law_unused_labels.proofs.law_causes.Shown.{IsPeer, peer_back}
 use Rattle.law_run_facts.proofs.law_actor_pace.Controllers.{cell_follows, injected_paces, ticks_paces, restarts_paces, change_changes}

@@ -4,11 +4,11 @@ use Rattle.std.proofs.Common.{◌≡◌, ℕ, zero, suc, Bool, true, false, List
 use Rattle.std.specs.Prelude.{Contains, slice_get}
 use Rattle.std.proofs.lemmas.Bool.Decides.{nat_tests}
 use Rattle.std.proofs.lemmas.List.Concat.{flat_map-cons}
-use Rattle.world_model.specs.Words.{Record, Journal, Policy, is_fate_of, Topology, Node, World, opens_each, with_opened, worlds_from, Past, past_of, WasAccepted, AreTrueFates, HasFatesOnce}
-use Rattle.world_model.specs.link_model.declared.record.Record.TheVariants as records
+use Rattle.law_arrival_views.specs.world_model.Words.{Record, Journal, Policy, is_fate_of, Topology, Node, World, opens_each, with_opened, worlds_from, Past, past_of, WasAccepted, AreTrueFates, HasFatesOnce}
+use Rattle.law_arrival_views.specs.world_model.link_model.declared.record.Record.TheVariants as records
 use Rattle.law_packet_worlds.proofs.Lists.{count_by-append}
-use Rattle.world_model.specs.network_model.declared.event.Event.{Event}
-use Rattle.world_model.specs.World.{opened}
+use Rattle.law_arrival_views.specs.world_model.network_model.declared.event.Event.{Event}
+use Rattle.law_arrival_views.specs.world_model.World.{opened}
 use Rattle.law_run_facts.specs.law_world_views.Between.{HasPacketsOnce}
 use Rattle.law_packet_worlds.proofs.Bound.{count_none}
 

@@ -3,7 +3,7 @@
 use Rattle.std.proofs.Common.{◌≡◌, ℕ, ◌<◌, ◌≤◌, ◌+◌, ◌==◌, ◌&&◌, Bool, true, false, cond, List, ◌++◌, None, Some, refl, ap, arith, inl, inr}
 use Rattle.std.proofs.lemmas.Bool.{cases_lt}
 use Rattle.std.proofs.lemmas.Bool.Decides.{nat_tests}
-use Rattle.world_model.specs.Words.{Place, Channel, Mark, Cell, Frame, Loss, PoolFull, payload_of, same_mark, noted, made, next_mark, frame_cells}
+use Rattle.law_arrival_views.specs.world_model.Words.{Place, Channel, Mark, Cell, Frame, Loss, PoolFull, payload_of, same_mark, noted, made, next_mark, frame_cells}
 use Rattle.law_arrival_views.specs.ordered_lists.Ordered.{Every}
 use Rattle.law_arrival_views.proofs.ordered_lists.Every.{every_join}
 use Rattle.law_packet_worlds.proofs.Lists.{count_by-append}

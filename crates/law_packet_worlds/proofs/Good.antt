@@ -4,7 +4,7 @@
 use Rattle.std.proofs.Common.{◌≡◌, ℕ, suc, ◌<◌, ◌≤◌, ◌+◌, ◌==◌, Bool, true, false, List, [], ◌∷◌, ◌++◌, map, length, None, refl, sym, ◌∙◌, ap, arith}
 use Rattle.std.specs.List.{count_by}
 use Rattle.std.proofs.lemmas.Bool.Decides.{nat_tests}
-use Rattle.world_model.specs.Words.{Place, Mark, Cell, Entry, Frame, Cause, Broken, Cut, Record, Delivered, Dropped, Loss, payload_of, same_mark, has_entry, Journal, noted, losses_of, Reassembly, broken, noted_all, distinct, marks_of, cut, made, IsDelivered, IsDropped, is_fate_of, has_loss_of, same_queue, IsPlace, WasAccepted, IsTrueFate, Past}
+use Rattle.law_arrival_views.specs.world_model.Words.{Place, Mark, Cell, Entry, Frame, Cause, Broken, Cut, Record, Delivered, Dropped, Loss, payload_of, same_mark, has_entry, Journal, noted, losses_of, Reassembly, broken, noted_all, distinct, marks_of, cut, made, IsDelivered, IsDropped, is_fate_of, has_loss_of, same_queue, IsPlace, WasAccepted, IsTrueFate, Past}
 use Rattle.law_arrival_views.specs.ordered_lists.Ordered.{Every}
 use Rattle.law_arrival_views.proofs.ordered_lists.Every.{every_join, every_map2}
 use Rattle.law_packet_worlds.proofs.Lists.{count_by-append, none_front}

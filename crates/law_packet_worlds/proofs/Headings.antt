@@ -4,12 +4,12 @@ use Rattle.std.proofs.Common.{◌≡◌, ℕ, ◌<◌, ◌≤◌, ◌+◌, ◌==
 use Rattle.std.specs.Prelude.{nat_lt, nat_le, ◌*◌, ◌/◌, ◌%◌}
 use Rattle.std.specs.Option.{option_map_or, option_or}
 use Rattle.std.proofs.lemmas.Bool.Decides.{nat_tests}
-use Rattle.world_model.specs.Words.{NodeId, PortNo, Down, Up, Channel, channel_on_control, label_channel_of, number_of_channel, is_label_channel, FlowId, FlowKind, kind_of, flow_of, same_flow, Grant, is_by_controller, grant_for, grant_of_kind, grant_matching, default_channel, port_on, on_link, same_channel, Topology}
-use Rattle.world_model.specs.ipv4_packet.declared.flow.FlowKind.TheVariants.{One, Two}
+use Rattle.law_arrival_views.specs.world_model.Words.{NodeId, PortNo, Down, Up, Channel, channel_on_control, label_channel_of, number_of_channel, is_label_channel, FlowId, FlowKind, kind_of, flow_of, same_flow, Grant, is_by_controller, grant_for, grant_of_kind, grant_matching, default_channel, port_on, on_link, same_channel, Topology}
+use Rattle.law_arrival_views.specs.world_model.ipv4_packet.declared.flow.FlowKind.TheVariants.{One, Two}
 use Rattle.law_arrival_views.proofs.law_port_facts.Found.{find_passes}
 use Rattle.law_arrival_views.proofs.law_port_views.Flows.{flow_is}
-use Rattle.world_model.specs.network_model.declared.link.LinkEnd.{LinkEnd}
-use Rattle.world_model.specs.Topology.{peer_of}
+use Rattle.law_arrival_views.specs.world_model.network_model.declared.link.LinkEnd.{LinkEnd}
+use Rattle.law_arrival_views.specs.world_model.Topology.{peer_of}
 use Rattle.law_run_facts.specs.law_world_views.Marks.{Heading, own_end, heading_at}
 use Rattle.law_packet_worlds.proofs.Hops.{some_flow}
 use Rattle.law_packet_worlds.proofs.Ledger.{and_right, and_left}

@@ -3,17 +3,17 @@
 use Rattle.std.proofs.Common.{◌≡◌, ℕ, ◌-◌, ◌<◌, ◌≤◌, ◌==◌, Bool, true, false, nat_lt, nat_le, List, length, Option, None, Some, Ok, refl, sym, ◌∙◌, ap, ap₂, subst, arith, if◌then◌else◌}
 use Rattle.std.proofs.lemmas.Bool.Decides.{nat_tests}
 use Rattle.std.proofs.lemmas.List.{length-set}
-use Rattle.world_model.specs.Words.{ttl_of, destination_of, protocol_of, with_ttl, canonical, IsPacket, PacketFault, Refusal, ControlProtocol, control_protocol, refused_by, inject_refusal, best, hop_by, hop_of, onward, Next, Local, Via, Hop, Here, On, PortNo, FlowKind, FlowId, flow_destination, kind_of, flow_ttl, at_ttl, flow_of, next_hop_of, default_payload, default_unwrapped, unwrapped, unwrapped_by, labelled_payload, Carries}
-use Rattle.world_model.specs.ipv4_packet.Packet.{first_fault}
+use Rattle.law_arrival_views.specs.world_model.Words.{ttl_of, destination_of, protocol_of, with_ttl, canonical, IsPacket, PacketFault, Refusal, ControlProtocol, control_protocol, refused_by, inject_refusal, best, hop_by, hop_of, onward, Next, Local, Via, Hop, Here, On, PortNo, FlowKind, FlowId, flow_destination, kind_of, flow_ttl, at_ttl, flow_of, next_hop_of, default_payload, default_unwrapped, unwrapped, unwrapped_by, labelled_payload, Carries}
+use Rattle.law_arrival_views.specs.world_model.ipv4_packet.Packet.{first_fault}
 use Rattle.law_arrival_views.proofs.octet_fields.FieldLemmas.{AreOctets}
-use Rattle.world_model.proofs.ipv4_packet.HeaderLemmas.{IsPacket-with_ttl}
-use Rattle.world_model.proofs.ipv4_packet.RouteLemmas.{canonical-canonical, protocol_of-rerouted}
+use Rattle.law_arrival_views.proofs.world_model.ipv4_packet.HeaderLemmas.{IsPacket-with_ttl}
+use Rattle.law_arrival_views.proofs.world_model.ipv4_packet.RouteLemmas.{canonical-canonical, protocol_of-rerouted}
 use Rattle.law_packet_worlds.proofs.Onward.{fault_onward}
 use Rattle.law_arrival_views.proofs.law_controller_facts.Onward.{packet_of}
-use Rattle.world_model.specs.ipv4_forward.declared.table.Route.{Route}
-use Rattle.world_model.specs.ipv4_forward.declared.outcome.Hop.TheVariants.{NoRoute, Expired}
-use Rattle.world_model.specs.ipv4_packet.declared.flow.FlowKind.TheVariants.{One as ConnectionKind, Two as HostsKind}
-use Rattle.world_model.proofs.flow_encaps.CarryLemmas.{packet-carried, unwrap_fault-carried, Carries-next_hop}
+use Rattle.law_arrival_views.specs.world_model.ipv4_forward.declared.table.Route.{Route}
+use Rattle.law_arrival_views.specs.world_model.ipv4_forward.declared.outcome.Hop.TheVariants.{NoRoute, Expired}
+use Rattle.law_arrival_views.specs.world_model.ipv4_packet.declared.flow.FlowKind.TheVariants.{One as ConnectionKind, Two as HostsKind}
+use Rattle.law_arrival_views.proofs.world_model.flow_encaps.CarryLemmas.{packet-carried, unwrap_fault-carried, Carries-next_hop}
 
 -- where packets of a flow go
 abbrev pub flow_hop : List Route → FlowId → Hop

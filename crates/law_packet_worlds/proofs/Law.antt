@@ -3,18 +3,18 @@
 use Rattle.std.proofs.Common.{◌≡◌, ◌⊎◌, inl, inr, ℕ, zero, suc, ◌+◌, true, false, List, [], ◌∷◌, ◌++◌, length, Option, None, Some, refl, sym, ◌∙◌, ap, subst, arith}
 use Rattle.std.specs.Prelude.{nat_le, slice_get}
 use Rattle.std.specs.List.{list_any}
-use Rattle.world_model.specs.Words.{NodeId, Place, Down, Up, Out, Channel, Mark, PortNo, next_control, with_control, Record, Refused, Forged, Loss, PoolFull, Refusal, noted, made, frame_cells, Policy, Controller, inject_refusal, injected, Topology, IsTopology, IsNode, IsEvent, World, Site, site_at, controller_acts, switch_acts, injects_by, forges, tallied, put_away, Reaches, sent_by, Past, past_of, IsTame, is_wild, WasAccepted}
-use Rattle.world_model.specs.frame_model.Sending.{Sent as SentFrame}
+use Rattle.law_arrival_views.specs.world_model.Words.{NodeId, Place, Down, Up, Out, Channel, Mark, PortNo, next_control, with_control, Record, Refused, Forged, Loss, PoolFull, Refusal, noted, made, frame_cells, Policy, Controller, inject_refusal, injected, Topology, IsTopology, IsNode, IsEvent, World, Site, site_at, controller_acts, switch_acts, injects_by, forges, tallied, put_away, Reaches, sent_by, Past, past_of, IsTame, is_wild, WasAccepted}
+use Rattle.law_arrival_views.specs.world_model.frame_model.Sending.{Sent as SentFrame}
 use Rattle.law_arrival_views.proofs.law_port_facts.Keyed.{on_both}
-use Rattle.world_model.specs.Switch as switches
-use Rattle.world_model.specs.Conduct as switch
-use Rattle.world_model.specs.Controller.{Acted, free_slots}
-use Rattle.world_model.specs.Sending.{with_cells, sends}
-use Rattle.world_model.specs.network_model.declared.event.Event.{Event}
-use Rattle.world_model.specs.network_model.declared.event.Event.TheVariants.{Inject, Carry, Lose, Tick, TickSwitch, Restart, RestartSwitch, Forge, Route}
-use Rattle.world_model.specs.World.{at_controller, at_switch}
-use Rattle.world_model.specs.Step.{note, acts}
-use Rattle.world_model.specs.Reached.{Sent, taken}
+use Rattle.law_arrival_views.specs.world_model.Switch as switches
+use Rattle.law_arrival_views.specs.world_model.Conduct as switch
+use Rattle.law_arrival_views.specs.world_model.Controller.{Acted, free_slots}
+use Rattle.law_arrival_views.specs.world_model.Sending.{with_cells, sends}
+use Rattle.law_arrival_views.specs.world_model.network_model.declared.event.Event.{Event}
+use Rattle.law_arrival_views.specs.world_model.network_model.declared.event.Event.TheVariants.{Inject, Carry, Lose, Tick, TickSwitch, Restart, RestartSwitch, Forge, Route}
+use Rattle.law_arrival_views.specs.world_model.World.{at_controller, at_switch}
+use Rattle.law_arrival_views.specs.world_model.Step.{note, acts}
+use Rattle.law_arrival_views.specs.world_model.Reached.{Sent, taken}
 use Rattle.law_run_facts.specs.law_world_views.Marks.{HasCome, IsNewest}
 use Rattle.law_run_facts.specs.law_world_views.Between.{IsWorld}
 use Rattle.law_run_facts.specs.law_world_views.Kept.{Comes, behind}

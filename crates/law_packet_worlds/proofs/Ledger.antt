@@ -5,8 +5,8 @@ use Rattle.std.specs.Option.{option_map_or}
 use Rattle.std.specs.Str.{bytes_eq}
 use Rattle.std.proofs.lemmas.Bool.Decides.{nat_tests}
 use Rattle.std.proofs.lemmas.Slice.Eq.{bytes_eq-Decides}
-use Rattle.world_model.specs.Words.{Mark, Cell, Entry, Frame, Cause, Broken, Loss, payload_of, same_mark, has_entry, is_frame, Journal, noted, broken, marks_of, has_loss_of}
-use Rattle.world_model.proofs.link_model.Latest.{payload_of_push}
+use Rattle.law_arrival_views.specs.world_model.Words.{Mark, Cell, Entry, Frame, Cause, Broken, Loss, payload_of, same_mark, has_entry, is_frame, Journal, noted, broken, marks_of, has_loss_of}
+use Rattle.law_arrival_views.proofs.world_model.link_model.Latest.{payload_of_push}
 use Rattle.law_packet_worlds.proofs.Lists.{any_back}
 use Rattle.law_arrival_views.proofs.law_port_views.Hellos.{number_is}
 use Rattle.law_unused_labels.proofs.law_cell_lists.Taking.{marks_of-push, own_mark}

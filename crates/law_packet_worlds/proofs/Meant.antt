@@ -2,11 +2,11 @@
 
 use Rattle.std.proofs.Common.{◌≡◌, ◌≢◌, ℕ, ◌<◌, ◌==◌, Bool, true, false, List, [], ◌∷◌, ◌++◌, None, Some, refl, sym, ◌∙◌, subst, arith}
 use Rattle.std.proofs.lemmas.Bool.Decides.{nat_tests}
-use Rattle.world_model.specs.Words.{NodeId, Place, Channel, Mark, is_label_channel, Cell, Frame, payload_of, default_channel, same_channel, Topology, is_linked, Past}
+use Rattle.law_arrival_views.specs.world_model.Words.{NodeId, Place, Channel, Mark, is_label_channel, Cell, Frame, payload_of, default_channel, same_channel, Topology, is_linked, Past}
 use Rattle.law_arrival_views.specs.ordered_lists.Ordered.{Every}
 use Rattle.law_arrival_views.proofs.ordered_lists.Every.{every_join, every_map}
 use Rattle.law_packet_worlds.proofs.Lists.{none_passes}
-use Rattle.world_model.specs.network_model.declared.link.LinkEnd.{LinkEnd}
+use Rattle.law_arrival_views.specs.world_model.network_model.declared.link.LinkEnd.{LinkEnd}
 use Rattle.law_run_facts.specs.law_world_views.Marks.{Heading, heading_at, HasCome, IsNewest, Means, early, control, local, plain, labelled, ends, ends_in}
 use Rattle.law_packet_worlds.proofs.Ledger.{payload_stays, none_stays, other_packet}
 use Rattle.law_packet_worlds.proofs.Cut.{IsCut, IsEarly}

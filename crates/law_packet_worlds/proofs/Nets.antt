@@ -4,24 +4,24 @@ use Rattle.std.proofs.Common.{◌≡◌, ℕ, suc, ◌+◌, true, false, List, [
 use Rattle.std.specs.Prelude.{nat_eq, nat_le, ◌==◌}
 use Rattle.std.specs.List.{list_any}
 use Rattle.std.proofs.lemmas.Bool.Decides.{nat_tests}
-use Rattle.world_model.specs.Words.{NodeId, PortNo, Place, Down, Up, Out, Channel, Mark, next_control, Cell, at, put, ArePorts, Loss, PoolFull, noted, made, frame_cells, Policy, control_port, Controller, Linked, port_key, inject_refusal, injected, change_comes, node_restarts, Refusal, Topology, IsNode, IsPlace, World, Site, site_key, site_at, controller_acts, switch_acts, place_node, queue_at, with_queue, with_queue_of, with_queue_in, queue_number, same_queue, places_of, IsShapedSite, AreShaped, IsShaped, IsPlaceOf, IsPlaceIn, injects_by, arrives_at, arrives, carries_head, loses_head, forges, put_away, next, world_after, past_of}
+use Rattle.law_arrival_views.specs.world_model.Words.{NodeId, PortNo, Place, Down, Up, Out, Channel, Mark, next_control, Cell, at, put, ArePorts, Loss, PoolFull, noted, made, frame_cells, Policy, control_port, Controller, Linked, port_key, inject_refusal, injected, change_comes, node_restarts, Refusal, Topology, IsNode, IsPlace, World, Site, site_key, site_at, controller_acts, switch_acts, place_node, queue_at, with_queue, with_queue_of, with_queue_in, queue_number, same_queue, places_of, IsShapedSite, AreShaped, IsShaped, IsPlaceOf, IsPlaceIn, injects_by, arrives_at, arrives, carries_head, loses_head, forges, put_away, next, world_after, past_of}
 use Rattle.law_arrival_views.proofs.law_port_facts.Keyed.{at_key, on_both}
 use Rattle.law_packet_worlds.proofs.Lists.{any_back}
-use Rattle.world_model.specs.frame_model.Sending.{Sent}
-use Rattle.world_model.specs.Switch as switches
-use Rattle.world_model.specs.Conduct as switch
-use Rattle.world_model.specs.Controller.{Acted, ports_of, free_slots}
-use Rattle.world_model.specs.Sending.{with_cells, sends}
-use Rattle.world_model.specs.Cells as takes
-use Rattle.world_model.specs.Ticks.{ticks}
-use Rattle.world_model.specs.network_model.declared.event.Event.{Event}
-use Rattle.world_model.specs.network_model.declared.event.Event.TheVariants.{Inject, Carry, Lose, Tick, TickSwitch, Restart, RestartSwitch, Forge, Route}
-use Rattle.world_model.specs.network_model.declared.link.LinkEnd.{LinkEnd}
-use Rattle.world_model.specs.Topology.{peer_of}
-use Rattle.world_model.specs.World.{opened, at_controller, at_switch}
-use Rattle.world_model.specs.Step.{acts}
-use Rattle.world_model.proofs.Lists.{length_set}
-use Rattle.world_model.proofs.Opening.{opened_is_shaped}
+use Rattle.law_arrival_views.specs.world_model.frame_model.Sending.{Sent}
+use Rattle.law_arrival_views.specs.world_model.Switch as switches
+use Rattle.law_arrival_views.specs.world_model.Conduct as switch
+use Rattle.law_arrival_views.specs.world_model.Controller.{Acted, ports_of, free_slots}
+use Rattle.law_arrival_views.specs.world_model.Sending.{with_cells, sends}
+use Rattle.law_arrival_views.specs.world_model.Cells as takes
+use Rattle.law_arrival_views.specs.world_model.Ticks.{ticks}
+use Rattle.law_arrival_views.specs.world_model.network_model.declared.event.Event.{Event}
+use Rattle.law_arrival_views.specs.world_model.network_model.declared.event.Event.TheVariants.{Inject, Carry, Lose, Tick, TickSwitch, Restart, RestartSwitch, Forge, Route}
+use Rattle.law_arrival_views.specs.world_model.network_model.declared.link.LinkEnd.{LinkEnd}
+use Rattle.law_arrival_views.specs.world_model.Topology.{peer_of}
+use Rattle.law_arrival_views.specs.world_model.World.{opened, at_controller, at_switch}
+use Rattle.law_arrival_views.specs.world_model.Step.{acts}
+use Rattle.law_arrival_views.proofs.world_model.Lists.{length_set}
+use Rattle.law_arrival_views.proofs.world_model.Opening.{opened_is_shaped}
 use Rattle.law_run_facts.specs.law_world_views.Between.{EachSite}
 use Rattle.law_run_facts.specs.Nodes.{HasPort, IsNodeOfRun, HasSite}
 use Rattle.law_run_facts.proofs.law_actor_pace.Controllers.{cell_follows, injected_paces, ticks_paces, restarts_paces, change_changes}

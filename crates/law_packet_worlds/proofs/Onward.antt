@@ -2,11 +2,11 @@
 
 use Rattle.std.proofs.Common.{◌≡◌, ℕ, ◌-◌, ◌/◌, ◌%◌, ◌≤◌, ◌==◌, nat_lt, not, if◌then◌else◌, List, length, Option, None, Some, refl, sym, ◌∙◌, arith, slice_index}
 use Rattle.std.proofs.lemmas.Bool.Decides.{nat_tests}
-use Rattle.world_model.specs.Words.{ttl_of, total_length_of, header_sum, with_ttl, canonical, PacketFault, Version, Options, TooLong, Checksum, onward}
-use Rattle.world_model.specs.ipv4_packet.Packet.{first_fault}
-use Rattle.world_model.specs.ipv4_packet.declared.validate.PacketFault.TheVariants.{Short, Length}
-use Rattle.world_model.proofs.ipv4_packet.HeaderLemmas.{on_header}
-use Rattle.world_model.proofs.ipv4_packet.RouteLemmas.{length-rerouted, header_sum-rerouted, total_length_of-rerouted}
+use Rattle.law_arrival_views.specs.world_model.Words.{ttl_of, total_length_of, header_sum, with_ttl, canonical, PacketFault, Version, Options, TooLong, Checksum, onward}
+use Rattle.law_arrival_views.specs.world_model.ipv4_packet.Packet.{first_fault}
+use Rattle.law_arrival_views.specs.world_model.ipv4_packet.declared.validate.PacketFault.TheVariants.{Short, Length}
+use Rattle.law_arrival_views.proofs.world_model.ipv4_packet.HeaderLemmas.{on_header}
+use Rattle.law_arrival_views.proofs.world_model.ipv4_packet.RouteLemmas.{length-rerouted, header_sum-rerouted, total_length_of-rerouted}
 use Rattle.law_arrival_views.proofs.law_controller_facts.Onward.{guard}
 
 -- the first test that fails, by the numbers that are tested: length, first octet, Total Length, sum

@@ -5,12 +5,12 @@ use Rattle.std.specs.Prelude.{Contains}
 use Rattle.std.specs.Option.{option_map_or}
 use Rattle.std.proofs.lemmas.List.Sums.{sum_by-cons}
 use Rattle.std.proofs.lemmas.List.Concat.{flat_map-cons}
-use Rattle.world_model.specs.Words.{Place, Down, Up, Out, Cell, Journal, payload_of, Policy, is_fate_of, Topology, Node, World, Site, site_key, site_at, opened_site, opens_each, with_opened, empty_world, place_node, queue_in, queue_at, places, past_of, fates_of}
+use Rattle.law_arrival_views.specs.world_model.Words.{Place, Down, Up, Out, Cell, Journal, payload_of, Policy, is_fate_of, Topology, Node, World, Site, site_key, site_at, opened_site, opens_each, with_opened, empty_world, place_node, queue_in, queue_at, places, past_of, fates_of}
 use Rattle.law_arrival_views.specs.ordered_lists.Ordered.{Every}
 use Rattle.law_arrival_views.proofs.ordered_lists.Every.{every_join}
 use Rattle.law_packet_worlds.proofs.Lists.{each_replicate}
 use Rattle.law_arrival_views.proofs.law_port_facts.Keyed.{at_every}
-use Rattle.world_model.specs.World.{opened}
+use Rattle.law_arrival_views.specs.world_model.World.{opened}
 use Rattle.law_run_facts.specs.law_world_views.Marks.{ends_in, last_cells}
 use Rattle.law_packet_worlds.specs.Law.{PacketsBegin}
 use Rattle.law_packet_worlds.proofs.Bound.{got_within}

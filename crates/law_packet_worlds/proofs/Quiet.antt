@@ -1,7 +1,7 @@
 -- records that are no fates of a packet, and bind no label: all that a port notes but bindings
 
 use Rattle.std.proofs.Common.{◌≡◌, Bool, true, false}
-use Rattle.world_model.specs.Words.{Record, Delivered, Dropped, is_bind}
+use Rattle.law_arrival_views.specs.world_model.Words.{Record, Delivered, Dropped, is_bind}
 
 -- *What may be noted*
 abbrev pub is_fate : Record → Bool

@@ -3,18 +3,18 @@
 use Rattle.std.proofs.Common.{◌≡◌, ℕ, true, false, List, [], ◌∷◌, ◌++◌, length, None, refl, sym, ◌∙◌, ap, subst, arith}
 use Rattle.std.specs.Prelude.{nat_le, ◌||◌}
 use Rattle.std.specs.List.{list_any}
-use Rattle.world_model.specs.Words.{NodeId, PortNo, Down, Channel, Mark, next_control, with_control, Cell, Record, Loss, PoolFull, noted, made, frame_cells, is_fate_of, Controller, default_channel, default_home, same_channel, on_link, Past, is_bind}
-use Rattle.world_model.specs.gsmp_wire.Layout.{octets_of as gsmp_octets}
-use Rattle.world_model.specs.link_model.declared.record.Record.TheVariants as records
-use Rattle.world_model.specs.frame_model.Sending.{Sent}
+use Rattle.law_arrival_views.specs.world_model.Words.{NodeId, PortNo, Down, Channel, Mark, next_control, with_control, Cell, Record, Loss, PoolFull, noted, made, frame_cells, is_fate_of, Controller, default_channel, default_home, same_channel, on_link, Past, is_bind}
+use Rattle.law_arrival_views.specs.world_model.gsmp_wire.Layout.{octets_of as gsmp_octets}
+use Rattle.law_arrival_views.specs.world_model.link_model.declared.record.Record.TheVariants as records
+use Rattle.law_arrival_views.specs.world_model.frame_model.Sending.{Sent}
 use Rattle.law_arrival_views.specs.ordered_lists.Ordered.{Every}
 use Rattle.law_arrival_views.proofs.ordered_lists.Every.{every_join, every_map}
 use Rattle.law_arrival_views.proofs.law_port_facts.Keyed.{on_both}
 use Rattle.law_packet_worlds.proofs.Lists.{none_join, count_by-skip}
-use Rattle.world_model.specs.Controller.{Acted, free_slots}
-use Rattle.world_model.specs.Sending.{with_cells, sends}
+use Rattle.law_arrival_views.specs.world_model.Controller.{Acted, free_slots}
+use Rattle.law_arrival_views.specs.world_model.Sending.{with_cells, sends}
 use Rattle.law_arrival_views.specs.law_controller_views.Lifted.{payload_by}
-use Rattle.world_model.specs.Topology.{peer_of}
+use Rattle.law_arrival_views.specs.world_model.Topology.{peer_of}
 use Rattle.law_packet_worlds.proofs.Quiet.{is_fate, Allows}
 use Rattle.law_unused_labels.proofs.law_causes.Noting.{AllowsBinding}
 use Rattle.law_packet_worlds.proofs.Walk.{IsAlike, Kept}

@@ -2,20 +2,20 @@
 
 use Rattle.std.proofs.Common.{◌≡◌, ℕ, true, List, [], ◌∷◌, ◌++◌, length, Option, None, Some, refl, sym, subst}
 use Rattle.std.specs.Prelude.{nat_le, ◌==◌, drop, Result, Ok, Err}
-use Rattle.world_model.specs.Words.{PortNo, Channel, Mark, next_control, with_control, protocol_of, PacketFault, hop_of, onward, Hop, Here, On, kind_of, default_payload, labelled_payload, default_unwrapped, unwrapped, EncapsFault, Record, Bad, Loss, Delivered, Dropped, PoolFull, Journal, noted, encaps_refusal, packet_refusal, frame_cells, made, next_mark, control_end, Label, Grant, Controller, Linked, default_channel, default_home, sends_control, is_control, sends_next, goes_by, grant_by, routes, control_protocol, ForGsmp, ForDefault, ForLabel, label_holds, ifmp_holds, counted_at, packet_holds, default_holds, frame_holds}
-use Rattle.world_model.specs.ipv4_packet.Packet.{first_fault}
-use Rattle.world_model.specs.ipv4_forward.declared.outcome.Hop.TheVariants.{NoRoute, Expired}
-use Rattle.world_model.specs.ifmp_wire.Fields.{decoded as ifmp_decoded}
-use Rattle.world_model.specs.gsmp_wire.Layout.{octets_of as gsmp_octets}
-use Rattle.world_model.specs.gsmp_wire.Fields.{decoded as gsmp_decoded}
-use Rattle.world_model.specs.link_model.declared.record.Layer.TheVariants as layers
-use Rattle.world_model.specs.link_model.declared.record.DropCause.TheVariants as drop_causes
-use Rattle.world_model.specs.frame_model.Sending.{Sent}
+use Rattle.law_arrival_views.specs.world_model.Words.{PortNo, Channel, Mark, next_control, with_control, protocol_of, PacketFault, hop_of, onward, Hop, Here, On, kind_of, default_payload, labelled_payload, default_unwrapped, unwrapped, EncapsFault, Record, Bad, Loss, Delivered, Dropped, PoolFull, Journal, noted, encaps_refusal, packet_refusal, frame_cells, made, next_mark, control_end, Label, Grant, Controller, Linked, default_channel, default_home, sends_control, is_control, sends_next, goes_by, grant_by, routes, control_protocol, ForGsmp, ForDefault, ForLabel, label_holds, ifmp_holds, counted_at, packet_holds, default_holds, frame_holds}
+use Rattle.law_arrival_views.specs.world_model.ipv4_packet.Packet.{first_fault}
+use Rattle.law_arrival_views.specs.world_model.ipv4_forward.declared.outcome.Hop.TheVariants.{NoRoute, Expired}
+use Rattle.law_arrival_views.specs.world_model.ifmp_wire.Fields.{decoded as ifmp_decoded}
+use Rattle.law_arrival_views.specs.world_model.gsmp_wire.Layout.{octets_of as gsmp_octets}
+use Rattle.law_arrival_views.specs.world_model.gsmp_wire.Fields.{decoded as gsmp_decoded}
+use Rattle.law_arrival_views.specs.world_model.link_model.declared.record.Layer.TheVariants as layers
+use Rattle.law_arrival_views.specs.world_model.link_model.declared.record.DropCause.TheVariants as drop_causes
+use Rattle.law_arrival_views.specs.world_model.frame_model.Sending.{Sent}
 use Rattle.law_arrival_views.proofs.law_port_facts.Keyed.{on_both}
-use Rattle.world_model.specs.Controller.{Acted, free_slots}
-use Rattle.world_model.specs.Sending.{with_cells, sends}
-use Rattle.world_model.specs.Packets.{forwarded}
-use Rattle.world_model.specs.Cells.{Taker, opened_frame}
+use Rattle.law_arrival_views.specs.world_model.Controller.{Acted, free_slots}
+use Rattle.law_arrival_views.specs.world_model.Sending.{with_cells, sends}
+use Rattle.law_arrival_views.specs.world_model.Packets.{forwarded}
+use Rattle.law_arrival_views.specs.world_model.Cells.{Taker, opened_frame}
 use Rattle.law_packet_worlds.proofs.Quiet.{is_fate, Allows}
 use Rattle.law_unused_labels.proofs.law_causes.Noting.{AllowsBinding}
 use Rattle.law_packet_worlds.proofs.Walk.{Kept, used_kept, counted_kept, ifmp_holds_kept, gsmp_holds_kept}

@@ -4,24 +4,24 @@ use Rattle.std.proofs.Common.{◌≡◌, ℕ, ◌<◌, ◌+◌, ◌==◌, ◌&&�
 use Rattle.std.specs.Prelude.{nat_lt, nat_le}
 use Rattle.std.specs.Option.{option_and_then}
 use Rattle.std.proofs.lemmas.Bool.Decides.{nat_tests}
-use Rattle.world_model.specs.Words.{NodeId, PortNo, Place, Down, Channel, Mark, next_control, with_control, label_channel_of, is_label_number, destination_of, best, hop_of, onward, Via, Hop, Here, On, Cell, FlowId, kind_of, flow_of, default_payload, labelled_payload, Carries, Delivered, Dropped, Loss, PoolFull, Frame, payload_of, noted, made, next_mark, frame_cells, control_end, Grant, grant_matching, Controller, Linked, linked_at, port_key, default_channel, default_home, sends_control, says_gsmp, says_ifmp, is_control, sends_next, goes_by, grant_by, routes, is_linked, Reaches, hops, HasReached, delivered, without_route, expired, Past, last_bound, WasAccepted}
-use Rattle.world_model.proofs.net_types.Labels.{number_of_channel-label_channel_of}
-use Rattle.world_model.specs.ipv4_forward.declared.table.Route.{Route}
-use Rattle.world_model.specs.ipv4_forward.declared.outcome.Hop.TheVariants.{NoRoute, Expired}
+use Rattle.law_arrival_views.specs.world_model.Words.{NodeId, PortNo, Place, Down, Channel, Mark, next_control, with_control, label_channel_of, is_label_number, destination_of, best, hop_of, onward, Via, Hop, Here, On, Cell, FlowId, kind_of, flow_of, default_payload, labelled_payload, Carries, Delivered, Dropped, Loss, PoolFull, Frame, payload_of, noted, made, next_mark, frame_cells, control_end, Grant, grant_matching, Controller, Linked, linked_at, port_key, default_channel, default_home, sends_control, says_gsmp, says_ifmp, is_control, sends_next, goes_by, grant_by, routes, is_linked, Reaches, hops, HasReached, delivered, without_route, expired, Past, last_bound, WasAccepted}
+use Rattle.law_arrival_views.proofs.world_model.net_types.Labels.{number_of_channel-label_channel_of}
+use Rattle.law_arrival_views.specs.world_model.ipv4_forward.declared.table.Route.{Route}
+use Rattle.law_arrival_views.specs.world_model.ipv4_forward.declared.outcome.Hop.TheVariants.{NoRoute, Expired}
 use Rattle.law_arrival_views.specs.ordered_lists.Ordered.{Every}
-use Rattle.world_model.specs.gsmp_wire.Layout.{octets_of as gsmp_octets}
-use Rattle.world_model.specs.gsmp_wire.declared.message.Message.{Message as GsmpMessage}
-use Rattle.world_model.specs.ifmp_wire.declared.message.Message.{Message as IfmpMessage}
-use Rattle.world_model.specs.link_model.declared.record.DropCause.TheVariants as drop_causes
-use Rattle.world_model.specs.frame_model.Sending.{Sent}
+use Rattle.law_arrival_views.specs.world_model.gsmp_wire.Layout.{octets_of as gsmp_octets}
+use Rattle.law_arrival_views.specs.world_model.gsmp_wire.declared.message.Message.{Message as GsmpMessage}
+use Rattle.law_arrival_views.specs.world_model.ifmp_wire.declared.message.Message.{Message as IfmpMessage}
+use Rattle.law_arrival_views.specs.world_model.link_model.declared.record.DropCause.TheVariants as drop_causes
+use Rattle.law_arrival_views.specs.world_model.frame_model.Sending.{Sent}
 use Rattle.law_arrival_views.proofs.law_port_facts.Keyed.{at_key, at_every, on_each}
-use Rattle.world_model.specs.Controller.{Acted, free_slots}
-use Rattle.world_model.specs.Sending.{with_cells, sends}
-use Rattle.world_model.specs.Packets.{forwarded}
+use Rattle.law_arrival_views.specs.world_model.Controller.{Acted, free_slots}
+use Rattle.law_arrival_views.specs.world_model.Sending.{with_cells, sends}
+use Rattle.law_arrival_views.specs.world_model.Packets.{forwarded}
 use Rattle.law_arrival_views.specs.law_controller_views.Lifted.{payload_by}
-use Rattle.world_model.specs.network_model.declared.link.LinkEnd.{LinkEnd}
-use Rattle.world_model.specs.Topology.{peer_of}
-use Rattle.world_model.specs.Reached.{taken}
+use Rattle.law_arrival_views.specs.world_model.network_model.declared.link.LinkEnd.{LinkEnd}
+use Rattle.law_arrival_views.specs.world_model.Topology.{peer_of}
+use Rattle.law_arrival_views.specs.world_model.Reached.{taken}
 use Rattle.law_run_facts.specs.law_world_views.Marks.{Heading, heading_at, HasCome, IsNewest, Means, control, local, plain, labelled}
 use Rattle.law_arrival_views.proofs.law_controller_facts.Onward.{octets_onward, packet_of}
 use Rattle.law_packet_worlds.proofs.Hops as laws

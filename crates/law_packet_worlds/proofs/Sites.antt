@@ -4,19 +4,19 @@ use Rattle.std.proofs.Common.{◌≡◌, ◌≢◌, ℕ, suc, ◌<◌, ◌==◌,
 use Rattle.std.specs.Prelude.{Contains, is_some, ◌&&◌, nat_le, find}
 use Rattle.std.specs.Option.{option_map, option_and_then, option_map_or}
 use Rattle.std.proofs.lemmas.Bool.Decides.{nat_tests}
-use Rattle.world_model.specs.Words.{Addr, NodeId, PortNo, Place, Down, Up, Out, Channel, End, Mark, label_channel_of, number_of_channel, label_number_of, is_label_channel, is_label_number, destination_of, best, is_best, onward, Next, Via, FlowId, Carries, Record, Frame, Setup, label_end, home_of, is_in_range, Label, LabelState, Wiring, is_bound, label_number, Grant, labels_of, label_at, Linked, port_key, linked_at, default_channel, same_channel, Topology, is_linked, IsTopology, IsNode, IsPlace, IsLinkedNext, Site, site_at, place_node, queue_number, hops, table_in, grants_at, output_at, Past, last_bound, Way, IsWay, ByBranch, LeadsOn as LeadsFlow, StandsForLast, Policy}
-use Rattle.world_model.proofs.net_types.Labels.{number_of_channel-label_channel_of}
-use Rattle.world_model.specs.ipv4_forward.declared.table.Route.{Route}
+use Rattle.law_arrival_views.specs.world_model.Words.{Addr, NodeId, PortNo, Place, Down, Up, Out, Channel, End, Mark, label_channel_of, number_of_channel, label_number_of, is_label_channel, is_label_number, destination_of, best, is_best, onward, Next, Via, FlowId, Carries, Record, Frame, Setup, label_end, home_of, is_in_range, Label, LabelState, Wiring, is_bound, label_number, Grant, labels_of, label_at, Linked, port_key, linked_at, default_channel, same_channel, Topology, is_linked, IsTopology, IsNode, IsPlace, IsLinkedNext, Site, site_at, place_node, queue_number, hops, table_in, grants_at, output_at, Past, last_bound, Way, IsWay, ByBranch, LeadsOn as LeadsFlow, StandsForLast, Policy}
+use Rattle.law_arrival_views.proofs.world_model.net_types.Labels.{number_of_channel-label_channel_of}
+use Rattle.law_arrival_views.specs.world_model.ipv4_forward.declared.table.Route.{Route}
 use Rattle.law_arrival_views.specs.ordered_lists.Ordered.{Every, InOrder}
 use Rattle.law_arrival_views.proofs.ordered_lists.Every.{every_map, every_map2}
-use Rattle.world_model.specs.crossbar_model.Crossbar.{output_of}
+use Rattle.law_arrival_views.specs.world_model.crossbar_model.Crossbar.{output_of}
 use Rattle.law_arrival_views.specs.law_port_facts.Port.{setup_port, IsLinked, IsLabelEnd, IsGrant}
 use Rattle.law_arrival_views.proofs.law_port_facts.Keyed.{at_key, at_every, at_map, each_found}
 use Rattle.law_arrival_views.proofs.law_port_facts.Found.{find_every}
 use Rattle.law_arrival_views.specs.law_controller_facts.Sound.{linked_setup, IsLinkedPort, AreApart}
 use Rattle.law_run_facts.specs.law_controller_bindings.Bindings.{IsBoundLast}
-use Rattle.world_model.specs.network_model.declared.link.LinkEnd.{LinkEnd}
-use Rattle.world_model.specs.Topology.{peer_of}
+use Rattle.law_arrival_views.specs.world_model.network_model.declared.link.LinkEnd.{LinkEnd}
+use Rattle.law_arrival_views.specs.world_model.Topology.{peer_of}
 use Rattle.law_run_facts.specs.law_world_views.Marks.{Heading, heading_at, HasCome, Means, early, control, local, plain, labelled}
 use Rattle.law_run_facts.specs.law_world_views.Pairs.{by_branch}
 use Rattle.law_run_facts.specs.law_world_views.Between.{setups_of, default, label, IsShapedBranch, home, out, joined, HasShapes, HasAllUsers, HasAllHops}

@@ -4,11 +4,11 @@ use Rattle.std.proofs.Common.{◌≡◌, ◌≢◌, ◌⊎◌, inl, inr, ℕ, su
 use Rattle.std.specs.Prelude.{slice_get}
 use Rattle.std.proofs.lemmas.Bool.Decides.{nat_tests}
 use Rattle.std.proofs.lemmas.List.{length-append}
-use Rattle.world_model.specs.Words.{NodeId, Place, Mark, Frame, Policy, is_fate_of, has_loss_of, inject_refusal, Topology, IsPlace, World, queue_at, put_away, sent_by, Past, past_of, frames_of, WasAccepted}
-use Rattle.world_model.specs.link_model.declared.record.Record.TheVariants as records
+use Rattle.law_arrival_views.specs.world_model.Words.{NodeId, Place, Mark, Frame, Policy, is_fate_of, has_loss_of, inject_refusal, Topology, IsPlace, World, queue_at, put_away, sent_by, Past, past_of, frames_of, WasAccepted}
+use Rattle.law_arrival_views.specs.world_model.link_model.declared.record.Record.TheVariants as records
 use Rattle.law_arrival_views.specs.ordered_lists.Ordered.{Every}
-use Rattle.world_model.specs.network_model.declared.event.Event.{Event}
-use Rattle.world_model.specs.Reached.{Sent}
+use Rattle.law_arrival_views.specs.world_model.network_model.declared.event.Event.{Event}
+use Rattle.law_arrival_views.specs.world_model.Reached.{Sent}
 use Rattle.law_run_facts.specs.law_world_views.Marks.{Heading, heading_at, HasCome, Means, early, control, local, plain, labelled, last_cells}
 use Rattle.law_run_facts.specs.law_world_views.Between.{IsWorld}
 use Rattle.law_run_facts.specs.law_world_views.Kept.{behind}

@@ -5,13 +5,13 @@ use Rattle.std.specs.Prelude.{◌==◌, ◌&&◌, ◌/◌}
 use Rattle.std.specs.Option.{option_map}
 use Rattle.std.specs.FinMap.{get}
 use Rattle.std.proofs.lemmas.Bool.Decides.{nat_tests}
-use Rattle.world_model.specs.Words.{NodeId, PortNo, Place, Down, Up, Out, End, Cell, Loss, Cause, PoolFull, Unconnected, noted, Crossbar, queue_of, on_channel_of, route_on, switched_on, switched, control_port, switched_cell, gsmp_cell, is_gsmp, tick_comes, restarted, IsTopology, World, Site, site_at, with_site, place_node, queue_in, queue_at, queue_number, Past}
-use Rattle.world_model.specs.crossbar_model.declared.branch.Branch.{Branch}
-use Rattle.world_model.specs.crossbar_model.declared.routed.Routed.TheVariants as routes
-use Rattle.world_model.specs.crossbar_model.Crossbar.{input_of}
-use Rattle.world_model.specs.Switch.{Acted, free_slots}
-use Rattle.world_model.specs.Conduct.{passed, cell_comes}
-use Rattle.world_model.specs.Topology.{peer_of}
+use Rattle.law_arrival_views.specs.world_model.Words.{NodeId, PortNo, Place, Down, Up, Out, End, Cell, Loss, Cause, PoolFull, Unconnected, noted, Crossbar, queue_of, on_channel_of, route_on, switched_on, switched, control_port, switched_cell, gsmp_cell, is_gsmp, tick_comes, restarted, IsTopology, World, Site, site_at, with_site, place_node, queue_in, queue_at, queue_number, Past}
+use Rattle.law_arrival_views.specs.world_model.crossbar_model.declared.branch.Branch.{Branch}
+use Rattle.law_arrival_views.specs.world_model.crossbar_model.declared.routed.Routed.TheVariants as routes
+use Rattle.law_arrival_views.specs.world_model.crossbar_model.Crossbar.{input_of}
+use Rattle.law_arrival_views.specs.world_model.Switch.{Acted, free_slots}
+use Rattle.law_arrival_views.specs.world_model.Conduct.{passed, cell_comes}
+use Rattle.law_arrival_views.specs.world_model.Topology.{peer_of}
 use Rattle.law_run_facts.specs.law_world_views.Marks.{heading_at, Means}
 use Rattle.law_packet_worlds.proofs.Meant.{in_frames, IsProper}
 use Rattle.law_packet_worlds.proofs.Good.{Turn, Now, IsGood, nothing, some_accepted}

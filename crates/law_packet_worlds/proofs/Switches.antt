@@ -2,16 +2,16 @@
 
 use Rattle.std.proofs.Common.{◌≡◌, ℕ, ◌<◌, ◌+◌, ◌==◌, ◌&&◌, Bool, true, false, cond, List, [], ◌∷◌, ◌++◌, length, None, Some, refl, sym, ◌∙◌, ap, subst, arith, slice_set, slice_index_or}
 use Rattle.std.specs.Prelude.{nat_le}
-use Rattle.world_model.specs.Words.{NodeId, Place, Up, End, Mark, next_control, with_control, Cell, queue_of, sent, on_channel_of, Frame, Record, Loss, Cause, PoolFull, Journal, noted, made, frame_cells, Switch, control_port, gsmp_channel, Past}
-use Rattle.world_model.specs.gsmp_wire.declared.message.Message.{Message}
-use Rattle.world_model.specs.gsmp_wire.Layout.{octets_of}
-use Rattle.world_model.specs.frame_model.Sending.{Sent}
+use Rattle.law_arrival_views.specs.world_model.Words.{NodeId, Place, Up, End, Mark, next_control, with_control, Cell, queue_of, sent, on_channel_of, Frame, Record, Loss, Cause, PoolFull, Journal, noted, made, frame_cells, Switch, control_port, gsmp_channel, Past}
+use Rattle.law_arrival_views.specs.world_model.gsmp_wire.declared.message.Message.{Message}
+use Rattle.law_arrival_views.specs.world_model.gsmp_wire.Layout.{octets_of}
+use Rattle.law_arrival_views.specs.world_model.frame_model.Sending.{Sent}
 use Rattle.law_arrival_views.proofs.ordered_lists.Every.{every_join}
 use Rattle.law_packet_worlds.proofs.Lists.{count_by-append}
 use Rattle.law_arrival_views.proofs.law_port_facts.Keyed.{on_both}
-use Rattle.world_model.specs.Switch.{Acted, free_slots}
-use Rattle.world_model.specs.Conduct.{with_cells, says}
-use Rattle.world_model.proofs.Lists.{index_here, length_set}
+use Rattle.law_arrival_views.specs.world_model.Switch.{Acted, free_slots}
+use Rattle.law_arrival_views.specs.world_model.Conduct.{with_cells, says}
+use Rattle.law_arrival_views.proofs.world_model.Lists.{index_here, length_set}
 use Rattle.law_run_facts.specs.law_world_views.Marks.{Heading, heading_at, Means, early, control, local, plain, labelled, ends}
 use Rattle.law_packet_worlds.proofs.Ledger.{entered}
 use Rattle.law_packet_worlds.proofs.Cut.{one}

@@ -4,21 +4,21 @@ use Rattle.std.proofs.Common.{◌≡◌, ℕ, ◌==◌, ◌&&◌, Bool, true, fa
 use Rattle.std.specs.Prelude.{drop, ◌/◌, ◌%◌, Result, Ok}
 use Rattle.std.specs.List.{list_any}
 use Rattle.std.proofs.lemmas.Bool.Decides.{nat_tests}
-use Rattle.world_model.specs.Words.{NodeId, PortNo, Down, Up, Addr, Channel, Mark, number_of_channel, protocol_of, ifmp_packet_of, PacketFault, Cell, FlowId, default_payload, default_unwrapped, unwrapped, EncapsFault, Record, Bad, Loss, Chance, Broken, is_frame, payload_of, has_entry, Journal, noted, packet_refusal, broken, tested, Label, is_bound, label_at, Linked, default_channel, control_protocol, routes, ForGsmp, ForDefault, ForLabel, port_on, on_link, same_channel, label_holds, ifmp_holds, counted_at, packet_holds, default_holds, frame_holds, last_bound, is_wild, IsTame}
-use Rattle.world_model.specs.ipv4_packet.Packet.{first_fault}
-use Rattle.world_model.specs.ifmp_wire.declared.message.Message.{Message}
-use Rattle.world_model.specs.ifmp_wire.Fields.{decoded as ifmp_decoded}
-use Rattle.world_model.specs.ifmp_wire.Message.{octets_of as ifmp_octets}
-use Rattle.world_model.specs.gsmp_wire.Fields.{decoded as gsmp_decoded}
-use Rattle.world_model.specs.link_model.declared.record.Layer.TheVariants as layers
-use Rattle.world_model.specs.frame_model.Frame.{passed}
+use Rattle.law_arrival_views.specs.world_model.Words.{NodeId, PortNo, Down, Up, Addr, Channel, Mark, number_of_channel, protocol_of, ifmp_packet_of, PacketFault, Cell, FlowId, default_payload, default_unwrapped, unwrapped, EncapsFault, Record, Bad, Loss, Chance, Broken, is_frame, payload_of, has_entry, Journal, noted, packet_refusal, broken, tested, Label, is_bound, label_at, Linked, default_channel, control_protocol, routes, ForGsmp, ForDefault, ForLabel, port_on, on_link, same_channel, label_holds, ifmp_holds, counted_at, packet_holds, default_holds, frame_holds, last_bound, is_wild, IsTame}
+use Rattle.law_arrival_views.specs.world_model.ipv4_packet.Packet.{first_fault}
+use Rattle.law_arrival_views.specs.world_model.ifmp_wire.declared.message.Message.{Message}
+use Rattle.law_arrival_views.specs.world_model.ifmp_wire.Fields.{decoded as ifmp_decoded}
+use Rattle.law_arrival_views.specs.world_model.ifmp_wire.Message.{octets_of as ifmp_octets}
+use Rattle.law_arrival_views.specs.world_model.gsmp_wire.Fields.{decoded as gsmp_decoded}
+use Rattle.law_arrival_views.specs.world_model.link_model.declared.record.Layer.TheVariants as layers
+use Rattle.law_arrival_views.specs.world_model.frame_model.Frame.{passed}
 use Rattle.law_packet_worlds.proofs.Lists.{none_front, any_back}
 use Rattle.law_arrival_views.proofs.law_wire.Packets.{protocol_is}
-use Rattle.world_model.specs.Controller.{Acted}
-use Rattle.world_model.specs.Cells.{Taker, opened_frame, after_test, ends_frame}
+use Rattle.law_arrival_views.specs.world_model.Controller.{Acted}
+use Rattle.law_arrival_views.specs.world_model.Cells.{Taker, opened_frame, after_test, ends_frame}
 use Rattle.law_arrival_views.specs.law_controller_views.Lifted.{payload_by}
-use Rattle.world_model.specs.network_model.declared.link.LinkEnd.{LinkEnd}
-use Rattle.world_model.specs.Topology.{peer_of}
+use Rattle.law_arrival_views.specs.world_model.network_model.declared.link.LinkEnd.{LinkEnd}
+use Rattle.law_arrival_views.specs.world_model.Topology.{peer_of}
 use Rattle.law_run_facts.specs.law_world_views.Marks.{heading_at, own_end, HasCome, IsNewest, Means, early, control, local, plain, labelled}
 use Rattle.law_packet_worlds.proofs.Walk.{Kept, used_kept, counted_kept, ifmp_holds_kept, gsmp_holds_kept}
 use Rattle.law_packet_worlds.proofs.Records.{routes_has, opened_has}

@@ -3,19 +3,19 @@
 use Rattle.std.proofs.Common.{◌≡◌, ◌≢◌, ◌⊎◌, inr, ℕ, suc, ◌<◌, Bool, true, false, cond, List, [], ◌∷◌, ◌++◌, length, Option, Some, refl, sym, ◌∙◌, ap, subst, arith, slice_set, count_by}
 use Rattle.std.specs.Prelude.{Contains, ◌==◌}
 use Rattle.std.specs.Option.{option_map_or}
-use Rattle.world_model.specs.Words.{NodeId, PortNo, Place, Down, End, Mark, destination_of, best, Via, Cell, Frame, Record, Entry, losses_of, at, put, is_fate_of, default_channel, same_channel, Topology, is_linked, IsTopology, IsNode, IsPlace, World, Site, site_key, site_at, with_site, place_node, queue_in, queue_at, with_queue, with_queue_of, with_queue_in, queue_number, same_queue, Past}
+use Rattle.law_arrival_views.specs.world_model.Words.{NodeId, PortNo, Place, Down, End, Mark, destination_of, best, Via, Cell, Frame, Record, Entry, losses_of, at, put, is_fate_of, default_channel, same_channel, Topology, is_linked, IsTopology, IsNode, IsPlace, World, Site, site_key, site_at, with_site, place_node, queue_in, queue_at, with_queue, with_queue_of, with_queue_in, queue_number, same_queue, Past}
 use Rattle.law_arrival_views.specs.ordered_lists.Ordered.{Every}
 use Rattle.law_arrival_views.proofs.ordered_lists.Every.{every_join}
 use Rattle.law_packet_worlds.proofs.Lists.{count_by-append, count_by-cons, count_by-skip, none_front}
 use Rattle.law_arrival_views.proofs.law_port_facts.Keyed.{at_key}
-use Rattle.world_model.specs.crossbar_model.Crossbar.{output_of}
-use Rattle.world_model.specs.Switch as switches
-use Rattle.world_model.specs.Controller.{Acted, ports_of}
-use Rattle.world_model.specs.network_model.declared.link.LinkEnd.{LinkEnd}
-use Rattle.world_model.specs.Topology.{peer_of}
-use Rattle.world_model.specs.Step.{note}
-use Rattle.world_model.proofs.Lists.{at_put_same, at_put_other}
-use Rattle.world_model.proofs.Queues.{Sets, set_queue, sets_down, sets_out}
+use Rattle.law_arrival_views.specs.world_model.crossbar_model.Crossbar.{output_of}
+use Rattle.law_arrival_views.specs.world_model.Switch as switches
+use Rattle.law_arrival_views.specs.world_model.Controller.{Acted, ports_of}
+use Rattle.law_arrival_views.specs.world_model.network_model.declared.link.LinkEnd.{LinkEnd}
+use Rattle.law_arrival_views.specs.world_model.Topology.{peer_of}
+use Rattle.law_arrival_views.specs.world_model.Step.{note}
+use Rattle.law_arrival_views.proofs.world_model.Lists.{at_put_same, at_put_other}
+use Rattle.law_arrival_views.proofs.world_model.Queues.{Sets, set_queue, sets_down, sets_out}
 use Rattle.law_run_facts.specs.law_world_views.Marks.{Heading, heading_at, Means, ends, ends_in}
 use Rattle.law_packet_worlds.proofs.Quiet.{is_fate}
 use Rattle.law_packet_worlds.proofs.Meant.{in_frames, IsProper, MeansAt}

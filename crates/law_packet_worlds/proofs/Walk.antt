@@ -2,20 +2,20 @@
 
 use Rattle.std.proofs.Common.{◌≡◌, ℕ, List, [], ◌∷◌, map, ◌+◌, ◌++◌, false, Some, Result, refl}
 use Rattle.std.specs.Prelude.{Ok, Err}
-use Rattle.world_model.specs.Words.{PortNo, Mark, number_of_channel, changed, RouteChange, ticked, gsmp_received, Record, Bad, Loss, Part, Routes, Cut, ifmp_refusal, gsmp_refusal, Reassembly, cut, noted_all, distinct, marks_of, after_answer, Setup, used, with_desk, chain_of, says_gsmp, says_ifmp, cuts_of, cuts_default_of, cuts_gsmp, node_restarts, at_port, takes_change, change_comes, gsmp_holds, ifmp_holds, counted_at}
-use Rattle.world_model.specs.ifmp_wire.declared.message.Message.{Message as IfmpMessage}
-use Rattle.world_model.specs.ifmp_wire.declared.reader.Fault.{Fault as IfmpFault}
-use Rattle.world_model.specs.ifmp_wire.Fields.{decoded as ifmp_decoded}
-use Rattle.world_model.specs.gsmp_wire.declared.fault.Fault.{Fault as GsmpFault}
-use Rattle.world_model.specs.gsmp_wire.declared.message.Message.{Message}
-use Rattle.world_model.specs.link_model.declared.record.Layer.TheVariants as layers
+use Rattle.law_arrival_views.specs.world_model.Words.{PortNo, Mark, number_of_channel, changed, RouteChange, ticked, gsmp_received, Record, Bad, Loss, Part, Routes, Cut, ifmp_refusal, gsmp_refusal, Reassembly, cut, noted_all, distinct, marks_of, after_answer, Setup, used, with_desk, chain_of, says_gsmp, says_ifmp, cuts_of, cuts_default_of, cuts_gsmp, node_restarts, at_port, takes_change, change_comes, gsmp_holds, ifmp_holds, counted_at}
+use Rattle.law_arrival_views.specs.world_model.ifmp_wire.declared.message.Message.{Message as IfmpMessage}
+use Rattle.law_arrival_views.specs.world_model.ifmp_wire.declared.reader.Fault.{Fault as IfmpFault}
+use Rattle.law_arrival_views.specs.world_model.ifmp_wire.Fields.{decoded as ifmp_decoded}
+use Rattle.law_arrival_views.specs.world_model.gsmp_wire.declared.fault.Fault.{Fault as GsmpFault}
+use Rattle.law_arrival_views.specs.world_model.gsmp_wire.declared.message.Message.{Message}
+use Rattle.law_arrival_views.specs.world_model.link_model.declared.record.Layer.TheVariants as layers
 use Rattle.law_arrival_views.proofs.law_controller_facts.Lifetimes.{decoded_lives}
-use Rattle.world_model.specs.Controller.{Acted, note}
-use Rattle.world_model.specs.Ticks.{ticks}
-use Rattle.law_rule_walks.proofs.Ports.{IsNoted, is_opened, is_closed, is_bound, is_freed, is_joined, IsAsked}
-use Rattle.law_rule_walks.proofs.Controllers.{Keeps, AsksOnlyAt, asks_only_works, ifmp_kept}
-use Rattle.law_rule_walks.proofs.Controllers as controllers
-use Rattle.law_rule_walks.proofs.Changes as route_changes
+use Rattle.law_arrival_views.specs.world_model.Controller.{Acted, note}
+use Rattle.law_arrival_views.specs.world_model.Ticks.{ticks}
+use Rattle.law_arrival_views.proofs.law_rule_walks.Ports.{IsNoted, is_opened, is_closed, is_bound, is_freed, is_joined, IsAsked}
+use Rattle.law_arrival_views.proofs.law_rule_walks.Controllers.{Keeps, AsksOnlyAt, asks_only_works, ifmp_kept}
+use Rattle.law_arrival_views.proofs.law_rule_walks.Controllers as controllers
+use Rattle.law_arrival_views.proofs.law_rule_walks.Changes as route_changes
 use Rattle.law_packet_worlds.proofs.Quiet.{Allows}
 use Rattle.law_unused_labels.proofs.law_causes.Noting.{AllowsBinding}
 

@@ -4,13 +4,13 @@ use Rattle.std.proofs.Common.{◌≡◌, ◌≢◌, ◌⊎◌, inl, inr, ℕ, su
 use Rattle.std.specs.Prelude.{is_some}
 use Rattle.std.specs.List.{list_any}
 use Rattle.std.proofs.lemmas.Bool.Decides.{nat_tests}
-use Rattle.world_model.specs.Words.{NodeId, PortNo, Place, Down, Up, Out, Cell, payload_of, at, put, is_fate_of, has_loss_of, Topology, IsTopology, IsPlace, World, Site, site_key, site_at, with_site, place_node, queue_at, with_queue, with_queue_of, with_queue_in, queue_number, same_queue, places_of, IsShaped, IsPlaceOf, IsPlaceIn, Past, WasAccepted}
+use Rattle.law_arrival_views.specs.world_model.Words.{NodeId, PortNo, Place, Down, Up, Out, Cell, payload_of, at, put, is_fate_of, has_loss_of, Topology, IsTopology, IsPlace, World, Site, site_key, site_at, with_site, place_node, queue_at, with_queue, with_queue_of, with_queue_in, queue_number, same_queue, places_of, IsShaped, IsPlaceOf, IsPlaceIn, Past, WasAccepted}
 use Rattle.law_arrival_views.specs.ordered_lists.Ordered.{Every}
 use Rattle.law_arrival_views.proofs.law_port_facts.Keyed.{by_eq, at_key}
-use Rattle.world_model.specs.network_model.declared.link.LinkEnd.{LinkEnd}
-use Rattle.world_model.specs.Topology.{peer_of}
-use Rattle.world_model.proofs.Lists.{at_put_same, at_put_other}
-use Rattle.world_model.proofs.Queues.{Sets, set_queue, weighs}
+use Rattle.law_arrival_views.specs.world_model.network_model.declared.link.LinkEnd.{LinkEnd}
+use Rattle.law_arrival_views.specs.world_model.Topology.{peer_of}
+use Rattle.law_arrival_views.proofs.world_model.Lists.{at_put_same, at_put_other}
+use Rattle.law_arrival_views.proofs.world_model.Queues.{Sets, set_queue, weighs}
 use Rattle.law_run_facts.specs.law_world_views.Marks.{ends_in, last_cells}
 use Rattle.law_unused_labels.proofs.law_causes.Shown.{peer_back}
 use Rattle.law_packet_worlds.proofs.Meant.{MeansAt}

@@ -1,8 +1,8 @@
 -- On which channels cells stand
 
 use Rattle.std.specs.Prelude.{◌≡◌, true, false, Contains, Some}
-use Rattle.world_model.specs.Words.{Place, is_label_channel, Cell, default_channel, same_channel, is_linked, IsPlace, queue_at, Past}
-use Rattle.world_model.specs.network_model.declared.link.LinkEnd.{LinkEnd}
+use Rattle.law_arrival_views.specs.world_model.Words.{Place, is_label_channel, Cell, default_channel, same_channel, is_linked, IsPlace, queue_at, Past}
+use Rattle.law_arrival_views.specs.world_model.network_model.declared.link.LinkEnd.{LinkEnd}
 use Rattle.law_run_facts.specs.law_world_views.Marks.{heading_at}
 
 -- *Channels*: a cell that isn't on a default channel is on a label's, of a port of a link

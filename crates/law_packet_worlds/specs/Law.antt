@@ -1,8 +1,8 @@
 -- What an event keeps of packets
 
 use Rattle.std.specs.Prelude.{List}
-use Rattle.world_model.specs.Words.{Policy, Topology, Past, past_of, HasFatesOnce}
-use Rattle.world_model.specs.network_model.declared.event.Event.{Event}
+use Rattle.law_arrival_views.specs.world_model.Words.{Policy, Topology, Past, past_of, HasFatesOnce}
+use Rattle.law_arrival_views.specs.world_model.network_model.declared.event.Event.{Event}
 use Rattle.law_run_facts.specs.law_world_views.Between.{IsWorld, HasMeanings, HasPacketsOnce}
 use Rattle.law_run_facts.specs.law_world_views.Kept.{Comes, behind, Begins, BindsUnusedAt}
 use Rattle.law_packet_worlds.specs.Channels.{HasChannels}

@@ -1,11 +1,11 @@
 -- an actor of a site acts, or a queue loses its head: the pairs of each site stay within what may be
 
 use Rattle.std.proofs.Common.{◌≡◌, ◌≢◌, ℕ, zero, suc, ◌<◌, ◌≤◌, List, [], ◌∷◌, Option, None, Some, refl, sym, ◌∙◌, ap, subst, arith, Contains, ◌⊎◌, inl, inr}
-use Rattle.world_model.specs.Words.{End, NodeId, Place, Down, Up, Out, Mark, Cell, Frame, at, put, Setup, Standing, World, Site, site_key, site_at, controller_acts, switch_acts, place_node, queue_in, queue_at, with_queue_in, with_queue_of, with_queue, copy_under, leads}
+use Rattle.law_causes.specs.world_model.Words.{End, NodeId, Place, Down, Up, Out, Mark, Cell, Frame, at, put, Setup, Standing, World, Site, site_key, site_at, controller_acts, switch_acts, place_node, queue_in, queue_at, with_queue_in, with_queue_of, with_queue, copy_under, leads}
 use Rattle.law_world_views.specs.ordered_lists.Ordered.{Every}
-use Rattle.world_model.specs.Switch as switches
-use Rattle.world_model.specs.Controller.{Acted}
-use Rattle.world_model.specs.World.{at_controller, at_switch}
+use Rattle.law_causes.specs.world_model.Switch as switches
+use Rattle.law_causes.specs.world_model.Controller.{Acted}
+use Rattle.law_causes.specs.world_model.World.{at_controller, at_switch}
 use Rattle.law_quiet_controllers.specs.Quiet.{AskTheSame, IsQuiet}
 use Rattle.law_quiet_controllers.specs.Law.{IsAtWork, Asks, by_desk, by_cell}
 use Rattle.law_quiet_controllers.proofs.Beginning.{contained, asked_may, in_tail}

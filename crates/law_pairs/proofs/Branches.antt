@@ -4,30 +4,30 @@ use Rattle.std.proofs.Common.{◌≡◌, ℕ, zero, suc, ◌+◌, ◌≤◌, Boo
 use Rattle.std.specs.Prelude.{◌==◌, ◌&&◌, not, nat_le, nat_lt}
 use Rattle.std.specs.Option.{option_map, option_and_then}
 use Rattle.std.specs.FinMap.{get, insert, remove, keys}
-use Rattle.world_model.specs.Words.{End, PortNo, Mark, Greeting, Party, next_control, with_control, Answer, Quiet, Send, Open, Step, is_estab, ticked, gsmp_answer, gsmp_received, Cell, Move, Request, AddBranch, MoveBranch, DeleteTree, VerifyTree, PortManagement, Frame, Loss, PoolFull, Journal, noted, made, last_mark, payload_in, tested_by, frame_cells, Reassembly, marks_of, broken, most_cells, passed_over, without_slot, too_long, Routed, Branches, Crossbar, same_end, new_branch, cut_by_move, unfinished_after, routed, switched_on, Standing, Switch, control_port, gsmp_channel, Changed, noted_cut, added_by, added, moved_by, moved_to, ended_by, all_ended, inputs_on, branches_after, asked_in, is_request, failure_of, handled_by, handled_asked, handled, replied, requested, read, gsmp_cell, switched_cell, is_gsmp, tick_comes, restarted, gsmp_of, copy_by, copy_of, leads}
-use Rattle.world_model.specs.adjacency_table.declared.message.Answer.TheVariants.{Reset}
-use Rattle.world_model.specs.gsmp_wire.declared.fault.Fault.{Fault}
-use Rattle.world_model.specs.gsmp_wire.declared.message.Message.{Message}
-use Rattle.world_model.specs.gsmp_wire.declared.message.Message.TheVariants.{Adjacency, Branch as BranchMessage, Port, AllPorts as AllPortsMessage}
-use Rattle.world_model.specs.gsmp_wire.declared.request.Request.TheVariants.{DeleteAll, AllPorts}
-use Rattle.world_model.specs.gsmp_wire.Layout.{octets_of as message_octets}
-use Rattle.world_model.specs.gsmp_wire.Fields.{decoded}
-use Rattle.world_model.specs.frame_model.Frame.{octets_of, passed}
-use Rattle.world_model.specs.frame_model.Sending.{Sent}
-use Rattle.world_model.specs.frame_model.Reassembly.{Taken, taken, joined}
+use Rattle.law_causes.specs.world_model.Words.{End, PortNo, Mark, Greeting, Party, next_control, with_control, Answer, Quiet, Send, Open, Step, is_estab, ticked, gsmp_answer, gsmp_received, Cell, Move, Request, AddBranch, MoveBranch, DeleteTree, VerifyTree, PortManagement, Frame, Loss, PoolFull, Journal, noted, made, last_mark, payload_in, tested_by, frame_cells, Reassembly, marks_of, broken, most_cells, passed_over, without_slot, too_long, Routed, Branches, Crossbar, same_end, new_branch, cut_by_move, unfinished_after, routed, switched_on, Standing, Switch, control_port, gsmp_channel, Changed, noted_cut, added_by, added, moved_by, moved_to, ended_by, all_ended, inputs_on, branches_after, asked_in, is_request, failure_of, handled_by, handled_asked, handled, replied, requested, read, gsmp_cell, switched_cell, is_gsmp, tick_comes, restarted, gsmp_of, copy_by, copy_of, leads}
+use Rattle.law_causes.specs.world_model.adjacency_table.declared.message.Answer.TheVariants.{Reset}
+use Rattle.law_causes.specs.world_model.gsmp_wire.declared.fault.Fault.{Fault}
+use Rattle.law_causes.specs.world_model.gsmp_wire.declared.message.Message.{Message}
+use Rattle.law_causes.specs.world_model.gsmp_wire.declared.message.Message.TheVariants.{Adjacency, Branch as BranchMessage, Port, AllPorts as AllPortsMessage}
+use Rattle.law_causes.specs.world_model.gsmp_wire.declared.request.Request.TheVariants.{DeleteAll, AllPorts}
+use Rattle.law_causes.specs.world_model.gsmp_wire.Layout.{octets_of as message_octets}
+use Rattle.law_causes.specs.world_model.gsmp_wire.Fields.{decoded}
+use Rattle.law_causes.specs.world_model.frame_model.Frame.{octets_of, passed}
+use Rattle.law_causes.specs.world_model.frame_model.Sending.{Sent}
+use Rattle.law_causes.specs.world_model.frame_model.Reassembly.{Taken, taken, joined}
 use Rattle.law_world_views.specs.ordered_lists.Ordered.{Every}
 use Rattle.law_world_views.proofs.ordered_lists.Every.{every_join}
-use Rattle.world_model.specs.crossbar_model.declared.branch.Branch.{Branch}
-use Rattle.world_model.specs.crossbar_model.declared.routed.Routed.TheVariants as routes
-use Rattle.world_model.specs.crossbar_model.Crossbar.{output_of, input_of}
-use Rattle.world_model.specs.switch_model.declared.request.Asked.{Asked}
-use Rattle.world_model.specs.switch_model.declared.request.Failure.{Failure}
-use Rattle.world_model.specs.Switch.{Acted, free_slots}
-use Rattle.world_model.specs.Requests.{ended, cleared}
-use Rattle.world_model.specs.Conduct.{with_cells, says, answers, steps, told, after_test, ends_frame, passed as passed_cell, cell_comes}
+use Rattle.law_causes.specs.world_model.crossbar_model.declared.branch.Branch.{Branch}
+use Rattle.law_causes.specs.world_model.crossbar_model.declared.routed.Routed.TheVariants as routes
+use Rattle.law_causes.specs.world_model.crossbar_model.Crossbar.{output_of, input_of}
+use Rattle.law_causes.specs.world_model.switch_model.declared.request.Asked.{Asked}
+use Rattle.law_causes.specs.world_model.switch_model.declared.request.Failure.{Failure}
+use Rattle.law_causes.specs.world_model.Switch.{Acted, free_slots}
+use Rattle.law_causes.specs.world_model.Requests.{ended, cleared}
+use Rattle.law_causes.specs.world_model.Conduct.{with_cells, says, answers, steps, told, after_test, ends_frame, passed as passed_cell, cell_comes}
 use Rattle.law_world_views.proofs.law_port_facts.Keyed.{on_both}
 use Rattle.law_causes.proofs.Maps.{same_input, insert_here, insert_away, remove_here, remove_away}
-use Rattle.world_model.specs.Ways.{told as heard}
+use Rattle.law_causes.specs.world_model.Ways.{told as heard}
 use Rattle.law_quiet_controllers.specs.Quiet.{AskTheSame}
 use Rattle.law_quiet_controllers.proofs.Asking.{cut_frames as chain_cut_frames}
 use Rattle.law_quiet_controllers.proofs.Events.{broken_frames, taken_frames, passed_frames}

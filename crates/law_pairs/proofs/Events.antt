@@ -4,24 +4,24 @@ use Rattle.std.proofs.Common.{◌≡◌, ◌≢◌, ℕ, ◌+◌, ◌<◌, ◌�
 use Rattle.std.specs.Prelude.{◌==◌, ◌&&◌, flat_map}
 use Rattle.std.specs.Option.{option_and_then}
 use Rattle.std.proofs.lemmas.Bool.Decides.{nat_tests}
-use Rattle.world_model.specs.Words.{End, NodeId, Place, Down, Up, Out, Mark, ticked, Cell, Frame, Refusal, at, Standing, control_port, inputs_at, inject_refusal, injected, node_restarts, change_comes, RouteChange, Journal, GivenOut, Topology, World, Site, site_key, site_at, place_node, queue_in, queue_at, with_queue_in, with_queue_of, with_queue, put_away, step, injects_by, arrives_at, carries_head, loses_head, gsmp_of, copy_of, copy_under, requests_chain_at, answers_chain_at, leads}
-use Rattle.world_model.specs.adjacency_table.declared.message.Answer.TheVariants.{Reset}
+use Rattle.law_causes.specs.world_model.Words.{End, NodeId, Place, Down, Up, Out, Mark, ticked, Cell, Frame, Refusal, at, Standing, control_port, inputs_at, inject_refusal, injected, node_restarts, change_comes, RouteChange, Journal, GivenOut, Topology, World, Site, site_key, site_at, place_node, queue_in, queue_at, with_queue_in, with_queue_of, with_queue, put_away, step, injects_by, arrives_at, carries_head, loses_head, gsmp_of, copy_of, copy_under, requests_chain_at, answers_chain_at, leads}
+use Rattle.law_causes.specs.world_model.adjacency_table.declared.message.Answer.TheVariants.{Reset}
 use Rattle.law_world_views.proofs.law_port_facts.Keyed.{at_key}
-use Rattle.world_model.specs.Switch as switches
-use Rattle.world_model.specs.Conduct as conduct
-use Rattle.world_model.specs.Controller.{Acted}
-use Rattle.world_model.specs.Cells as controller_cells
-use Rattle.world_model.specs.Ticks as controller_ticks
+use Rattle.law_causes.specs.world_model.Switch as switches
+use Rattle.law_causes.specs.world_model.Conduct as conduct
+use Rattle.law_causes.specs.world_model.Controller.{Acted}
+use Rattle.law_causes.specs.world_model.Cells as controller_cells
+use Rattle.law_causes.specs.world_model.Ticks as controller_ticks
 use Rattle.law_world_views.proofs.law_controller_facts.Moves.{HasPorts, Moves}
 use Rattle.law_world_views.proofs.law_controller_facts.Performing.{node_restarts_goes}
 use Rattle.law_world_views.proofs.law_controller_facts.Joining.{change_comes_goes}
 use Rattle.law_world_views.proofs.law_controller_facts.Events.{routes_goes, cell_comes_goes, controller_ticks_goes}
-use Rattle.world_model.specs.network_model.declared.event.Event.{Event}
-use Rattle.world_model.specs.network_model.declared.event.Event.TheVariants.{Inject, Carry, Lose, Tick, TickSwitch, Restart, RestartSwitch, Forge, Route}
-use Rattle.world_model.specs.network_model.declared.link.LinkEnd.{LinkEnd}
-use Rattle.world_model.specs.Topology.{peer_of}
-use Rattle.world_model.specs.World.{at_controller, at_switch}
-use Rattle.world_model.specs.Step.{acts}
+use Rattle.law_causes.specs.world_model.network_model.declared.event.Event.{Event}
+use Rattle.law_causes.specs.world_model.network_model.declared.event.Event.TheVariants.{Inject, Carry, Lose, Tick, TickSwitch, Restart, RestartSwitch, Forge, Route}
+use Rattle.law_causes.specs.world_model.network_model.declared.link.LinkEnd.{LinkEnd}
+use Rattle.law_causes.specs.world_model.Topology.{peer_of}
+use Rattle.law_causes.specs.world_model.World.{at_controller, at_switch}
+use Rattle.law_causes.specs.world_model.Step.{acts}
 use Rattle.law_quiet_controllers.specs.Quiet.{IsQuiet, Enters}
 use Rattle.law_quiet_controllers.specs.Law.{IsAtWork, Asks, by_desk, by_cell, before_joins}
 use Rattle.law_quiet_controllers.proofs.Beginning.{begins_quiet}

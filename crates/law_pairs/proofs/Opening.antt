@@ -3,11 +3,11 @@
 use Rattle.std.proofs.Common.{◌≡◌, ℕ, suc, List, [], ◌∷◌, None, refl, sym, ◌∙◌, ap, subst, arith, Contains}
 use Rattle.std.specs.FinMap.{get-empty}
 use Rattle.std.specs.Option.{option_map}
-use Rattle.world_model.specs.Words.{End, NodeId, end_cmp, Frame, Policy, Topology, Node, World, Site, site_key, opened_site, with_opened, opens_each, empty_world}
+use Rattle.law_causes.specs.world_model.Words.{End, NodeId, end_cmp, Frame, Policy, Topology, Node, World, Site, site_key, opened_site, with_opened, opens_each, empty_world}
 use Rattle.law_world_views.specs.ordered_lists.Ordered.{Every}
-use Rattle.world_model.specs.crossbar_model.declared.branch.Branch.{Branch}
-use Rattle.world_model.specs.crossbar_model.Crossbar.{output_of}
-use Rattle.world_model.specs.World.{opened}
+use Rattle.law_causes.specs.world_model.crossbar_model.declared.branch.Branch.{Branch}
+use Rattle.law_causes.specs.world_model.crossbar_model.Crossbar.{output_of}
+use Rattle.law_causes.specs.world_model.World.{opened}
 use Rattle.law_pairs.proofs.SitePairs.{SitePairs, branch, desk, chain, queue, of_pairs}
 use Rattle.law_world_views.proofs.law_port_facts.Keyed.{at_every, every_more}
 use Rattle.law_world_views.specs.Pairs.{Pairs}

@@ -3,9 +3,9 @@
 use Rattle.std.proofs.Common.{◌≡◌, ℕ, zero, suc, Bool, true, false, List, [], ◌∷◌, ◌++◌, Option, None, Some, refl, sym, ◌∙◌, ap, subst, arith, Contains, if◌then◌else◌}
 use Rattle.std.specs.Prelude.{filter, option_map}
 use Rattle.std.specs.Option.{option_map_or, option_and_then}
-use Rattle.world_model.specs.Words.{End, NodeId, Place, Down, Cell, Frame, at, put, Standing, Controller, default_channel, same_channel, World, Site, site_key, site_at, queue_in, queue_at, requests_chain_at, on_channel, copy_under, leads}
+use Rattle.law_causes.specs.world_model.Words.{End, NodeId, Place, Down, Cell, Frame, at, put, Standing, Controller, default_channel, same_channel, World, Site, site_key, site_at, queue_in, queue_at, requests_chain_at, on_channel, copy_under, leads}
 use Rattle.law_world_views.proofs.law_port_facts.Keyed.{at_key, at_put_same}
-use Rattle.world_model.specs.crossbar_model.Crossbar.{output_of}
+use Rattle.law_causes.specs.world_model.crossbar_model.Crossbar.{output_of}
 use Rattle.law_world_views.specs.Pairs.{Pairs, by_branch, by_desk, by_copy}
 use Rattle.law_quiet_controllers.proofs.Beginning.{in_tail}
 

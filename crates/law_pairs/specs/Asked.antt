@@ -1,11 +1,11 @@
 -- That each answer of a switch settles what may be joined
 
 use Rattle.std.specs.Prelude.{◌≡◌, List, ◌∷◌, Some}
-use Rattle.world_model.specs.Words.{NodeId, Up, Cell, queue_of, control_port, Policy, Topology, Site, site_at, past_of}
+use Rattle.law_causes.specs.world_model.Words.{NodeId, Up, Cell, queue_of, control_port, Policy, Topology, Site, site_at, past_of}
 use Rattle.law_world_views.specs.law_label_line.Cells.{Upstream}
 use Rattle.law_world_views.specs.law_port_views.Link.{LinkLabel}
-use Rattle.world_model.specs.network_model.declared.event.Event.{Event}
-use Rattle.world_model.specs.network_model.declared.event.Event.TheVariants.{Carry}
+use Rattle.law_causes.specs.world_model.network_model.declared.event.Event.{Event}
+use Rattle.law_causes.specs.world_model.network_model.declared.event.Event.TheVariants.{Carry}
 use Rattle.law_world_views.specs.Pairs.{IsLike}
 use Rattle.law_world_views.specs.Between.{IsWorld, IsLinkLabel}
 use Rattle.law_world_views.specs.Kept.{Comes, behind}

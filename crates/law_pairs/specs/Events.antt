@@ -1,19 +1,19 @@
 -- Which labels are joined, or may be, behind an event: those that were before it, and at a tick those of the joins that it enters
 
 use Rattle.std.specs.Prelude.{◌≡◌, ◌≢◌, ℕ, ◌<◌, ◌≤◌, ◌⊎◌, true, nat_lt, List, [], ◌∷◌, None, Some}
-use Rattle.world_model.specs.Words.{End, NodeId, Place, Down, Up, Out, Mark, Cell, payload_of, payload_in, Standing, last_transaction, control_port, is_gsmp, Topology, World, Site, site_at, queue_at, put_away, next, copy_under}
-use Rattle.world_model.specs.frame_model.Frame.{octets_of}
-use Rattle.world_model.specs.frame_model.Reassembly.{taken}
+use Rattle.law_causes.specs.world_model.Words.{End, NodeId, Place, Down, Up, Out, Mark, Cell, payload_of, payload_in, Standing, last_transaction, control_port, is_gsmp, Topology, World, Site, site_at, queue_at, put_away, next, copy_under}
+use Rattle.law_causes.specs.world_model.frame_model.Frame.{octets_of}
+use Rattle.law_causes.specs.world_model.frame_model.Reassembly.{taken}
 use Rattle.law_world_views.specs.ordered_lists.Ordered.{Every}
-use Rattle.world_model.specs.Switch.{free_slots}
+use Rattle.law_causes.specs.world_model.Switch.{free_slots}
 use Rattle.law_world_views.specs.law_controller_facts.Sound.{ArePorts, AreShaped}
 use Rattle.law_quiet_controllers.specs.Quiet.{AreRead}
 use Rattle.law_quiet_controllers.specs.Heard.{LeadsToLinks, CanCome}
 use Rattle.law_quiet_controllers.specs.Law.{TickEnters}
-use Rattle.world_model.specs.network_model.declared.event.Event.{Event}
-use Rattle.world_model.specs.network_model.declared.event.Event.TheVariants.{Carry, Tick, Forge}
-use Rattle.world_model.specs.network_model.declared.link.LinkEnd.{LinkEnd}
-use Rattle.world_model.specs.Topology.{peer_of}
+use Rattle.law_causes.specs.world_model.network_model.declared.event.Event.{Event}
+use Rattle.law_causes.specs.world_model.network_model.declared.event.Event.TheVariants.{Carry, Tick, Forge}
+use Rattle.law_causes.specs.world_model.network_model.declared.link.LinkEnd.{LinkEnd}
+use Rattle.law_causes.specs.world_model.Topology.{peer_of}
 use Rattle.law_world_views.specs.Shown.{acting}
 use Rattle.law_world_views.specs.Pairs.{Pairs}
 use Rattle.law_world_views.specs.Between.{EachSite, HasNumbers, setups_of}

@@ -1,8 +1,8 @@
 -- Which labels are joined, or may be, behind each event of a run before the first frame that was forged or passed by chance
 
 use Rattle.std.specs.Prelude.{List}
-use Rattle.world_model.specs.Words.{Policy, Topology, past_of}
-use Rattle.world_model.specs.network_model.declared.event.Event.{Event}
+use Rattle.law_causes.specs.world_model.Words.{Policy, Topology, past_of}
+use Rattle.law_causes.specs.world_model.network_model.declared.event.Event.{Event}
 use Rattle.law_world_views.specs.Between.{IsWorld}
 use Rattle.law_world_views.specs.Kept.{Comes, behind}
 use Rattle.law_pairs.specs.Events.{HasOldPairs}

@@ -2,8 +2,8 @@
 -- answer releases them
 
 use Rattle.std.specs.Prelude.{◌≡◌, true, false, List, Some}
-use Rattle.world_model.specs.Words.{End, Cell, Frame, leads_home, Standing, Done, answered, after_answer, home_of, label_end, Controller, ForGsmp, taker_of, is_deleting, has_emptied, gsmp_under}
-use Rattle.world_model.specs.gsmp_wire.declared.message.Message.{Message}
+use Rattle.law_causes.specs.world_model.Words.{End, Cell, Frame, leads_home, Standing, Done, answered, after_answer, home_of, label_end, Controller, ForGsmp, taker_of, is_deleting, has_emptied, gsmp_under}
+use Rattle.law_causes.specs.world_model.gsmp_wire.declared.message.Message.{Message}
 use Rattle.law_world_views.specs.law_label_line.Cells.{Upstream}
 use Rattle.law_world_views.specs.law_port_views.Link.{LinkLabel}
 use Rattle.law_world_views.specs.Pairs.{IsJoin}

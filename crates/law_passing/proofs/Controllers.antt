@@ -2,33 +2,33 @@
 
 use Rattle.std.proofs.Common.{ℕ, true, List, [], ◌∷◌, ◌++◌, Option, None, Some, refl, if◌then◌else◌, map, fold}
 use Rattle.std.specs.Prelude.{◌==◌, nat_lt, drop, flat_map, Result, Ok, Err}
-use Rattle.world_model.specs.Words.{PortNo, Channel, End, Mark, Party, number_of_channel, protocol_of, source_of, PacketFault, hop_of, onward, Hop, Here, On, RouteChange, Cell, kind_of, default_payload, labelled_payload, EncapsFault, default_unwrapped, unwrapped, Request, AddBranch, MoveBranch, DeleteTree, VerifyTree, PortManagement, Said, Answer, Quiet, Send, Open, is_estab, ticked, greeting_of, gsmp_answer, gsmp_received, Part, Reassembly, Tested, tested, last_mark, next_mark, empty_desk, sent_again, Answered, Unknown, Done, Ports, Failed, answered, after_answer, home_of, control_end, Label, Grant, closes, counts, used, hears, Linked, linked_at, with_linked, with_desk, default_end, default_home, sends_control, says_gsmp, asks, sends_request, node_restarts, join_of, parts, gives_back, releases_join, releases_input, released_inputs, resets_spent, releases, join_for, may_join, enters_grant, enters_label, joins, tries_label, label_on, tries_join, inputs_at, tries_joins, changed_joins, takes_join_back, begins_change, takes_change, may_take, takes_each, takes_changes, change_comes, meets, up_ports, default_branches, ends_meeting, has_emptied, port_of_input, tells_port, behind_delete_all, causes_in_estab, causes, may_clear, clears_of, clears_port, clears, takes_answer, answer_comes, gsmp_holds, is_control, sends_next, goes_by, grant_by, routes, control_protocol, injected, ForGsmp, ForDefault, ForLabel, taker_of, takes_cell, reassembly_of, with_reassembly, label_holds, ifmp_holds, counted_at, packet_holds, default_holds, frame_holds, sends_again, ticks_port, ticks_ports, ticks_by}
-use Rattle.world_model.specs.ipv4_packet.Packet.{first_fault}
-use Rattle.world_model.specs.ipv4_forward.declared.outcome.Hop.TheVariants.{NoRoute, Expired}
-use Rattle.world_model.specs.ifmp_wire.declared.message.Message.{Message as IfmpMessage}
-use Rattle.world_model.specs.ifmp_wire.declared.reader.Fault.{Fault as IfmpFault}
-use Rattle.world_model.specs.ifmp_wire.Fields.{decoded as ifmp_decoded}
-use Rattle.world_model.specs.gsmp_wire.Fields.{decoded as gsmp_decoded}
-use Rattle.world_model.specs.gsmp_wire.declared.fault.Fault.{Fault as GsmpFault}
-use Rattle.world_model.specs.gsmp_wire.declared.message.Message.{Message}
-use Rattle.world_model.specs.gsmp_wire.declared.message.Message.TheVariants as messages
-use Rattle.world_model.specs.gsmp_wire.declared.request.Request.TheVariants.{DeleteAll, AllPorts}
-use Rattle.world_model.specs.adjacency_table.declared.message.Answer.TheVariants.{Reset}
-use Rattle.world_model.specs.adjacency_table.Side as sides
-use Rattle.world_model.specs.frame_model.Reassembly.{Taken, taken}
-use Rattle.world_model.specs.port_model.Desk.{message_at}
-use Rattle.world_model.specs.port_model.Answers as port_answers
-use Rattle.world_model.specs.port_model.Joins as port_joins
-use Rattle.world_model.specs.port_model.Resets.{cleared}
-use Rattle.world_model.specs.port_model.Ticks as port_ticks
-use Rattle.world_model.specs.Controller.{Acted, free_slots, ports_of, note}
-use Rattle.world_model.specs.Sending.{sends}
-use Rattle.world_model.specs.Joins.{Join, output_of}
-use Rattle.world_model.specs.Meeting.{done}
-use Rattle.world_model.specs.Gsmp.{answers, steps, told}
-use Rattle.world_model.specs.Packets.{forwarded}
-use Rattle.world_model.specs.Cells.{Taker, opened_frame, ends_frame, after_cell, cell_comes}
-use Rattle.world_model.specs.Ticks.{ticks}
+use Rattle.law_actor_pace.specs.world_model.Words.{PortNo, Channel, End, Mark, Party, number_of_channel, protocol_of, source_of, PacketFault, hop_of, onward, Hop, Here, On, RouteChange, Cell, kind_of, default_payload, labelled_payload, EncapsFault, default_unwrapped, unwrapped, Request, AddBranch, MoveBranch, DeleteTree, VerifyTree, PortManagement, Said, Answer, Quiet, Send, Open, is_estab, ticked, greeting_of, gsmp_answer, gsmp_received, Part, Reassembly, Tested, tested, last_mark, next_mark, empty_desk, sent_again, Answered, Unknown, Done, Ports, Failed, answered, after_answer, home_of, control_end, Label, Grant, closes, counts, used, hears, Linked, linked_at, with_linked, with_desk, default_end, default_home, sends_control, says_gsmp, asks, sends_request, node_restarts, join_of, parts, gives_back, releases_join, releases_input, released_inputs, resets_spent, releases, join_for, may_join, enters_grant, enters_label, joins, tries_label, label_on, tries_join, inputs_at, tries_joins, changed_joins, takes_join_back, begins_change, takes_change, may_take, takes_each, takes_changes, change_comes, meets, up_ports, default_branches, ends_meeting, has_emptied, port_of_input, tells_port, behind_delete_all, causes_in_estab, causes, may_clear, clears_of, clears_port, clears, takes_answer, answer_comes, gsmp_holds, is_control, sends_next, goes_by, grant_by, routes, control_protocol, injected, ForGsmp, ForDefault, ForLabel, taker_of, takes_cell, reassembly_of, with_reassembly, label_holds, ifmp_holds, counted_at, packet_holds, default_holds, frame_holds, sends_again, ticks_port, ticks_ports, ticks_by}
+use Rattle.law_actor_pace.specs.world_model.ipv4_packet.Packet.{first_fault}
+use Rattle.law_actor_pace.specs.world_model.ipv4_forward.declared.outcome.Hop.TheVariants.{NoRoute, Expired}
+use Rattle.law_actor_pace.specs.world_model.ifmp_wire.declared.message.Message.{Message as IfmpMessage}
+use Rattle.law_actor_pace.specs.world_model.ifmp_wire.declared.reader.Fault.{Fault as IfmpFault}
+use Rattle.law_actor_pace.specs.world_model.ifmp_wire.Fields.{decoded as ifmp_decoded}
+use Rattle.law_actor_pace.specs.world_model.gsmp_wire.Fields.{decoded as gsmp_decoded}
+use Rattle.law_actor_pace.specs.world_model.gsmp_wire.declared.fault.Fault.{Fault as GsmpFault}
+use Rattle.law_actor_pace.specs.world_model.gsmp_wire.declared.message.Message.{Message}
+use Rattle.law_actor_pace.specs.world_model.gsmp_wire.declared.message.Message.TheVariants as messages
+use Rattle.law_actor_pace.specs.world_model.gsmp_wire.declared.request.Request.TheVariants.{DeleteAll, AllPorts}
+use Rattle.law_actor_pace.specs.world_model.adjacency_table.declared.message.Answer.TheVariants.{Reset}
+use Rattle.law_actor_pace.specs.world_model.adjacency_table.Side as sides
+use Rattle.law_actor_pace.specs.world_model.frame_model.Reassembly.{Taken, taken}
+use Rattle.law_actor_pace.specs.world_model.port_model.Desk.{message_at}
+use Rattle.law_actor_pace.specs.world_model.port_model.Answers as port_answers
+use Rattle.law_actor_pace.specs.world_model.port_model.Joins as port_joins
+use Rattle.law_actor_pace.specs.world_model.port_model.Resets.{cleared}
+use Rattle.law_actor_pace.specs.world_model.port_model.Ticks as port_ticks
+use Rattle.law_actor_pace.specs.world_model.Controller.{Acted, free_slots, ports_of, note}
+use Rattle.law_actor_pace.specs.world_model.Sending.{sends}
+use Rattle.law_actor_pace.specs.world_model.Joins.{Join, output_of}
+use Rattle.law_actor_pace.specs.world_model.Meeting.{done}
+use Rattle.law_actor_pace.specs.world_model.Gsmp.{answers, steps, told}
+use Rattle.law_actor_pace.specs.world_model.Packets.{forwarded}
+use Rattle.law_actor_pace.specs.world_model.Cells.{Taker, opened_frame, ends_frame, after_cell, cell_comes}
+use Rattle.law_actor_pace.specs.world_model.Ticks.{ticks}
 use Rattle.law_actor_pace.proofs.Cells.{on_both}
 use Rattle.law_passing.proofs.Rules.{Adds, itself, adds_then, adds_fold, same, sends_adds, sends_control_adds, says_gsmp_adds, node_resets_adds, asks_adds, takes_back_adds, at_port_adds, node_restarts_adds}
 

@@ -3,9 +3,9 @@
 use Rattle.std.proofs.Common.{◌≡◌, ◌≢◌, ℕ, suc, ◌<◌, ◌==◌, Bool, true, false, List, [], ◌∷◌, length, slice_index_or, Option, None, Some, refl, sym, ◌∙◌, ap, arith, if◌then◌else◌}
 use Rattle.std.specs.Option.{option_or}
 use Rattle.std.proofs.lemmas.Bool.Decides.{nat_tests}
-use Rattle.world_model.specs.Words.{NodeId, PortNo, IsLink, IsTopology, Topology, Link, peer_among, same_link_end}
-use Rattle.world_model.specs.network_model.declared.link.LinkEnd.{LinkEnd}
-use Rattle.world_model.specs.Topology.{peer_of}
+use Rattle.law_actor_pace.specs.world_model.Words.{NodeId, PortNo, IsLink, IsTopology, Topology, Link, peer_among, same_link_end}
+use Rattle.law_actor_pace.specs.world_model.network_model.declared.link.LinkEnd.{LinkEnd}
+use Rattle.law_actor_pace.specs.world_model.Topology.{peer_of}
 
 same_node : (a b : LinkEnd) → same_link_end a b ≡ true → a.node.0 ≡ b.node.0
 same_node a b e = grind (arith, nat_tests, e)

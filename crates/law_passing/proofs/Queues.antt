@@ -4,13 +4,13 @@ use Rattle.std.proofs.Common.{◌≡◌, ◌≢◌, ℕ, zero, suc, ◌<◌, ◌
 use Rattle.std.specs.Prelude.{drop}
 use Rattle.std.specs.Option.{option_map_or}
 use Rattle.std.proofs.lemmas.Bool.Decides.{nat_tests}
-use Rattle.world_model.specs.Words.{NodeId, Place, Down, Up, Out, Cell, at, put, World, Site, site_key, site_at, controller_acts, switch_acts, place_node, queue_in, queue_at, queue_number, same_queue, with_queue, with_queue_in, with_queue_of}
-use Rattle.world_model.specs.Switch as switches
-use Rattle.world_model.specs.Controller as controllers
-use Rattle.world_model.specs.World.{at_controller, at_switch}
-use Rattle.world_model.proofs.Lists.{by_eq, at_key, at_put_same, at_put_other, index_set, index_here}
-use Rattle.law_passing.specs.declared.reached.Reached.{Reached}
-use Rattle.law_passing.specs.declared.reached.Reached.TheVariants.{Controller, Switch}
+use Rattle.law_actor_pace.specs.world_model.Words.{NodeId, Place, Down, Up, Out, Cell, at, put, World, Site, site_key, site_at, controller_acts, switch_acts, place_node, queue_in, queue_at, queue_number, same_queue, with_queue, with_queue_in, with_queue_of}
+use Rattle.law_actor_pace.specs.world_model.Switch as switches
+use Rattle.law_actor_pace.specs.world_model.Controller as controllers
+use Rattle.law_actor_pace.specs.world_model.World.{at_controller, at_switch}
+use Rattle.law_actor_pace.proofs.world_model.Lists.{by_eq, at_key, at_put_same, at_put_other, index_set, index_here}
+use Rattle.law_passing.specs.telling_model.declared.reached.Reached.{Reached}
+use Rattle.law_passing.specs.telling_model.declared.reached.Reached.TheVariants.{Controller, Switch}
 use Rattle.law_passing.specs.Reached.{owns}
 use Rattle.law_passing.proofs.Fronts.{Grows, as_it_was, grows_same, grown_to}
 use Rattle.law_passing.proofs.Rules as controller_rules

@@ -2,14 +2,14 @@
 
 use Rattle.std.proofs.Common.{◌≡◌, ℕ, List, [], ◌∷◌, length, Option, None, Some, refl, ◌∙◌, if◌then◌else◌, fold}
 use Rattle.std.specs.Prelude.{◌==◌, nat_le}
-use Rattle.world_model.specs.Words.{PortNo, Channel, End, Mark, with_control, next_control, Cell, is_estab, Request, MoveBranch, Loss, PoolFull, noted, frame_cells, made, is_led_home, last_transaction, Action, Say, Ask, Note, CutChain, TakeBack, Withdraw, home_of, Work, resets, restarts, Controller, Linked, linked_at, with_desk, default_channel, default_home, sends_control, says_gsmp, asks_next, asks, takes_back, cuts_of, cuts_label, cuts_default_of, cuts_default, cuts_gsmp, begins, with_work, closes_by, port_restarts_as, port_restarts_of, port_restarts, resets_gsmp, node_resets, node_restarts, does, does_in_estab, resets_of, performs, performs_in_estab, Rule, works_as, works, at_port}
-use Rattle.world_model.specs.gsmp_wire.Layout.{octets_of as gsmp_octets}
-use Rattle.world_model.specs.gsmp_wire.declared.message.Message.{Message as GsmpMessage}
-use Rattle.world_model.specs.frame_model.Sending.{Sent}
-use Rattle.world_model.specs.port_model.Desk.{asked, message_at}
-use Rattle.world_model.specs.port_model.declared.action.Action.TheVariants.{Reset}
-use Rattle.world_model.specs.Controller.{Acted, free_slots, ports_of, note}
-use Rattle.world_model.specs.Sending.{with_cells, sends}
+use Rattle.law_actor_pace.specs.world_model.Words.{PortNo, Channel, End, Mark, with_control, next_control, Cell, is_estab, Request, MoveBranch, Loss, PoolFull, noted, frame_cells, made, is_led_home, last_transaction, Action, Say, Ask, Note, CutChain, TakeBack, Withdraw, home_of, Work, resets, restarts, Controller, Linked, linked_at, with_desk, default_channel, default_home, sends_control, says_gsmp, asks_next, asks, takes_back, cuts_of, cuts_label, cuts_default_of, cuts_default, cuts_gsmp, begins, with_work, closes_by, port_restarts_as, port_restarts_of, port_restarts, resets_gsmp, node_resets, node_restarts, does, does_in_estab, resets_of, performs, performs_in_estab, Rule, works_as, works, at_port}
+use Rattle.law_actor_pace.specs.world_model.gsmp_wire.Layout.{octets_of as gsmp_octets}
+use Rattle.law_actor_pace.specs.world_model.gsmp_wire.declared.message.Message.{Message as GsmpMessage}
+use Rattle.law_actor_pace.specs.world_model.frame_model.Sending.{Sent}
+use Rattle.law_actor_pace.specs.world_model.port_model.Desk.{asked, message_at}
+use Rattle.law_actor_pace.specs.world_model.port_model.declared.action.Action.TheVariants.{Reset}
+use Rattle.law_actor_pace.specs.world_model.Controller.{Acted, free_slots, ports_of, note}
+use Rattle.law_actor_pace.specs.world_model.Sending.{with_cells, sends}
 use Rattle.law_actor_pace.proofs.Cells.{on_both}
 use Rattle.law_passing.proofs.Fronts.{Grows, as_it_was, grows_then, grows_same}
 

@@ -3,22 +3,22 @@
 use Rattle.std.proofs.Common.{◌≡◌, ℕ, zero, suc, List, [], ◌∷◌, ◌++◌, length, slice_set, slice_index_or, Option, None, Some, refl, ap}
 use Rattle.std.specs.Prelude.{nat_le, nat_lt, ◌&&◌, Result, Ok, Err}
 use Rattle.std.specs.FinMap.{get}
-use Rattle.world_model.specs.Words.{PortNo, Channel, End, Mark, Party, with_control, next_control, Cell, Said, Answer, Quiet, Send, Open, Step, is_estab, ticked, greeting_of, gsmp_answer, gsmp_received, Request, Journal, noted, Loss, PoolFull, frame_cells, made, Tested, tested, Routed, Crossbar, queue_of, sent, switched_on, on_channel_of, routed, Switch, control_port, gsmp_channel, asked_in, is_request, failure_of, Handled, handled, handled_asked, handled_by, reset, replied, requested, read, gsmp_cell, switched_cell, is_gsmp, tick_comes, restarted}
-use Rattle.world_model.specs.adjacency_table.declared.message.Answer.TheVariants.{Reset}
-use Rattle.world_model.specs.gsmp_wire.declared.fault.Fault.{Fault}
-use Rattle.world_model.specs.gsmp_wire.declared.message.Message.{Message}
-use Rattle.world_model.specs.gsmp_wire.declared.message.Message.TheVariants as messages
-use Rattle.world_model.specs.gsmp_wire.Layout.{octets_of}
-use Rattle.world_model.specs.gsmp_wire.Fields.{decoded}
-use Rattle.world_model.specs.frame_model.Sending.{Sent}
-use Rattle.world_model.specs.frame_model.Reassembly.{Taken, taken}
-use Rattle.world_model.specs.crossbar_model.declared.branch.Branch.{Branch}
-use Rattle.world_model.specs.crossbar_model.declared.routed.Routed.TheVariants as routes
-use Rattle.world_model.specs.crossbar_model.Crossbar.{input_of}
-use Rattle.world_model.specs.switch_model.declared.request.Asked.{Asked}
-use Rattle.world_model.specs.switch_model.declared.request.Failure.{Failure}
-use Rattle.world_model.specs.Switch.{Acted, free_slots}
-use Rattle.world_model.specs.Conduct.{with_cells, sends, says, answers, steps, told, opened_frame, ends_frame, passed, cell_comes}
+use Rattle.law_actor_pace.specs.world_model.Words.{PortNo, Channel, End, Mark, Party, with_control, next_control, Cell, Said, Answer, Quiet, Send, Open, Step, is_estab, ticked, greeting_of, gsmp_answer, gsmp_received, Request, Journal, noted, Loss, PoolFull, frame_cells, made, Tested, tested, Routed, Crossbar, queue_of, sent, switched_on, on_channel_of, routed, Switch, control_port, gsmp_channel, asked_in, is_request, failure_of, Handled, handled, handled_asked, handled_by, reset, replied, requested, read, gsmp_cell, switched_cell, is_gsmp, tick_comes, restarted}
+use Rattle.law_actor_pace.specs.world_model.adjacency_table.declared.message.Answer.TheVariants.{Reset}
+use Rattle.law_actor_pace.specs.world_model.gsmp_wire.declared.fault.Fault.{Fault}
+use Rattle.law_actor_pace.specs.world_model.gsmp_wire.declared.message.Message.{Message}
+use Rattle.law_actor_pace.specs.world_model.gsmp_wire.declared.message.Message.TheVariants as messages
+use Rattle.law_actor_pace.specs.world_model.gsmp_wire.Layout.{octets_of}
+use Rattle.law_actor_pace.specs.world_model.gsmp_wire.Fields.{decoded}
+use Rattle.law_actor_pace.specs.world_model.frame_model.Sending.{Sent}
+use Rattle.law_actor_pace.specs.world_model.frame_model.Reassembly.{Taken, taken}
+use Rattle.law_actor_pace.specs.world_model.crossbar_model.declared.branch.Branch.{Branch}
+use Rattle.law_actor_pace.specs.world_model.crossbar_model.declared.routed.Routed.TheVariants as routes
+use Rattle.law_actor_pace.specs.world_model.crossbar_model.Crossbar.{input_of}
+use Rattle.law_actor_pace.specs.world_model.switch_model.declared.request.Asked.{Asked}
+use Rattle.law_actor_pace.specs.world_model.switch_model.declared.request.Failure.{Failure}
+use Rattle.law_actor_pace.specs.world_model.Switch.{Acted, free_slots}
+use Rattle.law_actor_pace.specs.world_model.Conduct.{with_cells, sends, says, answers, steps, told, opened_frame, ends_frame, passed, cell_comes}
 use Rattle.law_actor_pace.proofs.Cells.{on_both}
 use Rattle.law_passing.proofs.Fronts.{Grows, as_it_was, grows_same, grows_then}
 

@@ -3,19 +3,19 @@
 use Rattle.std.proofs.Common.{◌≡◌, ◌≢◌, ℕ, ◌+◌, ◌==◌, Bool, true, false, true≢false, List, [], ◌∷◌, Option, None, Some, refl, sym, ◌∙◌, ap, subst, arith, if◌then◌else◌}
 use Rattle.std.specs.Prelude.{drop}
 use Rattle.std.proofs.lemmas.Bool.Decides.{nat_tests}
-use Rattle.world_model.specs.Words.{NodeId, Place, Down, Up, Out, Channel, Mark, next_control, with_control, Cell, Forged, Refusal, control_port, inject_refusal, injected, node_restarts, change_comes, IsTopology, place_node, queue_at, queue_number, same_queue, with_queue, next, put_away, injects_by, arrives_at, arrives, carries_head, loses_head, forges_at, Topology, World, Site}
-use Rattle.world_model.specs.Conduct as switch
-use Rattle.world_model.specs.Sending.{sends}
-use Rattle.world_model.specs.Cells as controller
-use Rattle.world_model.specs.Ticks.{ticks}
-use Rattle.world_model.specs.network_model.declared.event.Event.{Event}
-use Rattle.world_model.specs.network_model.declared.event.Event.TheVariants.{Inject, Carry, Lose, Tick, TickSwitch, Restart, RestartSwitch, Forge, Route}
-use Rattle.world_model.specs.network_model.declared.link.LinkEnd.{LinkEnd}
-use Rattle.world_model.specs.Step.{note, acts}
-use Rattle.world_model.specs.Topology.{peer_of}
+use Rattle.law_actor_pace.specs.world_model.Words.{NodeId, Place, Down, Up, Out, Channel, Mark, next_control, with_control, Cell, Forged, Refusal, control_port, inject_refusal, injected, node_restarts, change_comes, IsTopology, place_node, queue_at, queue_number, same_queue, with_queue, next, put_away, injects_by, arrives_at, arrives, carries_head, loses_head, forges_at, Topology, World, Site}
+use Rattle.law_actor_pace.specs.world_model.Conduct as switch
+use Rattle.law_actor_pace.specs.world_model.Sending.{sends}
+use Rattle.law_actor_pace.specs.world_model.Cells as controller
+use Rattle.law_actor_pace.specs.world_model.Ticks.{ticks}
+use Rattle.law_actor_pace.specs.world_model.network_model.declared.event.Event.{Event}
+use Rattle.law_actor_pace.specs.world_model.network_model.declared.event.Event.TheVariants.{Inject, Carry, Lose, Tick, TickSwitch, Restart, RestartSwitch, Forge, Route}
+use Rattle.law_actor_pace.specs.world_model.network_model.declared.link.LinkEnd.{LinkEnd}
+use Rattle.law_actor_pace.specs.world_model.Step.{note, acts}
+use Rattle.law_actor_pace.specs.world_model.Topology.{peer_of}
 use Rattle.telling_model.specs.Passing.{left, left_of, source_of}
-use Rattle.law_passing.specs.declared.reached.Reached.{Reached}
-use Rattle.law_passing.specs.declared.reached.Reached.TheVariants as actors
+use Rattle.law_passing.specs.telling_model.declared.reached.Reached.{Reached}
+use Rattle.law_passing.specs.telling_model.declared.reached.Reached.TheVariants as actors
 use Rattle.law_passing.specs.Law.{QueuesChangeByPassing, QueuesAreTheActors, SourcesGetNothing}
 use Rattle.law_passing.specs.Reached.{owner_of, switch_at, led_to, carried_to, reached, owns}
 use Rattle.law_passing.proofs.Controllers.{cell_adds, injected_adds, ticks_adds, restarts_adds, change_adds}

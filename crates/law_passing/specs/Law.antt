@@ -1,10 +1,10 @@
 -- How an event changes the queues of a network
 
 use Rattle.std.specs.Prelude.{◌≡◌, ◌++◌, true, false, [], Some}
-use Rattle.world_model.specs.Words.{Place, IsTopology, queue_at, same_queue, next, Topology, World}
-use Rattle.world_model.specs.network_model.declared.event.Event.{Event}
+use Rattle.law_actor_pace.specs.world_model.Words.{Place, IsTopology, queue_at, same_queue, next, Topology, World}
+use Rattle.law_actor_pace.specs.world_model.network_model.declared.event.Event.{Event}
 use Rattle.telling_model.specs.Passing.{left, put_at, source_of}
-use Rattle.law_passing.specs.Reached.{owns, reached}
+use Rattle.telling_model.specs.Reached.{owns, reached}
 
 -- *What was left in a queue stays*, in its order, and behind it stands what was put there
 abbrev pub QueuesChangeByPassing : Type 0

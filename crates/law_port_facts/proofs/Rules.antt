@@ -9,7 +9,7 @@ use Rattle.port_model.specs.Words.{Addr, Channel, End, Hello, Peer, label_channe
 use Rattle.port_model.specs.adjacency_table.Side as sides
 use Rattle.port_model.specs.ipv4_packet.declared.flow.FlowId.TheVariants.{One, Two}
 use Rattle.port_model.specs.ipv4_packet.declared.flow.FlowKind.TheVariants.{One as ConnectionKind, Two as HostsKind}
-use Rattle.octet_fields.specs.Fields.{u16_at}
+use Rattle.port_model.specs.octet_fields.Fields.{u16_at}
 use Rattle.port_model.specs.gsmp_wire.declared.request.Request.TheVariants.{DeleteAll, AllPorts}
 use Rattle.ordered_lists.specs.Ordered.{InOrder}
 use Rattle.port_model.specs.declared.action.Action.TheVariants.{Note, CutChain}

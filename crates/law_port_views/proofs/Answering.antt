@@ -4,9 +4,9 @@
 use Rattle.std.proofs.Common.{◌≡◌, ◌≢◌, ℕ, ◌≤◌, Bool, true, false, List, [], Option, None, Some, refl, sym, ◌∙◌, ap, subst, if◌then◌else◌}
 use Rattle.std.specs.Prelude.{◌==◌}
 use Rattle.std.specs.Option.{option_map_or}
-use Rattle.port_model.specs.Words.{End, label_number_of, number_of_channel, is_label_number, Request, AddBranch, MoveBranch, DeleteTree, VerifyTree, PortManagement, Bind, Free, at, put, Setup, Label, LabelState, Wiring, Offered, Recalled, Wired, label_number, Grant, GrantState, Idle, ByController, ByInput, Leaving, grant_label, grant_on, Session, Work, with_label, without_label, with_grant, label_at, labels_of, last_number, own_of, redirect, used_label, used, joins_label, parted, lent, label_by, bound_in, bound, freed_in, freed, started_in, started, joined_to}
-use Rattle.port_model.specs.gsmp_wire.declared.request.Request.TheVariants.{DeleteAll, AllPorts}
-use Rattle.port_model.specs.link_model.declared.record.Record.TheVariants.{Join}
+use Rattle.law_port_facts.specs.port_model.Words.{End, label_number_of, number_of_channel, is_label_number, Request, AddBranch, MoveBranch, DeleteTree, VerifyTree, PortManagement, Bind, Free, at, put, Setup, Label, LabelState, Wiring, Offered, Recalled, Wired, label_number, Grant, GrantState, Idle, ByController, ByInput, Leaving, grant_label, grant_on, Session, Work, with_label, without_label, with_grant, label_at, labels_of, last_number, own_of, redirect, used_label, used, joins_label, parted, lent, label_by, bound_in, bound, freed_in, freed, started_in, started, joined_to}
+use Rattle.law_port_facts.specs.port_model.gsmp_wire.declared.request.Request.TheVariants.{DeleteAll, AllPorts}
+use Rattle.law_port_facts.specs.port_model.link_model.declared.record.Record.TheVariants.{Join}
 use Rattle.law_port_facts.proofs.Keyed.{on_both, by_eq, at_key}
 use Rattle.law_label_line.specs.Cells as lines
 use Rattle.law_label_line.specs.Cells.{Role, Downstream, Upstream, Cell}
@@ -15,11 +15,11 @@ use Rattle.law_label_line.specs.Line.{Line}
 use Rattle.law_label_line.specs.Downstream as down
 use Rattle.law_label_line.specs.Upstream as up
 use Rattle.law_label_line.specs.Moves as moves
-use Rattle.port_model.specs.declared.action.Action.TheVariants.{Note}
-use Rattle.port_model.specs.Port.{acts}
-use Rattle.port_model.specs.Saying.{peer_of, says}
-use Rattle.port_model.specs.Joins.{joined}
-use Rattle.port_model.specs.Answers.{done}
+use Rattle.law_port_facts.specs.port_model.declared.action.Action.TheVariants.{Note}
+use Rattle.law_port_facts.specs.port_model.Port.{acts}
+use Rattle.law_port_facts.specs.port_model.Saying.{peer_of, says}
+use Rattle.law_port_facts.specs.port_model.Joins.{joined}
+use Rattle.law_port_facts.specs.port_model.Answers.{done}
 use Rattle.law_port_views.specs.Link.{LinkLabel}
 use Rattle.law_port_views.specs.Flows.{flow_number}
 use Rattle.law_port_views.specs.Shown.{label_of, flow_of, number_of, grant_in, IsLent, Shown}

@@ -3,8 +3,8 @@
 use Rattle.std.proofs.Common.{◌≡◌, ◌≢◌, ℕ, ◌+◌, ◌-◌, ◌<◌, ◌≤◌, Bool, true, false, refl, sym, ◌∙◌, ap, ap₂, arith}
 use Rattle.std.specs.Prelude.{◌*◌, ◌==◌, ◌&&◌, nat_eq}
 use Rattle.std.proofs.lemmas.Bool.Decides.{nat_tests}
-use Rattle.port_model.specs.Words.{Addr, FlowId, same_flow}
-use Rattle.port_model.specs.ipv4_packet.declared.flow.FlowId.TheVariants.{One, Two}
+use Rattle.law_port_facts.specs.port_model.Words.{Addr, FlowId, same_flow}
+use Rattle.law_port_facts.specs.port_model.ipv4_packet.declared.flow.FlowId.TheVariants.{One, Two}
 use Rattle.law_port_views.specs.Flows.{paired, flow_number}
 
 -- *Two numbers* are told by the number of both

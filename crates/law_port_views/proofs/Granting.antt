@@ -4,17 +4,17 @@ use Rattle.std.proofs.Common.{◌≡◌, ℕ, Bool, true, false, List, [], ◌�
 use Rattle.std.specs.Prelude.{is_some, not, nat_eq, nat_lt}
 use Rattle.std.specs.Option.{option_map_or}
 use Rattle.std.proofs.lemmas.Bool.Decides.{nat_tests}
-use Rattle.port_model.specs.Words.{Addr, Instance, Channel, label_number_of, State, Clearing, is_estab, FlowId, same_flow, Redirect, Reclaim, AddBranch, Desk, at, Setup, label_end, control_end, is_in_range, Grant, GrantState, Idle, ByController, ByInput, Leaving, grant_label, grant_on, is_leaving, Acceptance, New, Refreshed, IsLeaving, GrantsFull, most_grants, acceptance_beside, acceptance_of, acceptance, Session, Work, with_grants, with_grant, without_grant, has_room, error, reclaim_ack, own_of, takes, expects, accepts, grants_label, reclaimed_in, reclaimed, hears}
+use Rattle.law_port_facts.specs.port_model.Words.{Addr, Instance, Channel, label_number_of, State, Clearing, is_estab, FlowId, same_flow, Redirect, Reclaim, AddBranch, Desk, at, Setup, label_end, control_end, is_in_range, Grant, GrantState, Idle, ByController, ByInput, Leaving, grant_label, grant_on, is_leaving, Acceptance, New, Refreshed, IsLeaving, GrantsFull, most_grants, acceptance_beside, acceptance_of, acceptance, Session, Work, with_grants, with_grant, without_grant, has_room, error, reclaim_ack, own_of, takes, expects, accepts, grants_label, reclaimed_in, reclaimed, hears}
 use Rattle.law_port_facts.proofs.Keyed.{on_both, on_each, at_key}
 use Rattle.law_label_line.specs.Cells as lines
 use Rattle.law_label_line.specs.Cells.{Role, Downstream, Upstream, Cell}
 use Rattle.law_label_line.specs.Line as states
 use Rattle.law_label_line.specs.Line.{Line}
 use Rattle.law_label_line.specs.Upstream as up
-use Rattle.port_model.specs.declared.action.Action.TheVariants.{Ask, TakeBack}
-use Rattle.port_model.specs.Grants.{OutOfRange, Taken}
-use Rattle.port_model.specs.Saying.{says, peer_of}
-use Rattle.port_model.specs.Redirection.{redirected}
+use Rattle.law_port_facts.specs.port_model.declared.action.Action.TheVariants.{Ask, TakeBack}
+use Rattle.law_port_facts.specs.port_model.Grants.{OutOfRange, Taken}
+use Rattle.law_port_facts.specs.port_model.Saying.{says, peer_of}
+use Rattle.law_port_facts.specs.port_model.Redirection.{redirected}
 use Rattle.law_port_views.specs.Link.{LinkLabel}
 use Rattle.law_port_views.specs.Flows.{flow_number}
 use Rattle.law_port_views.specs.Heard.{names}

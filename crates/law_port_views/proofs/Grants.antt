@@ -3,7 +3,7 @@
 use Rattle.std.proofs.Common.{◌≡◌, ◌≢◌, ℕ, Bool, false, List, [], ◌∷◌, ◌++◌, Option, None, Some, inl, refl, sym, ◌∙◌, ap, subst, if◌then◌else◌}
 use Rattle.std.specs.Prelude.{nat_eq}
 use Rattle.law_port_facts.specs.ordered_lists.Ordered.{Every}
-use Rattle.port_model.specs.Words.{at, put, without, Grant, grant_label, Work, with_grants, with_grant, without_grant}
+use Rattle.law_port_facts.specs.port_model.Words.{at, put, without, Grant, grant_label, Work, with_grants, with_grant, without_grant}
 use Rattle.law_port_facts.proofs.Keyed.{on_each, on_both, by_eq, at_put_same, at_put_other}
 use Rattle.law_label_line.specs.Cells.{Downstream, Upstream, Cell}
 use Rattle.law_label_line.specs.Line as lines

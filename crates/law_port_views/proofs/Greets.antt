@@ -3,16 +3,16 @@
 use Rattle.std.proofs.Common.{◌≡◌, ℕ, Bool, true, false, List, [], ◌∷◌, ◌++◌, Option, None, Some, inl, inr, refl, sym, ◌∙◌, ap, arith, if◌then◌else◌}
 use Rattle.std.specs.Prelude.{not, ◌&&◌, ◌==◌}
 use Rattle.std.proofs.lemmas.Bool.Decides.{nat_tests}
-use Rattle.port_model.specs.Words.{Addr, Peer, Hello, HelloKind, Syn, Synack, Rstack, Ack, State, Clearing, SynSent, SynRcvd, Estab, Said, Answer, Row, Reply, Silent, Says, Resets, row, Side, is_estab, answer_of, SideByInstances, enters, after_row, is_reset, greeting, router, side_of, said_by, hello_of, Opened, at, Setup, Grant, grant_label, Work, greets, first_session, opens}
-use Rattle.port_model.specs.adjacency_table.Side.{opened as opened_answer}
-use Rattle.port_model.specs.ifmp_wire.declared.message.Message.TheVariants.{Adjacency}
+use Rattle.law_port_facts.specs.port_model.Words.{Addr, Peer, Hello, HelloKind, Syn, Synack, Rstack, Ack, State, Clearing, SynSent, SynRcvd, Estab, Said, Answer, Row, Reply, Silent, Says, Resets, row, Side, is_estab, answer_of, SideByInstances, enters, after_row, is_reset, greeting, router, side_of, said_by, hello_of, Opened, at, Setup, Grant, grant_label, Work, greets, first_session, opens}
+use Rattle.law_port_facts.specs.port_model.adjacency_table.Side.{opened as opened_answer}
+use Rattle.law_port_facts.specs.port_model.ifmp_wire.declared.message.Message.TheVariants.{Adjacency}
 use Rattle.law_label_line.specs.Cells.{Role, Downstream, Upstream, Cell, hello}
 use Rattle.law_label_line.specs.Line.{Line}
 use Rattle.law_label_line.specs.Downstream as down
 use Rattle.law_label_line.specs.Upstream as up
-use Rattle.port_model.specs.declared.action.Action.TheVariants.{Say, Note}
-use Rattle.port_model.specs.Port.{acts}
-use Rattle.port_model.specs.Adjacency.{steps}
+use Rattle.law_port_facts.specs.port_model.declared.action.Action.TheVariants.{Say, Note}
+use Rattle.law_port_facts.specs.port_model.Port.{acts}
+use Rattle.law_port_facts.specs.port_model.Adjacency.{steps}
 use Rattle.law_port_views.specs.Link.{LinkLabel}
 use Rattle.law_port_views.specs.Heard.{heard_down, heard_up, is_own}
 use Rattle.law_port_views.specs.Shown.{GrantShows, expected_number, Shown, rest_of}

@@ -2,16 +2,16 @@
 
 use Rattle.std.proofs.Common.{◌≡◌, ℕ, Bool, true, false, List, Option, None, Some, refl, sym, ◌∙◌, ap, ap₂, subst, arith, if◌then◌else◌}
 use Rattle.std.specs.Prelude.{nat_eq, max, is_some, not, ◌&&◌}
-use Rattle.port_model.specs.Words.{Addr, Peer, Hello, HelloKind, State, Clearing, Said, Answer, Row, Reply, Silent, Says, Resets, row, Side, is_estab, answer_of, SideByInstances, row_for, enters, after_row, is_reset, greeting, router, side_of, said_by, step_by, next_in, Desk, Setup, Session, Work, halts, learns}
-use Rattle.port_model.specs.adjacency_table.Side.{opened as opened_answer}
-use Rattle.port_model.specs.ifmp_wire.declared.message.Message.TheVariants.{Adjacency}
+use Rattle.law_port_facts.specs.port_model.Words.{Addr, Peer, Hello, HelloKind, State, Clearing, Said, Answer, Row, Reply, Silent, Says, Resets, row, Side, is_estab, answer_of, SideByInstances, row_for, enters, after_row, is_reset, greeting, router, side_of, said_by, step_by, next_in, Desk, Setup, Session, Work, halts, learns}
+use Rattle.law_port_facts.specs.port_model.adjacency_table.Side.{opened as opened_answer}
+use Rattle.law_port_facts.specs.port_model.ifmp_wire.declared.message.Message.TheVariants.{Adjacency}
 use Rattle.law_port_facts.proofs.Keyed.{on_both}
 use Rattle.law_label_line.specs.Cells as lines
 use Rattle.law_label_line.specs.Cells.{Role, Downstream, Upstream, Cell}
 use Rattle.law_label_line.specs.Line.{Line}
 use Rattle.law_label_line.specs.Downstream as down
 use Rattle.law_label_line.specs.Upstream as up
-use Rattle.port_model.specs.Adjacency.{steps, greeted}
+use Rattle.law_port_facts.specs.port_model.Adjacency.{steps, greeted}
 use Rattle.law_port_views.specs.Link.{LinkLabel, other}
 use Rattle.law_port_views.specs.Heard.{is_own}
 use Rattle.law_port_views.specs.Shown.{expected_number, known_number, Shown, rest_of}

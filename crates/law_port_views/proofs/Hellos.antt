@@ -4,9 +4,9 @@ use Rattle.std.proofs.Common.{◌≡◌, ℕ, Bool, true, false, refl, ◌∙◌
 use Rattle.std.specs.Prelude.{◌&&◌, ◌==◌}
 use Rattle.std.proofs.lemmas.Bool.Decides.{nat_tests}
 use Rattle.std.proofs.lemmas.Grind.{common_steps}
-use Rattle.port_model.specs.Words.{Addr, Instance, Peer, Hello, HelloKind, Syn, Synack, Rstack, Ack, Side, SideByInstances, row_for, router, side_of, said_by, step_by, hello_of, heard_from, ifmp_received, is_good}
-use Rattle.port_model.proofs.adjacency_table.EndsLemmas.{ifmp_received_by_instances}
-use Rattle.port_model.specs.ifmp_wire.declared.message.Message.TheVariants.{Adjacency}
+use Rattle.law_port_facts.specs.port_model.Words.{Addr, Instance, Peer, Hello, HelloKind, Syn, Synack, Rstack, Ack, Side, SideByInstances, row_for, router, side_of, said_by, step_by, hello_of, heard_from, ifmp_received, is_good}
+use Rattle.law_port_facts.proofs.port_model.adjacency_table.EndsLemmas.{ifmp_received_by_instances}
+use Rattle.law_port_facts.specs.port_model.ifmp_wire.declared.message.Message.TheVariants.{Adjacency}
 use Rattle.law_label_line.specs.Downstream as down
 use Rattle.law_port_views.specs.Heard.{is_own, is_own_hello}
 

@@ -3,7 +3,7 @@
 use Rattle.std.proofs.Common.{◌≡◌, ◌≢◌, ℕ, false, List, [], Option, None, Some, refl, sym, ◌∙◌, ap, subst}
 use Rattle.std.specs.Prelude.{is_some}
 use Rattle.std.specs.Option.{option_map_or}
-use Rattle.port_model.specs.Words.{at, put, without, entered, key_le, Label, label_number, Session, Work, with_label, with_new_label, without_label, label_at}
+use Rattle.law_port_facts.specs.port_model.Words.{at, put, without, entered, key_le, Label, label_number, Session, Work, with_label, with_new_label, without_label, label_at}
 use Rattle.law_port_facts.proofs.Keyed.{at_put_same, at_put_other}
 use Rattle.law_label_line.specs.Cells.{Downstream, Upstream, Cell}
 use Rattle.law_label_line.specs.Line as lines

@@ -3,11 +3,11 @@
 use Rattle.std.proofs.Common.{◌≡◌, ◌≢◌, ℕ, Bool, true, false, List, [], ◌∷◌, ◌++◌, Option, None, Some, refl, sym, ◌∙◌, ap, append_assoc, append-nil, arith, if◌then◌else◌}
 use Rattle.std.specs.Prelude.{nat_eq}
 use Rattle.std.proofs.lemmas.Bool.Decides.{nat_tests}
-use Rattle.port_model.specs.Words.{at, without, entered}
+use Rattle.law_port_facts.specs.port_model.Words.{at, without, entered}
 use Rattle.law_label_line.specs.Cells.{Role, Cell}
 use Rattle.law_label_line.specs.Cells as lines
-use Rattle.port_model.specs.declared.action.Action.{Action}
-use Rattle.port_model.specs.declared.action.Action.TheVariants.{Say}
+use Rattle.law_port_facts.specs.port_model.declared.action.Action.{Action}
+use Rattle.law_port_facts.specs.port_model.declared.action.Action.TheVariants.{Say}
 use Rattle.law_port_views.specs.Heard.{heard_by, framed, asked, asked_all}
 
 module _ {A : Type 0} (key : A → ℕ) where

@@ -4,11 +4,11 @@ use Rattle.std.proofs.Common.{◌≡◌, Bool, true, false, List, [], ◌∷◌,
 use Rattle.std.specs.Prelude.{◌+◌, nat_lt}
 use Rattle.std.specs.Option.{option_map}
 use Rattle.law_port_facts.proofs.Keyed.{on_each}
-use Rattle.port_model.specs.declared.action.Action.{Action}
-use Rattle.port_model.specs.declared.action.Action.TheVariants.{Say, Reset}
-use Rattle.port_model.specs.Words.{Grant, Session, Work, halts, with_session, with_grants, Unnumbered, own_of, tells_in, tells, closes, spent_number, last_number, is_spent}
-use Rattle.port_model.specs.Port.{acts}
-use Rattle.port_model.specs.Saying.{peer_of, numbered, says}
+use Rattle.law_port_facts.specs.port_model.declared.action.Action.{Action}
+use Rattle.law_port_facts.specs.port_model.declared.action.Action.TheVariants.{Say, Reset}
+use Rattle.law_port_facts.specs.port_model.Words.{Grant, Session, Work, halts, with_session, with_grants, Unnumbered, own_of, tells_in, tells, closes, spent_number, last_number, is_spent}
+use Rattle.law_port_facts.specs.port_model.Port.{acts}
+use Rattle.law_port_facts.specs.port_model.Saying.{peer_of, numbered, says}
 
 module _ (P : Work → Type 0) where
   pub live_acts : (w : Work) (action : Action) → w.halted ≡ false → P (record w { actions = w.actions ++ action ∷ [] }) → P (acts w action)

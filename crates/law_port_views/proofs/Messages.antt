@@ -1,9 +1,9 @@
 -- any message of the other end is heard, at either end of the link
 
 use Rattle.std.proofs.Common.{◌≡◌, ℕ, Bool, true, false, List, refl}
-use Rattle.port_model.specs.Words.{Addr, Instance, Channel, is_label_number, FlowId, Redirect, Reclaim, ReclaimAck, LabelRange, Error, Desk, Setup, Work, is_spent, hears}
-use Rattle.port_model.specs.ifmp_wire.declared.message.Message.{Message}
-use Rattle.port_model.specs.ifmp_wire.declared.message.Message.TheVariants.{Adjacency}
+use Rattle.law_port_facts.specs.port_model.Words.{Addr, Instance, Channel, is_label_number, FlowId, Redirect, Reclaim, ReclaimAck, LabelRange, Error, Desk, Setup, Work, is_spent, hears}
+use Rattle.law_port_facts.specs.port_model.ifmp_wire.declared.message.Message.{Message}
+use Rattle.law_port_facts.specs.port_model.ifmp_wire.declared.message.Message.TheVariants.{Adjacency}
 use Rattle.law_label_line.specs.Cells.{Role, Downstream, Upstream, Cell}
 use Rattle.law_label_line.specs.Line.{Line}
 use Rattle.law_port_views.specs.Link.{LinkLabel, other}

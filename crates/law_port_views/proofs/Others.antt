@@ -5,18 +5,18 @@ use Rattle.std.proofs.Common.{◌≡◌, ◌≢◌, ℕ, Bool, true, false, List
 use Rattle.std.specs.Prelude.{◌==◌, is_some, not, nat_eq, nat_lt, min}
 use Rattle.std.specs.Option.{option_map_or}
 use Rattle.std.proofs.lemmas.Bool.Decides.{nat_tests}
-use Rattle.port_model.specs.Words.{Addr, Instance, Channel, End, label_number_of, FlowId, same_flow, Redirect, Reclaim, ReclaimAck, LabelRange, Error, AddBranch, Desk, at, Setup, label_end, control_end, is_in_range, Label, LabelState, Wiring, Offered, Recalled, Wired, label_number, Grant, GrantState, Idle, ByController, ByInput, Leaving, grant_label, grant_on, is_leaving, Acceptance, New, Refreshed, IsLeaving, GrantsFull, most_grants, acceptance_beside, acceptance_of, acceptance, Session, Work, with_session, with_label, with_grants, with_grant, without_grant, label_at, labels_of, has_room, Unnumbered, last_number, label_range, error, reclaim, reclaim_ack, quits, takes, expects, accepts, grants_label, reclaims_in, unjoins, recalls, recalls_in, recalls_offered, reclaimed_in, reclaimed, acknowledged_in, acknowledged, narrowed, is_outside, recalls_outside, ranged, error_comes, label_by, hears}
-use Rattle.port_model.specs.ifmp_wire.declared.message.Message.{Message}
+use Rattle.law_port_facts.specs.port_model.Words.{Addr, Instance, Channel, End, label_number_of, FlowId, same_flow, Redirect, Reclaim, ReclaimAck, LabelRange, Error, AddBranch, Desk, at, Setup, label_end, control_end, is_in_range, Label, LabelState, Wiring, Offered, Recalled, Wired, label_number, Grant, GrantState, Idle, ByController, ByInput, Leaving, grant_label, grant_on, is_leaving, Acceptance, New, Refreshed, IsLeaving, GrantsFull, most_grants, acceptance_beside, acceptance_of, acceptance, Session, Work, with_session, with_label, with_grants, with_grant, without_grant, label_at, labels_of, has_room, Unnumbered, last_number, label_range, error, reclaim, reclaim_ack, quits, takes, expects, accepts, grants_label, reclaims_in, unjoins, recalls, recalls_in, recalls_offered, reclaimed_in, reclaimed, acknowledged_in, acknowledged, narrowed, is_outside, recalls_outside, ranged, error_comes, label_by, hears}
+use Rattle.law_port_facts.specs.port_model.ifmp_wire.declared.message.Message.{Message}
 use Rattle.law_port_facts.proofs.Keyed.{on_both, on_each, at_key}
 use Rattle.law_label_line.specs.Cells as lines
 use Rattle.law_label_line.specs.Cells.{Role, Downstream, Upstream, Cell}
 use Rattle.law_label_line.specs.Line.{Line}
 use Rattle.law_label_line.specs.Upstream as up
-use Rattle.port_model.specs.declared.action.Action.TheVariants.{Ask, TakeBack}
-use Rattle.port_model.specs.Grants.{OutOfRange, Taken}
-use Rattle.port_model.specs.Port.{acts}
-use Rattle.port_model.specs.Saying.{says}
-use Rattle.port_model.specs.Redirection.{redirected}
+use Rattle.law_port_facts.specs.port_model.declared.action.Action.TheVariants.{Ask, TakeBack}
+use Rattle.law_port_facts.specs.port_model.Grants.{OutOfRange, Taken}
+use Rattle.law_port_facts.specs.port_model.Port.{acts}
+use Rattle.law_port_facts.specs.port_model.Saying.{says}
+use Rattle.law_port_facts.specs.port_model.Redirection.{redirected}
 use Rattle.law_port_views.specs.Link.{LinkLabel}
 use Rattle.law_port_views.specs.Flows.{flow_number}
 use Rattle.law_port_views.specs.Heard.{heard_by, names, IsSaid}

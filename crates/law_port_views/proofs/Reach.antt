@@ -4,7 +4,7 @@ use Rattle.std.proofs.Common.{◌≡◌, Bool, true, false, List, [], ◌∷◌,
 use Rattle.law_label_line.specs.Cells.{Role, Cell}
 use Rattle.law_label_line.specs.Line.{Line}
 use Rattle.law_label_line.specs.Moves.{Move, step, run}
-use Rattle.port_model.specs.Words.{Work}
+use Rattle.law_port_facts.specs.port_model.Words.{Work}
 use Rattle.law_port_views.specs.Link.{LinkLabel}
 use Rattle.law_port_views.specs.Shown.{Shown, rest_of}
 use Rattle.law_port_views.specs.Reaching.{ReachesFrom, Reaches, Leads}

@@ -4,19 +4,19 @@ use Rattle.std.proofs.Common.{◌≡◌, ◌≢◌, ℕ, ◌≤◌, Bool, true, 
 use Rattle.std.specs.Prelude.{◌+◌, nat_eq, nat_lt}
 use Rattle.std.specs.Option.{option_map, option_map_or}
 use Rattle.std.proofs.lemmas.Bool.Decides.{nat_tests}
-use Rattle.port_model.specs.Words.{Addr, Instance, Channel, label_channel_of, label_number_of, number_of_channel, is_label_channel, is_label_number, FlowId, same_flow, Redirect, Reclaim, AddBranch, Desk, at, Setup, label_end, control_end, label_number, Grant, GrantState, Idle, ByController, ByInput, Leaving, grant_on, Acceptance, New, Refreshed, IsLeaving, GrantsFull, acceptance, Session, Work, halts, with_session, with_grants, with_grant, without_grant, label_at, has_room, Unnumbered, last_number, tells_in, tells, is_spent, closes, label_range, error, reclaim_ack, takes, expects, accepts, grants_label, reclaimed_in, reclaimed, hears}
-use Rattle.port_model.proofs.net_types.Labels.{number_of_channel-label_channel_of}
-use Rattle.port_model.specs.ifmp_wire.declared.message.Message.{Message}
+use Rattle.law_port_facts.specs.port_model.Words.{Addr, Instance, Channel, label_channel_of, label_number_of, number_of_channel, is_label_channel, is_label_number, FlowId, same_flow, Redirect, Reclaim, AddBranch, Desk, at, Setup, label_end, control_end, label_number, Grant, GrantState, Idle, ByController, ByInput, Leaving, grant_on, Acceptance, New, Refreshed, IsLeaving, GrantsFull, acceptance, Session, Work, halts, with_session, with_grants, with_grant, without_grant, label_at, has_room, Unnumbered, last_number, tells_in, tells, is_spent, closes, label_range, error, reclaim_ack, takes, expects, accepts, grants_label, reclaimed_in, reclaimed, hears}
+use Rattle.law_port_facts.proofs.port_model.net_types.Labels.{number_of_channel-label_channel_of}
+use Rattle.law_port_facts.specs.port_model.ifmp_wire.declared.message.Message.{Message}
 use Rattle.law_port_facts.proofs.Keyed.{on_both, on_each}
 use Rattle.law_label_line.specs.Cells as lines
 use Rattle.law_label_line.specs.Cells.{Role, Downstream, Upstream, Cell}
 use Rattle.law_label_line.specs.Line.{Line}
-use Rattle.port_model.specs.declared.action.Action.{Action}
-use Rattle.port_model.specs.declared.action.Action.TheVariants.{Ask, TakeBack}
-use Rattle.port_model.specs.Grants.{OutOfRange, Taken}
-use Rattle.port_model.specs.Port.{acts}
-use Rattle.port_model.specs.Saying.{says}
-use Rattle.port_model.specs.Redirection.{redirected}
+use Rattle.law_port_facts.specs.port_model.declared.action.Action.{Action}
+use Rattle.law_port_facts.specs.port_model.declared.action.Action.TheVariants.{Ask, TakeBack}
+use Rattle.law_port_facts.specs.port_model.Grants.{OutOfRange, Taken}
+use Rattle.law_port_facts.specs.port_model.Port.{acts}
+use Rattle.law_port_facts.specs.port_model.Saying.{says}
+use Rattle.law_port_facts.specs.port_model.Redirection.{redirected}
 use Rattle.law_port_views.specs.Link.{LinkLabel}
 use Rattle.law_port_views.specs.Heard.{heard_by, names, IsSaid}
 use Rattle.law_port_views.specs.Shown.{Shown}

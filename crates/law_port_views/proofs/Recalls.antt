@@ -4,7 +4,7 @@
 use Rattle.std.proofs.Common.{◌≡◌, ◌≢◌, ℕ, ◌≤◌, Bool, true, false, List, Option, None, Some, refl, sym, ◌∙◌, ap, subst, arith, map, if◌then◌else◌}
 use Rattle.std.specs.Prelude.{◌+◌, ◌==◌, is_some, min, nat_eq}
 use Rattle.std.specs.Option.{option_map_or}
-use Rattle.port_model.specs.Words.{Addr, Instance, Channel, End, label_number_of, is_label_number, FlowId, same_flow, ReclaimAck, LabelRange, Error, Desk, put, Setup, label_end, Label, LabelState, Wiring, Offered, Recalled, Wired, label_number, Session, Work, with_session, with_label, label_at, labels_of, last_number, own_of, reclaim, quits, takes, expects, reclaims_in, unjoins, recalls, recalls_in, recalls_offered, acknowledged_in, acknowledged, narrowed, is_outside, recalls_outside, ranged, error_comes, label_by, hears}
+use Rattle.law_port_facts.specs.port_model.Words.{Addr, Instance, Channel, End, label_number_of, is_label_number, FlowId, same_flow, ReclaimAck, LabelRange, Error, Desk, put, Setup, label_end, Label, LabelState, Wiring, Offered, Recalled, Wired, label_number, Session, Work, with_session, with_label, label_at, labels_of, last_number, own_of, reclaim, quits, takes, expects, reclaims_in, unjoins, recalls, recalls_in, recalls_offered, acknowledged_in, acknowledged, narrowed, is_outside, recalls_outside, ranged, error_comes, label_by, hears}
 use Rattle.law_port_facts.proofs.Keyed.{on_both, on_each, by_eq, at_key}
 use Rattle.law_label_line.specs.Cells as lines
 use Rattle.law_label_line.specs.Cells.{Role, Downstream, Upstream, Cell}
@@ -12,9 +12,9 @@ use Rattle.law_label_line.specs.Line as states
 use Rattle.law_label_line.specs.Line.{Line}
 use Rattle.law_label_line.specs.Downstream as down
 use Rattle.law_label_line.specs.Moves.{Recall}
-use Rattle.port_model.specs.declared.action.Action.TheVariants.{TakeBack}
-use Rattle.port_model.specs.Port.{acts}
-use Rattle.port_model.specs.Saying.{peer_of, says}
+use Rattle.law_port_facts.specs.port_model.declared.action.Action.TheVariants.{TakeBack}
+use Rattle.law_port_facts.specs.port_model.Port.{acts}
+use Rattle.law_port_facts.specs.port_model.Saying.{peer_of, says}
 use Rattle.law_port_views.specs.Link.{LinkLabel}
 use Rattle.law_port_views.specs.Flows.{flow_number}
 use Rattle.law_port_views.specs.Shown.{label_of, flow_of, number_of, Shown}

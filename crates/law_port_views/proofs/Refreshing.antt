@@ -3,7 +3,7 @@
 use Rattle.std.proofs.Common.{◌≡◌, ℕ, ◌≤◌, Bool, true, false, List, [], ◌∷◌, Option, None, Some, refl, sym, ◌∙◌, ap, subst, map, fold, if◌then◌else◌}
 use Rattle.std.specs.Prelude.{◌||◌, min, nat_le, is_none}
 use Rattle.std.specs.Option.{option_map_or}
-use Rattle.port_model.specs.Words.{is_label_number, ticked, Desk, on_input, at, put, DeleteTree, Setup, label_end, grant_label, Label, LabelState, Wiring, Offered, Recalled, Wired, label_number, Session, Work, with_label, label_at, labels_of, desk_after, has_room, last_number, own_of, redirect, label_range, reclaim, unwires, reclaims_in, recalls, ages, refreshes, one_older, one_idler, idles, ticks_in, ticks_found, ticks_label, asks_for_ack, nudges, moves_windows, ticks_session}
+use Rattle.law_port_facts.specs.port_model.Words.{is_label_number, ticked, Desk, on_input, at, put, DeleteTree, Setup, label_end, grant_label, Label, LabelState, Wiring, Offered, Recalled, Wired, label_number, Session, Work, with_label, label_at, labels_of, desk_after, has_room, last_number, own_of, redirect, label_range, reclaim, unwires, reclaims_in, recalls, ages, refreshes, one_older, one_idler, idles, ticks_in, ticks_found, ticks_label, asks_for_ack, nudges, moves_windows, ticks_session}
 use Rattle.law_port_facts.proofs.Keyed.{on_both, by_eq, at_key}
 use Rattle.law_label_line.specs.Cells as lines
 use Rattle.law_label_line.specs.Cells.{Role, Downstream, Upstream, Cell}
@@ -12,12 +12,12 @@ use Rattle.law_label_line.specs.Line.{Line}
 use Rattle.law_label_line.specs.Downstream as down
 use Rattle.law_label_line.specs.Moves as moves
 use Rattle.law_label_line.specs.Moves.{Move}
-use Rattle.port_model.specs.declared.action.Action.TheVariants.{Ask}
-use Rattle.port_model.specs.Counts.{moved}
-use Rattle.port_model.specs.Port.{acts}
-use Rattle.port_model.specs.Saying.{peer_of, says}
-use Rattle.port_model.specs.Adjacency.{steps}
-use Rattle.port_model.specs.Ticks.{ticks}
+use Rattle.law_port_facts.specs.port_model.declared.action.Action.TheVariants.{Ask}
+use Rattle.law_port_facts.specs.port_model.Counts.{moved}
+use Rattle.law_port_facts.specs.port_model.Port.{acts}
+use Rattle.law_port_facts.specs.port_model.Saying.{peer_of, says}
+use Rattle.law_port_facts.specs.port_model.Adjacency.{steps}
+use Rattle.law_port_facts.specs.port_model.Ticks.{ticks}
 use Rattle.law_port_views.specs.Link.{LinkLabel}
 use Rattle.law_port_views.specs.Flows.{flow_number}
 use Rattle.law_port_views.specs.Shown.{label_of, flow_of, number_of, label_in, Shown}

@@ -4,9 +4,9 @@ use Rattle.std.proofs.Common.{◌≡◌, ◌≢◌, ℕ, ◌+◌, ◌-◌, ◌�
 use Rattle.std.specs.Prelude.{is_some}
 use Rattle.std.specs.List.{flat_map}
 use Rattle.std.proofs.lemmas.Bool.Decides.{nat_tests}
-use Rattle.port_model.specs.Words.{Addr, Peer, State, Clearing, SynSent, Side, fresh, is_estab, SideByInstances, router, side_of, at, Setup, Label, Grant, GrantState, Idle, ByController, ByInput, Leaving, grant_label, Session, Work, next_side, closing, left_in, left_of, taking_back_in, taking_back, withdrawing_in, withdrawing_of, withdrawing, resets, restarts}
-use Rattle.port_model.specs.adjacency_table.Instances.{begun}
-use Rattle.port_model.specs.gsmp_wire.declared.request.Request.TheVariants.{DeleteAll}
+use Rattle.law_port_facts.specs.port_model.Words.{Addr, Peer, State, Clearing, SynSent, Side, fresh, is_estab, SideByInstances, router, side_of, at, Setup, Label, Grant, GrantState, Idle, ByController, ByInput, Leaving, grant_label, Session, Work, next_side, closing, left_in, left_of, taking_back_in, taking_back, withdrawing_in, withdrawing_of, withdrawing, resets, restarts}
+use Rattle.law_port_facts.specs.port_model.adjacency_table.Instances.{begun}
+use Rattle.law_port_facts.specs.port_model.gsmp_wire.declared.request.Request.TheVariants.{DeleteAll}
 use Rattle.law_port_facts.specs.ordered_lists.Ordered.{Every}
 use Rattle.law_port_facts.proofs.ordered_lists.Every.{every_join}
 use Rattle.law_port_facts.proofs.Keyed.{by_eq}
@@ -16,9 +16,9 @@ use Rattle.law_label_line.specs.Line.{Line}
 use Rattle.law_label_line.specs.Downstream as down
 use Rattle.law_label_line.specs.Upstream as up
 use Rattle.law_label_line.specs.Moves.{Restart, Release, Clear}
-use Rattle.port_model.specs.declared.action.Action.{Action}
-use Rattle.port_model.specs.declared.action.Action.TheVariants.{Say, Ask, Note, CutChain, TakeBack, Withdraw, Reset}
-use Rattle.port_model.specs.Port.{Port}
+use Rattle.law_port_facts.specs.port_model.declared.action.Action.{Action}
+use Rattle.law_port_facts.specs.port_model.declared.action.Action.TheVariants.{Say, Ask, Note, CutChain, TakeBack, Withdraw, Reset}
+use Rattle.law_port_facts.specs.port_model.Port.{Port}
 use Rattle.law_port_views.specs.Link.{LinkLabel}
 use Rattle.law_port_views.specs.Flows.{flow_number}
 use Rattle.law_port_views.specs.Heard.{IsOwn, asked, asked_all}

@@ -1,16 +1,16 @@
 -- a port at work asks something, and says a message under its next number
 
 use Rattle.std.proofs.Common.{◌≡◌, Bool, true, List, [], ◌∷◌, ◌++◌, None, Some, refl, ap, length}
-use Rattle.port_model.specs.ifmp_wire.declared.message.Message.{Message}
+use Rattle.law_port_facts.specs.port_model.ifmp_wire.declared.message.Message.{Message}
 use Rattle.law_port_facts.proofs.Keyed.{on_both, every_more}
 use Rattle.law_label_line.specs.Cells as lines
 use Rattle.law_label_line.specs.Cells.{Role, Downstream, Upstream, Cell, ToSwitch, frame}
 use Rattle.law_label_line.specs.Line.{Line}
 use Rattle.law_label_line.specs.Moves.{Lose}
-use Rattle.port_model.specs.declared.action.Action.{Action}
-use Rattle.port_model.specs.declared.action.Action.TheVariants.{Say, Reset}
-use Rattle.port_model.specs.Words.{Work, halts, is_spent, closes}
-use Rattle.port_model.specs.Port.{acts}
+use Rattle.law_port_facts.specs.port_model.declared.action.Action.{Action}
+use Rattle.law_port_facts.specs.port_model.declared.action.Action.TheVariants.{Say, Reset}
+use Rattle.law_port_facts.specs.port_model.Words.{Work, halts, is_spent, closes}
+use Rattle.law_port_facts.specs.port_model.Port.{acts}
 use Rattle.law_port_views.specs.Link.{LinkLabel, other}
 use Rattle.law_port_views.specs.Heard.{heard_by, framed, is_own, IsOwn, asked}
 use Rattle.law_port_views.specs.Shown.{Shown}

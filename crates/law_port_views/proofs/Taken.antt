@@ -3,13 +3,13 @@
 use Rattle.std.proofs.Common.{◌≡◌, ℕ, Bool, true, false, List, [], Option, None, Some, refl, sym, ◌∙◌, ap}
 use Rattle.std.specs.Prelude.{◌+◌, is_some, nat_eq, nat_le, nat_lt, ◌&&◌, ◌==◌}
 use Rattle.std.specs.Option.{option_map, option_map_or}
-use Rattle.port_model.specs.Words.{Addr, Instance, Peer, State, Clearing, SynSent, SynRcvd, Estab, Side, is_estab, SideByInstances, router, side_of, at, Label, label_number, Session, Work, with_session, last_number, own_of, is_from_peer, is_due, takes, expects}
+use Rattle.law_port_facts.specs.port_model.Words.{Addr, Instance, Peer, State, Clearing, SynSent, SynRcvd, Estab, Side, is_estab, SideByInstances, router, side_of, at, Label, label_number, Session, Work, with_session, last_number, own_of, is_from_peer, is_due, takes, expects}
 use Rattle.law_port_facts.proofs.Keyed.{on_each}
 use Rattle.law_label_line.specs.Cells.{Downstream, Upstream, Cell}
 use Rattle.law_label_line.specs.Line as lines
 use Rattle.law_label_line.specs.Line.{Line}
 use Rattle.law_label_line.specs.Upstream as up
-use Rattle.port_model.specs.Saying.{peer_of}
+use Rattle.law_port_facts.specs.port_model.Saying.{peer_of}
 use Rattle.law_port_views.specs.Link.{LinkLabel}
 use Rattle.law_port_views.specs.Shown.{label_of, flow_of, number_of, known_number, expected_number, Shown}
 use Rattle.law_port_views.proofs.Live.{live_session}

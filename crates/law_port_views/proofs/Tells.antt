@@ -5,16 +5,16 @@ use Rattle.std.proofs.Common.{◌≡◌, ℕ, ◌+◌, ◌≤◌, true, false, L
 use Rattle.std.specs.Prelude.{nat_lt, is_some}
 use Rattle.std.specs.Option.{option_map, option_map_or}
 use Rattle.std.proofs.lemmas.Bool.Decides.{nat_tests}
-use Rattle.port_model.specs.Words.{Instance, State, Clearing, SynSent, SynRcvd, Estab, Peer, is_estab, SideByInstances, router, side_of, at, label_number, Session, Work, with_session, label_at, Unnumbered, last_number, spent_number, own_of, tells_in, tells, closes}
+use Rattle.law_port_facts.specs.port_model.Words.{Instance, State, Clearing, SynSent, SynRcvd, Estab, Peer, is_estab, SideByInstances, router, side_of, at, label_number, Session, Work, with_session, label_at, Unnumbered, last_number, spent_number, own_of, tells_in, tells, closes}
 use Rattle.law_port_facts.proofs.Keyed.{on_each}
 use Rattle.law_label_line.specs.Cells as lines
 use Rattle.law_label_line.specs.Cells.{Role, Downstream, Upstream, Cell, frame}
 use Rattle.law_label_line.specs.Line.{Line}
 use Rattle.law_label_line.specs.Downstream.{sends_numbered, sends_other}
 use Rattle.law_label_line.specs.Moves.{SendOther}
-use Rattle.port_model.specs.declared.action.Action.TheVariants.{Say}
-use Rattle.port_model.specs.Port.{acts}
-use Rattle.port_model.specs.Saying.{peer_of, numbered, says}
+use Rattle.law_port_facts.specs.port_model.declared.action.Action.TheVariants.{Say}
+use Rattle.law_port_facts.specs.port_model.Port.{acts}
+use Rattle.law_port_facts.specs.port_model.Saying.{peer_of, numbered, says}
 use Rattle.law_port_views.specs.Link.{LinkLabel}
 use Rattle.law_port_views.specs.Heard.{heard_by, IsSaid}
 use Rattle.law_port_views.specs.Shown.{label_of, flow_of, number_of, known_number, expected_number, Shown}

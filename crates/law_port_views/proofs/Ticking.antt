@@ -2,11 +2,11 @@
 
 use Rattle.std.proofs.Common.{◌≡◌, ℕ, Bool, true, false, List, Option, None, Some, refl, sym, ◌∙◌, ap, subst}
 use Rattle.std.specs.Prelude.{◌-◌, ◌==◌}
-use Rattle.port_model.specs.Words.{Instance, Peer, Hello, End, Answer, Quiet, Send, Open, Reply, Silent, Says, Resets, tick_reply, Side, Step, ticked, router, side_of, tick_by, Opened, at, Setup, label_end, Grant, GrantState, Idle, ByController, ByInput, Leaving, grant_label, Work, halts, with_grants, with_grant, without_grant, greets, first_session, expires, ages_in, ages_found, ages}
-use Rattle.port_model.specs.adjacency_table.declared.message.Answer.TheVariants.{Reset}
-use Rattle.port_model.specs.adjacency_table.Side.{counted}
-use Rattle.port_model.proofs.adjacency_table.EndsLemmas.{ticked_by_instances}
-use Rattle.port_model.specs.ifmp_wire.declared.message.Message.TheVariants.{Adjacency}
+use Rattle.law_port_facts.specs.port_model.Words.{Instance, Peer, Hello, End, Answer, Quiet, Send, Open, Reply, Silent, Says, Resets, tick_reply, Side, Step, ticked, router, side_of, tick_by, Opened, at, Setup, label_end, Grant, GrantState, Idle, ByController, ByInput, Leaving, grant_label, Work, halts, with_grants, with_grant, without_grant, greets, first_session, expires, ages_in, ages_found, ages}
+use Rattle.law_port_facts.specs.port_model.adjacency_table.declared.message.Answer.TheVariants.{Reset}
+use Rattle.law_port_facts.specs.port_model.adjacency_table.Side.{counted}
+use Rattle.law_port_facts.proofs.port_model.adjacency_table.EndsLemmas.{ticked_by_instances}
+use Rattle.law_port_facts.specs.port_model.ifmp_wire.declared.message.Message.TheVariants.{Adjacency}
 use Rattle.law_port_facts.proofs.Keyed.{on_both, by_eq, at_key}
 use Rattle.law_label_line.specs.Cells.{Role, Downstream, Upstream, Cell}
 use Rattle.law_label_line.specs.Line as states
@@ -14,9 +14,9 @@ use Rattle.law_label_line.specs.Line.{Line}
 use Rattle.law_label_line.specs.Downstream as down
 use Rattle.law_label_line.specs.Upstream as up
 use Rattle.law_label_line.specs.Moves as moves
-use Rattle.port_model.specs.declared.action.Action.TheVariants.{Say, Note, TakeBack}
-use Rattle.port_model.specs.Port.{acts}
-use Rattle.port_model.specs.Adjacency.{answers, steps}
+use Rattle.law_port_facts.specs.port_model.declared.action.Action.TheVariants.{Say, Note, TakeBack}
+use Rattle.law_port_facts.specs.port_model.Port.{acts}
+use Rattle.law_port_facts.specs.port_model.Adjacency.{answers, steps}
 use Rattle.law_port_views.specs.Link.{LinkLabel}
 use Rattle.law_port_views.specs.Flows.{flow_number}
 use Rattle.law_port_views.specs.Shown.{expected_number, grant_in, granted, IsLent, Shown}

@@ -1,8 +1,8 @@
 -- A number for each flow, by which the line of a label tells flows apart
 
 use Rattle.std.specs.Prelude.{ℕ, ◌+◌, ◌*◌}
-use Rattle.port_model.specs.Words.{FlowId}
-use Rattle.port_model.specs.ipv4_packet.declared.flow.FlowId.TheVariants.{One, Two}
+use Rattle.law_port_facts.specs.port_model.Words.{FlowId}
+use Rattle.law_port_facts.specs.port_model.ipv4_packet.declared.flow.FlowId.TheVariants.{One, Two}
 
 -- a number for each two numbers
 unfoldable pub paired : ℕ → ℕ → ℕ

@@ -3,13 +3,13 @@
 
 use Rattle.std.specs.Prelude.{◌≡◌, ℕ, Bool, true, false, ◌&&◌, ◌==◌, nat_eq, nat_lt, List, [], flat_map, Option, None, Some, if◌then◌else◌}
 use Rattle.std.specs.Option.{option_map_or}
-use Rattle.port_model.specs.Words.{Addr, Channel, Hello, HelloKind, Syn, Synack, Rstack, Ack, label_number_of, next_in, Redirect, Reclaim, ReclaimAck, LabelRange, Error, Instance, Unnumbered, last_number}
-use Rattle.port_model.specs.ifmp_wire.declared.message.Message.{Message}
-use Rattle.port_model.specs.ifmp_wire.declared.message.Message.TheVariants.{Adjacency}
+use Rattle.law_port_facts.specs.port_model.Words.{Addr, Channel, Hello, HelloKind, Syn, Synack, Rstack, Ack, label_number_of, next_in, Redirect, Reclaim, ReclaimAck, LabelRange, Error, Instance, Unnumbered, last_number}
+use Rattle.law_port_facts.specs.port_model.ifmp_wire.declared.message.Message.{Message}
+use Rattle.law_port_facts.specs.port_model.ifmp_wire.declared.message.Message.TheVariants.{Adjacency}
 use Rattle.law_label_line.specs.Cells as lines
 use Rattle.law_label_line.specs.Cells.{Role, Downstream, Upstream}
-use Rattle.port_model.specs.declared.action.Action.{Action}
-use Rattle.port_model.specs.declared.action.Action.TheVariants.{Say}
+use Rattle.law_port_facts.specs.port_model.declared.action.Action.{Action}
+use Rattle.law_port_facts.specs.port_model.declared.action.Action.TheVariants.{Say}
 use Rattle.law_port_views.specs.Flows.{flow_number}
 
 -- *Messages*. A channel names the label

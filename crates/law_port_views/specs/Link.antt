@@ -1,7 +1,7 @@
 -- A label of a link, and the two ends of the link as they stand to it
 
 use Rattle.std.specs.Prelude.{ℕ}
-use Rattle.port_model.specs.Words.{NodeId, PortNo, Addr}
+use Rattle.law_port_facts.specs.port_model.Words.{NodeId, PortNo, Addr}
 use Rattle.law_label_line.specs.Cells.{Role, Downstream, Upstream}
 
 -- the end at the other side of the link

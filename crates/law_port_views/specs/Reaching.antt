@@ -1,15 +1,15 @@
 -- That moves of a label's line lead from what a port at work shows to what it shows next
 
 use Rattle.std.specs.Prelude.{◌≡◌, ℕ, Bool, List, Some}
-use Rattle.port_model.specs.ifmp_wire.declared.message.Message.{Message}
+use Rattle.law_port_facts.specs.port_model.ifmp_wire.declared.message.Message.{Message}
 use Rattle.law_label_line.specs.Cells as lines
 use Rattle.law_label_line.specs.Cells.{Role, Downstream, Upstream, Cell}
 use Rattle.law_label_line.specs.Line.{Line}
 use Rattle.law_label_line.specs.Downstream.{downstream_hears}
 use Rattle.law_label_line.specs.Upstream.{upstream_hears}
 use Rattle.law_label_line.specs.Moves.{Move, run}
-use Rattle.port_model.specs.Words.{Work}
-use Rattle.port_model.specs.Resets.{cleared}
+use Rattle.law_port_facts.specs.port_model.Words.{Work}
+use Rattle.law_port_facts.specs.port_model.Resets.{cleared}
 use Rattle.law_port_views.specs.Link.{LinkLabel, other}
 use Rattle.law_port_views.specs.Heard.{heard_by}
 use Rattle.law_port_views.specs.Shown.{Shown, rest_of}

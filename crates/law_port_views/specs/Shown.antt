@@ -3,7 +3,7 @@
 
 use Rattle.std.specs.Prelude.{◌≡◌, ℕ, ◌+◌, ◌≤◌, ◌⊎◌, false, List, [], ◌∷◌, ◌++◌, is_some, Option, None, Some}
 use Rattle.std.specs.Option.{option_map_or}
-use Rattle.port_model.specs.Words.{State, Clearing, is_estab, SideByInstances, router, side_of, at, Label, LabelState, Wiring, Offered, Recalled, Wired, Grant, GrantState, Idle, ByController, ByInput, Leaving, grant_label, Session, Work, label_at, spent_number}
+use Rattle.law_port_facts.specs.port_model.Words.{State, Clearing, is_estab, SideByInstances, router, side_of, at, Label, LabelState, Wiring, Offered, Recalled, Wired, Grant, GrantState, Idle, ByController, ByInput, Leaving, grant_label, Session, Work, label_at, spent_number}
 use Rattle.law_port_facts.specs.ordered_lists.Ordered.{Every}
 use Rattle.law_label_line.specs.Cells.{Role, Downstream, Upstream, Cell}
 use Rattle.law_label_line.specs.Line as lines

@@ -8,16 +8,16 @@
 #![tactic(auto)]
 
 ghost use Rattle.std.specs.Prelude.{◌≡◌, ◌≤◌, [], List, Some, None, true, false, nat_eq, ℕ};
-ghost use Rattle.port_model.specs.Words.{Addr, Instance, End, is_label_number, Clearing, FlowId, same_flow, Request, Desk, at, Setup, Session, Work, resets, restarts, Unnumbered, is_spent, last_number, own_of, Grant, ByController, grant_label, hears, used, parted, lent};
-ghost use Rattle.port_model.specs.ifmp_wire.declared.message.Message.{Message};
+ghost use Rattle.law_port_facts.specs.port_model.Words.{Addr, Instance, End, is_label_number, Clearing, FlowId, same_flow, Request, Desk, at, Setup, Session, Work, resets, restarts, Unnumbered, is_spent, last_number, own_of, Grant, ByController, grant_label, hears, used, parted, lent};
+ghost use Rattle.law_port_facts.specs.port_model.ifmp_wire.declared.message.Message.{Message};
 ghost use Rattle.law_label_line.specs.Cells as lines;
 ghost use Rattle.law_label_line.specs.Cells.{Role, Cell, Downstream, Upstream, frame};
 ghost use Rattle.law_label_line.specs.Line.{Line};
 ghost use Rattle.law_label_line.specs.Downstream.{sends_numbered};
-ghost use Rattle.port_model.specs.Saying.{peer_of, says};
-ghost use Rattle.port_model.specs.Answers.{done};
-ghost use Rattle.port_model.specs.Ticks.{ticks};
-ghost use Rattle.port_model.specs.Joins.{joined};
+ghost use Rattle.law_port_facts.specs.port_model.Saying.{peer_of, says};
+ghost use Rattle.law_port_facts.specs.port_model.Answers.{done};
+ghost use Rattle.law_port_facts.specs.port_model.Ticks.{ticks};
+ghost use Rattle.law_port_facts.specs.port_model.Joins.{joined};
 ghost use Rattle.law_port_views.specs.Link.{LinkLabel, other};
 ghost use Rattle.law_port_views.specs.Flows.{flow_number};
 ghost use Rattle.law_port_views.specs.Heard.{heard_by, is_own, IsSaid};

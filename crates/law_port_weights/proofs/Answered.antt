@@ -2,14 +2,14 @@
 
 use Rattle.std.proofs.Common.{◌≡◌, ℕ, ◌≤◌, ◌+◌, Bool, true, false, List, Option, None, Some, refl, ap, arith}
 use Rattle.std.specs.Prelude.{◌==◌}
-use Rattle.world_model.specs.Words.{End, label_number_of, number_of_channel, label_channel_of, FlowId, Request, AddBranch, MoveBranch, DeleteTree, VerifyTree, PortManagement, Bind, Free, Desk, Note, Setup, Label, LabelState, Wiring, Offered, Recalled, Wired, label_for, Grant, GrantState, Idle, ByController, ByInput, Leaving, grant_on, counted_once, Session, Work, with_session, with_label, without_label, without_grant, label_at, redirect, reclaim_ack, packet_flow, counts_flow, counts_by, counts, label_by, bound_in, bound, freed_in, freed, started_in, started, joins_label, parted, given_back_in, given_back}
-use Rattle.world_model.specs.gsmp_wire.declared.request.Request.TheVariants.{DeleteAll, AllPorts}
-use Rattle.world_model.specs.link_model.declared.record.Record.TheVariants.{Join}
-use Rattle.world_model.specs.port_model.Port.{acts}
-use Rattle.world_model.specs.port_model.Answers.{done}
-use Rattle.world_model.specs.port_model.Joins.{ended}
-use Rattle.law_quiet.specs.Costs.{frame_weight, reset_weight, words_weight, naming_weight, offer_weight, label_cost}
-use Rattle.law_quiet.specs.Weights.{state_cost}
+use Rattle.claims_model.specs.world_model.Words.{End, label_number_of, number_of_channel, label_channel_of, FlowId, Request, AddBranch, MoveBranch, DeleteTree, VerifyTree, PortManagement, Bind, Free, Desk, Note, Setup, Label, LabelState, Wiring, Offered, Recalled, Wired, label_for, Grant, GrantState, Idle, ByController, ByInput, Leaving, grant_on, counted_once, Session, Work, with_session, with_label, without_label, without_grant, label_at, redirect, reclaim_ack, packet_flow, counts_flow, counts_by, counts, label_by, bound_in, bound, freed_in, freed, started_in, started, joins_label, parted, given_back_in, given_back}
+use Rattle.claims_model.specs.world_model.gsmp_wire.declared.request.Request.TheVariants.{DeleteAll, AllPorts}
+use Rattle.claims_model.specs.world_model.link_model.declared.record.Record.TheVariants.{Join}
+use Rattle.claims_model.specs.world_model.port_model.Port.{acts}
+use Rattle.claims_model.specs.world_model.port_model.Answers.{done}
+use Rattle.claims_model.specs.world_model.port_model.Joins.{ended}
+use Rattle.claims_model.specs.Costs.{frame_weight, reset_weight, words_weight, naming_weight, offer_weight, label_cost}
+use Rattle.claims_model.specs.Weights.{state_cost}
 use Rattle.law_port_weights.specs.Law.{ServesOnce}
 use Rattle.law_port_facts.proofs.Keyed.{on_both}
 use Rattle.law_port_weights.proofs.Works.{cost_of_label, cost_of_grant, Costs, costs_none, at_most, after_none, trade_then, trade, acts_cost, session_put, label_trade, freed_trade, ended_trade, free_grant, gone_cost, tells_cost}

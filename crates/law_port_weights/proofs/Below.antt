@@ -2,10 +2,10 @@
 
 use Rattle.std.proofs.Common.{◌≡◌, ◌≤◌, ◌+◌, Bool, true, false, None, Some, refl, ap, arith, if◌then◌else◌}
 use Rattle.std.specs.Option.{option_map_or}
-use Rattle.world_model.specs.Words.{HelloKind, Syn, Synack, Ack, Rstack, State, Clearing, SynSent, SynRcvd, Estab, Heard, Said, Answer, Quiet, Send, Open, Side, is_entry, answer_to, answer_of, followed, received, Reply, Silent, Says, Resets, Row, row}
-use Rattle.world_model.specs.adjacency_table.declared.message.Answer.TheVariants.{Reset}
-use Rattle.world_model.specs.adjacency_table.Side.{opened}
-use Rattle.law_quiet.specs.Costs.{rank}
+use Rattle.claims_model.specs.world_model.Words.{HelloKind, Syn, Synack, Ack, Rstack, State, Clearing, SynSent, SynRcvd, Estab, Heard, Said, Answer, Quiet, Send, Open, Side, is_entry, answer_to, answer_of, followed, received, Reply, Silent, Says, Resets, Row, row}
+use Rattle.claims_model.specs.world_model.adjacency_table.declared.message.Answer.TheVariants.{Reset}
+use Rattle.claims_model.specs.world_model.adjacency_table.Side.{opened}
+use Rattle.claims_model.specs.Costs.{rank}
 
 abbrev pub IsReplyBelow : HelloKind → Reply → Type 0
 IsReplyBelow kind Silent = Unit {0}

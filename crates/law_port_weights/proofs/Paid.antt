@@ -1,8 +1,8 @@
 -- the laws of a port
 
 use Rattle.std.proofs.Common.{ℕ, arith}
-use Rattle.world_model.specs.Words.{empty_desk, Work}
-use Rattle.law_quiet.specs.Costs.{message_cost, offer_weight}
+use Rattle.claims_model.specs.world_model.Words.{empty_desk, Work}
+use Rattle.claims_model.specs.Costs.{message_cost, offer_weight}
 use Rattle.law_port_weights.specs.Law.{IsPaid, HearingIsPaid, CountingIsPaid, UseIsFree, AnswersAreFree, PartingIsFree, GivingBackIsFree}
 use Rattle.law_port_weights.proofs.Works.{Costs, due_some}
 use Rattle.law_port_weights.proofs.Rules.{hears_cost, used_free}

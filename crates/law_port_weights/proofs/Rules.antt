@@ -3,18 +3,18 @@
 use Rattle.std.proofs.Common.{◌≡◌, ℕ, ◌≤◌, ◌+◌, Bool, true, false, List, [], ◌∷◌, ◌++◌, length, Option, None, Some, refl, sym, ◌∙◌, ap, subst, arith, if◌then◌else◌, map}
 use Rattle.std.specs.Prelude.{nat_lt, not, ◌==◌, ◌&&◌, ◌||◌, max, min}
 use Rattle.std.specs.Option.{option_map_or, option_map}
-use Rattle.world_model.specs.Words.{Addr, Instance, Channel, End, Hello, HelloKind, Peer, label_number_of, Said, Answer, Quiet, Send, Open, same_peer, hello_of, ifmp_answer, ifmp_received, heard_from, FlowId, same_flow, Redirect, Reclaim, ReclaimAck, LabelRange, Error, AddBranch, DeleteTree, Opened, at, Desk, on_input, Say, Ask, Note, CutChain, TakeBack, Setup, label_end, control_end, is_in_range, Label, LabelState, Wiring, Offered, Recalled, Wired, label_number, lowest_spare, Grant, GrantState, Idle, ByController, ByInput, Leaving, grant_label, grant_on, is_leaving, most_grants, Acceptance, New, Refreshed, IsLeaving, GrantsFull, acceptance_beside, acceptance_of, acceptance, packets_in, Session, Work, halts, with_session, with_label, with_new_label, with_grants, with_grant, without_grant, label_at, labels_of, known_of, desk_after, has_room, Unnumbered, last_number, greets, reclaim, reclaim_ack, label_range, error, first_session, opens, unwires, quits_label, quits_in, quits_found, quits, is_good, learns, wires, offers, used_label, used, takes, expects, accepts, grants_label, reclaims_in, unjoins, recalls, recalls_in, recalls_offered, reclaimed_in, reclaimed, acknowledged_in, acknowledged, narrowed, is_outside, recalls_outside, ranged, error_comes, label_by, hears}
-use Rattle.world_model.specs.adjacency_table.declared.message.Answer.TheVariants.{Reset}
-use Rattle.world_model.specs.adjacency_table.Side as sides
-use Rattle.world_model.specs.ifmp_wire.declared.message.Message.{Message}
-use Rattle.world_model.specs.ifmp_wire.declared.message.Message.TheVariants.{Adjacency}
-use Rattle.world_model.specs.port_model.Grants.{OutOfRange, Taken}
-use Rattle.world_model.specs.port_model.Port.{Port, acts}
-use Rattle.world_model.specs.port_model.Saying.{says}
-use Rattle.world_model.specs.port_model.Adjacency.{answers, steps, greeted}
-use Rattle.world_model.specs.port_model.Redirection.{redirected}
-use Rattle.law_quiet.specs.Costs.{frame_weight, request_weight, reset_weight, spending_weight, words_weight, redirection_weight, naming_weight, offer_weight, hello_weight, message_cost, label_cost}
-use Rattle.law_quiet.specs.Weights.{state_cost}
+use Rattle.claims_model.specs.world_model.Words.{Addr, Instance, Channel, End, Hello, HelloKind, Peer, label_number_of, Said, Answer, Quiet, Send, Open, same_peer, hello_of, ifmp_answer, ifmp_received, heard_from, FlowId, same_flow, Redirect, Reclaim, ReclaimAck, LabelRange, Error, AddBranch, DeleteTree, Opened, at, Desk, on_input, Say, Ask, Note, CutChain, TakeBack, Setup, label_end, control_end, is_in_range, Label, LabelState, Wiring, Offered, Recalled, Wired, label_number, lowest_spare, Grant, GrantState, Idle, ByController, ByInput, Leaving, grant_label, grant_on, is_leaving, most_grants, Acceptance, New, Refreshed, IsLeaving, GrantsFull, acceptance_beside, acceptance_of, acceptance, packets_in, Session, Work, halts, with_session, with_label, with_new_label, with_grants, with_grant, without_grant, label_at, labels_of, known_of, desk_after, has_room, Unnumbered, last_number, greets, reclaim, reclaim_ack, label_range, error, first_session, opens, unwires, quits_label, quits_in, quits_found, quits, is_good, learns, wires, offers, used_label, used, takes, expects, accepts, grants_label, reclaims_in, unjoins, recalls, recalls_in, recalls_offered, reclaimed_in, reclaimed, acknowledged_in, acknowledged, narrowed, is_outside, recalls_outside, ranged, error_comes, label_by, hears}
+use Rattle.claims_model.specs.world_model.adjacency_table.declared.message.Answer.TheVariants.{Reset}
+use Rattle.claims_model.specs.world_model.adjacency_table.Side as sides
+use Rattle.claims_model.specs.world_model.ifmp_wire.declared.message.Message.{Message}
+use Rattle.claims_model.specs.world_model.ifmp_wire.declared.message.Message.TheVariants.{Adjacency}
+use Rattle.claims_model.specs.world_model.port_model.Grants.{OutOfRange, Taken}
+use Rattle.claims_model.specs.world_model.port_model.Port.{Port, acts}
+use Rattle.claims_model.specs.world_model.port_model.Saying.{says}
+use Rattle.claims_model.specs.world_model.port_model.Adjacency.{answers, steps, greeted}
+use Rattle.claims_model.specs.world_model.port_model.Redirection.{redirected}
+use Rattle.claims_model.specs.Costs.{frame_weight, request_weight, reset_weight, spending_weight, words_weight, redirection_weight, naming_weight, offer_weight, hello_weight, message_cost, label_cost}
+use Rattle.claims_model.specs.Weights.{state_cost}
 use Rattle.law_port_facts.proofs.Keyed.{on_both, at_key}
 use Rattle.law_port_weights.proofs.Sums.{total_more}
 use Rattle.law_port_weights.proofs.Below.{IsBelow, received_below}

@@ -2,9 +2,9 @@
 
 use Rattle.std.proofs.Common.{◌≡◌, ℕ, ◌≤◌, ◌+◌, Bool, true, false, List, [], ◌∷◌, ◌++◌, Some, refl, ◌∙◌, ap, arith, if◌then◌else◌}
 use Rattle.std.specs.Prelude.{nat_eq, find, filter}
-use Rattle.world_model.specs.Words.{at, put, without, entered, in_order}
+use Rattle.claims_model.specs.world_model.Words.{at, put, without, entered, in_order}
 use Rattle.law_port_facts.proofs.Keyed.{on_both}
-use Rattle.law_quiet.specs.Costs.{total}
+use Rattle.claims_model.specs.Costs.{total}
 
 module _ {A : Type 0} (f : A → ℕ) where
   pub total_join : (xs ys : List A) → total f (xs ++ ys) ≡ total f xs + total f ys

@@ -4,12 +4,12 @@ use Rattle.std.proofs.Common.{◌≡◌, ℕ, ◌≤◌, ◌+◌, Bool, true, fa
 use Rattle.std.specs.Prelude.{nat_lt}
 use Rattle.std.specs.Option.{option_map, option_map_or}
 use Rattle.std.proofs.lemmas.Bool.Decides.{nat_tests}
-use Rattle.world_model.specs.Words.{Peer, Side, at, put, without, entered, key_le, Action, Say, Label, label_number, Grant, grant_label, Session, Work, halts, with_session, with_label, without_label, with_new_label, with_grants, with_grant, without_grant, label_at, Unnumbered, last_number, spent_number, own_of, tells_in, tells, is_spent, closes}
-use Rattle.world_model.specs.port_model.declared.action.Action.TheVariants as actions
-use Rattle.world_model.specs.port_model.Port.{Port, acts}
-use Rattle.world_model.specs.port_model.Saying.{peer_of, numbered, says}
-use Rattle.law_quiet.specs.Costs.{total, frame_weight, reset_weight, spending_weight, message_cost, label_cost}
-use Rattle.law_quiet.specs.Weights.{state_cost}
+use Rattle.claims_model.specs.world_model.Words.{Peer, Side, at, put, without, entered, key_le, Action, Say, Label, label_number, Grant, grant_label, Session, Work, halts, with_session, with_label, without_label, with_new_label, with_grants, with_grant, without_grant, label_at, Unnumbered, last_number, spent_number, own_of, tells_in, tells, is_spent, closes}
+use Rattle.claims_model.specs.world_model.port_model.declared.action.Action.TheVariants as actions
+use Rattle.claims_model.specs.world_model.port_model.Port.{Port, acts}
+use Rattle.claims_model.specs.world_model.port_model.Saying.{peer_of, numbered, says}
+use Rattle.claims_model.specs.Costs.{total, frame_weight, reset_weight, spending_weight, message_cost, label_cost}
+use Rattle.claims_model.specs.Weights.{state_cost}
 use Rattle.law_port_weights.specs.Works.{action_cost, work_weight}
 use Rattle.law_port_facts.proofs.Keyed.{on_both, on_each}
 use Rattle.law_port_weights.proofs.Sums.{total_more, total_entered, total_put, total_put_free, total_left, total_without}

@@ -1,10 +1,10 @@
 -- No rule of a port makes it heavier than what came pays for: a message that it hears, a packet that it counts
 
 use Rattle.std.specs.Prelude.{◌≡◌, ℕ, ◌≤◌, ◌+◌, List, Some}
-use Rattle.world_model.specs.Words.{Addr, FlowId, Request, at, Desk, Setup, Label, label_for, Grant, grant_label, Session, Work, label_at, counts, used, hears, parted, given_back}
-use Rattle.world_model.specs.ifmp_wire.declared.message.Message.{Message}
-use Rattle.world_model.specs.port_model.Answers.{done}
-use Rattle.law_quiet.specs.Costs.{message_cost, offer_weight}
+use Rattle.claims_model.specs.world_model.Words.{Addr, FlowId, Request, at, Desk, Setup, Label, label_for, Grant, grant_label, Session, Work, label_at, counts, used, hears, parted, given_back}
+use Rattle.claims_model.specs.world_model.ifmp_wire.declared.message.Message.{Message}
+use Rattle.claims_model.specs.world_model.port_model.Answers.{done}
+use Rattle.claims_model.specs.Costs.{message_cost, offer_weight}
 use Rattle.law_port_weights.specs.Works.{work_weight}
 
 -- so much heavier at most

@@ -1,3 +1,4 @@
-pub use Rattle.law_quiet.specs as law_quiet
+pub use Rattle.claims_model.specs as claims_model
+pub use Rattle.claims_model.specs.world_model as world_model
 pub mod Works
 pub mod Law

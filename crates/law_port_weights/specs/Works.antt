@@ -1,10 +1,10 @@
 -- What a port at work weighs: the port, and what it has asked so far
 
 use Rattle.std.specs.Prelude.{ℕ, ◌+◌}
-use Rattle.world_model.specs.Words.{Action, Say, Ask, Note, CutChain, TakeBack, Withdraw, Work}
-use Rattle.world_model.specs.port_model.declared.action.Action.TheVariants.{Reset}
-use Rattle.law_quiet.specs.Costs.{total, frame_weight, request_weight, reset_weight, message_cost}
-use Rattle.law_quiet.specs.Weights.{standing_cost, port_weight}
+use Rattle.claims_model.specs.world_model.Words.{Action, Say, Ask, Note, CutChain, TakeBack, Withdraw, Work}
+use Rattle.claims_model.specs.world_model.port_model.declared.action.Action.TheVariants.{Reset}
+use Rattle.claims_model.specs.Costs.{total, frame_weight, request_weight, reset_weight, message_cost}
+use Rattle.claims_model.specs.Weights.{standing_cost, port_weight}
 
 abbrev pub action_cost : Action → ℕ
 action_cost (Say message) = frame_weight + message_cost message

@@ -1,4 +1,4 @@
-//! The ranking function over the rules of a port: what each adds to the measure of `law_quiet`, which is nothing, but
+//! The ranking function over the rules of a port: what each adds to the measure of `claims_model`, which is nothing, but
 //! for what the message or the packet pays for that came. Definitions and laws alone: `specs/Works` weighs a port at
 //! work, `specs/Law` has the statements. In the proofs a step is judged by what it costs (`proofs/Works`); a port that
 //! is halted does nothing, so there no step is paid, and none pays.

@@ -4,13 +4,13 @@ use Rattle.std.proofs.Common.{◌≡◌, ℕ, ◌<◌, ◌+◌, true, List, [], 
 use Rattle.std.specs.Prelude.{◌^◌, nat_lt}
 use Rattle.std.specs.Option.{option_map, option_map_or}
 use Rattle.std.proofs.lemmas.Bool.Decides.{nat_tests}
-use Rattle.port_model.specs.Words.{Channel, Instance, Peer, label_channel_of, Side, FlowId, FitsFields, FitsMessage, at, put, without, Setup, Label, label_number, Grant, grant_label, Session, Work, halts, with_session, with_label, without_label, with_grants, with_grant, without_grant, labels_of, Unnumbered, last_number, spent_number, own_of, is_spent, tells_in, tells, closes, redirect, reclaim, reclaim_ack, label_range, error}
+use Rattle.law_port_facts.specs.port_model.Words.{Channel, Instance, Peer, label_channel_of, Side, FlowId, FitsFields, FitsMessage, at, put, without, Setup, Label, label_number, Grant, grant_label, Session, Work, halts, with_session, with_label, without_label, with_grants, with_grant, without_grant, labels_of, Unnumbered, last_number, spent_number, own_of, is_spent, tells_in, tells, closes, redirect, reclaim, reclaim_ack, label_range, error}
 use Rattle.law_port_facts.specs.ordered_lists.Ordered.{Every}
 use Rattle.law_port_facts.proofs.Keyed.{on_both, on_each, at_every, put_every, without_every, every_more}
-use Rattle.port_model.specs.declared.action.Action.{Action}
-use Rattle.port_model.specs.declared.action.Action.TheVariants.{Say, Reset}
-use Rattle.port_model.specs.Port.{acts}
-use Rattle.port_model.specs.Saying.{peer_of, says}
+use Rattle.law_port_facts.specs.port_model.declared.action.Action.{Action}
+use Rattle.law_port_facts.specs.port_model.declared.action.Action.TheVariants.{Say, Reset}
+use Rattle.law_port_facts.specs.port_model.Port.{acts}
+use Rattle.law_port_facts.specs.port_model.Saying.{peer_of, says}
 use Rattle.law_port_widths.specs.Widths.{FitsStored, FitsLabel, FitsGrant, FitsAction, FitsWork, FitsSetup}
 
 abbrev pub Small : ℕ → Type 0

@@ -4,28 +4,28 @@ use Rattle.std.proofs.Common.{◌≡◌, ℕ, ◌<◌, ◌+◌, Bool, true, fals
 use Rattle.std.specs.Prelude.{◌^◌, ◌-◌, ◌==◌, ◌&&◌, ◌||◌, nat_lt, nat_le, max, min, flat_map, is_none}
 use Rattle.std.specs.Option.{option_map_or}
 use Rattle.std.proofs.lemmas.Bool.Decides.{nat_tests}
-use Rattle.port_model.specs.Words.{Addr, Channel, End, Instance, Hello, HelloKind, Syn, Synack, Rstack, Ack, Peer, label_number_of, label_channel_of, number_of_channel, Answer, Heard, Said, Side, Step, said, answer_to, answer_of, is_entry, followed, followed_tick, ticked, Reply, Silent, Says, Resets, Row, heard_from, next_in, hello_of, ifmp_answer, ifmp_received, FlowId, same_flow, FitsFields, Request, AddBranch, MoveBranch, DeleteTree, VerifyTree, PortManagement, Redirect, Reclaim, ReclaimAck, LabelRange, Error, FitsMessage, Bind, Free, Opened, at, entered, key_le, Desk, on_input, Setup, label_end, control_end, Label, LabelState, Wiring, Offered, Recalled, Wired, label_number, label_for, lowest_spare, Grant, GrantState, Idle, ByController, ByInput, Leaving, Acceptance, New, Refreshed, IsLeaving, GrantsFull, acceptance, acceptance_of, acceptance_beside, is_leaving, grant_on, grant_label, counted_once, packets_in, Session, Work, with_session, with_label, with_new_label, without_label, with_grants, with_grant, without_grant, label_at, labels_of, known_of, desk_after, has_room, greets, redirect, reclaim, reclaim_ack, label_range, error, last_number, first_session, opens, unwires, quits_label, quits_in, quits_found, quits, is_good, learns, is_from_peer, is_due, takes, expects, accepts, grants_label, reclaims_in, reclaims, unjoins, recalls, recalls_in, recalls_offered, reclaimed_in, reclaimed, acknowledged_in, acknowledged, narrowed, is_outside, recalls_outside, ranged, error_comes, label_by, hears, packet_flow, wires, used_label, counts_flow, counts_by, counts, used, bound_in, bound, freed_in, freed, started_in, started, expires, ages_in, ages_found, ages, refreshes, one_older, one_idler, idles, ticks_in, ticks_found, ticks_label, asks_for_ack, nudges, ticks_session, joins_label, parted, lent, given_back_in, given_back, closing, left_in, left_of, taking_back_in, taking_back, withdrawing_in, withdrawing_of, withdrawing, resets, restarts}
-use Rattle.port_model.specs.adjacency_table.declared.message.Answer.TheVariants as answer
-use Rattle.port_model.specs.adjacency_table.Side.{opened}
-use Rattle.port_model.specs.gsmp_wire.declared.request.Request.TheVariants.{DeleteAll, AllPorts}
-use Rattle.port_model.specs.ifmp_wire.declared.message.Message.{Message}
-use Rattle.port_model.specs.ifmp_wire.declared.message.Message.TheVariants.{Adjacency}
-use Rattle.port_model.specs.link_model.declared.record.Record.TheVariants.{Join}
+use Rattle.law_port_facts.specs.port_model.Words.{Addr, Channel, End, Instance, Hello, HelloKind, Syn, Synack, Rstack, Ack, Peer, label_number_of, label_channel_of, number_of_channel, Answer, Heard, Said, Side, Step, said, answer_to, answer_of, is_entry, followed, followed_tick, ticked, Reply, Silent, Says, Resets, Row, heard_from, next_in, hello_of, ifmp_answer, ifmp_received, FlowId, same_flow, FitsFields, Request, AddBranch, MoveBranch, DeleteTree, VerifyTree, PortManagement, Redirect, Reclaim, ReclaimAck, LabelRange, Error, FitsMessage, Bind, Free, Opened, at, entered, key_le, Desk, on_input, Setup, label_end, control_end, Label, LabelState, Wiring, Offered, Recalled, Wired, label_number, label_for, lowest_spare, Grant, GrantState, Idle, ByController, ByInput, Leaving, Acceptance, New, Refreshed, IsLeaving, GrantsFull, acceptance, acceptance_of, acceptance_beside, is_leaving, grant_on, grant_label, counted_once, packets_in, Session, Work, with_session, with_label, with_new_label, without_label, with_grants, with_grant, without_grant, label_at, labels_of, known_of, desk_after, has_room, greets, redirect, reclaim, reclaim_ack, label_range, error, last_number, first_session, opens, unwires, quits_label, quits_in, quits_found, quits, is_good, learns, is_from_peer, is_due, takes, expects, accepts, grants_label, reclaims_in, reclaims, unjoins, recalls, recalls_in, recalls_offered, reclaimed_in, reclaimed, acknowledged_in, acknowledged, narrowed, is_outside, recalls_outside, ranged, error_comes, label_by, hears, packet_flow, wires, used_label, counts_flow, counts_by, counts, used, bound_in, bound, freed_in, freed, started_in, started, expires, ages_in, ages_found, ages, refreshes, one_older, one_idler, idles, ticks_in, ticks_found, ticks_label, asks_for_ack, nudges, ticks_session, joins_label, parted, lent, given_back_in, given_back, closing, left_in, left_of, taking_back_in, taking_back, withdrawing_in, withdrawing_of, withdrawing, resets, restarts}
+use Rattle.law_port_facts.specs.port_model.adjacency_table.declared.message.Answer.TheVariants as answer
+use Rattle.law_port_facts.specs.port_model.adjacency_table.Side.{opened}
+use Rattle.law_port_facts.specs.port_model.gsmp_wire.declared.request.Request.TheVariants.{DeleteAll, AllPorts}
+use Rattle.law_port_facts.specs.port_model.ifmp_wire.declared.message.Message.{Message}
+use Rattle.law_port_facts.specs.port_model.ifmp_wire.declared.message.Message.TheVariants.{Adjacency}
+use Rattle.law_port_facts.specs.port_model.link_model.declared.record.Record.TheVariants.{Join}
 use Rattle.law_port_facts.specs.ordered_lists.Ordered.{Every}
 use Rattle.law_port_facts.proofs.ordered_lists.Every.{every_join}
 use Rattle.law_port_facts.proofs.Keyed.{on_both, on_each, at_every, entered_every, every_more}
 use Rattle.law_port_facts.proofs.Found.{find_every}
-use Rattle.port_model.specs.declared.action.Action.TheVariants.{Say, Ask, Note, CutChain, TakeBack}
-use Rattle.port_model.specs.Grants.{OutOfRange, Taken}
-use Rattle.port_model.specs.Counts.{moved}
-use Rattle.port_model.specs.Port.{Port, acts}
-use Rattle.port_model.specs.Saying.{says}
-use Rattle.port_model.specs.Adjacency.{answers, steps, greeted}
-use Rattle.port_model.specs.Redirection.{redirected}
-use Rattle.port_model.specs.Answers.{done}
-use Rattle.port_model.specs.Ticks.{ticks}
-use Rattle.port_model.specs.Joins.{joined}
-use Rattle.port_model.specs.Resets.{cleared}
+use Rattle.law_port_facts.specs.port_model.declared.action.Action.TheVariants.{Say, Ask, Note, CutChain, TakeBack}
+use Rattle.law_port_facts.specs.port_model.Grants.{OutOfRange, Taken}
+use Rattle.law_port_facts.specs.port_model.Counts.{moved}
+use Rattle.law_port_facts.specs.port_model.Port.{Port, acts}
+use Rattle.law_port_facts.specs.port_model.Saying.{says}
+use Rattle.law_port_facts.specs.port_model.Adjacency.{answers, steps, greeted}
+use Rattle.law_port_facts.specs.port_model.Redirection.{redirected}
+use Rattle.law_port_facts.specs.port_model.Answers.{done}
+use Rattle.law_port_facts.specs.port_model.Ticks.{ticks}
+use Rattle.law_port_facts.specs.port_model.Joins.{joined}
+use Rattle.law_port_facts.specs.port_model.Resets.{cleared}
 use Rattle.law_port_widths.specs.Widths.{FitsPeer, FitsStored, FitsLabel, FitsGrant, FitsPort, FitsAction, FitsWork, FitsSetup}
 use Rattle.law_port_widths.proofs.Keeping.{Small, acts_fit, halts_fit, session_fits, label_fits, no_label_fits, grants_fit, grant_fits, no_grant_fits, found_label, found_grant, tells_fit, says_fit, redirect_fits, reclaim_fits, ack_fits, label_ack_fits, range_fits, error_fits, fold_fits}
 

@@ -2,11 +2,11 @@
 
 use Rattle.std.specs.Prelude.{◌<◌, ◌^◌, Option, None, Some}
 use Rattle.std.specs.Option.{option_map_or}
-use Rattle.port_model.specs.Words.{Peer, FitsFields, FitsMessage, Setup, Label, Grant, Work, labels_of}
+use Rattle.law_port_facts.specs.port_model.Words.{Peer, FitsFields, FitsMessage, Setup, Label, Grant, Work, labels_of}
 use Rattle.law_port_facts.specs.ordered_lists.Ordered.{Every}
-use Rattle.port_model.specs.declared.action.Action.{Action}
-use Rattle.port_model.specs.declared.action.Action.TheVariants.{Say}
-use Rattle.port_model.specs.Port.{Port}
+use Rattle.law_port_facts.specs.port_model.declared.action.Action.{Action}
+use Rattle.law_port_facts.specs.port_model.declared.action.Action.TheVariants.{Say}
+use Rattle.law_port_facts.specs.port_model.Port.{Port}
 
 -- an instance and an address of 32 bits each
 abbrev pub FitsPeer : Peer → Type 0

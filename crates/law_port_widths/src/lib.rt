@@ -5,13 +5,13 @@
 #![tactic(auto)]
 
 ghost use Rattle.std.specs.Prelude.{◌≡◌, ℕ, ◌<◌, ◌+◌, ◌^◌, List, Some};
-ghost use Rattle.port_model.specs.Words.{Addr, End, FlowId, FitsFields, Request, FitsMessage, Desk, Setup, Grant, Work, hears, counts, packet_flow, used, parted, lent, given_back, closes, resets, restarts};
-ghost use Rattle.port_model.specs.ifmp_wire.declared.message.Message.{Message};
-ghost use Rattle.port_model.specs.Port.{Port};
-ghost use Rattle.port_model.specs.Answers.{done};
-ghost use Rattle.port_model.specs.Ticks.{ticks};
-ghost use Rattle.port_model.specs.Joins.{joined};
-ghost use Rattle.port_model.specs.Resets.{cleared};
+ghost use Rattle.law_port_facts.specs.port_model.Words.{Addr, End, FlowId, FitsFields, Request, FitsMessage, Desk, Setup, Grant, Work, hears, counts, packet_flow, used, parted, lent, given_back, closes, resets, restarts};
+ghost use Rattle.law_port_facts.specs.port_model.ifmp_wire.declared.message.Message.{Message};
+ghost use Rattle.law_port_facts.specs.port_model.Port.{Port};
+ghost use Rattle.law_port_facts.specs.port_model.Answers.{done};
+ghost use Rattle.law_port_facts.specs.port_model.Ticks.{ticks};
+ghost use Rattle.law_port_facts.specs.port_model.Joins.{joined};
+ghost use Rattle.law_port_facts.specs.port_model.Resets.{cleared};
 ghost use Rattle.law_port_widths.specs.Widths.{FitsGrant, FitsPort, FitsWork, FitsSetup};
 
 /// Each rule of a port keeps the widths of its numbers, and says none that is wider, where what it heard has

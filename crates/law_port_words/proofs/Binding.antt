@@ -3,13 +3,13 @@
 use Rattle.std.proofs.Common.{◌≡◌, ℕ, Bool, true, false, List, [], ◌∷◌, ◌++◌, Option, None, Some, refl, sym, ap, subst, if◌then◌else◌, fold}
 use Rattle.std.specs.Prelude.{◌+◌, nat_lt, Contains}
 use Rattle.std.proofs.lemmas.List.Elements.{Contains-push}
-use Rattle.world_model.specs.Words.{NodeId, PortNo, Instance, label_channel_of, is_estab, FlowId, Redirect, Record, Bind, put, Action, Say, Note, Setup, Label, LabelState, Wiring, Offered, Recalled, Wired, label_number, Session, Work, halts, with_label, label_at, labels_of, last_number, own_of, spent_number, tells_in, tells, is_spent, closes, redirect, bound_in, bound, label_by, Linked, linked_at, says_ifmp, begins, with_work, performs_in_estab, works_as}
+use Rattle.law_controller_bindings.specs.world_model.Words.{NodeId, PortNo, Instance, label_channel_of, is_estab, FlowId, Redirect, Record, Bind, put, Action, Say, Note, Setup, Label, LabelState, Wiring, Offered, Recalled, Wired, label_number, Session, Work, halts, with_label, label_at, labels_of, last_number, own_of, spent_number, tells_in, tells, is_spent, closes, redirect, bound_in, bound, label_by, Linked, linked_at, says_ifmp, begins, with_work, performs_in_estab, works_as}
 use Rattle.law_controller_bindings.specs.ordered_lists.Ordered.{Every}
-use Rattle.world_model.specs.port_model.declared.action.Action.TheVariants as actions
-use Rattle.world_model.specs.port_model.Port.{acts}
-use Rattle.world_model.specs.port_model.Saying.{peer_of}
+use Rattle.law_controller_bindings.specs.world_model.port_model.declared.action.Action.TheVariants as actions
+use Rattle.law_controller_bindings.specs.world_model.port_model.Port.{acts}
+use Rattle.law_controller_bindings.specs.world_model.port_model.Saying.{peer_of}
 use Rattle.law_controller_bindings.proofs.law_port_facts.Keyed.{on_both, at_every, put_every, every_more}
-use Rattle.world_model.specs.Controller.{Acted, note}
+use Rattle.law_controller_bindings.specs.world_model.Controller.{Acted, note}
 use Rattle.law_port_words.specs.Words.{Terms, StandsAs, Stands, IsSteady, IsFair, IsSteadily}
 use Rattle.law_port_words.proofs.Voices.{session_steady}
 use Rattle.law_port_words.proofs.Sending.{note_h, bound_h}

@@ -2,28 +2,28 @@
 
 use Rattle.std.proofs.Common.{◌≡◌, ℕ, Bool, true, false, List, [], ◌∷◌, ◌++◌, Option, None, Some, refl, sym, ◌∙◌, ap, subst, if◌then◌else◌, fold, append_assoc, inl, inr}
 use Rattle.std.specs.Prelude.{not, ◌&&◌, length}
-use Rattle.world_model.specs.Words.{label_number_of, AddBranch, DeleteTree, VerifyTree, PortManagement, Bind, Free, Part, put, without, Label, LabelState, Wiring, Offered, Recalled, Wired, label_number, Grant, GrantState, Idle, ByController, ByInput, Leaving, grant_label, grant_on, Session, halts, with_session, with_label, without_label, with_grants, without_grant, label_at, Unnumbered, last_number, own_of, spent_number, tells_in, tells, is_spent, closes, redirect, reclaim_ack, label_by, bound_in, bound, freed_in, freed, started_in, started, joins_label, parted, given_back_in, given_back, default_end, default_home, join_of, parts, releases_join, releases_input, released_inputs, resets_spent, releases, up_ports, default_branches, ends_meeting, has_emptied, tells_port, behind_delete_all, causes_in_estab, causes, is_clearing, awaits_nothing, may_clear, clears_of, PortNo, Channel, End, Peer, next_control, with_control, label_channel_of, number_of_channel, Side, is_estab, Request, MoveBranch, all_on, is_led_home, last_transaction, Action, Say, Ask, Note, CutChain, TakeBack, Withdraw, Setup, home_of, Work, resets, restarts, closing, withdrawing, taking_back, Controller, Linked, port_key, linked_at, with_linked, with_desk, chains_with, sends_control, asks_next, asks, takes_back, begins, with_work, cuts_of, closes_by, port_restarts_of, port_restarts, resets_gsmp, node_resets, does, does_in_estab, resets_of, performs, performs_in_estab, Rule, works, at_port, nothing_taken}
-use Rattle.world_model.specs.gsmp_wire.declared.request.Request.TheVariants.{AllPorts}
-use Rattle.world_model.specs.link_model.declared.record.Record.TheVariants.{Join}
-use Rattle.world_model.specs.port_model.Messages.{is_up}
-use Rattle.world_model.specs.port_model.Port.{acts}
-use Rattle.world_model.specs.port_model.Saying.{peer_of}
-use Rattle.world_model.specs.port_model.Answers as port_answers
-use Rattle.world_model.specs.port_model.Joins as port_joins
-use Rattle.world_model.specs.port_model.Resets.{cleared}
-use Rattle.world_model.specs.Controller.{note}
-use Rattle.world_model.specs.Joins.{Join as ControllerJoin}
-use Rattle.world_model.specs.Meeting.{port_of}
+use Rattle.law_controller_bindings.specs.world_model.Words.{label_number_of, AddBranch, DeleteTree, VerifyTree, PortManagement, Bind, Free, Part, put, without, Label, LabelState, Wiring, Offered, Recalled, Wired, label_number, Grant, GrantState, Idle, ByController, ByInput, Leaving, grant_label, grant_on, Session, halts, with_session, with_label, without_label, with_grants, without_grant, label_at, Unnumbered, last_number, own_of, spent_number, tells_in, tells, is_spent, closes, redirect, reclaim_ack, label_by, bound_in, bound, freed_in, freed, started_in, started, joins_label, parted, given_back_in, given_back, default_end, default_home, join_of, parts, releases_join, releases_input, released_inputs, resets_spent, releases, up_ports, default_branches, ends_meeting, has_emptied, tells_port, behind_delete_all, causes_in_estab, causes, is_clearing, awaits_nothing, may_clear, clears_of, PortNo, Channel, End, Peer, next_control, with_control, label_channel_of, number_of_channel, Side, is_estab, Request, MoveBranch, all_on, is_led_home, last_transaction, Action, Say, Ask, Note, CutChain, TakeBack, Withdraw, Setup, home_of, Work, resets, restarts, closing, withdrawing, taking_back, Controller, Linked, port_key, linked_at, with_linked, with_desk, chains_with, sends_control, asks_next, asks, takes_back, begins, with_work, cuts_of, closes_by, port_restarts_of, port_restarts, resets_gsmp, node_resets, does, does_in_estab, resets_of, performs, performs_in_estab, Rule, works, at_port, nothing_taken}
+use Rattle.law_controller_bindings.specs.world_model.gsmp_wire.declared.request.Request.TheVariants.{AllPorts}
+use Rattle.law_controller_bindings.specs.world_model.link_model.declared.record.Record.TheVariants.{Join}
+use Rattle.law_controller_bindings.specs.world_model.port_model.Messages.{is_up}
+use Rattle.law_controller_bindings.specs.world_model.port_model.Port.{acts}
+use Rattle.law_controller_bindings.specs.world_model.port_model.Saying.{peer_of}
+use Rattle.law_controller_bindings.specs.world_model.port_model.Answers as port_answers
+use Rattle.law_controller_bindings.specs.world_model.port_model.Joins as port_joins
+use Rattle.law_controller_bindings.specs.world_model.port_model.Resets.{cleared}
+use Rattle.law_controller_bindings.specs.world_model.Controller.{note}
+use Rattle.law_controller_bindings.specs.world_model.Joins.{Join as ControllerJoin}
+use Rattle.law_controller_bindings.specs.world_model.Meeting.{port_of}
 use Rattle.law_port_words.proofs.Joining.{Clears, unclear, cleared_on}
 use Rattle.std.specs.Prelude.{◌⊎◌, ◌+◌, ◌==◌, nat_lt, flat_map}
 use Rattle.std.specs.Option.{option_map}
-use Rattle.world_model.specs.gsmp_wire.declared.request.Request.TheVariants.{DeleteAll}
+use Rattle.law_controller_bindings.specs.world_model.gsmp_wire.declared.request.Request.TheVariants.{DeleteAll}
 use Rattle.law_controller_bindings.specs.ordered_lists.Ordered.{Every}
 use Rattle.law_controller_bindings.proofs.ordered_lists.Every.{every_map, every_all}
-use Rattle.world_model.specs.port_model.Desk.{asked}
-use Rattle.world_model.specs.port_model.declared.action.Action.TheVariants as actions
+use Rattle.law_controller_bindings.specs.world_model.port_model.Desk.{asked}
+use Rattle.law_controller_bindings.specs.world_model.port_model.declared.action.Action.TheVariants as actions
 use Rattle.law_controller_bindings.proofs.law_port_facts.Keyed.{on_both, on_each, at_every, put_every}
-use Rattle.world_model.specs.Controller.{Acted, ports_of}
+use Rattle.law_controller_bindings.specs.world_model.Controller.{Acted, ports_of}
 use Rattle.law_controller_bindings.proofs.law_controller.Desk.{asked_all, withdrawn_all, asked_of}
 use Rattle.law_world_views.proofs.law_controller_views.Sends.{sent_cases}
 

@@ -4,38 +4,38 @@
 use Rattle.std.proofs.Common.{◌≡◌, ◌≢◌, ℕ, Bool, true, false, List, [], ◌∷◌, ◌++◌, length, Option, None, Some, Result, Ok, Err, refl, sym, ◌∙◌, ap, subst, arith, if◌then◌else◌, fold, inl}
 use Rattle.std.specs.Prelude.{not, ◌==◌, ◌&&◌, nat_lt, nat_le, drop}
 use Rattle.std.proofs.lemmas.Bool.Decides.{nat_tests}
-use Rattle.world_model.specs.Words.{PortNo, Channel, Mark, Greeting, Party, Answer, Quiet, Send, Open, Said, is_estab, ticked, gsmp_answer, gsmp_received, protocol_of, source_of, PacketFault, hop_of, onward, Hop, Here, On, Cell, FlowId, kind_of, default_payload, labelled_payload, EncapsFault, default_unwrapped, unwrapped, Request, AddBranch, MoveBranch, DeleteTree, VerifyTree, PortManagement, Bad, Loss, Delivered, Dropped, Unbound, Journal, Reassembly, passed_over, without_slot, too_long, most_cells, tested, tested_by, last_mark, next_mark, payload_in, Answered, Unknown, Done, Ports, Failed, answered, after_answer, sent_again, Setup, control_end, Label, Grant, counts, used, hears, Controller, Linked, linked_at, with_desk, chains_with, default_home, says_gsmp, sends_request, begins, works_as, tries_joins, releases, gsmp_holds, port_of_input, causes, causes_in_estab, clears, answers_desk, answer_comes, is_control, sends_next, goes_by, grant_by, routes, control_protocol, ForGsmp, ForDefault, ForLabel, port_on, taker_of, reassembly_of, with_reassembly, label_holds, ifmp_holds, counted_at, packet_holds, default_holds, frame_holds, takes_cell, sends_again, ticks_port, ticks_ports, ticks_by, label_number_of, Frame, Record, Refused, Chance, Forged, Opened, Closed, Bind, Free, Part, Routes, Standing, grant_on, label_by, works}
-use Rattle.world_model.specs.adjacency_table.declared.message.Answer.TheVariants.{Reset}
-use Rattle.world_model.specs.adjacency_table.Side as sides
-use Rattle.world_model.specs.ipv4_packet.Packet.{first_fault}
-use Rattle.world_model.specs.ipv4_forward.declared.outcome.Hop.TheVariants.{NoRoute, Expired}
-use Rattle.world_model.specs.ifmp_wire.declared.message.Message.{Message as IfmpMessage}
-use Rattle.world_model.specs.ifmp_wire.declared.reader.Fault.{Fault as IfmpFault}
-use Rattle.world_model.specs.ifmp_wire.Fields.{decoded as ifmp_decoded}
-use Rattle.world_model.specs.gsmp_wire.declared.fault.Fault.{Fault as GsmpFault}
-use Rattle.world_model.specs.gsmp_wire.declared.message.Message.{Message}
-use Rattle.world_model.specs.gsmp_wire.declared.message.Message.TheVariants as messages
-use Rattle.world_model.specs.gsmp_wire.declared.request.Request.TheVariants.{DeleteAll, AllPorts}
-use Rattle.world_model.specs.gsmp_wire.Fields.{decoded as gsmp_decoded}
-use Rattle.world_model.specs.frame_model.Reassembly.{Taken, taken, joined}
-use Rattle.world_model.specs.frame_model.Frame.{octets_of}
+use Rattle.law_controller_bindings.specs.world_model.Words.{PortNo, Channel, Mark, Greeting, Party, Answer, Quiet, Send, Open, Said, is_estab, ticked, gsmp_answer, gsmp_received, protocol_of, source_of, PacketFault, hop_of, onward, Hop, Here, On, Cell, FlowId, kind_of, default_payload, labelled_payload, EncapsFault, default_unwrapped, unwrapped, Request, AddBranch, MoveBranch, DeleteTree, VerifyTree, PortManagement, Bad, Loss, Delivered, Dropped, Unbound, Journal, Reassembly, passed_over, without_slot, too_long, most_cells, tested, tested_by, last_mark, next_mark, payload_in, Answered, Unknown, Done, Ports, Failed, answered, after_answer, sent_again, Setup, control_end, Label, Grant, counts, used, hears, Controller, Linked, linked_at, with_desk, chains_with, default_home, says_gsmp, sends_request, begins, works_as, tries_joins, releases, gsmp_holds, port_of_input, causes, causes_in_estab, clears, answers_desk, answer_comes, is_control, sends_next, goes_by, grant_by, routes, control_protocol, ForGsmp, ForDefault, ForLabel, port_on, taker_of, reassembly_of, with_reassembly, label_holds, ifmp_holds, counted_at, packet_holds, default_holds, frame_holds, takes_cell, sends_again, ticks_port, ticks_ports, ticks_by, label_number_of, Frame, Record, Refused, Chance, Forged, Opened, Closed, Bind, Free, Part, Routes, Standing, grant_on, label_by, works}
+use Rattle.law_controller_bindings.specs.world_model.adjacency_table.declared.message.Answer.TheVariants.{Reset}
+use Rattle.law_controller_bindings.specs.world_model.adjacency_table.Side as sides
+use Rattle.law_controller_bindings.specs.world_model.ipv4_packet.Packet.{first_fault}
+use Rattle.law_controller_bindings.specs.world_model.ipv4_forward.declared.outcome.Hop.TheVariants.{NoRoute, Expired}
+use Rattle.law_controller_bindings.specs.world_model.ifmp_wire.declared.message.Message.{Message as IfmpMessage}
+use Rattle.law_controller_bindings.specs.world_model.ifmp_wire.declared.reader.Fault.{Fault as IfmpFault}
+use Rattle.law_controller_bindings.specs.world_model.ifmp_wire.Fields.{decoded as ifmp_decoded}
+use Rattle.law_controller_bindings.specs.world_model.gsmp_wire.declared.fault.Fault.{Fault as GsmpFault}
+use Rattle.law_controller_bindings.specs.world_model.gsmp_wire.declared.message.Message.{Message}
+use Rattle.law_controller_bindings.specs.world_model.gsmp_wire.declared.message.Message.TheVariants as messages
+use Rattle.law_controller_bindings.specs.world_model.gsmp_wire.declared.request.Request.TheVariants.{DeleteAll, AllPorts}
+use Rattle.law_controller_bindings.specs.world_model.gsmp_wire.Fields.{decoded as gsmp_decoded}
+use Rattle.law_controller_bindings.specs.world_model.frame_model.Reassembly.{Taken, taken, joined}
+use Rattle.law_controller_bindings.specs.world_model.frame_model.Frame.{octets_of}
 use Rattle.law_controller_bindings.specs.ordered_lists.Ordered.{Every}
-use Rattle.world_model.specs.port_model.Port.{Port}
-use Rattle.world_model.specs.port_model.Answers as port_answers
-use Rattle.world_model.specs.port_model.Ticks as port_ticks
+use Rattle.law_controller_bindings.specs.world_model.port_model.Port.{Port}
+use Rattle.law_controller_bindings.specs.world_model.port_model.Answers as port_answers
+use Rattle.law_controller_bindings.specs.world_model.port_model.Ticks as port_ticks
 use Rattle.law_controller_bindings.proofs.law_port_facts.Keyed.{on_both, on_each, every_more}
-use Rattle.world_model.specs.Controller.{Acted, free_slots, ports_of}
-use Rattle.world_model.specs.Sending.{sends}
-use Rattle.world_model.specs.Gsmp.{answers, steps, told}
-use Rattle.world_model.specs.Meeting.{done}
-use Rattle.world_model.specs.Packets.{forwarded}
-use Rattle.world_model.specs.Cells.{Taker, opened_frame, ends_frame, after_cell, cell_comes}
-use Rattle.world_model.specs.Ticks.{ticks}
+use Rattle.law_controller_bindings.specs.world_model.Controller.{Acted, free_slots, ports_of}
+use Rattle.law_controller_bindings.specs.world_model.Sending.{sends}
+use Rattle.law_controller_bindings.specs.world_model.Gsmp.{answers, steps, told}
+use Rattle.law_controller_bindings.specs.world_model.Meeting.{done}
+use Rattle.law_controller_bindings.specs.world_model.Packets.{forwarded}
+use Rattle.law_controller_bindings.specs.world_model.Cells.{Taker, opened_frame, ends_frame, after_cell, cell_comes}
+use Rattle.law_controller_bindings.specs.world_model.Ticks.{ticks}
 use Rattle.law_controller_bindings.proofs.Lasts.{taken_grows, tested_grows}
 use Rattle.law_lifetimes.proofs.Events.{Belongs, taker_belongs, put_there}
 use Rattle.law_world_views.proofs.law_shown_cells.Tested.{taken_frames, tested_frames, last_is}
-use Rattle.world_model.specs.link_model.declared.record.Record.TheVariants.{Join}
-use Rattle.world_model.specs.ifmp_wire.declared.message.Message.TheVariants as ifmp
+use Rattle.law_controller_bindings.specs.world_model.link_model.declared.record.Record.TheVariants.{Join}
+use Rattle.law_controller_bindings.specs.world_model.ifmp_wire.declared.message.Message.TheVariants as ifmp
 use Rattle.law_controller_bindings.proofs.ordered_lists.Every.{every_map}
 use Rattle.law_port_words.specs.Words.{Terms, of_default, of_label, IsMade, IsOfHeld, IsWord, IsNoted, IsSent, waited, of_packet, away, said, bound, IsSteady, IsSteadyAt, IsSteadily}
 use Rattle.law_world_views.specs.Made.{IsFit}

@@ -3,19 +3,19 @@
 use Rattle.std.proofs.Common.{◌≡◌, ℕ, true, false, List, [], ◌∷◌, ◌++◌, length, Option, None, Some, refl, sym, ◌∙◌, ap, subst, if◌then◌else◌, inl, inr}
 use Rattle.std.specs.Prelude.{◌⊎◌, not, ◌+◌, ◌==◌, ◌&&◌, nat_lt, flat_map}
 use Rattle.std.specs.Option.{option_map_or}
-use Rattle.world_model.specs.Words.{Addr, Channel, label_number_of, number_of_channel, FlowId, same_flow, Request, AddBranch, MoveBranch, DeleteTree, VerifyTree, PortManagement, Redirect, Reclaim, ReclaimAck, LabelRange, Error, Free, at, without, entered, key_le, Desk, Action, Ask, Note, CutChain, TakeBack, Setup, label_end, control_end, is_in_range, Label, LabelState, Wiring, Offered, Recalled, Wired, label_number, label_for, lowest_spare, Grant, GrantState, Idle, ByController, ByInput, Leaving, grant_label, grant_on, Acceptance, New, Refreshed, IsLeaving, GrantsFull, acceptance, acceptance_of, acceptance_beside, is_leaving, most_grants, counted_once, packets_in, Session, Work, with_session, with_label, with_new_label, without_label, with_grants, with_grant, without_grant, label_at, has_room, reclaim_ack, label_range, error, packet_flow, wires, counts_flow, counts_by, counts, takes, accepts, expects, grants_label, reclaimed_in, reclaimed, acknowledged_in, acknowledged, ranged, error_comes, label_by, hears, freed_in, freed, started_in, started, closing, left_in, left_of, taking_back_in, taking_back, withdrawing_in, withdrawing_of, withdrawing, resets, restarts}
-use Rattle.world_model.specs.gsmp_wire.declared.request.Request.TheVariants.{DeleteAll, AllPorts}
-use Rattle.world_model.specs.ifmp_wire.declared.message.Message.{Message}
-use Rattle.world_model.specs.ifmp_wire.declared.message.Message.TheVariants.{Adjacency}
-use Rattle.world_model.specs.link_model.declared.record.Record.TheVariants.{Join}
+use Rattle.law_controller_bindings.specs.world_model.Words.{Addr, Channel, label_number_of, number_of_channel, FlowId, same_flow, Request, AddBranch, MoveBranch, DeleteTree, VerifyTree, PortManagement, Redirect, Reclaim, ReclaimAck, LabelRange, Error, Free, at, without, entered, key_le, Desk, Action, Ask, Note, CutChain, TakeBack, Setup, label_end, control_end, is_in_range, Label, LabelState, Wiring, Offered, Recalled, Wired, label_number, label_for, lowest_spare, Grant, GrantState, Idle, ByController, ByInput, Leaving, grant_label, grant_on, Acceptance, New, Refreshed, IsLeaving, GrantsFull, acceptance, acceptance_of, acceptance_beside, is_leaving, most_grants, counted_once, packets_in, Session, Work, with_session, with_label, with_new_label, without_label, with_grants, with_grant, without_grant, label_at, has_room, reclaim_ack, label_range, error, packet_flow, wires, counts_flow, counts_by, counts, takes, accepts, expects, grants_label, reclaimed_in, reclaimed, acknowledged_in, acknowledged, ranged, error_comes, label_by, hears, freed_in, freed, started_in, started, closing, left_in, left_of, taking_back_in, taking_back, withdrawing_in, withdrawing_of, withdrawing, resets, restarts}
+use Rattle.law_controller_bindings.specs.world_model.gsmp_wire.declared.request.Request.TheVariants.{DeleteAll, AllPorts}
+use Rattle.law_controller_bindings.specs.world_model.ifmp_wire.declared.message.Message.{Message}
+use Rattle.law_controller_bindings.specs.world_model.ifmp_wire.declared.message.Message.TheVariants.{Adjacency}
+use Rattle.law_controller_bindings.specs.world_model.link_model.declared.record.Record.TheVariants.{Join}
 use Rattle.law_controller_bindings.specs.ordered_lists.Ordered.{Every}
 use Rattle.law_controller_bindings.proofs.ordered_lists.Every.{every_join, every_mapped, every_all}
-use Rattle.world_model.specs.port_model.Grants.{OutOfRange, Taken}
-use Rattle.world_model.specs.port_model.Port.{Port}
-use Rattle.world_model.specs.port_model.Saying.{says}
-use Rattle.world_model.specs.port_model.Redirection.{redirected}
-use Rattle.world_model.specs.port_model.Answers.{done}
-use Rattle.world_model.specs.port_model.Resets.{cleared}
+use Rattle.law_controller_bindings.specs.world_model.port_model.Grants.{OutOfRange, Taken}
+use Rattle.law_controller_bindings.specs.world_model.port_model.Port.{Port}
+use Rattle.law_controller_bindings.specs.world_model.port_model.Saying.{says}
+use Rattle.law_controller_bindings.specs.world_model.port_model.Redirection.{redirected}
+use Rattle.law_controller_bindings.specs.world_model.port_model.Answers.{done}
+use Rattle.law_controller_bindings.specs.world_model.port_model.Resets.{cleared}
 use Rattle.law_controller_bindings.proofs.law_port_facts.Keyed.{on_both, on_each, entered_every, without_every, every_more}
 use Rattle.law_controller_bindings.proofs.law_port_facts.Found.{find_every, session_labels}
 use Rattle.law_lifetimes.proofs.Grants.{accepted_new, accepted_again}

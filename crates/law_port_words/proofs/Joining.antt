@@ -3,21 +3,21 @@
 use Rattle.std.proofs.Common.{◌≡◌, ℕ, Bool, true, false, List, [], ◌∷◌, ◌++◌, Option, None, Some, refl, sym, subst, if◌then◌else◌, map, fold}
 use Rattle.std.specs.Prelude.{◌&&◌, flat_map}
 use Rattle.std.specs.Option.{option_map}
-use Rattle.world_model.specs.Words.{PortNo, End, number_of_channel, is_estab, best, RouteChange, FlowId, next_hop_of, flow_destination, same_flow, Request, AddBranch, MoveBranch, DeleteTree, VerifyTree, PortManagement, Part, same_end, empty_desk, home_of, Label, Grant, is_by_controller, grant_for, closes, Linked, port_key, linked_at, with_linked, with_desk, default_end, default_home, asks, begins, at_port, join_to, joins_at, end_le, joins_of, join_of, parts, releases_join, releases_input, released_inputs, resets_spent, releases, port_by, join_through, join_by, join_for, may_join, enters_grant, enters_label, joins, tries_label, label_on, tries_join, inputs_at, tries_joins, meets, up_ports, empties, default_branches, ends_meeting, has_emptied, tells_port, behind_delete_all, causes_in_estab, causes, may_clear, clears_of, clears_port, changed_joins, takes_join_back, begins_change, takes_change, may_take, takes_each, takes_changes, change_comes, State, Clearing, SynSent, SynRcvd, Estab, Routes, changed, Session, is_clearing, awaits_nothing}
-use Rattle.world_model.specs.gsmp_wire.declared.request.Request.TheVariants.{DeleteAll, AllPorts}
+use Rattle.law_controller_bindings.specs.world_model.Words.{PortNo, End, number_of_channel, is_estab, best, RouteChange, FlowId, next_hop_of, flow_destination, same_flow, Request, AddBranch, MoveBranch, DeleteTree, VerifyTree, PortManagement, Part, same_end, empty_desk, home_of, Label, Grant, is_by_controller, grant_for, closes, Linked, port_key, linked_at, with_linked, with_desk, default_end, default_home, asks, begins, at_port, join_to, joins_at, end_le, joins_of, join_of, parts, releases_join, releases_input, released_inputs, resets_spent, releases, port_by, join_through, join_by, join_for, may_join, enters_grant, enters_label, joins, tries_label, label_on, tries_join, inputs_at, tries_joins, meets, up_ports, empties, default_branches, ends_meeting, has_emptied, tells_port, behind_delete_all, causes_in_estab, causes, may_clear, clears_of, clears_port, changed_joins, takes_join_back, begins_change, takes_change, may_take, takes_each, takes_changes, change_comes, State, Clearing, SynSent, SynRcvd, Estab, Routes, changed, Session, is_clearing, awaits_nothing}
+use Rattle.law_controller_bindings.specs.world_model.gsmp_wire.declared.request.Request.TheVariants.{DeleteAll, AllPorts}
 use Rattle.law_controller_bindings.specs.ordered_lists.Ordered.{Every}
-use Rattle.world_model.specs.port_model.Grants.{input_of}
-use Rattle.world_model.specs.port_model.Joins as port_joins
-use Rattle.world_model.specs.port_model.Answers as port_answers
-use Rattle.world_model.specs.port_model.Resets.{cleared}
+use Rattle.law_controller_bindings.specs.world_model.port_model.Grants.{input_of}
+use Rattle.law_controller_bindings.specs.world_model.port_model.Joins as port_joins
+use Rattle.law_controller_bindings.specs.world_model.port_model.Answers as port_answers
+use Rattle.law_controller_bindings.specs.world_model.port_model.Resets.{cleared}
 use Rattle.law_controller_bindings.proofs.law_port_facts.Keyed.{on_both, at_key}
 use Rattle.law_controller_bindings.proofs.law_port_facts.Found.{find_every}
-use Rattle.world_model.specs.Controller.{Acted, ports_of, note}
-use Rattle.world_model.specs.Joins.{Join, output_of}
-use Rattle.world_model.specs.Meeting.{port_of}
+use Rattle.law_controller_bindings.specs.world_model.Controller.{Acted, ports_of, note}
+use Rattle.law_controller_bindings.specs.world_model.Joins.{Join, output_of}
+use Rattle.law_controller_bindings.specs.world_model.Meeting.{port_of}
 use Rattle.law_controller_bindings.proofs.law_controller_facts.Joining.{every_flat_map, every_filter_map, every_in_order}
 use Rattle.std.specs.Prelude.{◌+◌, ◌==◌, length}
-use Rattle.world_model.specs.port_model.Messages.{is_up}
+use Rattle.law_controller_bindings.specs.world_model.port_model.Messages.{is_up}
 use Rattle.law_controller_bindings.proofs.law_port_facts.Keyed.{on_each}
 use Rattle.law_port_words.specs.Words.{Terms, IsGranted, IsSteady, IsSteadyAt, IsSteadily}
 use Rattle.law_port_words.proofs.Voices.{closes_v}

@@ -2,13 +2,13 @@
 
 use Rattle.std.proofs.Common.{◌≡◌, List, [], ◌∷◌, Option, None, Some, refl, if◌then◌else◌, fold}
 use Rattle.std.specs.Prelude.{◌==◌}
-use Rattle.world_model.specs.Words.{PortNo, End, is_estab, Request, MoveBranch, Record, Delivered, Dropped, Refused, Loss, Chance, Forged, Bad, Opened, Closed, Bind, Free, Part, Routes, cut, Standing, is_led_home, last_transaction, Action, Say, Ask, Note, CutChain, TakeBack, Withdraw, home_of, Work, resets, restarts, Linked, linked_at, with_desk, sends_request, asks_next, asks, takes_back, begins, with_work, closes_by, port_restarts_of, port_restarts, resets_gsmp, node_resets, cuts_default, cuts_gsmp, node_restarts, does, does_in_estab, resets_of, performs, performs_in_estab, Rule, works_as, works, at_port}
-use Rattle.world_model.specs.link_model.declared.record.Record.TheVariants.{Join}
+use Rattle.law_controller_bindings.specs.world_model.Words.{PortNo, End, is_estab, Request, MoveBranch, Record, Delivered, Dropped, Refused, Loss, Chance, Forged, Bad, Opened, Closed, Bind, Free, Part, Routes, cut, Standing, is_led_home, last_transaction, Action, Say, Ask, Note, CutChain, TakeBack, Withdraw, home_of, Work, resets, restarts, Linked, linked_at, with_desk, sends_request, asks_next, asks, takes_back, begins, with_work, closes_by, port_restarts_of, port_restarts, resets_gsmp, node_resets, cuts_default, cuts_gsmp, node_restarts, does, does_in_estab, resets_of, performs, performs_in_estab, Rule, works_as, works, at_port}
+use Rattle.law_controller_bindings.specs.world_model.link_model.declared.record.Record.TheVariants.{Join}
 use Rattle.law_controller_bindings.specs.ordered_lists.Ordered.{Every}
-use Rattle.world_model.specs.port_model.Desk.{asked, message_at}
-use Rattle.world_model.specs.port_model.declared.action.Action.TheVariants as actions
+use Rattle.law_controller_bindings.specs.world_model.port_model.Desk.{asked, message_at}
+use Rattle.law_controller_bindings.specs.world_model.port_model.declared.action.Action.TheVariants as actions
 use Rattle.law_controller_bindings.proofs.law_port_facts.Keyed.{on_both}
-use Rattle.world_model.specs.Controller.{Acted, ports_of}
+use Rattle.law_controller_bindings.specs.world_model.Controller.{Acted, ports_of}
 use Rattle.law_controller_bindings.proofs.Lasts.{cut_grows}
 use Rattle.law_world_views.proofs.law_shown_cells.Tested.{cut_frames}
 use Rattle.law_port_words.specs.Words.{Terms, IsSteady, BindsNone, IsFair, IsNoted, IsSteadyAt, IsSteadily}

@@ -2,14 +2,14 @@
 
 use Rattle.std.proofs.Common.{◌≡◌, ◌≢◌, ℕ, Bool, true, false, Option, None, Some, refl, if◌then◌else◌, map, fold}
 use Rattle.std.specs.Prelude.{◌⊎◌, ◌-◌, ◌==◌, ◌||◌, nat_lt, nat_le, max, min, is_none}
-use Rattle.world_model.specs.Words.{Addr, Channel, End, Instance, Hello, Peer, label_channel_of, ticked, heard_from, ifmp_received, FlowId, DeleteTree, at, Desk, on_input, Ask, CutChain, TakeBack, Setup, label_end, Label, LabelState, Wiring, Offered, Recalled, Wired, label_number, Grant, GrantState, Idle, ByController, ByInput, Leaving, grant_label, Session, Work, with_session, with_label, with_grant, without_grant, label_at, labels_of, known_of, desk_after, has_room, last_number, redirect, reclaim, reclaim_ack, label_range, error, unwires, quits_label, quits_in, quits_found, quits, is_good, learns, used_label, used, reclaims_in, reclaims, unjoins, recalls, recalls_in, recalls_offered, acknowledged, narrowed, is_outside, recalls_outside, ranged, joins_label, parted, lent, given_back_in, given_back, expires, ages_in, ages_found, ages, refreshes, one_older, one_idler, idles, ticks_in, ticks_found, ticks_label, asks_for_ack, nudges, ticks_session}
-use Rattle.world_model.specs.adjacency_table.Side as sides
-use Rattle.world_model.specs.port_model.Counts.{moved}
-use Rattle.world_model.specs.port_model.Port.{acts}
-use Rattle.world_model.specs.port_model.Saying.{says}
-use Rattle.world_model.specs.port_model.Adjacency.{steps, greeted}
-use Rattle.world_model.specs.port_model.Joins.{joined}
-use Rattle.world_model.specs.port_model.Ticks.{ticks}
+use Rattle.law_controller_bindings.specs.world_model.Words.{Addr, Channel, End, Instance, Hello, Peer, label_channel_of, ticked, heard_from, ifmp_received, FlowId, DeleteTree, at, Desk, on_input, Ask, CutChain, TakeBack, Setup, label_end, Label, LabelState, Wiring, Offered, Recalled, Wired, label_number, Grant, GrantState, Idle, ByController, ByInput, Leaving, grant_label, Session, Work, with_session, with_label, with_grant, without_grant, label_at, labels_of, known_of, desk_after, has_room, last_number, redirect, reclaim, reclaim_ack, label_range, error, unwires, quits_label, quits_in, quits_found, quits, is_good, learns, used_label, used, reclaims_in, reclaims, unjoins, recalls, recalls_in, recalls_offered, acknowledged, narrowed, is_outside, recalls_outside, ranged, joins_label, parted, lent, given_back_in, given_back, expires, ages_in, ages_found, ages, refreshes, one_older, one_idler, idles, ticks_in, ticks_found, ticks_label, asks_for_ack, nudges, ticks_session}
+use Rattle.law_controller_bindings.specs.world_model.adjacency_table.Side as sides
+use Rattle.law_controller_bindings.specs.world_model.port_model.Counts.{moved}
+use Rattle.law_controller_bindings.specs.world_model.port_model.Port.{acts}
+use Rattle.law_controller_bindings.specs.world_model.port_model.Saying.{says}
+use Rattle.law_controller_bindings.specs.world_model.port_model.Adjacency.{steps, greeted}
+use Rattle.law_controller_bindings.specs.world_model.port_model.Joins.{joined}
+use Rattle.law_controller_bindings.specs.world_model.port_model.Ticks.{ticks}
 use Rattle.law_controller_bindings.proofs.law_port_facts.Keyed.{on_both}
 use Rattle.law_world_views.specs.Tied.{is_rstack}
 use Rattle.law_port_words.specs.Words.{Terms, StandsAs, Stands, IsGranted, IsWord}

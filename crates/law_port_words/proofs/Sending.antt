@@ -7,18 +7,18 @@ use Rattle.std.specs.Option.{option_or}
 use Rattle.std.specs.List.{range_with_len}
 use Rattle.std.proofs.lemmas.Bool.Decides.{nat_tests}
 use Rattle.std.proofs.lemmas.List.Elements.{Contains-append_left}
-use Rattle.world_model.specs.Words.{PortNo, NodeId, Channel, Mark, Instance, next_control, with_control, label_channel_of, Cell, FlowId, Redirect, Frame, Record, Delivered, Dropped, Refused, Loss, Chance, Forged, Bad, Opened, Closed, Bind, Free, Part, Routes, PoolFull, payload_of, Journal, noted, frame_cells, cut, nothing_taken, Linked, port_key, linked_at, with_linked, chain_of, chains_with, default_channel, default_home, same_channel, sends_control, says_gsmp, says_ifmp, cuts_of, cuts_label, cuts_default_of, cuts_default, last_bound, bound_by}
+use Rattle.law_controller_bindings.specs.world_model.Words.{PortNo, NodeId, Channel, Mark, Instance, next_control, with_control, label_channel_of, Cell, FlowId, Redirect, Frame, Record, Delivered, Dropped, Refused, Loss, Chance, Forged, Bad, Opened, Closed, Bind, Free, Part, Routes, PoolFull, payload_of, Journal, noted, frame_cells, cut, nothing_taken, Linked, port_key, linked_at, with_linked, chain_of, chains_with, default_channel, default_home, same_channel, sends_control, says_gsmp, says_ifmp, cuts_of, cuts_label, cuts_default_of, cuts_default, last_bound, bound_by}
 use Rattle.law_lifetimes.specs.aal5_frames.Frame.{cell_of, cells_with, pdu_of}
-use Rattle.world_model.specs.gsmp_wire.Layout.{octets_of as gsmp_octets}
-use Rattle.world_model.specs.gsmp_wire.declared.message.Message.{Message as GsmpMessage}
-use Rattle.world_model.specs.ifmp_wire.declared.message.Message.{Message as IfmpMessage}
-use Rattle.world_model.specs.ifmp_wire.declared.message.Message.TheVariants as ifmp
-use Rattle.world_model.specs.link_model.declared.record.Record.TheVariants.{Join}
+use Rattle.law_controller_bindings.specs.world_model.gsmp_wire.Layout.{octets_of as gsmp_octets}
+use Rattle.law_controller_bindings.specs.world_model.gsmp_wire.declared.message.Message.{Message as GsmpMessage}
+use Rattle.law_controller_bindings.specs.world_model.ifmp_wire.declared.message.Message.{Message as IfmpMessage}
+use Rattle.law_controller_bindings.specs.world_model.ifmp_wire.declared.message.Message.TheVariants as ifmp
+use Rattle.law_controller_bindings.specs.world_model.link_model.declared.record.Record.TheVariants.{Join}
 use Rattle.law_controller_bindings.specs.ordered_lists.Ordered.{Every}
 use Rattle.law_controller_bindings.proofs.ordered_lists.Every.{every_join, every_map, every_mapped, every_all}
 use Rattle.law_controller_bindings.proofs.law_port_facts.Keyed.{at_every, put_every, every_more}
-use Rattle.world_model.specs.Controller.{Acted, note}
-use Rattle.world_model.specs.Sending.{sends}
+use Rattle.law_controller_bindings.specs.world_model.Controller.{Acted, note}
+use Rattle.law_controller_bindings.specs.world_model.Sending.{sends}
 use Rattle.law_controller_bindings.specs.Bindings.{site}
 use Rattle.law_controller_bindings.proofs.Lasts.{BindNothing, Grows, cut_grows}
 use Rattle.law_world_views.specs.law_controller_views.Lifted.{payload_by}

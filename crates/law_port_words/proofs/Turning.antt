@@ -3,9 +3,9 @@
 use Rattle.std.proofs.Common.{◌≡◌, ◌≢◌, ℕ, Bool, true, false, Option, Some, refl, sym, ◌∙◌, ap, subst, if◌then◌else◌, inl, inr}
 use Rattle.std.specs.Prelude.{◌⊎◌, ◌&&◌, not}
 use Rattle.std.specs.Option.{option_map_or}
-use Rattle.world_model.specs.Words.{PortNo, Addr, Hello, Peer, HelloKind, Syn, Synack, Rstack, Ack, State, Clearing, SynSent, SynRcvd, Estab, Said, Heard, Answer, Send, Open, Reply, Silent, Says, Resets, Row, row, stays, stores_and, enters_by_synack, enters_by_ack, tick_reply, Side, answer_of, answer_to, said, is_entry, followed, followed_tick, ticked, same_peer, heard_from, ifmp_received}
-use Rattle.world_model.specs.adjacency_table.Side as sides
-use Rattle.world_model.specs.adjacency_table.Side.{opened, counted}
+use Rattle.law_controller_bindings.specs.world_model.Words.{PortNo, Addr, Hello, Peer, HelloKind, Syn, Synack, Rstack, Ack, State, Clearing, SynSent, SynRcvd, Estab, Said, Heard, Answer, Send, Open, Reply, Silent, Says, Resets, Row, row, stays, stores_and, enters_by_synack, enters_by_ack, tick_reply, Side, answer_of, answer_to, said, is_entry, followed, followed_tick, ticked, same_peer, heard_from, ifmp_received}
+use Rattle.law_controller_bindings.specs.world_model.adjacency_table.Side as sides
+use Rattle.law_controller_bindings.specs.world_model.adjacency_table.Side.{opened, counted}
 use Rattle.law_controller_bindings.proofs.law_port_facts.Keyed.{on_both}
 use Rattle.law_world_views.specs.Tied.{is_rstack}
 use Rattle.law_port_words.specs.Words.{Terms}

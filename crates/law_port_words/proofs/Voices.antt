@@ -3,16 +3,16 @@
 use Rattle.std.proofs.Common.{◌≡◌, ◌≢◌, ℕ, Bool, true, false, List, [], ◌∷◌, ◌++◌, Option, None, Some, refl, sym, subst, fold, inl, inr}
 use Rattle.std.specs.Prelude.{◌⊎◌, ◌+◌, nat_lt, not}
 use Rattle.std.specs.Option.{option_map, option_map_or}
-use Rattle.world_model.specs.Words.{PortNo, Instance, Peer, Clearing, Said, Answer, Quiet, Send, Open, Side, said, hello_of, ifmp_answer, Opened, at, put, without, Action, Say, Note, Setup, Label, label_number, Grant, grant_label, Session, Work, halts, with_session, with_label, with_grants, with_grant, without_grant, label_at, labels_of, Unnumbered, last_number, own_of, spent_number, greets, tells_in, tells, is_spent, closes, first_session, opens, accepts, expects}
-use Rattle.world_model.specs.adjacency_table.declared.message.Answer.TheVariants.{Reset}
-use Rattle.world_model.specs.adjacency_table.Side as sides
-use Rattle.world_model.specs.ifmp_wire.declared.message.Message.{Message}
-use Rattle.world_model.specs.ifmp_wire.declared.message.Message.TheVariants.{Adjacency}
+use Rattle.law_controller_bindings.specs.world_model.Words.{PortNo, Instance, Peer, Clearing, Said, Answer, Quiet, Send, Open, Side, said, hello_of, ifmp_answer, Opened, at, put, without, Action, Say, Note, Setup, Label, label_number, Grant, grant_label, Session, Work, halts, with_session, with_label, with_grants, with_grant, without_grant, label_at, labels_of, Unnumbered, last_number, own_of, spent_number, greets, tells_in, tells, is_spent, closes, first_session, opens, accepts, expects}
+use Rattle.law_controller_bindings.specs.world_model.adjacency_table.declared.message.Answer.TheVariants.{Reset}
+use Rattle.law_controller_bindings.specs.world_model.adjacency_table.Side as sides
+use Rattle.law_controller_bindings.specs.world_model.ifmp_wire.declared.message.Message.{Message}
+use Rattle.law_controller_bindings.specs.world_model.ifmp_wire.declared.message.Message.TheVariants.{Adjacency}
 use Rattle.law_controller_bindings.specs.ordered_lists.Ordered.{Every}
-use Rattle.world_model.specs.port_model.declared.action.Action.TheVariants as actions
-use Rattle.world_model.specs.port_model.Port.{Port, acts}
-use Rattle.world_model.specs.port_model.Saying.{peer_of, says}
-use Rattle.world_model.specs.port_model.Adjacency.{answers, steps}
+use Rattle.law_controller_bindings.specs.world_model.port_model.declared.action.Action.TheVariants as actions
+use Rattle.law_controller_bindings.specs.world_model.port_model.Port.{Port, acts}
+use Rattle.law_controller_bindings.specs.world_model.port_model.Saying.{peer_of, says}
+use Rattle.law_controller_bindings.specs.world_model.port_model.Adjacency.{answers, steps}
 use Rattle.law_controller_bindings.proofs.law_port_facts.Keyed.{on_both, at_every, put_every, without_every, every_more}
 use Rattle.law_world_views.specs.Tied.{is_rstack}
 use Rattle.law_port_words.specs.Words.{Terms, Stands, IsGranted, IsSteady, IsWord, IsFair}

@@ -1,13 +1,13 @@
 -- What ports of a controller are, say and note in an event, by what was so before it
 
 use Rattle.std.specs.Prelude.{◌≡◌, ◌≢◌, ℕ, ◌<◌, ◌≤◌, ◌⊎◌, true, false, List, Contains, Some}
-use Rattle.world_model.specs.Words.{NodeId, PortNo, Addr, Channel, Instance, Peer, label_channel_of, Clearing, Cell, FlowId, FlowKind, onward, default_payload, labelled_payload, Redirect, Error, names_of, Frame, Record, Bind, payload_of, Action, Say, Note, Setup, Label, LabelState, Wiring, Offered, Recalled, Wired, Grant, Session, labels_of, Linked, default_home, same_channel}
-use Rattle.world_model.specs.gsmp_wire.declared.message.Message.{Message as GsmpMessage}
-use Rattle.world_model.specs.gsmp_wire.Layout.{octets_of as gsmp_octets}
-use Rattle.world_model.specs.ifmp_wire.declared.message.Message.{Message}
+use Rattle.law_controller_bindings.specs.world_model.Words.{NodeId, PortNo, Addr, Channel, Instance, Peer, label_channel_of, Clearing, Cell, FlowId, FlowKind, onward, default_payload, labelled_payload, Redirect, Error, names_of, Frame, Record, Bind, payload_of, Action, Say, Note, Setup, Label, LabelState, Wiring, Offered, Recalled, Wired, Grant, Session, labels_of, Linked, default_home, same_channel}
+use Rattle.law_controller_bindings.specs.world_model.gsmp_wire.declared.message.Message.{Message as GsmpMessage}
+use Rattle.law_controller_bindings.specs.world_model.gsmp_wire.Layout.{octets_of as gsmp_octets}
+use Rattle.law_controller_bindings.specs.world_model.ifmp_wire.declared.message.Message.{Message}
 use Rattle.law_controller_bindings.specs.ordered_lists.Ordered.{Every}
-use Rattle.world_model.specs.port_model.Port.{Port}
-use Rattle.world_model.specs.Controller.{Acted}
+use Rattle.law_controller_bindings.specs.world_model.port_model.Port.{Port}
+use Rattle.law_controller_bindings.specs.world_model.Controller.{Acted}
 use Rattle.law_world_views.specs.law_controller_views.Lifted.{payload_by}
 use Rattle.law_world_views.specs.Made.{IsFit}
 use Rattle.law_world_views.specs.Tied.{tells_its_own}

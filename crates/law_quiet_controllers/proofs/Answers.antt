@@ -3,31 +3,31 @@
 use Rattle.std.proofs.Common.{◌≡◌, ℕ, true, List, [], ◌∷◌, Option, None, Some, Result, Ok, Err, refl, sym, ◌∙◌, ap, arith, fold, map, inl, inr, if◌then◌else◌}
 use Rattle.std.specs.Prelude.{◌==◌, ◌&&◌, not, flat_map, find, drop, slice_index}
 use Rattle.std.specs.Option.{option_and_then}
-use Rattle.world_model.specs.Words.{End, PortNo, Greeting, Party, Cell, Answer, Quiet, Send, Open, Step, is_estab, gsmp_answer, gsmp_received, Request, AddBranch, MoveBranch, DeleteTree, VerifyTree, PortManagement, PortRow, refusal, type_of, Frame, Bad, gsmp_refusal, Standing, empty_desk, Head, head_of, is_of_type, Answered, Unknown, Ports, Failed, succeeded, outcome, answered_with, after_answer, without_request, Setup, Linked, linked_at, with_linked, with_desk, default_end, default_home, says_gsmp, asks, releases, meets, up_ports, empties, default_branches, ends_meeting, has_emptied, port_of_input, tells_port, behind_delete_all, causes_in_estab, causes, may_clear, clears_of, clears_port, clears, takes_answer, answer_comes, gsmp_holds, copy_of}
-use Rattle.world_model.specs.adjacency_table.declared.message.Answer.TheVariants.{Reset}
-use Rattle.world_model.specs.gsmp_wire.declared.fault.Fault.{Fault}
-use Rattle.world_model.specs.gsmp_wire.declared.message.Message.{Message}
-use Rattle.world_model.specs.gsmp_wire.declared.message.Message.TheVariants as messages
-use Rattle.world_model.specs.gsmp_wire.declared.request.Request.TheVariants.{DeleteAll, AllPorts}
-use Rattle.world_model.specs.gsmp_wire.Fields.{decoded, decoded_by}
-use Rattle.world_model.specs.gsmp_wire.Layout.{octets_of as gsmp_octets}
-use Rattle.world_model.specs.link_model.declared.record.Layer.TheVariants as layers
+use Rattle.law_controller_facts.specs.world_model.Words.{End, PortNo, Greeting, Party, Cell, Answer, Quiet, Send, Open, Step, is_estab, gsmp_answer, gsmp_received, Request, AddBranch, MoveBranch, DeleteTree, VerifyTree, PortManagement, PortRow, refusal, type_of, Frame, Bad, gsmp_refusal, Standing, empty_desk, Head, head_of, is_of_type, Answered, Unknown, Ports, Failed, succeeded, outcome, answered_with, after_answer, without_request, Setup, Linked, linked_at, with_linked, with_desk, default_end, default_home, says_gsmp, asks, releases, meets, up_ports, empties, default_branches, ends_meeting, has_emptied, port_of_input, tells_port, behind_delete_all, causes_in_estab, causes, may_clear, clears_of, clears_port, clears, takes_answer, answer_comes, gsmp_holds, copy_of}
+use Rattle.law_controller_facts.specs.world_model.adjacency_table.declared.message.Answer.TheVariants.{Reset}
+use Rattle.law_controller_facts.specs.world_model.gsmp_wire.declared.fault.Fault.{Fault}
+use Rattle.law_controller_facts.specs.world_model.gsmp_wire.declared.message.Message.{Message}
+use Rattle.law_controller_facts.specs.world_model.gsmp_wire.declared.message.Message.TheVariants as messages
+use Rattle.law_controller_facts.specs.world_model.gsmp_wire.declared.request.Request.TheVariants.{DeleteAll, AllPorts}
+use Rattle.law_controller_facts.specs.world_model.gsmp_wire.Fields.{decoded, decoded_by}
+use Rattle.law_controller_facts.specs.world_model.gsmp_wire.Layout.{octets_of as gsmp_octets}
+use Rattle.law_controller_facts.specs.world_model.link_model.declared.record.Layer.TheVariants as layers
 use Rattle.law_controller_facts.specs.ordered_lists.Ordered.{Every}
-use Rattle.world_model.specs.port_model.Messages.{is_up}
-use Rattle.world_model.specs.port_model.Answers as port_answers
-use Rattle.world_model.specs.port_model.Resets.{cleared}
+use Rattle.law_controller_facts.specs.world_model.port_model.Messages.{is_up}
+use Rattle.law_controller_facts.specs.world_model.port_model.Answers as port_answers
+use Rattle.law_controller_facts.specs.world_model.port_model.Resets.{cleared}
 use Rattle.law_controller_facts.specs.law_port_facts.Port.{IsShaped, IsLinked, IsDefaultEnd, MovesNone, asks_ports, empties_control, empties_port, opens_input, opens_output}
 use Rattle.law_controller_facts.proofs.law_port_facts.Keyed.{on_both, on_each}
 use Rattle.law_controller_facts.proofs.law_port_facts.Found.{find_every}
 use Rattle.law_controller_facts.proofs.law_port_facts.Rules.{done_goes}
-use Rattle.world_model.specs.Controller.{Acted, ports_of, note}
-use Rattle.world_model.specs.Meeting.{done}
-use Rattle.world_model.specs.Gsmp.{answers, steps, told}
+use Rattle.law_controller_facts.specs.world_model.Controller.{Acted, ports_of, note}
+use Rattle.law_controller_facts.specs.world_model.Meeting.{done}
+use Rattle.law_controller_facts.specs.world_model.Gsmp.{answers, steps, told}
 use Rattle.law_controller_facts.proofs.Moves.{HasPorts, by_rule, moves_ports}
 use Rattle.law_controller_facts.proofs.Performing.{ports_linked}
 use Rattle.law_controller_facts.proofs.Joining.{every_filter}
 use Rattle.law_controller_facts.proofs.Events.{clears_goes}
-use Rattle.world_model.specs.Ways.{told as heard}
+use Rattle.law_controller_facts.specs.world_model.Ways.{told as heard}
 use Rattle.law_quiet_controllers.specs.Quiet.{asked_by, AreRead, IsFine}
 use Rattle.law_quiet_controllers.specs.Heard.{RowsAreRead}
 use Rattle.law_quiet_controllers.proofs.Sending.{Holds, On, ports_of_quiet, same_on, control_on, stays_home}

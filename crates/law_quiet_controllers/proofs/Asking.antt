@@ -6,24 +6,24 @@ use Rattle.std.specs.Option.{option_and_then}
 use Rattle.std.specs.Str.{bytes_eq}
 use Rattle.std.specs.Prelude.{take}
 use Rattle.std.proofs.lemmas.Bool.Decides.{nat_tests}
-use Rattle.world_model.specs.Words.{End, PortNo, Mark, Cell, is_estab, default_payload, Request, AddBranch, MoveBranch, DeleteTree, VerifyTree, PortManagement, PortRow, snap_header, type_of, refusal_by, Frame, Journal, noted, Reassembly, cut, noted_all, distinct, marks_of, Record, Loss, Cut, Desk, Standing, is_led_home, last_transaction, message_of, withdraws, is_on, Action, Say, Ask, Note, CutChain, TakeBack, Withdraw, Setup, home_of, Work, resets, restarts, Linked, linked_at, with_desk, chain_of, sends_request, asks_next, asks, takes_back, withdraws_input, cuts_of, cuts_label, begins, with_work, closes_by, port_restarts_of, port_restarts, port_restarts_as, resets_gsmp, node_resets, does, does_in_estab, resets_of, performs, performs_in_estab, Rule, works_as, works, at_port, gsmp_of, copy_of}
-use Rattle.world_model.specs.gsmp_wire.declared.fault.Fault.{Fault}
-use Rattle.world_model.specs.gsmp_wire.declared.fault.Fault.TheVariants as faults
-use Rattle.world_model.specs.gsmp_wire.declared.request.Request.TheVariants.{DeleteAll, AllPorts}
-use Rattle.world_model.specs.gsmp_wire.Fields.{decoded, decoded_by}
-use Rattle.world_model.specs.gsmp_wire.Layout.{octets_of as gsmp_octets}
+use Rattle.law_controller_facts.specs.world_model.Words.{End, PortNo, Mark, Cell, is_estab, default_payload, Request, AddBranch, MoveBranch, DeleteTree, VerifyTree, PortManagement, PortRow, snap_header, type_of, refusal_by, Frame, Journal, noted, Reassembly, cut, noted_all, distinct, marks_of, Record, Loss, Cut, Desk, Standing, is_led_home, last_transaction, message_of, withdraws, is_on, Action, Say, Ask, Note, CutChain, TakeBack, Withdraw, Setup, home_of, Work, resets, restarts, Linked, linked_at, with_desk, chain_of, sends_request, asks_next, asks, takes_back, withdraws_input, cuts_of, cuts_label, begins, with_work, closes_by, port_restarts_of, port_restarts, port_restarts_as, resets_gsmp, node_resets, does, does_in_estab, resets_of, performs, performs_in_estab, Rule, works_as, works, at_port, gsmp_of, copy_of}
+use Rattle.law_controller_facts.specs.world_model.gsmp_wire.declared.fault.Fault.{Fault}
+use Rattle.law_controller_facts.specs.world_model.gsmp_wire.declared.fault.Fault.TheVariants as faults
+use Rattle.law_controller_facts.specs.world_model.gsmp_wire.declared.request.Request.TheVariants.{DeleteAll, AllPorts}
+use Rattle.law_controller_facts.specs.world_model.gsmp_wire.Fields.{decoded, decoded_by}
+use Rattle.law_controller_facts.specs.world_model.gsmp_wire.Layout.{octets_of as gsmp_octets}
 use Rattle.law_controller_facts.specs.ordered_lists.Ordered.{Every}
 use Rattle.law_controller_facts.proofs.ordered_lists.Every.{every_join, every_map}
-use Rattle.world_model.specs.port_model.Desk.{asked, message_at}
-use Rattle.world_model.specs.port_model.declared.action.Action.TheVariants.{Reset}
+use Rattle.law_controller_facts.specs.world_model.port_model.Desk.{asked, message_at}
+use Rattle.law_controller_facts.specs.world_model.port_model.declared.action.Action.TheVariants.{Reset}
 use Rattle.law_controller_facts.specs.law_port_facts.Port.{IsShaped, IsAction, parts_label}
 use Rattle.law_controller_facts.proofs.law_port_facts.Keyed.{on_both, on_each}
 use Rattle.law_controller_facts.proofs.law_port_facts.Joins.{resets_kept}
-use Rattle.world_model.specs.Controller.{Acted, ports_of}
+use Rattle.law_controller_facts.specs.world_model.Controller.{Acted, ports_of}
 use Rattle.law_controller_facts.proofs.Moves.{HasPorts, Found, Worked, by_reset, asking, withdrawing, placing, moves_to, moves_ports, found_setup, found_at_own, begun, worked_kept}
 use Rattle.law_controller_facts.proofs.Performing.{node_resets_goes, cuts_label_goes}
 use Rattle.law_controller_facts.proofs.Joining.{every_filter}
-use Rattle.world_model.specs.Ways.{told}
+use Rattle.law_controller_facts.specs.world_model.Ways.{told}
 use Rattle.law_quiet_controllers.specs.Quiet.{May, asked_by, AreRead, IsFine}
 use Rattle.law_quiet_controllers.proofs.Sending.{Holds, On, Says, ports_of_quiet, same_on, control_on, moves_home, stays_home}
 

@@ -1,9 +1,9 @@
 -- a controller is quiet at first, and what a quiet one asks may be
 
 use Rattle.std.proofs.Common.{◌≡◌, ◌≢◌, ℕ, zero, suc, ◌<◌, ◌≤◌, List, [], ◌∷◌, length, refl, sym, ◌∙◌, subst, arith, Contains, slice_index_or, ◌⊎◌, inl, inr}
-use Rattle.world_model.specs.Words.{End, Standing, Setup}
+use Rattle.law_controller_facts.specs.world_model.Words.{End, Standing, Setup}
 use Rattle.law_controller_facts.specs.ordered_lists.Ordered.{Every}
-use Rattle.world_model.specs.Controller.{Acted}
+use Rattle.law_controller_facts.specs.world_model.Controller.{Acted}
 use Rattle.law_quiet_controllers.specs.Quiet.{IsFine, IsMeant, waited, fresh, carries, elsewhere, IsQuiet}
 use Rattle.law_quiet_controllers.specs.Law.{IsAtWork, Asks, by_desk, by_cell, PacketsAskNothing}
 

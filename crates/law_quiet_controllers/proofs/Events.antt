@@ -4,31 +4,31 @@ use Rattle.std.proofs.Common.{◌≡◌, ◌≢◌, ℕ, zero, suc, ◌<◌, ◌
 use Rattle.std.proofs.lemmas.Bool.Decides.{nat_tests}
 use Rattle.std.specs.Prelude.{◌==◌, ◌+◌, ◌*◌, ◌&&◌, nat_lt, nat_le, not, take, flat_map}
 use Rattle.std.specs.Option.{option_and_then}
-use Rattle.world_model.specs.Words.{End, Channel, PortNo, Mark, Party, label_number_of, label_channel_of, Cell, Answer, Quiet, Send, Open, Said, Step, is_estab, ticked, protocol_of, source_of, PacketFault, hop_of, onward, Hop, Here, On as Onward, kind_of, default_payload, labelled_payload, EncapsFault, default_unwrapped, unwrapped, Frame, Unbound, PoolFull, Record, Bad, Loss, Delivered, Dropped, Chance, is_frame, has_entry, Journal, noted, encaps_refusal, packet_refusal, ifmp_refusal, last_mark, payload_in, tested_by, next_mark, Reassembly, marks_of, broken, most_cells, passed_over, without_slot, too_long, Standing, sent_again, last_transaction, Setup, control_end, Label, is_bound, Grant, label_at, counts, used, hears, Linked, linked_at, default_channel, default_home, sends_control, sends_request, cuts_default_of, cuts_default, cuts_gsmp, node_resets, node_restarts, inputs_at, tries_joins, is_control, sends_next, goes_by, grant_by, routes, injected, control_protocol, ForGsmp, ForDefault, ForLabel, port_on, on_link, same_channel, label_taker, taker_at, taker_of, reassembly_of, with_reassembly, label_holds, ifmp_holds, counted_at, packet_holds, default_holds, frame_holds, takes_cell, sends_again, ticks_port, ticks_ports, ticks_by}
-use Rattle.world_model.specs.adjacency_table.declared.message.Answer.TheVariants.{Reset}
-use Rattle.world_model.specs.ipv4_packet.Packet.{first_fault}
-use Rattle.world_model.specs.ipv4_forward.declared.outcome.Hop.TheVariants.{NoRoute, Expired}
-use Rattle.world_model.specs.ifmp_wire.declared.message.Message.{Message}
-use Rattle.world_model.specs.ifmp_wire.declared.reader.Fault.{Fault}
-use Rattle.world_model.specs.ifmp_wire.Fields.{decoded as ifmp_decoded}
-use Rattle.world_model.specs.gsmp_wire.Fields.{decoded as gsmp_decoded}
-use Rattle.world_model.specs.link_model.declared.record.Cause.TheVariants as causes_of
-use Rattle.world_model.specs.link_model.declared.record.Layer.TheVariants as layers
-use Rattle.world_model.specs.link_model.declared.record.DropCause.TheVariants as drops
-use Rattle.world_model.specs.frame_model.Frame.{octets_of, passed}
-use Rattle.world_model.specs.frame_model.Reassembly.{Taken, taken, joined}
+use Rattle.law_controller_facts.specs.world_model.Words.{End, Channel, PortNo, Mark, Party, label_number_of, label_channel_of, Cell, Answer, Quiet, Send, Open, Said, Step, is_estab, ticked, protocol_of, source_of, PacketFault, hop_of, onward, Hop, Here, On as Onward, kind_of, default_payload, labelled_payload, EncapsFault, default_unwrapped, unwrapped, Frame, Unbound, PoolFull, Record, Bad, Loss, Delivered, Dropped, Chance, is_frame, has_entry, Journal, noted, encaps_refusal, packet_refusal, ifmp_refusal, last_mark, payload_in, tested_by, next_mark, Reassembly, marks_of, broken, most_cells, passed_over, without_slot, too_long, Standing, sent_again, last_transaction, Setup, control_end, Label, is_bound, Grant, label_at, counts, used, hears, Linked, linked_at, default_channel, default_home, sends_control, sends_request, cuts_default_of, cuts_default, cuts_gsmp, node_resets, node_restarts, inputs_at, tries_joins, is_control, sends_next, goes_by, grant_by, routes, injected, control_protocol, ForGsmp, ForDefault, ForLabel, port_on, on_link, same_channel, label_taker, taker_at, taker_of, reassembly_of, with_reassembly, label_holds, ifmp_holds, counted_at, packet_holds, default_holds, frame_holds, takes_cell, sends_again, ticks_port, ticks_ports, ticks_by}
+use Rattle.law_controller_facts.specs.world_model.adjacency_table.declared.message.Answer.TheVariants.{Reset}
+use Rattle.law_controller_facts.specs.world_model.ipv4_packet.Packet.{first_fault}
+use Rattle.law_controller_facts.specs.world_model.ipv4_forward.declared.outcome.Hop.TheVariants.{NoRoute, Expired}
+use Rattle.law_controller_facts.specs.world_model.ifmp_wire.declared.message.Message.{Message}
+use Rattle.law_controller_facts.specs.world_model.ifmp_wire.declared.reader.Fault.{Fault}
+use Rattle.law_controller_facts.specs.world_model.ifmp_wire.Fields.{decoded as ifmp_decoded}
+use Rattle.law_controller_facts.specs.world_model.gsmp_wire.Fields.{decoded as gsmp_decoded}
+use Rattle.law_controller_facts.specs.world_model.link_model.declared.record.Cause.TheVariants as causes_of
+use Rattle.law_controller_facts.specs.world_model.link_model.declared.record.Layer.TheVariants as layers
+use Rattle.law_controller_facts.specs.world_model.link_model.declared.record.DropCause.TheVariants as drops
+use Rattle.law_controller_facts.specs.world_model.frame_model.Frame.{octets_of, passed}
+use Rattle.law_controller_facts.specs.world_model.frame_model.Reassembly.{Taken, taken, joined}
 use Rattle.law_controller_facts.specs.ordered_lists.Ordered.{Every}
-use Rattle.world_model.specs.port_model.Ticks as port_ticks
+use Rattle.law_controller_facts.specs.world_model.port_model.Ticks as port_ticks
 use Rattle.law_controller_facts.specs.law_port_facts.Port.{IsShaped, Lives}
 use Rattle.law_controller_facts.proofs.law_port_facts.Keyed.{on_both, on_each}
 use Rattle.law_controller_facts.proofs.law_port_facts.Rules.{used_goes, counts_goes}
 use Rattle.law_controller_facts.proofs.law_port_facts.Hearings.{hears_goes, ticks_goes}
-use Rattle.world_model.specs.Controller.{Acted, free_slots, ports_of, note}
-use Rattle.world_model.specs.Sending.{sends}
-use Rattle.world_model.specs.Gsmp.{steps}
-use Rattle.world_model.specs.Packets.{forwarded}
-use Rattle.world_model.specs.Cells.{Taker, opened_frame, ends_frame, cell_comes}
-use Rattle.world_model.specs.Ticks.{ticks}
+use Rattle.law_controller_facts.specs.world_model.Controller.{Acted, free_slots, ports_of, note}
+use Rattle.law_controller_facts.specs.world_model.Sending.{sends}
+use Rattle.law_controller_facts.specs.world_model.Gsmp.{steps}
+use Rattle.law_controller_facts.specs.world_model.Packets.{forwarded}
+use Rattle.law_controller_facts.specs.world_model.Cells.{Taker, opened_frame, ends_frame, cell_comes}
+use Rattle.law_controller_facts.specs.world_model.Ticks.{ticks}
 use Rattle.law_controller_facts.proofs.Lifetimes.{decoded_lives}
 use Rattle.law_controller_facts.proofs.Moves.{HasPorts, by_rule, Found, found_at_own, found_port, moves_ports}
 use Rattle.law_controller_facts.proofs.Performing.{Any, any_ports, node_restarts_goes}

@@ -3,16 +3,16 @@
 use Rattle.std.proofs.Common.{◌≡◌, ℕ, ◌<◌, Bool, true, false, List, [], ◌∷◌, ◌++◌, length, Option, None, Some, refl, sym, ◌∙◌, ap, subst, fold, if◌then◌else◌}
 use Rattle.std.specs.Prelude.{◌&&◌, not, nat_lt, is_none, flat_map}
 use Rattle.std.specs.Option.{option_map}
-use Rattle.world_model.specs.Words.{End, PortNo, number_of_channel, Cell, best, RouteChange, FlowId, next_hop_of, same_flow, flow_destination, Request, MoveBranch, same_end, Frame, Part, at, on_input, most_asked, Setup, home_of, label_end, Label, Offered, label_number, Grant, ByController, grant_label, grant_for, is_by_controller, labels_of, closes, Linked, linked_at, route_stays, joins_of, join_of, parts, releases_join, releases_input, released_inputs, resets_spent, releases, join_through, join_by, port_by, join_for, is_offered, may_join, enters_grant, enters_label, joins, tries_label, label_on, tries_join, inputs_at, tries_joins, is_changed, changed_joins, takes_join_back, begins_change, takes_change, may_take, takes_each, takes_changes, change_comes}
+use Rattle.law_controller_facts.specs.world_model.Words.{End, PortNo, number_of_channel, Cell, best, RouteChange, FlowId, next_hop_of, same_flow, flow_destination, Request, MoveBranch, same_end, Frame, Part, at, on_input, most_asked, Setup, home_of, label_end, Label, Offered, label_number, Grant, ByController, grant_label, grant_for, is_by_controller, labels_of, closes, Linked, linked_at, route_stays, joins_of, join_of, parts, releases_join, releases_input, released_inputs, resets_spent, releases, join_through, join_by, port_by, join_for, is_offered, may_join, enters_grant, enters_label, joins, tries_label, label_on, tries_join, inputs_at, tries_joins, is_changed, changed_joins, takes_join_back, begins_change, takes_change, may_take, takes_each, takes_changes, change_comes}
 use Rattle.law_controller_facts.specs.ordered_lists.Ordered.{Every}
 use Rattle.law_controller_facts.proofs.ordered_lists.Every.{every_map}
-use Rattle.world_model.specs.port_model.Joins as port_joins
+use Rattle.law_controller_facts.specs.world_model.port_model.Joins as port_joins
 use Rattle.law_controller_facts.specs.law_port_facts.Port.{IsLabelEnd, parts_label, joins_label}
 use Rattle.law_controller_facts.proofs.law_port_facts.Keyed.{on_both, apart_at}
 use Rattle.law_controller_facts.proofs.law_port_facts.Found.{find_every, find_passes}
 use Rattle.law_controller_facts.proofs.law_port_facts.Rules.{and_first}
-use Rattle.world_model.specs.Controller.{Acted, ports_of, note}
-use Rattle.world_model.specs.Joins.{Join, output_of}
+use Rattle.law_controller_facts.specs.world_model.Controller.{Acted, ports_of, note}
+use Rattle.law_controller_facts.specs.world_model.Joins.{Join, output_of}
 use Rattle.law_controller_facts.proofs.Moves.{HasPorts, Found, by_closing, by_parting, by_giving_back, by_joining, by_lending, found_at_own, found_port}
 use Rattle.law_controller_facts.proofs.Joining.{every_flat_map, every_filter, IsJoin, joins_are, join_input, join_output, each_there, granted_there, parts_grants, AnyEnd, any_ends, image_is}
 use Rattle.law_controller_facts.proofs.Performing.{Any, any_ports}

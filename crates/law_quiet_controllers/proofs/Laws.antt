@@ -1,10 +1,10 @@
 -- each event leaves a controller quiet, and so it asks no more than it did
 
 use Rattle.std.proofs.Common.{List, ◌⊎◌, inl, inr}
-use Rattle.world_model.specs.Words.{End, Setup, node_restarts, change_comes, injected}
-use Rattle.world_model.specs.Controller.{Acted}
-use Rattle.world_model.specs.Cells.{cell_comes}
-use Rattle.world_model.specs.Ticks.{ticks}
+use Rattle.law_controller_facts.specs.world_model.Words.{End, Setup, node_restarts, change_comes, injected}
+use Rattle.law_controller_facts.specs.world_model.Controller.{Acted}
+use Rattle.law_controller_facts.specs.world_model.Cells.{cell_comes}
+use Rattle.law_controller_facts.specs.world_model.Ticks.{ticks}
 use Rattle.law_quiet_controllers.specs.Quiet.{IsQuiet}
 use Rattle.law_quiet_controllers.specs.Law.{IsAtWork, Asks, AsksNoMore, NoJoin, TickEnters, StaysQuiet}
 use Rattle.law_quiet_controllers.proofs.Beginning.{begins_quiet, asked_may}

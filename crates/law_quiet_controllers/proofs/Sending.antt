@@ -4,17 +4,17 @@ use Rattle.std.proofs.Common.{◌≡◌, ◌≢◌, ℕ, ◌+◌, ◌<◌, ◌�
 use Rattle.std.specs.Prelude.{◌/◌, nat_le}
 use Rattle.std.specs.List.{range_with_len}
 use Rattle.std.specs.Option.{option_and_then}
-use Rattle.world_model.specs.Words.{Channel, End, Mark, next_control, with_control, Cell, Request, AddBranch, MoveBranch, Frame, Loss, PoolFull, payload_of, same_mark, noted, frame_cells, made, Desk, Standing, last_transaction, Setup, home_of, Controller, default_channel, same_channel, sends_control, gsmp_of, copy_of, copy_under}
+use Rattle.law_controller_facts.specs.world_model.Words.{Channel, End, Mark, next_control, with_control, Cell, Request, AddBranch, MoveBranch, Frame, Loss, PoolFull, payload_of, same_mark, noted, frame_cells, made, Desk, Standing, last_transaction, Setup, home_of, Controller, default_channel, same_channel, sends_control, gsmp_of, copy_of, copy_under}
 use Rattle.law_actor_pace.specs.aal5_frames.Frame.{cells_with, cell_of, pdu_of}
-use Rattle.world_model.proofs.link_model.Latest.{payload_of_push}
-use Rattle.world_model.proofs.link_model.Marks.{same_mark-Decides}
-use Rattle.world_model.specs.frame_model.Sending.{Sent}
+use Rattle.law_controller_facts.proofs.world_model.link_model.Latest.{payload_of_push}
+use Rattle.law_controller_facts.proofs.world_model.link_model.Marks.{same_mark-Decides}
+use Rattle.law_controller_facts.specs.world_model.frame_model.Sending.{Sent}
 use Rattle.law_controller_facts.specs.ordered_lists.Ordered.{Every}
 use Rattle.law_controller_facts.proofs.ordered_lists.Every.{every_join, every_map}
 use Rattle.law_controller_facts.specs.law_port_facts.Port.{IsShaped, asks_ports, empties_control, empties_port, opens_input, opens_output, leads_label, leads_grant, joins_label, parts_label, frees_label, MovesNone}
 use Rattle.law_controller_facts.proofs.law_port_facts.Keyed.{on_both}
-use Rattle.world_model.specs.Controller.{Acted, free_slots}
-use Rattle.world_model.specs.Sending.{with_cells, sends}
+use Rattle.law_controller_facts.specs.world_model.Controller.{Acted, free_slots}
+use Rattle.law_controller_facts.specs.world_model.Sending.{with_cells, sends}
 use Rattle.law_controller_facts.proofs.Moves.{HasPorts, sending, moves_to, moves_ports}
 use Rattle.law_quiet_controllers.specs.Quiet.{May, asked_by, AreRead, IsFine, IsMeant, waited, fresh, carries, elsewhere, AskTheSame, IsQuiet}
 

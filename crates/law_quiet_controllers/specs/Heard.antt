@@ -2,14 +2,14 @@
 -- such as its messages can be read by
 
 use Rattle.std.specs.Prelude.{◌≡◌, ◌≢◌, ℕ, ◌≤◌, ◌==◌, true, false, nat_lt, List, ◌∷◌, Some, Ok}
-use Rattle.world_model.specs.Words.{Mark, Cell, hop_of, On, PortNo, payload_in, Setup, Controller, is_control, ForGsmp, ForDefault, ForLabel, taker_of, reassembly_of}
-use Rattle.world_model.specs.gsmp_wire.Fields.{decoded}
-use Rattle.world_model.specs.gsmp_wire.declared.message.Message.{Message}
-use Rattle.world_model.specs.gsmp_wire.declared.message.Message.TheVariants.{AllPorts}
-use Rattle.world_model.specs.frame_model.Frame.{octets_of}
-use Rattle.world_model.specs.frame_model.Reassembly.{taken}
-use Rattle.world_model.specs.Controller.{Acted, free_slots}
-use Rattle.world_model.specs.Cells.{Taker}
+use Rattle.law_controller_facts.specs.world_model.Words.{Mark, Cell, hop_of, On, PortNo, payload_in, Setup, Controller, is_control, ForGsmp, ForDefault, ForLabel, taker_of, reassembly_of}
+use Rattle.law_controller_facts.specs.world_model.gsmp_wire.Fields.{decoded}
+use Rattle.law_controller_facts.specs.world_model.gsmp_wire.declared.message.Message.{Message}
+use Rattle.law_controller_facts.specs.world_model.gsmp_wire.declared.message.Message.TheVariants.{AllPorts}
+use Rattle.law_controller_facts.specs.world_model.frame_model.Frame.{octets_of}
+use Rattle.law_controller_facts.specs.world_model.frame_model.Reassembly.{taken}
+use Rattle.law_controller_facts.specs.world_model.Controller.{Acted, free_slots}
+use Rattle.law_controller_facts.specs.world_model.Cells.{Taker}
 use Rattle.law_quiet_controllers.specs.Quiet.{AreRead}
 
 abbrev pub RowsAreRead : List Setup → Message → Type 0

@@ -2,13 +2,13 @@
 -- what did before it, and at a tick the joins that it enters
 
 use Rattle.std.specs.Prelude.{◌≡◌, ◌≢◌, ℕ, ◌<◌, ◌≤◌, ◌⊎◌, true, List, [], flat_map, Contains, None, Some}
-use Rattle.world_model.specs.Words.{End, Mark, Cell, ticked, RouteChange, Standing, last_transaction, Setup, default_channel, node_restarts, inputs_at, change_comes, injected, same_channel, sends_again, ticks_ports, copy_under, leads}
-use Rattle.world_model.specs.adjacency_table.declared.message.Answer.TheVariants.{Reset}
+use Rattle.law_controller_facts.specs.world_model.Words.{End, Mark, Cell, ticked, RouteChange, Standing, last_transaction, Setup, default_channel, node_restarts, inputs_at, change_comes, injected, same_channel, sends_again, ticks_ports, copy_under, leads}
+use Rattle.law_controller_facts.specs.world_model.adjacency_table.declared.message.Answer.TheVariants.{Reset}
 use Rattle.law_controller_facts.specs.ordered_lists.Ordered.{Every}
-use Rattle.world_model.specs.Controller.{Acted}
-use Rattle.world_model.specs.Gsmp.{steps}
-use Rattle.world_model.specs.Cells.{cell_comes}
-use Rattle.world_model.specs.Ticks.{ticks}
+use Rattle.law_controller_facts.specs.world_model.Controller.{Acted}
+use Rattle.law_controller_facts.specs.world_model.Gsmp.{steps}
+use Rattle.law_controller_facts.specs.world_model.Cells.{cell_comes}
+use Rattle.law_controller_facts.specs.world_model.Ticks.{ticks}
 use Rattle.law_controller_facts.specs.Sound.{ArePorts, AreShaped}
 use Rattle.law_quiet_controllers.specs.Quiet.{AreRead, Enters}
 use Rattle.law_quiet_controllers.specs.Heard.{LeadsToLinks, CanCome}

@@ -2,12 +2,12 @@
 
 use Rattle.std.specs.Prelude.{◌≡◌, ◌≢◌, ℕ, ◌<◌, ◌≤◌, false, List, ◌∷◌, Contains, Option, None, Some, if◌then◌else◌}
 use Rattle.std.specs.Option.{option_and_then}
-use Rattle.world_model.specs.Words.{End, Mark, Cell, Request, PortRow, Frame, Standing, last_transaction, message_of, Setup, Label, Controller, default_channel, same_channel, join_for, may_join, label_on, tries_join, gsmp_of, copy_of, copy_under, leads}
-use Rattle.world_model.specs.gsmp_wire.Layout.{octets_of}
+use Rattle.law_controller_facts.specs.world_model.Words.{End, Mark, Cell, Request, PortRow, Frame, Standing, last_transaction, message_of, Setup, Label, Controller, default_channel, same_channel, join_for, may_join, label_on, tries_join, gsmp_of, copy_of, copy_under, leads}
+use Rattle.law_controller_facts.specs.world_model.gsmp_wire.Layout.{octets_of}
 use Rattle.law_controller_facts.specs.ordered_lists.Ordered.{Every}
 use Rattle.law_controller_facts.specs.law_port_facts.Port.{IsShaped}
-use Rattle.world_model.specs.Controller.{Acted}
-use Rattle.world_model.specs.Joins.{Join, output_of}
+use Rattle.law_controller_facts.specs.world_model.Controller.{Acted}
+use Rattle.law_controller_facts.specs.world_model.Joins.{Join, output_of}
 use Rattle.law_controller_facts.specs.Sound.{ArePorts, AreShaped}
 
 -- *A request* leads from one label to another only where it may

@@ -35,9 +35,9 @@ use Rattle.law_running_worlds.proofs.MadeTame.{whole_chain}
 use Rattle.law_quiet_rounds.specs.law_packet_worlds.Channels.{HasChannels}
 use Rattle.law_quiet_rounds.proofs.law_packet_worlds.Behind.{IsUser, cell_uses}
 use Rattle.law_quiet_rounds.proofs.law_packet_worlds.Headings.{own_there}
-use Rattle.law_controller_weights.specs.law_quiet.Costs.{total}
-use Rattle.law_controller_weights.specs.law_quiet.Weights.{Bearing, ToSwitch, Bound, bearing_on, bearing_of, cell_weight, place_at, site_weight, weight}
-use Rattle.law_controller_weights.specs.law_quiet.Law.{WeighsLess}
+use Rattle.law_controller_weights.specs.claims_model.Costs.{total}
+use Rattle.law_controller_weights.specs.claims_model.Weights.{Bearing, ToSwitch, Bound, bearing_on, bearing_of, cell_weight, place_at, site_weight, weight}
+use Rattle.law_controller_weights.specs.claims_model.Quiet.{WeighsLess}
 use Rattle.law_controller_weights.specs.Coming.{coming_cost}
 use Rattle.law_controller_weights.proofs.Paid as controllers_paid
 use Rattle.law_quiet_rounds.specs.law_switch_weights.Coming.{asking_weight, Pays}

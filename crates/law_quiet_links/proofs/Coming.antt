@@ -29,7 +29,7 @@ use Rattle.law_running_worlds.specs.law_run_facts.Nodes.{IsNodeOfRun}
 use Rattle.law_quiet_rounds.proofs.law_packet_worlds.Behind.{IsUser}
 use Rattle.law_quiet_rounds.proofs.law_packet_worlds.Hops as laws
 use Rattle.law_quiet_rounds.proofs.law_packet_worlds.Worlds.{port_above}
-use Rattle.law_controller_weights.specs.law_quiet.Weights.{Bound, hops_at}
+use Rattle.law_controller_weights.specs.claims_model.Weights.{Bound, hops_at}
 use Rattle.law_controller_weights.specs.law_action_weights.Fine.{HaveOwnNumbers, IsOfLink, IsFine}
 use Rattle.law_controller_weights.specs.Coming.{IsToldGrant, HasToldGrants, Brings}
 

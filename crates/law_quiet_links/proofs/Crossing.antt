@@ -7,8 +7,8 @@ use Rattle.world_model.specs.Words.{NodeId, PortNo, Down, Up, Channel, channel_o
 use Rattle.world_model.specs.ipv4_packet.declared.flow.FlowId.TheVariants as flows
 use Rattle.world_model.specs.network_model.declared.link.LinkEnd.{LinkEnd}
 use Rattle.world_model.specs.Topology.{peer_of}
-use Rattle.law_controller_weights.specs.law_quiet.Costs.{forwarding}
-use Rattle.law_controller_weights.specs.law_quiet.Weights.{Bearing, ToSwitch, ToController, Plain, Labelled, Bound, bearing_on, bearing_of, hops_at, hops_of, cost_of}
+use Rattle.law_controller_weights.specs.claims_model.Costs.{forwarding}
+use Rattle.law_controller_weights.specs.claims_model.Weights.{Bearing, ToSwitch, ToController, Plain, Labelled, Bound, bearing_on, bearing_of, hops_at, hops_of, cost_of}
 use Rattle.law_quiet_rounds.proofs.law_packet_worlds.Headings.{port_is, link_is}
 
 -- *The bearing decides* what a cell weighs, and its stage

@@ -18,7 +18,7 @@ use Rattle.law_running_worlds.proofs.law_causes.Shown.{IsPeer, peer_back}
 use Rattle.law_running_worlds.specs.law_run_facts.Nodes.{IsNodeOfRun}
 use Rattle.law_quiet_rounds.proofs.law_packet_worlds.Behind.{IsUser}
 use Rattle.law_quiet_rounds.proofs.law_packet_worlds.Headings.{label_is, no_default}
-use Rattle.law_controller_weights.specs.law_quiet.Weights.{Bearing, Bound, bearing_on, bearing_out, bearing_of, hops_at, cell_weight, place_at}
+use Rattle.law_controller_weights.specs.claims_model.Weights.{Bearing, Bound, bearing_on, bearing_out, bearing_of, hops_at, cell_weight, place_at}
 use Rattle.law_quiet_links.proofs.Crossing.{bears, from_home, to_home, on_label, next_ttl, one_hop_less}
 
 -- *A site of a run*: its branches, and the ports of its labels

@@ -21,8 +21,8 @@ use Rattle.law_quiet_rounds.proofs.law_packet_worlds.Behind.{IsUser, cell_uses}
 use Rattle.law_quiet_rounds.proofs.law_packet_worlds.Meant.{IsProper}
 use Rattle.law_quiet_rounds.proofs.law_packet_worlds.Headings.{own_is, own_there}
 use Rattle.law_quiet_rounds.proofs.law_packet_worlds.Worlds.{port_above}
-use Rattle.law_controller_weights.specs.law_quiet.Costs.{greeting_weight, asking_cost, answering_cost, if_said, switch_cost, controller_cost, default_cost, forwarding}
-use Rattle.law_controller_weights.specs.law_quiet.Weights.{Bearing, ToSwitch, ToController, Plain, Labelled, Bound, bearing_on, bearing_out, bearing_of, hops_at, hops_of, cost_of, cell_weight}
+use Rattle.law_controller_weights.specs.claims_model.Costs.{greeting_weight, asking_cost, answering_cost, if_said, switch_cost, controller_cost, default_cost, forwarding}
+use Rattle.law_controller_weights.specs.claims_model.Weights.{Bearing, ToSwitch, ToController, Plain, Labelled, Bound, bearing_on, bearing_out, bearing_of, hops_at, hops_of, cost_of, cell_weight}
 
 -- *A frame of GSMP* weighs as a SYN at most
 kind_less : (kind : HelloKind) → greeting_weight kind ≤ greeting_weight Syn

@@ -7,11 +7,12 @@ use Rattle.world_model.specs.network_model.declared.event.Event.{Event}
 use Rattle.world_model.specs.network_model.declared.event.Event.TheVariants.{Carry}
 use Rattle.world_model.specs.World.{opened}
 use Rattle.law_running_worlds.specs.law_world_views.Between.{IsWorld}
-use Rattle.law_running_worlds.specs.law_world_views.Kept.{HasAddresses, Comes, BindsUnusedAt}
+use Rattle.law_running_worlds.specs.law_world_views.Kept.{Comes, BindsUnusedAt}
+use Rattle.law_running_worlds.specs.law_world_views.Fronts.{HasAddresses}
 use Rattle.law_ownership.specs.Places.{HasPlaces}
 use Rattle.law_quiet_rounds.specs.law_packet_worlds.Channels.{HasChannels}
-use Rattle.law_controller_weights.specs.law_quiet.Weights.{weight}
-use Rattle.law_controller_weights.specs.law_quiet.Law.{WeighsLess, carried, finds}
+use Rattle.law_controller_weights.specs.claims_model.Weights.{weight}
+use Rattle.law_controller_weights.specs.claims_model.Quiet.{WeighsLess, carried, finds}
 
 -- *Each carry* that comes to a network with all that is so of every one makes it lighter where it finds a cell
 abbrev pub CarriesWeighLess : Type 0

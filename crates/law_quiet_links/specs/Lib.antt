@@ -1,2 +1,2 @@
-pub use Rattle.law_controller_weights.specs.law_quiet as law_quiet
+pub use Rattle.law_controller_weights.specs.claims_model as claims_model
 pub mod Law

@@ -1,5 +1,5 @@
 //! Termination of carrying: each carry that finds a cell makes the world of a run lighter, by the measure of
-//! `law_quiet`, so after as many rounds as a world weighs no queue holds a cell. And then each packet that was
+//! `claims_model`, so after as many rounds as a world weighs no queue holds a cell. And then each packet that was
 //! accepted has its one fate, or an entry in the ledger.
 //!
 //! `specs/Law` has the statements. A label that cells are on isn't bound anew, and frames that were made stay, so no cell

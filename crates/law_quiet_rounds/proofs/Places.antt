@@ -10,7 +10,7 @@ use Rattle.world_model.specs.Controller.{ports_of}
 use Rattle.world_model.specs.Topology as topologies
 use Rattle.world_model.specs.World.{opened}
 use Rattle.law_packet_worlds.specs.law_world_views.Between.{EachSite}
-use Rattle.law_packet_worlds.specs.law_world_views.Kept.{HasAddresses}
+use Rattle.law_packet_worlds.specs.law_world_views.Fronts.{HasAddresses}
 use Rattle.law_packet_worlds.proofs.Nets.{world_net}
 use Rattle.law_packet_worlds.specs.law_run_facts.Nodes.{IsNodeOfRun, HasSite}
 use Rattle.law_packet_worlds.proofs.law_run_facts.Nodes.{runs_have_nodes}

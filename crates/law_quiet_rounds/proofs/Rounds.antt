@@ -9,9 +9,9 @@ use Rattle.law_packet_worlds.specs.ordered_lists.Ordered.{Every}
 use Rattle.world_model.specs.network_model.declared.event.Event.{Event}
 use Rattle.world_model.specs.network_model.declared.event.Event.TheVariants.{Carry}
 use Rattle.law_packet_worlds.proofs.law_run_facts.Steps.{events_are_steps}
-use Rattle.law_switch_weights.specs.law_quiet.Costs.{total}
-use Rattle.law_switch_weights.specs.law_quiet.Weights.{stage, cell_weight, place_at, queues_weight, site_weight, weight}
-use Rattle.law_switch_weights.specs.law_quiet.Law.{found, finds, WeighsLess}
+use Rattle.law_switch_weights.specs.claims_model.Costs.{total}
+use Rattle.law_switch_weights.specs.claims_model.Weights.{stage, cell_weight, place_at, queues_weight, site_weight, weight}
+use Rattle.law_switch_weights.specs.claims_model.Quiet.{found, finds, WeighsLess}
 use Rattle.law_quiet_rounds.proofs.Sites.{one_found}
 
 -- *A cell weighs 1 at least*

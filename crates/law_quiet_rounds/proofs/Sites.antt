@@ -10,8 +10,8 @@ use Rattle.law_packet_worlds.proofs.law_port_facts.Keyed.{at_key, each_found, at
 use Rattle.world_model.specs.Switch as switches
 use Rattle.world_model.specs.Controller as controllers
 use Rattle.world_model.specs.World.{at_controller, at_switch}
-use Rattle.law_switch_weights.specs.law_quiet.Costs.{total}
-use Rattle.law_switch_weights.specs.law_quiet.Weights.{place_at, queues_weight, controller_weight, site_weight}
+use Rattle.law_switch_weights.specs.claims_model.Costs.{total}
+use Rattle.law_switch_weights.specs.claims_model.Weights.{place_at, queues_weight, controller_weight, site_weight}
 use Rattle.law_switch_weights.proofs.law_port_weights.Sums.{total_put}
 use Rattle.law_switch_weights.proofs.Queues.{leaves_queue}
 

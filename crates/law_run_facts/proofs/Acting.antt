@@ -1,14 +1,14 @@
 -- what a controller and a switch leave of a world: marks that were given out, and new instances
 
 use Rattle.std.proofs.Common.{◌≡◌, ℕ, ◌<◌, ◌≤◌, ◌+◌, List, length, Option, None, Some, refl, sym, ◌∙◌, ap, subst, arith, ◌⊎◌, inl, inr}
-use Rattle.world_model.specs.Words.{NodeId, Channel, GivenOut, Cell, Next, Loss, noted, at, Setup, Controller, sends_control, Mark, frame_cells, made, PoolFull, setup_of, with_site, World, Site, site_key, site_at, controller_acts, switch_acts}
+use Rattle.law_world_pace.specs.world_model.Words.{NodeId, Channel, GivenOut, Cell, Next, Loss, noted, at, Setup, Controller, sends_control, Mark, frame_cells, made, PoolFull, setup_of, with_site, World, Site, site_key, site_at, controller_acts, switch_acts}
 use Rattle.law_controller_bindings.specs.ordered_lists.Ordered.{Every}
 use Rattle.law_controller_bindings.proofs.law_port_facts.Keyed.{on_both, at_key, at_every, put_every}
-use Rattle.world_model.specs.Switch as switches
-use Rattle.world_model.specs.Controller.{Acted, free_slots}
-use Rattle.world_model.specs.Sending.{with_cells}
+use Rattle.law_world_pace.specs.world_model.Switch as switches
+use Rattle.law_world_pace.specs.world_model.Controller.{Acted, free_slots}
+use Rattle.law_world_pace.specs.world_model.Sending.{with_cells}
 use Rattle.std.specs.Prelude.{nat_le}
-use Rattle.world_model.specs.frame_model.Sending.{Sent}
+use Rattle.law_world_pace.specs.world_model.frame_model.Sending.{Sent}
 use Rattle.law_controller_bindings.specs.law_controller_facts.Inputs.{Input, takes_input}
 use Rattle.law_controller_bindings.specs.law_controller_facts.Sound.{IsSound, IsOwn, setups_by}
 use Rattle.law_controller_bindings.proofs.law_controller_facts.Laws.{always_sound, input_draws, input_draws_marks}
@@ -21,7 +21,7 @@ use Rattle.law_run_facts.proofs.Owns.{own_in, IsDrawn, is_drawn, Owns, input_own
 use Rattle.law_run_facts.proofs.Controllers as controllers
 use Rattle.law_run_facts.proofs.Controllers.{IsLeft, input_leaves}
 use Rattle.law_lifetimes.proofs.Opened.{IsFed}
-use Rattle.world_model.specs.World.{at_controller, at_switch}
+use Rattle.law_world_pace.specs.world_model.World.{at_controller, at_switch}
 use Rattle.law_run_facts.specs.Drawn.{Holder, own_at, IsNew, Draws}
 use Rattle.law_run_facts.proofs.Marked.{node_of, kind_of, own_is, own_found, Kind, IsController, IsSwitch, IsPort, own_as, SiteMarked, WorldMarked, sites_later, site_later, Popped, site_draws}
 

@@ -2,20 +2,20 @@
 
 use Rattle.std.proofs.Common.{◌≡◌, ℕ, zero, suc, ◌+◌, ◌≤◌, List, [], ◌∷◌, ◌++◌, length, slice_get, Option, None, Some, refl, sym, ◌∙◌, ap, subst, arith, append-nil, append_assoc, inl, inr}
 use Rattle.std.specs.Option.{option_map, option_or}
-use Rattle.world_model.specs.Words.{NodeId, PortNo, GivenOut, Record, Journal, at, Policy, Controller, Topology, Node, node_at, World, Site, site_key, site_at, controller_at, opened_site, with_opened, opens_each, empty_world, IsTopology, put_away, next, world_after, past_of, last_bound}
+use Rattle.law_world_pace.specs.world_model.Words.{NodeId, PortNo, GivenOut, Record, Journal, at, Policy, Controller, Topology, Node, node_at, World, Site, site_key, site_at, controller_at, opened_site, with_opened, opens_each, empty_world, IsTopology, put_away, next, world_after, past_of, last_bound}
 use Rattle.law_controller_bindings.specs.ordered_lists.Ordered.{Every}
-use Rattle.world_model.specs.Controller.{Acted}
+use Rattle.law_world_pace.specs.world_model.Controller.{Acted}
 use Rattle.law_controller_bindings.specs.law_controller_facts.Inputs.{Input, Meanwhile, takes_input, takes_inputs}
 use Rattle.law_controller_bindings.specs.law_controller_facts.Sound.{IsOwn, Opening, opened_by}
 use Rattle.law_controller_bindings.specs.Bindings as bindings
 use Rattle.law_controller_bindings.specs.Bindings.{noted_by, noted_by_all}
 use Rattle.law_run_facts.proofs.Frames.{bound_then}
-use Rattle.law_lifetimes.specs.Run.{acted_in, comes_to}
+use Rattle.law_lifetimes.specs.Lifetimes.{acted_in, comes_to}
 use Rattle.law_lifetimes.proofs.Opened.{opening_of, IsFed, opening_fed}
 use Rattle.law_lifetimes.proofs.Feeding.{after_of, inputs_join}
 use Rattle.law_lifetimes.proofs.Runs.{next_there, run_fed}
-use Rattle.world_model.specs.network_model.declared.event.Event.{Event}
-use Rattle.world_model.specs.World.{opened}
+use Rattle.law_world_pace.specs.world_model.network_model.declared.event.Event.{Event}
+use Rattle.law_world_pace.specs.world_model.World.{opened}
 use Rattle.law_run_facts.proofs.Marked.{WorldMarked}
 use Rattle.law_run_facts.proofs.Opening.{found_more}
 use Rattle.law_run_facts.proofs.Runs.{Any, any_marked}

@@ -2,24 +2,24 @@
 
 use Rattle.std.proofs.Common.{◌≡◌, ℕ, suc, ◌+◌, List, [], ◌∷◌, ◌++◌, Option, None, Some, refl, sym, ap, subst}
 use Rattle.std.specs.Option.{option_map, option_map_or}
-use Rattle.world_model.specs.Words.{NodeId, PortNo, Place, Down, Up, Out, Channel, next_control, with_control, Cell, Refusal, Forged, Policy, control_port, Controller, inject_refusal, injected, node_restarts, change_comes, Topology, Node, World, Site, site_key, site_at, controller_acts, switch_acts, opened_site, with_opened, opens_each, empty_world, place_node, queue_at, with_queue_in, with_queue_of, with_queue, injects_by, arrives_at, arrives, carries_head, loses_head, forges_at, forges, put_away, next, world_after, answers_chain_at, requests_chain_at}
+use Rattle.law_world_pace.specs.world_model.Words.{NodeId, PortNo, Place, Down, Up, Out, Channel, next_control, with_control, Cell, Refusal, Forged, Policy, control_port, Controller, inject_refusal, injected, node_restarts, change_comes, Topology, Node, World, Site, site_key, site_at, controller_acts, switch_acts, opened_site, with_opened, opens_each, empty_world, place_node, queue_at, with_queue_in, with_queue_of, with_queue, injects_by, arrives_at, arrives, carries_head, loses_head, forges_at, forges, put_away, next, world_after, answers_chain_at, requests_chain_at}
 use Rattle.law_controller_bindings.specs.ordered_lists.Ordered.{Every}
 use Rattle.law_controller_bindings.proofs.ordered_lists.Every.{every_join}
 use Rattle.law_controller_bindings.proofs.law_port_facts.Keyed.{at_every, put_every, every_more}
-use Rattle.world_model.specs.Switch as switches
-use Rattle.world_model.specs.Conduct as switch
-use Rattle.world_model.specs.Controller.{Acted}
-use Rattle.world_model.specs.Sending.{sends}
-use Rattle.world_model.specs.Cells as controller
-use Rattle.world_model.specs.Ticks as controller_ticks
+use Rattle.law_world_pace.specs.world_model.Switch as switches
+use Rattle.law_world_pace.specs.world_model.Conduct as switch
+use Rattle.law_world_pace.specs.world_model.Controller.{Acted}
+use Rattle.law_world_pace.specs.world_model.Sending.{sends}
+use Rattle.law_world_pace.specs.world_model.Cells as controller
+use Rattle.law_world_pace.specs.world_model.Ticks as controller_ticks
 use Rattle.law_controller_bindings.specs.law_controller_facts.Inputs.{Input, CellComes, PacketEnters, Ticks, Restarts, ChangeComes, FrameIsForged, enters_unless, takes_input}
 use Rattle.law_run_facts.specs.Inputs as turns
-use Rattle.world_model.specs.network_model.declared.event.Event.{Event}
-use Rattle.world_model.specs.network_model.declared.event.Event.TheVariants.{Inject, Carry, Lose, Tick, TickSwitch, Restart, RestartSwitch, Forge, Route}
-use Rattle.world_model.specs.network_model.declared.link.LinkEnd.{LinkEnd}
-use Rattle.world_model.specs.Topology.{peer_of}
-use Rattle.world_model.specs.World.{at_controller, at_switch, opened}
-use Rattle.world_model.specs.Step.{note, acts}
+use Rattle.law_world_pace.specs.world_model.network_model.declared.event.Event.{Event}
+use Rattle.law_world_pace.specs.world_model.network_model.declared.event.Event.TheVariants.{Inject, Carry, Lose, Tick, TickSwitch, Restart, RestartSwitch, Forge, Route}
+use Rattle.law_world_pace.specs.world_model.network_model.declared.link.LinkEnd.{LinkEnd}
+use Rattle.law_world_pace.specs.world_model.Topology.{peer_of}
+use Rattle.law_world_pace.specs.world_model.World.{at_controller, at_switch, opened}
+use Rattle.law_world_pace.specs.world_model.Step.{note, acts}
 use Rattle.law_run_facts.specs.Chains.{HasOwnChains, RunsHaveOwnChains}
 use Rattle.law_run_facts.proofs.Gathering.{IsOwn, input_chain, sends_same, switch_chain}
 use Rattle.law_run_facts.proofs.Numbers.{some_of}

@@ -2,12 +2,12 @@
 
 use Rattle.std.proofs.Common.{◌≡◌, Bool, true, false, List, [], ◌∷◌, Option, None, Some, subst, if◌then◌else◌}
 use Rattle.std.specs.Prelude.{◌==◌, ◌+◌}
-use Rattle.world_model.specs.Words.{NodeId, Down, Up, Out, next_control, Cell, World, queue_at}
+use Rattle.law_world_pace.specs.world_model.Words.{NodeId, Down, Up, Out, next_control, Cell, World, queue_at}
 use Rattle.law_controller_bindings.specs.law_controller_facts.Inputs.{Input, PacketEnters, Ticks, Restarts, ChangeComes, FrameIsForged}
 use Rattle.law_controller_bindings.specs.law_controller_facts.Sound.{IsOwn}
-use Rattle.law_lifetimes.specs.Run.{if_at, head_comes, head_leaves, comes_to}
-use Rattle.world_model.specs.network_model.declared.event.Event.{Event}
-use Rattle.world_model.specs.network_model.declared.event.Event.TheVariants.{Inject, Carry, Lose, Tick, TickSwitch, Restart, RestartSwitch, Forge, Route}
+use Rattle.law_lifetimes.specs.Lifetimes.{if_at, head_comes, head_leaves, comes_to}
+use Rattle.law_world_pace.specs.world_model.network_model.declared.event.Event.{Event}
+use Rattle.law_world_pace.specs.world_model.network_model.declared.event.Event.TheVariants.{Inject, Carry, Lose, Tick, TickSwitch, Restart, RestartSwitch, Forge, Route}
 
 abbrev IsOwnIf : Option Input → Type 0
 IsOwnIf None = Unit {0}

@@ -2,20 +2,20 @@
 
 use Rattle.std.proofs.Common.{◌≡◌, ℕ, Bool, true, false, List, [], ◌∷◌, ◌++◌, Option, None, Some, Result, Ok, Err, refl, sym, ◌∙◌, subst, drop}
 use Rattle.std.specs.Prelude.{◌+◌, ◌==◌, nat_lt}
-use Rattle.world_model.specs.Words.{PortNo, Channel, Mark, Cell, protocol_of, source_of, PacketFault, changed, hop_of, onward, RouteChange, Hop, Here, On, kind_of, default_payload, labelled_payload, default_unwrapped, unwrapped, EncapsFault, Frame, Journal, last_mark, next_mark, Tested, tested, control_end, Label, Grant, hears, counts, used, Linked, chain_of, chains_with, default_channel, default_home, sends_control, is_control, sends_next, goes_by, grant_by, routes, control_protocol, ForGsmp, ForDefault, ForLabel, taker_of, reassembly_of, with_reassembly, label_holds, ifmp_holds, counted_at, packet_holds, default_holds, frame_holds, takes_cell, same_channel}
-use Rattle.world_model.specs.ipv4_packet.Packet.{first_fault}
-use Rattle.world_model.specs.ipv4_forward.declared.outcome.Hop.TheVariants.{NoRoute, Expired}
-use Rattle.world_model.specs.ipv4_forward.declared.table.Route.{Route}
-use Rattle.world_model.specs.ifmp_wire.declared.message.Message.{Message as IfmpMessage}
-use Rattle.world_model.specs.ifmp_wire.declared.reader.Fault.{Fault as IfmpFault}
-use Rattle.world_model.specs.ifmp_wire.Fields.{decoded as ifmp_decoded}
-use Rattle.world_model.specs.gsmp_wire.Fields.{decoded as gsmp_decoded}
-use Rattle.world_model.specs.frame_model.Reassembly.{Taken, taken}
+use Rattle.law_world_pace.specs.world_model.Words.{PortNo, Channel, Mark, Cell, protocol_of, source_of, PacketFault, changed, hop_of, onward, RouteChange, Hop, Here, On, kind_of, default_payload, labelled_payload, default_unwrapped, unwrapped, EncapsFault, Frame, Journal, last_mark, next_mark, Tested, tested, control_end, Label, Grant, hears, counts, used, Linked, chain_of, chains_with, default_channel, default_home, sends_control, is_control, sends_next, goes_by, grant_by, routes, control_protocol, ForGsmp, ForDefault, ForLabel, taker_of, reassembly_of, with_reassembly, label_holds, ifmp_holds, counted_at, packet_holds, default_holds, frame_holds, takes_cell, same_channel}
+use Rattle.law_world_pace.specs.world_model.ipv4_packet.Packet.{first_fault}
+use Rattle.law_world_pace.specs.world_model.ipv4_forward.declared.outcome.Hop.TheVariants.{NoRoute, Expired}
+use Rattle.law_world_pace.specs.world_model.ipv4_forward.declared.table.Route.{Route}
+use Rattle.law_world_pace.specs.world_model.ifmp_wire.declared.message.Message.{Message as IfmpMessage}
+use Rattle.law_world_pace.specs.world_model.ifmp_wire.declared.reader.Fault.{Fault as IfmpFault}
+use Rattle.law_world_pace.specs.world_model.ifmp_wire.Fields.{decoded as ifmp_decoded}
+use Rattle.law_world_pace.specs.world_model.gsmp_wire.Fields.{decoded as gsmp_decoded}
+use Rattle.law_world_pace.specs.world_model.frame_model.Reassembly.{Taken, taken}
 use Rattle.law_controller_bindings.proofs.law_port_facts.Keyed.{on_both, on_each}
-use Rattle.world_model.specs.Controller.{Acted, free_slots}
-use Rattle.world_model.specs.Sending.{sends}
-use Rattle.world_model.specs.Packets.{forwarded}
-use Rattle.world_model.specs.Cells.{Taker, opened_frame, ends_frame, cell_comes}
+use Rattle.law_world_pace.specs.world_model.Controller.{Acted, free_slots}
+use Rattle.law_world_pace.specs.world_model.Sending.{sends}
+use Rattle.law_world_pace.specs.world_model.Packets.{forwarded}
+use Rattle.law_world_pace.specs.world_model.Cells.{Taker, opened_frame, ends_frame, cell_comes}
 use Rattle.law_run_facts.proofs.Taking.{taken_frames, tested_frames, taken_chain, ended_by_last}
 use Rattle.law_run_facts.proofs.Takers.{gsmp_of, taker_at_port}
 use Rattle.law_world_pace.proofs.law_actor_pace.Cells.{ended_last}

@@ -3,14 +3,14 @@
 use Rattle.std.proofs.Common.{◌≡◌, ◌≢◌, ℕ, ◌<◌, ◌≤◌, ◌+◌, true, false, List, [], ◌∷◌, ◌++◌, length, Option, None, Some, refl, sym, subst, arith, map, not}
 use Rattle.std.specs.Prelude.{nat_le, nat_lt, ◌==◌, ◌&&◌}
 use Rattle.std.proofs.lemmas.Bool.Decides.{nat_tests}
-use Rattle.world_model.specs.Words.{PortNo, Channel, Mark, next_control, with_control, Network, Cell, is_same, has_prefix, renewed, changed_by, changed, RouteChange, Next, Frame, Loss, PoolFull, Refusal, payload_of, noted, frame_cells, made, next_mark, Controller, Linked, default_home, default_channel, ForDefault, taker_of, same_channel, sends_control, is_control, inject_refusal}
-use Rattle.world_model.specs.ipv4_forward.declared.table.Route.{Route}
-use Rattle.world_model.specs.frame_model.Sending.{Sent}
+use Rattle.law_world_pace.specs.world_model.Words.{PortNo, Channel, Mark, next_control, with_control, Network, Cell, is_same, has_prefix, renewed, changed_by, changed, RouteChange, Next, Frame, Loss, PoolFull, Refusal, payload_of, noted, frame_cells, made, next_mark, Controller, Linked, default_home, default_channel, ForDefault, taker_of, same_channel, sends_control, is_control, inject_refusal}
+use Rattle.law_world_pace.specs.world_model.ipv4_forward.declared.table.Route.{Route}
+use Rattle.law_world_pace.specs.world_model.frame_model.Sending.{Sent}
 use Rattle.law_controller_bindings.specs.ordered_lists.Ordered.{Every}
 use Rattle.law_controller_bindings.proofs.ordered_lists.Every.{every_join, every_map, every_mapped, every_all}
 use Rattle.law_controller_bindings.proofs.law_port_facts.Keyed.{on_both}
-use Rattle.world_model.specs.Controller.{Acted, free_slots}
-use Rattle.world_model.specs.Sending.{with_cells, sends}
+use Rattle.law_world_pace.specs.world_model.Controller.{Acted, free_slots}
+use Rattle.law_world_pace.specs.world_model.Sending.{with_cells, sends}
 use Rattle.law_controller_bindings.specs.law_controller_facts.Inputs.{Input, CellComes, PacketEnters, Ticks, Restarts, ChangeComes, FrameIsForged, CellLeaves, Meanwhile, enters_unless, takes_input}
 use Rattle.law_controller_bindings.proofs.law_controller_facts.Joining.{every_filter}
 use Rattle.law_world_pace.proofs.law_actor_pace.Cells.{every_drop}

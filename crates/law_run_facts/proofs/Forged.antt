@@ -3,14 +3,14 @@
 use Rattle.std.proofs.Common.{◌≡◌, ℕ, Bool, true, false, List, [], ◌∷◌, ◌++◌, length, Option, None, Some, refl, sym, ◌∙◌, ap, true≢false, if◌then◌else◌}
 use Rattle.std.specs.Prelude.{nat_le}
 use Rattle.std.specs.List.{list_any}
-use Rattle.world_model.specs.Words.{Channel, Place, Down, Up, Out, Mark, next_control, with_control, Cell, Record, Loss, Forged, PoolFull, noted, frame_cells, made, sent_frame, control_port, Topology, World, Site, site_at, controller_acts, switch_acts, forges_at, next, put_away, is_wild, IsTame}
-use Rattle.world_model.specs.frame_model.Sending.{Sent}
-use Rattle.world_model.specs.Switch as switches
-use Rattle.world_model.specs.Conduct as switch
-use Rattle.world_model.specs.Controller.{free_slots}
-use Rattle.world_model.specs.Sending.{with_cells, sends}
-use Rattle.world_model.specs.network_model.declared.event.Event.TheVariants.{Forge}
-use Rattle.world_model.specs.Step.{note}
+use Rattle.law_world_pace.specs.world_model.Words.{Channel, Place, Down, Up, Out, Mark, next_control, with_control, Cell, Record, Loss, Forged, PoolFull, noted, frame_cells, made, sent_frame, control_port, Topology, World, Site, site_at, controller_acts, switch_acts, forges_at, next, put_away, is_wild, IsTame}
+use Rattle.law_world_pace.specs.world_model.frame_model.Sending.{Sent}
+use Rattle.law_world_pace.specs.world_model.Switch as switches
+use Rattle.law_world_pace.specs.world_model.Conduct as switch
+use Rattle.law_world_pace.specs.world_model.Controller.{free_slots}
+use Rattle.law_world_pace.specs.world_model.Sending.{with_cells, sends}
+use Rattle.law_world_pace.specs.world_model.network_model.declared.event.Event.TheVariants.{Forge}
+use Rattle.law_world_pace.specs.world_model.Step.{note}
 
 wild_sent : {Q : Type 0} (place : Place) (free : ℕ) (with_queue : List Cell → Q) (s : Sent Q) (channel : Channel) (mark : Mark) (payload : List ℕ) → s.notes.records ≡ Forged place ∷ []
     → list_any is_wild (sent_frame free with_queue s channel mark payload).notes.records ≡ true

@@ -2,11 +2,11 @@
 
 use Rattle.std.proofs.Common.{◌≡◌, ◌≢◌, ℕ, ◌+◌, Bool, List, [], ◌∷◌, ◌++◌, Option, None, Some, refl, sym, ◌∙◌, ap, arith, if◌then◌else◌, map}
 use Rattle.std.specs.Option.{option_or}
-use Rattle.world_model.specs.Words.{Mark, Frame, Record, Loss, Chance, PoolFull, Broken, Cut, payload_of, has_entry, is_frame, Journal, noted, tested, tested_by, payload_in, last_mark, Reassembly, passed_over, without_slot, too_long, most_cells, marks_of, broken, noted_all, distinct, cut, bound_by, last_bound, Cell}
-use Rattle.world_model.specs.frame_model.Frame.{octets_of}
-use Rattle.world_model.specs.frame_model.Reassembly.{Taken, taken, joined}
+use Rattle.law_world_pace.specs.world_model.Words.{Mark, Frame, Record, Loss, Chance, PoolFull, Broken, Cut, payload_of, has_entry, is_frame, Journal, noted, tested, tested_by, payload_in, last_mark, Reassembly, passed_over, without_slot, too_long, most_cells, marks_of, broken, noted_all, distinct, cut, bound_by, last_bound, Cell}
+use Rattle.law_world_pace.specs.world_model.frame_model.Frame.{octets_of}
+use Rattle.law_world_pace.specs.world_model.frame_model.Reassembly.{Taken, taken, joined}
 use Rattle.law_controller_bindings.proofs.law_port_facts.Keyed.{on_both}
-use Rattle.world_model.specs.network_model.declared.link.LinkEnd.{LinkEnd}
+use Rattle.law_world_pace.specs.world_model.network_model.declared.link.LinkEnd.{LinkEnd}
 use Rattle.std.specs.Prelude.{not, nat_le, length}
 use Rattle.law_run_facts.specs.Frames.{IsFree, Stay, BindsNone}
 use Rattle.law_world_views.proofs.law_shown_cells.Made.{made_elsewhere}

@@ -2,27 +2,27 @@
 
 use Rattle.std.proofs.Common.{◌≡◌, ℕ, Bool, true, List, [], ◌∷◌, ◌++◌, length, Option, None, Some, Result, Ok, Err, refl, sym, ◌∙◌, subst}
 use Rattle.std.specs.Prelude.{◌==◌, ◌&&◌, nat_le, nat_lt}
-use Rattle.world_model.specs.Words.{PortNo, Channel, Mark, Party, next_control, with_control, Said, Answer, Quiet, Send, Open, Step, is_estab, ticked, greeting_of, gsmp_answer, gsmp_received, Cell, RouteChange, Frame, Loss, PoolFull, Refusal, noted, frame_cells, made, next_mark, Tested, tested, Routed, routed, Switch, control_port, gsmp_channel, asked_in, is_request, failure_of, handled, handled_asked, handled_by, Controller, Linked, default_channel, same_channel, inject_refusal, sends_control}
-use Rattle.world_model.specs.adjacency_table.declared.message.Answer.TheVariants.{Reset}
-use Rattle.world_model.specs.gsmp_wire.declared.fault.Fault.{Fault}
-use Rattle.world_model.specs.gsmp_wire.declared.message.Message.{Message}
-use Rattle.world_model.specs.gsmp_wire.declared.message.Message.TheVariants as messages
-use Rattle.world_model.specs.gsmp_wire.Layout.{octets_of}
-use Rattle.world_model.specs.gsmp_wire.Fields.{decoded}
-use Rattle.world_model.specs.ipv4_forward.declared.table.Route.{Route}
-use Rattle.world_model.specs.frame_model.Sending.{Sent}
-use Rattle.world_model.specs.frame_model.Reassembly.{Taken, taken}
+use Rattle.law_world_pace.specs.world_model.Words.{PortNo, Channel, Mark, Party, next_control, with_control, Said, Answer, Quiet, Send, Open, Step, is_estab, ticked, greeting_of, gsmp_answer, gsmp_received, Cell, RouteChange, Frame, Loss, PoolFull, Refusal, noted, frame_cells, made, next_mark, Tested, tested, Routed, routed, Switch, control_port, gsmp_channel, asked_in, is_request, failure_of, handled, handled_asked, handled_by, Controller, Linked, default_channel, same_channel, inject_refusal, sends_control}
+use Rattle.law_world_pace.specs.world_model.adjacency_table.declared.message.Answer.TheVariants.{Reset}
+use Rattle.law_world_pace.specs.world_model.gsmp_wire.declared.fault.Fault.{Fault}
+use Rattle.law_world_pace.specs.world_model.gsmp_wire.declared.message.Message.{Message}
+use Rattle.law_world_pace.specs.world_model.gsmp_wire.declared.message.Message.TheVariants as messages
+use Rattle.law_world_pace.specs.world_model.gsmp_wire.Layout.{octets_of}
+use Rattle.law_world_pace.specs.world_model.gsmp_wire.Fields.{decoded}
+use Rattle.law_world_pace.specs.world_model.ipv4_forward.declared.table.Route.{Route}
+use Rattle.law_world_pace.specs.world_model.frame_model.Sending.{Sent}
+use Rattle.law_world_pace.specs.world_model.frame_model.Reassembly.{Taken, taken}
 use Rattle.law_controller_bindings.specs.ordered_lists.Ordered.{Every}
 use Rattle.law_controller_bindings.proofs.ordered_lists.Every.{every_join, every_all}
 use Rattle.law_controller_bindings.proofs.law_port_facts.Keyed.{on_both, on_each}
 use Rattle.law_controller_bindings.proofs.law_port_facts.Rules.{and_second}
-use Rattle.world_model.specs.crossbar_model.declared.routed.Routed.TheVariants as routes_of
-use Rattle.world_model.specs.switch_model.declared.request.Asked.{Asked}
-use Rattle.world_model.specs.switch_model.declared.request.Failure.{Failure}
-use Rattle.world_model.specs.Switch as switches
-use Rattle.world_model.specs.Conduct as switch
-use Rattle.world_model.specs.Controller.{Acted, free_slots}
-use Rattle.world_model.specs.Sending.{with_cells, sends}
+use Rattle.law_world_pace.specs.world_model.crossbar_model.declared.routed.Routed.TheVariants as routes_of
+use Rattle.law_world_pace.specs.world_model.switch_model.declared.request.Asked.{Asked}
+use Rattle.law_world_pace.specs.world_model.switch_model.declared.request.Failure.{Failure}
+use Rattle.law_world_pace.specs.world_model.Switch as switches
+use Rattle.law_world_pace.specs.world_model.Conduct as switch
+use Rattle.law_world_pace.specs.world_model.Controller.{Acted, free_slots}
+use Rattle.law_world_pace.specs.world_model.Sending.{with_cells, sends}
 use Rattle.law_controller_bindings.specs.law_controller_facts.Inputs.{Input, CellComes, PacketEnters, Ticks, Restarts, ChangeComes, FrameIsForged, CellLeaves, Meanwhile, enters_unless, takes_input}
 use Rattle.law_run_facts.specs.Inputs as turns
 use Rattle.law_run_facts.specs.Inputs.{SwitchInput, switch_takes}

@@ -4,13 +4,13 @@ use Rattle.std.proofs.Common.{◌≡◌, ℕ, ◌<◌, ◌+◌, Bool, true, fals
 use Rattle.std.specs.Prelude.{◌==◌, ◌&&◌, nat_lt, Contains}
 use Rattle.std.specs.Option.{option_map_or}
 use Rattle.std.proofs.lemmas.Bool.Decides.{nat_tests}
-use Rattle.world_model.specs.Words.{NodeId, PortNo, Place, Down, Up, Out, Mark, Channel, GivenOut, next_control, with_control, Cell, Frame, Refusal, Forged, payload_of, Journal, next_mark, Policy, control_port, is_control, inject_refusal, injected, node_restarts, change_comes, Topology, IsNode, World, Site, site_at, controller_acts, switch_acts, queue_in, queue_at, with_queue, injects_by, arrives_at, arrives, carries_head, loses_head, forges_at, forges, put_away, next, world_after, Past, past_of, frames_of}
-use Rattle.world_model.specs.Switch as switches
-use Rattle.world_model.specs.Conduct as switch
-use Rattle.world_model.specs.Controller.{Acted}
-use Rattle.world_model.specs.Sending.{sends}
-use Rattle.world_model.specs.Cells as controller
-use Rattle.world_model.specs.Ticks as controller_ticks
+use Rattle.law_world_pace.specs.world_model.Words.{NodeId, PortNo, Place, Down, Up, Out, Mark, Channel, GivenOut, next_control, with_control, Cell, Frame, Refusal, Forged, payload_of, Journal, next_mark, Policy, control_port, is_control, inject_refusal, injected, node_restarts, change_comes, Topology, IsNode, World, Site, site_at, controller_acts, switch_acts, queue_in, queue_at, with_queue, injects_by, arrives_at, arrives, carries_head, loses_head, forges_at, forges, put_away, next, world_after, Past, past_of, frames_of}
+use Rattle.law_world_pace.specs.world_model.Switch as switches
+use Rattle.law_world_pace.specs.world_model.Conduct as switch
+use Rattle.law_world_pace.specs.world_model.Controller.{Acted}
+use Rattle.law_world_pace.specs.world_model.Sending.{sends}
+use Rattle.law_world_pace.specs.world_model.Cells as controller
+use Rattle.law_world_pace.specs.world_model.Ticks as controller_ticks
 use Rattle.law_controller_bindings.specs.law_controller_facts.Inputs.{Input, CellComes, PacketEnters, Ticks, Restarts, ChangeComes, enters_unless, takes_input}
 use Rattle.law_run_facts.specs.Inputs as turns
 use Rattle.law_run_facts.specs.Inputs.{SwitchInput, switch_takes}
@@ -18,12 +18,12 @@ use Rattle.law_run_facts.specs.Frames.{IsFree, Stay}
 use Rattle.law_run_facts.proofs.Switches as switching
 use Rattle.law_run_facts.proofs.Switches.{switch_leaves, sends_leave}
 use Rattle.law_run_facts.proofs.Controllers.{IsNewest, input_stays, control_stays}
-use Rattle.world_model.specs.network_model.declared.event.Event.{Event}
-use Rattle.world_model.specs.network_model.declared.event.Event.TheVariants.{Inject, Carry, Lose, Tick, TickSwitch, Restart, RestartSwitch, Forge, Route}
-use Rattle.world_model.specs.network_model.declared.link.LinkEnd.{LinkEnd}
-use Rattle.world_model.specs.Topology.{peer_of}
-use Rattle.world_model.specs.World.{at_controller, at_switch, opened}
-use Rattle.world_model.specs.Step.{note}
+use Rattle.law_world_pace.specs.world_model.network_model.declared.event.Event.{Event}
+use Rattle.law_world_pace.specs.world_model.network_model.declared.event.Event.TheVariants.{Inject, Carry, Lose, Tick, TickSwitch, Restart, RestartSwitch, Forge, Route}
+use Rattle.law_world_pace.specs.world_model.network_model.declared.link.LinkEnd.{LinkEnd}
+use Rattle.law_world_pace.specs.world_model.Topology.{peer_of}
+use Rattle.law_world_pace.specs.world_model.World.{at_controller, at_switch, opened}
+use Rattle.law_world_pace.specs.world_model.Step.{note}
 use Rattle.law_world_views.specs.Marks.{Heading, Means, early, control, local, plain, labelled, heading_at}
 use Rattle.law_world_views.specs.Between.{IsWorld}
 use Rattle.law_world_views.specs.Kept.{Comes}

@@ -2,7 +2,7 @@
 
 use Rattle.std.proofs.Common.{◌≡◌, ◌≢◌, ℕ, ◌<◌, ◌≤◌, true, List, [], ◌∷◌, Option, None, Some, refl, sym, ◌∙◌, ap, subst, arith, ◌⊎◌, inl, inr}
 use Rattle.std.specs.Option.{option_map, option_map_or, option_and_then}
-use Rattle.world_model.specs.Words.{NodeId, Place, Down, Up, Out, Peer, GivenOut, Side, Cell, Next, at, put, Linked, linked_at, default_home, same_channel, World, Site, site_key, site_at, with_site, place_node, queue_in, queue_at, with_queue_in, with_queue_of, with_queue}
+use Rattle.law_world_pace.specs.world_model.Words.{NodeId, Place, Down, Up, Out, Peer, GivenOut, Side, Cell, Next, at, put, Linked, linked_at, default_home, same_channel, World, Site, site_key, site_at, with_site, place_node, queue_in, queue_at, with_queue_in, with_queue_of, with_queue}
 use Rattle.law_controller_bindings.specs.ordered_lists.Ordered.{Every}
 use Rattle.law_controller_bindings.proofs.ordered_lists.Every.{every_map}
 use Rattle.law_controller_bindings.proofs.law_port_facts.Keyed.{by_eq, at_key, at_every, at_put_same, at_put_other, put_every}

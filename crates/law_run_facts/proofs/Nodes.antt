@@ -5,15 +5,15 @@ use Rattle.std.specs.Prelude.{All, find, reverse}
 use Rattle.std.specs.List.{list_any}
 use Rattle.std.specs.Option.{option_map_or}
 use Rattle.std.proofs.lemmas.List.{length-map, reverse-append}
-use Rattle.world_model.specs.Words.{NodeId, PortNo, is_label_number, number_of_channel, RouteChange, Next, Record, control_port, IsLinkPort, ArePorts, Policy, Setup, labels_of, Controller, Linked, linked_at, joins_of, setup_of, Topology, Node, default_range, range_among, ranges_of, timers_of, is_linked, World, Site, site_key, site_at, IsEvent, IsNode, IsNodeOf as IsTopologyNode, IsRange, IsLinkedNext, IsLinkedChange, world_after, Past, past_of, last_bound, IsRun}
-use Rattle.world_model.specs.ipv4_forward.declared.table.Route.{Route}
+use Rattle.law_world_pace.specs.world_model.Words.{NodeId, PortNo, is_label_number, number_of_channel, RouteChange, Next, Record, control_port, IsLinkPort, ArePorts, Policy, Setup, labels_of, Controller, Linked, linked_at, joins_of, setup_of, Topology, Node, default_range, range_among, ranges_of, timers_of, is_linked, World, Site, site_key, site_at, IsEvent, IsNode, IsNodeOf as IsTopologyNode, IsRange, IsLinkedNext, IsLinkedChange, world_after, Past, past_of, last_bound, IsRun}
+use Rattle.law_world_pace.specs.world_model.ipv4_forward.declared.table.Route.{Route}
 use Rattle.law_controller_bindings.specs.ordered_lists.Ordered.{Every}
 use Rattle.law_controller_bindings.proofs.ordered_lists.Every.{every_join, every_map, every_mapped}
 use Rattle.law_controller_bindings.proofs.law_port_facts.Keyed.{at_every}
 use Rattle.law_controller_bindings.specs.law_port_facts.Port.{IsRanged}
 use Rattle.law_world_views.specs.law_port_widths.Widths.{FitsSetup}
-use Rattle.world_model.specs.controller_model.declared.range.PortRange.{PortRange}
-use Rattle.world_model.specs.Controller.{Acted}
+use Rattle.law_world_pace.specs.world_model.controller_model.declared.range.PortRange.{PortRange}
+use Rattle.law_world_pace.specs.world_model.Controller.{Acted}
 use Rattle.law_controller_bindings.specs.law_controller_facts.Inputs.{takes_inputs}
 use Rattle.law_controller_bindings.specs.law_controller_facts.Sound.{IsSound, Opening, opened_by, setups_by}
 use Rattle.law_controller_bindings.specs.law_controller_facts.Said.{HasFlowingPorts}
@@ -28,17 +28,17 @@ use Rattle.law_controller_bindings.proofs.law_controller.Laws.{always_holds, alw
 use Rattle.law_controller_bindings.specs.Bindings as bindings
 use Rattle.law_controller_bindings.specs.Bindings.{IsBoundLast, HasBoundLabels, IsLed, HasLedJoins, GathersForBound, noted_by_all}
 use Rattle.law_controller_bindings.proofs.Laws.{always_bound, always_led, always_gathers}
-use Rattle.world_model.specs.network_model.declared.event.Event.{Event}
-use Rattle.world_model.specs.network_model.declared.event.Event.TheVariants.{Route as RouteEvent}
-use Rattle.world_model.specs.Topology as topologies
-use Rattle.world_model.specs.World.{opened}
-use Rattle.world_model.proofs.Opening.{ports_are}
+use Rattle.law_world_pace.specs.world_model.network_model.declared.event.Event.{Event}
+use Rattle.law_world_pace.specs.world_model.network_model.declared.event.Event.TheVariants.{Route as RouteEvent}
+use Rattle.law_world_pace.specs.world_model.Topology as topologies
+use Rattle.law_world_pace.specs.world_model.World.{opened}
+use Rattle.law_world_pace.proofs.world_model.Opening.{ports_are}
 use Rattle.law_world_pace.specs.Running.{IsRunningSite}
 use Rattle.law_world_pace.proofs.Running.{site_runs}
 use Rattle.law_world_pace.proofs.Ports.{is_port_of}
 use Rattle.law_world_views.specs.Shown.{acting}
 use Rattle.law_world_views.specs.Between.{setups_of}
-use Rattle.law_world_views.specs.Kept.{HasAddresses}
+use Rattle.law_world_views.specs.Fronts.{HasAddresses}
 use Rattle.law_run_facts.proofs.Controllers.{May}
 use Rattle.law_lifetimes.proofs.Opened.{opening_of, is_opening, opening_fed}
 use Rattle.law_run_facts.proofs.Marked.{SiteMarked, WorldMarked}

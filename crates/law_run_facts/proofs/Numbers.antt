@@ -3,7 +3,7 @@
 use Rattle.std.proofs.Common.{◌≡◌, ℕ, zero, suc, ◌<◌, ◌≤◌, List, [], ◌∷◌, ◌++◌, length, slice_index_or, Option, None, Some, refl, sym, ap, subst, arith, true}
 use Rattle.std.specs.Prelude.{Contains}
 use Rattle.std.specs.Option.{option_map, option_map_or, option_and_then}
-use Rattle.world_model.specs.Words.{NodeId, PortNo, Place, Cell, at, Policy, Controller, Linked, linked_at, port_key, default_home, same_channel, Topology, World, Site, site_key, site_at, queue_at, chain_at, answers_chain_at, requests_chain_at, world_after, past_of}
+use Rattle.law_world_pace.specs.world_model.Words.{NodeId, PortNo, Place, Cell, at, Policy, Controller, Linked, linked_at, port_key, default_home, same_channel, Topology, World, Site, site_key, site_at, queue_at, chain_at, answers_chain_at, requests_chain_at, world_after, past_of}
 use Rattle.law_controller_bindings.specs.ordered_lists.Ordered.{Every, InOrder}
 use Rattle.law_controller_bindings.proofs.ordered_lists.Every.{every_join, every_map}
 use Rattle.law_controller_bindings.proofs.ordered_lists.InOrder.{order_unmapped}
@@ -15,9 +15,9 @@ use Rattle.law_run_facts.proofs.Switches.{AreMarked}
 use Rattle.law_run_facts.proofs.Owns.{port_own}
 use Rattle.law_lifetimes.proofs.Opened.{IsFed, opening_fed}
 use Rattle.law_lifetimes.proofs.Runs.{run_fed}
-use Rattle.world_model.specs.network_model.declared.event.Event.{Event}
-use Rattle.world_model.specs.network_model.declared.link.LinkEnd.{LinkEnd}
-use Rattle.world_model.specs.World.{opened}
+use Rattle.law_world_pace.specs.world_model.network_model.declared.event.Event.{Event}
+use Rattle.law_world_pace.specs.world_model.network_model.declared.link.LinkEnd.{LinkEnd}
+use Rattle.law_world_pace.specs.world_model.World.{opened}
 use Rattle.law_world_views.specs.Between.{HasNumbers, HasAllNumbers}
 use Rattle.law_world_views.specs.Kept.{Keeps, Begins}
 use Rattle.law_run_facts.proofs.Marked.{IsController, IsSwitch, IsPort, SiteMarked, WorldMarked, queue_marked}

@@ -1,12 +1,12 @@
 -- how the controllers of a run are opened, and that their names stay
 
 use Rattle.std.proofs.Common.{◌≡◌, ℕ, ◌∙◌, List, [], ◌∷◌, length, refl}
-use Rattle.world_model.specs.Words.{NodeId, GivenOut, Journal, Policy, Addr, Channel, Mark, next_control, with_control, Loss, PoolFull, noted, frame_cells, made, Setup, Controller, Topology, Node, opened_site}
+use Rattle.law_world_pace.specs.world_model.Words.{NodeId, GivenOut, Journal, Policy, Addr, Channel, Mark, next_control, with_control, Loss, PoolFull, noted, frame_cells, made, Setup, Controller, Topology, Node, opened_site}
 use Rattle.law_controller_bindings.proofs.law_port_facts.Keyed.{on_both}
 use Rattle.std.specs.Prelude.{nat_le}
-use Rattle.world_model.specs.frame_model.Sending.{Sent}
-use Rattle.world_model.specs.Controller.{Acted, free_slots}
-use Rattle.world_model.specs.Sending.{with_cells, sends}
+use Rattle.law_world_pace.specs.world_model.frame_model.Sending.{Sent}
+use Rattle.law_world_pace.specs.world_model.Controller.{Acted, free_slots}
+use Rattle.law_world_pace.specs.world_model.Sending.{with_cells, sends}
 use Rattle.law_controller_bindings.specs.law_controller_facts.Inputs.{Input, CellComes, PacketEnters, Ticks, Restarts, ChangeComes, FrameIsForged, CellLeaves, Meanwhile, takes_input, takes_inputs}
 use Rattle.law_controller_bindings.specs.law_controller_facts.Sound.{IsSound, IsOwn, Opening, opened_by, setups_by}
 use Rattle.law_controller_bindings.proofs.law_controller_facts.Moves.{Move, noting, taking_notes, sending, sending_control, asking, withdrawing, answering, meeting, ending_meeting, turning, placing, clearing, gathering, chaining, routing, popping, moves_keep}

@@ -3,15 +3,15 @@
 use Rattle.std.proofs.Common.{◌≡◌, ℕ, zero, suc, ◌<◌, ◌≤◌, ◌+◌, Bool, true, false, List, [], ◌∷◌, ◌++◌, length, slice_get, Option, None, Some, refl, sym, ◌∙◌, ap, subst, arith, ◌⊎◌, inl, inr, if◌then◌else◌}
 use Rattle.std.specs.Prelude.{nat_eq}
 use Rattle.std.specs.Option.{option_map}
-use Rattle.world_model.specs.Words.{NodeId, GivenOut, Next, at, Cell, Policy, Setup, Linked, port_key, default_home, same_channel, setup_of, opens_port, opens_ports, Topology, Node, ranges_of, timers_of, World, Site, site_key, opened_site, numbers_after, with_opened, opens_each, empty_world}
+use Rattle.law_world_pace.specs.world_model.Words.{NodeId, GivenOut, Next, at, Cell, Policy, Setup, Linked, port_key, default_home, same_channel, setup_of, opens_port, opens_ports, Topology, Node, ranges_of, timers_of, World, Site, site_key, opened_site, numbers_after, with_opened, opens_each, empty_world}
 use Rattle.law_controller_bindings.specs.ordered_lists.Ordered.{Every}
 use Rattle.law_controller_bindings.proofs.ordered_lists.Every.{every_join}
 use Rattle.law_controller_bindings.proofs.law_port_facts.Keyed.{by_eq, at_every}
-use Rattle.world_model.specs.controller_model.declared.range.PortRange.{PortRange}
+use Rattle.law_world_pace.specs.world_model.controller_model.declared.range.PortRange.{PortRange}
 use Rattle.law_run_facts.specs.Inputs.{IsMarked}
 use Rattle.law_run_facts.proofs.Owns.{own_in, port_own}
 use Rattle.law_run_facts.proofs.Controllers.{Table}
-use Rattle.world_model.specs.World.{opened}
+use Rattle.law_world_pace.specs.world_model.World.{opened}
 use Rattle.law_run_facts.specs.Drawn.{Holder, own_at}
 use Rattle.law_run_facts.proofs.Marked.{Kind, IsController, IsSwitch, IsPort, own_as, own_found, node_of, kind_of, own_is, same_holder, SiteMarked, WorldMarked, sites_later}
 

@@ -3,19 +3,19 @@
 use Rattle.std.proofs.Common.{◌≡◌, ◌≢◌, ℕ, ◌<◌, ◌≤◌, ◌+◌, List, length, Option, Some, refl, sym, ◌∙◌, ap, subst, arith, ◌⊎◌, inl, inr}
 use Rattle.std.specs.Prelude.{nat_le}
 use Rattle.std.specs.Option.{option_map}
-use Rattle.world_model.specs.Words.{Party, Channel, Mark, next_control, with_control, Side, Loss, PoolFull, noted, frame_cells, made, at, put, Desk, Setup, Work, Controller, Linked, port_key, begins, with_work, resets_gsmp}
-use Rattle.world_model.specs.adjacency_table.Side as sides
-use Rattle.world_model.specs.frame_model.Sending.{Sent}
-use Rattle.world_model.specs.port_model.Resets.{cleared}
+use Rattle.law_world_pace.specs.world_model.Words.{Party, Channel, Mark, next_control, with_control, Side, Loss, PoolFull, noted, frame_cells, made, at, put, Desk, Setup, Work, Controller, Linked, port_key, begins, with_work, resets_gsmp}
+use Rattle.law_world_pace.specs.world_model.adjacency_table.Side as sides
+use Rattle.law_world_pace.specs.world_model.frame_model.Sending.{Sent}
+use Rattle.law_world_pace.specs.world_model.port_model.Resets.{cleared}
 use Rattle.law_controller_bindings.proofs.law_port_facts.Keyed.{on_both, by_eq, at_put_same, at_put_other}
-use Rattle.world_model.specs.Controller.{Acted, free_slots}
-use Rattle.world_model.specs.Sending.{with_cells, sends}
+use Rattle.law_world_pace.specs.world_model.Controller.{Acted, free_slots}
+use Rattle.law_world_pace.specs.world_model.Sending.{with_cells, sends}
 use Rattle.law_controller_bindings.specs.law_controller_facts.Inputs.{Input, takes_input}
 use Rattle.law_controller_bindings.specs.law_controller_facts.Sound.{IsSound, IsOwn}
 use Rattle.law_controller_bindings.proofs.law_controller_facts.Moves.{IsGsmpTurn, hears, ages, Worked, by_rule, by_closing, by_reset, by_restart, by_parting, by_joining, by_lending, by_giving_back, Move, noting, taking_notes, sending, sending_control, asking, withdrawing, answering, meeting, ending_meeting, turning, placing, clearing, gathering, chaining, routing, popping, moves_keep}
 use Rattle.law_controller_bindings.proofs.law_controller_facts.Laws.{input_goes}
 use Rattle.law_run_facts.proofs.Switches.{tick_own}
-use Rattle.law_rule_walks.proofs.Ports as rules
+use Rattle.law_lifetimes.proofs.law_rule_walks.Ports as rules
 use Rattle.law_run_facts.proofs.PortOwns.{rule_owns}
 
 -- the own instance of a linked port, and of the port with a key

@@ -1,9 +1,9 @@
 -- a rule of a port leaves its own instance as it is, and draws none
 
 use Rattle.std.proofs.Common.{◌≡◌, ◌∙◌, ap, refl}
-use Rattle.world_model.specs.Words.{Peer, Side, Step as Turned, Desk, Setup, Work}
+use Rattle.law_world_pace.specs.world_model.Words.{Peer, Side, Step as Turned, Desk, Setup, Work}
 use Rattle.law_controller_bindings.proofs.law_port_facts.Steps.{IsTurn, hears, ages}
-use Rattle.law_rule_walks.proofs.Ports.{Keeps, Rule, rule_kept}
+use Rattle.law_lifetimes.proofs.law_rule_walks.Ports.{Keeps, Rule, rule_kept}
 use Rattle.law_run_facts.proofs.Switches.{tick_own}
 
 turned_own : (side : Side Peer) (step : Turned Peer) → IsTurn side step → step.side.own ≡ side.own

@@ -4,11 +4,11 @@ use Rattle.std.proofs.Common.{◌≡◌, ℕ, ◌==◌, ◌||◌, Bool, true, fa
 use Rattle.std.specs.Prelude.{nat_eq, filter}
 use Rattle.std.specs.List.{list_any, range_with_len}
 use Rattle.std.proofs.lemmas.Bool.Decides.{nat_tests}
-use Rattle.world_model.specs.Words.{NodeId, PortNo, at, Controller, Linked, port_key, Topology, is_linked}
+use Rattle.law_world_pace.specs.world_model.Words.{NodeId, PortNo, at, Controller, Linked, port_key, Topology, is_linked}
 use Rattle.law_controller_bindings.proofs.law_port_facts.Keyed.{by_eq}
-use Rattle.world_model.specs.Controller.{ports_of}
-use Rattle.world_model.specs.Topology as topologies
-use Rattle.world_model.specs.Topology.{peer_of}
+use Rattle.law_world_pace.specs.world_model.Controller.{ports_of}
+use Rattle.law_world_pace.specs.world_model.Topology as topologies
+use Rattle.law_world_pace.specs.world_model.Topology.{peer_of}
 use Rattle.law_run_facts.specs.Nodes.{HasPort}
 
 -- what passes a test is among those that do

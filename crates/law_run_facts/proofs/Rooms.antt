@@ -4,16 +4,16 @@ use Rattle.std.proofs.Common.{◌≡◌, ℕ, zero, suc, ◌<◌, ◌≤◌, ◌
 use Rattle.std.specs.Prelude.{is_some, filter}
 use Rattle.std.specs.List.{range_with_len}
 use Rattle.std.proofs.Common.{cond, append-nil, append_assoc, if◌then◌else◌}
-use Rattle.world_model.specs.Step.{acts}
-use Rattle.world_model.specs.Words.{NodeId, PortNo, Instance, GivenOut, next_instance, at, control_port, numbers_of, Policy, after_opening, Topology, Node, ranges_of, World, Site, site_key, opened_site, with_opened, opens_each, empty_world, queue_at, IsTopology, put_away, next, world_after, IsRun}
+use Rattle.law_world_pace.specs.world_model.Step.{acts}
+use Rattle.law_world_pace.specs.world_model.Words.{NodeId, PortNo, Instance, GivenOut, next_instance, at, control_port, numbers_of, Policy, after_opening, Topology, Node, ranges_of, World, Site, site_key, opened_site, with_opened, opens_each, empty_world, queue_at, IsTopology, put_away, next, world_after, IsRun}
 use Rattle.law_controller_bindings.specs.ordered_lists.Ordered.{Every}
 use Rattle.law_controller_bindings.proofs.law_port_facts.Keyed.{by_eq}
-use Rattle.world_model.specs.Switch.{begun}
+use Rattle.law_world_pace.specs.world_model.Switch.{begun}
 use Rattle.law_world_pace.specs.law_actor_pace.Pace.{IsUpTo}
-use Rattle.world_model.specs.network_model.declared.event.Event.{Event}
-use Rattle.world_model.specs.Topology as topologies
-use Rattle.world_model.specs.World.{opened}
-use Rattle.world_model.proofs.Opening.{site_ports}
+use Rattle.law_world_pace.specs.world_model.network_model.declared.event.Event.{Event}
+use Rattle.law_world_pace.specs.world_model.Topology as topologies
+use Rattle.law_world_pace.specs.world_model.World.{opened}
+use Rattle.law_world_pace.proofs.world_model.Opening.{site_ports}
 use Rattle.law_world_pace.specs.Running.{AreRunning, IsRunningSite, most_frame}
 use Rattle.law_world_pace.proofs.Running.{queue_up}
 use Rattle.law_world_pace.proofs.Events.{Goes, acts_go}

@@ -2,17 +2,17 @@
 
 use Rattle.std.proofs.Common.{◌≡◌, ℕ, zero, suc, ◌<◌, ◌≤◌, ◌+◌, List, [], ◌∷◌, ◌++◌, length, slice_index_or, Option, None, Some, refl, sym, ◌∙◌, ap, subst, arith, append_assoc, ◌⊎◌, inl, inr}
 use Rattle.std.specs.Prelude.{Contains}
-use Rattle.world_model.specs.Words.{NodeId, RouteChange, Next, Policy, Topology, World, site_key, put_away, next, worlds_from, world_after}
-use Rattle.world_model.specs.ipv4_forward.declared.table.Route.{Route}
+use Rattle.law_world_pace.specs.world_model.Words.{NodeId, RouteChange, Next, Policy, Topology, World, site_key, put_away, next, worlds_from, world_after}
+use Rattle.law_world_pace.specs.world_model.ipv4_forward.declared.table.Route.{Route}
 use Rattle.law_controller_bindings.specs.ordered_lists.Ordered.{Every}
 use Rattle.law_controller_bindings.proofs.ordered_lists.Every.{every_all}
 use Rattle.law_controller_bindings.proofs.law_port_facts.Keyed.{at_every}
 use Rattle.law_run_facts.proofs.Controllers.{May}
 use Rattle.law_lifetimes.proofs.Opened.{IsFed, opening_fed}
 use Rattle.law_lifetimes.proofs.Runs.{next_fed, run_fed}
-use Rattle.world_model.specs.network_model.declared.event.Event.{Event}
-use Rattle.world_model.specs.network_model.declared.event.Event.TheVariants.{Route as RouteEvent}
-use Rattle.world_model.specs.World.{opened}
+use Rattle.law_world_pace.specs.world_model.network_model.declared.event.Event.{Event}
+use Rattle.law_world_pace.specs.world_model.network_model.declared.event.Event.TheVariants.{Route as RouteEvent}
+use Rattle.law_world_pace.specs.world_model.World.{opened}
 use Rattle.law_run_facts.specs.Drawn.{Holder, own_at, IsNew, is_new, Draws, EventsDraw, RunsDrawOnce}
 use Rattle.law_run_facts.proofs.Marked.{WorldMarked}
 use Rattle.law_run_facts.proofs.Acting.{fed_whole, Left}

@@ -2,13 +2,13 @@
 
 use Rattle.std.proofs.Common.{ℕ, List, [], ◌++◌, ◌∷◌, Result}
 use Rattle.std.specs.Prelude.{◌+◌}
-use Rattle.world_model.specs.Words.{PortNo, Channel, Cell, changed, RouteChange, Frame, default_channel, default_home, sends_control, says_gsmp, node_restarts, Rule, at_port, change_comes, gsmp_holds}
-use Rattle.world_model.specs.ipv4_forward.declared.table.Route.{Route}
-use Rattle.world_model.specs.gsmp_wire.Layout.{octets_of as gsmp_octets}
-use Rattle.world_model.specs.gsmp_wire.declared.fault.Fault.{Fault as GsmpFault}
-use Rattle.world_model.specs.gsmp_wire.declared.message.Message.{Message}
-use Rattle.world_model.specs.Controller.{Acted}
-use Rattle.world_model.specs.Ticks.{ticks}
+use Rattle.law_world_pace.specs.world_model.Words.{PortNo, Channel, Cell, changed, RouteChange, Frame, default_channel, default_home, sends_control, says_gsmp, node_restarts, Rule, at_port, change_comes, gsmp_holds}
+use Rattle.law_world_pace.specs.world_model.ipv4_forward.declared.table.Route.{Route}
+use Rattle.law_world_pace.specs.world_model.gsmp_wire.Layout.{octets_of as gsmp_octets}
+use Rattle.law_world_pace.specs.world_model.gsmp_wire.declared.fault.Fault.{Fault as GsmpFault}
+use Rattle.law_world_pace.specs.world_model.gsmp_wire.declared.message.Message.{Message}
+use Rattle.law_world_pace.specs.world_model.Controller.{Acted}
+use Rattle.law_world_pace.specs.world_model.Ticks.{ticks}
 use Rattle.law_run_facts.proofs.Walks as walks
 use Rattle.law_run_facts.proofs.Walks.{Sees, Has}
 

@@ -2,18 +2,18 @@
 
 use Rattle.std.proofs.Common.{◌≡◌, ℕ, suc, ◌<◌, ◌+◌, List, [], ◌∷◌, ◌++◌, length, length-append, slice_get, Option, None, Some, refl, sym, ◌∙◌, ap, subst, arith, append_assoc}
 use Rattle.std.specs.Option.{option_map_or}
-use Rattle.world_model.specs.Words.{NodeId, Place, Down, Up, Out, Cell, best, destination_of, Refusal, Policy, Fate, inject_refusal, tick_comes, restarted, forged, node_restarts, Forged, next_control, with_control, control_port, change_comes, Topology, Node, World, Site, site_at, controller_acts, switch_acts, with_opened, opens_each, empty_world, place_node, queue_at, with_queue_of, with_queue, injects_by, arrives_at, arrives, carries_head, loses_head, forges, put_away, next, worlds_from, world_after, records_of, sent_by, table_in, Reaches, hops, HasReached, IsFateAt, delivered, without_route, expired, Past, past_of, IsRun, IsTame, is_wild, WasAccepted, IsTopology}
-use Rattle.world_model.specs.Switch as switches
-use Rattle.world_model.specs.Controller as controllers
-use Rattle.world_model.specs.Ticks.{ticks}
-use Rattle.world_model.specs.Sending.{sends}
-use Rattle.world_model.specs.network_model.declared.event.Event.{Event}
-use Rattle.world_model.specs.network_model.declared.event.Event.TheVariants.{Inject, Carry, Lose, Tick, TickSwitch, Restart, RestartSwitch, Forge, Route}
-use Rattle.world_model.specs.network_model.declared.link.LinkEnd.{LinkEnd}
-use Rattle.world_model.specs.Topology.{peer_of}
-use Rattle.world_model.specs.World.{opened}
-use Rattle.world_model.specs.Step.{note, acts}
-use Rattle.world_model.specs.Reached.{Sent, taken}
+use Rattle.law_world_pace.specs.world_model.Words.{NodeId, Place, Down, Up, Out, Cell, best, destination_of, Refusal, Policy, Fate, inject_refusal, tick_comes, restarted, forged, node_restarts, Forged, next_control, with_control, control_port, change_comes, Topology, Node, World, Site, site_at, controller_acts, switch_acts, with_opened, opens_each, empty_world, place_node, queue_at, with_queue_of, with_queue, injects_by, arrives_at, arrives, carries_head, loses_head, forges, put_away, next, worlds_from, world_after, records_of, sent_by, table_in, Reaches, hops, HasReached, IsFateAt, delivered, without_route, expired, Past, past_of, IsRun, IsTame, is_wild, WasAccepted, IsTopology}
+use Rattle.law_world_pace.specs.world_model.Switch as switches
+use Rattle.law_world_pace.specs.world_model.Controller as controllers
+use Rattle.law_world_pace.specs.world_model.Ticks.{ticks}
+use Rattle.law_world_pace.specs.world_model.Sending.{sends}
+use Rattle.law_world_pace.specs.world_model.network_model.declared.event.Event.{Event}
+use Rattle.law_world_pace.specs.world_model.network_model.declared.event.Event.TheVariants.{Inject, Carry, Lose, Tick, TickSwitch, Restart, RestartSwitch, Forge, Route}
+use Rattle.law_world_pace.specs.world_model.network_model.declared.link.LinkEnd.{LinkEnd}
+use Rattle.law_world_pace.specs.world_model.Topology.{peer_of}
+use Rattle.law_world_pace.specs.world_model.World.{opened}
+use Rattle.law_world_pace.specs.world_model.Step.{note, acts}
+use Rattle.law_world_pace.specs.world_model.Reached.{Sent, taken}
 use Rattle.law_world_views.specs.Kept.{behind}
 use Rattle.law_run_facts.specs.Steps.{PastsAreWhole, IsStep, EventsAreSteps, Stays, PastsStay, RunsHaveFronts}
 use Rattle.law_run_facts.proofs.Lists.{front_get, front_same, any_none, flat_one}

@@ -5,29 +5,29 @@ use Rattle.std.specs.Prelude.{◌==◌, ◌&&◌, nat_le, nat_lt}
 use Rattle.std.specs.FinMap.{get, keys}
 use Rattle.std.specs.List.{range_with_len}
 use Rattle.std.specs.Prelude.{◌/◌}
-use Rattle.world_model.specs.Words.{PortNo, Channel, End, Mark, Party, with_control, Cell, Said, Answer, Quiet, Send, Open, Side, Step, is_estab, ticked, followed_tick, Reply, Silent, Says, Resets, tick_reply, greeting_of, gsmp_answer, gsmp_received, Request, AddBranch, MoveBranch, DeleteTree, VerifyTree, PortManagement, Journal, noted, Loss, Bad, PoolFull, Cut, Unconnected, Gsmp, gsmp_refusal, frame_cells, made, Tested, tested, cut, Routed, Crossbar, queue_of, sent, switched_on, on_channel_of, routed, cut_by_move, Switch, control_port, gsmp_channel, Changed, asked_in, is_request, noted_cut, moved_by, ended_by, all_ended, inputs_on, branches_after, failure_of, Handled, handled, handled_asked, handled_by, reset, replied, requested, read, gsmp_cell, switched_cell, is_gsmp, restarted}
+use Rattle.law_world_pace.specs.world_model.Words.{PortNo, Channel, End, Mark, Party, with_control, Cell, Said, Answer, Quiet, Send, Open, Side, Step, is_estab, ticked, followed_tick, Reply, Silent, Says, Resets, tick_reply, greeting_of, gsmp_answer, gsmp_received, Request, AddBranch, MoveBranch, DeleteTree, VerifyTree, PortManagement, Journal, noted, Loss, Bad, PoolFull, Cut, Unconnected, Gsmp, gsmp_refusal, frame_cells, made, Tested, tested, cut, Routed, Crossbar, queue_of, sent, switched_on, on_channel_of, routed, cut_by_move, Switch, control_port, gsmp_channel, Changed, asked_in, is_request, noted_cut, moved_by, ended_by, all_ended, inputs_on, branches_after, failure_of, Handled, handled, handled_asked, handled_by, reset, replied, requested, read, gsmp_cell, switched_cell, is_gsmp, restarted}
 use Rattle.law_lifetimes.specs.aal5_frames.Frame.{cells_with, cell_of, pdu_of}
-use Rattle.world_model.specs.adjacency_table.declared.message.Answer.TheVariants.{Reset}
-use Rattle.world_model.specs.adjacency_table.Side.{counted}
-use Rattle.world_model.specs.gsmp_wire.declared.fault.Fault.{Fault}
-use Rattle.world_model.specs.gsmp_wire.declared.message.Message.{Message}
-use Rattle.world_model.specs.gsmp_wire.declared.message.Message.TheVariants as messages
-use Rattle.world_model.specs.gsmp_wire.declared.request.Request.TheVariants.{DeleteAll, AllPorts}
-use Rattle.world_model.specs.gsmp_wire.Layout.{octets_of}
-use Rattle.world_model.specs.gsmp_wire.Fields.{decoded}
-use Rattle.world_model.specs.frame_model.Sending.{Sent}
-use Rattle.world_model.specs.frame_model.Reassembly.{Taken, taken}
+use Rattle.law_world_pace.specs.world_model.adjacency_table.declared.message.Answer.TheVariants.{Reset}
+use Rattle.law_world_pace.specs.world_model.adjacency_table.Side.{counted}
+use Rattle.law_world_pace.specs.world_model.gsmp_wire.declared.fault.Fault.{Fault}
+use Rattle.law_world_pace.specs.world_model.gsmp_wire.declared.message.Message.{Message}
+use Rattle.law_world_pace.specs.world_model.gsmp_wire.declared.message.Message.TheVariants as messages
+use Rattle.law_world_pace.specs.world_model.gsmp_wire.declared.request.Request.TheVariants.{DeleteAll, AllPorts}
+use Rattle.law_world_pace.specs.world_model.gsmp_wire.Layout.{octets_of}
+use Rattle.law_world_pace.specs.world_model.gsmp_wire.Fields.{decoded}
+use Rattle.law_world_pace.specs.world_model.frame_model.Sending.{Sent}
+use Rattle.law_world_pace.specs.world_model.frame_model.Reassembly.{Taken, taken}
 use Rattle.law_controller_bindings.specs.ordered_lists.Ordered.{Every}
 use Rattle.law_controller_bindings.proofs.ordered_lists.Every.{every_join, every_map}
 use Rattle.law_controller_bindings.proofs.law_port_facts.Keyed.{on_both}
-use Rattle.world_model.specs.crossbar_model.declared.branch.Branch.{Branch}
-use Rattle.world_model.specs.crossbar_model.declared.routed.Routed.TheVariants as routes
-use Rattle.world_model.specs.crossbar_model.Crossbar.{input_of}
-use Rattle.world_model.specs.switch_model.declared.request.Asked.{Asked}
-use Rattle.world_model.specs.switch_model.declared.request.Failure.{Failure}
-use Rattle.world_model.specs.Switch.{Acted, free_slots}
-use Rattle.world_model.specs.Requests.{ended}
-use Rattle.world_model.specs.Conduct.{with_cells, sends, says, answers, steps, told, opened_frame, ends_frame, passed, cell_comes}
+use Rattle.law_world_pace.specs.world_model.crossbar_model.declared.branch.Branch.{Branch}
+use Rattle.law_world_pace.specs.world_model.crossbar_model.declared.routed.Routed.TheVariants as routes
+use Rattle.law_world_pace.specs.world_model.crossbar_model.Crossbar.{input_of}
+use Rattle.law_world_pace.specs.world_model.switch_model.declared.request.Asked.{Asked}
+use Rattle.law_world_pace.specs.world_model.switch_model.declared.request.Failure.{Failure}
+use Rattle.law_world_pace.specs.world_model.Switch.{Acted, free_slots}
+use Rattle.law_world_pace.specs.world_model.Requests.{ended}
+use Rattle.law_world_pace.specs.world_model.Conduct.{with_cells, sends, says, answers, steps, told, opened_frame, ends_frame, passed, cell_comes}
 use Rattle.law_world_pace.proofs.law_actor_pace.Cells.{every_set, every_at}
 use Rattle.law_run_facts.specs.Inputs.{IsMark, IsMarked, SwitchInput, CellComes, Ticks, Restarts, switch_takes}
 use Rattle.law_run_facts.specs.Frames.{IsFree, Stay, BindsNone}

@@ -4,10 +4,10 @@ use Rattle.std.proofs.Common.{◌≡◌, ℕ, ◌*◌, ◌+◌, ◌/◌, ◌%◌
 use Rattle.std.specs.Prelude.{◌==◌, ◌&&◌}
 use Rattle.std.specs.Option.{option_and_then}
 use Rattle.std.proofs.lemmas.Bool.Decides.{nat_tests}
-use Rattle.world_model.specs.Words.{Channel, label_number_of, Label, is_bound, label_at, Controller, Linked, linked_at, port_key, default_channel, default_home, ForGsmp, ForDefault, ForLabel, taker_of, taker_at, label_taker, port_on, on_link, same_channel}
+use Rattle.law_world_pace.specs.world_model.Words.{Channel, label_number_of, Label, is_bound, label_at, Controller, Linked, linked_at, port_key, default_channel, default_home, ForGsmp, ForDefault, ForLabel, taker_of, taker_at, label_taker, port_on, on_link, same_channel}
 use Rattle.law_controller_bindings.specs.ordered_lists.Ordered.{Every}
 use Rattle.law_controller_bindings.proofs.law_port_facts.Keyed.{at_every, at_key}
-use Rattle.world_model.specs.Cells.{Taker}
+use Rattle.law_world_pace.specs.world_model.Cells.{Taker}
 
 -- what is so of every port is so of the one that takes
 abbrev pub OfTaker : (Linked → Type 0) → Taker → Type 0

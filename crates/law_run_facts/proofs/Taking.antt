@@ -2,9 +2,9 @@
 
 use Rattle.std.proofs.Common.{◌≡◌, Bool, true, subst, List, [], ◌∷◌, ◌++◌, length}
 use Rattle.std.specs.Prelude.{not, nat_le}
-use Rattle.world_model.specs.Words.{Cell, Journal, tested, payload_in, Reassembly, passed_over, without_slot, too_long, most_cells}
-use Rattle.world_model.specs.frame_model.Frame.{octets_of}
-use Rattle.world_model.specs.frame_model.Reassembly.{Taken, taken, joined}
+use Rattle.law_world_pace.specs.world_model.Words.{Cell, Journal, tested, payload_in, Reassembly, passed_over, without_slot, too_long, most_cells}
+use Rattle.law_world_pace.specs.world_model.frame_model.Frame.{octets_of}
+use Rattle.law_world_pace.specs.world_model.frame_model.Reassembly.{Taken, taken, joined}
 use Rattle.law_controller_bindings.proofs.law_port_facts.Keyed.{on_both, on_each}
 pub use Rattle.law_world_views.proofs.law_shown_cells.Tested.{cut_frames, taken_frames}
 use Rattle.law_world_views.proofs.law_shown_cells.Tested as cells_of

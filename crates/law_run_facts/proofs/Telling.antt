@@ -4,16 +4,16 @@ use Rattle.std.proofs.Common.{◌≡◌, ◌≢◌, ℕ, ◌+◌, Bool, true, fa
 use Rattle.std.specs.Prelude.{◌==◌, ◌&&◌, drop, nat_le}
 use Rattle.std.specs.Option.{option_map, option_or}
 use Rattle.std.proofs.lemmas.Bool.Decides.{nat_tests}
-use Rattle.world_model.specs.Words.{NodeId, PortNo, Place, Down, Up, Out, Channel, Mark, GivenOut, next_control, with_control, Cell, FlowId, Record, Bind, Loss, Forged, Refused, PoolFull, Lost, Refusal, Journal, noted, frame_cells, made, at, put, Switch, control_port, Controller, inject_refusal, injected, node_restarts, change_comes, Topology, World, Site, site_key, site_at, controller_at, controller_acts, switch_acts, queue_at, with_queue_in, with_queue_of, with_queue, injects_by, arrives_at, carries_head, loses_head, forges_at, forges, put_away, next, bound_by, last_bound}
-use Rattle.world_model.specs.frame_model.Sending.{Sent}
+use Rattle.law_world_pace.specs.world_model.Words.{NodeId, PortNo, Place, Down, Up, Out, Channel, Mark, GivenOut, next_control, with_control, Cell, FlowId, Record, Bind, Loss, Forged, Refused, PoolFull, Lost, Refusal, Journal, noted, frame_cells, made, at, put, Switch, control_port, Controller, inject_refusal, injected, node_restarts, change_comes, Topology, World, Site, site_key, site_at, controller_at, controller_acts, switch_acts, queue_at, with_queue_in, with_queue_of, with_queue, injects_by, arrives_at, carries_head, loses_head, forges_at, forges, put_away, next, bound_by, last_bound}
+use Rattle.law_world_pace.specs.world_model.frame_model.Sending.{Sent}
 use Rattle.law_controller_bindings.specs.ordered_lists.Ordered.{Every}
 use Rattle.law_controller_bindings.proofs.law_port_facts.Keyed.{on_both, by_eq, at_key, at_every, at_put_same}
-use Rattle.world_model.specs.Switch as switches
-use Rattle.world_model.specs.Conduct as switch
-use Rattle.world_model.specs.Controller.{Acted, free_slots}
-use Rattle.world_model.specs.Sending.{with_cells, sends}
-use Rattle.world_model.specs.Cells as controller
-use Rattle.world_model.specs.Ticks as controller_ticks
+use Rattle.law_world_pace.specs.world_model.Switch as switches
+use Rattle.law_world_pace.specs.world_model.Conduct as switch
+use Rattle.law_world_pace.specs.world_model.Controller.{Acted, free_slots}
+use Rattle.law_world_pace.specs.world_model.Sending.{with_cells, sends}
+use Rattle.law_world_pace.specs.world_model.Cells as controller
+use Rattle.law_world_pace.specs.world_model.Ticks as controller_ticks
 use Rattle.law_controller_bindings.specs.law_controller_facts.Inputs.{Input, CellComes, PacketEnters, Ticks, Restarts, ChangeComes, FrameIsForged, CellLeaves, Meanwhile, enters_unless, takes_input, takes_inputs}
 use Rattle.law_controller_bindings.specs.law_controller_facts.Sound.{IsOwn, opened_by}
 use Rattle.law_controller_bindings.specs.Bindings.{site, IsOfNode, noted_by}
@@ -22,15 +22,15 @@ use Rattle.law_run_facts.specs.Inputs as turns
 use Rattle.law_run_facts.specs.Inputs.{SwitchInput, switch_takes}
 use Rattle.law_run_facts.proofs.Switches as switching
 use Rattle.law_run_facts.proofs.Switches.{switch_leaves}
-use Rattle.law_lifetimes.specs.Run.{acted_in, if_at, head_comes, head_leaves, comes_to}
+use Rattle.law_lifetimes.specs.Lifetimes.{acted_in, if_at, head_comes, head_leaves, comes_to}
 use Rattle.law_lifetimes.proofs.Opened.{IsFed}
 use Rattle.law_lifetimes.proofs.Feeding.{inputs_join, acted_by, number_isnt}
-use Rattle.world_model.specs.network_model.declared.event.Event.{Event}
-use Rattle.world_model.specs.network_model.declared.event.Event.TheVariants.{Inject, Carry, Lose, Tick, TickSwitch, Restart, RestartSwitch, Forge, Route}
-use Rattle.world_model.specs.network_model.declared.link.LinkEnd.{LinkEnd}
-use Rattle.world_model.specs.Topology.{peer_of}
-use Rattle.world_model.specs.World.{at_controller, at_switch}
-use Rattle.world_model.specs.Step.{note}
+use Rattle.law_world_pace.specs.world_model.network_model.declared.event.Event.{Event}
+use Rattle.law_world_pace.specs.world_model.network_model.declared.event.Event.TheVariants.{Inject, Carry, Lose, Tick, TickSwitch, Restart, RestartSwitch, Forge, Route}
+use Rattle.law_world_pace.specs.world_model.network_model.declared.link.LinkEnd.{LinkEnd}
+use Rattle.law_world_pace.specs.world_model.Topology.{peer_of}
+use Rattle.law_world_pace.specs.world_model.World.{at_controller, at_switch}
+use Rattle.law_world_pace.specs.world_model.Step.{note}
 use Rattle.law_run_facts.proofs.Marked.{WorldMarked, queue_marked, queue_popped}
 use Rattle.law_run_facts.proofs.Runs.{Any}
 use Rattle.law_run_facts.proofs.Opened.{always_named}

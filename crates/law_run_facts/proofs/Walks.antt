@@ -4,23 +4,23 @@
 
 use Rattle.std.proofs.Common.{◌≡◌, ℕ, List, [], ◌∷◌, ◌++◌, length, Some, Result, Ok, Err, sym, subst}
 use Rattle.std.specs.Prelude.{◌+◌, nat_le}
-use Rattle.world_model.specs.Words.{PortNo, Channel, Mark, next_control, with_control, Cell, ifmp_packet_of, changed, RouteChange, default_payload, Frame, Loss, PoolFull, noted, frame_cells, made, nothing_taken, Action, Setup, Desk, Work, put, Controller, Linked, chain_of, chains_with, port_key, default_channel, default_home, sends_control, says_gsmp, cuts_of, cuts_default_of, cuts_gsmp, node_restarts, Rule, at_port, takes_change, change_comes, gsmp_holds}
-use Rattle.world_model.specs.ipv4_forward.declared.table.Route.{Route}
-use Rattle.world_model.specs.ifmp_wire.Message.{octets_of as ifmp_octets}
-use Rattle.world_model.specs.gsmp_wire.Layout.{octets_of as gsmp_octets}
-use Rattle.world_model.specs.gsmp_wire.declared.message.Message.{Message}
-use Rattle.world_model.specs.gsmp_wire.declared.fault.Fault.{Fault as GsmpFault}
-use Rattle.world_model.specs.frame_model.Sending.{Sent}
+use Rattle.law_world_pace.specs.world_model.Words.{PortNo, Channel, Mark, next_control, with_control, Cell, ifmp_packet_of, changed, RouteChange, default_payload, Frame, Loss, PoolFull, noted, frame_cells, made, nothing_taken, Action, Setup, Desk, Work, put, Controller, Linked, chain_of, chains_with, port_key, default_channel, default_home, sends_control, says_gsmp, cuts_of, cuts_default_of, cuts_gsmp, node_restarts, Rule, at_port, takes_change, change_comes, gsmp_holds}
+use Rattle.law_world_pace.specs.world_model.ipv4_forward.declared.table.Route.{Route}
+use Rattle.law_world_pace.specs.world_model.ifmp_wire.Message.{octets_of as ifmp_octets}
+use Rattle.law_world_pace.specs.world_model.gsmp_wire.Layout.{octets_of as gsmp_octets}
+use Rattle.law_world_pace.specs.world_model.gsmp_wire.declared.message.Message.{Message}
+use Rattle.law_world_pace.specs.world_model.gsmp_wire.declared.fault.Fault.{Fault as GsmpFault}
+use Rattle.law_world_pace.specs.world_model.frame_model.Sending.{Sent}
 use Rattle.law_controller_bindings.specs.ordered_lists.Ordered.{Every}
-use Rattle.world_model.specs.port_model.Resets.{cleared}
+use Rattle.law_world_pace.specs.world_model.port_model.Resets.{cleared}
 use Rattle.law_controller_bindings.proofs.law_port_facts.Keyed.{on_both, at_every, put_every}
 use Rattle.law_controller_bindings.proofs.ordered_lists.Every.{every_map, every_all}
-use Rattle.world_model.specs.Controller.{Acted, free_slots}
-use Rattle.world_model.specs.Sending.{with_cells, sends}
-use Rattle.world_model.specs.Ticks.{ticks}
-use Rattle.law_rule_walks.proofs.Controllers.{Keeps, Found}
-use Rattle.law_rule_walks.proofs.Controllers as controllers
-use Rattle.law_rule_walks.proofs.Changes as route_changes
+use Rattle.law_world_pace.specs.world_model.Controller.{Acted, free_slots}
+use Rattle.law_world_pace.specs.world_model.Sending.{with_cells, sends}
+use Rattle.law_world_pace.specs.world_model.Ticks.{ticks}
+use Rattle.law_lifetimes.proofs.law_rule_walks.Controllers.{Keeps, Found}
+use Rattle.law_lifetimes.proofs.law_rule_walks.Controllers as controllers
+use Rattle.law_lifetimes.proofs.law_rule_walks.Changes as route_changes
 use Rattle.law_run_facts.proofs.Taking.{cut_frames}
 
 module _ (S : (queue chain : List Cell) → List Frame → (controls : ℕ) → Type 0) (T : List Route → Type 0) (Q : RouteChange → Type 0) (D : (controls : ℕ) → PortNo → (chain : List Cell) → Type 0) where

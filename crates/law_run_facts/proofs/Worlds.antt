@@ -1,13 +1,13 @@
 -- each event leaves marks that were given out, and draws new instances
 
 use Rattle.std.proofs.Common.{◌≡◌, ℕ, ◌+◌, List, [], ◌∷◌, Option, None, Some, refl, sym, ◌∙◌, ap, subst, arith, inl}
-use Rattle.world_model.specs.Words.{NodeId, PortNo, Place, Down, Up, Out, Channel, GivenOut, next_control, with_control, Cell, RouteChange, Next, Record, Forged, Refusal, at, put, control_port, inject_refusal, injected, sends_control, node_restarts, change_comes, Topology, with_site, World, Site, site_key, site_at, controller_acts, switch_acts, queue_at, with_queue_in, with_queue_of, with_queue, injects_by, injects, arrives_at, arrives, carries_head, loses_head, forges_at, forges}
+use Rattle.law_world_pace.specs.world_model.Words.{NodeId, PortNo, Place, Down, Up, Out, Channel, GivenOut, next_control, with_control, Cell, RouteChange, Next, Record, Forged, Refusal, at, put, control_port, inject_refusal, injected, sends_control, node_restarts, change_comes, Topology, with_site, World, Site, site_key, site_at, controller_acts, switch_acts, queue_at, with_queue_in, with_queue_of, with_queue, injects_by, injects, arrives_at, arrives, carries_head, loses_head, forges_at, forges}
 use Rattle.law_controller_bindings.proofs.law_port_facts.Keyed.{at_key, at_every, at_put_same, put_every}
-use Rattle.world_model.specs.Conduct as switch
-use Rattle.world_model.specs.Controller.{Acted}
-use Rattle.world_model.specs.Sending.{sends}
-use Rattle.world_model.specs.Cells as controller
-use Rattle.world_model.specs.Ticks as controller_ticks
+use Rattle.law_world_pace.specs.world_model.Conduct as switch
+use Rattle.law_world_pace.specs.world_model.Controller.{Acted}
+use Rattle.law_world_pace.specs.world_model.Sending.{sends}
+use Rattle.law_world_pace.specs.world_model.Cells as controller
+use Rattle.law_world_pace.specs.world_model.Ticks as controller_ticks
 use Rattle.law_controller_bindings.specs.law_controller_facts.Inputs.{Input, CellComes, PacketEnters, Ticks, Restarts, ChangeComes, enters_unless, takes_input}
 use Rattle.law_controller_bindings.specs.law_controller_facts.Sound.{IsOwn}
 use Rattle.law_run_facts.specs.Inputs as turns
@@ -16,12 +16,12 @@ use Rattle.law_run_facts.proofs.Switches.{sends_leave}
 use Rattle.law_run_facts.proofs.Owns.{own_in}
 use Rattle.law_run_facts.proofs.Controllers as controllers
 use Rattle.law_run_facts.proofs.Controllers.{IsLeft, control_leaves, May}
-use Rattle.world_model.specs.network_model.declared.event.Event.{Event}
-use Rattle.world_model.specs.network_model.declared.event.Event.TheVariants.{Inject, Carry, Lose, Tick, TickSwitch, Restart, RestartSwitch, Forge, Route}
-use Rattle.world_model.specs.network_model.declared.link.LinkEnd.{LinkEnd}
-use Rattle.world_model.specs.Topology.{peer_of}
-use Rattle.world_model.specs.World.{at_controller, at_switch}
-use Rattle.world_model.specs.Step.{note, acts}
+use Rattle.law_world_pace.specs.world_model.network_model.declared.event.Event.{Event}
+use Rattle.law_world_pace.specs.world_model.network_model.declared.event.Event.TheVariants.{Inject, Carry, Lose, Tick, TickSwitch, Restart, RestartSwitch, Forge, Route}
+use Rattle.law_world_pace.specs.world_model.network_model.declared.link.LinkEnd.{LinkEnd}
+use Rattle.law_world_pace.specs.world_model.Topology.{peer_of}
+use Rattle.law_world_pace.specs.world_model.World.{at_controller, at_switch}
+use Rattle.law_world_pace.specs.world_model.Step.{note, acts}
 use Rattle.law_run_facts.proofs.Marked.{Kind, IsController, IsSwitch, IsPort, own_as, SiteMarked, WorldMarked, sites_later, queue_marked, Popped, queue_popped, site_draws}
 use Rattle.law_run_facts.proofs.Acting.{IsWhole, sent_same, Left, still, then_left, acting, is_left, site_of, controller_left, turning, turned, switch_by, switch_left}
 

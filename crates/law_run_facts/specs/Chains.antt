@@ -1,8 +1,8 @@
 -- The chains of GSMP's channel have taken cells of that channel alone
 
 use Rattle.std.specs.Prelude.{◌≡◌, true, List, ◌++◌, Contains}
-use Rattle.world_model.specs.Words.{NodeId, Cell, Policy, default_channel, same_channel, Topology, World, requests_chain_at, answers_chain_at, past_of}
-use Rattle.world_model.specs.network_model.declared.event.Event.{Event}
+use Rattle.law_world_pace.specs.world_model.Words.{NodeId, Cell, Policy, default_channel, same_channel, Topology, World, requests_chain_at, answers_chain_at, past_of}
+use Rattle.law_world_pace.specs.world_model.network_model.declared.event.Event.{Event}
 
 -- those of each switch and of each controller
 abbrev pub HasOwnChains : World → Type 0

@@ -2,9 +2,9 @@
 
 use Rattle.std.specs.Prelude.{◌≡◌, ℕ, ◌<◌, ◌≤◌, List, Contains, Option, Some, ◌⊎◌}
 use Rattle.std.specs.Option.{option_map}
-use Rattle.world_model.specs.Words.{NodeId, Policy, Topology, World, site_at, next, side_at, Past, past_of}
-use Rattle.world_model.specs.network_model.declared.event.Event.{Event}
-use Rattle.world_model.specs.network_model.declared.link.LinkEnd.{LinkEnd}
+use Rattle.law_world_pace.specs.world_model.Words.{NodeId, Policy, Topology, World, site_at, next, side_at, Past, past_of}
+use Rattle.law_world_pace.specs.world_model.network_model.declared.event.Event.{Event}
+use Rattle.law_world_pace.specs.world_model.network_model.declared.link.LinkEnd.{LinkEnd}
 
 -- *Who draws instances*: the controller of a node, its switch, a port of a link
 pub data Holder : Type 0 where

@@ -1,8 +1,8 @@
 -- What is made of frames, and what is noted
 
 use Rattle.std.specs.Prelude.{◌≡◌, ℕ, ◌<◌, List, Some, None}
-use Rattle.world_model.specs.Words.{Mark, Frame, Record, payload_of, last_bound}
-use Rattle.world_model.specs.network_model.declared.link.LinkEnd.{LinkEnd}
+use Rattle.law_world_pace.specs.world_model.Words.{Mark, Frame, Record, payload_of, last_bound}
+use Rattle.law_world_pace.specs.world_model.network_model.declared.link.LinkEnd.{LinkEnd}
 
 -- nothing is made under the control marks that weren't given out
 abbrev pub IsFree : (controls : ℕ) → List Frame → Type 0

@@ -1,9 +1,9 @@
 -- What may come to a switch, and which marks are given out
 
 use Rattle.std.specs.Prelude.{◌≡◌, ℕ, ◌<◌, ◌≤◌}
-use Rattle.world_model.specs.Words.{PortNo, Mark, Cell, tick_comes, restarted}
-use Rattle.world_model.specs.Switch.{Acted}
-use Rattle.world_model.specs.Conduct.{cell_comes}
+use Rattle.law_world_pace.specs.world_model.Words.{PortNo, Mark, Cell, tick_comes, restarted}
+use Rattle.law_world_pace.specs.world_model.Switch.{Acted}
+use Rattle.law_world_pace.specs.world_model.Conduct.{cell_comes}
 
 -- a cell comes on a port, a tick, a restart
 pub data SwitchInput : Type 0 where

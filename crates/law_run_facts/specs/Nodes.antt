@@ -1,23 +1,23 @@
 -- What is so of each node in every run, forged frames or not
 
 use Rattle.std.specs.Prelude.{◌≡◌, ◌*◌, ◌≤◌, true, List, ◌∷◌, length, map, Contains, Some}
-use Rattle.world_model.specs.Words.{NodeId, PortNo, Place, HasNumbersLeft, Cell, RouteChange, IsLinkPort, ArePorts, control_port, numbers_of, Policy, Setup, Controller, Linked, linked_at, setup_of, Topology, Node, node_at, ranges_of, timers_of, is_linked, IsNode, IsLinkedNext, IsLinkedChange, World, Site, site_at, queue_at, Past, past_of, IsRun}
-use Rattle.world_model.specs.ipv4_forward.declared.table.Route.{Route}
+use Rattle.law_world_pace.specs.world_model.Words.{NodeId, PortNo, Place, HasNumbersLeft, Cell, RouteChange, IsLinkPort, ArePorts, control_port, numbers_of, Policy, Setup, Controller, Linked, linked_at, setup_of, Topology, Node, node_at, ranges_of, timers_of, is_linked, IsNode, IsLinkedNext, IsLinkedChange, World, Site, site_at, queue_at, Past, past_of, IsRun}
+use Rattle.law_world_pace.specs.world_model.ipv4_forward.declared.table.Route.{Route}
 use Rattle.law_controller_bindings.specs.ordered_lists.Ordered.{Every}
 use Rattle.law_controller_bindings.specs.law_port_facts.Port.{IsRanged}
 use Rattle.law_world_views.specs.law_port_widths.Widths.{FitsSetup}
-use Rattle.world_model.specs.Controller.{ports_of}
+use Rattle.law_world_pace.specs.world_model.Controller.{ports_of}
 use Rattle.law_controller_bindings.specs.law_controller_facts.Sound.{IsSound}
 use Rattle.law_controller_bindings.specs.law_controller_facts.Said.{HasFlowingPorts}
 use Rattle.law_controller_bindings.specs.law_controller_facts.Conditions.{HasGrantedJoins, HasMovingRequests}
 use Rattle.law_controller_bindings.specs.law_controller.Order.{IsOrderly}
 use Rattle.law_controller_bindings.specs.law_controller.Match.{IsMatched}
 use Rattle.law_controller_bindings.specs.Bindings.{HasBoundLabels, HasLedJoins, GathersForBound}
-use Rattle.world_model.specs.network_model.declared.event.Event.{Event}
-use Rattle.world_model.specs.Topology as topologies
+use Rattle.law_world_pace.specs.world_model.network_model.declared.event.Event.{Event}
+use Rattle.law_world_pace.specs.world_model.Topology as topologies
 use Rattle.law_world_views.specs.Shown.{acting}
 use Rattle.law_world_views.specs.Between.{EachSite, setups_of}
-use Rattle.law_world_views.specs.Kept.{HasAddresses}
+use Rattle.law_world_views.specs.Fronts.{HasAddresses}
 
 -- *The node* is one of the topology: its number, its address, and the ports of its links with what stays the same of them
 pub record IsNodeOf (policy : Policy) (topology : Topology) (node : NodeId) (site : Site) : Type 0 where

@@ -1,10 +1,10 @@
 -- What an event adds to a past, and what of a past stays so
 
 use Rattle.std.specs.Prelude.{◌≡◌, ℕ, suc, ◌<◌, List, [], ◌∷◌, ◌++◌, length, slice_get, Some}
-use Rattle.world_model.specs.Words.{NodeId, Policy, Fate, Topology, CanCome, next, Reaches, HasReached, sent_by, table_in, Past, past_of, frames_of, WasCleared, IsRun, IsTame, WasAccepted, IsTrueFate}
+use Rattle.law_world_pace.specs.world_model.Words.{NodeId, Policy, Fate, Topology, CanCome, next, Reaches, HasReached, sent_by, table_in, Past, past_of, frames_of, WasCleared, IsRun, IsTame, WasAccepted, IsTrueFate}
 use Rattle.law_world_views.specs.law_shown_cells.Seen.{Extends}
-use Rattle.world_model.specs.network_model.declared.event.Event.{Event}
-use Rattle.world_model.specs.network_model.declared.link.LinkEnd.{LinkEnd}
+use Rattle.law_world_pace.specs.world_model.network_model.declared.event.Event.{Event}
+use Rattle.law_world_pace.specs.world_model.network_model.declared.link.LinkEnd.{LinkEnd}
 use Rattle.law_world_views.specs.Marks.{HasCome}
 use Rattle.law_world_views.specs.Between.{IsWorld}
 use Rattle.law_world_views.specs.Kept.{Comes, behind}

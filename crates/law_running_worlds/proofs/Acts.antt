@@ -2,15 +2,15 @@
 
 use Rattle.std.proofs.Common.{◌≡◌, ℕ, ◌≤◌, List, ◌∷◌, length, Option, None, Some, refl, sym, ◌∙◌, ap, subst, arith, inr}
 use Rattle.std.specs.FinMap.{get}
-use Rattle.world_model.specs.Words.{End, NodeId, PortNo, GivenOut, IsLinkPort, queue_of, Frame, payload_of, Journal, control_port, numbers_of, Setup, World, Site, site_at, with_site, controller_acts, switch_acts, FitsRows}
+use Rattle.law_branch_shapes.specs.world_model.Words.{End, NodeId, PortNo, GivenOut, IsLinkPort, queue_of, Frame, payload_of, Journal, control_port, numbers_of, Setup, World, Site, site_at, with_site, controller_acts, switch_acts, FitsRows}
 use Rattle.law_frame_readings.specs.ordered_lists.Ordered.{Every}
-use Rattle.world_model.specs.Switch as switches
-use Rattle.world_model.specs.Controller.{Acted, ports_of}
+use Rattle.law_branch_shapes.specs.world_model.Switch as switches
+use Rattle.law_branch_shapes.specs.world_model.Controller.{Acted, ports_of}
 use Rattle.law_frame_readings.specs.law_controller_facts.Sound.{IsSound}
 use Rattle.law_input_events.specs.law_controller.Order.{IsOrderly}
 use Rattle.law_input_events.specs.law_controller.Match.{IsMatched}
 use Rattle.law_input_events.proofs.law_controller.Whole.{Whole}
-use Rattle.world_model.specs.World.{at_controller, at_switch}
+use Rattle.law_branch_shapes.specs.world_model.World.{at_controller, at_switch}
 use Rattle.law_input_events.specs.law_input_steps.Hearing.{LeadsAway}
 use Rattle.law_input_events.proofs.law_input_premises.Reading.{are_read}
 use Rattle.law_input_events.specs.Coming.{GoesByLinks, TellsPorts}

@@ -3,16 +3,16 @@
 use Rattle.std.proofs.Common.{◌≡◌, ℕ, Bool, true, false, not, List, [], ◌∷◌, map, filter, find, length, Option, None, Some, Result, Ok, Err, refl, sym, ◌∙◌, ap, subst, arith, if◌then◌else◌}
 use Rattle.std.specs.Prelude.{◌==◌, ◌&&◌, nat_le}
 use Rattle.std.proofs.lemmas.Bool.Decides.{nat_tests}
-use Rattle.world_model.specs.Words.{Party, PortNo, Mark, Answer, Quiet, Send, Open, Said, Side, is_estab, is_open, greeting_of, gsmp_answer, gsmp_received, heard_in, same_party, Cell, IsLinkPort, BranchKind, Request, AddBranch, MoveBranch, DeleteTree, VerifyTree, PortManagement, PortRow, Frame, Gsmp, Bad, Loss, PoolFull, noted, frame_cells, made, next_control, with_control, gsmp_refusal, Standing, Head, head_of, is_branch_of, is_of_type, succeeded, outcome, answered_with, after_answer, Answered, Unknown, Done, Ports, Failed, Setup, Controller, Linked, with_desk, default_channel, says_gsmp, takes_answer, gsmp_holds}
-use Rattle.world_model.specs.adjacency_table.declared.message.Answer.TheVariants.{Reset}
-use Rattle.world_model.specs.adjacency_table.Side as sides
-use Rattle.world_model.specs.gsmp_wire.declared.fault.Fault.{Fault}
-use Rattle.world_model.specs.gsmp_wire.declared.message.BranchKind.TheVariants as kinds
-use Rattle.world_model.specs.gsmp_wire.declared.message.Message.{Message}
-use Rattle.world_model.specs.gsmp_wire.declared.message.Message.TheVariants as messages
-use Rattle.world_model.specs.gsmp_wire.declared.request.Request.TheVariants.{DeleteAll, AllPorts}
-use Rattle.world_model.specs.frame_model.Sending.{Sent}
-use Rattle.world_model.specs.gsmp_wire.Layout.{octets_of as gsmp_octets}
+use Rattle.law_branch_shapes.specs.world_model.Words.{Party, PortNo, Mark, Answer, Quiet, Send, Open, Said, Side, is_estab, is_open, greeting_of, gsmp_answer, gsmp_received, heard_in, same_party, Cell, IsLinkPort, BranchKind, Request, AddBranch, MoveBranch, DeleteTree, VerifyTree, PortManagement, PortRow, Frame, Gsmp, Bad, Loss, PoolFull, noted, frame_cells, made, next_control, with_control, gsmp_refusal, Standing, Head, head_of, is_branch_of, is_of_type, succeeded, outcome, answered_with, after_answer, Answered, Unknown, Done, Ports, Failed, Setup, Controller, Linked, with_desk, default_channel, says_gsmp, takes_answer, gsmp_holds}
+use Rattle.law_branch_shapes.specs.world_model.adjacency_table.declared.message.Answer.TheVariants.{Reset}
+use Rattle.law_branch_shapes.specs.world_model.adjacency_table.Side as sides
+use Rattle.law_branch_shapes.specs.world_model.gsmp_wire.declared.fault.Fault.{Fault}
+use Rattle.law_branch_shapes.specs.world_model.gsmp_wire.declared.message.BranchKind.TheVariants as kinds
+use Rattle.law_branch_shapes.specs.world_model.gsmp_wire.declared.message.Message.{Message}
+use Rattle.law_branch_shapes.specs.world_model.gsmp_wire.declared.message.Message.TheVariants as messages
+use Rattle.law_branch_shapes.specs.world_model.gsmp_wire.declared.request.Request.TheVariants.{DeleteAll, AllPorts}
+use Rattle.law_branch_shapes.specs.world_model.frame_model.Sending.{Sent}
+use Rattle.law_branch_shapes.specs.world_model.gsmp_wire.Layout.{octets_of as gsmp_octets}
 use Rattle.law_frame_readings.specs.ordered_lists.Ordered.{Every}
 use Rattle.law_frame_readings.proofs.ordered_lists.Parts.{part_filtered, every_part}
 use Rattle.law_frame_readings.specs.law_port_facts.Port.{IsShaped}
@@ -20,9 +20,9 @@ use Rattle.law_frame_readings.proofs.law_port_facts.Keyed.{on_both}
 use Rattle.law_frame_readings.proofs.law_port_facts.Found.{find_every, find_passes}
 use Rattle.law_frame_readings.proofs.law_port_facts.Turns.{IsTurned, received_turns}
 use Rattle.law_frame_readings.proofs.law_port_facts.Rules.{and_second}
-use Rattle.world_model.specs.Controller.{Acted, free_slots, ports_of}
-use Rattle.world_model.specs.Sending.{with_cells}
-use Rattle.world_model.specs.Gsmp.{answers, steps, told}
+use Rattle.law_branch_shapes.specs.world_model.Controller.{Acted, free_slots, ports_of}
+use Rattle.law_branch_shapes.specs.world_model.Sending.{with_cells}
+use Rattle.law_branch_shapes.specs.world_model.Gsmp.{answers, steps, told}
 use Rattle.law_frame_readings.specs.law_controller_facts.Sound.{linked_setup}
 use Rattle.law_frame_readings.proofs.law_controller_facts.Moves.{answering, moves_to, moves_ports}
 use Rattle.law_frame_readings.proofs.law_controller_facts.Laws.{has_ports}

@@ -4,21 +4,21 @@
 use Rattle.std.proofs.Common.{◌≡◌, ◌≢◌, ℕ, ◌+◌, ◌<◌, ◌≤◌, true, false, not, List, [], ◌∷◌, ◌++◌, map, filter, length, fold, Option, None, Some, refl, sym, ◌∙◌, subst, arith, if◌then◌else◌}
 use Rattle.std.specs.Prelude.{◌==◌, nat_le}
 use Rattle.std.proofs.lemmas.Bool.Decides.{nat_tests}
-use Rattle.world_model.specs.Words.{Channel, End, PortNo, Mark, next_control, with_control, is_estab, Cell, IsLinkPort, default_payload, ifmp_packet_of, Request, MoveBranch, Frame, PoolFull, Loss, noted, frame_cells, made, Desk, Standing, is_led_home, last_transaction, withdraws, Action, Say, Ask, Note, CutChain, TakeBack, Withdraw, Setup, home_of, Work, resets, Controller, Linked, linked_at, with_desk, default_channel, default_home, sends_control, says_gsmp, asks_next, asks, takes_back, begins, with_work, resets_gsmp, port_restarts, node_resets, does, does_in_estab, resets_of, performs, performs_in_estab, Rule, works, works_as, at_port}
-use Rattle.world_model.specs.ifmp_wire.Message.{octets_of as ifmp_octets}
-use Rattle.world_model.specs.gsmp_wire.Layout.{octets_of as gsmp_octets}
-use Rattle.world_model.specs.gsmp_wire.declared.message.Message.{Message}
+use Rattle.law_branch_shapes.specs.world_model.Words.{Channel, End, PortNo, Mark, next_control, with_control, is_estab, Cell, IsLinkPort, default_payload, ifmp_packet_of, Request, MoveBranch, Frame, PoolFull, Loss, noted, frame_cells, made, Desk, Standing, is_led_home, last_transaction, withdraws, Action, Say, Ask, Note, CutChain, TakeBack, Withdraw, Setup, home_of, Work, resets, Controller, Linked, linked_at, with_desk, default_channel, default_home, sends_control, says_gsmp, asks_next, asks, takes_back, begins, with_work, resets_gsmp, port_restarts, node_resets, does, does_in_estab, resets_of, performs, performs_in_estab, Rule, works, works_as, at_port}
+use Rattle.law_branch_shapes.specs.world_model.ifmp_wire.Message.{octets_of as ifmp_octets}
+use Rattle.law_branch_shapes.specs.world_model.gsmp_wire.Layout.{octets_of as gsmp_octets}
+use Rattle.law_branch_shapes.specs.world_model.gsmp_wire.declared.message.Message.{Message}
 use Rattle.law_frame_readings.specs.ordered_lists.Ordered.{Every}
 use Rattle.law_frame_readings.proofs.ordered_lists.Every.{every_join}
 use Rattle.law_frame_readings.proofs.ordered_lists.Parts.{part_filtered, every_part}
-use Rattle.world_model.specs.frame_model.Sending.{Sent}
-use Rattle.world_model.specs.port_model.Desk.{asked, message_at}
-use Rattle.world_model.specs.port_model.declared.action.Action.TheVariants as actions
+use Rattle.law_branch_shapes.specs.world_model.frame_model.Sending.{Sent}
+use Rattle.law_branch_shapes.specs.world_model.port_model.Desk.{asked, message_at}
+use Rattle.law_branch_shapes.specs.world_model.port_model.declared.action.Action.TheVariants as actions
 use Rattle.law_frame_readings.specs.law_port_facts.Port.{setup_port, IsAction, IsShaped, parts_label}
 use Rattle.law_frame_readings.proofs.law_port_facts.Keyed.{on_both, on_each, at_every}
 use Rattle.law_frame_readings.proofs.law_port_facts.Joins.{resets_kept}
-use Rattle.world_model.specs.Controller.{Acted, free_slots, ports_of}
-use Rattle.world_model.specs.Sending.{with_cells, sends}
+use Rattle.law_branch_shapes.specs.world_model.Controller.{Acted, free_slots, ports_of}
+use Rattle.law_branch_shapes.specs.world_model.Sending.{with_cells, sends}
 use Rattle.law_frame_readings.proofs.law_controller_facts.Moves.{Moves, HasPorts, Found, Worked, by_reset, placing, moves_to, moves_ports, found_setup, found_at_own, begun, worked_kept}
 use Rattle.law_frame_readings.proofs.law_controller_facts.Performing.{does_in_estab_goes, performs_in_estab_goes}
 use Rattle.law_input_events.proofs.law_input_steps.Resets.{IsStill, still_fold, restarts_still, cuts_still, note_still}

@@ -1,7 +1,7 @@
 -- frames are sent: those of the GSMP channel are new, and others are none of it
 
 use Rattle.std.proofs.Common.{◌≡◌, ◌≢◌, ℕ, ◌+◌, ◌≤◌, true, false, true≢false, List, [], ◌∷◌, ◌++◌, ◌⊎◌, inl, inr, sym, ◌∙◌, ap, subst, arith}
-use Rattle.world_model.specs.Words.{Channel, Mark, Cell, Frame, payload_of, frame_cells, default_channel, same_channel}
+use Rattle.law_branch_shapes.specs.world_model.Words.{Channel, Mark, Cell, Frame, payload_of, frame_cells, default_channel, same_channel}
 use Rattle.law_frame_readings.specs.ordered_lists.Ordered.{Every}
 use Rattle.law_frame_readings.proofs.ordered_lists.Every.{every_join, every_map}
 use Rattle.law_frame_readings.proofs.law_shown_cells.Made.{made_is, made_elsewhere}

@@ -3,36 +3,36 @@
 use Rattle.std.proofs.Common.{◌≡◌, ◌≢◌, ℕ, ◌≤◌, ◌<◌, Bool, true, false, not, List, [], ◌∷◌, ◌++◌, fold, length, Option, None, Some, Result, Ok, zero, suc, refl, sym, ◌∙◌, ap, subst, arith, if◌then◌else◌}
 use Rattle.std.specs.Prelude.{nat_le, nat_lt, take}
 use Rattle.std.specs.Option.{option_and_then}
-use Rattle.world_model.specs.Words.{Party, Channel, PortNo, Mark, Answer, Quiet, Send, Open, Said, is_estab, ticked, Cell, IsLinkPort, hop_of, onward, Hop, Here, On, kind_of, default_payload, labelled_payload, Frame, PoolFull, Delivered, Dropped, Loss, payload_of, Journal, noted, last_mark, payload_in, next_mark, tested_by, Reassembly, marks_of, most_cells, passed_over, without_slot, too_long, nothing_taken, cut, Standing, last_transaction, sent_again, Setup, control_end, Grant, Linked, linked_at, default_channel, default_home, sends_control, sends_request, begins, cuts_default_of, cuts_default, cuts_gsmp, node_resets, node_restarts, Rule, at_port, tries_joins, is_control, sends_next, goes_by, grant_by, routes, ForGsmp, port_on, on_link, same_channel, taker_at, takes_cell, sends_again, ticks_port, ticks_ports, ticks_by, gsmp_of, gsmp_under}
-use Rattle.world_model.specs.adjacency_table.declared.message.Answer.TheVariants.{Reset}
-use Rattle.world_model.specs.adjacency_table.Side as sides
-use Rattle.world_model.specs.ipv4_forward.declared.outcome.Hop.TheVariants.{NoRoute, Expired}
-use Rattle.world_model.specs.gsmp_wire.declared.fault.Fault.{Fault}
-use Rattle.world_model.specs.gsmp_wire.declared.message.Message.{Message}
-use Rattle.world_model.specs.gsmp_wire.Fields.{decoded}
-use Rattle.world_model.specs.link_model.declared.record.DropCause.TheVariants as drops
-use Rattle.world_model.specs.frame_model.Frame.{octets_of}
-use Rattle.world_model.specs.frame_model.Reassembly.{Taken, taken, joined}
+use Rattle.law_branch_shapes.specs.world_model.Words.{Party, Channel, PortNo, Mark, Answer, Quiet, Send, Open, Said, is_estab, ticked, Cell, IsLinkPort, hop_of, onward, Hop, Here, On, kind_of, default_payload, labelled_payload, Frame, PoolFull, Delivered, Dropped, Loss, payload_of, Journal, noted, last_mark, payload_in, next_mark, tested_by, Reassembly, marks_of, most_cells, passed_over, without_slot, too_long, nothing_taken, cut, Standing, last_transaction, sent_again, Setup, control_end, Grant, Linked, linked_at, default_channel, default_home, sends_control, sends_request, begins, cuts_default_of, cuts_default, cuts_gsmp, node_resets, node_restarts, Rule, at_port, tries_joins, is_control, sends_next, goes_by, grant_by, routes, ForGsmp, port_on, on_link, same_channel, taker_at, takes_cell, sends_again, ticks_port, ticks_ports, ticks_by, gsmp_of, gsmp_under}
+use Rattle.law_branch_shapes.specs.world_model.adjacency_table.declared.message.Answer.TheVariants.{Reset}
+use Rattle.law_branch_shapes.specs.world_model.adjacency_table.Side as sides
+use Rattle.law_branch_shapes.specs.world_model.ipv4_forward.declared.outcome.Hop.TheVariants.{NoRoute, Expired}
+use Rattle.law_branch_shapes.specs.world_model.gsmp_wire.declared.fault.Fault.{Fault}
+use Rattle.law_branch_shapes.specs.world_model.gsmp_wire.declared.message.Message.{Message}
+use Rattle.law_branch_shapes.specs.world_model.gsmp_wire.Fields.{decoded}
+use Rattle.law_branch_shapes.specs.world_model.link_model.declared.record.DropCause.TheVariants as drops
+use Rattle.law_branch_shapes.specs.world_model.frame_model.Frame.{octets_of}
+use Rattle.law_branch_shapes.specs.world_model.frame_model.Reassembly.{Taken, taken, joined}
 use Rattle.law_frame_readings.specs.ordered_lists.Ordered.{Every}
 use Rattle.law_frame_readings.proofs.ordered_lists.Every.{every_join}
-use Rattle.world_model.specs.port_model.Ticks as port_ticks
+use Rattle.law_branch_shapes.specs.world_model.port_model.Ticks as port_ticks
 use Rattle.law_frame_readings.specs.law_port_facts.Port.{IsShaped}
 use Rattle.law_frame_readings.proofs.law_port_facts.Hearings.{ticks_goes}
 use Rattle.law_frame_readings.proofs.law_port_facts.Keyed.{on_both, on_each}
 use Rattle.law_frame_readings.proofs.law_port_facts.Steps.{Goes}
 use Rattle.law_frame_readings.proofs.law_port_facts.Turns.{ticked_turns}
-use Rattle.world_model.specs.Controller.{Acted, free_slots, ports_of}
-use Rattle.world_model.specs.Sending.{sends}
-use Rattle.world_model.specs.Packets.{forwarded}
-use Rattle.world_model.specs.Gsmp.{steps}
-use Rattle.world_model.specs.Cells.{after_test, ends_frame, after_cell, cell_comes}
-use Rattle.world_model.specs.Ticks.{ticks}
+use Rattle.law_branch_shapes.specs.world_model.Controller.{Acted, free_slots, ports_of}
+use Rattle.law_branch_shapes.specs.world_model.Sending.{sends}
+use Rattle.law_branch_shapes.specs.world_model.Packets.{forwarded}
+use Rattle.law_branch_shapes.specs.world_model.Gsmp.{steps}
+use Rattle.law_branch_shapes.specs.world_model.Cells.{after_test, ends_frame, after_cell, cell_comes}
+use Rattle.law_branch_shapes.specs.world_model.Ticks.{ticks}
 use Rattle.law_frame_readings.proofs.law_controller_facts.Moves.{ages, by_rule, gathering, moves_to, moves_ports}
 use Rattle.law_frame_readings.proofs.law_controller_facts.Laws.{has_ports, moves_sound}
 use Rattle.law_frame_readings.proofs.law_controller_facts.Events.{ticks_ports_goes}
 use Rattle.law_input_events.proofs.law_controller.Whole.{Whole, numbered_whole}
 use Rattle.law_input_events.proofs.law_controller.Events.{steps_holds, sends_again_holds, ticks_port_holds}
-use Rattle.world_model.specs.Ways.{told as heard}
+use Rattle.law_branch_shapes.specs.world_model.Ways.{told as heard}
 use Rattle.law_input_events.specs.law_input_steps.Hearing.{IsEnded, PassesTrue}
 use Rattle.law_input_events.proofs.law_input_steps.Resets.{note_still}
 use Rattle.law_input_events.specs.Coming.{IsNext, GoesByLinks, IsFromSwitch}

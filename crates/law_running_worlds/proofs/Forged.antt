@@ -3,15 +3,15 @@
 use Rattle.std.proofs.Common.{◌≡◌, ℕ, true, false, List, [], ◌∷◌, ◌++◌, length, Option, None, Some, sym, ◌∙◌}
 use Rattle.std.specs.Prelude.{nat_le}
 use Rattle.std.specs.List.{list_any}
-use Rattle.world_model.specs.Words.{NodeId, PortNo, Place, Down, Up, Out, Channel, Mark, next_control, with_control, Record, Forged, Loss, PoolFull, noted, frame_cells, made, Switch, control_port, Controller, World, Site, site_at, controller_acts, switch_acts, forges, is_wild, IsTame}
-use Rattle.world_model.specs.frame_model.Sending.{Sent}
+use Rattle.law_branch_shapes.specs.world_model.Words.{NodeId, PortNo, Place, Down, Up, Out, Channel, Mark, next_control, with_control, Record, Forged, Loss, PoolFull, noted, frame_cells, made, Switch, control_port, Controller, World, Site, site_at, controller_acts, switch_acts, forges, is_wild, IsTame}
+use Rattle.law_branch_shapes.specs.world_model.frame_model.Sending.{Sent}
 use Rattle.law_frame_readings.proofs.law_port_facts.Keyed.{on_both}
-use Rattle.world_model.specs.Switch as switches
-use Rattle.world_model.specs.Conduct as switch
-use Rattle.world_model.specs.Controller.{free_slots}
-use Rattle.world_model.specs.Sending.{with_cells, sends}
-use Rattle.world_model.specs.World.{at_controller, at_switch}
-use Rattle.world_model.specs.Step.{note}
+use Rattle.law_branch_shapes.specs.world_model.Switch as switches
+use Rattle.law_branch_shapes.specs.world_model.Conduct as switch
+use Rattle.law_branch_shapes.specs.world_model.Controller.{free_slots}
+use Rattle.law_branch_shapes.specs.world_model.Sending.{with_cells, sends}
+use Rattle.law_branch_shapes.specs.world_model.World.{at_controller, at_switch}
+use Rattle.law_branch_shapes.specs.world_model.Step.{note}
 
 -- behind the record of the forgery stand others, or none
 abbrev BeginsForged : Place → List Record → Type 0

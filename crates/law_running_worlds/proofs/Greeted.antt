@@ -2,10 +2,10 @@
 
 use Rattle.std.proofs.Common.{false, Option, None, Some}
 use Rattle.std.specs.Option.{option_map_or, unwrap_or}
-use Rattle.world_model.specs.Words.{Greeting, HelloKind, Syn, Synack, Rstack, Ack, Party, greeting_of, nobody, same_party, heard_in, gsmp_answer, gsmp_received, Answer, Quiet, Send, Open, Heard, Said, Reply, Silent, Says, Resets, Row, row as table_row, tick_reply, Side, said, answer_to, answer_of, is_entry, followed, followed_tick, ticked, FitsParty, Fits}
-use Rattle.world_model.specs.adjacency_table.declared.message.Answer.TheVariants.{Reset}
-use Rattle.world_model.specs.adjacency_table.Side.{opened, counted}
-use Rattle.world_model.specs.gsmp_wire.declared.message.Message.TheVariants.{Adjacency}
+use Rattle.law_branch_shapes.specs.world_model.Words.{Greeting, HelloKind, Syn, Synack, Rstack, Ack, Party, greeting_of, nobody, same_party, heard_in, gsmp_answer, gsmp_received, Answer, Quiet, Send, Open, Heard, Said, Reply, Silent, Says, Resets, Row, row as table_row, tick_reply, Side, said, answer_to, answer_of, is_entry, followed, followed_tick, ticked, FitsParty, Fits}
+use Rattle.law_branch_shapes.specs.world_model.adjacency_table.declared.message.Answer.TheVariants.{Reset}
+use Rattle.law_branch_shapes.specs.world_model.adjacency_table.Side.{opened, counted}
+use Rattle.law_branch_shapes.specs.world_model.gsmp_wire.declared.message.Message.TheVariants.{Adjacency}
 use Rattle.law_frame_readings.proofs.law_port_facts.Keyed.{on_both}
 use Rattle.law_input_events.proofs.law_input_premises.Written.{IsWritten}
 use Rattle.law_input_events.proofs.law_input_premises.Reading.{nobody_fits}

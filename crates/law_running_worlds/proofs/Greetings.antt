@@ -2,15 +2,15 @@
 
 use Rattle.std.proofs.Common.{◌≡◌, ℕ, List, drop, Option, None, Some, refl, sym, ◌∙◌, ap, subst}
 use Rattle.std.specs.Option.{option_and_then}
-use Rattle.world_model.specs.Words.{Greeting, PortNo, PortRow, Request, refusal, type_of, Standing, message_of, Setup, gsmp_of, copy_of}
-use Rattle.world_model.specs.gsmp_wire.declared.fault.Fault.{Fault}
-use Rattle.world_model.specs.gsmp_wire.declared.message.Message.{Message}
-use Rattle.world_model.specs.gsmp_wire.declared.message.Message.TheVariants.{Adjacency, AllPorts}
-use Rattle.world_model.specs.gsmp_wire.declared.request.Request.TheVariants as requests
-use Rattle.world_model.specs.gsmp_wire.Fields.{decoded, decoded_by}
-use Rattle.world_model.specs.gsmp_wire.Layout.{octets_of}
+use Rattle.law_branch_shapes.specs.world_model.Words.{Greeting, PortNo, PortRow, Request, refusal, type_of, Standing, message_of, Setup, gsmp_of, copy_of}
+use Rattle.law_branch_shapes.specs.world_model.gsmp_wire.declared.fault.Fault.{Fault}
+use Rattle.law_branch_shapes.specs.world_model.gsmp_wire.declared.message.Message.{Message}
+use Rattle.law_branch_shapes.specs.world_model.gsmp_wire.declared.message.Message.TheVariants.{Adjacency, AllPorts}
+use Rattle.law_branch_shapes.specs.world_model.gsmp_wire.declared.request.Request.TheVariants as requests
+use Rattle.law_branch_shapes.specs.world_model.gsmp_wire.Fields.{decoded, decoded_by}
+use Rattle.law_branch_shapes.specs.world_model.gsmp_wire.Layout.{octets_of}
 use Rattle.law_frame_readings.specs.law_port_facts.Port.{IsShaped}
-use Rattle.world_model.specs.Ways.{told}
+use Rattle.law_branch_shapes.specs.world_model.Ways.{told}
 use Rattle.law_input_events.specs.law_input_steps.Asking.{IsReadable}
 use Rattle.law_running_worlds.specs.Mode.{AreUp}
 use Rattle.law_running_worlds.specs.New.{AsksShaped, TellsUp}

@@ -4,26 +4,26 @@ use Rattle.std.proofs.Common.{◌≡◌, ℕ, ◌+◌, ◌≤◌, Bool, true, fa
 use Rattle.std.specs.Prelude.{nat_lt, Contains}
 use Rattle.std.specs.Option.{option_map_or}
 use Rattle.std.proofs.lemmas.Bool.Decides.{nat_tests}
-use Rattle.world_model.specs.Words.{Channel, NodeId, PortNo, Place, Down, Up, Out, Cell, queue_of, Frame, Refusal, control_port, Setup, default_channel, same_channel, change_comes, inject_refusal, injected, node_restarts, RouteChange, Topology, World, Site, site_at, with_site, place_node, queue_in, queue_at, with_queue_in, with_queue_of, injects_by, arrives_at, carries_head, loses_head, gsmp_under}
-use Rattle.world_model.specs.crossbar_model.Crossbar.{input_of}
-use Rattle.world_model.specs.gsmp_wire.declared.message.Message.{Message}
-use Rattle.world_model.specs.Switch as switches
-use Rattle.world_model.specs.Conduct as conduct
-use Rattle.world_model.specs.Controller.{Acted, free_slots}
-use Rattle.world_model.specs.Cells.{cell_comes}
-use Rattle.world_model.specs.Ticks.{ticks}
+use Rattle.law_branch_shapes.specs.world_model.Words.{Channel, NodeId, PortNo, Place, Down, Up, Out, Cell, queue_of, Frame, Refusal, control_port, Setup, default_channel, same_channel, change_comes, inject_refusal, injected, node_restarts, RouteChange, Topology, World, Site, site_at, with_site, place_node, queue_in, queue_at, with_queue_in, with_queue_of, injects_by, arrives_at, carries_head, loses_head, gsmp_under}
+use Rattle.law_branch_shapes.specs.world_model.crossbar_model.Crossbar.{input_of}
+use Rattle.law_branch_shapes.specs.world_model.gsmp_wire.declared.message.Message.{Message}
+use Rattle.law_branch_shapes.specs.world_model.Switch as switches
+use Rattle.law_branch_shapes.specs.world_model.Conduct as conduct
+use Rattle.law_branch_shapes.specs.world_model.Controller.{Acted, free_slots}
+use Rattle.law_branch_shapes.specs.world_model.Cells.{cell_comes}
+use Rattle.law_branch_shapes.specs.world_model.Ticks.{ticks}
 use Rattle.law_frame_readings.specs.law_controller_facts.Inputs.{Input, CellComes, PacketEnters, Ticks, Restarts, ChangeComes, enters_unless, takes_input}
 use Rattle.law_frame_readings.specs.law_controller_facts.Sound.{IsOwn}
 use Rattle.law_frame_readings.proofs.law_controller_facts.Laws.{has_ports, input_goes, moves_sound}
 use Rattle.law_frame_readings.proofs.law_controller_facts.Moves.{moves_to, popping}
 use Rattle.law_input_events.proofs.law_controller.Whole.{Whole}
 use Rattle.law_input_events.proofs.law_controller.Events.{input_holds}
-use Rattle.world_model.specs.network_model.declared.event.Event.{Event}
-use Rattle.world_model.specs.network_model.declared.event.Event.TheVariants.{Inject, Carry, Lose, Tick, TickSwitch, Restart, RestartSwitch, Forge, Route}
-use Rattle.world_model.specs.network_model.declared.link.LinkEnd.{LinkEnd}
-use Rattle.world_model.specs.Topology.{peer_of}
-use Rattle.world_model.specs.World.{at_controller, at_switch}
-use Rattle.world_model.specs.Step.{acts}
+use Rattle.law_branch_shapes.specs.world_model.network_model.declared.event.Event.{Event}
+use Rattle.law_branch_shapes.specs.world_model.network_model.declared.event.Event.TheVariants.{Inject, Carry, Lose, Tick, TickSwitch, Restart, RestartSwitch, Forge, Route}
+use Rattle.law_branch_shapes.specs.world_model.network_model.declared.link.LinkEnd.{LinkEnd}
+use Rattle.law_branch_shapes.specs.world_model.Topology.{peer_of}
+use Rattle.law_branch_shapes.specs.world_model.World.{at_controller, at_switch}
+use Rattle.law_branch_shapes.specs.world_model.Step.{acts}
 use Rattle.law_input_events.specs.law_input_steps.Hearing.{IsEnded, PassesTrue}
 use Rattle.law_input_events.specs.Coming.{IsNext, IsToSwitch, IsFromSwitch, IsFar, CanCarry, CanLose, IsOrdinary, IsRunning}
 use Rattle.law_frame_readings.proofs.law_controller_facts.Nodes.{moves_node}

@@ -5,13 +5,13 @@ use Rattle.std.specs.Prelude.{◌==◌, ◌||◌, Contains}
 use Rattle.std.specs.List.{list_any}
 use Rattle.std.specs.Option.{option_and_then, option_map, option_map_or}
 use Rattle.std.proofs.lemmas.Bool.Decides.{nat_tests}
-use Rattle.world_model.specs.Words.{NodeId, PortNo, Down, Up, Mark, Cell, queue_of, Request, AddBranch, MoveBranch, DeleteTree, VerifyTree, PortManagement, PortRow, Frame, payload_of, Standing, all_on, is_delete_all, control_port, Setup, Controller, Linked, default_channel, same_channel, World, Site, site_at, queue_in, queue_at, gsmp_of, gsmp_under, copy_of, copy_under, on_channel, requests_chain_at, answers_chain_at}
-use Rattle.world_model.specs.gsmp_wire.declared.message.Message.{Message}
-use Rattle.world_model.specs.gsmp_wire.declared.message.Message.TheVariants as messages
-use Rattle.world_model.specs.gsmp_wire.declared.request.Request.TheVariants.{DeleteAll, AllPorts}
+use Rattle.law_branch_shapes.specs.world_model.Words.{NodeId, PortNo, Down, Up, Mark, Cell, queue_of, Request, AddBranch, MoveBranch, DeleteTree, VerifyTree, PortManagement, PortRow, Frame, payload_of, Standing, all_on, is_delete_all, control_port, Setup, Controller, Linked, default_channel, same_channel, World, Site, site_at, queue_in, queue_at, gsmp_of, gsmp_under, copy_of, copy_under, on_channel, requests_chain_at, answers_chain_at}
+use Rattle.law_branch_shapes.specs.world_model.gsmp_wire.declared.message.Message.{Message}
+use Rattle.law_branch_shapes.specs.world_model.gsmp_wire.declared.message.Message.TheVariants as messages
+use Rattle.law_branch_shapes.specs.world_model.gsmp_wire.declared.request.Request.TheVariants.{DeleteAll, AllPorts}
 use Rattle.law_frame_readings.specs.ordered_lists.Ordered.{Every}
 use Rattle.law_frame_readings.specs.law_port_facts.Port.{IsShaped}
-use Rattle.world_model.specs.Controller.{ports_of}
+use Rattle.law_branch_shapes.specs.world_model.Controller.{ports_of}
 use Rattle.law_frame_readings.specs.Reading.{MarksAreRead}
 use Rattle.law_frame_readings.specs.law_world_views.Made.{AreMade}
 use Rattle.law_frame_readings.specs.law_world_views.Between.{setups_of, HasShapes, HasPortsUp, HasNumbers}

@@ -4,21 +4,21 @@ use Rattle.std.proofs.Common.{◌≡◌, ℕ, ◌+◌, ◌<◌, ◌≤◌, suc, 
 use Rattle.std.specs.List.{list_any}
 use Rattle.std.specs.Option.{option_map, option_map_or}
 use Rattle.std.specs.FinMap.{get-empty}
-use Rattle.world_model.specs.Words.{End, NodeId, PortNo, Down, Up, Instance, GivenOut, next_instance, SynSent, side_of, Cell, end_cmp, queue_of, Standing, is_delete_all, control_port, numbers_of, Policy, Controller, default_channel, after_opening, Topology, Node, World, Site, site_key, site_at, opened_site, with_opened, opens_each, empty_world, queue_in, on_channel, gsmp_to_switch, gsmp_to_controller}
-use Rattle.world_model.specs.adjacency_table.Instances.{begun as begun_side}
-use Rattle.world_model.specs.crossbar_model.declared.branch.Branch.{Branch}
-use Rattle.world_model.specs.crossbar_model.Crossbar.{output_of}
+use Rattle.law_branch_shapes.specs.world_model.Words.{End, NodeId, PortNo, Down, Up, Instance, GivenOut, next_instance, SynSent, side_of, Cell, end_cmp, queue_of, Standing, is_delete_all, control_port, numbers_of, Policy, Controller, default_channel, after_opening, Topology, Node, World, Site, site_key, site_at, opened_site, with_opened, opens_each, empty_world, queue_in, on_channel, gsmp_to_switch, gsmp_to_controller}
+use Rattle.law_branch_shapes.specs.world_model.adjacency_table.Instances.{begun as begun_side}
+use Rattle.law_branch_shapes.specs.world_model.crossbar_model.declared.branch.Branch.{Branch}
+use Rattle.law_branch_shapes.specs.world_model.crossbar_model.Crossbar.{output_of}
 use Rattle.law_frame_readings.specs.ordered_lists.Ordered.{Every}
 use Rattle.law_frame_readings.proofs.ordered_lists.Every.{every_join}
-use Rattle.world_model.specs.switch_model.declared.port.PortState.{PortState}
-use Rattle.world_model.specs.Switch.{begun}
+use Rattle.law_branch_shapes.specs.world_model.switch_model.declared.port.PortState.{PortState}
+use Rattle.law_branch_shapes.specs.world_model.Switch.{begun}
 use Rattle.law_frame_readings.specs.law_port_facts.Port.{IsShaped}
 use Rattle.law_frame_readings.proofs.law_port_facts.Keyed.{at_key, at_every}
-use Rattle.world_model.specs.Controller.{ports_of}
+use Rattle.law_branch_shapes.specs.world_model.Controller.{ports_of}
 use Rattle.law_frame_readings.specs.law_branch_line.Line.{Line, start}
-use Rattle.world_model.specs.Topology as topologies
-use Rattle.world_model.specs.World.{opened}
-use Rattle.world_model.proofs.Opening.{site_ports}
+use Rattle.law_branch_shapes.specs.world_model.Topology as topologies
+use Rattle.law_branch_shapes.specs.world_model.World.{opened}
+use Rattle.law_input_events.proofs.world_model.Opening.{site_ports}
 use Rattle.law_frame_readings.specs.law_shown_cells.Seen.{nothing}
 use Rattle.law_frame_readings.specs.law_input_views.Words.{own_of, others_of}
 use Rattle.law_frame_readings.specs.law_input_views.Shown.{controller_of, switch_of, before_of, behind_of, ShowsRequests, ShowsAnswers, IsAllPorts}

@@ -4,9 +4,9 @@ use Rattle.std.proofs.Common.{◌≡◌, List, [], ◌∷◌, ◌++◌, Option, 
 use Rattle.std.specs.Prelude.{Contains}
 use Rattle.std.specs.FinMap.{get}
 use Rattle.std.specs.Option.{option_map, option_map_or}
-use Rattle.world_model.specs.Words.{NodeId, PortNo, Place, Down, Up, Out, Cell, queue_of, control_port, Policy, Controller, default_channel, Topology, World, Site, site_at, queue_in, next, put_away, Past, past_of, IsTame, on_channel, gsmp_to_switch, gsmp_to_controller}
-use Rattle.world_model.specs.network_model.declared.event.Event.{Event}
-use Rattle.world_model.specs.network_model.declared.event.Event.TheVariants.{Inject, Carry, Lose, Tick, TickSwitch, Restart, RestartSwitch, Forge, Route}
+use Rattle.law_branch_shapes.specs.world_model.Words.{NodeId, PortNo, Place, Down, Up, Out, Cell, queue_of, control_port, Policy, Controller, default_channel, Topology, World, Site, site_at, queue_in, next, put_away, Past, past_of, IsTame, on_channel, gsmp_to_switch, gsmp_to_controller}
+use Rattle.law_branch_shapes.specs.world_model.network_model.declared.event.Event.{Event}
+use Rattle.law_branch_shapes.specs.world_model.network_model.declared.event.Event.TheVariants.{Inject, Carry, Lose, Tick, TickSwitch, Restart, RestartSwitch, Forge, Route}
 use Rattle.law_branch_shapes.specs.Events.{HasOwnShapes}
 use Rattle.law_branch_shapes.proofs.Sites.{numbers_same, events_keep}
 use Rattle.law_input_events.specs.Coming.{CanCarry, IsOrdinary, IsRunning, HasLines}

@@ -2,24 +2,24 @@
 
 use Rattle.std.proofs.Common.{◌≡◌, ℕ, Bool, true, false, not, List, [], ◌∷◌, ◌++◌, map, filter, fold, Option, None, Some, refl, ◌∙◌, ap, subst, arith, inr, length, flat_map, if◌then◌else◌}
 use Rattle.std.specs.Prelude.{◌==◌, nat_le}
-use Rattle.world_model.specs.Words.{Channel, End, Mark, next_control, with_control, PortNo, number_of_channel, is_estab, Cell, IsLinkPort, same_end, Request, AddBranch, MoveBranch, DeleteTree, VerifyTree, PortManagement, RouteChange, Frame, Part, Loss, PoolFull, noted, frame_cells, made, Desk, Standing, last_transaction, empty_desk, withdraws, Setup, home_of, Label, closes, Controller, Linked, linked_at, with_desk, with_linked, default_channel, default_end, default_home, asks, begins, join_of, joins_of, parts, releases_join, releases_input, released_inputs, resets_spent, releases, enters_grant, enters_label, joins, join_for, may_join, tries_label, label_on, tries_join, inputs_at, tries_joins, meets, up_ports, empties, default_branches, ends_meeting, has_emptied, port_of_input, tells_port, behind_delete_all, causes_in_estab, causes, may_clear, clears_of, clears_port, clears, changed_joins, is_changed, takes_join_back, begins_change, takes_change, may_take, takes_each, takes_changes, change_comes}
-use Rattle.world_model.specs.gsmp_wire.declared.request.Request.TheVariants.{DeleteAll, AllPorts}
-use Rattle.world_model.specs.frame_model.Sending.{Sent}
-use Rattle.world_model.specs.gsmp_wire.Layout.{octets_of as gsmp_octets}
+use Rattle.law_branch_shapes.specs.world_model.Words.{Channel, End, Mark, next_control, with_control, PortNo, number_of_channel, is_estab, Cell, IsLinkPort, same_end, Request, AddBranch, MoveBranch, DeleteTree, VerifyTree, PortManagement, RouteChange, Frame, Part, Loss, PoolFull, noted, frame_cells, made, Desk, Standing, last_transaction, empty_desk, withdraws, Setup, home_of, Label, closes, Controller, Linked, linked_at, with_desk, with_linked, default_channel, default_end, default_home, asks, begins, join_of, joins_of, parts, releases_join, releases_input, released_inputs, resets_spent, releases, enters_grant, enters_label, joins, join_for, may_join, tries_label, label_on, tries_join, inputs_at, tries_joins, meets, up_ports, empties, default_branches, ends_meeting, has_emptied, port_of_input, tells_port, behind_delete_all, causes_in_estab, causes, may_clear, clears_of, clears_port, clears, changed_joins, is_changed, takes_join_back, begins_change, takes_change, may_take, takes_each, takes_changes, change_comes}
+use Rattle.law_branch_shapes.specs.world_model.gsmp_wire.declared.request.Request.TheVariants.{DeleteAll, AllPorts}
+use Rattle.law_branch_shapes.specs.world_model.frame_model.Sending.{Sent}
+use Rattle.law_branch_shapes.specs.world_model.gsmp_wire.Layout.{octets_of as gsmp_octets}
 use Rattle.law_frame_readings.specs.ordered_lists.Ordered.{Every}
 use Rattle.law_frame_readings.proofs.ordered_lists.Every.{every_map, every_right}
-use Rattle.world_model.specs.port_model.Desk.{asked, message_at}
-use Rattle.world_model.specs.port_model.Messages.{is_up}
-use Rattle.world_model.specs.port_model.Joins as port_joins
-use Rattle.world_model.specs.port_model.Answers as port_answers
-use Rattle.world_model.specs.port_model.Resets.{cleared}
+use Rattle.law_branch_shapes.specs.world_model.port_model.Desk.{asked, message_at}
+use Rattle.law_branch_shapes.specs.world_model.port_model.Messages.{is_up}
+use Rattle.law_branch_shapes.specs.world_model.port_model.Joins as port_joins
+use Rattle.law_branch_shapes.specs.world_model.port_model.Answers as port_answers
+use Rattle.law_branch_shapes.specs.world_model.port_model.Resets.{cleared}
 use Rattle.law_frame_readings.specs.law_port_facts.Port.{IsDefaultEnd, IsLabelEnd, IsLinked, IsPort, IsShaped, asks_ports, empties_control, empties_port, opens_input, opens_output, parts_label}
 use Rattle.law_frame_readings.proofs.law_port_facts.Keyed.{on_both, on_each}
 use Rattle.law_frame_readings.proofs.law_port_facts.Found.{find_every}
 use Rattle.law_frame_readings.proofs.law_port_facts.Rules.{done_goes}
-use Rattle.world_model.specs.Controller.{Acted, free_slots, ports_of, note}
-use Rattle.world_model.specs.Sending.{with_cells, sends}
-use Rattle.world_model.specs.Joins.{Join, output_of}
+use Rattle.law_branch_shapes.specs.world_model.Controller.{Acted, free_slots, ports_of, note}
+use Rattle.law_branch_shapes.specs.world_model.Sending.{with_cells, sends}
+use Rattle.law_branch_shapes.specs.world_model.Joins.{Join, output_of}
 use Rattle.law_frame_readings.proofs.law_controller_facts.Moves.{HasPorts, Found, by_rule, by_giving_back, by_closing, moves_ports, moves_to, ending_meeting, routing, IsShapedStanding}
 use Rattle.law_frame_readings.proofs.law_controller_facts.Performing.{Any, any_ports, asks_goes, takes_back_goes, ports_linked}
 use Rattle.law_frame_readings.proofs.law_controller_facts.Joining.{IsJoin, joins_are, join_input, join_output, parts_grants, granted_there, parts_goes, releases_input_goes, resets_spent_goes, releases_goes, AnyEnd, any_ends, begins_change_goes, takes_change_goes, every_filter, every_flat_map, each_there}

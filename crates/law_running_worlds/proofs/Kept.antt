@@ -5,21 +5,21 @@ use Rattle.std.specs.Prelude.{◌^◌, nat_lt, All, Contains}
 use Rattle.std.specs.Option.{option_and_then}
 use Rattle.std.proofs.lemmas.Option.{get_or_from_slice_get, slice_get_within}
 use Rattle.std.proofs.lemmas.List.{length-map}
-use Rattle.world_model.specs.Words.{NodeId, PortNo, Down, Up, Out, Mark, Addr, Cell, Frame, payload_of, last_mark, payload_in, Standing, control_port, numbers_of, is_gsmp, Policy, Linked, default_channel, ForGsmp, ForDefault, ForLabel, same_channel, taker_of, reassembly_of, Topology, Node, node_in, IsPlace, IsEvent, World, Site, site_at, queue_at, put_away, gsmp_of, gsmp_under, copy_of, on_channel, requests_chain_at, past_of, frames_of, IsTame}
-use Rattle.world_model.specs.gsmp_wire.declared.message.Message.{Message}
-use Rattle.world_model.specs.gsmp_wire.declared.fault.Fault.{Fault}
-use Rattle.world_model.specs.gsmp_wire.Fields.{decoded}
-use Rattle.world_model.specs.frame_model.Frame.{octets_of}
-use Rattle.world_model.specs.Switch as switches
-use Rattle.world_model.specs.switch_model.declared.port.PortState.{PortState}
-use Rattle.world_model.specs.Answers.{row_of}
-use Rattle.world_model.specs.Controller.{free_slots, ports_of}
-use Rattle.world_model.specs.Cells.{Taker}
+use Rattle.law_branch_shapes.specs.world_model.Words.{NodeId, PortNo, Down, Up, Out, Mark, Addr, Cell, Frame, payload_of, last_mark, payload_in, Standing, control_port, numbers_of, is_gsmp, Policy, Linked, default_channel, ForGsmp, ForDefault, ForLabel, same_channel, taker_of, reassembly_of, Topology, Node, node_in, IsPlace, IsEvent, World, Site, site_at, queue_at, put_away, gsmp_of, gsmp_under, copy_of, on_channel, requests_chain_at, past_of, frames_of, IsTame}
+use Rattle.law_branch_shapes.specs.world_model.gsmp_wire.declared.message.Message.{Message}
+use Rattle.law_branch_shapes.specs.world_model.gsmp_wire.declared.fault.Fault.{Fault}
+use Rattle.law_branch_shapes.specs.world_model.gsmp_wire.Fields.{decoded}
+use Rattle.law_branch_shapes.specs.world_model.frame_model.Frame.{octets_of}
+use Rattle.law_branch_shapes.specs.world_model.Switch as switches
+use Rattle.law_branch_shapes.specs.world_model.switch_model.declared.port.PortState.{PortState}
+use Rattle.law_branch_shapes.specs.world_model.Answers.{row_of}
+use Rattle.law_branch_shapes.specs.world_model.Controller.{free_slots, ports_of}
+use Rattle.law_branch_shapes.specs.world_model.Cells.{Taker}
 use Rattle.law_branch_shapes.proofs.law_causes.Shown.{peer_back}
-use Rattle.world_model.specs.network_model.declared.event.Event.{Event}
-use Rattle.world_model.specs.network_model.declared.event.Event.TheVariants.{Inject, Carry, Lose, Tick, TickSwitch, Restart, RestartSwitch, Forge, Route}
-use Rattle.world_model.specs.Step.{acts}
-use Rattle.world_model.specs.Ways.{told}
+use Rattle.law_branch_shapes.specs.world_model.network_model.declared.event.Event.{Event}
+use Rattle.law_branch_shapes.specs.world_model.network_model.declared.event.Event.TheVariants.{Inject, Carry, Lose, Tick, TickSwitch, Restart, RestartSwitch, Forge, Route}
+use Rattle.law_branch_shapes.specs.world_model.Step.{acts}
+use Rattle.law_branch_shapes.specs.world_model.Ways.{told}
 use Rattle.law_frame_readings.specs.law_world_views.Made.{IsFit, AreMade}
 use Rattle.law_frame_readings.specs.law_world_views.Marks.{heading_at, Means}
 use Rattle.law_frame_readings.specs.law_world_views.Ready.{setups_of, IsReadySite}

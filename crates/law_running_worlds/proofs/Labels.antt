@@ -3,13 +3,13 @@
 use Rattle.std.proofs.Common.{◌≡◌, ◌≢◌, ℕ, ◌<◌, Bool, true, false, List, Option, None, Some, Result, Ok, refl, sym, ◌∙◌, subst, arith, if◌then◌else◌}
 use Rattle.std.specs.Prelude.{◌==◌}
 use Rattle.std.specs.Option.{option_and_then}
-use Rattle.world_model.specs.Words.{Channel, NodeId, PortNo, Up, Mark, number_of_channel, is_label_channel, label_number_of, FlowId, EncapsFault, Carries, unwrapped, payload_of, Record, Label, LabelState, Wiring, Offered, Recalled, Wired, is_bound, label_number, label_at, labels_of, Controller, Linked, port_key, linked_at, default_channel, ForGsmp, ForDefault, ForLabel, port_on, on_link, same_channel, label_taker, taker_at, taker_of, Past, frames_of, last_bound}
+use Rattle.law_branch_shapes.specs.world_model.Words.{Channel, NodeId, PortNo, Up, Mark, number_of_channel, is_label_channel, label_number_of, FlowId, EncapsFault, Carries, unwrapped, payload_of, Record, Label, LabelState, Wiring, Offered, Recalled, Wired, is_bound, label_number, label_at, labels_of, Controller, Linked, port_key, linked_at, default_channel, ForGsmp, ForDefault, ForLabel, port_on, on_link, same_channel, label_taker, taker_at, taker_of, Past, frames_of, last_bound}
 use Rattle.law_frame_readings.specs.ordered_lists.Ordered.{Every}
 use Rattle.law_frame_readings.proofs.law_port_facts.Keyed.{at_key, at_every}
-use Rattle.world_model.specs.Controller.{Acted}
-use Rattle.world_model.specs.Cells.{Taker}
+use Rattle.law_branch_shapes.specs.world_model.Controller.{Acted}
+use Rattle.law_branch_shapes.specs.world_model.Cells.{Taker}
 use Rattle.law_branch_shapes.specs.law_controller_bindings.Bindings.{site, IsBoundLast, HasBoundLabels}
-use Rattle.world_model.specs.network_model.declared.link.LinkEnd.{LinkEnd}
+use Rattle.law_branch_shapes.specs.world_model.network_model.declared.link.LinkEnd.{LinkEnd}
 use Rattle.law_frame_readings.specs.law_world_views.Made.{IsFit}
 use Rattle.law_frame_readings.specs.law_world_views.Marks.{own_end, heading_at, Means, early, control, local, plain, labelled}
 use Rattle.law_frame_readings.proofs.Reading.{read_label}

@@ -1,7 +1,7 @@
 -- sites are put, queues lose their heads: what is left stays
 
 use Rattle.std.proofs.Common.{◌≡◌, ◌≢◌, ℕ, ◌≤◌, zero, suc, List, [], ◌∷◌, length, Some, refl, sym, ◌∙◌, ap, subst, arith, slice_set, slice_index_or}
-use Rattle.world_model.specs.Words.{NodeId, Place, Down, Up, Out, Cell, Frame, payload_of, queue_of, control_port, Setup, World, Site, site_at, with_site, queue_in, with_queue_in}
+use Rattle.law_branch_shapes.specs.world_model.Words.{NodeId, Place, Down, Up, Out, Cell, Frame, payload_of, queue_of, control_port, Setup, World, Site, site_at, with_site, queue_in, with_queue_in}
 use Rattle.law_frame_readings.specs.ordered_lists.Ordered.{Every}
 use Rattle.law_frame_readings.proofs.law_port_facts.Keyed.{by_eq}
 use Rattle.law_input_events.specs.Coming.{CanLose}

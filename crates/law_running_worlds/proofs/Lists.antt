@@ -2,7 +2,7 @@
 
 use Rattle.std.proofs.Common.{◌≡◌, ℕ, ◌<◌, zero, suc, Bool, true, false, List, [], ◌∷◌, ◌++◌, map, filter, length, refl, sym, subst, arith, slice_index_or, if◌then◌else◌}
 use Rattle.std.specs.Prelude.{All, Contains}
-use Rattle.world_model.specs.Words.{PortNo}
+use Rattle.law_branch_shapes.specs.world_model.Words.{PortNo}
 use Rattle.law_frame_readings.specs.ordered_lists.Ordered.{Every, InOrder}
 use Rattle.law_input_events.specs.Coming.{IsBelow}
 

@@ -5,28 +5,28 @@ use Rattle.std.proofs.Common.{◌≡◌, ◌≢◌, ℕ, Bool, true, false, List
 use Rattle.std.specs.Prelude.{◌==◌, ◌^◌, ◌<◌, nat_lt}
 use Rattle.std.specs.Option.{option_and_then}
 use Rattle.std.proofs.lemmas.Bool.Decides.{nat_tests}
-use Rattle.world_model.specs.Words.{Channel, PortNo, Mark, Addr, label_number_of, protocol_of, source_of, ifmp_packet_of, PacketFault, hop_of, onward, Hop, Here, On, Cell, kind_of, EncapsFault, default_payload, labelled_payload, default_unwrapped, unwrapped, Unbound, Bad, Loss, Delivered, Dropped, Journal, encaps_refusal, gsmp_refusal, tested_by, payload_in, last_mark, next_mark, Reassembly, cut, nothing_taken, Setup, control_end, Label, is_bound, label_at, Grant, Linked, port_key, linked_at, with_linked, chains_with, default_channel, default_home, sends_control, is_control, sends_next, goes_by, grant_by, routes, injected, control_protocol, gsmp_holds, cuts_default_of, cuts_default, cuts_gsmp, node_resets, node_restarts, port_on, on_link, same_channel, label_taker, taker_at, taker_of, ForGsmp, ForDefault, ForLabel, reassembly_of, with_reassembly, label_holds, ifmp_holds, counted_at, packet_holds, default_holds, frame_holds, takes_cell}
-use Rattle.world_model.specs.ipv4_packet.Packet.{first_fault}
-use Rattle.world_model.specs.ipv4_forward.declared.outcome.Hop.TheVariants.{NoRoute, Expired}
-use Rattle.world_model.specs.ifmp_wire.declared.message.Message.{Message as IfmpMessage}
-use Rattle.world_model.specs.ifmp_wire.declared.reader.Fault.{Fault as IfmpFault}
-use Rattle.world_model.specs.ifmp_wire.Message.{octets_of as ifmp_octets}
-use Rattle.world_model.specs.ifmp_wire.Fields.{decoded as ifmp_decoded}
-use Rattle.world_model.specs.gsmp_wire.declared.fault.Fault.{Fault}
-use Rattle.world_model.specs.gsmp_wire.declared.message.Message.{Message}
-use Rattle.world_model.specs.gsmp_wire.Fields.{decoded as gsmp_decoded}
-use Rattle.world_model.specs.link_model.declared.record.Layer.TheVariants as layers
-use Rattle.world_model.specs.link_model.declared.record.DropCause.TheVariants as causes_of
-use Rattle.world_model.specs.frame_model.Frame.{octets_of}
-use Rattle.world_model.specs.frame_model.Reassembly.{Taken, taken}
-use Rattle.world_model.specs.port_model.Port.{Port}
+use Rattle.law_branch_shapes.specs.world_model.Words.{Channel, PortNo, Mark, Addr, label_number_of, protocol_of, source_of, ifmp_packet_of, PacketFault, hop_of, onward, Hop, Here, On, Cell, kind_of, EncapsFault, default_payload, labelled_payload, default_unwrapped, unwrapped, Unbound, Bad, Loss, Delivered, Dropped, Journal, encaps_refusal, gsmp_refusal, tested_by, payload_in, last_mark, next_mark, Reassembly, cut, nothing_taken, Setup, control_end, Label, is_bound, label_at, Grant, Linked, port_key, linked_at, with_linked, chains_with, default_channel, default_home, sends_control, is_control, sends_next, goes_by, grant_by, routes, injected, control_protocol, gsmp_holds, cuts_default_of, cuts_default, cuts_gsmp, node_resets, node_restarts, port_on, on_link, same_channel, label_taker, taker_at, taker_of, ForGsmp, ForDefault, ForLabel, reassembly_of, with_reassembly, label_holds, ifmp_holds, counted_at, packet_holds, default_holds, frame_holds, takes_cell}
+use Rattle.law_branch_shapes.specs.world_model.ipv4_packet.Packet.{first_fault}
+use Rattle.law_branch_shapes.specs.world_model.ipv4_forward.declared.outcome.Hop.TheVariants.{NoRoute, Expired}
+use Rattle.law_branch_shapes.specs.world_model.ifmp_wire.declared.message.Message.{Message as IfmpMessage}
+use Rattle.law_branch_shapes.specs.world_model.ifmp_wire.declared.reader.Fault.{Fault as IfmpFault}
+use Rattle.law_branch_shapes.specs.world_model.ifmp_wire.Message.{octets_of as ifmp_octets}
+use Rattle.law_branch_shapes.specs.world_model.ifmp_wire.Fields.{decoded as ifmp_decoded}
+use Rattle.law_branch_shapes.specs.world_model.gsmp_wire.declared.fault.Fault.{Fault}
+use Rattle.law_branch_shapes.specs.world_model.gsmp_wire.declared.message.Message.{Message}
+use Rattle.law_branch_shapes.specs.world_model.gsmp_wire.Fields.{decoded as gsmp_decoded}
+use Rattle.law_branch_shapes.specs.world_model.link_model.declared.record.Layer.TheVariants as layers
+use Rattle.law_branch_shapes.specs.world_model.link_model.declared.record.DropCause.TheVariants as causes_of
+use Rattle.law_branch_shapes.specs.world_model.frame_model.Frame.{octets_of}
+use Rattle.law_branch_shapes.specs.world_model.frame_model.Reassembly.{Taken, taken}
+use Rattle.law_branch_shapes.specs.world_model.port_model.Port.{Port}
 use Rattle.law_frame_readings.proofs.law_port_facts.Keyed.{on_each, at_every, put_every}
 use Rattle.law_frame_readings.proofs.law_port_facts.Rules.{and_first}
-use Rattle.world_model.specs.Controller.{Acted, free_slots, ports_of}
-use Rattle.world_model.specs.Sending.{sends}
-use Rattle.world_model.specs.Packets.{forwarded}
+use Rattle.law_branch_shapes.specs.world_model.Controller.{Acted, free_slots, ports_of}
+use Rattle.law_branch_shapes.specs.world_model.Sending.{sends}
+use Rattle.law_branch_shapes.specs.world_model.Packets.{forwarded}
 use Rattle.law_frame_readings.proofs.law_controller_facts.Performing.{Any, any_ports}
-use Rattle.world_model.specs.Cells.{after_test, Taker, ends_frame, after_cell, cell_comes}
+use Rattle.law_branch_shapes.specs.world_model.Cells.{after_test, Taker, ends_frame, after_cell, cell_comes}
 use Rattle.law_frame_readings.proofs.law_controller_facts.Moves.{Found, taking_notes, gathering, chaining, moves_to, HasPorts, found_at_own}
 use Rattle.law_frame_readings.proofs.law_controller_facts.Events.{IsTaker}
 use Rattle.law_frame_readings.proofs.law_controller_lifts.Kept.{Of}

@@ -3,19 +3,19 @@
 use Rattle.std.proofs.Common.{◌≡◌, ◌≢◌, ℕ, ◌+◌, ◌≤◌, ◌<◌, Bool, true, false, List, [], ◌∷◌, Option, None, Some, refl, subst, arith, inl, inr}
 use Rattle.std.specs.Prelude.{◌^◌, ◌==◌, ◌&&◌}
 use Rattle.std.proofs.lemmas.Bool.Decides.{nat_tests}
-use Rattle.world_model.specs.Words.{NodeId, PortNo, Place, Down, Up, Out, Cell, Refusal, control_port, inject_refusal, injected, taker_of, node_restarts, change_comes, AreOctets, Topology, World, Site, site_at, queue_at, with_queue_in, with_queue_of, with_queue, injects_by, arrives_at, carries_head, loses_head}
-use Rattle.world_model.specs.Conduct as switch_conduct
-use Rattle.world_model.specs.Cells as controller_cells
-use Rattle.world_model.specs.Cells.{Taker}
-use Rattle.world_model.specs.Ticks.{ticks}
+use Rattle.law_branch_shapes.specs.world_model.Words.{NodeId, PortNo, Place, Down, Up, Out, Cell, Refusal, control_port, inject_refusal, injected, taker_of, node_restarts, change_comes, AreOctets, Topology, World, Site, site_at, queue_at, with_queue_in, with_queue_of, with_queue, injects_by, arrives_at, carries_head, loses_head}
+use Rattle.law_branch_shapes.specs.world_model.Conduct as switch_conduct
+use Rattle.law_branch_shapes.specs.world_model.Cells as controller_cells
+use Rattle.law_branch_shapes.specs.world_model.Cells.{Taker}
+use Rattle.law_branch_shapes.specs.world_model.Ticks.{ticks}
 use Rattle.law_frame_readings.proofs.law_controller_facts.Moves.{HasPorts}
 use Rattle.law_frame_readings.proofs.law_controller_facts.Laws.{has_ports}
-use Rattle.world_model.specs.network_model.declared.event.Event.{Event}
-use Rattle.world_model.specs.network_model.declared.event.Event.TheVariants.{Inject, Carry, Lose, Tick, TickSwitch, Restart, RestartSwitch, Forge, Route}
-use Rattle.world_model.specs.network_model.declared.link.LinkEnd.{LinkEnd}
-use Rattle.world_model.specs.Topology.{peer_of}
-use Rattle.world_model.specs.World.{at_controller, at_switch}
-use Rattle.world_model.specs.Step.{acts}
+use Rattle.law_branch_shapes.specs.world_model.network_model.declared.event.Event.{Event}
+use Rattle.law_branch_shapes.specs.world_model.network_model.declared.event.Event.TheVariants.{Inject, Carry, Lose, Tick, TickSwitch, Restart, RestartSwitch, Forge, Route}
+use Rattle.law_branch_shapes.specs.world_model.network_model.declared.link.LinkEnd.{LinkEnd}
+use Rattle.law_branch_shapes.specs.world_model.Topology.{peer_of}
+use Rattle.law_branch_shapes.specs.world_model.World.{at_controller, at_switch}
+use Rattle.law_branch_shapes.specs.world_model.Step.{acts}
 use Rattle.law_frame_readings.specs.law_world_views.Ready.{setups_of}
 use Rattle.law_frame_readings.specs.law_world_views.Shown.{acting}
 use Rattle.law_running_worlds.proofs.Walk.{To}

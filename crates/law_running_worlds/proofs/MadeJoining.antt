@@ -3,14 +3,14 @@
 use Rattle.std.proofs.Common.{◌≡◌, true, false, List, [], ◌∷◌, ◌++◌, Option, None, Some, refl, sym, ◌∙◌, ap, subst, fold}
 use Rattle.std.specs.Prelude.{not, nat_lt, ◌+◌, ◌&&◌, is_none, flat_map, length}
 use Rattle.std.specs.Option.{option_map}
-use Rattle.world_model.specs.Words.{PortNo, End, number_of_channel, best, changed, RouteChange, FlowId, next_hop_of, same_flow, flow_destination, Request, MoveBranch, Part, Routes, same_end, at, on_input, most_asked, Setup, home_of, Label, Offered, label_number, Grant, ByController, grant_label, grant_for, is_by_controller, labels_of, Linked, linked_at, route_stays, joins_of, join_of, parts, releases_join, releases_input, released_inputs, resets_spent, releases, port_by, join_through, join_by, join_for, is_offered, may_join, enters_grant, enters_label, joins, tries_label, label_on, tries_join, inputs_at, tries_joins, is_changed, changed_joins, takes_join_back, begins_change, takes_change, may_take, takes_each, takes_changes, change_comes}
+use Rattle.law_branch_shapes.specs.world_model.Words.{PortNo, End, number_of_channel, best, changed, RouteChange, FlowId, next_hop_of, same_flow, flow_destination, Request, MoveBranch, Part, Routes, same_end, at, on_input, most_asked, Setup, home_of, Label, Offered, label_number, Grant, ByController, grant_label, grant_for, is_by_controller, labels_of, Linked, linked_at, route_stays, joins_of, join_of, parts, releases_join, releases_input, released_inputs, resets_spent, releases, port_by, join_through, join_by, join_for, is_offered, may_join, enters_grant, enters_label, joins, tries_label, label_on, tries_join, inputs_at, tries_joins, is_changed, changed_joins, takes_join_back, begins_change, takes_change, may_take, takes_each, takes_changes, change_comes}
 use Rattle.law_frame_readings.proofs.ordered_lists.Every.{every_map}
 use Rattle.law_frame_readings.specs.law_port_facts.Port.{IsLabelEnd, IsPort, parts_label, joins_label}
 use Rattle.law_frame_readings.proofs.law_port_facts.Keyed.{on_both, on_each, apart_at}
 use Rattle.law_frame_readings.proofs.law_port_facts.Found.{find_every, find_passes}
 use Rattle.law_frame_readings.proofs.law_port_facts.Rules.{and_first}
-use Rattle.world_model.specs.Controller.{Acted, ports_of, note}
-use Rattle.world_model.specs.Joins.{Join, output_of}
+use Rattle.law_branch_shapes.specs.world_model.Controller.{Acted, ports_of, note}
+use Rattle.law_branch_shapes.specs.world_model.Joins.{Join, output_of}
 use Rattle.law_frame_readings.proofs.law_controller_facts.Moves.{Found, routing, moves_to, HasPorts, found_at_own, found_port}
 use Rattle.law_frame_readings.proofs.law_controller_facts.Joining.{every_filter, every_flat_map, IsJoin, each_there, joins_are, join_input, join_output, parts_grants, granted_there, image_is}
 use Rattle.law_frame_readings.proofs.law_controller_facts.Entering.{granted_end, OnPort, on_port, is_offered_by, by_controller, lends_labels, inputs_of_port}

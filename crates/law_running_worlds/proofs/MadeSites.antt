@@ -2,14 +2,14 @@
 
 use Rattle.std.proofs.Common.{◌≡◌, ◌<◌, List, Option, None, Some, refl, sym, subst}
 use Rattle.std.specs.Prelude.{◌^◌}
-use Rattle.world_model.specs.Words.{NodeId, Place, Down, Up, Out, Cell, IsLinkPort, Setup, World, Site, site_at, controller_acts, switch_acts, place_node, with_queue_in, with_queue_of, with_queue}
+use Rattle.law_branch_shapes.specs.world_model.Words.{NodeId, Place, Down, Up, Out, Cell, IsLinkPort, Setup, World, Site, site_at, controller_acts, switch_acts, place_node, with_queue_in, with_queue_of, with_queue}
 use Rattle.law_frame_readings.specs.ordered_lists.Ordered.{Every}
-use Rattle.world_model.specs.Switch as switches
-use Rattle.world_model.specs.Controller.{Acted}
+use Rattle.law_branch_shapes.specs.world_model.Switch as switches
+use Rattle.law_branch_shapes.specs.world_model.Controller.{Acted}
 use Rattle.law_frame_readings.proofs.law_controller_facts.Moves.{popping, moves_to}
 use Rattle.law_frame_readings.specs.law_controller_views.Ready.{IsReady}
 use Rattle.law_frame_readings.proofs.law_controller_lifts.Ready.{both_ready, split_unspent, split_fits}
-use Rattle.world_model.specs.World.{at_controller, at_switch}
+use Rattle.law_branch_shapes.specs.world_model.World.{at_controller, at_switch}
 pub use Rattle.law_frame_readings.proofs.law_world_views.Put.{put_found, Sited, put_sited}
 use Rattle.law_frame_readings.specs.law_world_views.Made.{AreMade}
 use Rattle.law_frame_readings.specs.law_world_views.Ready.{setups_of, IsReadySite}

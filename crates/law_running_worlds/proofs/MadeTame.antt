@@ -2,12 +2,12 @@
 
 use Rattle.std.proofs.Common.{◌≡◌, Bool, not, List, [], ◌∷◌, ◌++◌, length, refl, sym, subst}
 use Rattle.std.specs.Prelude.{nat_le, nat_lt}
-use Rattle.world_model.specs.Words.{Down, Up, Cell, Journal, last_mark, Reassembly, most_cells, passed_over, without_slot, too_long, reassembly_of, World, put_away, past_of, frames_of, IsTame, Frame}
-use Rattle.world_model.specs.frame_model.Reassembly.{Taken, taken, joined}
+use Rattle.law_branch_shapes.specs.world_model.Words.{Down, Up, Cell, Journal, last_mark, Reassembly, most_cells, passed_over, without_slot, too_long, reassembly_of, World, put_away, past_of, frames_of, IsTame, Frame}
+use Rattle.law_branch_shapes.specs.world_model.frame_model.Reassembly.{Taken, taken, joined}
 use Rattle.law_frame_readings.proofs.law_port_facts.Keyed.{on_each}
-use Rattle.world_model.specs.Switch as switches
-use Rattle.world_model.specs.Controller.{free_slots}
-use Rattle.world_model.specs.network_model.declared.event.Event.TheVariants.{Carry}
+use Rattle.law_branch_shapes.specs.world_model.Switch as switches
+use Rattle.law_branch_shapes.specs.world_model.Controller.{free_slots}
+use Rattle.law_branch_shapes.specs.world_model.network_model.declared.event.Event.TheVariants.{Carry}
 use Rattle.law_input_events.specs.law_input_steps.Hearing.{IsEnded, PassesTrue}
 use Rattle.law_run_facts.specs.Steps.{EventsAreSteps, RunsHaveFronts}
 use Rattle.law_frame_readings.proofs.law_shown_cells.Tested.{frame_is}

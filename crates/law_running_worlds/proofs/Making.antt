@@ -4,13 +4,13 @@ use Rattle.std.proofs.Common.{◌≡◌, ℕ, ◌-◌, ◌≤◌, Bool, true, fa
 use Rattle.std.specs.Prelude.{◌==◌, ◌&&◌}
 use Rattle.std.specs.Option.{option_and_then, option_map_or, option_or}
 use Rattle.std.proofs.lemmas.List.{length-set}
-use Rattle.world_model.specs.Words.{PortNo, Mark, protocol_of, ttl_of, with_ttl, IsPacket, onward, FlowId, FlowKind, kind_of, flow_of, same_flow, labelled_payload, Carries, Frame, Refusal, ControlProtocol, same_mark, payload_of, Grant, is_by_controller, grant_for, grant_of_kind, grant_matching, Controller, Linked, linked_at, control_protocol, refused_by, grant_by}
-use Rattle.world_model.specs.ipv4_packet.Packet.{first_fault}
-use Rattle.world_model.proofs.ipv4_packet.HeaderLemmas.{IsPacket-with_ttl}
-use Rattle.world_model.proofs.ipv4_packet.RouteLemmas.{protocol_of-rerouted, canonical-canonical}
-use Rattle.world_model.specs.ipv4_packet.declared.flow.FlowKind.TheVariants.{One, Two}
-use Rattle.world_model.proofs.link_model.Latest.{payload_of_push}
-use Rattle.world_model.proofs.link_model.Marks.{same_mark-Decides}
+use Rattle.law_branch_shapes.specs.world_model.Words.{PortNo, Mark, protocol_of, ttl_of, with_ttl, IsPacket, onward, FlowId, FlowKind, kind_of, flow_of, same_flow, labelled_payload, Carries, Frame, Refusal, ControlProtocol, same_mark, payload_of, Grant, is_by_controller, grant_for, grant_of_kind, grant_matching, Controller, Linked, linked_at, control_protocol, refused_by, grant_by}
+use Rattle.law_branch_shapes.specs.world_model.ipv4_packet.Packet.{first_fault}
+use Rattle.law_input_events.proofs.world_model.ipv4_packet.HeaderLemmas.{IsPacket-with_ttl}
+use Rattle.law_input_events.proofs.world_model.ipv4_packet.RouteLemmas.{protocol_of-rerouted, canonical-canonical}
+use Rattle.law_branch_shapes.specs.world_model.ipv4_packet.declared.flow.FlowKind.TheVariants.{One, Two}
+use Rattle.law_input_events.proofs.world_model.link_model.Latest.{payload_of_push}
+use Rattle.law_input_events.proofs.world_model.link_model.Marks.{same_mark-Decides}
 use Rattle.law_frame_readings.proofs.law_port_facts.Found.{find_passes}
 use Rattle.law_frame_readings.proofs.law_port_facts.Rules.{and_second}
 use Rattle.law_frame_readings.proofs.law_controller_facts.Onward.{octets_onward, packet_of}

@@ -2,22 +2,22 @@
 
 use Rattle.std.proofs.Common.{◌≡◌, ℕ, zero, suc, ◌<◌, ◌≤◌, true, List, [], ◌∷◌, Option, None, Some, refl, arith, map, fold, if◌then◌else◌}
 use Rattle.std.specs.Prelude.{◌^◌, ◌==◌, ◌&&◌, find, take, flat_map}
-use Rattle.world_model.specs.Words.{PortNo, Party, Said, Answer, Quiet, Send, Open, is_estab, ticked, greeting_of, gsmp_answer, gsmp_received, FitsRows, Fits, PortRow, Request, AddBranch, MoveBranch, DeleteTree, VerifyTree, PortManagement, Standing, empty_desk, sent_again, last_transaction, Head, head_of, is_of_type, Answered, Unknown, Done, Ports, Failed, succeeded, outcome, answered_with, after_answer, Setup, Linked, port_key, linked_at, with_linked, with_desk, default_end, default_home, says_gsmp, asks, sends_request, releases, tries_joins, meets, up_ports, empties, default_branches, ends_meeting, has_emptied, port_of_input, tells_port, behind_delete_all, causes_in_estab, causes, may_clear, clears_of, clears_port, clears, takes_answer, answer_comes, sends_again, ticks_port, ticks_ports, ticks_by}
-use Rattle.world_model.specs.adjacency_table.declared.message.Answer.TheVariants.{Reset}
-use Rattle.world_model.specs.adjacency_table.Side as sides
-use Rattle.world_model.specs.gsmp_wire.declared.message.Message.{Message}
-use Rattle.world_model.specs.gsmp_wire.declared.message.Message.TheVariants as messages
-use Rattle.world_model.specs.gsmp_wire.declared.request.Request.TheVariants.{DeleteAll, AllPorts}
+use Rattle.law_branch_shapes.specs.world_model.Words.{PortNo, Party, Said, Answer, Quiet, Send, Open, is_estab, ticked, greeting_of, gsmp_answer, gsmp_received, FitsRows, Fits, PortRow, Request, AddBranch, MoveBranch, DeleteTree, VerifyTree, PortManagement, Standing, empty_desk, sent_again, last_transaction, Head, head_of, is_of_type, Answered, Unknown, Done, Ports, Failed, succeeded, outcome, answered_with, after_answer, Setup, Linked, port_key, linked_at, with_linked, with_desk, default_end, default_home, says_gsmp, asks, sends_request, releases, tries_joins, meets, up_ports, empties, default_branches, ends_meeting, has_emptied, port_of_input, tells_port, behind_delete_all, causes_in_estab, causes, may_clear, clears_of, clears_port, clears, takes_answer, answer_comes, sends_again, ticks_port, ticks_ports, ticks_by}
+use Rattle.law_branch_shapes.specs.world_model.adjacency_table.declared.message.Answer.TheVariants.{Reset}
+use Rattle.law_branch_shapes.specs.world_model.adjacency_table.Side as sides
+use Rattle.law_branch_shapes.specs.world_model.gsmp_wire.declared.message.Message.{Message}
+use Rattle.law_branch_shapes.specs.world_model.gsmp_wire.declared.message.Message.TheVariants as messages
+use Rattle.law_branch_shapes.specs.world_model.gsmp_wire.declared.request.Request.TheVariants.{DeleteAll, AllPorts}
 use Rattle.law_frame_readings.specs.ordered_lists.Ordered.{Every}
-use Rattle.world_model.specs.port_model.Resets.{cleared}
+use Rattle.law_branch_shapes.specs.world_model.port_model.Resets.{cleared}
 use Rattle.law_frame_readings.specs.law_port_facts.Port.{IsLinked, IsShaped, asks_ports, empties_control, empties_port, opens_input, opens_output}
 use Rattle.law_frame_readings.proofs.law_port_facts.Keyed.{on_both, on_each, at_every, put_every}
 use Rattle.law_frame_readings.proofs.law_port_facts.Found.{find_every}
 use Rattle.law_frame_readings.proofs.law_port_widths.Rules.{cleared_fit}
-use Rattle.world_model.specs.Controller.{Acted, ports_of}
-use Rattle.world_model.specs.Meeting.{done}
-use Rattle.world_model.specs.Gsmp.{answers, steps, told}
-use Rattle.world_model.specs.Ticks.{ticks}
+use Rattle.law_branch_shapes.specs.world_model.Controller.{Acted, ports_of}
+use Rattle.law_branch_shapes.specs.world_model.Meeting.{done}
+use Rattle.law_branch_shapes.specs.world_model.Gsmp.{answers, steps, told}
+use Rattle.law_branch_shapes.specs.world_model.Ticks.{ticks}
 use Rattle.law_frame_readings.proofs.law_controller_facts.Moves.{IsGsmpTurn, hears as hears_greeting, ages, answering, meeting, ending_meeting, turning, clearing, moves_to, HasPorts, IsShapedStanding, found_at_own}
 use Rattle.law_frame_readings.proofs.law_controller_facts.Performing.{Any, any_ports}
 use Rattle.law_frame_readings.specs.law_controller_facts.Sound.{IsSound}

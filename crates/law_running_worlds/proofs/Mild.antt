@@ -1,14 +1,14 @@
 -- what a rule of a port asks before its switch is met: neither a reset of the port nor Delete All
 
 use Rattle.std.proofs.Common.{◌≡◌, false, List, [], ◌∷◌, Some, refl}
-use Rattle.world_model.specs.Words.{End, PortNo, AddBranch, MoveBranch, DeleteTree, VerifyTree, PortManagement, Desk, Action, Say, Ask, Note, CutChain, TakeBack, Withdraw, Setup, Work, labels_of, desk_with, Linked, linked_at, port_key, begins}
-use Rattle.world_model.specs.gsmp_wire.declared.request.Request.TheVariants.{DeleteAll, AllPorts}
+use Rattle.law_branch_shapes.specs.world_model.Words.{End, PortNo, AddBranch, MoveBranch, DeleteTree, VerifyTree, PortManagement, Desk, Action, Say, Ask, Note, CutChain, TakeBack, Withdraw, Setup, Work, labels_of, desk_with, Linked, linked_at, port_key, begins}
+use Rattle.law_branch_shapes.specs.world_model.gsmp_wire.declared.request.Request.TheVariants.{DeleteAll, AllPorts}
 use Rattle.law_frame_readings.specs.ordered_lists.Ordered.{Every}
 use Rattle.law_frame_readings.proofs.ordered_lists.Every.{every_all}
-use Rattle.world_model.specs.port_model.declared.action.Action.TheVariants as actions
+use Rattle.law_branch_shapes.specs.world_model.port_model.declared.action.Action.TheVariants as actions
 use Rattle.law_frame_readings.proofs.law_port_facts.Keyed.{at_every}
 use Rattle.law_frame_readings.proofs.law_port_facts.Steps.{Goes}
-use Rattle.world_model.specs.Controller.{Acted}
+use Rattle.law_branch_shapes.specs.world_model.Controller.{Acted}
 use Rattle.law_frame_readings.specs.law_controller_facts.Sound.{IsShutLinked}
 use Rattle.law_frame_readings.proofs.law_controller_facts.Moves.{HasPorts, found_at_own, found_setup, begun}
 use Rattle.law_frame_readings.proofs.law_controller_facts.Laws.{has_ports}

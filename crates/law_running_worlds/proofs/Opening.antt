@@ -2,19 +2,19 @@
 
 use Rattle.std.proofs.Common.{◌≡◌, ℕ, zero, suc, ◌+◌, ◌≤◌, ◌<◌, false, List, [], ◌∷◌, ◌++◌, length, map, Some, refl, ap, subst, arith}
 use Rattle.std.specs.Prelude.{◌^◌, All}
-use Rattle.world_model.specs.Words.{NodeId, PortNo, Instance, GivenOut, Bits, FitsRows, Frame, payload_of, IsLinkPort, control_port, numbers_of, Policy, Setup, is_spent, Linked, setup_of, opens_ports, Topology, Node, ranges_of, timers_of, World, Site, site_key, opened_site, opens_each, with_opened, empty_world, past_of, IsRun}
+use Rattle.law_branch_shapes.specs.world_model.Words.{NodeId, PortNo, Instance, GivenOut, Bits, FitsRows, Frame, payload_of, IsLinkPort, control_port, numbers_of, Policy, Setup, is_spent, Linked, setup_of, opens_ports, Topology, Node, ranges_of, timers_of, World, Site, site_key, opened_site, opens_each, with_opened, empty_world, past_of, IsRun}
 use Rattle.law_frame_readings.specs.ordered_lists.Ordered.{Every}
-use Rattle.world_model.specs.switch_model.declared.port.PortState.{PortState}
-use Rattle.world_model.specs.Switch.{begun}
-use Rattle.world_model.specs.Answers.{row_of}
+use Rattle.law_branch_shapes.specs.world_model.switch_model.declared.port.PortState.{PortState}
+use Rattle.law_branch_shapes.specs.world_model.Switch.{begun}
+use Rattle.law_branch_shapes.specs.world_model.Answers.{row_of}
 use Rattle.law_frame_readings.proofs.law_port_facts.Keyed.{at_every, every_more}
 use Rattle.law_frame_readings.specs.law_port_widths.Widths.{FitsPort, FitsSetup}
-use Rattle.world_model.specs.controller_model.declared.range.PortRange.{PortRange}
-use Rattle.world_model.specs.Controller.{ports_of}
+use Rattle.law_branch_shapes.specs.world_model.controller_model.declared.range.PortRange.{PortRange}
+use Rattle.law_branch_shapes.specs.world_model.Controller.{ports_of}
 use Rattle.law_frame_readings.specs.law_controller_views.Ready.{IsReadyPort}
-use Rattle.world_model.specs.network_model.declared.event.Event.{Event}
-use Rattle.world_model.specs.Topology as topologies
-use Rattle.world_model.specs.World.{opened}
+use Rattle.law_branch_shapes.specs.world_model.network_model.declared.event.Event.{Event}
+use Rattle.law_branch_shapes.specs.world_model.Topology as topologies
+use Rattle.law_branch_shapes.specs.world_model.World.{opened}
 use Rattle.law_frame_readings.specs.law_world_views.Made.{AreMade}
 use Rattle.law_frame_readings.specs.law_world_views.Ready.{FitsSide}
 use Rattle.law_frame_readings.specs.law_world_views.Between.{HasAllMade, HasAllReady}

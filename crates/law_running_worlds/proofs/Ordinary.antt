@@ -4,17 +4,17 @@ use Rattle.std.proofs.Common.{◌≡◌, ◌≢◌, ℕ, ◌+◌, ◌<◌, ◌�
 use Rattle.std.specs.Prelude.{◌==◌, ◌&&◌, ◌||◌, Contains, is_some, nat_le, nat_lt}
 use Rattle.std.specs.List.{list_any}
 use Rattle.std.proofs.lemmas.Bool.Decides.{nat_tests}
-use Rattle.world_model.specs.Words.{Channel, NodeId, PortNo, Place, Down, Up, Out, Mark, next_control, with_control, Cell, Record, Forged, Loss, PoolFull, noted, frame_cells, made, Controller, linked_at, ForGsmp, port_on, on_link, taker_at, Topology, IsTopology, IsPlace, CanCome, World, Site, site_at, controller_acts, switch_acts, queue_at, Past, frames_of, next, put_away, is_wild, IsTame}
-use Rattle.world_model.specs.frame_model.Sending.{Sent}
+use Rattle.law_branch_shapes.specs.world_model.Words.{Channel, NodeId, PortNo, Place, Down, Up, Out, Mark, next_control, with_control, Cell, Record, Forged, Loss, PoolFull, noted, frame_cells, made, Controller, linked_at, ForGsmp, port_on, on_link, taker_at, Topology, IsTopology, IsPlace, CanCome, World, Site, site_at, controller_acts, switch_acts, queue_at, Past, frames_of, next, put_away, is_wild, IsTame}
+use Rattle.law_branch_shapes.specs.world_model.frame_model.Sending.{Sent}
 use Rattle.law_frame_readings.proofs.law_port_facts.Keyed.{on_both}
-use Rattle.world_model.specs.Switch as switches
-use Rattle.world_model.specs.Conduct as switch
-use Rattle.world_model.specs.Controller.{free_slots}
-use Rattle.world_model.specs.Sending.{with_cells, sends}
-use Rattle.world_model.specs.network_model.declared.event.Event.{Event}
-use Rattle.world_model.specs.network_model.declared.event.Event.TheVariants.{Inject, Carry, Lose, Tick, TickSwitch, Restart, RestartSwitch, Forge, Route}
-use Rattle.world_model.specs.network_model.declared.link.LinkEnd.{LinkEnd}
-use Rattle.world_model.specs.Topology.{peer_of}
+use Rattle.law_branch_shapes.specs.world_model.Switch as switches
+use Rattle.law_branch_shapes.specs.world_model.Conduct as switch
+use Rattle.law_branch_shapes.specs.world_model.Controller.{free_slots}
+use Rattle.law_branch_shapes.specs.world_model.Sending.{with_cells, sends}
+use Rattle.law_branch_shapes.specs.world_model.network_model.declared.event.Event.{Event}
+use Rattle.law_branch_shapes.specs.world_model.network_model.declared.event.Event.TheVariants.{Inject, Carry, Lose, Tick, TickSwitch, Restart, RestartSwitch, Forge, Route}
+use Rattle.law_branch_shapes.specs.world_model.network_model.declared.link.LinkEnd.{LinkEnd}
+use Rattle.law_branch_shapes.specs.world_model.Topology.{peer_of}
 use Rattle.law_branch_shapes.proofs.law_causes.Shown.{IsPeer, peer_back}
 use Rattle.law_input_events.specs.Coming.{IsNext, IsFar, CanCarry, CanLose, IsOrdinary}
 use Rattle.law_frame_readings.specs.law_world_views.Marks.{Heading, heading_at, Means, early, control, local, plain, labelled}

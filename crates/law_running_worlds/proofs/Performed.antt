@@ -2,17 +2,17 @@
 
 use Rattle.std.proofs.Common.{◌≡◌, ◌<◌, false, List, [], ◌∷◌, Option, None, Some, refl, arith, fold, if◌then◌else◌}
 use Rattle.std.specs.Prelude.{◌^◌, ◌==◌, map, flat_map}
-use Rattle.world_model.specs.Words.{End, PortNo, is_estab, Request, MoveBranch, Standing, is_led_home, last_transaction, Action, Say, Ask, Note, CutChain, TakeBack, Withdraw, Setup, home_of, Label, Grant, GrantState, Idle, ByController, ByInput, Leaving, Session, Work, is_spent, closing, taking_back_in, taking_back, withdrawing_in, withdrawing_of, withdrawing, resets, Linked, port_key, linked_at, with_desk, sends_request, asks_next, asks, takes_back, begins, with_work, node_resets, does, does_in_estab, resets_as, resets_of, resets_port, performs, performs_in_estab, Rule, works_as, works, at_port}
+use Rattle.law_branch_shapes.specs.world_model.Words.{End, PortNo, is_estab, Request, MoveBranch, Standing, is_led_home, last_transaction, Action, Say, Ask, Note, CutChain, TakeBack, Withdraw, Setup, home_of, Label, Grant, GrantState, Idle, ByController, ByInput, Leaving, Session, Work, is_spent, closing, taking_back_in, taking_back, withdrawing_in, withdrawing_of, withdrawing, resets, Linked, port_key, linked_at, with_desk, sends_request, asks_next, asks, takes_back, begins, with_work, node_resets, does, does_in_estab, resets_as, resets_of, resets_port, performs, performs_in_estab, Rule, works_as, works, at_port}
 use Rattle.law_frame_readings.specs.ordered_lists.Ordered.{Every}
 use Rattle.law_frame_readings.proofs.ordered_lists.Every.{every_join}
-use Rattle.world_model.specs.port_model.Desk.{asked, message_at}
-use Rattle.world_model.specs.port_model.declared.action.Action.TheVariants.{Reset}
+use Rattle.law_branch_shapes.specs.world_model.port_model.Desk.{asked, message_at}
+use Rattle.law_branch_shapes.specs.world_model.port_model.declared.action.Action.TheVariants.{Reset}
 use Rattle.law_frame_readings.specs.law_port_facts.Port.{IsShaped, parts_label, IsAction, IsSayable, IsWork}
 use Rattle.law_frame_readings.proofs.law_port_facts.Keyed.{on_both, on_each, at_every}
 use Rattle.law_frame_readings.proofs.law_port_facts.Joins.{resets_kept}
 use Rattle.law_frame_readings.specs.law_port_widths.Widths.{FitsAction, FitsWork}
 use Rattle.law_frame_readings.proofs.law_port_widths.Rules.{resets_fit}
-use Rattle.world_model.specs.Controller.{Acted}
+use Rattle.law_branch_shapes.specs.world_model.Controller.{Acted}
 use Rattle.law_frame_readings.proofs.law_controller_facts.Moves.{Worked, by_reset, Found, asking, placing, Moves, moves_to, HasPorts, found_setup, found_at_own, begun, moves_ports, worked_kept}
 use Rattle.law_frame_readings.proofs.law_controller_facts.Performing.{resets_port_goes, works_as_goes}
 use Rattle.law_frame_readings.proofs.law_controller_facts.Joining.{every_flat_map}

@@ -3,16 +3,16 @@
 use Rattle.std.proofs.Common.{◌≡◌, ℕ, ◌<◌, Bool, true, false, List, Option, None, Some, refl, sym, ◌∙◌, ap, subst, arith, if◌then◌else◌}
 use Rattle.std.specs.Prelude.{◌^◌, ◌==◌, ◌&&◌, not}
 use Rattle.std.specs.Option.{option_or}
-use Rattle.world_model.specs.Words.{PortNo, Addr, End, tos_of, ttl_of, protocol_of, source_of, destination_of, FlowId, FlowKind, shows_ports, flow_of, FitsFields, InRange, FitsMessage, Request, at, Desk, Ask, Setup, Label, Offered, label_for, lowest_spare, counted_once, packets_in, Grant, ByController, grant_label, Session, Work, halts, with_session, with_new_label, label_at, has_room, is_spent, closes, hears, packet_flow, wires, counts_in, used_label, counts_flow, counts_by, counts, used, joins_label, parted, lent, given_back, Linked, linked_at, begins, at_port}
+use Rattle.law_branch_shapes.specs.world_model.Words.{PortNo, Addr, End, tos_of, ttl_of, protocol_of, source_of, destination_of, FlowId, FlowKind, shows_ports, flow_of, FitsFields, InRange, FitsMessage, Request, at, Desk, Ask, Setup, Label, Offered, label_for, lowest_spare, counted_once, packets_in, Grant, ByController, grant_label, Session, Work, halts, with_session, with_new_label, label_at, has_room, is_spent, closes, hears, packet_flow, wires, counts_in, used_label, counts_flow, counts_by, counts, used, joins_label, parted, lent, given_back, Linked, linked_at, begins, at_port}
 use Rattle.law_frame_readings.specs.octet_fields.Fields.{u16_at}
 use Rattle.law_frame_readings.proofs.octet_fields.FieldLemmas.{AreOctets, u16_at-fits, u32_at-fits}
-use Rattle.world_model.specs.ipv4_packet.declared.flow.FlowId.TheVariants as flows
-use Rattle.world_model.specs.ipv4_packet.declared.flow.FlowKind.TheVariants.{One, Two}
-use Rattle.world_model.specs.ifmp_wire.declared.message.Message.{Message}
+use Rattle.law_branch_shapes.specs.world_model.ipv4_packet.declared.flow.FlowId.TheVariants as flows
+use Rattle.law_branch_shapes.specs.world_model.ipv4_packet.declared.flow.FlowKind.TheVariants.{One, Two}
+use Rattle.law_branch_shapes.specs.world_model.ifmp_wire.declared.message.Message.{Message}
 use Rattle.law_frame_readings.specs.ordered_lists.Ordered.{Every}
-use Rattle.world_model.specs.port_model.Answers.{done}
-use Rattle.world_model.specs.port_model.Joins.{joined}
-use Rattle.world_model.specs.port_model.Ticks.{ticks}
+use Rattle.law_branch_shapes.specs.world_model.port_model.Answers.{done}
+use Rattle.law_branch_shapes.specs.world_model.port_model.Joins.{joined}
+use Rattle.law_branch_shapes.specs.world_model.port_model.Ticks.{ticks}
 use Rattle.law_frame_readings.specs.law_port_facts.Port.{IsLabelEnd, IsSayable}
 use Rattle.law_frame_readings.proofs.law_port_facts.Keyed.{on_both}
 use Rattle.law_frame_readings.proofs.law_port_facts.Rules.{counts_goes, used_goes, done_goes}
@@ -24,7 +24,7 @@ use Rattle.law_frame_readings.proofs.law_port_widths.Rules.{hears_fit, counts_fi
 use Rattle.law_frame_readings.specs.law_label_steps.Follows.{IsUnspent}
 use Rattle.law_frame_readings.proofs.law_label_steps.Follow.{unspent_session, unspent_label}
 use Rattle.law_frame_readings.proofs.law_label_steps.Unspent.{hears_unspent, used_unspent, done_unspent}
-use Rattle.world_model.specs.Controller.{Acted}
+use Rattle.law_branch_shapes.specs.world_model.Controller.{Acted}
 use Rattle.law_frame_readings.proofs.law_controller_facts.Flows.{says_in_range}
 use Rattle.law_frame_readings.proofs.law_controller_facts.Moves.{by_rule, by_closing, by_parting, by_joining, by_lending, by_giving_back, HasPorts, found_port}
 use Rattle.law_frame_readings.proofs.law_controller_lifts.Lifts.{heard_any}

@@ -7,19 +7,19 @@ use Rattle.std.specs.Option.{option_and_then, option_map, option_map_or}
 use Rattle.std.proofs.lemmas.Bool.Decides.{nat_tests}
 use Rattle.std.proofs.lemmas.List.{length-map}
 use Rattle.std.proofs.lemmas.List.Kept.{AllPairs-from_increasing}
-use Rattle.world_model.specs.Words.{Channel, End, NodeId, PortNo, Down, Up, destination_of, ttl_of, is_best, hop_by, On, Next, Local, Via, Cell, FitsRows, IsLinkPort, queue_of, at, control_port, numbers_of, Setup, Policy, home_of, Controller, Linked, linked_at, port_key, default_channel, same_channel, IsLinkedNext, Site, site_at, queue_in, queue_at, Past, frames_of, copy_of, on_channel, requests_chain_at, answers_chain_at}
-use Rattle.world_model.specs.ipv4_forward.declared.outcome.Hop.TheVariants.{Expired}
-use Rattle.world_model.specs.ipv4_forward.declared.table.Route.{Route}
-use Rattle.world_model.specs.gsmp_wire.declared.message.Message.TheVariants as messages
-use Rattle.world_model.specs.crossbar_model.declared.branch.Branch.{Branch}
+use Rattle.law_branch_shapes.specs.world_model.Words.{Channel, End, NodeId, PortNo, Down, Up, destination_of, ttl_of, is_best, hop_by, On, Next, Local, Via, Cell, FitsRows, IsLinkPort, queue_of, at, control_port, numbers_of, Setup, Policy, home_of, Controller, Linked, linked_at, port_key, default_channel, same_channel, IsLinkedNext, Site, site_at, queue_in, queue_at, Past, frames_of, copy_of, on_channel, requests_chain_at, answers_chain_at}
+use Rattle.law_branch_shapes.specs.world_model.ipv4_forward.declared.outcome.Hop.TheVariants.{Expired}
+use Rattle.law_branch_shapes.specs.world_model.ipv4_forward.declared.table.Route.{Route}
+use Rattle.law_branch_shapes.specs.world_model.gsmp_wire.declared.message.Message.TheVariants as messages
+use Rattle.law_branch_shapes.specs.world_model.crossbar_model.declared.branch.Branch.{Branch}
 use Rattle.law_frame_readings.specs.ordered_lists.Ordered.{Every, InOrder}
 use Rattle.law_frame_readings.proofs.ordered_lists.Every.{every_map, every_unmapped}
-use Rattle.world_model.specs.switch_model.declared.port.PortState.{PortState}
-use Rattle.world_model.specs.Answers.{row_of}
+use Rattle.law_branch_shapes.specs.world_model.switch_model.declared.port.PortState.{PortState}
+use Rattle.law_branch_shapes.specs.world_model.Answers.{row_of}
 use Rattle.law_frame_readings.specs.law_port_facts.Port.{setup_port, IsLinked}
 use Rattle.law_frame_readings.proofs.law_port_facts.Found.{find_every}
 use Rattle.law_frame_readings.proofs.law_port_facts.Keyed.{at_key, at_every}
-use Rattle.world_model.specs.Controller.{ports_of}
+use Rattle.law_branch_shapes.specs.world_model.Controller.{ports_of}
 use Rattle.law_frame_readings.proofs.law_controller_facts.Conditions.{label_has_home}
 use Rattle.law_input_events.specs.law_input_steps.Hearing.{LeadsAway}
 use Rattle.law_input_events.specs.Coming.{GoesByLinks, IsBelow, TellsPorts, HasSaid, HasAnswered, IsSteadySite}

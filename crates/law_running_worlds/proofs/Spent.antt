@@ -2,11 +2,11 @@
 
 use Rattle.std.proofs.Common.{◌≡◌, ◌≢◌, ℕ, ◌≤◌, ◌<◌, Bool, true, false, List, [], ◌∷◌, Option, None, Some, refl, sym, ◌∙◌, ap, subst, arith, fold, ◌⊎◌, inl, inr, if◌then◌else◌}
 use Rattle.std.specs.Prelude.{◌^◌, map}
-use Rattle.world_model.specs.Words.{PortNo, is_estab, Setup, Session, Work, halts, is_spent, closes, resets, Linked, port_key, linked_at, begins, with_work, does_in_estab, resets_as, resets_of, resets_port, works_as, works, resets_spent}
+use Rattle.law_branch_shapes.specs.world_model.Words.{PortNo, is_estab, Setup, Session, Work, halts, is_spent, closes, resets, Linked, port_key, linked_at, begins, with_work, does_in_estab, resets_as, resets_of, resets_port, works_as, works, resets_spent}
 use Rattle.law_frame_readings.specs.ordered_lists.Ordered.{Every}
-use Rattle.world_model.specs.port_model.Port.{Port}
+use Rattle.law_branch_shapes.specs.world_model.port_model.Port.{Port}
 use Rattle.law_frame_readings.proofs.law_port_facts.Keyed.{on_each, at_key}
-use Rattle.world_model.specs.Controller.{Acted, ports_of}
+use Rattle.law_branch_shapes.specs.world_model.Controller.{Acted, ports_of}
 use Rattle.law_frame_readings.specs.law_controller_facts.Sound.{IsSound, IsShutLinked}
 use Rattle.law_frame_readings.proofs.law_controller_facts.Moves.{by_closing, placing, Moves, moves_to, found_at_own}
 use Rattle.law_frame_readings.proofs.law_controller_facts.Joining.{resets_spent_goes}

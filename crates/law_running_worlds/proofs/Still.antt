@@ -1,9 +1,9 @@
 -- where chains are cut and ports restart no frame is made, and the adjacency with the switch and the desk stay
 
 use Rattle.std.proofs.Common.{◌≡◌, ℕ, ◌≤◌, List, [], ◌∷◌, Option, Some, None, refl, ◌∙◌, fold, arith}
-use Rattle.world_model.specs.Words.{PortNo, Action, Say, Ask, Note, CutChain, TakeBack, Withdraw, Work, restarts, Linked, linked_at, chain_of, cuts_of, begins, with_work, closes_by, port_restarts_as, port_restarts_of, port_restarts, resets_gsmp, node_resets}
-use Rattle.world_model.specs.port_model.declared.action.Action.TheVariants.{Reset}
-use Rattle.world_model.specs.Controller.{Acted, ports_of}
+use Rattle.law_branch_shapes.specs.world_model.Words.{PortNo, Action, Say, Ask, Note, CutChain, TakeBack, Withdraw, Work, restarts, Linked, linked_at, chain_of, cuts_of, begins, with_work, closes_by, port_restarts_as, port_restarts_of, port_restarts, resets_gsmp, node_resets}
+use Rattle.law_branch_shapes.specs.world_model.port_model.declared.action.Action.TheVariants.{Reset}
+use Rattle.law_branch_shapes.specs.world_model.Controller.{Acted, ports_of}
 use Rattle.law_frame_readings.proofs.law_shown_cells.Tested.{cut_frames}
 
 -- *Still*

@@ -3,29 +3,29 @@
 use Rattle.std.proofs.Common.{◌≡◌, ℕ, ◌≤◌, ◌<◌, Bool, true, List, [], ◌∷◌, length, Option, None, Some, Result, Ok, Err, refl, sym, ◌∙◌, ap, subst, map, arith, if◌then◌else◌}
 use Rattle.std.specs.FinMap.{get, keys}
 use Rattle.std.specs.Prelude.{◌^◌, ◌==◌, ◌&&◌, nat_le, nat_lt}
-use Rattle.world_model.specs.Words.{Greeting, Party, Mark, PortNo, Instance, End, GivenOut, next_control, with_control, next_instance, Answer, Quiet, Send, Open, Step, is_estab, ticked, gsmp_answer, gsmp_received, Cell, Move, Request, FitsRows, Fits, Frame, Loss, PoolFull, noted, made, frame_cells, payload_in, tested_by, Routed, routed, cut_by_move, Standing, Head, head_of, Switch, control_port, gsmp_channel, Changed, moved_by, moved_to, ended_by, all_ended, inputs_on, branches_after, asked_in, is_request, ports_after, failure_of, Handled, handled_by, handled_asked, handled, replied, requested, read, gsmp_cell, switched_cell, is_gsmp, tick_comes, restarted, copy_by, copy_of}
-use Rattle.world_model.specs.adjacency_table.declared.message.Answer.TheVariants.{Reset}
-use Rattle.world_model.specs.gsmp_wire.declared.fault.Fault.{Fault}
-use Rattle.world_model.specs.gsmp_wire.declared.message.Message.{Message}
-use Rattle.world_model.specs.gsmp_wire.declared.message.Message.TheVariants.{Adjacency, Branch, Port, AllPorts}
-use Rattle.world_model.specs.gsmp_wire.declared.request.Request.TheVariants as requests
-use Rattle.world_model.specs.gsmp_wire.Layout.{octets_of}
-use Rattle.world_model.specs.gsmp_wire.Fields.{decoded}
+use Rattle.law_branch_shapes.specs.world_model.Words.{Greeting, Party, Mark, PortNo, Instance, End, GivenOut, next_control, with_control, next_instance, Answer, Quiet, Send, Open, Step, is_estab, ticked, gsmp_answer, gsmp_received, Cell, Move, Request, FitsRows, Fits, Frame, Loss, PoolFull, noted, made, frame_cells, payload_in, tested_by, Routed, routed, cut_by_move, Standing, Head, head_of, Switch, control_port, gsmp_channel, Changed, moved_by, moved_to, ended_by, all_ended, inputs_on, branches_after, asked_in, is_request, ports_after, failure_of, Handled, handled_by, handled_asked, handled, replied, requested, read, gsmp_cell, switched_cell, is_gsmp, tick_comes, restarted, copy_by, copy_of}
+use Rattle.law_branch_shapes.specs.world_model.adjacency_table.declared.message.Answer.TheVariants.{Reset}
+use Rattle.law_branch_shapes.specs.world_model.gsmp_wire.declared.fault.Fault.{Fault}
+use Rattle.law_branch_shapes.specs.world_model.gsmp_wire.declared.message.Message.{Message}
+use Rattle.law_branch_shapes.specs.world_model.gsmp_wire.declared.message.Message.TheVariants.{Adjacency, Branch, Port, AllPorts}
+use Rattle.law_branch_shapes.specs.world_model.gsmp_wire.declared.request.Request.TheVariants as requests
+use Rattle.law_branch_shapes.specs.world_model.gsmp_wire.Layout.{octets_of}
+use Rattle.law_branch_shapes.specs.world_model.gsmp_wire.Fields.{decoded}
 use Rattle.law_frame_readings.specs.law_gsmp_reading.Said.{IsSaid}
-use Rattle.world_model.specs.frame_model.Frame.{octets_of as cell_octets}
-use Rattle.world_model.specs.frame_model.Reassembly.{Taken, taken}
-use Rattle.world_model.specs.frame_model.Sending.{Sent}
-use Rattle.world_model.specs.crossbar_model.declared.routed.Routed.TheVariants as routes
-use Rattle.world_model.specs.crossbar_model.declared.branch.Branch.{Branch as BranchOf}
+use Rattle.law_branch_shapes.specs.world_model.frame_model.Frame.{octets_of as cell_octets}
+use Rattle.law_branch_shapes.specs.world_model.frame_model.Reassembly.{Taken, taken}
+use Rattle.law_branch_shapes.specs.world_model.frame_model.Sending.{Sent}
+use Rattle.law_branch_shapes.specs.world_model.crossbar_model.declared.routed.Routed.TheVariants as routes
+use Rattle.law_branch_shapes.specs.world_model.crossbar_model.declared.branch.Branch.{Branch as BranchOf}
 use Rattle.law_frame_readings.proofs.law_port_facts.Keyed.{on_both, on_each}
 use Rattle.law_frame_readings.proofs.law_port_facts.Rules.{and_first}
-use Rattle.world_model.specs.switch_model.declared.port.PortState.{PortState}
-use Rattle.world_model.specs.switch_model.declared.request.Asked.{Asked}
-use Rattle.world_model.specs.switch_model.declared.request.Failure.{Failure}
-use Rattle.world_model.specs.Switch.{Acted, free_slots, begun}
-use Rattle.world_model.specs.Requests.{ended, cleared}
-use Rattle.world_model.specs.Answers.{row_of}
-use Rattle.world_model.specs.Conduct.{with_cells, says, answers, steps, told, after_test, ends_frame, passed, cell_comes}
+use Rattle.law_branch_shapes.specs.world_model.switch_model.declared.port.PortState.{PortState}
+use Rattle.law_branch_shapes.specs.world_model.switch_model.declared.request.Asked.{Asked}
+use Rattle.law_branch_shapes.specs.world_model.switch_model.declared.request.Failure.{Failure}
+use Rattle.law_branch_shapes.specs.world_model.Switch.{Acted, free_slots, begun}
+use Rattle.law_branch_shapes.specs.world_model.Requests.{ended, cleared}
+use Rattle.law_branch_shapes.specs.world_model.Answers.{row_of}
+use Rattle.law_branch_shapes.specs.world_model.Conduct.{with_cells, says, answers, steps, told, after_test, ends_frame, passed, cell_comes}
 use Rattle.law_frame_readings.specs.law_world_views.Made.{said, AreMade}
 use Rattle.law_frame_readings.specs.law_world_views.Ready.{FitsSide}
 use Rattle.law_frame_readings.proofs.law_shown_cells.Tested.{cut_frames, taken_frames, tested_frames}

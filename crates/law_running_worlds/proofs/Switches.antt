@@ -7,33 +7,33 @@ use Rattle.std.specs.Option.{option_and_then, option_map_or}
 use Rattle.std.specs.FinMap as finite
 use Rattle.std.specs.FinMap.{get}
 use Rattle.std.proofs.lemmas.Bool.Decides.{nat_tests}
-use Rattle.world_model.specs.Words.{Greeting, Party, End, PortNo, Instance, Mark, next_control, next_instance, with_control, Answer, Quiet, Send, Open, Step, is_estab, ticked, gsmp_answer, gsmp_received, Cell, Routed, Crossbar, queue_of, on_channel_of, routed, switched_on, Move, Request, PortRow, Frame, PoolFull, Loss, payload_of, Journal, noted, frame_cells, made, last_mark, payload_in, tested_by, Reassembly, marks_of, most_cells, passed_over, without_slot, too_long, Setup, Switch, control_port, gsmp_channel, numbers_of, Changed, end_at, branch_request, branches_after, ports_after, inputs_on, asked_in, is_request, failure_of, handled, handled_asked, handled_by, replied, requested, read, gsmp_cell, switched_cell, tick_comes, restarted, default_channel, gsmp_of, gsmp_under}
-use Rattle.world_model.specs.adjacency_table.declared.message.Answer.TheVariants.{Reset}
-use Rattle.world_model.specs.crossbar_model.declared.branch.Branch.{Branch as Led}
-use Rattle.world_model.specs.crossbar_model.declared.routed.Routed.TheVariants as routes
-use Rattle.world_model.specs.crossbar_model.Crossbar.{input_of}
-use Rattle.world_model.specs.gsmp_wire.declared.fault.Fault.{Fault}
-use Rattle.world_model.specs.gsmp_wire.declared.message.Message.{Message}
-use Rattle.world_model.specs.gsmp_wire.declared.message.Message.TheVariants.{Adjacency, Branch, Port, AllPorts}
-use Rattle.world_model.specs.gsmp_wire.declared.request.Request.TheVariants as requests
-use Rattle.world_model.specs.gsmp_wire.Fields.{decoded}
-use Rattle.world_model.specs.gsmp_wire.Layout.{octets_of as message_octets}
-use Rattle.world_model.specs.frame_model.Frame.{octets_of}
-use Rattle.world_model.specs.frame_model.Reassembly.{Taken, joined}
-use Rattle.world_model.specs.frame_model.Sending.{Sent}
+use Rattle.law_branch_shapes.specs.world_model.Words.{Greeting, Party, End, PortNo, Instance, Mark, next_control, next_instance, with_control, Answer, Quiet, Send, Open, Step, is_estab, ticked, gsmp_answer, gsmp_received, Cell, Routed, Crossbar, queue_of, on_channel_of, routed, switched_on, Move, Request, PortRow, Frame, PoolFull, Loss, payload_of, Journal, noted, frame_cells, made, last_mark, payload_in, tested_by, Reassembly, marks_of, most_cells, passed_over, without_slot, too_long, Setup, Switch, control_port, gsmp_channel, numbers_of, Changed, end_at, branch_request, branches_after, ports_after, inputs_on, asked_in, is_request, failure_of, handled, handled_asked, handled_by, replied, requested, read, gsmp_cell, switched_cell, tick_comes, restarted, default_channel, gsmp_of, gsmp_under}
+use Rattle.law_branch_shapes.specs.world_model.adjacency_table.declared.message.Answer.TheVariants.{Reset}
+use Rattle.law_branch_shapes.specs.world_model.crossbar_model.declared.branch.Branch.{Branch as Led}
+use Rattle.law_branch_shapes.specs.world_model.crossbar_model.declared.routed.Routed.TheVariants as routes
+use Rattle.law_branch_shapes.specs.world_model.crossbar_model.Crossbar.{input_of}
+use Rattle.law_branch_shapes.specs.world_model.gsmp_wire.declared.fault.Fault.{Fault}
+use Rattle.law_branch_shapes.specs.world_model.gsmp_wire.declared.message.Message.{Message}
+use Rattle.law_branch_shapes.specs.world_model.gsmp_wire.declared.message.Message.TheVariants.{Adjacency, Branch, Port, AllPorts}
+use Rattle.law_branch_shapes.specs.world_model.gsmp_wire.declared.request.Request.TheVariants as requests
+use Rattle.law_branch_shapes.specs.world_model.gsmp_wire.Fields.{decoded}
+use Rattle.law_branch_shapes.specs.world_model.gsmp_wire.Layout.{octets_of as message_octets}
+use Rattle.law_branch_shapes.specs.world_model.frame_model.Frame.{octets_of}
+use Rattle.law_branch_shapes.specs.world_model.frame_model.Reassembly.{Taken, joined}
+use Rattle.law_branch_shapes.specs.world_model.frame_model.Sending.{Sent}
 use Rattle.law_frame_readings.specs.ordered_lists.Ordered.{Every}
 use Rattle.law_frame_readings.proofs.ordered_lists.Every.{every_join, every_map, every_mapped}
-use Rattle.world_model.specs.port_model.Messages.{is_up}
+use Rattle.law_branch_shapes.specs.world_model.port_model.Messages.{is_up}
 use Rattle.law_frame_readings.specs.law_port_facts.Port.{IsShaped, asks_ports, empties_control, empties_port, opens_input, opens_output, leads_label, leads_grant, joins_label, parts_label, frees_label}
 use Rattle.law_frame_readings.proofs.law_port_facts.Keyed.{on_both, on_each}
-use Rattle.world_model.specs.switch_model.declared.port.PortState.{PortState}
-use Rattle.world_model.specs.switch_model.declared.request.Asked.{Asked}
-use Rattle.world_model.specs.switch_model.declared.request.Failure.{Failure}
-use Rattle.world_model.specs.Switch.{Acted, free_slots, begun}
-use Rattle.world_model.specs.Requests.{cleared}
-use Rattle.world_model.specs.Answers.{row_of}
-use Rattle.world_model.specs.Conduct.{with_cells, says, answers, steps, told, after_test, ends_frame, after_cell, passed as passed_cell}
-use Rattle.world_model.specs.Ways.{told as heard}
+use Rattle.law_branch_shapes.specs.world_model.switch_model.declared.port.PortState.{PortState}
+use Rattle.law_branch_shapes.specs.world_model.switch_model.declared.request.Asked.{Asked}
+use Rattle.law_branch_shapes.specs.world_model.switch_model.declared.request.Failure.{Failure}
+use Rattle.law_branch_shapes.specs.world_model.Switch.{Acted, free_slots, begun}
+use Rattle.law_branch_shapes.specs.world_model.Requests.{cleared}
+use Rattle.law_branch_shapes.specs.world_model.Answers.{row_of}
+use Rattle.law_branch_shapes.specs.world_model.Conduct.{with_cells, says, answers, steps, told, after_test, ends_frame, after_cell, passed as passed_cell}
+use Rattle.law_branch_shapes.specs.world_model.Ways.{told as heard}
 use Rattle.law_input_events.specs.law_input_steps.Asking.{IsReadable}
 use Rattle.law_input_events.specs.law_input_steps.Hearing.{IsEnded, LeadsAway, PassesTrue}
 use Rattle.law_input_events.proofs.law_input_steps.Handled.{all_ended_frames, moved_frames, ended_frames}

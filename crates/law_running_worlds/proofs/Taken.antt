@@ -2,8 +2,8 @@
 
 use Rattle.std.proofs.Common.{◌≡◌, Bool, not, List, [], ◌∷◌, ◌++◌, length, refl, sym, ◌∙◌}
 use Rattle.std.specs.Prelude.{nat_le}
-use Rattle.world_model.specs.Words.{Cell, Journal, last_mark, Reassembly, most_cells, passed_over, without_slot, too_long}
-use Rattle.world_model.specs.frame_model.Reassembly.{Taken, taken, joined}
+use Rattle.law_branch_shapes.specs.world_model.Words.{Cell, Journal, last_mark, Reassembly, most_cells, passed_over, without_slot, too_long}
+use Rattle.law_branch_shapes.specs.world_model.frame_model.Reassembly.{Taken, taken, joined}
 use Rattle.law_frame_readings.proofs.law_port_facts.Keyed.{on_both}
 use Rattle.law_frame_readings.proofs.law_shown_cells.Tested.{last_is}
 

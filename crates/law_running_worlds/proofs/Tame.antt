@@ -4,14 +4,14 @@ use Rattle.std.proofs.Common.{◌≡◌, ℕ, Bool, true, false, true≢false, n
 use Rattle.std.specs.Prelude.{◌+◌, ◌||◌, nat_le, nat_lt}
 use Rattle.std.specs.List.{list_any}
 use Rattle.std.specs.Option.{option_and_then}
-use Rattle.world_model.specs.Words.{Mark, label_number_of, GivenOut, Cell, IsLinkPort, Record, Chance, is_frame, Journal, noted, last_mark, payload_in, tested_by, Reassembly, most_cells, passed_over, without_slot, too_long, Setup, Label, is_bound, label_at, Linked, linked_at, chains_with, default_channel, setup_of, ForGsmp, ForDefault, ForLabel, port_on, on_link, same_channel, label_taker, taker_at, taker_of, reassembly_of, with_reassembly, frame_holds, takes_cell, Channel, is_wild, IsTame}
+use Rattle.law_branch_shapes.specs.world_model.Words.{Mark, label_number_of, GivenOut, Cell, IsLinkPort, Record, Chance, is_frame, Journal, noted, last_mark, payload_in, tested_by, Reassembly, most_cells, passed_over, without_slot, too_long, Setup, Label, is_bound, label_at, Linked, linked_at, chains_with, default_channel, setup_of, ForGsmp, ForDefault, ForLabel, port_on, on_link, same_channel, label_taker, taker_at, taker_of, reassembly_of, with_reassembly, frame_holds, takes_cell, Channel, is_wild, IsTame}
 use Rattle.law_frame_readings.specs.ordered_lists.Ordered.{Every}
 use Rattle.law_frame_readings.proofs.ordered_lists.Every.{every_all, every_mapped}
-use Rattle.world_model.specs.frame_model.Frame.{octets_of}
-use Rattle.world_model.specs.frame_model.Reassembly.{Taken, taken, joined}
+use Rattle.law_branch_shapes.specs.world_model.frame_model.Frame.{octets_of}
+use Rattle.law_branch_shapes.specs.world_model.frame_model.Reassembly.{Taken, taken, joined}
 use Rattle.law_frame_readings.proofs.law_port_facts.Found.{by_number as label_there}
-use Rattle.world_model.specs.Controller.{Acted, free_slots}
-use Rattle.world_model.specs.Cells.{Taker, ends_frame, after_test, after_cell, cell_comes}
+use Rattle.law_branch_shapes.specs.world_model.Controller.{Acted, free_slots}
+use Rattle.law_branch_shapes.specs.world_model.Cells.{Taker, ends_frame, after_test, after_cell, cell_comes}
 use Rattle.law_frame_readings.specs.law_controller_facts.Inputs.{takes_inputs}
 use Rattle.law_frame_readings.specs.law_controller_facts.Sound.{Opening, opened_by, setups_by}
 use Rattle.law_frame_readings.proofs.law_controller_facts.Laws.{always_sound, has_ports, moves_sound}
@@ -22,7 +22,7 @@ use Rattle.law_input_events.proofs.law_controller.Whole.{Whole, chained_whole}
 use Rattle.law_branch_shapes.specs.law_controller_bindings.Bindings.{noted_by_all}
 use Rattle.law_frame_readings.proofs.law_controller_facts.Unmet.{ports_apart}
 use Rattle.law_frame_readings.specs.law_controller_facts.Inputs.{Input}
-use Rattle.world_model.specs.controller_model.declared.range.PortRange.{PortRange}
+use Rattle.law_branch_shapes.specs.world_model.controller_model.declared.range.PortRange.{PortRange}
 use Rattle.law_branch_shapes.proofs.law_controller_bindings.Tied.{Tied, NoCut, Settled, anew_tied}
 use Rattle.law_branch_shapes.proofs.law_controller_bindings.Events.{IsTiedTo, IsTakerOf, inputs_told, frame_bound, gathered_bound}
 use Rattle.law_branch_shapes.proofs.law_controller_bindings.Laws.{opened_at, opened_new}

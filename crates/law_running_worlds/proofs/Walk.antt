@@ -3,17 +3,17 @@
 
 use Rattle.std.proofs.Common.{◌≡◌, ℕ, ◌<◌, List, [], ◌∷◌, Some, refl, sym, ap, subst, arith, fold}
 use Rattle.std.specs.Prelude.{◌^◌}
-use Rattle.world_model.specs.Words.{Channel, End, PortNo, Mark, Addr, next_control, with_control, ifmp_packet_of, default_payload, InRange, FitsMessage, FitsRows, Frame, Record, at, Desk, Setup, Work, Linked, port_key, linked_at, default_channel, default_home, sends_control, says_gsmp, says_ifmp, withdraws_input, begins, with_work, cuts_label, resets_gsmp, node_resets, Side, Party, IsLinkPort}
-use Rattle.world_model.specs.ifmp_wire.declared.message.Message.{Message as IfmpMessage}
-use Rattle.world_model.specs.ifmp_wire.Message.{octets_of as ifmp_octets}
-use Rattle.world_model.specs.gsmp_wire.Layout.{octets_of as gsmp_octets}
-use Rattle.world_model.specs.gsmp_wire.declared.message.Message.{Message}
+use Rattle.law_branch_shapes.specs.world_model.Words.{Channel, End, PortNo, Mark, Addr, next_control, with_control, ifmp_packet_of, default_payload, InRange, FitsMessage, FitsRows, Frame, Record, at, Desk, Setup, Work, Linked, port_key, linked_at, default_channel, default_home, sends_control, says_gsmp, says_ifmp, withdraws_input, begins, with_work, cuts_label, resets_gsmp, node_resets, Side, Party, IsLinkPort}
+use Rattle.law_branch_shapes.specs.world_model.ifmp_wire.declared.message.Message.{Message as IfmpMessage}
+use Rattle.law_branch_shapes.specs.world_model.ifmp_wire.Message.{octets_of as ifmp_octets}
+use Rattle.law_branch_shapes.specs.world_model.gsmp_wire.Layout.{octets_of as gsmp_octets}
+use Rattle.law_branch_shapes.specs.world_model.gsmp_wire.declared.message.Message.{Message}
 use Rattle.law_frame_readings.specs.ordered_lists.Ordered.{Every}
 use Rattle.law_frame_readings.specs.law_port_facts.Port.{setup_port, IsRanged}
 use Rattle.law_frame_readings.proofs.law_port_facts.Keyed.{at_key, at_every, put_every}
 use Rattle.law_frame_readings.specs.law_port_widths.Widths.{FitsSetup, FitsWork}
-use Rattle.world_model.specs.Controller.{Acted, note}
-use Rattle.world_model.specs.Sending.{sends}
+use Rattle.law_branch_shapes.specs.world_model.Controller.{Acted, note}
+use Rattle.law_branch_shapes.specs.world_model.Sending.{sends}
 use Rattle.law_frame_readings.specs.law_controller_facts.Sound.{IsSound}
 use Rattle.law_frame_readings.specs.law_controller_facts.Said.{HasFlowsAt, HasFlowingPorts, IsAtWork}
 use Rattle.law_frame_readings.proofs.law_controller_facts.Moves.{Move, noting, taking_notes, sending, sending_control, asking, withdrawing, answering, meeting, ending_meeting, turning, placing, clearing, gathering, chaining, routing, popping, Moves, stays as rests, moves_to, further, moves_keep, moves_ports, HasPorts, found_setup, begun}

@@ -5,17 +5,17 @@ use Rattle.std.specs.Prelude.{nat_le, nat_lt}
 use Rattle.std.specs.Option.{option_map_or}
 use Rattle.std.specs.Str.{bytes_eq}
 use Rattle.std.proofs.lemmas.Slice.Eq.{bytes_eq-Decides}
-use Rattle.world_model.specs.Words.{NodeId, Down, Up, GivenOut, Cell, payload_of, Journal, last_mark, payload_in, Reassembly, most_cells, passed_over, without_slot, too_long, control_port, Controller, default_channel, same_channel, taker_of, reassembly_of, Topology, World, Site, site_key, site_at, with_site, controller_acts, switch_acts, queue_at, with_queue_in, with_queue_of, carries_head, next, put_away, world_after, past_of, IsTame}
-use Rattle.world_model.specs.frame_model.Frame.{octets_of}
-use Rattle.world_model.specs.frame_model.Reassembly.{Taken, joined}
+use Rattle.law_branch_shapes.specs.world_model.Words.{NodeId, Down, Up, GivenOut, Cell, payload_of, Journal, last_mark, payload_in, Reassembly, most_cells, passed_over, without_slot, too_long, control_port, Controller, default_channel, same_channel, taker_of, reassembly_of, Topology, World, Site, site_key, site_at, with_site, controller_acts, switch_acts, queue_at, with_queue_in, with_queue_of, carries_head, next, put_away, world_after, past_of, IsTame}
+use Rattle.law_branch_shapes.specs.world_model.frame_model.Frame.{octets_of}
+use Rattle.law_branch_shapes.specs.world_model.frame_model.Reassembly.{Taken, joined}
 use Rattle.law_frame_readings.proofs.law_port_facts.Keyed.{at_every}
-use Rattle.world_model.specs.Switch as switches
-use Rattle.world_model.specs.Conduct as switch
-use Rattle.world_model.specs.Controller.{Acted, free_slots}
-use Rattle.world_model.specs.Cells.{Taker, cell_comes}
-use Rattle.world_model.specs.network_model.declared.event.Event.{Event}
-use Rattle.world_model.specs.network_model.declared.event.Event.TheVariants.{Carry}
-use Rattle.world_model.specs.World.{opened, at_controller, at_switch}
+use Rattle.law_branch_shapes.specs.world_model.Switch as switches
+use Rattle.law_branch_shapes.specs.world_model.Conduct as switch
+use Rattle.law_branch_shapes.specs.world_model.Controller.{Acted, free_slots}
+use Rattle.law_branch_shapes.specs.world_model.Cells.{Taker, cell_comes}
+use Rattle.law_branch_shapes.specs.world_model.network_model.declared.event.Event.{Event}
+use Rattle.law_branch_shapes.specs.world_model.network_model.declared.event.Event.TheVariants.{Carry}
+use Rattle.law_branch_shapes.specs.world_model.World.{opened, at_controller, at_switch}
 use Rattle.law_branch_shapes.proofs.law_lifetimes.Opened.{IsFed, opening_fed}
 use Rattle.law_branch_shapes.proofs.law_lifetimes.Runs.{run_fed}
 use Rattle.law_branch_shapes.specs.Shapes.{ended_by}

@@ -1,12 +1,12 @@
 -- What is so of a switch while it acts: all that it newly tells of its ports is that they are up, and they are
 
 use Rattle.std.specs.Prelude.{◌≡◌, ℕ, ◌≤◌, true, List, ◌∷◌, length, map, Contains}
-use Rattle.world_model.specs.Words.{Cell, queue_of, Frame, Setup, control_port, numbers_of, tick_comes, restarted}
+use Rattle.law_branch_shapes.specs.world_model.Words.{Cell, queue_of, Frame, Setup, control_port, numbers_of, tick_comes, restarted}
 use Rattle.law_frame_readings.specs.ordered_lists.Ordered.{Every}
-use Rattle.world_model.specs.switch_model.declared.port.PortState.{PortState}
-use Rattle.world_model.specs.Switch.{Acted}
-use Rattle.world_model.specs.Controller as controllers
-use Rattle.world_model.specs.Ticks.{ticks}
+use Rattle.law_branch_shapes.specs.world_model.switch_model.declared.port.PortState.{PortState}
+use Rattle.law_branch_shapes.specs.world_model.Switch.{Acted}
+use Rattle.law_branch_shapes.specs.world_model.Controller as controllers
+use Rattle.law_branch_shapes.specs.world_model.Ticks.{ticks}
 use Rattle.law_input_events.specs.law_input_premises.Steady.{IsSteady}
 use Rattle.law_running_worlds.specs.Mode.{Mode}
 use Rattle.law_running_worlds.specs.New.{TellsUp, SinceThen}

@@ -1,10 +1,10 @@
 -- What is so of a controller while it acts: all that it newly asks has a shape, and once all ports are told to be up they stay so
 
 use Rattle.std.specs.Prelude.{ℕ, ◌≤◌, List, Contains}
-use Rattle.world_model.specs.Words.{Cell, IsLinkPort, Request, Frame, last_transaction, Setup, asks, node_resets}
+use Rattle.law_branch_shapes.specs.world_model.Words.{Cell, IsLinkPort, Request, Frame, last_transaction, Setup, asks, node_resets}
 use Rattle.law_frame_readings.specs.ordered_lists.Ordered.{Every}
 use Rattle.law_frame_readings.specs.law_port_facts.Port.{IsShaped}
-use Rattle.world_model.specs.Controller.{Acted}
+use Rattle.law_branch_shapes.specs.world_model.Controller.{Acted}
 use Rattle.law_input_events.specs.law_input_premises.Read.{AreRead}
 use Rattle.law_running_worlds.specs.Mode.{Mode, Told, Untold, IsMild, Knows}
 use Rattle.law_running_worlds.specs.New.{AsksShaped, SinceThen}

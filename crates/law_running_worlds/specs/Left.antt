@@ -1,10 +1,10 @@
 -- What an event leaves of what is said between a controller and its switch: nothing but what may be said
 
 use Rattle.std.specs.Prelude.{◌≡◌, ℕ, ◌≤◌, true, List, map, Some}
-use Rattle.world_model.specs.Words.{PortNo, Cell, PortRow, Frame, queue_of, Standing, control_port, Setup, Controller, Site, gsmp_under, copy_under}
-use Rattle.world_model.specs.gsmp_wire.declared.message.Message.TheVariants.{AllPorts}
+use Rattle.law_branch_shapes.specs.world_model.Words.{PortNo, Cell, PortRow, Frame, queue_of, Standing, control_port, Setup, Controller, Site, gsmp_under, copy_under}
+use Rattle.law_branch_shapes.specs.world_model.gsmp_wire.declared.message.Message.TheVariants.{AllPorts}
 use Rattle.law_frame_readings.specs.ordered_lists.Ordered.{Every}
-use Rattle.world_model.specs.switch_model.declared.port.PortState.{PortState}
+use Rattle.law_branch_shapes.specs.world_model.switch_model.declared.port.PortState.{PortState}
 use Rattle.law_frame_readings.specs.law_port_facts.Port.{IsShaped}
 use Rattle.law_frame_readings.specs.law_world_views.Between.{AreUp, setups_of}
 use Rattle.law_running_worlds.specs.New.{AsksShaped, TellsUp, SinceThen}

@@ -1,9 +1,9 @@
 -- Before all ports are told to be up a controller hasn't met its switch, and no Delete All stands
 
 use Rattle.std.specs.Prelude.{◌≡◌, true, false, List, map}
-use Rattle.world_model.specs.Words.{PortNo, PortRow, Request, Standing, Setup, Controller}
-use Rattle.world_model.specs.port_model.Messages.{is_up}
-use Rattle.world_model.specs.gsmp_wire.declared.request.Request.TheVariants.{DeleteAll}
+use Rattle.law_branch_shapes.specs.world_model.Words.{PortNo, PortRow, Request, Standing, Setup, Controller}
+use Rattle.law_branch_shapes.specs.world_model.port_model.Messages.{is_up}
+use Rattle.law_branch_shapes.specs.world_model.gsmp_wire.declared.request.Request.TheVariants.{DeleteAll}
 use Rattle.law_frame_readings.specs.ordered_lists.Ordered.{Every}
 
 -- these records tell that the ports are up

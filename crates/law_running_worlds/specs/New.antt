@@ -2,8 +2,8 @@
 
 use Rattle.std.specs.Prelude.{◌≡◌, ℕ, ◌≤◌, Bool, true, List, ◌⊎◌, Some}
 use Rattle.std.specs.Option.{option_and_then}
-use Rattle.world_model.specs.Words.{PortNo, Mark, Cell, PortRow, Frame, payload_of, Standing, Setup, default_channel, same_channel, gsmp_of, copy_of}
-use Rattle.world_model.specs.gsmp_wire.declared.message.Message.TheVariants.{AllPorts}
+use Rattle.law_branch_shapes.specs.world_model.Words.{PortNo, Mark, Cell, PortRow, Frame, payload_of, Standing, Setup, default_channel, same_channel, gsmp_of, copy_of}
+use Rattle.law_branch_shapes.specs.world_model.gsmp_wire.declared.message.Message.TheVariants.{AllPorts}
 use Rattle.law_frame_readings.specs.ordered_lists.Ordered.{Every}
 use Rattle.law_frame_readings.specs.law_port_facts.Port.{IsShaped}
 use Rattle.law_running_worlds.specs.Mode.{AreUp}

@@ -1,12 +1,12 @@
 -- What is so of a network before each event of a run, so that the event is moves of the line of each input
 
 use Rattle.std.specs.Prelude.{◌≡◌, true, nat_lt, List, [], ◌∷◌, ◌++◌, Some}
-use Rattle.world_model.specs.Words.{NodeId, Down, Up, Cell, Policy, default_channel, same_channel, taker_of, reassembly_of, Topology, World, Site, site_at, queue_at, next, past_of, IsTame}
-use Rattle.world_model.specs.Switch as switches
-use Rattle.world_model.specs.Controller.{free_slots}
-use Rattle.world_model.specs.Cells.{Taker}
-use Rattle.world_model.specs.network_model.declared.event.Event.{Event}
-use Rattle.world_model.specs.network_model.declared.event.Event.TheVariants.{Carry}
+use Rattle.law_branch_shapes.specs.world_model.Words.{NodeId, Down, Up, Cell, Policy, default_channel, same_channel, taker_of, reassembly_of, Topology, World, Site, site_at, queue_at, next, past_of, IsTame}
+use Rattle.law_branch_shapes.specs.world_model.Switch as switches
+use Rattle.law_branch_shapes.specs.world_model.Controller.{free_slots}
+use Rattle.law_branch_shapes.specs.world_model.Cells.{Taker}
+use Rattle.law_branch_shapes.specs.world_model.network_model.declared.event.Event.{Event}
+use Rattle.law_branch_shapes.specs.world_model.network_model.declared.event.Event.TheVariants.{Carry}
 use Rattle.law_input_events.specs.law_input_steps.Hearing.{IsEnded, PassesTrue}
 use Rattle.law_input_events.specs.Coming.{IsRunning, IsOrdinary}
 use Rattle.law_frame_readings.specs.law_world_views.Between.{IsWorld}

@@ -1,7 +1,7 @@
 -- A script is a run: of a topology that lines make, and of events of which each can come when it comes
 
 use Rattle.world_model.specs.Words.{Policy, IsRun}
-use Rattle.law_run_facts.specs.law_world_views.Kept.{HasAddresses}
+use Rattle.law_run_facts.specs.law_world_views.Fronts.{HasAddresses}
 use Rattle.script_model.specs.Script.{Script}
 
 -- whatever the policy

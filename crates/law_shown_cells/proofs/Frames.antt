@@ -6,8 +6,8 @@ use Rattle.std.specs.List.{range_with_len}
 use Rattle.std.proofs.lemmas.Bool.Decides.{nat_tests}
 use Rattle.std.proofs.lemmas.List.FromFn.{map-range_with_len_more}
 use Rattle.world_model.specs.Words.{Mark, Channel, label_channel_of, Cell, Frame, payload_of, frame_cells, default_channel, same_channel}
-use Rattle.aal5_frames.specs.Frame.{cell_of, cells_for, pdu_of}
-use Rattle.aal5_frames.proofs.Cells.{cells_all, length-pdu_of}
+use Rattle.world_model.specs.aal5_frames.Frame.{cell_of, cells_for, pdu_of}
+use Rattle.world_model.proofs.aal5_frames.Cells.{cells_all, length-pdu_of}
 use Rattle.law_port_views.specs.ordered_lists.Ordered.{Every}
 use Rattle.law_port_views.proofs.ordered_lists.Every.{every_join}
 use Rattle.law_port_views.specs.law_label_line.Cells as lines

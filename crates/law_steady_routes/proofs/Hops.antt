@@ -1,11 +1,11 @@
 -- a packet's journey by the best route of the node where it is
 
 use Rattle.std.proofs.Common.{◌≡◌, ℕ, zero, suc, ◌≤◌, List, ◌∷◌, None, Some, refl, sym, ◌∙◌, ap, arith}
-use Rattle.world_model.specs.Words.{NodeId, PortNo, ttl_of, destination_of, best, onward, Local, Via, Fate, IsDelivered, IsDropped, by_route, Topology, journey, journey_within, at_peer}
-use Rattle.world_model.specs.ipv4_forward.declared.table.Route.{Route}
-use Rattle.world_model.specs.link_model.declared.record.DropCause.TheVariants.{NoRoute, Expired}
-use Rattle.world_model.specs.network_model.declared.link.LinkEnd.{LinkEnd}
-use Rattle.world_model.specs.Topology.{peer_of}
+use Rattle.claims_model.specs.world_model.Words.{NodeId, PortNo, ttl_of, destination_of, best, onward, Local, Via, Fate, IsDelivered, IsDropped, by_route, Topology, journey, journey_within, at_peer}
+use Rattle.claims_model.specs.world_model.ipv4_forward.declared.table.Route.{Route}
+use Rattle.claims_model.specs.world_model.link_model.declared.record.DropCause.TheVariants.{NoRoute, Expired}
+use Rattle.claims_model.specs.world_model.network_model.declared.link.LinkEnd.{LinkEnd}
+use Rattle.claims_model.specs.world_model.Topology.{peer_of}
 
 -- a packet that goes on has one less to live
 less_to_live : (packet : List ℕ) (left : ℕ) → ttl_of packet ≡ suc left → ttl_of (onward packet) ≡ left

@@ -3,11 +3,12 @@
 use Rattle.std.proofs.Common.{◌≡◌, ℕ, zero, suc, ◌<◌, List, [], ◌∷◌, length, slice_get, Contains, Some, inl, inr, refl, sym, ◌∙◌, ap, subst, arith}
 use Rattle.std.proofs.lemmas.List.Elements.{Contains-append_cases}
 use Rattle.std.proofs.lemmas.Option.{slice_get_within}
-use Rattle.world_model.specs.Words.{NodeId, destination_of, best, Record, Journal, Policy, Fate, IsDelivered, IsDropped, fate_record, Topology, Node, routes_of, World, empty_world, opens_each, with_opened, records_of, worlds_from, journey, Reaches, hops, IsFateAt, delivered, without_route, expired, Past, past_of, WasAccepted, AreTrueFates, IsTrueFate}
-use Rattle.world_model.specs.network_model.declared.event.Event.{Event}
-use Rattle.world_model.specs.World.{opened}
-use Rattle.world_model.specs.Reached.{taken}
-use Rattle.law_steady_routes.specs.Law.{ChangesNoRoute, IsJourneyOf, AreJourneys, FatesAreJourneys}
+use Rattle.claims_model.specs.world_model.Words.{NodeId, destination_of, best, Record, Journal, Policy, Fate, IsDelivered, IsDropped, fate_record, Topology, Node, routes_of, World, empty_world, opens_each, with_opened, records_of, worlds_from, journey, Reaches, hops, IsFateAt, delivered, without_route, expired, Past, past_of, WasAccepted, AreTrueFates, IsTrueFate}
+use Rattle.claims_model.specs.world_model.network_model.declared.event.Event.{Event}
+use Rattle.claims_model.specs.world_model.World.{opened}
+use Rattle.claims_model.specs.world_model.Reached.{taken}
+use Rattle.law_steady_routes.specs.Law.{FatesAreJourneys}
+use Rattle.law_steady_routes.specs.Tables.{ChangesNoRoute, IsJourneyOf, AreJourneys}
 use Rattle.law_steady_routes.proofs.Hops.{ends_delivered, ends_without_route, ends_expired, goes_on}
 use Rattle.law_steady_routes.proofs.Tables.{held_steady}
 

@@ -4,25 +4,25 @@ use Rattle.std.proofs.Common.{◌≡◌, ◌≢◌, ℕ, zero, suc, ◌<◌, ◌
 use Rattle.std.specs.Prelude.{nat_eq}
 use Rattle.std.specs.List.{list_any}
 use Rattle.std.specs.Option.{option_map_or}
-use Rattle.world_model.specs.Words.{NodeId, Place, Down, Up, Out, Channel, next_control, with_control, Cell, changed, RouteChange, Forged, Refusal, at, put, Policy, control_port, Controller, inject_refusal, injected, node_restarts, Topology, Node, routes_of, table_to_be, World, Site, site_key, site_at, controller_acts, switch_acts, empty_world, opened_site, with_opened, opens_each, place_node, queue_at, with_queue, with_queue_in, with_queue_of, injects, injects_by, arrives, arrives_at, carries_head, loses_head, forges, put_away, next, worlds_from, table_in, past_of}
-use Rattle.world_model.specs.ipv4_forward.declared.table.Route.{Route}
-use Rattle.world_model.specs.Switch as switches
-use Rattle.world_model.specs.Conduct as switch
-use Rattle.world_model.specs.Controller.{Acted}
-use Rattle.world_model.specs.Sending.{sends}
-use Rattle.world_model.specs.Cells as controller
-use Rattle.world_model.specs.Ticks.{ticks}
-use Rattle.world_model.specs.network_model.declared.event.Event.{Event}
-use Rattle.world_model.specs.network_model.declared.event.Event.TheVariants.{Inject, Carry, Lose, Tick, TickSwitch, Restart, RestartSwitch, Forge, Route as RouteComes}
-use Rattle.world_model.specs.network_model.declared.link.LinkEnd.{LinkEnd}
-use Rattle.world_model.specs.Topology.{peer_of}
-use Rattle.world_model.specs.World.{at_controller, at_switch, opened}
-use Rattle.world_model.specs.Step.{note, acts}
-use Rattle.world_model.proofs.Lists.{by_eq, at_key, at_put_same, at_put_other}
+use Rattle.claims_model.specs.world_model.Words.{NodeId, Place, Down, Up, Out, Channel, next_control, with_control, Cell, changed, RouteChange, Forged, Refusal, at, put, Policy, control_port, Controller, inject_refusal, injected, node_restarts, Topology, Node, routes_of, table_to_be, World, Site, site_key, site_at, controller_acts, switch_acts, empty_world, opened_site, with_opened, opens_each, place_node, queue_at, with_queue, with_queue_in, with_queue_of, injects, injects_by, arrives, arrives_at, carries_head, loses_head, forges, put_away, next, worlds_from, table_in, past_of}
+use Rattle.claims_model.specs.world_model.ipv4_forward.declared.table.Route.{Route}
+use Rattle.claims_model.specs.world_model.Switch as switches
+use Rattle.claims_model.specs.world_model.Conduct as switch
+use Rattle.claims_model.specs.world_model.Controller.{Acted}
+use Rattle.claims_model.specs.world_model.Sending.{sends}
+use Rattle.claims_model.specs.world_model.Cells as controller
+use Rattle.claims_model.specs.world_model.Ticks.{ticks}
+use Rattle.claims_model.specs.world_model.network_model.declared.event.Event.{Event}
+use Rattle.claims_model.specs.world_model.network_model.declared.event.Event.TheVariants.{Inject, Carry, Lose, Tick, TickSwitch, Restart, RestartSwitch, Forge, Route as RouteComes}
+use Rattle.claims_model.specs.world_model.network_model.declared.link.LinkEnd.{LinkEnd}
+use Rattle.claims_model.specs.world_model.Topology.{peer_of}
+use Rattle.claims_model.specs.world_model.World.{at_controller, at_switch, opened}
+use Rattle.claims_model.specs.world_model.Step.{note, acts}
+use Rattle.claims_model.proofs.world_model.Lists.{by_eq, at_key, at_put_same, at_put_other}
 use Rattle.law_actor_pace.specs.Pace.{changes_of}
 use Rattle.law_actor_pace.proofs.Paces.{Follows, follows, sends_paces}
 use Rattle.law_actor_pace.proofs.Controllers.{cell_follows, injected_paces, ticks_paces, restarts_paces}
-use Rattle.law_steady_routes.specs.Law.{changes_route, ChangesNoRoute}
+use Rattle.law_steady_routes.specs.Tables.{changes_route, ChangesNoRoute}
 
 -- *A controller* to which no change of a route came, and which holds these routes
 record Holds (routes : List Route) (c : Controller) : Type 0 where

@@ -3,8 +3,8 @@
 use Rattle.std.proofs.Common.{◌≡◌, ℕ, zero, suc, ◌≤◌, ◌+◌, List, [], ◌∷◌, ◌++◌, ap, arith}
 use Rattle.std.specs.Prelude.{slice_set, slice_index_or}
 use Rattle.world_model.specs.Words.{NodeId, Place, Cell}
-use Rattle.law_frame_weights.specs.law_quiet.Costs.{total}
-use Rattle.law_frame_weights.specs.law_quiet.Weights.{place_at, queues_weight}
+use Rattle.law_frame_weights.specs.claims_model.Costs.{total}
+use Rattle.law_frame_weights.specs.claims_model.Weights.{place_at, queues_weight}
 use Rattle.law_frame_weights.proofs.law_port_weights.Sums.{total_join}
 
 module _ (weigh : Place → Cell → ℕ) (node : NodeId) where

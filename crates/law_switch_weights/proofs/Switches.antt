@@ -27,8 +27,8 @@ use Rattle.law_run_facts.proofs.Taking.{taken_frames, ended_by_last}
 use Rattle.law_run_facts.specs.law_shown_cells.Seen.{Extends, IsUnmade}
 use Rattle.law_run_facts.proofs.law_shown_cells.Made.{extends_self, extends_on, extends_made, made_is, unmade_next}
 use Rattle.law_run_facts.proofs.law_shown_cells.Tested.{tested_frames}
-use Rattle.law_frame_weights.specs.law_quiet.Costs.{total, answer_weight, greeting_weight, asking_cost, answering_cost, if_said, switch_cost, controller_cost}
-use Rattle.law_frame_weights.specs.law_quiet.Weights.{Bound, ToController, ToSwitch, cost_of, hops_of, bearing_of, cell_weight, place_at, queues_weight}
+use Rattle.law_frame_weights.specs.claims_model.Costs.{total, answer_weight, greeting_weight, asking_cost, answering_cost, if_said, switch_cost, controller_cost}
+use Rattle.law_frame_weights.specs.claims_model.Weights.{Bound, ToController, ToSwitch, cost_of, hops_of, bearing_of, cell_weight, place_at, queues_weight}
 use Rattle.law_run_facts.proofs.law_port_facts.Keyed.{on_both}
 use Rattle.law_frame_weights.proofs.law_port_weights.Below.{IsBelow, received_below}
 use Rattle.law_frame_weights.proofs.Frames.{frame_total}

@@ -7,7 +7,7 @@ use Rattle.world_model.specs.frame_model.Frame.{octets_of}
 use Rattle.world_model.specs.frame_model.Reassembly.{taken}
 use Rattle.world_model.specs.Switch.{Acted, free_slots}
 use Rattle.world_model.specs.Conduct.{cell_comes}
-use Rattle.law_frame_weights.specs.law_quiet.Weights.{Bound, ToSwitch, cost_of, cell_weight, place_at, queues_weight}
+use Rattle.law_frame_weights.specs.claims_model.Weights.{Bound, ToSwitch, cost_of, cell_weight, place_at, queues_weight}
 use Rattle.law_run_facts.specs.law_shown_cells.Seen.{Extends, IsUnmade}
 
 -- a chain that passes its test is the frame of its last cell

@@ -1,2 +1,2 @@
-pub use Rattle.law_frame_weights.specs.law_quiet as law_quiet
+pub use Rattle.law_frame_weights.specs.claims_model as claims_model
 pub mod Coming

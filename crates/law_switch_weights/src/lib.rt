@@ -1,4 +1,4 @@
-//! The ranking function over a switch: a cell that comes to it adds to the measure of `law_quiet` what it weighs
+//! The ranking function over a switch: a cell that comes to it adds to the measure of `claims_model` what it weighs
 //! where its branch leads it, or what the frame that it ends on GSMP's channel may cause. Definitions and laws alone:
 //! `specs/Coming` has the statement, `proofs/Queues` the sums over the queues, `proofs/Switches` what each step of a
 //! switch costs. There is no code that runs.

@@ -2,13 +2,13 @@
 
 use Rattle.std.proofs.Common.{◌≡◌, ℕ, ◌+◌, ◌≤◌, List, [], ◌∷◌, Result, Ok, Err, arith, refl, take}
 use Rattle.lab_text.specs.Lines.{lines_of}
-use Rattle.script_model.specs.declared.line.Line.{Line}
-use Rattle.script_model.specs.declared.line.Line.TheVariants.{Blank, Topology as TopologyIs, Event as EventComes, TickAll, Run}
-use Rattle.script_model.specs.declared.refusal.LineRefusal.{LineRefusal}
-use Rattle.script_model.specs.Limits.{input_limit}
-use Rattle.script_model.specs.Reading.{line_says, state_after}
-use Rattle.script_model.specs.Script.{script_by, script_from, script_of}
-use Rattle.script_model.specs.State.{ScriptState, nothing_read}
+use Rattle.tell_report.specs.script_model.declared.line.Line.{Line}
+use Rattle.tell_report.specs.script_model.declared.line.Line.TheVariants.{Blank, Topology as TopologyIs, Event as EventComes, TickAll, Run}
+use Rattle.tell_report.specs.script_model.declared.refusal.LineRefusal.{LineRefusal}
+use Rattle.tell_report.specs.script_model.Limits.{input_limit}
+use Rattle.tell_report.specs.script_model.Reading.{line_says, state_after}
+use Rattle.tell_report.specs.script_model.Script.{script_by, script_from, script_of}
+use Rattle.tell_report.specs.script_model.State.{ScriptState, nothing_read}
 
 -- a line that is said leaves no fewer lines of events
 no_fewer : (state : ScriptState) (line : List ℕ) (said : Line) → state.event_lines ≤ (state_after state line (Ok said)).event_lines

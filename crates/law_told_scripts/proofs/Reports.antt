@@ -6,16 +6,16 @@ use Rattle.std.proofs.lemmas.Grind.{flat_map-append}
 use Rattle.std.proofs.lemmas.List.Concat.{flat_map-cons}
 use Rattle.link_model.specs.declared.record.Record.{Record}
 use Rattle.port_model.specs.Setup.{Policy}
-use Rattle.world_model.specs.network_model.declared.event.Event.{Event}
-use Rattle.world_model.specs.Run.{next, records_of, worlds_from}
-use Rattle.world_model.specs.Topology.{Topology}
-use Rattle.world_model.specs.World.{World, opened}
-use Rattle.script_model.specs.Records.{record_line}
-use Rattle.script_model.specs.Reports.{body_under, last_line, record_lines, report_under}
-use Rattle.script_model.specs.Script.{Script}
-use Rattle.telling_model.specs.Placed.{Placed, events_in}
-use Rattle.telling_model.specs.Tale.{account, body, end_of, told, told_of}
-use Rattle.telling_model.proofs.Told.{opened_notes}
+use Rattle.tell_report.specs.world_model.network_model.declared.event.Event.{Event}
+use Rattle.tell_report.specs.world_model.Run.{next, records_of, worlds_from}
+use Rattle.tell_report.specs.world_model.Topology.{Topology}
+use Rattle.tell_report.specs.world_model.World.{World, opened}
+use Rattle.tell_report.specs.script_model.Records.{record_line}
+use Rattle.tell_report.specs.script_model.Reports.{body_under, last_line, record_lines, report_under}
+use Rattle.tell_report.specs.script_model.Script.{Script}
+use Rattle.tell_report.specs.telling_model.Placed.{Placed, events_in}
+use Rattle.tell_report.specs.telling_model.Tale.{account, body, end_of, told, told_of}
+use Rattle.tell_report.proofs.telling_model.Told.{opened_notes}
 use Rattle.tell_report.specs.Report.{report_tale}
 
 lines_both : (t : Topology) (xs ys : List Record) → record_lines t (xs ++ ys) ≡ record_lines t xs ++ record_lines t ys

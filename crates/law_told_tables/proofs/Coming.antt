@@ -7,7 +7,7 @@ use Rattle.world_model.specs.Words.{RouteChange, Controller, joins_of, is_change
 use Rattle.law_causes.proofs.law_port_facts.Keyed.{on_both, on_each}
 use Rattle.world_model.specs.Controller.{Acted}
 use Rattle.world_model.specs.Joins.{Join}
-use Rattle.law_told_tables.specs.Law.{stands_against, taken_at_once, IsHeldUp, IsBrought}
+use Rattle.law_told_tables.specs.Tables.{stands_against, taken_at_once, IsHeldUp, IsBrought}
 use Rattle.law_told_tables.proofs.Taking.{begun_waits}
 
 none_pass : {A : Type 0} (test : A → Bool) (xs : List A) → list_any test xs ≡ false → filter test xs ≡ []

@@ -9,7 +9,7 @@ use Rattle.std.proofs.lemmas.List.Sums.{fold-append}
 use Rattle.world_model.specs.Words.{NodeId, changed, RouteChange, Routes, Controller, takes_change, change_comes}
 use Rattle.world_model.specs.ipv4_forward.declared.table.Route.{Route}
 use Rattle.world_model.specs.Controller.{Acted}
-use Rattle.law_told_tables.specs.Law.{number_told, numbers_told}
+use Rattle.law_told_tables.specs.Tables.{number_told, numbers_told}
 use Rattle.law_told_tables.proofs.Lists.{range_more}
 use Rattle.law_told_tables.proofs.Walk.{IsAlike}
 use Rattle.law_told_tables.proofs.Taking.{changes_kept}

@@ -8,7 +8,7 @@ use Rattle.world_model.specs.Words.{NodeId, Mark, Cell, Record, Loss, Chance, Po
 use Rattle.world_model.specs.frame_model.Frame.{octets_of}
 use Rattle.world_model.specs.frame_model.Reassembly.{Taken, taken, joined}
 use Rattle.law_causes.proofs.law_port_facts.Keyed.{on_both}
-use Rattle.law_told_tables.specs.Law.{number_told, numbers_told}
+use Rattle.law_told_tables.specs.Tables.{number_told, numbers_told}
 
 -- *A record of something else* than a change
 abbrev pub IsOther : Record → Type 0

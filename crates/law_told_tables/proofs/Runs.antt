@@ -10,7 +10,9 @@ use Rattle.world_model.specs.Controller.{Acted}
 use Rattle.world_model.specs.network_model.declared.event.Event.{Event}
 use Rattle.world_model.specs.World.{opened}
 use Rattle.world_model.proofs.Lists.{at_key, at_put_same}
-use Rattle.law_told_tables.specs.Law.{HoldsTold, IsToldNode, changes_taken, numbers_told, IsBrought, world_at, AreToldTables, TablesAreTold}
+use Rattle.law_told_tables.specs.Law.{TablesAreTold}
+use Rattle.law_told_tables.specs.Tables.{HoldsTold, IsToldNode, changes_taken, numbers_told, IsBrought, AreToldTables}
+use Rattle.law_told_tables.specs.Fronts.{world_at}
 use Rattle.law_told_tables.proofs.Lists.{changes_split}
 use Rattle.law_told_tables.proofs.Taking.{change_node}
 use Rattle.law_told_tables.proofs.Nodes.{Holds}

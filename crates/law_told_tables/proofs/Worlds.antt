@@ -17,7 +17,7 @@ use Rattle.world_model.specs.Topology.{peer_of}
 use Rattle.world_model.specs.World.{at_controller, at_switch}
 use Rattle.world_model.specs.Step.{note, acts}
 use Rattle.world_model.proofs.Lists.{by_eq, at_key, at_put_same, at_put_other}
-use Rattle.law_told_tables.specs.Law.{numbers_told}
+use Rattle.law_told_tables.specs.Tables.{numbers_told}
 use Rattle.law_told_tables.proofs.Notes.{IsOther, noted_alike}
 use Rattle.law_told_tables.proofs.Walk.{sends_kept, routes_kept, node_restarts_kept, ticks_kept}
 use Rattle.law_told_tables.proofs.Taking.{cell_kept}

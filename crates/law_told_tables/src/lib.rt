@@ -1,7 +1,7 @@
 //! Routing tables over a run: that of each node has the routes of the topology, changed by a front of the changes that
 //! events told the node, in their order; the changes that were not taken yet wait.
 //!
-//! `specs/Law` has the statement, which holds whichever events come, forged frames among them. No rule of a controller but
+//! The statement is `AreToldTables` of `claims_model`, which holds whichever events come, forged frames among them. No rule of a controller but
 //! the one of changes touches the table or records `routes` (`proofs/Walk`, with `proofs/Notes` for what is recorded of
 //! cells and frames); that one takes the first change that waits (`proofs/Taking`). `proofs/Switches` has the same of a
 //! switch, `proofs/Worlds` goes over the events, `proofs/Opening` and `proofs/Runs` along a run. `proofs/Coming` says when a

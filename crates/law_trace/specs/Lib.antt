@@ -1,1 +1,1 @@
-pub mod Meaning
+pub use Rattle.trace_model.specs.Meaning as Meaning

@@ -2,7 +2,7 @@
 
 ghost use Rattle.std.specs.Prelude.{◌≡◌, ℕ, List};
 ghost use Rattle.trace_model.specs.Audit.{audit_of, Yes};
-ghost use Rattle.law_trace.specs.Meaning.{trace_of, AtEach, IsClean};
+ghost use Rattle.trace_model.specs.Meaning.{trace_of, AtEach, IsClean};
 
 /// Where an audit says yes, in the whole trace each `bind` finds no cell of its label in the queue
 /// towards it, each cell on a label's channel is of a labelled frame of its label's flow, and each cell

@@ -20,7 +20,8 @@ use Rattle.law_trace_truth.proofs.law_true_runs.Walk.{holds_at, comes_at}
 use Rattle.law_trace_truth.specs.law_true_runs.Runs.{IsWhole}
 use Rattle.world_model.specs.network_model.declared.event.Event.{Event}
 use Rattle.world_model.specs.World.{opened}
-use Rattle.law_run_facts.specs.law_world_views.Kept.{HasAddresses, Comes, behind}
+use Rattle.law_run_facts.specs.law_world_views.Kept.{Comes, behind}
+use Rattle.law_run_facts.specs.law_world_views.Fronts.{HasAddresses}
 use Rattle.law_run_facts.specs.law_world_views.Marks.{Means, heading_at, early, control, local, plain, labelled}
 use Rattle.law_passing.specs.telling_model.declared.standing.Standing.{Standing}
 use Rattle.law_passing.specs.telling_model.Passing.{standing, left, put, put_at, taken}

@@ -21,7 +21,8 @@ use Rattle.law_true_runs.proofs.Walk.{holds_at, comes_at}
 use Rattle.law_true_runs.specs.Runs.{IsWhole, HoldsInRuns}
 use Rattle.world_model.specs.network_model.declared.event.Event.{Event}
 use Rattle.world_model.specs.World.{opened}
-use Rattle.law_run_facts.specs.law_world_views.Kept.{HasAddresses, Comes, behind}
+use Rattle.law_run_facts.specs.law_world_views.Kept.{Comes, behind}
+use Rattle.law_run_facts.specs.law_world_views.Fronts.{HasAddresses}
 use Rattle.law_passing.specs.Law.{QueuesChangeByPassing, QueuesAreTheActors}
 use Rattle.tell_trace.specs.Passages.{Passage, line_said}
 use Rattle.tell_trace.specs.Trace.{Told, links_told, event_told}

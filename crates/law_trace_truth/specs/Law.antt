@@ -9,7 +9,7 @@ use Rattle.trace_model.specs.Judgement.{judged}
 use Rattle.trace_model.specs.Known.{known}
 use Rattle.trace_model.specs.Trace.{Trace}
 use Rattle.world_model.specs.network_model.declared.event.Event.{Event}
-use Rattle.law_run_facts.specs.law_world_views.Kept.{HasAddresses}
+use Rattle.law_run_facts.specs.law_world_views.Fronts.{HasAddresses}
 use Rattle.law_trace_truth.specs.Told.{trace_told}
 
 -- *Lines are good*, each by those before it

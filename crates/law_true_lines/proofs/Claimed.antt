@@ -9,7 +9,7 @@ use Rattle.world_model.specs.link_model.declared.record.Record.TheVariants.{Join
 use Rattle.world_model.specs.network_model.declared.event.Event.{Event}
 use Rattle.world_model.specs.World.{opened}
 use Rattle.script_model.specs.Script.{Script}
-use Rattle.law_true_lines.specs.Claims.{Claims}
+use Rattle.law_true_lines.specs.Lines.{Claims}
 use Rattle.law_true_lines.specs.Law.{IsTrueOf}
 
 module _ (t : Topology) where

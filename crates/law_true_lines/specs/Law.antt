@@ -8,7 +8,7 @@ use Rattle.script_model.specs.Reports.{report_under, last_line}
 use Rattle.script_model.specs.Script.{Script, script_of}
 use Rattle.script_model.specs.Documents.{document_script}
 use Rattle.script_model.specs.Drill.{drill_script}
-use Rattle.law_true_lines.specs.Lines.{AreTrueLines}
+use Rattle.truth_model.specs.Lines.{AreTrueLines}
 
 -- *The names of nodes* are names that a script can give, which have no LF
 abbrev pub HasNames : Topology → Type 0

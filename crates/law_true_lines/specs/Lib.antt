@@ -1,3 +1,2 @@
-pub mod Claims
-pub mod Lines
+pub use Rattle.truth_model.specs.Lines as Lines
 pub mod Law

@@ -1,9 +1,9 @@
 //! Truth of event logs: each line of a report is true. What the line of a record claims is so of the run that the
 //! report is of.
 //!
-//! `specs/Claims` says what each line claims, in the words of the headline: a `deliver` or a `drop` that routing hop by
+//! `truth_model` says what each line claims, in the words of the headline: a `deliver` or a `drop` that routing hop by
 //! hop can have ended this packet so by this event, by the tables that the nodes held, and that it has no other end; a
-//! `bind` that nobody may use the label before; a `loss` of a broken frame that it stands beside its cause. `specs/Lines`
+//! `bind` that nobody may use the label before; a `loss` of a broken frame that it stands beside its cause. It
 //! says which octets are true lines, and `specs/Law` that those of each front of a report are, wherever it is cut off: each
 //! record has one line, whose one LF is its last octet, since no word of it has one. There is no code that runs.
 #![tactic(auto)]

@@ -11,7 +11,7 @@ use Rattle.world_model.specs.frame_model.Frame.{octets_of}
 use Rattle.world_model.specs.frame_model.Reassembly.{Taken, taken, joined}
 use Rattle.law_causes.proofs.law_port_facts.Keyed.{on_both}
 use Rattle.law_true_losses.specs.Way.{is_on_way, entry_unless}
-use Rattle.law_true_losses.specs.First.{HasNone, AreFirst}
+use Rattle.law_true_losses.specs.Losses.{HasNone, AreFirst}
 
 -- *The losses of more records* are those of the one and of the others
 pub losses_more : (items others : List Record) → losses_of (items ++ others) ≡ losses_of items ++ losses_of others

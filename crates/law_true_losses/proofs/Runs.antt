@@ -8,9 +8,11 @@ use Rattle.world_model.specs.network_model.declared.event.Event.TheVariants.{Inj
 use Rattle.world_model.specs.World.{opened}
 use Rattle.law_true_losses.specs.Way.{carried_from, lost_on_way}
 use Rattle.law_true_losses.specs.Sent.{rooms_in, rooms_at, frame_of, cells_of, entry_of, put_in, has_queue, queue_for, switched_head, switched}
-use Rattle.law_true_losses.specs.Law.{EntersLosses, world_at, LossesAreTrue}
+use Rattle.law_true_losses.specs.Law.{LossesAreTrue}
+use Rattle.law_true_losses.specs.Losses.{EntersLosses}
+use Rattle.law_true_losses.specs.Fronts.{world_at}
 use Rattle.law_true_losses.proofs.Notes.{losses_more}
-use Rattle.law_true_losses.specs.First.{AreFirst}
+use Rattle.law_true_losses.specs.Losses.{AreFirst}
 use Rattle.law_true_losses.specs.Cut.{Held, same_held, fed_at, fed, is_given_up}
 use Rattle.law_true_losses.proofs.Worlds.{Came, carried_alike, switched_alike, fed_alike, event_told}
 use Rattle.std.specs.Option.{option_map_or, option_and_then}

@@ -4,9 +4,7 @@
 //! The ledger has an entry of each, and no other entry of these five causes; it has the losses that the records tell,
 //! in their order; and of each mark it has an entry Broken only where it has none before.
 //!
-//! `specs/Way` has the cells, `specs/Sent` what an event puts into queues, `specs/Cut` what it cuts, `specs/Open` what is open on
-//! a branch, `specs/First` which entries are Broken, `specs/Law` the statement,
-//! which holds whichever events come, forged frames among them. `proofs/Notes`, `Sent` and `Cutting` have what is entered of
+//! The statement is `AreTrueLosses` of `truth_model`, and holds whichever events come, forged frames among them. `proofs/Notes`, `Sent` and `Cutting` have what is entered of
 //! chains, of frames, and of what is cut; `Steps`, `Walk` and `Arriving` go over the rules of a controller, with `Chains`,
 //! `Switches`, `Branches` and `Switched` over those of a switch. `Sites`, `Held` and `Puts` say what an actor's site shows of
 //! it, `Opens` and `Opened` what is open on branches, `Worlds` goes over the events, `Runs` along a run. There is no code that runs.

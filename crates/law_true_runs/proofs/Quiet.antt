@@ -4,8 +4,9 @@ use Rattle.std.proofs.Common.{List, ◌∷◌, refl}
 use Rattle.world_model.specs.Words.{Policy, Topology, past_of}
 use Rattle.world_model.specs.network_model.declared.event.Event.{Event}
 use Rattle.world_model.specs.network_model.declared.event.Event.TheVariants.{Carry}
-use Rattle.law_run_facts.specs.law_world_views.Kept.{HasAddresses, Comes, BindsUnusedAt}
-use Rattle.law_quiet_links.specs.law_quiet.Law.{GoesOn, IsQuiet, PacketsEndFrom, carried, in_rounds}
+use Rattle.law_run_facts.specs.law_world_views.Kept.{Comes, BindsUnusedAt}
+use Rattle.law_run_facts.specs.law_world_views.Fronts.{HasAddresses}
+use Rattle.law_quiet_links.specs.claims_model.Quiet.{GoesOn, IsQuiet, PacketsEndFrom, carried, in_rounds}
 use Rattle.law_quiet_links.specs.Law.{CarriesWeighLess, CarriesOf, CarriesFind, RoundsMakeLighter, RoundsEmptyQueues, PacketsEnd}
 use Rattle.law_true_runs.specs.Runs.{IsWhole, HoldsInRuns}
 use Rattle.law_true_runs.proofs.Walk.{holds_at, comes_at}

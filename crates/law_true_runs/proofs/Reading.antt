@@ -6,17 +6,22 @@ use Rattle.world_model.specs.network_model.declared.event.Event.{Event}
 use Rattle.law_lifetimes.specs.Run.{IsSetInRuns, EndsInRuns, SendsNoMoreInRuns, IsLedBackInRuns, IsEndedByResetInRuns}
 use Rattle.law_run_facts.specs.Nodes.{RunsHaveNodes}
 use Rattle.law_run_facts.specs.law_world_views.Between.{IsWorld, HasPacketsOnce}
-use Rattle.law_run_facts.specs.law_world_views.Kept.{HasAddresses}
+use Rattle.law_run_facts.specs.law_world_views.Fronts.{HasAddresses}
 use Rattle.law_told_tables.specs.Law.{TablesAreTold}
 use Rattle.law_true_losses.specs.Law.{LossesAreTrue}
-use Rattle.law_steady_routes.specs.Law.{ChangesNoRoute, AreJourneys, FatesAreJourneys}
+use Rattle.law_steady_routes.specs.Law.{FatesAreJourneys}
+use Rattle.law_steady_routes.specs.Tables.{ChangesNoRoute, AreJourneys}
 use Rattle.law_idle_policies.specs.Law.{NothingIsBound}
 use Rattle.law_control_places.specs.Chains.{ChainsAreTheirFrames}
-use Rattle.law_ownership.specs.Owning.{IsKept, HasOwnWays, LabelsAreOwned, AreInOrder, WaysAreInOrder}
-use Rattle.law_ownership.specs.Copies.{AreAllCopiesInOrder, CopiesAreInOrder}
+use Rattle.law_ownership.specs.Owning.{IsKept, HasOwnWays, LabelsAreOwned, WaysAreInOrder}
+use Rattle.law_ownership.specs.Order.{AreInOrder}
+use Rattle.law_ownership.specs.Copies.{CopiesAreInOrder}
+use Rattle.law_ownership.specs.Order.{AreAllCopiesInOrder}
 use Rattle.law_ownership.specs.Places.{WaysAreOwn}
 use Rattle.law_ownership.specs.Binds.{EachBindIsUnused}
-use Rattle.law_true_runs.specs.Law.{InFronts, LifetimesEnd, IsTrueRun}
+use Rattle.law_true_runs.specs.Fronts.{InFronts}
+use Rattle.law_true_runs.specs.Lifetimes.{LifetimesEnd}
+use Rattle.law_true_runs.specs.Run.{IsTrueRun}
 use Rattle.law_true_runs.specs.Runs.{IsWhole, HoldsInRuns}
 use Rattle.law_true_runs.proofs.Fronts.{front_run}
 use Rattle.law_true_runs.proofs.Walk.{holds_in_runs, holds_at, comes_at}

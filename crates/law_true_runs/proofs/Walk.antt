@@ -3,7 +3,8 @@
 use Rattle.std.proofs.Common.{◌≡◌, List, [], ◌∷◌, ◌++◌, append_assoc, append-nil, sym, subst, ◌∙◌}
 use Rattle.world_model.specs.Words.{Policy, Topology, Past, past_of, IsRun, IsTame}
 use Rattle.world_model.specs.network_model.declared.event.Event.{Event}
-use Rattle.law_run_facts.specs.law_world_views.Kept.{HasAddresses, Comes, Begins, behind}
+use Rattle.law_run_facts.specs.law_world_views.Kept.{Comes, Begins, behind}
+use Rattle.law_run_facts.specs.law_world_views.Fronts.{HasAddresses}
 use Rattle.law_true_runs.specs.Runs.{HoldsInRuns}
 use Rattle.law_true_runs.proofs.Fronts.{front_run, front_tame}
 

@@ -4,7 +4,7 @@ use Rattle.std.specs.Prelude.{List}
 use Rattle.world_model.specs.Words.{Policy, Topology, Past, past_of, IsRun, IsTame, IsInHarmony}
 use Rattle.world_model.specs.network_model.declared.event.Event.{Event}
 use Rattle.law_run_facts.specs.law_world_views.Between.{IsWorld}
-use Rattle.law_run_facts.specs.law_world_views.Kept.{HasAddresses}
+use Rattle.law_run_facts.specs.law_world_views.Fronts.{HasAddresses}
 use Rattle.law_packet_worlds.specs.Channels.{HasChannels}
 use Rattle.law_passed_cells.specs.Passed.{HasRequests}
 use Rattle.law_ownership.specs.Places.{HasPlaces}

@@ -3,7 +3,7 @@
 use Rattle.std.proofs.Common.{◌≡◌, ℕ, ◌<◌, ◌≤◌, zero, suc, true, List, [], ◌∷◌, length, Option, refl, arith}
 use Rattle.std.specs.Prelude.{slice_get}
 use Rattle.std.specs.Option.{option_map_or}
-use Rattle.world_model.specs.Words.{Addr, is_label_number, Topology, Node, node_at, node_in, IsTopology, Way, IsWay}
+use Rattle.law_causes.specs.world_model.Words.{Addr, is_label_number, Topology, Node, node_at, node_in, IsTopology, Way, IsWay}
 use Rattle.law_label_line.specs.Cells.{Role, Downstream, Upstream}
 use Rattle.law_world_views.specs.law_port_views.Link.{LinkLabel}
 use Rattle.law_world_views.specs.law_controller_views.Lifted.{IsProper}

@@ -3,7 +3,7 @@
 use Rattle.std.proofs.Common.{◌≡◌, ℕ, true, [], ◌++◌, Option, Some, refl, sym, ◌∙◌, ap, subst}
 use Rattle.std.specs.Prelude.{Contains, is_some}
 use Rattle.std.specs.Option.{option_map, option_map_or, option_and_then}
-use Rattle.world_model.specs.Words.{Place, Down, Up, Out, Clearing, SynSent, SynRcvd, Estab, State, is_estab, Cell, at, label_number, Session, Controller, Linked, linked_at, queue_of, World, Site, site_at, queue_at, queue_in, place_node, linked_end, session_at, chain_at, Past, held}
+use Rattle.law_causes.specs.world_model.Words.{Place, Down, Up, Out, Clearing, SynSent, SynRcvd, Estab, State, is_estab, Cell, at, label_number, Session, Controller, Linked, linked_at, queue_of, World, Site, site_at, queue_at, queue_in, place_node, linked_end, session_at, chain_at, Past, held}
 use Rattle.law_world_views.specs.ordered_lists.Ordered.{Every}
 use Rattle.law_world_views.proofs.ordered_lists.Every.{every_left, every_right}
 use Rattle.law_label_line.specs.Cells as lines

@@ -5,15 +5,15 @@ use Rattle.std.specs.Prelude.{Contains, nat_lt, nat_le, ◌&&◌}
 use Rattle.std.proofs.Common.{inl, inr}
 use Rattle.std.specs.Option.{option_map_or}
 use Rattle.std.proofs.lemmas.List.Elements.{Contains-append_cases, Contains-append_left, Contains-append_right}
-use Rattle.world_model.specs.Words.{Channel, End, Down, Up, Out, is_label_channel, label_channel_of, Cell, FlowId, at, Standing, label_end, control_end, Label, LabelState, Wiring, Offered, Recalled, Wired, Grant, GrantState, Idle, ByController, ByInput, Leaving, grant_label, Session, Linked, default_channel, default_home, same_channel, World, queue_at, session_at, grants_at, chain_at, to_switch, requests_chain_at, on_channel, on_default_channel, copy_under, ifmp_under, Instance, Redirect, Past, User, Uses, leads, on_the_link, off_the_link, granted, connected, copied, from_controller, IsUnused, IsSpareOrWired, held}
+use Rattle.law_causes.specs.world_model.Words.{Channel, End, Down, Up, Out, is_label_channel, label_channel_of, Cell, FlowId, at, Standing, label_end, control_end, Label, LabelState, Wiring, Offered, Recalled, Wired, Grant, GrantState, Idle, ByController, ByInput, Leaving, grant_label, Session, Linked, default_channel, default_home, same_channel, World, queue_at, session_at, grants_at, chain_at, to_switch, requests_chain_at, on_channel, on_default_channel, copy_under, ifmp_under, Instance, Redirect, Past, User, Uses, leads, on_the_link, off_the_link, granted, connected, copied, from_controller, IsUnused, IsSpareOrWired, held}
 use Rattle.law_world_views.specs.ordered_lists.Ordered.{Every}
 use Rattle.law_label_line.specs.Cells.{Role, Downstream, Upstream}
 use Rattle.law_label_line.specs.Line as line_specs
 use Rattle.law_label_line.specs.Line.{Line}
 use Rattle.law_label_line.specs.Law as laws
 use Rattle.law_label_line.specs.Law.{Always, SpareIsUnused, HasNoUser, IsNoUser}
-use Rattle.world_model.specs.Users.{asked, redirected}
-use Rattle.world_model.specs.Owned as owned
+use Rattle.law_causes.specs.world_model.Users.{asked, redirected}
+use Rattle.law_causes.specs.world_model.Owned as owned
 use Rattle.law_world_views.specs.law_port_views.Flows.{flow_number}
 use Rattle.std.proofs.lemmas.Bool.Decides.{nat_tests}
 use Rattle.law_world_views.proofs.law_port_facts.Keyed.{by_eq, on_each}

@@ -3,13 +3,13 @@
 use Rattle.std.proofs.Common.{◌≡◌, ℕ, zero, suc, arith, Bool, true, false, List, [], ◌∷◌, Option, None, Some, refl, sym, ◌∙◌, ap, subst, if◌then◌else◌}
 use Rattle.std.specs.Prelude.{Contains, ◌&&◌, ◌==◌}
 use Rattle.std.specs.Option.{option_map, option_and_then}
-use Rattle.world_model.specs.Words.{Instance, is_label_number, label_channel_of, Cell, FlowId, default_unwrapped, Redirect, source_of, Frame, payload_of, default_channel, same_channel, ifmp_in, ifmp_of, ifmp_under}
-use Rattle.world_model.specs.ifmp_wire.declared.message.Message.{Message}
+use Rattle.law_causes.specs.world_model.Words.{Instance, is_label_number, label_channel_of, Cell, FlowId, default_unwrapped, Redirect, source_of, Frame, payload_of, default_channel, same_channel, ifmp_in, ifmp_of, ifmp_under}
+use Rattle.law_causes.specs.world_model.ifmp_wire.declared.message.Message.{Message}
 use Rattle.law_world_views.specs.ordered_lists.Ordered.{Every}
 use Rattle.law_label_line.specs.Cells as lines
 use Rattle.law_label_line.specs.Cells.{Role, Downstream, Upstream}
 use Rattle.law_label_line.specs.Law.{IsNoUser}
-use Rattle.world_model.specs.Ways.{told}
+use Rattle.law_causes.specs.world_model.Ways.{told}
 use Rattle.law_world_views.specs.law_port_views.Link.{LinkLabel, other}
 use Rattle.law_world_views.specs.law_port_views.Heard.{is_own, heard_by}
 use Rattle.law_world_views.proofs.law_port_views.Recalling.{names_own}

@@ -1,7 +1,7 @@
 -- A label that is spare or wired has no user, where what goes between controllers and switches is on its own channel
 
 use Rattle.std.specs.Prelude.{◌≡◌, ℕ, true, Contains, Some}
-use Rattle.world_model.specs.Words.{Down, is_label_number, Cell, FlowId, Standing, Session, default_channel, same_channel, IsTopology, World, queue_at, session_at, copy_under, on_the_way, on_default_channel, Past, Way, IsWay, IsRedirect, IsUnused, IsSpareOrWired, held}
+use Rattle.law_causes.specs.world_model.Words.{Down, is_label_number, Cell, FlowId, Standing, Session, default_channel, same_channel, IsTopology, World, queue_at, session_at, copy_under, on_the_way, on_default_channel, Past, Way, IsWay, IsRedirect, IsUnused, IsSpareOrWired, held}
 use Rattle.law_world_views.specs.Between.{IsWorld}
 
 -- *Channels of their own*: each copy of a request waits for the switch on GSMP's channel, and each REDIRECT of a label

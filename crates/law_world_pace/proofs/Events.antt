@@ -1,18 +1,18 @@
 -- each event keeps what is so of a world in a run
 
 use Rattle.std.proofs.Common.{◌≡◌, ℕ, ◌+◌, ◌≤◌, List, [], ◌∷◌, length, Option, None, Some, refl, sym, ◌∙◌, ap, subst, arith}
-use Rattle.world_model.specs.Words.{NodeId, PortNo, Place, Down, Up, Out, Channel, GivenOut, next_control, with_control, Cell, Forged, Refusal, control_port, inject_refusal, injected, node_restarts, change_comes, queue_at, with_queue, arrives, arrives_at, carries_head, forges, injects, injects_by, loses_head, Topology, World}
-use Rattle.world_model.specs.Conduct as switch
-use Rattle.world_model.specs.Controller as controllers
-use Rattle.world_model.specs.Sending.{sends}
-use Rattle.world_model.specs.Cells as controller
-use Rattle.world_model.specs.Ticks.{ticks}
-use Rattle.world_model.specs.network_model.declared.event.Event.{Event}
-use Rattle.world_model.specs.network_model.declared.event.Event.TheVariants.{Inject, Carry, Lose, Tick, TickSwitch, Restart, RestartSwitch, Forge, Route}
-use Rattle.world_model.specs.network_model.declared.link.LinkEnd.{LinkEnd}
-use Rattle.world_model.specs.Step.{acts, note}
-use Rattle.world_model.specs.Topology.{peer_of}
-use Rattle.world_model.specs.World.{at_controller, at_switch}
+use Rattle.law_actor_pace.specs.world_model.Words.{NodeId, PortNo, Place, Down, Up, Out, Channel, GivenOut, next_control, with_control, Cell, Forged, Refusal, control_port, inject_refusal, injected, node_restarts, change_comes, queue_at, with_queue, arrives, arrives_at, carries_head, forges, injects, injects_by, loses_head, Topology, World}
+use Rattle.law_actor_pace.specs.world_model.Conduct as switch
+use Rattle.law_actor_pace.specs.world_model.Controller as controllers
+use Rattle.law_actor_pace.specs.world_model.Sending.{sends}
+use Rattle.law_actor_pace.specs.world_model.Cells as controller
+use Rattle.law_actor_pace.specs.world_model.Ticks.{ticks}
+use Rattle.law_actor_pace.specs.world_model.network_model.declared.event.Event.{Event}
+use Rattle.law_actor_pace.specs.world_model.network_model.declared.event.Event.TheVariants.{Inject, Carry, Lose, Tick, TickSwitch, Restart, RestartSwitch, Forge, Route}
+use Rattle.law_actor_pace.specs.world_model.network_model.declared.link.LinkEnd.{LinkEnd}
+use Rattle.law_actor_pace.specs.world_model.Step.{acts, note}
+use Rattle.law_actor_pace.specs.world_model.Topology.{peer_of}
+use Rattle.law_actor_pace.specs.world_model.World.{at_controller, at_switch}
 use Rattle.law_actor_pace.proofs.Paces as controller_pace
 use Rattle.law_actor_pace.proofs.Controllers.{cell_follows, injected_paces, ticks_paces, restarts_paces, change_changes}
 use Rattle.law_actor_pace.proofs.Switches as switch_pace

@@ -4,12 +4,12 @@ use Rattle.std.proofs.Common.{◌≡◌, ℕ, suc, ◌≤◌, ◌<◌, ◌==◌,
 use Rattle.std.specs.List.{list_any, range_with_len}
 use Rattle.std.specs.Option.{option_or}
 use Rattle.std.proofs.lemmas.Bool.Decides.{nat_tests}
-use Rattle.world_model.specs.Words.{NodeId, PortNo, has_port, numbers_of, IsLink, IsNode, IsPort, IsTopology, is_linked, Topology, Link, peer_among, same_link_end}
-use Rattle.world_model.specs.switch_model.declared.port.PortState.{PortState}
-use Rattle.world_model.specs.network_model.declared.link.LinkEnd.{LinkEnd}
-use Rattle.world_model.specs.Topology as topologies
-use Rattle.world_model.specs.Topology.{peer_of}
-use Rattle.world_model.proofs.Lists.{by_eq}
+use Rattle.law_actor_pace.specs.world_model.Words.{NodeId, PortNo, has_port, numbers_of, IsLink, IsNode, IsPort, IsTopology, is_linked, Topology, Link, peer_among, same_link_end}
+use Rattle.law_actor_pace.specs.world_model.switch_model.declared.port.PortState.{PortState}
+use Rattle.law_actor_pace.specs.world_model.network_model.declared.link.LinkEnd.{LinkEnd}
+use Rattle.law_actor_pace.specs.world_model.Topology as topologies
+use Rattle.law_actor_pace.specs.world_model.Topology.{peer_of}
+use Rattle.law_actor_pace.proofs.world_model.Lists.{by_eq}
 
 -- *A port of a link* is one of a node's ports, and the other end is of another node
 same_port : (a b : LinkEnd) → same_link_end a b ≡ true → a.port.0 ≡ b.port.0

@@ -3,13 +3,13 @@
 use Rattle.std.proofs.Common.{◌≡◌, ℕ, zero, suc, ◌+◌, ◌≤◌, Bool, true, List, [], ◌∷◌, ◌++◌, length, map, slice_set, Option, None, Some, refl, sym, ◌∙◌, ap, subst, arith, flat_map, if◌then◌else◌}
 use Rattle.std.proofs.lemmas.List.Concat.{flat_map-cons}
 use Rattle.std.specs.Option.{option_map_or}
-use Rattle.world_model.specs.Words.{NodeId, Place, Down, Up, Out, Cell, at, put, numbers_of, Controller, place_node, queue_in, queue_at, with_queue, with_queue_in, with_queue_of, places_of, Topology, World, Site, site_key, site_at, controller_acts, switch_acts}
-use Rattle.world_model.specs.Switch as switches
-use Rattle.world_model.specs.Controller as controllers
-use Rattle.world_model.specs.Controller.{ports_of}
-use Rattle.world_model.specs.Topology as topologies
-use Rattle.world_model.specs.World.{at_controller, at_switch}
-use Rattle.world_model.proofs.Lists.{by_eq, at_key}
+use Rattle.law_actor_pace.specs.world_model.Words.{NodeId, Place, Down, Up, Out, Cell, at, put, numbers_of, Controller, place_node, queue_in, queue_at, with_queue, with_queue_in, with_queue_of, places_of, Topology, World, Site, site_key, site_at, controller_acts, switch_acts}
+use Rattle.law_actor_pace.specs.world_model.Switch as switches
+use Rattle.law_actor_pace.specs.world_model.Controller as controllers
+use Rattle.law_actor_pace.specs.world_model.Controller.{ports_of}
+use Rattle.law_actor_pace.specs.world_model.Topology as topologies
+use Rattle.law_actor_pace.specs.world_model.World.{at_controller, at_switch}
+use Rattle.law_actor_pace.proofs.world_model.Lists.{by_eq, at_key}
 use Rattle.law_actor_pace.specs.Pace.{AreUpTo, AreAllUpTo, changes_of}
 use Rattle.law_actor_pace.proofs.Cells.{every_less, all_less, every_set, every_at}
 use Rattle.law_actor_pace.proofs.Switches as switch_pace

@@ -2,11 +2,11 @@
 -- gave out, and those of its frames and changes of routes, are no more than its events can have needed
 
 use Rattle.std.specs.Prelude.{◌≡◌, ℕ, suc, ◌+◌, ◌*◌, ◌≤◌, List, [], ◌∷◌, length, slice_index_or, Option, None}
-use Rattle.world_model.specs.Words.{NodeId, PortNo, control_port, numbers_of, IsTopology, Topology, World, Site, site_key}
-use Rattle.world_model.specs.Controller.{ports_of}
-use Rattle.world_model.specs.network_model.declared.link.LinkEnd.{LinkEnd}
-use Rattle.world_model.specs.Topology as topologies
-use Rattle.world_model.specs.Topology.{peer_of}
+use Rattle.law_actor_pace.specs.world_model.Words.{NodeId, PortNo, control_port, numbers_of, IsTopology, Topology, World, Site, site_key}
+use Rattle.law_actor_pace.specs.world_model.Controller.{ports_of}
+use Rattle.law_actor_pace.specs.world_model.network_model.declared.link.LinkEnd.{LinkEnd}
+use Rattle.law_actor_pace.specs.world_model.Topology as topologies
+use Rattle.law_actor_pace.specs.world_model.Topology.{peer_of}
 use Rattle.law_actor_pace.specs.Pace.{AreUpTo, AreAllUpTo, changes_of}
 
 abbrev pub numbered : ℕ → NodeId

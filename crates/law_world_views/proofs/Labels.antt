@@ -2,7 +2,7 @@
 
 use Rattle.std.proofs.Common.{◌≡◌, ℕ, Bool, true, false, refl}
 use Rattle.std.specs.Prelude.{◌&&◌}
-use Rattle.world_model.specs.Words.{is_label_number, Setup, is_in_range}
+use Rattle.law_controller_views.specs.world_model.Words.{is_label_number, Setup, is_in_range}
 
 pub in_range_label : (setup : Setup) (number : ℕ) → is_in_range setup number ≡ true → is_label_number number ≡ true
 in_range_label setup number e = first (is_label_number number) _ e

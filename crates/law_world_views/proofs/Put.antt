@@ -3,7 +3,7 @@
 use Rattle.std.proofs.Common.{◌≡◌, ℕ, Bool, true, false, List, [], ◌∷◌, Some, refl, ◌∙◌, ap, subst, arith, ◌⊎◌, inl, inr, if◌then◌else◌}
 use Rattle.std.specs.Prelude.{nat_eq}
 use Rattle.std.proofs.lemmas.Bool.Decides.{nat_tests}
-use Rattle.world_model.specs.Words.{NodeId, at, put, Site, site_key}
+use Rattle.law_controller_views.specs.world_model.Words.{NodeId, at, put, Site, site_key}
 
 -- *What is found* once an element was put is that one, or was found before
 pub found_put : {A : Type 0} (key : A → ℕ) (new : A) (xs : List A) (k : ℕ) (x : A) → at key k (put key new xs) ≡ Some x → (new ≡ x) ⊎ (at key k xs ≡ Some x)

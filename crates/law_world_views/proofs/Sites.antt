@@ -1,13 +1,13 @@
 -- the whole network: its sites in a list, of which two are the ends of a link, or act for others
 
 use Rattle.std.proofs.Common.{◌≡◌, ◌≢◌, ℕ, [], ◌++◌, Option, None, Some, refl, sym, ◌∙◌, ap, subst}
-use Rattle.world_model.specs.Words.{NodeId, at, put, Controller, World, Site, site_key, site_at, with_site, controller_acts}
+use Rattle.law_controller_views.specs.world_model.Words.{NodeId, at, put, Controller, World, Site, site_key, site_at, with_site, controller_acts}
 use Rattle.law_controller_views.proofs.law_port_facts.Keyed.{by_eq, at_key, at_put_same, at_put_other}
 use Rattle.law_controller_views.specs.law_label_line.Cells.{Role, Downstream, Upstream}
 use Rattle.law_controller_views.specs.law_label_line.Line.{Line}
 use Rattle.law_controller_views.specs.law_label_line.Moves.{run}
-use Rattle.world_model.specs.Controller.{Acted}
-use Rattle.world_model.specs.World.{at_controller}
+use Rattle.law_controller_views.specs.world_model.Controller.{Acted}
+use Rattle.law_controller_views.specs.world_model.World.{at_controller}
 use Rattle.law_controller_views.specs.law_port_views.Link.{LinkLabel, other}
 use Rattle.law_controller_views.proofs.law_port_views.Reach.{run_join}
 use Rattle.law_controller_views.specs.law_shown_cells.Label.{OnLink, OnControl}

@@ -2,18 +2,18 @@
 -- forged or passed its test by chance
 
 use Rattle.std.specs.Prelude.{◌≡◌, ℕ, ◌+◌, ◌<◌, ◌≤◌, true, false, List, ◌∷◌, ◌++◌, Contains, Option, None, Some}
-use Rattle.world_model.specs.Words.{End, NodeId, PortNo, Place, Addr, is_label_number, Cell, PortRow, payload_of, has_loss_of, Standing, all_on, control_port, numbers_of, Setup, home_of, Controller, Linked, default_channel, default_home, same_channel, Topology, Node, node_at, World, Site, site_at, queue_at, IsPlace, gsmp_to_switch, gsmp_to_controller, requests_chain_at, answers_chain_at, chain_at, gsmp_under, copy_under, Past, frames_of, Way, IsWay, WasAccepted, fates_of, AreTrueFates}
-use Rattle.world_model.specs.gsmp_wire.declared.message.Message.TheVariants.{AllPorts}
+use Rattle.law_controller_views.specs.world_model.Words.{End, NodeId, PortNo, Place, Addr, is_label_number, Cell, PortRow, payload_of, has_loss_of, Standing, all_on, control_port, numbers_of, Setup, home_of, Controller, Linked, default_channel, default_home, same_channel, Topology, Node, node_at, World, Site, site_at, queue_at, IsPlace, gsmp_to_switch, gsmp_to_controller, requests_chain_at, answers_chain_at, chain_at, gsmp_under, copy_under, Past, frames_of, Way, IsWay, WasAccepted, fates_of, AreTrueFates}
+use Rattle.law_controller_views.specs.world_model.gsmp_wire.declared.message.Message.TheVariants.{AllPorts}
 use Rattle.law_controller_views.specs.ordered_lists.Ordered.{Every}
-use Rattle.world_model.specs.crossbar_model.Crossbar.{output_of}
-use Rattle.world_model.specs.port_model.Messages.{is_up}
-use Rattle.world_model.specs.switch_model.declared.port.PortState.{PortState}
+use Rattle.law_controller_views.specs.world_model.crossbar_model.Crossbar.{output_of}
+use Rattle.law_controller_views.specs.world_model.port_model.Messages.{is_up}
+use Rattle.law_controller_views.specs.world_model.switch_model.declared.port.PortState.{PortState}
 use Rattle.law_controller_views.specs.law_port_facts.Port.{IsLinked, IsLabelEnd, IsShaped}
-use Rattle.world_model.specs.Controller.{ports_of}
+use Rattle.law_controller_views.specs.world_model.Controller.{ports_of}
 use Rattle.law_controller_views.specs.law_label_line.Cells.{Role}
 use Rattle.law_controller_views.specs.law_label_line.Line as labels
 use Rattle.law_controller_views.specs.law_label_line.Law as labels_law
-use Rattle.world_model.specs.network_model.declared.link.LinkEnd.{LinkEnd}
+use Rattle.law_controller_views.specs.world_model.network_model.declared.link.LinkEnd.{LinkEnd}
 use Rattle.law_controller_views.specs.law_port_views.Link.{LinkLabel}
 use Rattle.law_controller_views.specs.law_shown_cells.Seen.{IsUnmade}
 use Rattle.law_input_views.specs.Reaching.{ReachedAs, Anything}

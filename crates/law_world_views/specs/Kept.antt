@@ -1,13 +1,10 @@
 -- What each event of a run keeps, before the first frame that was forged or passed its test by chance
 
-use Rattle.std.specs.Prelude.{ℕ, ◌<◌, ◌^◌, List, [], ◌∷◌, ◌++◌, All, Contains}
-use Rattle.world_model.specs.Words.{FlowId, Bind, Policy, Topology, Node, IsTopology, Past, past_of, Way, IsWay, IsUnused, IsRun, IsTame}
-use Rattle.world_model.specs.network_model.declared.event.Event.{Event}
+use Rattle.std.specs.Prelude.{ℕ, List, [], ◌∷◌, ◌++◌, Contains}
+use Rattle.law_controller_views.specs.world_model.Words.{FlowId, Bind, Policy, Topology, IsTopology, Past, past_of, Way, IsWay, IsUnused, IsRun, IsTame}
+use Rattle.law_controller_views.specs.world_model.network_model.declared.event.Event.{Event}
 use Rattle.law_world_views.specs.Between.{IsWorld}
-
--- the addresses of nodes have 32 bits
-abbrev pub HasAddresses : Topology → Type 0
-HasAddresses topology = All (λ (node : Node). node.address.0 < 2 ^ 32) topology.nodes
+use Rattle.law_controller_views.specs.law_controller_facts.claims_model.Fronts.{HasAddresses}
 
 -- *An event comes* in such a run
 pub record Comes (policy : Policy) (topology : Topology) (before : List Event) (event : Event) : Type 0 where

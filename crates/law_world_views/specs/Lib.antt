@@ -10,6 +10,7 @@ pub use Rattle.law_controller_views.specs.law_shown_cells as law_shown_cells
 pub use Rattle.law_controller_views.specs as law_controller_views
 pub use Rattle.law_input_views.specs as law_input_views
 pub use Rattle.law_gsmp_reading.specs as law_gsmp_reading
+pub use Rattle.law_controller_views.specs.law_controller_facts.claims_model.Fronts as Fronts
 pub mod Pairs
 pub mod Shown
 pub mod Made

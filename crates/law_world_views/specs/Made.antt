@@ -1,10 +1,10 @@
 -- What was made in a network: the frames of packets, on a default channel or under a label, and of messages
 
 use Rattle.std.specs.Prelude.{◌≡◌, ◌≢◌, ℕ, ◌<◌, ◌^◌, List, Some, None}
-use Rattle.world_model.specs.Words.{Mark, Addr, FlowId, default_payload, Carries, InRange, FitsMessage, Fits, Frame, payload_of, inject_refusal, AreOctets}
-use Rattle.world_model.specs.ifmp_wire.declared.message.Message.{Message as IfmpMessage}
-use Rattle.world_model.specs.gsmp_wire.declared.message.Message.{Message as GsmpMessage}
-use Rattle.world_model.specs.gsmp_wire.Layout.{octets_of as gsmp_octets}
+use Rattle.law_controller_views.specs.world_model.Words.{Mark, Addr, FlowId, default_payload, Carries, InRange, FitsMessage, Fits, Frame, payload_of, inject_refusal, AreOctets}
+use Rattle.law_controller_views.specs.world_model.ifmp_wire.declared.message.Message.{Message as IfmpMessage}
+use Rattle.law_controller_views.specs.world_model.gsmp_wire.declared.message.Message.{Message as GsmpMessage}
+use Rattle.law_controller_views.specs.world_model.gsmp_wire.Layout.{octets_of as gsmp_octets}
 use Rattle.law_gsmp_reading.specs.Said.{IsSaid}
 use Rattle.law_controller_views.specs.Lifted.{payload_by}
 

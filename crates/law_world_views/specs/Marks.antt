@@ -2,11 +2,11 @@
 
 use Rattle.std.specs.Prelude.{◌≡◌, ◌≢◌, ℕ, ◌<◌, ◌==◌, ◌&&◌, Bool, true, false, List, length, count_by, Option, None, Some, if◌then◌else◌}
 use Rattle.std.specs.List.{sum_by}
-use Rattle.world_model.specs.Words.{NodeId, PortNo, Place, Down, Up, Out, Addr, Channel, Mark, number_of_channel, Cell, FlowId, default_payload, Carries, Frame, payload_of, default_channel, same_channel, port_on, on_link, Topology, World, places, queue_at, Reaches, Past, frames_of, last_bound}
-use Rattle.world_model.specs.ifmp_wire.declared.message.Message.{Message}
+use Rattle.law_controller_views.specs.world_model.Words.{NodeId, PortNo, Place, Down, Up, Out, Addr, Channel, Mark, number_of_channel, Cell, FlowId, default_payload, Carries, Frame, payload_of, default_channel, same_channel, port_on, on_link, Topology, World, places, queue_at, Reaches, Past, frames_of, last_bound}
+use Rattle.law_controller_views.specs.world_model.ifmp_wire.declared.message.Message.{Message}
 use Rattle.law_controller_views.specs.Lifted.{payload_by}
-use Rattle.world_model.specs.network_model.declared.link.LinkEnd.{LinkEnd}
-use Rattle.world_model.specs.Topology.{peer_of}
+use Rattle.law_controller_views.specs.world_model.network_model.declared.link.LinkEnd.{LinkEnd}
+use Rattle.law_controller_views.specs.world_model.Topology.{peer_of}
 use Rattle.law_world_views.specs.Made.{IsFit}
 
 -- *Headings*: the end of a link that a cell goes to, if any, and its channel on the link

@@ -1,8 +1,8 @@
 -- The joins of a switch: two labels of its ports that are joined, or that a request may join
 
 use Rattle.std.specs.Prelude.{◌≡◌, ◌<◌, Contains, Some}
-use Rattle.world_model.specs.Words.{End, NodeId, number_of_channel, Cell, at, Standing, label_end, Grant, grant_label, Controller, Linked, linked_at, World, standing_at, output_at, gsmp_to_switch, copy_under, leads}
-use Rattle.world_model.specs.port_model.Grants.{input_of}
+use Rattle.law_controller_views.specs.world_model.Words.{End, NodeId, number_of_channel, Cell, at, Standing, label_end, Grant, grant_label, Controller, Linked, linked_at, World, standing_at, output_at, gsmp_to_switch, copy_under, leads}
+use Rattle.law_controller_views.specs.world_model.port_model.Grants.{input_of}
 use Rattle.law_controller_views.specs.law_label_line.Cells.{Upstream}
 use Rattle.law_controller_views.specs.law_port_views.Link.{LinkLabel}
 

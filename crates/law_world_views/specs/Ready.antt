@@ -1,8 +1,8 @@
 -- What the numbers of controllers and switches have to be so that what they say can be read
 
 use Rattle.std.specs.Prelude.{List, map, Option, None, Some}
-use Rattle.world_model.specs.Words.{Party, Side, FitsParty, FitsRows, Controller, Linked, Setup, Site}
-use Rattle.world_model.specs.Answers.{row_of}
+use Rattle.law_controller_views.specs.world_model.Words.{Party, Side, FitsParty, FitsRows, Controller, Linked, Setup, Site}
+use Rattle.law_controller_views.specs.world_model.Answers.{row_of}
 use Rattle.law_controller_views.specs.Ready.{IsReady}
 
 abbrev pub setups_of : Controller → List Setup

@@ -1,12 +1,12 @@
 -- What a network shows of the line of a label of a link
 
 use Rattle.std.specs.Prelude.{◌≡◌, ◌≢◌, List, Some}
-use Rattle.world_model.specs.Words.{queue_of, control_port, World, Site, site_at, Way}
+use Rattle.law_controller_views.specs.world_model.Words.{queue_of, control_port, World, Site, site_at, Way}
 use Rattle.law_controller_views.specs.law_label_line.Cells.{Role, Downstream, Upstream}
 use Rattle.law_controller_views.specs.law_label_line.Line.{Line}
 use Rattle.law_controller_views.specs.law_label_line.Moves.{Move, run}
-use Rattle.world_model.specs.Controller.{Acted}
-use Rattle.world_model.specs.network_model.declared.link.LinkEnd.{LinkEnd}
+use Rattle.law_controller_views.specs.world_model.Controller.{Acted}
+use Rattle.law_controller_views.specs.world_model.network_model.declared.link.LinkEnd.{LinkEnd}
 use Rattle.law_controller_views.specs.law_port_views.Link.{LinkLabel}
 use Rattle.law_controller_views.specs.Ends.{Pieces, Net, idle}
 

@@ -2,11 +2,11 @@
 -- what is joined
 
 use Rattle.std.specs.Prelude.{◌≡◌, ℕ, ◌<◌, Bool, true, false, not, List, [], ◌∷◌, ◌++◌, Contains, Some}
-use Rattle.world_model.specs.Words.{End, NodeId, Down, Instance, Peer, HelloKind, Rstack, label_channel_of, Clearing, Side, Cell, FlowId, Redirect, names_of, Standing, home_of, label_end, Grant, World, Site, queue_at, ifmp_under, copy_under, grants_at, side_at, output_at, on_channel, on_default_channel, requests_chain_at, Past, frames_of, last_bound, Way, ByBranch, leads, WasCleared, StandsForLast}
-use Rattle.world_model.specs.ifmp_wire.declared.message.Message.{Message}
-use Rattle.world_model.specs.ifmp_wire.declared.message.Message.TheVariants.{Adjacency}
+use Rattle.law_controller_views.specs.world_model.Words.{End, NodeId, Down, Instance, Peer, HelloKind, Rstack, label_channel_of, Clearing, Side, Cell, FlowId, Redirect, names_of, Standing, home_of, label_end, Grant, World, Site, queue_at, ifmp_under, copy_under, grants_at, side_at, output_at, on_channel, on_default_channel, requests_chain_at, Past, frames_of, last_bound, Way, ByBranch, leads, WasCleared, StandsForLast}
+use Rattle.law_controller_views.specs.world_model.ifmp_wire.declared.message.Message.{Message}
+use Rattle.law_controller_views.specs.world_model.ifmp_wire.declared.message.Message.TheVariants.{Adjacency}
 use Rattle.law_controller_views.specs.law_label_line.Cells.{Downstream, Upstream}
-use Rattle.world_model.specs.network_model.declared.link.LinkEnd.{LinkEnd}
+use Rattle.law_controller_views.specs.world_model.network_model.declared.link.LinkEnd.{LinkEnd}
 use Rattle.law_controller_views.specs.law_port_views.Link.{LinkLabel}
 use Rattle.law_world_views.specs.Pairs.{Pairs, IsJoin}
 use Rattle.law_world_views.specs.Shown.{end_of, way_of}

@@ -8,11 +8,11 @@
 #![tactic(auto)]
 
 ghost use Rattle.std.specs.Prelude.{◌≡◌, [], Some};
-ghost use Rattle.world_model.specs.Words.{NodeId, World, Site, site_at};
+ghost use Rattle.law_controller_views.specs.world_model.Words.{NodeId, World, Site, site_at};
 ghost use Rattle.law_controller_views.specs.law_label_line.Cells.{Role};
 ghost use Rattle.law_controller_views.specs.law_label_line.Line.{Line};
-ghost use Rattle.world_model.specs.Controller.{Acted};
-ghost use Rattle.world_model.specs.World.{at_controller};
+ghost use Rattle.law_controller_views.specs.world_model.Controller.{Acted};
+ghost use Rattle.law_controller_views.specs.world_model.World.{at_controller};
 ghost use Rattle.law_controller_views.specs.law_port_views.Link.{LinkLabel};
 ghost use Rattle.law_controller_views.specs.Ends.{EndLeads};
 ghost use Rattle.law_controller_views.specs.Lifted.{Growing};

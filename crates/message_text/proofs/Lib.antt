@@ -1,2 +1,4 @@
 pub mod Answers
 pub mod Listings
+pub mod Fronts
+pub mod Rows

@@ -2,3 +2,4 @@ pub mod Fields
 pub mod Ifmp
 pub mod Gsmp
 pub mod Listing
+pub mod Kept

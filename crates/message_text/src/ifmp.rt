@@ -1,7 +1,9 @@
 //! IFMP messages as text.
 
-ghost use Rattle.std.specs.Prelude.{◌≡◌, ◌++◌, OnOk};
+ghost use Rattle.std.specs.Prelude.{◌≡◌, ◌++◌, OnOk, OnErr, codes};
 ghost use Rattle.ifmp_wire.specs.declared.message.Message.TheVariants.{Adjacency};
+ghost use Rattle.message_text.specs.Fields.{named_number, named_channel};
+ghost use Rattle.message_text.specs.Kept.{BreaksOff};
 ghost use Rattle.message_text.specs.Ifmp.{ifmp_text, hello_word, between, head_text, use_text};
 
 use crate::fields::{write_address, write_channel, write_number, write_octets};
@@ -28,7 +30,8 @@ fn write_between(
     sender: Instance,
     peer: Instance,
 ) -> Result<(), OutOfMemory>
-    ensures { OnOk result (out.new ≡ out.old ++ between word.now sender peer) }
+    ensures ok { OnOk result (out.new ≡ out.old ++ between word.now sender peer) }
+    ensures err { OnErr result (BreaksOff out.old (out.old ++ between word.now sender peer) out.new) }
 {
     out.text(word)?;
     write_number(out, " from ", u64::from(sender.0))?;
@@ -37,7 +40,8 @@ fn write_between(
 
 #[tactic(auto, unfolding(crate::specs::Ifmp::head_text))]
 fn write_head(out: &mut Text, word: &str, names: &Names) -> Result<(), OutOfMemory>
-    ensures { OnOk result (out.new ≡ out.old ++ head_text word.now names.now.sender names.now.peer names.now.number) }
+    ensures ok { OnOk result (out.new ≡ out.old ++ head_text word.now names.now.sender names.now.peer names.now.number) }
+    ensures err { OnErr result (BreaksOff out.old (out.old ++ head_text word.now names.now.sender names.now.peer names.now.number) out.new) }
 {
     write_between(out, word, names.sender, names.peer)?;
     write_number(out, " number ", u64::from(names.number))
@@ -45,7 +49,8 @@ fn write_head(out: &mut Text, word: &str, names: &Names) -> Result<(), OutOfMemo
 
 #[tactic(auto, unfolding(crate::specs::Ifmp::use_text))]
 fn write_use(out: &mut Text, label: Channel, flow: &FlowId) -> Result<(), OutOfMemory>
-    ensures { OnOk result (out.new ≡ out.old ++ use_text label flow.now) }
+    ensures ok { OnOk result (out.new ≡ out.old ++ use_text label flow.now) }
+    ensures err { OnErr result (BreaksOff out.old (out.old ++ use_text label flow.now) out.new) }
 {
     let mut identifier = [0; 16];
     let size = ipv4_packet::write_identifier(flow, &mut identifier);
@@ -54,16 +59,71 @@ fn write_use(out: &mut Text, label: Channel, flow: &FlowId) -> Result<(), OutOfM
 }
 
 fn write_hello(out: &mut Text, hello: &Hello) -> Result<(), OutOfMemory>
-    ensures { OnOk result (out.new ≡ out.old ++ ifmp_text (Adjacency hello.now)) }
+    ensures ok { OnOk result (out.new ≡ out.old ++ ifmp_text (Adjacency hello.now)) }
+    ensures err { OnErr result (BreaksOff out.old (out.old ++ ifmp_text (Adjacency hello.now)) out.new) }
 {
     write_between(out, hello_word(hello.kind), hello.sender, hello.peer)?;
     write_address(out, " identity ", hello.identity)?;
     write_number(out, " next ", u64::from(hello.next))
 }
 
+fn write_redirect(
+    out: &mut Text,
+    names: &Names,
+    lifetime: u16,
+    label: Channel,
+    flow: &FlowId,
+) -> Result<(), OutOfMemory>
+    ensures ok { OnOk result (out.new ≡ out.old ++ (head_text (codes "redirect") names.now.sender names.now.peer names.now.number ++ (named_number (codes " lifetime ") lifetime ++ use_text label flow.now))) }
+    ensures err { OnErr result (BreaksOff out.old (out.old ++ (head_text (codes "redirect") names.now.sender names.now.peer names.now.number ++ (named_number (codes " lifetime ") lifetime ++ use_text label flow.now))) out.new) }
+{
+    write_head(out, "redirect", names)?;
+    write_number(out, " lifetime ", u64::from(lifetime))?;
+    write_use(out, label, flow)
+}
+
+/// Appends a Reclaim or its acknowledgement.
+fn write_reclaim(
+    out: &mut Text,
+    word: &str,
+    names: &Names,
+    label: Channel,
+    flow: &FlowId,
+) -> Result<(), OutOfMemory>
+    ensures ok { OnOk result (out.new ≡ out.old ++ (head_text word.now names.now.sender names.now.peer names.now.number ++ use_text label flow.now)) }
+    ensures err { OnErr result (BreaksOff out.old (out.old ++ (head_text word.now names.now.sender names.now.peer names.now.number ++ use_text label flow.now)) out.new) }
+{
+    write_head(out, word, names)?;
+    write_use(out, label, flow)
+}
+
+fn write_range(
+    out: &mut Text,
+    names: &Names,
+    least: Channel,
+    greatest: Channel,
+) -> Result<(), OutOfMemory>
+    ensures ok { OnOk result (out.new ≡ out.old ++ (head_text (codes "labelrange") names.now.sender names.now.peer names.now.number ++ (named_channel (codes " least ") least ++ named_channel (codes " greatest ") greatest))) }
+    ensures err { OnErr result (BreaksOff out.old (out.old ++ (head_text (codes "labelrange") names.now.sender names.now.peer names.now.number ++ (named_channel (codes " least ") least ++ named_channel (codes " greatest ") greatest))) out.new) }
+{
+    write_head(out, "labelrange", names)?;
+    write_channel(out, " least ", least)?;
+    write_channel(out, " greatest ", greatest)
+}
+
+fn write_error(out: &mut Text, names: &Names, code: u8, label: Channel) -> Result<(), OutOfMemory>
+    ensures ok { OnOk result (out.new ≡ out.old ++ (head_text (codes "error") names.now.sender names.now.peer names.now.number ++ (named_number (codes " code ") code ++ named_channel (codes " label ") label))) }
+    ensures err { OnErr result (BreaksOff out.old (out.old ++ (head_text (codes "error") names.now.sender names.now.peer names.now.number ++ (named_number (codes " code ") code ++ named_channel (codes " label ") label))) out.new) }
+{
+    write_head(out, "error", names)?;
+    write_number(out, " code ", u64::from(code))?;
+    write_channel(out, " label ", label)
+}
+
 /// Appends the text of a message, without an end of line.
 pub fn write_ifmp(out: &mut Text, message: &Message) -> Result<(), OutOfMemory>
-    ensures { OnOk result (out.new ≡ out.old ++ ifmp_text message.now) }
+    ensures ok { OnOk result (out.new ≡ out.old ++ ifmp_text message.now) }
+    ensures err { OnErr result (BreaksOff out.old (out.old ++ ifmp_text message.now) out.new) }
 {
     let names = message.names();
     match message {
@@ -73,32 +133,16 @@ pub fn write_ifmp(out: &mut Text, message: &Message) -> Result<(), OutOfMemory>
             label,
             flow,
             ..
-        } => {
-            write_head(out, "redirect", &names)?;
-            write_number(out, " lifetime ", u64::from(*lifetime))?;
-            write_use(out, *label, flow)
-        }
-        Message::Reclaim { label, flow, .. } => {
-            write_head(out, "reclaim", &names)?;
-            write_use(out, *label, flow)
-        }
+        } => write_redirect(out, &names, *lifetime, *label, flow),
+        Message::Reclaim { label, flow, .. } => write_reclaim(out, "reclaim", &names, *label, flow),
         Message::ReclaimAck { label, flow, .. } => {
-            write_head(out, "reclaimack", &names)?;
-            write_use(out, *label, flow)
+            write_reclaim(out, "reclaimack", &names, *label, flow)
         }
         Message::LabelRange {
             least,
             greatest,
             ..
-        } => {
-            write_head(out, "labelrange", &names)?;
-            write_channel(out, " least ", *least)?;
-            write_channel(out, " greatest ", *greatest)
-        }
-        Message::Error { code, label, .. } => {
-            write_head(out, "error", &names)?;
-            write_number(out, " code ", u64::from(*code))?;
-            write_channel(out, " label ", *label)
-        }
+        } => write_range(out, &names, *least, *greatest),
+        Message::Error { code, label, .. } => write_error(out, &names, *code, *label),
     }
 }

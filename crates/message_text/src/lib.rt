@@ -1,6 +1,7 @@
 //! The text of IFMP and GSMP messages (RFC 1953, RFC 1987), as a packet analyser shows them, the
 //! names of the refusals, and what the hexadecimal lines of an input are decoded to. The texts are
-//! functions of the message in `specs/`.
+//! functions of the message in `specs/`. Where memory is wanting, what stood there is still in front,
+//! and behind it stands a front of the message's text, or nothing.
 #![tactic(auto)]
 
 mod fields;

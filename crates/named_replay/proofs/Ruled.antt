@@ -8,7 +8,7 @@ use Rattle.script_model.specs.declared.refusal.DocumentRefusal.{DocumentRefusal}
 use Rattle.script_model.specs.declared.refusal.Refused.{Refused}
 use Rattle.script_model.specs.Documents.{Lines, policy_with, rules_in, rules_read, rule_refused, script_by, script_in}
 use Rattle.network_run.specs.declared.stop.Stop.{Stop}
-use Rattle.report_end.specs.Ending.{EndsAs}
+use Rattle.document_replay.specs.report_end.Ending.{EndsAs}
 use Rattle.document_replay.specs.Lines.{report_by, script_behind_rules}
 
 -- the rules, where there are so many lines of them

@@ -3,7 +3,7 @@
 ghost use Rattle.std.specs.Prelude.{◌≡◌, is_some, IfOk, Ok, OnOk};
 ghost use Rattle.lab_io.specs.Fault.{count_after};
 ghost use Rattle.network_run.specs.Telling.{is_failed};
-ghost use Rattle.report_end.specs.Ending.{EndsAs};
+ghost use Rattle.document_replay.specs.report_end.Ending.{EndsAs};
 ghost use Rattle.script_model.specs.Documents.{document_rules, document_script, policy_with, rules_in, rules_read, script_in};
 ghost use Rattle.script_model.specs.Drill.{drill_script};
 ghost use Rattle.world_model.specs.Topology.{policy_of};

@@ -7,9 +7,9 @@ use Rattle.net_types.specs.declared.node.NodeId.{NodeId}
 use Rattle.net_types.specs.declared.node.PortNo.{PortNo}
 use Rattle.net_types.specs.declared.node.Place.{Place}
 use Rattle.net_types.specs.declared.node.Place.TheVariants.{Down, Up, Out}
-use Rattle.atm_cells.specs.declared.cell.Cell.{Cell}
-use Rattle.crossbar_model.specs.Channels.{ArePorts}
-use Rattle.crossbar_model.specs.Crossbar.{Crossbar, queue_of}
+use Rattle.switch_model.specs.atm_cells.declared.cell.Cell.{Cell}
+use Rattle.switch_model.specs.crossbar_model.Channels.{ArePorts}
+use Rattle.switch_model.specs.crossbar_model.Crossbar.{Crossbar, queue_of}
 use Rattle.switch_model.specs.Switch.{control_port}
 use Rattle.controller_model.specs.Controller.{ports_of}
 use Rattle.network_model.specs.World.{World, Site, site_at, with_site}

@@ -1,8 +1,8 @@
 -- A run: the worlds from the opening on, each with the records of its event
 
 use Rattle.std.specs.Prelude.{List, [], ◌∷◌, ◌++◌, flat_map, map}
-use Rattle.link_model.specs.declared.record.Record.{Record}
-use Rattle.port_model.specs.Setup.{Policy}
+use Rattle.switch_model.specs.link_model.declared.record.Record.{Record}
+use Rattle.controller_model.specs.port_model.Setup.{Policy}
 use Rattle.network_model.specs.declared.event.Event.{Event}
 use Rattle.network_model.specs.declared.event.Event.TheVariants.{Carry, Tick, TickSwitch}
 use Rattle.network_model.specs.Topology.{Topology}

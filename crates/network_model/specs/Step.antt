@@ -6,12 +6,12 @@ use Rattle.net_types.specs.declared.node.Place.{Place}
 use Rattle.net_types.specs.declared.node.Place.TheVariants.{Down, Up, Out}
 use Rattle.net_types.specs.declared.channel.Channel.{Channel}
 use Rattle.net_types.specs.declared.number.Mark.{Mark}
-use Rattle.atm_cells.specs.declared.cell.Cell.{Cell}
-use Rattle.link_model.specs.declared.record.Record.{Record}
-use Rattle.link_model.specs.declared.record.Record.TheVariants.{Refused, Loss, Forged}
-use Rattle.link_model.specs.declared.record.Refusal.{Refusal}
-use Rattle.link_model.specs.declared.record.Cause.TheVariants.{Lost}
-use Rattle.link_model.specs.Notes.{noted}
+use Rattle.switch_model.specs.atm_cells.declared.cell.Cell.{Cell}
+use Rattle.switch_model.specs.link_model.declared.record.Record.{Record}
+use Rattle.switch_model.specs.link_model.declared.record.Record.TheVariants.{Refused, Loss, Forged}
+use Rattle.switch_model.specs.link_model.declared.record.Refusal.{Refusal}
+use Rattle.switch_model.specs.link_model.declared.record.Cause.TheVariants.{Lost}
+use Rattle.switch_model.specs.link_model.Notes.{noted}
 use Rattle.switch_model.specs.Switch.{control_port}
 use Rattle.switch_model.specs.Conduct as switch
 use Rattle.net_types.specs.Number.{next_control, with_control}

@@ -7,8 +7,8 @@ use Rattle.net_types.specs.declared.prefix.Addr.{Addr}
 use Rattle.net_types.specs.declared.node.NodeId.{NodeId}
 use Rattle.net_types.specs.declared.node.PortNo.{PortNo}
 use Rattle.ipv4_forward.specs.declared.table.Route.{Route}
-use Rattle.port_model.specs.declared.timers.Timers.{Timers}
-use Rattle.port_model.specs.Setup.{Policy}
+use Rattle.controller_model.specs.port_model.declared.timers.Timers.{Timers}
+use Rattle.controller_model.specs.port_model.Setup.{Policy}
 use Rattle.controller_model.specs.declared.range.PortRange.{PortRange}
 use Rattle.network_model.specs.declared.link.LinkEnd.{LinkEnd}
 

@@ -4,12 +4,12 @@ use Rattle.std.specs.Prelude.{ℕ, suc, min, ◌+◌, List, [], ◌∷◌, ◌++
 use Rattle.std.specs.List.{sum_by}
 use Rattle.net_types.specs.declared.node.NodeId.{NodeId}
 use Rattle.net_types.specs.Number.{GivenOut, next_instance, with_instance}
-use Rattle.link_model.specs.declared.record.Record.{Record}
-use Rattle.link_model.specs.declared.record.Record.TheVariants.{Delivered, Dropped, Refused, Loss, Chance}
-use Rattle.link_model.specs.Notes.{Journal}
-use Rattle.keyed_lists.specs.Keyed.{at, put}
-use Rattle.port_model.specs.Setup.{Policy}
-use Rattle.port_model.specs.Redirection.{greatest_tally}
+use Rattle.switch_model.specs.link_model.declared.record.Record.{Record}
+use Rattle.switch_model.specs.link_model.declared.record.Record.TheVariants.{Delivered, Dropped, Refused, Loss, Chance}
+use Rattle.switch_model.specs.link_model.Notes.{Journal}
+use Rattle.controller_model.specs.keyed_lists.Keyed.{at, put}
+use Rattle.controller_model.specs.port_model.Setup.{Policy}
+use Rattle.controller_model.specs.port_model.Redirection.{greatest_tally}
 use Rattle.switch_model.specs.Switch as switches
 use Rattle.switch_model.specs.Switch.{Switch}
 use Rattle.controller_model.specs.Controller as controllers

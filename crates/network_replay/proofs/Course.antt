@@ -7,13 +7,13 @@ use Rattle.ipv4_forward.specs.Change.{changed}
 use Rattle.ipv4_forward.specs.declared.change.RouteChange.{RouteChange}
 use Rattle.link_model.specs.Notes.{Journal}
 use Rattle.port_model.specs.Setup.{Policy}
-use Rattle.world_model.specs.Controller.{Controller}
-use Rattle.world_model.specs.network_model.declared.event.Event.{Event}
-use Rattle.world_model.specs.network_model.declared.event.Event.TheVariants.{Inject, Carry, Lose, Tick, TickSwitch, Restart, RestartSwitch, Forge, Route as RouteComes}
-use Rattle.world_model.specs.Conditions.{IsNode, IsTopology}
-use Rattle.world_model.specs.Run.{put_away, round, tick_of_all, world_after}
-use Rattle.world_model.specs.Topology.{Topology, policy_of}
-use Rattle.world_model.specs.World.{World, opened}
+use Rattle.script_model.specs.world_model.Controller.{Controller}
+use Rattle.script_model.specs.world_model.network_model.declared.event.Event.{Event}
+use Rattle.script_model.specs.world_model.network_model.declared.event.Event.TheVariants.{Inject, Carry, Lose, Tick, TickSwitch, Restart, RestartSwitch, Forge, Route as RouteComes}
+use Rattle.script_model.specs.world_model.Conditions.{IsNode, IsTopology}
+use Rattle.script_model.specs.world_model.Run.{put_away, round, tick_of_all, world_after}
+use Rattle.script_model.specs.world_model.Topology.{Topology, policy_of}
+use Rattle.script_model.specs.world_model.World.{World, opened}
 use Rattle.script_model.specs.declared.line.Line.{Line}
 use Rattle.script_model.specs.declared.line.Line.TheVariants.{Blank, Topology as TopologyIs, Event as EventComes, TickAll, Run}
 use Rattle.script_model.specs.declared.refusal.LineRefusal.{LineRefusal}
@@ -22,17 +22,17 @@ use Rattle.script_model.specs.Sayable.{IsSayable}
 use Rattle.script_model.specs.Script.{events_of, opened_of}
 use Rattle.script_model.specs.State.{ScriptState, opening_tables, table_in, tables_after, ticks_of_event}
 use Rattle.world.specs.declared.world.World.{World as Network}
-use Rattle.law_world_pace.specs.Running.{AreNumbered}
+use Rattle.world.specs.law_world_pace.Running.{AreNumbered}
 use Rattle.world.specs.Network.{no_notes, sites_of, world_of}
 use Rattle.world.specs.Running.{Runs}
-use Rattle.law_world_pace.proofs.Running.{are_numbered}
+use Rattle.world.proofs.law_world_pace.Running.{are_numbered}
 use Rattle.network_run.specs.declared.stop.Stop.{Stop}
 use Rattle.network_run.specs.Telling.{is_failed}
 use Rattle.network_run.proofs.Repeated.{events_after, world_then}
 use Rattle.network_replay.specs.declared.replay.Replay.{Replay}
 use Rattle.script_text.specs.Counts.{counted_up_to}
 use Rattle.script_text.specs.Taking.{IsAfter, Takes}
-use Rattle.telling_model.proofs.Told.{opened_notes}
+use Rattle.network_run.proofs.telling_model.Told.{opened_notes}
 use Rattle.network_replay.specs.Along.{CanTake, HasBegun, HasNetwork, IsGoing, IsOpen, IsReady, IsUnopened}
 use Rattle.script_text.specs.declared.fault.ReadFault.{ReadFault}
 use Rattle.script_text.specs.declared.fault.ReadFault.TheVariants as read
@@ -73,7 +73,7 @@ module _ (state : ScriptState) (w : World) (numbered : AreNumbered 1 w.sites) (s
   one_stays : (event : Event) → Rattle.network_replay.proofs.Tables.IsNoChange event → tables_of (world_after state.topology w (event ∷ [])) ≡ state.tables
   one_stays event is = (next_stays state.topology w event numbered is).tables ∙ same
 
-  event_next : (event : Event) → Rattle.world_model.specs.Conditions.IsEvent state.topology w event → tables_of (world_after state.topology w (event ∷ [])) ≡ tables_after state.tables event
+  event_next : (event : Event) → Rattle.script_model.specs.world_model.Conditions.IsEvent state.topology w event → tables_of (world_after state.topology w (event ∷ [])) ≡ tables_after state.tables event
   event_next (Inject node packet) is = one_stays (Inject node packet) tt
   event_next (Carry place) is = one_stays (Carry place) tt
   event_next (Lose place) is = one_stays (Lose place) tt

@@ -18,20 +18,20 @@ use Rattle.ipv4_forward.specs.declared.table.Next.{Next}
 use Rattle.ipv4_forward.specs.declared.table.Next.TheVariants.{Local, Via}
 use Rattle.ipv4_forward.specs.declared.table.Route.{Route}
 use Rattle.keyed_lists.specs.Keyed.{at}
-use Rattle.world_model.specs.network_model.declared.event.Event.{Event}
-use Rattle.world_model.specs.network_model.declared.event.Event.TheVariants.{Inject, Carry, Lose, Tick, TickSwitch, Restart, RestartSwitch, Forge, Route as RouteComes}
-use Rattle.world_model.specs.network_model.declared.refusal.EventRefusal.{EventRefusal}
-use Rattle.world_model.specs.Conditions.{IsAccepted, IsEvent, IsLinkedChange, IsNode, IsPlace}
-use Rattle.world_model.specs.Events.{change_refusal, if_linked, next_refusal, or_else, place_refusal}
-use Rattle.world_model.specs.Lines.{is_linked, is_named, node_named}
-use Rattle.world_model.specs.Topology.{Topology, new_node}
-use Rattle.world_model.specs.World.{World, Site, controller_at, site_key}
-use Rattle.world_model.proofs.Lists.{by_eq}
+use Rattle.script_model.specs.world_model.network_model.declared.event.Event.{Event}
+use Rattle.script_model.specs.world_model.network_model.declared.event.Event.TheVariants.{Inject, Carry, Lose, Tick, TickSwitch, Restart, RestartSwitch, Forge, Route as RouteComes}
+use Rattle.script_model.specs.world_model.network_model.declared.refusal.EventRefusal.{EventRefusal}
+use Rattle.script_model.specs.world_model.Conditions.{IsAccepted, IsEvent, IsLinkedChange, IsNode, IsPlace}
+use Rattle.script_model.specs.world_model.Events.{change_refusal, if_linked, next_refusal, or_else, place_refusal}
+use Rattle.script_model.specs.world_model.Lines.{is_linked, is_named, node_named}
+use Rattle.script_model.specs.world_model.Topology.{Topology, new_node}
+use Rattle.script_model.specs.world_model.World.{World, Site, controller_at, site_key}
+use Rattle.script_model.proofs.world_model.Lists.{by_eq}
 use Rattle.script_model.specs.declared.line.Line.TheVariants.{Event as EventComes}
 use Rattle.script_model.specs.Sayable.{IsQueue, IsSayable}
 use Rattle.script_model.specs.State.{ScriptState, table_in}
 use Rattle.script_model.specs.Texts.{name_of}
-use Rattle.law_world_pace.specs.Running.{AreNumbered}
+use Rattle.world.specs.law_world_pace.Running.{AreNumbered}
 use Rattle.network_replay.proofs.Tables.{site_table, tables_of}
 
 -- *A name* is a node's
@@ -49,7 +49,7 @@ node_there topology name node e = by (position (is_named name) topology.nodes) r
 linked : (topology : Topology) (node : NodeId) (port : PortNo) → if_linked topology node port ≡ None → is_linked topology node port ≡ true
 linked topology node port e = by (is_linked topology node port) e
   where
-    by : (b : Bool) → (if b then None else Some Rattle.world_model.specs.network_model.declared.refusal.EventRefusal.TheVariants.NoLink) ≡ None → b ≡ true
+    by : (b : Bool) → (if b then None else Some Rattle.script_model.specs.world_model.network_model.declared.refusal.EventRefusal.TheVariants.NoLink) ≡ None → b ≡ true
     by true h = refl
     by false h = absurd (cc h)
 

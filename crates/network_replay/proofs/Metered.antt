@@ -4,11 +4,11 @@ use Rattle.std.proofs.Common.{◌≡◌, ◌⊎◌, inl, inr, ℕ, ◌+◌, true
 use Rattle.std.specs.Result.{IsErrAnd}
 use Rattle.link_model.specs.Notes.{Journal}
 use Rattle.port_model.specs.Setup.{Policy}
-use Rattle.world_model.specs.Controller.{Controller}
-use Rattle.world_model.specs.network_model.declared.event.Event.{Event}
-use Rattle.world_model.specs.Run.{next, world_after}
-use Rattle.world_model.specs.Topology.{Topology}
-use Rattle.world_model.specs.World.{World, opened}
+use Rattle.script_model.specs.world_model.Controller.{Controller}
+use Rattle.script_model.specs.world_model.network_model.declared.event.Event.{Event}
+use Rattle.script_model.specs.world_model.Run.{next, world_after}
+use Rattle.script_model.specs.world_model.Topology.{Topology}
+use Rattle.script_model.specs.world_model.World.{World, opened}
 use Rattle.script_model.specs.declared.line.Line.{Line}
 use Rattle.script_model.specs.declared.line.Line.TheVariants.{Blank, Topology as TopologyIs, Event as EventComes, TickAll, Run}
 use Rattle.script_model.specs.declared.refusal.LineRefusal.{LineRefusal}
@@ -18,7 +18,7 @@ use Rattle.script_model.specs.Script.{Script, events_of, led_by, number_of, scri
 use Rattle.script_model.specs.State.{ScriptState, nothing_read}
 use Rattle.script_text.specs.declared.fault.ReadFault.{ReadFault}
 use Rattle.script_text.specs.declared.fault.ReadFault.TheVariants as read
-use Rattle.telling_model.specs.Placed.{Placed, events_in, placed_events}
+use Rattle.network_run.specs.telling_model.Placed.{Placed, events_in, placed_events}
 use Rattle.world.specs.declared.counts.Meter.{Meter}
 use Rattle.world.specs.declared.world.World.{World as Network}
 use Rattle.world.specs.Counted.{reading_of}

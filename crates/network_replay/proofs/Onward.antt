@@ -7,11 +7,11 @@ use Rattle.std.proofs.lemmas.Bool.Decides.{nat_tests}
 use Rattle.link_model.specs.Notes.{Journal}
 use Rattle.lab_io.specs.Report.{IsPut, Writer}
 use Rattle.port_model.specs.Setup.{Policy}
-use Rattle.world_model.specs.Controller.{Controller}
-use Rattle.world_model.specs.network_model.declared.event.Event.{Event}
-use Rattle.world_model.specs.Run.{put_away, world_after}
-use Rattle.world_model.specs.Topology.{Topology}
-use Rattle.world_model.specs.World.{World, opened}
+use Rattle.script_model.specs.world_model.Controller.{Controller}
+use Rattle.script_model.specs.world_model.network_model.declared.event.Event.{Event}
+use Rattle.script_model.specs.world_model.Run.{put_away, world_after}
+use Rattle.script_model.specs.world_model.Topology.{Topology}
+use Rattle.script_model.specs.world_model.World.{World, opened}
 use Rattle.script_model.specs.declared.line.Line.{Line}
 use Rattle.script_model.specs.declared.line.Line.TheVariants.{Blank, Topology as TopologyIs, Event as EventComes, TickAll, Run}
 use Rattle.script_model.specs.declared.refusal.LineRefusal.{LineRefusal}
@@ -23,9 +23,9 @@ use Rattle.script_model.specs.Script.{Script, ended, events_of, led_by, number_o
 use Rattle.script_model.specs.State.{ScriptState, nothing_read, opening_tables}
 use Rattle.script_text.specs.declared.fault.ReadFault.{ReadFault}
 use Rattle.script_text.specs.declared.fault.ReadFault.TheVariants as read
-use Rattle.telling_model.specs.Placed.{Placed, events_in, placed_events, placed_from}
-use Rattle.telling_model.specs.Tale.{Tale, Telling, body, end_of, told, told_of, unnoted}
-use Rattle.telling_model.proofs.Told.{octets_append, state_append, told_away}
+use Rattle.network_run.specs.telling_model.Placed.{Placed, events_in, placed_events, placed_from}
+use Rattle.network_run.specs.telling_model.Tale.{Tale, Telling, body, end_of, told, told_of, unnoted}
+use Rattle.network_run.proofs.telling_model.Told.{octets_append, state_append, told_away}
 use Rattle.world.specs.declared.counts.Meter.{Meter}
 use Rattle.world.specs.declared.world.World.{World as Network}
 use Rattle.world.specs.Network.{no_notes, world_of}
@@ -222,8 +222,8 @@ module _ {S : Type 0} (tale : Tale S) (choice : Topology → Policy) where
             → x ≡ record r { world = None } → u ≡ x.state.topology → number ≡ x.state.lines → new ≡ record x { notes = notes; world = Some now }
             → IsPut told.writer mid.writer written between (opening_told tale choice t r.world) → known mid.teller ≡ opening_known tale choice t r.world (known told.teller)
             → OnOk result (world_of seen now notes ≡ put_away (world_after u (world_of seen n x.notes) (events_of u said))) → OnOk result (Runs seen u now)
-            → Puts result mid.writer later.writer between wrote (Rattle.telling_model.specs.Tale.told tale (known mid.teller) u (world_of seen n x.notes) (placed_events number (events_of u said))).octets
-            → OnOk result (known later.teller ≡ (Rattle.telling_model.specs.Tale.told tale (known mid.teller) u (world_of seen n x.notes) (placed_events number (events_of u said))).state)
+            → Puts result mid.writer later.writer between wrote (Rattle.network_run.specs.telling_model.Tale.told tale (known mid.teller) u (world_of seen n x.notes) (placed_events number (events_of u said))).octets
+            → OnOk result (known later.teller ≡ (Rattle.network_run.specs.telling_model.Tale.told tale (known mid.teller) u (world_of seen n x.notes) (placed_events number (events_of u said))).state)
             → OnOk result (after ≡ meter_behind meter u (world_of seen n x.notes) (events_of u said))
             → OnErr result (IsMeterIn meter u (world_of seen n x.notes) (events_of u said) after)
             → HasStepped seen known tale choice state said placed result r new told later written wrote meter after
@@ -235,15 +235,15 @@ module _ {S : Type 0} (tale : Tale S) (choice : Topology → Policy) where
             let k : known mid.teller ≡ (told_to t placed).state =
             opened_known ∙ ap (λ (v : Topology). opening_known tale choice v r.world (known told.teller)) same_topology ∙ out_known seen state r.notes r.world placed (known told.teller) h knows
             ∙ ap (λ (v : Topology). (told_to v placed).state) (sym same_topology) in
-            let tells : Rattle.telling_model.specs.Tale.told tale (known mid.teller) u (world_of seen n x.notes) (placed_events number (events_of u said)) ≡ told_from t placed more =
-            (λ i. Rattle.telling_model.specs.Tale.told tale (k i) (a i) (b i) (placed_events (c i) (d i))) ∙ told_away tale t (told_to t placed).state (world_behind choice t (events_in placed)) more in
+            let tells : Rattle.network_run.specs.telling_model.Tale.told tale (known mid.teller) u (world_of seen n x.notes) (placed_events number (events_of u said)) ≡ told_from t placed more =
+            (λ i. Rattle.network_run.specs.telling_model.Tale.told tale (k i) (a i) (b i) (placed_events (c i) (d i))) ∙ told_away tale t (told_to t placed).state (world_behind choice t (events_in placed)) more in
             record {
               network = network_of seen choice state line said (events_in placed) result r x new n now u notes is was can o rest named kept made runs;
               octets = piece;
               onward = piece_onward;
               put = puts_then result told.writer mid.writer later.writer written between wrote (opening_told tale choice t r.world) (told_from t placed more).octets opened_put
                   (subst (λ (one : Telling S). Puts result mid.writer later.writer between wrote one.octets) tells put);
-              knows = knows_moved result r.state.event_lines (known later.teller) (Rattle.telling_model.specs.Tale.told tale (known mid.teller) u (world_of seen n x.notes) (placed_events number (events_of u said))).state
+              knows = knows_moved result r.state.event_lines (known later.teller) (Rattle.network_run.specs.telling_model.Tale.told tale (known mid.teller) u (world_of seen n x.notes) (placed_events number (events_of u said))).state
                   (told_to t (placed ++ more)).state (ap (λ (one : Telling S). one.state) tells ∙ sym (known_more t placed more)) knew;
               meter_is = moved result after (meter_behind meter u (world_of seen n x.notes) (events_of u said)) (meter_behind meter t (world_behind choice t (events_in placed)) (events_of state.topology said))
                   ((λ i. meter_behind meter (a i) (b i) (d i)) ∙ meter_then meter t (opening t) (put_away (world_behind choice t (events_in placed))) (events_in placed) (events_of state.topology said) refl) read;

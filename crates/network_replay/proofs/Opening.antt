@@ -9,15 +9,15 @@ use Rattle.net_types.specs.declared.node.PortNo.{PortNo}
 use Rattle.net_types.specs.declared.node.Place.{Place}
 use Rattle.net_types.specs.declared.node.Place.TheVariants.{Out}
 use Rattle.port_model.specs.Setup.{Policy}
-use Rattle.world_model.specs.controller_model.declared.range.PortRange.{PortRange}
-use Rattle.world_model.specs.network_model.declared.event.Event.{Event}
-use Rattle.world_model.specs.network_model.declared.event.Event.TheVariants.{Carry, Tick, TickSwitch}
-use Rattle.world_model.specs.Places.{places_of}
-use Rattle.world_model.specs.Run.{round, switch_tick_of, tick_of, tick_of_all}
-use Rattle.world_model.specs.Topology as topologies
-use Rattle.world_model.specs.Topology.{Topology, Node, new_node, policy_of, ranges_of}
-use Rattle.world_model.specs.World.{World, Site, empty_world, opened, opened_site, opens_each, with_opened}
-use Rattle.law_world_pace.specs.Running.{AreRunning, IsRunning, IsRunningSite, numbered}
+use Rattle.script_model.specs.world_model.controller_model.declared.range.PortRange.{PortRange}
+use Rattle.script_model.specs.world_model.network_model.declared.event.Event.{Event}
+use Rattle.script_model.specs.world_model.network_model.declared.event.Event.TheVariants.{Carry, Tick, TickSwitch}
+use Rattle.script_model.specs.world_model.Places.{places_of}
+use Rattle.script_model.specs.world_model.Run.{round, switch_tick_of, tick_of, tick_of_all}
+use Rattle.script_model.specs.world_model.Topology as topologies
+use Rattle.script_model.specs.world_model.Topology.{Topology, Node, new_node, policy_of, ranges_of}
+use Rattle.script_model.specs.world_model.World.{World, Site, empty_world, opened, opened_site, opens_each, with_opened}
+use Rattle.world.specs.law_world_pace.Running.{AreRunning, IsRunning, IsRunningSite, numbered}
 use Rattle.script_model.specs.declared.line.Line.TheVariants.{TickAll, Run}
 use Rattle.script_model.specs.Script.{events_of, opened_of}
 use Rattle.world.proofs.Opened.{few_ranges, ports_of_ranges, runs_more, site_runs}

@@ -17,30 +17,30 @@ use Rattle.link_model.specs.declared.record.Record.TheVariants.{Forged}
 use Rattle.link_model.specs.declared.record.Refusal.{Refusal}
 use Rattle.keyed_lists.specs.Keyed.{at, put}
 use Rattle.port_model.specs.Setup.{Policy}
-use Rattle.world_model.specs.Switch as switches
-use Rattle.world_model.specs.Switch.{control_port}
-use Rattle.world_model.specs.Conduct as switch
-use Rattle.world_model.specs.Controller as controllers
-use Rattle.world_model.specs.Controller.{Controller}
-use Rattle.world_model.specs.Sending.{sends}
-use Rattle.world_model.specs.Packets.{inject_refusal, injected}
-use Rattle.world_model.specs.Cells as controller
-use Rattle.world_model.specs.Ticks.{ticks}
-use Rattle.world_model.specs.Resets.{node_restarts}
-use Rattle.world_model.specs.Changes.{change_comes}
-use Rattle.world_model.specs.network_model.declared.event.Event.{Event}
-use Rattle.world_model.specs.network_model.declared.event.Event.TheVariants.{Inject, Carry, Lose, Tick, TickSwitch, Restart, RestartSwitch, Forge, Route as RouteComes}
-use Rattle.world_model.specs.network_model.declared.link.LinkEnd.{LinkEnd}
-use Rattle.world_model.specs.Conditions.{table_to_be}
-use Rattle.world_model.specs.Places.{place_node, places, queue_at, with_queue, with_queue_in, with_queue_of}
-use Rattle.world_model.specs.Run.{next, round, switch_tick_of, tick_of, tick_of_all, world_after}
-use Rattle.world_model.specs.Step.{acts, arrives, arrives_at, carries_head, forges, injects, injects_by, loses_head, note}
-use Rattle.world_model.specs.Topology.{Topology, Node, peer_of}
-use Rattle.world_model.specs.World.{World, Site, at_controller, at_switch, controller_acts, empty_world, opened, opened_site, opens_each, site_at, site_key, switch_acts, with_opened}
-use Rattle.world_model.proofs.Lists.{at_key, by_eq}
-use Rattle.law_actor_pace.proofs.Paces.{Follows, Paces, sends_paces}
-use Rattle.law_actor_pace.proofs.Controllers.{cell_follows, change_changes, injected_paces, restarts_paces, ticks_paces}
-use Rattle.law_world_pace.specs.Running.{AreNumbered}
+use Rattle.script_model.specs.world_model.Switch as switches
+use Rattle.script_model.specs.world_model.Switch.{control_port}
+use Rattle.script_model.specs.world_model.Conduct as switch
+use Rattle.script_model.specs.world_model.Controller as controllers
+use Rattle.script_model.specs.world_model.Controller.{Controller}
+use Rattle.script_model.specs.world_model.Sending.{sends}
+use Rattle.script_model.specs.world_model.Packets.{inject_refusal, injected}
+use Rattle.script_model.specs.world_model.Cells as controller
+use Rattle.script_model.specs.world_model.Ticks.{ticks}
+use Rattle.script_model.specs.world_model.Resets.{node_restarts}
+use Rattle.script_model.specs.world_model.Changes.{change_comes}
+use Rattle.script_model.specs.world_model.network_model.declared.event.Event.{Event}
+use Rattle.script_model.specs.world_model.network_model.declared.event.Event.TheVariants.{Inject, Carry, Lose, Tick, TickSwitch, Restart, RestartSwitch, Forge, Route as RouteComes}
+use Rattle.script_model.specs.world_model.network_model.declared.link.LinkEnd.{LinkEnd}
+use Rattle.script_model.specs.world_model.Conditions.{table_to_be}
+use Rattle.script_model.specs.world_model.Places.{place_node, places, queue_at, with_queue, with_queue_in, with_queue_of}
+use Rattle.script_model.specs.world_model.Run.{next, round, switch_tick_of, tick_of, tick_of_all, world_after}
+use Rattle.script_model.specs.world_model.Step.{acts, arrives, arrives_at, carries_head, forges, injects, injects_by, loses_head, note}
+use Rattle.script_model.specs.world_model.Topology.{Topology, Node, peer_of}
+use Rattle.script_model.specs.world_model.World.{World, Site, at_controller, at_switch, controller_acts, empty_world, opened, opened_site, opens_each, site_at, site_key, switch_acts, with_opened}
+use Rattle.script_model.proofs.world_model.Lists.{at_key, by_eq}
+use Rattle.world.proofs.law_actor_pace.Paces.{Follows, Paces, sends_paces}
+use Rattle.world.proofs.law_actor_pace.Controllers.{cell_follows, change_changes, injected_paces, restarts_paces, ticks_paces}
+use Rattle.world.specs.law_world_pace.Running.{AreNumbered}
 
 abbrev pub site_table : Site → List Route
 site_table site = table_to_be site.controller
@@ -241,10 +241,10 @@ module _ (t : Topology) (w : World) (h : AreNumbered 1 w.sites) where
 
 -- *An event*, and some
 pub next_stays : (t : Topology) (w : World) (e : Event) → AreNumbered 1 w.sites → IsNoChange e → Charts w (next t w e)
-next_stays t w e h is = (let s = acts_stay t (Rattle.world_model.specs.Run.put_away w) h e is in record { numbered = s.numbered; tables = s.tables })
+next_stays t w e h is = (let s = acts_stay t (Rattle.script_model.specs.world_model.Run.put_away w) h e is in record { numbered = s.numbered; tables = s.tables })
 
 pub next_changes : (t : Topology) (w : World) (node : NodeId) (change : RouteChange) → (h : AreNumbered 1 w.sites) → Changes w h node change (next t w (RouteComes node change))
-next_changes t w node change h = (let s = route_changes (Rattle.world_model.specs.Run.put_away w) h node change in record { numbered = s.numbered; tables = s.tables })
+next_changes t w node change h = (let s = route_changes (Rattle.script_model.specs.world_model.Run.put_away w) h node change in record { numbered = s.numbered; tables = s.tables })
 
 abbrev pub AreNoChanges : List Event → Type 0
 AreNoChanges [] = Unit {0}

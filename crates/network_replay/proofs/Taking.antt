@@ -4,9 +4,9 @@ use Rattle.std.proofs.Common.{◌≡◌, ℕ, ◌+◌, true, false, List, [], �
 use Rattle.std.specs.Prelude.{◌<◌, is_ok}
 use Rattle.std.proofs.lemmas.Bool.Decides.{nat_tests}
 use Rattle.std.proofs.lemmas.List.Sums.{sum_by-append, sum_by-cons}
-use Rattle.world_model.specs.network_model.declared.event.Event.{Event}
-use Rattle.world_model.specs.network_model.declared.line.TopologyLine.{TopologyLine}
-use Rattle.world_model.specs.network_model.declared.line.TopologyLine.TheVariants as lines
+use Rattle.script_model.specs.world_model.network_model.declared.event.Event.{Event}
+use Rattle.script_model.specs.world_model.network_model.declared.line.TopologyLine.{TopologyLine}
+use Rattle.script_model.specs.world_model.network_model.declared.line.TopologyLine.TheVariants as lines
 use Rattle.script_model.specs.declared.line.Line.{Line}
 use Rattle.script_model.specs.declared.line.Line.TheVariants.{Blank, Topology as TopologyIs, Event as EventComes, TickAll, Run}
 use Rattle.script_model.specs.declared.refusal.LineRefusal.{LineRefusal}
@@ -18,8 +18,8 @@ use Rattle.script_model.specs.Script.{Script, ended, events_of, led_by, number_o
 use Rattle.script_model.specs.State.{ScriptState, nothing_read}
 use Rattle.script_text.proofs.Sayings.{line_is_sayable, string_is_sayable}
 use Rattle.script_text.specs.Counts.{counted_up_to}
-use Rattle.telling_model.specs.Placed.{Placed, events_in, placed_by, placed_events, placed_from}
-use Rattle.telling_model.proofs.Told.{events_append, events_placed}
+use Rattle.network_run.specs.telling_model.Placed.{Placed, events_in, placed_by, placed_events, placed_from}
+use Rattle.network_run.proofs.telling_model.Told.{events_append, events_placed}
 use Rattle.script_text.specs.Taking.{IsAfter, Takes}
 use Rattle.script_text.specs.declared.fault.ReadFault.{ReadFault}
 use Rattle.script_text.specs.declared.fault.ReadFault.TheVariants as read

@@ -5,12 +5,12 @@ use Rattle.std.specs.List.{sum_by}
 use Rattle.link_model.specs.Notes.{Journal}
 use Rattle.lab_io.specs.Report.{IsPut, Writer}
 use Rattle.port_model.specs.Setup.{Policy}
-use Rattle.world_model.specs.Controller.{Controller}
-use Rattle.world_model.specs.network_model.declared.event.Event.{Event}
-use Rattle.world_model.specs.Conditions.{table_to_be}
-use Rattle.world_model.specs.Run.{put_away, world_after}
-use Rattle.world_model.specs.Topology.{Topology}
-use Rattle.world_model.specs.World.{Site, World, opened}
+use Rattle.script_model.specs.world_model.Controller.{Controller}
+use Rattle.script_model.specs.world_model.network_model.declared.event.Event.{Event}
+use Rattle.script_model.specs.world_model.Conditions.{table_to_be}
+use Rattle.script_model.specs.world_model.Run.{put_away, world_after}
+use Rattle.script_model.specs.world_model.Topology.{Topology}
+use Rattle.script_model.specs.world_model.World.{Site, World, opened}
 use Rattle.script_model.specs.declared.line.Line.{Line}
 use Rattle.script_model.specs.declared.refusal.LineRefusal.{LineRefusal}
 use Rattle.script_model.specs.declared.refusal.Refused.{Refused}
@@ -20,8 +20,8 @@ use Rattle.script_model.specs.Reading.{state_after}
 use Rattle.script_model.specs.State.{ScriptState, nothing_read, opening_tables}
 use Rattle.script_text.specs.declared.fault.ReadFault.{ReadFault}
 use Rattle.script_text.specs.declared.fault.ReadFault.TheVariants as read
-use Rattle.telling_model.specs.Placed.{Placed, events_in, placed_events, placed_from}
-use Rattle.telling_model.specs.Tale.{Tale, body, end_of, told_of}
+use Rattle.network_run.specs.telling_model.Placed.{Placed, events_in, placed_events, placed_from}
+use Rattle.network_run.specs.telling_model.Tale.{Tale, body, end_of, told_of}
 use Rattle.world.specs.declared.counts.Meter.{Meter}
 use Rattle.world.specs.declared.world.World.{World as Network}
 use Rattle.world.specs.Network.{no_notes, sites_of, world_of}

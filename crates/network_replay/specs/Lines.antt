@@ -1,9 +1,9 @@
 -- What a line of events needs of a network. No claim needs this file.
 
 use Rattle.std.specs.Prelude.{◌≡◌, ◌+◌, ℕ, Bool, true, false, List, length, Option, Some, Result, Ok, Err}
-use Rattle.world_model.specs.Conditions.{IsEvent}
-use Rattle.world_model.specs.Topology.{Topology}
-use Rattle.world_model.specs.World.{World}
+use Rattle.script_model.specs.world_model.Conditions.{IsEvent}
+use Rattle.script_model.specs.world_model.Topology.{Topology}
+use Rattle.script_model.specs.world_model.World.{World}
 use Rattle.script_model.specs.declared.line.Line.{Line}
 use Rattle.script_model.specs.declared.refusal.Refused.{Refused}
 use Rattle.script_model.specs.declared.refusal.Refused.TheVariants.{Line as LineIs}

@@ -4,11 +4,11 @@ ghost use Rattle.std.specs.Prelude.{◌≡◌, ◌≤◌, ◌+◌, [], length, t
 ghost use Rattle.lab_io.specs.Fault.{count_after};
 ghost use Rattle.network_run.specs.Telling.{IsMeterIn, Puts, StaysWithin, is_failed, meter_behind};
 ghost use Rattle.script_model.specs.Script.{events_of};
-ghost use Rattle.telling_model.specs.Placed.{placed_events};
-ghost use Rattle.telling_model.specs.Tale.{told as telling};
-ghost use Rattle.world_model.specs.Limits.{event_limit};
-ghost use Rattle.world_model.specs.Run.{put_away, world_after};
-ghost use Rattle.world_model.specs.Topology.{Topology as Described};
+ghost use Rattle.network_run.specs.telling_model.Placed.{placed_events};
+ghost use Rattle.network_run.specs.telling_model.Tale.{told as telling};
+ghost use Rattle.script_model.specs.world_model.Limits.{event_limit};
+ghost use Rattle.script_model.specs.world_model.Run.{put_away, world_after};
+ghost use Rattle.script_model.specs.world_model.Topology.{Topology as Described};
 ghost use Rattle.world.specs.Network.{world_of};
 ghost use Rattle.world.specs.Running.{Runs};
 ghost use Rattle.network_replay.specs.Lines.{IsMeant, has_events};

@@ -8,7 +8,7 @@ use world::NodeController;
 pub trait PolicyChoice<C: NodeController> {
     ghost use Rattle.std.specs.Prelude.{◌≡◌};
     ghost use Rattle.port_model.specs.Setup.{Policy};
-    ghost use Rattle.world_model.specs.Topology.{Topology as Described};
+    ghost use Rattle.script_model.specs.world_model.Topology.{Topology as Described};
 
     // What a policy that is chosen for a topology does.
     ghost chosen: { Self → Described → Policy };

@@ -10,7 +10,7 @@ use Rattle.world_model.specs.Conditions.{IsEvent, IsNode}
 use Rattle.world_model.specs.Run.{switch_tick_of, tick_of, tick_of_all}
 use Rattle.world_model.specs.Topology.{Topology}
 use Rattle.world_model.specs.World.{World, Site}
-use Rattle.law_world_pace.specs.Running.{AreRunning, IsRunning, numbered}
+use Rattle.world.specs.law_world_pace.Running.{AreRunning, IsRunning, numbered}
 use Rattle.network_run.proofs.Turns.{map_length}
 use Rattle.world.proofs.Places.{get_append, get_map}
 

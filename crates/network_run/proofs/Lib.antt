@@ -1,3 +1,4 @@
+pub use Rattle.telling_model.proofs as telling_model
 pub mod Telling
 pub mod Turns
 pub mod AllTicks

@@ -17,7 +17,7 @@ use Rattle.world_model.specs.Topology.{Topology}
 use Rattle.world_model.specs.World.{World}
 use Rattle.world.specs.declared.counts.Meter.{Meter}
 use Rattle.world.specs.Counted.{reading_of}
-use Rattle.law_world_pace.specs.Running.{IsRunning}
+use Rattle.world.specs.law_world_pace.Running.{IsRunning}
 use Rattle.network_run.specs.declared.stop.Stop.{Stop}
 use Rattle.telling_model.specs.Placed.{placed_events}
 use Rattle.telling_model.specs.Tale.{Tale, Telling, told}

@@ -1,3 +1,4 @@
+pub use Rattle.telling_model.specs as telling_model
 pub mod Telling
 pub mod Coming
 pub mod Empty

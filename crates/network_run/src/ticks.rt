@@ -8,7 +8,7 @@ ghost use Rattle.world_model.specs.Limits.{event_limit};
 ghost use Rattle.world_model.specs.Run.{tick_of_all, world_after, put_away};
 ghost use Rattle.world_model.specs.Topology.{Topology as Described};
 ghost use Rattle.world.specs.Network.{world_of};
-ghost use Rattle.law_world_pace.specs.Running.{numbered};
+ghost use Rattle.world.specs.law_world_pace.Running.{numbered};
 ghost use Rattle.world.specs.Running.{Runs};
 ghost use Rattle.world_model.specs.network_model.declared.event.Event.TheVariants.{Tick, TickSwitch};
 ghost use Rattle.network_run.specs.Telling.{IsMeterIn, Puts, StaysWithin, is_failed, meter_behind};

@@ -1,7 +1,8 @@
 //! Blocks.
 
-ghost use Rattle.std.specs.Prelude.{◌≡◌, ◌≤◌, ◌+◌, ◌++◌, ◌∷◌, [], length, OnOk};
+ghost use Rattle.std.specs.Prelude.{◌≡◌, ◌≤◌, ◌+◌, ◌++◌, ◌∷◌, [], length, OnOk, OnErr};
 ghost use Rattle.pcapng_blocks.specs.Blocks.{Block, block_octets, if_description, if_name, if_tsresol, interface_body, opt_comment, packet_body, section_body, shb_userappl, sized_octets, time_octets};
+ghost use Rattle.pcapng_blocks.specs.Kept.{BreaksOff};
 
 use crate::fields::{put_padded, put_u16, put_u32};
 use crate::option::{OptionCode, option_length, padded_length, put_end_of_options, put_option};
@@ -31,7 +32,8 @@ const INTERFACE_FIELDS: usize = 8;
 const PACKET_FIELDS: usize = 20;
 
 fn put_section_body(out: &mut Vec<u8>, application: &[u8]) -> Result<(), OutOfMemory>
-    ensures { OnOk result (out.new.items ≡ out.old.items ++ section_body (shb_userappl application.now ∷ [])) }
+    ensures ok { OnOk result (out.new.items ≡ out.old.items ++ section_body (shb_userappl application.now ∷ [])) }
+    ensures err { OnErr result (BreaksOff out.old.items (out.old.items ++ section_body (shb_userappl application.now ∷ [])) out.new.items) }
 {
     put_u32(out, BYTE_ORDER_MAGIC)?;
     put_u16(out, 1)?;
@@ -44,7 +46,8 @@ fn put_section_body(out: &mut Vec<u8>, application: &[u8]) -> Result<(), OutOfMe
 /// Appends a Section Header of version 1.0, which doesn't tell the section's length: the application that
 /// writes the file.
 pub fn write_section_header(out: &mut Vec<u8>, application: &[u8]) -> Result<(), OutOfMemory>
-    ensures { OnOk result (out.new.items ≡ out.old.items ++ block_octets (Block.Section (shb_userappl application.now ∷ []))) }
+    ensures ok { OnOk result (out.new.items ≡ out.old.items ++ block_octets (Block.Section (shb_userappl application.now ∷ []))) }
+    ensures err { OnErr result (BreaksOff out.old.items (out.old.items ++ block_octets (Block.Section (shb_userappl application.now ∷ []))) out.new.items) }
 {
     let len = AROUND + SECTION_FIELDS + option_length(application.len()) + END_OF_OPTIONS;
     put_u32(out, SECTION_HEADER)?;
@@ -61,7 +64,8 @@ fn put_interface_body(
     description: &[u8],
     resolution: u8,
 ) -> Result<(), OutOfMemory>
-    ensures { OnOk result (out.new.items ≡ out.old.items ++ interface_body link_type (if_name name.now ∷ if_description description.now ∷ if_tsresol resolution ∷ [])) }
+    ensures ok { OnOk result (out.new.items ≡ out.old.items ++ interface_body link_type (if_name name.now ∷ if_description description.now ∷ if_tsresol resolution ∷ [])) }
+    ensures err { OnErr result (BreaksOff out.old.items (out.old.items ++ interface_body link_type (if_name name.now ∷ if_description description.now ∷ if_tsresol resolution ∷ [])) out.new.items) }
 {
     put_u16(out, link_type)?;
     put_u16(out, 0)?;
@@ -82,7 +86,8 @@ pub fn write_interface_description(
     description: &[u8],
     resolution: u8,
 ) -> Result<(), OutOfMemory>
-    ensures { OnOk result (out.new.items ≡ out.old.items ++ block_octets (Block.Interface link_type (if_name name.now ∷ if_description description.now ∷ if_tsresol resolution ∷ []))) }
+    ensures ok { OnOk result (out.new.items ≡ out.old.items ++ block_octets (Block.Interface link_type (if_name name.now ∷ if_description description.now ∷ if_tsresol resolution ∷ []))) }
+    ensures err { OnErr result (BreaksOff out.old.items (out.old.items ++ block_octets (Block.Interface link_type (if_name name.now ∷ if_description description.now ∷ if_tsresol resolution ∷ []))) out.new.items) }
 {
     let options = option_length(name.len()) + option_length(description.len()) + option_length(1);
     let len = AROUND + INTERFACE_FIELDS + options + END_OF_OPTIONS;
@@ -95,7 +100,8 @@ pub fn write_interface_description(
 
 /// Appends a time.
 fn put_time(out: &mut Vec<u8>, timestamp: u64) -> Result<(), OutOfMemory>
-    ensures { OnOk result (out.new.items ≡ out.old.items ++ time_octets timestamp) }
+    ensures ok { OnOk result (out.new.items ≡ out.old.items ++ time_octets timestamp) }
+    ensures err { OnErr result (BreaksOff out.old.items (out.old.items ++ time_octets timestamp) out.new.items) }
 {
     put_u32(out, (timestamp / 4_294_967_296) as u32)?;
     put_u32(out, (timestamp % 4_294_967_296) as u32)?;
@@ -105,7 +111,8 @@ fn put_time(out: &mut Vec<u8>, timestamp: u64) -> Result<(), OutOfMemory>
 /// Appends a packet behind its two lengths.
 fn put_sized(out: &mut Vec<u8>, packet: &[u8]) -> Result<(), OutOfMemory>
     requires { length packet.now ≤ 16777216 }
-    ensures { OnOk result (out.new.items ≡ out.old.items ++ sized_octets packet.now) }
+    ensures ok { OnOk result (out.new.items ≡ out.old.items ++ sized_octets packet.now) }
+    ensures err { OnErr result (BreaksOff out.old.items (out.old.items ++ sized_octets packet.now) out.new.items) }
 {
     put_u32(out, packet.len() as u32)?;
     put_u32(out, packet.len() as u32)?;
@@ -121,7 +128,8 @@ fn put_packet_body(
     comment: &[u8],
 ) -> Result<(), OutOfMemory>
     requires { length packet.now ≤ 16777216 }
-    ensures { OnOk result (out.new.items ≡ out.old.items ++ packet_body interface timestamp packet.now (opt_comment comment.now ∷ [])) }
+    ensures ok { OnOk result (out.new.items ≡ out.old.items ++ packet_body interface timestamp packet.now (opt_comment comment.now ∷ [])) }
+    ensures err { OnErr result (BreaksOff out.old.items (out.old.items ++ packet_body interface timestamp packet.now (opt_comment comment.now ∷ [])) out.new.items) }
 {
     put_u32(out, interface)?;
     put_time(out, timestamp)?;
@@ -140,7 +148,8 @@ pub fn write_enhanced_packet(
     comment: &[u8],
 ) -> Result<(), OutOfMemory>
     requires { length packet.now ≤ 16777216 }
-    ensures { OnOk result (out.new.items ≡ out.old.items ++ block_octets (Block.Packet interface timestamp packet.now (opt_comment comment.now ∷ []))) }
+    ensures ok { OnOk result (out.new.items ≡ out.old.items ++ block_octets (Block.Packet interface timestamp packet.now (opt_comment comment.now ∷ []))) }
+    ensures err { OnErr result (BreaksOff out.old.items (out.old.items ++ block_octets (Block.Packet interface timestamp packet.now (opt_comment comment.now ∷ []))) out.new.items) }
 {
     let octets = PACKET_FIELDS + padded_length(packet.len());
     let len = AROUND + octets + option_length(comment.len()) + END_OF_OPTIONS;

@@ -1,7 +1,7 @@
 //! The blocks of a file in the format pcapng (draft-ietf-opsawg-pcapng), which packet analysers read: Section
 //! Header, Interface Description and Enhanced Packet, with their options. Numbers have their lowest octet first.
-//! Each call appends a block; where memory is wanting, what stood there is still in front, and part of the block
-//! may stand behind it.
+//! Each call appends a block; where memory is wanting, what stood there is still in front, and behind it stands a
+//! front of the block, or nothing.
 //!
 //! | Octets | Content of any block |
 //! |---|---|

@@ -1,8 +1,9 @@
 //! Options of blocks.
 
-ghost use Rattle.std.specs.Prelude.{◌≡◌, ◌≤◌, ◌++◌, min, length, OnOk};
+ghost use Rattle.std.specs.Prelude.{◌≡◌, ◌≤◌, ◌++◌, min, length, OnOk, OnErr};
 ghost use Rattle.pcapng_blocks.specs.Blocks.{opt_endofopt, option_code, option_octets};
 ghost use Rattle.pcapng_blocks.specs.Lengths.{option_length, padded_length};
+ghost use Rattle.pcapng_blocks.specs.Kept.{BreaksOff};
 
 use crate::fields::{pad_length, put_padded, put_u16};
 use net_types::OutOfMemory;
@@ -59,7 +60,8 @@ pub(crate) fn put_option(
     code: OptionCode,
     value: &[u8],
 ) -> Result<(), OutOfMemory>
-    ensures { OnOk result (out.new.items ≡ out.old.items ++ option_octets (record { code = code; value = value.now })) }
+    ensures ok { OnOk result (out.new.items ≡ out.old.items ++ option_octets (record { code = code; value = value.now })) }
+    ensures err { OnErr result (BreaksOff out.old.items (out.old.items ++ option_octets (record { code = code; value = value.now })) out.new.items) }
 {
     let held = MOST_OCTETS.min(value.len());
     put_u16(out, number_of(code))?;
@@ -70,7 +72,8 @@ pub(crate) fn put_option(
 
 /// Appends the end of a list of options.
 pub(crate) fn put_end_of_options(out: &mut Vec<u8>) -> Result<(), OutOfMemory>
-    ensures { OnOk result (out.new.items ≡ out.old.items ++ opt_endofopt) }
+    ensures ok { OnOk result (out.new.items ≡ out.old.items ++ opt_endofopt) }
+    ensures err { OnErr result (BreaksOff out.old.items (out.old.items ++ opt_endofopt) out.new.items) }
 {
     put_u16(out, 0)?;
     put_u16(out, 0)

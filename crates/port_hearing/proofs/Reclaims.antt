@@ -16,7 +16,7 @@ use Rattle.port_model.specs.Port.{Port, Session, label_at}
 use Rattle.port_model.specs.Saying.{reclaim_ack, says}
 use Rattle.port_model.specs.Adjacency.{quits}
 use Rattle.port_model.specs.Reclaiming.{acknowledged_in, reclaimed_in}
-use Rattle.port_session.proofs.Keyed.{at_key}
+use Rattle.port_state.proofs.port_session.Keyed.{at_key}
 use Rattle.port_state.specs.Parts.{numbers_of, with_grant, with_label, without_grant}
 use Rattle.port_saying.specs.Rules.{begun}
 use Rattle.port_saying.proofs.Sessions.{in_session, numbers_kept}

@@ -1,13 +1,14 @@
 //! *IFMP adjacency* (RFC 1953): a session begins on entering Estab, and an ACK tells which number the peer
 //! expects.
 
-ghost use Rattle.std.specs.Prelude.{◌≡◌, ℕ, OnOk};
+ghost use Rattle.std.specs.Prelude.{◌≡◌, ℕ, true, IsOk, OnOk};
 ghost use Rattle.adjacency_table.specs.Side.{ticked};
 ghost use Rattle.port_model.specs.Adjacency.{answers, greeted, learns, steps};
 ghost use Rattle.port_state.specs.Engine.{setup_of};
 ghost use Rattle.port_state.specs.Parts.{IsOwn};
 ghost use Rattle.port_saying.specs.Rules.{begun};
 ghost use Rattle.port_saying.specs.Rules.{Ends};
+ghost use Rattle.port_hearing.specs.Taking.{is_idle, is_quiet};
 
 use branch_desk::Desk;
 use flow_classifier::Policy;
@@ -19,7 +20,8 @@ use port_model::Action;
 use port_saying::{Stop, greet, quit};
 use port_state::PortState;
 
-/// An adjacency message comes. A good ACK tells which number the peer expects.
+/// An adjacency message comes. A good ACK tells which number the peer expects. Where it isn't one, and the
+/// table answers nothing, no memory is taken.
 pub(crate) fn greeted<P: Policy>(
     state: &mut PortState<P>,
     source: Addr,
@@ -29,6 +31,7 @@ pub(crate) fn greeted<P: Policy>(
 ) -> Result<(), Stop>
     ensures fixed { state.new.fixed ≡ state.old.fixed }
     ensures work { (n : ℕ) → Ends result state.new.port out.new n (greeted (setup_of P.meaning state.old.fixed) desk.now (begun state.old.port out.old n) source hello.now) }
+    ensures idle { is_idle state.old.port source hello.now ≡ true → IsOk result }
 {
     let (answer, good) = state.receive(source, hello);
     follow(state, answer, out)?;
@@ -56,6 +59,7 @@ fn follow<P: Policy>(
     requires { IsOwn state.old.port answer }
     ensures fixed { state.new.fixed ≡ state.old.fixed }
     ensures work { (n : ℕ) → Ends result state.new.port out.new n (answers (setup_of P.meaning state.old.fixed) (begun state.old.port out.old n) answer) }
+    ensures quiet { is_quiet answer ≡ true → IsOk result }
 {
     match answer {
         Answer::Quiet => Ok(()),

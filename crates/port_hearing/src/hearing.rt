@@ -1,6 +1,6 @@
 //! A message of IFMP comes (RFC 1953).
 
-ghost use Rattle.std.specs.Prelude.{◌≡◌, ◌<◌, ℕ, option_map, List, Some, IsTrue, IfSome};
+ghost use Rattle.std.specs.Prelude.{◌≡◌, ◌<◌, ℕ, option_map, true, List, Some, IsTrue, IsOk, IfSome};
 ghost use Rattle.net_types.specs.Label.{is_label_number, label_number_of};
 ghost use Rattle.ifmp_wire.specs.Message.{InRange};
 ghost use Rattle.port_labels.specs.Read.{label_of};
@@ -11,6 +11,7 @@ ghost use Rattle.port_model.specs.Redirection.{expects, takes};
 ghost use Rattle.port_state.specs.Engine.{setup_of};
 ghost use Rattle.port_saying.specs.Rules.{begun};
 ghost use Rattle.port_saying.specs.Rules.{Ends};
+ghost use Rattle.port_hearing.specs.Taking.{follows, is_ignored, is_redirection};
 
 use crate::greeting::greeted;
 use crate::reclaiming::{acknowledged, error_comes, ranged, reclaimed};
@@ -24,7 +25,7 @@ use port_labels::HeldLabel;
 use port_saying::Stop;
 use port_state::PortState;
 
-/// A message is heard.
+/// A message is heard. One that is ignored takes no memory.
 pub fn hear<P: Policy>(
     state: &mut PortState<P>,
     source: Addr,
@@ -35,75 +36,46 @@ pub fn hear<P: Policy>(
     requires { InRange message.now }
     ensures fixed { state.new.fixed ≡ state.old.fixed }
     ensures work { (n : ℕ) → Ends result state.new.port out.new n (hears (setup_of P.meaning state.old.fixed) desk.now (begun state.old.port out.old n) source message.now) }
+    ensures ignored { is_ignored state.old.port source message.now ≡ true → IsOk result }
+{
+    if let Message::Adjacency(hello) = message {
+        return greeted(state, source, hello, desk, out);
+    }
+    let names = message.names();
+    if !takes(state, source, names.sender, names.peer, names.number) {
+        return Ok(());
+    }
+    expect(state, names.number);
+    follow(state, message, desk, out)
+}
+
+/// A redirection message is taken, by its kind.
+fn follow<P: Policy>(
+    state: &mut PortState<P>,
+    message: &Message,
+    desk: &Desk,
+    out: &mut Actions,
+) -> Result<(), Stop>
+    requires { is_redirection message.now ≡ true }
+    ensures fixed { state.new.fixed ≡ state.old.fixed }
+    ensures work { (n : ℕ) → Ends result state.new.port out.new n (follows (setup_of P.meaning state.old.fixed) desk.now (begun state.old.port out.old n) message.now) }
 {
     match *message {
-        Message::Adjacency(hello) => greeted(state, source, &hello, desk, out),
+        Message::Adjacency(_) => unreachable!(),
         Message::Redirect {
-            sender,
-            peer,
-            number,
             lifetime,
             label,
             flow,
-        } => {
-            if !takes(state, source, sender, peer, number) {
-                return Ok(());
-            }
-            expect(state, number);
-            redirected(state, label, flow, lifetime, desk, out)
-        }
-        Message::Reclaim {
-            sender,
-            peer,
-            number,
-            label,
-            flow,
-        } => {
-            if !takes(state, source, sender, peer, number) {
-                return Ok(());
-            }
-            expect(state, number);
-            reclaimed(state, label, flow, out)
-        }
-        Message::ReclaimAck {
-            sender,
-            peer,
-            number,
-            label,
-            flow,
-        } => {
-            if !takes(state, source, sender, peer, number) {
-                return Ok(());
-            }
-            expect(state, number);
-            acknowledged(state, label, flow, desk, out)
-        }
+            ..
+        } => redirected(state, label, flow, lifetime, desk, out),
+        Message::Reclaim { label, flow, .. } => reclaimed(state, label, flow, out),
+        Message::ReclaimAck { label, flow, .. } => acknowledged(state, label, flow, desk, out),
         Message::LabelRange {
-            sender,
-            peer,
-            number,
             least,
             greatest,
-        } => {
-            if !takes(state, source, sender, peer, number) {
-                return Ok(());
-            }
-            expect(state, number);
-            ranged(state, least, greatest, out)
-        }
-        Message::Error {
-            sender,
-            peer,
-            number,
-            code,
-            label,
-        } => {
-            if !takes(state, source, sender, peer, number) {
-                return Ok(());
-            }
-            expect(state, number);
-            error_comes(state, code, label, out)
-        }
+            ..
+        } => ranged(state, least, greatest, out),
+        Message::Error { code, label, .. } => error_comes(state, code, label, out),
     }
 }
 

@@ -8,7 +8,7 @@ use Rattle.std.proofs.lemmas.Option.{slice_get_cases}
 use Rattle.net_types.specs.declared.number.Instance.{Instance}
 use Rattle.net_types.specs.Label.{is_label_number}
 use Rattle.keyed_lists.specs.Keyed.{at, without, entered, key_le}
-use Rattle.port_model.specs.Labels.{Label, label_number}
+use Rattle.branch_desk.specs.port_model.Labels.{Label, label_number}
 use Rattle.port_labels.specs.Book.{IsInRange, Rises}
 use Rattle.port_labels.specs.Held.{shown, labels_in, number_in, instance_in, AreInPlace}
 use Rattle.port_labels.specs.declared.held.Held.{Held}

@@ -5,7 +5,7 @@ use Rattle.std.specs.Prelude.{slice_get, nat_le}
 use Rattle.std.specs.List.{AllByRecursion}
 use Rattle.std.proofs.lemmas.Bool.{cases_lt, cases_eq, eq-eqb, ne_eqb, le-leb, lt-leb}
 use Rattle.keyed_lists.specs.Keyed.{at, put, without, entered, key_le}
-use Rattle.port_model.specs.Labels.{Label, label_number}
+use Rattle.branch_desk.specs.port_model.Labels.{Label, label_number}
 use Rattle.port_labels.specs.Book.{Rises}
 use Rattle.port_labels.specs.Index.{AreAscending}
 use Rattle.port_labels.proofs.Numbers.{itself}

@@ -7,7 +7,7 @@ use Rattle.keyed_lists.specs.Keyed.{at, put, without, entered, key_le}
 use Rattle.ipv4_packet.specs.declared.flow.FlowId.{FlowId}
 use Rattle.ipv4_packet.specs.Parts.{same_flow}
 use Rattle.flow_classifier.proofs.Flows.{flow_from_same, same_itself}
-use Rattle.port_model.specs.Labels.{Label, label_number, label_for, serves}
+use Rattle.branch_desk.specs.port_model.Labels.{Label, label_number, label_for, serves}
 use Rattle.port_labels.specs.Book.{Rises, ServesOnce}
 use Rattle.port_labels.proofs.Numbered.{at_here, at_there, without_above}
 

@@ -6,7 +6,7 @@ use Rattle.std.specs.List.{AllByRecursion}
 use Rattle.std.specs.Option.{option_map_or}
 use Rattle.ipv4_packet.specs.Parts.{same_flow}
 use Rattle.keyed_lists.specs.Keyed.{at, put, without, entered}
-use Rattle.port_model.specs.Labels.{Label, LabelState, Wiring, Offered, Recalled, Wired, label_number, label_for, serves}
+use Rattle.branch_desk.specs.port_model.Labels.{Label, LabelState, Wiring, Offered, Recalled, Wired, label_number, label_for, serves}
 use Rattle.port_labels.specs.Book.{Book, IsInRange, Rises, acknowledged, changed, held, holds_passed, holds_recalled, is_passed, is_recalled, reclaimed, state_of, with_label, with_new_label, without_label}
 use Rattle.port_labels.specs.Read.{label_of}
 use Rattle.port_labels.specs.declared.view.HeldLabel.{HeldLabel}

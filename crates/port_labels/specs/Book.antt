@@ -8,7 +8,7 @@ use Rattle.net_types.specs.Label.{is_label_number}
 use Rattle.ipv4_packet.specs.declared.flow.FlowId.{FlowId}
 use Rattle.keyed_lists.specs.Keyed.{at, put, without, entered, key_le}
 use Rattle.label_pool.specs.Tag.{Tag}
-use Rattle.port_model.specs.Labels.{Label, LabelState, Wiring, Recalled, label_number, label_for, serves}
+use Rattle.branch_desk.specs.port_model.Labels.{Label, LabelState, Wiring, Recalled, label_number, label_for, serves}
 
 -- the instance of the adjacency for whose pool it was opened, the range of its labels by their numbers,
 -- and the labels that are held, the lowest first

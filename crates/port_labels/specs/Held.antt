@@ -5,7 +5,7 @@ use Rattle.std.specs.Prelude.{◌≡◌, ℕ, ◌+◌, ◌≤◌, List, [], ◌�
 use Rattle.net_types.specs.declared.number.Instance.{Instance}
 use Rattle.net_types.specs.Label.{is_label_number}
 use Rattle.ipv4_packet.specs.declared.flow.FlowId.{FlowId}
-use Rattle.port_model.specs.Labels.{Label, LabelState, Wiring, Offered, Recalled, Wired}
+use Rattle.branch_desk.specs.port_model.Labels.{Label, LabelState, Wiring, Offered, Recalled, Wired}
 use Rattle.port_labels.specs.Book.{Book, held}
 use Rattle.port_labels.specs.declared.held.Stage.{Stage}
 use Rattle.port_labels.specs.declared.held.Stage.TheVariants as stage

@@ -5,7 +5,7 @@ use Rattle.std.specs.List.{AllByRecursion}
 use Rattle.std.specs.Map.{lookup}
 use Rattle.ipv4_packet.specs.declared.flow.FlowId.{FlowId}
 use Rattle.ipv4_packet.specs.Parts.{same_flow}
-use Rattle.port_model.specs.Labels.{Label, label_number, label_for}
+use Rattle.branch_desk.specs.port_model.Labels.{Label, label_number, label_for}
 use Rattle.port_labels.specs.Book.{ServesOnce}
 
 -- numbers that rise

@@ -1,8 +1,8 @@
 -- Labels as they are read
 
 use Rattle.std.specs.Prelude.{is_some, None, Some, if◌then◌else◌}
-use Rattle.port_model.specs.Labels.{Label, serves}
-use Rattle.port_model.specs.Labels as model
+use Rattle.branch_desk.specs.port_model.Labels.{Label, serves}
+use Rattle.branch_desk.specs.port_model.Labels as model
 use Rattle.port_labels.specs.declared.view.HeldState.{HeldState}
 use Rattle.port_labels.specs.declared.view.HeldState.TheVariants as held
 use Rattle.port_labels.specs.declared.view.HeldLabel.{HeldLabel}

@@ -3,8 +3,8 @@
 ghost use Rattle.std.specs.Prelude.{◌≡◌, ◌≤◌, ◌↔◌, [], length, slice_get, option_map, false, IsTrue, IsSome, IfOk, IfSome, OnOk, OnErr, None, Some, if◌then◌else◌};
 ghost use Rattle.net_types.specs.Label.{is_label_number};
 ghost use Rattle.label_pool.specs.Label.{wires, unwires};
-ghost use Rattle.port_model.specs.Labels as model;
-ghost use Rattle.port_model.specs.Labels.{label_for, label_number};
+ghost use Rattle.branch_desk.specs.port_model.Labels as model;
+ghost use Rattle.branch_desk.specs.port_model.Labels.{label_for, label_number};
 
 use crate::held::Held;
 use crate::index::{Flows, enter, number_at, remove_flow, remove_number};

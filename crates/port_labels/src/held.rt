@@ -3,7 +3,7 @@
 ghost use Rattle.std.specs.Prelude.{◌≡◌, false, IsTrue, if◌then◌else◌};
 ghost use Rattle.net_types.specs.Label.{is_label_number};
 ghost use Rattle.label_pool.specs.Label.{wires, unwires};
-ghost use Rattle.port_model.specs.Labels as model;
+ghost use Rattle.branch_desk.specs.port_model.Labels as model;
 ghost use Rattle.port_labels.specs.Read.{label_of, state_from};
 ghost use Rattle.port_labels.specs.Book.{wiring, reclaimed, acknowledged, is_passed};
 ghost use Rattle.port_labels.specs.Held.{number_in, instance_in, flow_in, state_in, shown};

@@ -3,7 +3,7 @@
 ghost use Rattle.std.specs.Prelude.{◌≡◌, ◌<◌, ◌≤◌, ◌+◌, [], replicate, slice_get, slice_set, length, option_map, IsSome, IfOk, None, Some};
 ghost use Rattle.std.specs.List.{AllByRecursion};
 ghost use Rattle.std.specs.Vec.{vec_len};
-ghost use Rattle.port_model.specs.Labels as model;
+ghost use Rattle.branch_desk.specs.port_model.Labels as model;
 ghost use Rattle.port_labels.specs.Read.{label_of, state_from};
 ghost use Rattle.port_labels.specs.Held.{shown, number_in, instance_in};
 

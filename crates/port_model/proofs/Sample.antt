@@ -6,8 +6,8 @@ use Rattle.net_types.specs.declared.prefix.Addr.{Addr}
 use Rattle.net_types.specs.declared.number.Instance.{Instance}
 use Rattle.net_types.specs.declared.adjacency.HelloKind.TheVariants.{Ack}
 use Rattle.net_types.specs.Label.{label_channel_of}
-use Rattle.ipv4_packet.specs.declared.flow.FlowId.{FlowId}
-use Rattle.ipv4_packet.specs.declared.flow.FlowId.TheVariants.{Two}
+use Rattle.link_model.specs.ipv4_packet.declared.flow.FlowId.{FlowId}
+use Rattle.link_model.specs.ipv4_packet.declared.flow.FlowId.TheVariants.{Two}
 use Rattle.adjacency_table.specs.declared.State.TheVariants.{Estab}
 use Rattle.ifmp_wire.specs.declared.message.Message.{Message}
 use Rattle.ifmp_wire.specs.declared.message.Message.TheVariants.{Adjacency}

@@ -3,8 +3,8 @@
 
 use Rattle.std.specs.Prelude.{ℕ, ◌+◌, ◌-◌, not, List, [], ◌∷◌, ◌++◌, length, take, drop, map, filter, find, min, Option, None, Some}
 use Rattle.std.specs.List.{sum_by}
-use Rattle.ipv4_packet.specs.declared.flow.FlowId.{FlowId}
-use Rattle.ipv4_packet.specs.Parts.{same_flow}
+use Rattle.link_model.specs.ipv4_packet.declared.flow.FlowId.{FlowId}
+use Rattle.link_model.specs.ipv4_packet.Parts.{same_flow}
 
 -- a flow, with its packets since the last tick, between that and the one before it, and so on
 pub record Counted : Type 0 where

@@ -6,11 +6,11 @@ use Rattle.std.specs.Option.{option_or, option_map_or}
 use Rattle.net_types.specs.declared.channel.Channel.{Channel}
 use Rattle.net_types.specs.declared.channel.End.{End}
 use Rattle.net_types.specs.Label.{label_number_of}
-use Rattle.ipv4_packet.specs.declared.flow.FlowKind.{FlowKind}
-use Rattle.ipv4_packet.specs.declared.flow.FlowKind.TheVariants.{One, Two}
-use Rattle.ipv4_packet.specs.declared.flow.FlowId.{FlowId}
-use Rattle.ipv4_packet.specs.Flow.{flow_of}
-use Rattle.ipv4_packet.specs.Parts.{same_flow}
+use Rattle.link_model.specs.ipv4_packet.declared.flow.FlowKind.{FlowKind}
+use Rattle.link_model.specs.ipv4_packet.declared.flow.FlowKind.TheVariants.{One, Two}
+use Rattle.link_model.specs.ipv4_packet.declared.flow.FlowId.{FlowId}
+use Rattle.link_model.specs.ipv4_packet.Flow.{flow_of}
+use Rattle.link_model.specs.ipv4_packet.Parts.{same_flow}
 use Rattle.keyed_lists.specs.Keyed.{at}
 use Rattle.port_model.specs.Setup.{Setup, is_in_range}
 

@@ -1,8 +1,11 @@
-pub use Rattle.ipv4_packet.specs as ipv4_packet
+pub use Rattle.link_model.specs.ipv4_packet as ipv4_packet
 pub use Rattle.ifmp_wire.specs as ifmp_wire
 pub use Rattle.gsmp_wire.specs as gsmp_wire
 pub use Rattle.adjacency_table.specs as adjacency_table
 pub use Rattle.link_model.specs as link_model
+pub use Rattle.keyed_lists.specs as keyed_lists
+pub use Rattle.crossbar_model.specs as crossbar_model
+pub use Rattle.gsmp_wire.specs.octet_fields as octet_fields
 pub mod Requests
 pub mod Messages
 pub mod Desk

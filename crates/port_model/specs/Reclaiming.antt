@@ -6,8 +6,8 @@ use Rattle.net_types.specs.declared.channel.Channel.{Channel}
 use Rattle.net_types.specs.declared.channel.End.{End}
 use Rattle.net_types.specs.Label.{label_channel_of}
 use Rattle.port_model.specs.Desk.{Desk}
-use Rattle.ipv4_packet.specs.declared.flow.FlowId.{FlowId}
-use Rattle.ipv4_packet.specs.Parts.{same_flow}
+use Rattle.link_model.specs.ipv4_packet.declared.flow.FlowId.{FlowId}
+use Rattle.link_model.specs.ipv4_packet.Parts.{same_flow}
 use Rattle.port_model.specs.declared.action.Action.TheVariants.{TakeBack}
 use Rattle.port_model.specs.Setup.{Setup, label_end, channel_le, is_between}
 use Rattle.port_model.specs.Labels.{Label, LabelState, Offered, Recalled, label_number}

@@ -7,7 +7,7 @@ use Rattle.net_types.specs.declared.number.Instance.{Instance}
 use Rattle.net_types.specs.declared.channel.Channel.{Channel}
 use Rattle.adjacency_table.specs.Side.{Side}
 use Rattle.gsmp_wire.specs.declared.request.Request.TheVariants.{AddBranch}
-use Rattle.ipv4_packet.specs.declared.flow.FlowId.{FlowId}
+use Rattle.link_model.specs.ipv4_packet.declared.flow.FlowId.{FlowId}
 use Rattle.net_types.specs.declared.adjacency.Peer.{Peer}
 use Rattle.adjacency_table.specs.Hello.{same_peer}
 use Rattle.port_model.specs.Desk.{Desk}

@@ -8,7 +8,7 @@ use Rattle.net_types.specs.declared.channel.Channel.{Channel}
 use Rattle.net_types.specs.declared.adjacency.Hello.{Hello}
 use Rattle.net_types.specs.Label.{label_channel_of}
 use Rattle.adjacency_table.specs.Side.{Side}
-use Rattle.ipv4_packet.specs.declared.flow.FlowId.{FlowId}
+use Rattle.link_model.specs.ipv4_packet.declared.flow.FlowId.{FlowId}
 use Rattle.ifmp_wire.specs.declared.message.Message.{Message}
 use Rattle.ifmp_wire.specs.declared.message.Message.TheVariants.{Adjacency, Redirect, Reclaim, ReclaimAck, LabelRange, Error}
 use Rattle.net_types.specs.declared.adjacency.Peer.{Peer}

@@ -9,7 +9,7 @@ use Rattle.net_types.specs.declared.channel.Channel.{Channel}
 use Rattle.net_types.specs.declared.channel.End.{End}
 use Rattle.net_types.specs.Channel.{channel_on_control}
 use Rattle.net_types.specs.Label.{label_channel_of, is_label_number}
-use Rattle.ipv4_packet.specs.declared.flow.FlowId.{FlowId}
+use Rattle.link_model.specs.ipv4_packet.declared.flow.FlowId.{FlowId}
 use Rattle.port_model.specs.declared.timers.Timers.{Timers}
 
 -- when a flow is offered a label, by its packets in the window, and when a label is kept that was idle

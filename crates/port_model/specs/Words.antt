@@ -19,14 +19,14 @@ pub use Rattle.net_types.specs.declared.node.PortNo.{PortNo}
 pub use Rattle.net_types.specs.declared.number.Instance.{Instance}
 pub use Rattle.net_types.specs.declared.number.Mark.{Mark}
 pub use Rattle.net_types.specs.declared.prefix.Addr.{Addr}
-pub use Rattle.ipv4_packet.specs.Flow.{IsFlow, at_ttl, flow_of, flow_ttl, has_ports, kind_of, next_hop_of, shows_ports}
-pub use Rattle.ipv4_packet.specs.Identifier.{FitsFields, has_fields, identifier}
-pub use Rattle.ipv4_packet.specs.Packet.{IsPacket, canonical, canonical_checksum, destination_of, header_sum, ifmp_header, ifmp_packet_of, protocol_of, source_of, tos_of, total_length_of, ttl_of, with_ttl}
-pub use Rattle.ipv4_packet.specs.Parts.{flow_destination, same_flow}
-pub use Rattle.ipv4_packet.specs.declared.flow.FlowId.{FlowId}
-pub use Rattle.ipv4_packet.specs.declared.flow.FlowKind.{FlowKind}
-pub use Rattle.ipv4_packet.specs.declared.validate.PacketFault.{PacketFault}
-pub use Rattle.ipv4_packet.specs.declared.validate.PacketFault.TheVariants.{Checksum, Options, TooLong, Version}
+pub use Rattle.link_model.specs.ipv4_packet.Flow.{IsFlow, at_ttl, flow_of, flow_ttl, has_ports, kind_of, next_hop_of, shows_ports}
+pub use Rattle.link_model.specs.ipv4_packet.Identifier.{FitsFields, has_fields, identifier}
+pub use Rattle.link_model.specs.ipv4_packet.Packet.{IsPacket, canonical, canonical_checksum, destination_of, header_sum, ifmp_header, ifmp_packet_of, protocol_of, source_of, tos_of, total_length_of, ttl_of, with_ttl}
+pub use Rattle.link_model.specs.ipv4_packet.Parts.{flow_destination, same_flow}
+pub use Rattle.link_model.specs.ipv4_packet.declared.flow.FlowId.{FlowId}
+pub use Rattle.link_model.specs.ipv4_packet.declared.flow.FlowKind.{FlowKind}
+pub use Rattle.link_model.specs.ipv4_packet.declared.validate.PacketFault.{PacketFault}
+pub use Rattle.link_model.specs.ipv4_packet.declared.validate.PacketFault.TheVariants.{Checksum, Options, TooLong, Version}
 pub use Rattle.ifmp_wire.specs.Fields.{flow_at, flow_in, hello_at, instance_at, redirection_at}
 pub use Rattle.ifmp_wire.specs.Message.{FitsMessage, InRange, flow_octets, flow_type, flow_words, hello_code, label_octets, names_of, op_code, with_checksum, with_names}
 pub use Rattle.ifmp_wire.specs.Tests.{body_fault, flow_fault, head_fault, identifier_fault, kind_at, kind_fault, lifetime_fault, op_at}

@@ -4,9 +4,9 @@ use Rattle.std.proofs.Common.{◌≡◌, ℕ, ◌==◌, ◌&&◌, Bool, true, fa
 use Rattle.gsmp_wire.specs.declared.message.Message.{Message}
 use Rattle.gsmp_wire.specs.declared.message.Message.TheVariants as messages
 use Rattle.gsmp_wire.specs.declared.rows.PortRow.{PortRow}
-use Rattle.port_model.specs.Desk.{Desk, Standing}
-use Rattle.port_model.specs.DeskAnswers.{Answered, Head, head_of, is_of_type, answered, outcome, succeeded}
-use Rattle.port_model.specs.DeskAnswers.Answered.{Unknown, Done, Ports, Failed}
+use Rattle.branch_desk.specs.port_model.Desk.{Desk, Standing}
+use Rattle.branch_desk.specs.port_model.DeskAnswers.{Answered, Head, head_of, is_of_type, answered, outcome, succeeded}
+use Rattle.branch_desk.specs.port_model.DeskAnswers.Answered.{Unknown, Done, Ports, Failed}
 use Rattle.branch_desk.specs.Answers.{told}
 use Rattle.branch_desk.specs.declared.answered.Answered.TheVariants as desk
 use Rattle.port_requests.proofs.Lists.{found_contains}

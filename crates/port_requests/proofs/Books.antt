@@ -9,8 +9,8 @@ use Rattle.std.proofs.lemmas.List.Kept.{AllPairs-filter}
 use Rattle.std.proofs.lemmas.List.Quantifiers.{all_pairs_push}
 use Rattle.net_types.specs.declared.channel.End.{End}
 use Rattle.gsmp_wire.specs.declared.request.Request.{Request}
-use Rattle.port_model.specs.Desk.{Desk, Standing}
-use Rattle.port_model.specs.Requests.{is_on, withdraws}
+use Rattle.branch_desk.specs.port_model.Desk.{Desk, Standing}
+use Rattle.branch_desk.specs.port_model.Requests.{is_on, withdraws}
 use Rattle.branch_desk.specs.Requests.{AreApart, AreRising}
 use Rattle.branch_desk.proofs.Apart.{apart_inputs, found_any_mapped}
 use Rattle.branch_desk.proofs.Keys.{none_passes}

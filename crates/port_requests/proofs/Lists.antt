@@ -9,7 +9,7 @@ use Rattle.std.proofs.lemmas.List.Edits.{remove-append_left}
 use Rattle.std.proofs.lemmas.List.Folds.{list_any_at}
 use Rattle.std.proofs.lemmas.Option.{slice_get-get_or}
 use Rattle.gsmp_wire.specs.declared.request.Request.{Request}
-use Rattle.port_model.specs.Desk.{Standing}
+use Rattle.branch_desk.specs.port_model.Desk.{Standing}
 use Rattle.branch_desk.specs.Requests.{AreRising}
 use Rattle.branch_desk.proofs.Numbers.{has, none_left, not_true}
 

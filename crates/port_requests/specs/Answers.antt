@@ -1,6 +1,6 @@
 -- What a book answers, as the definitions of an answer's meaning have it.
 
-use Rattle.port_model.specs.DeskAnswers as meaning
+use Rattle.branch_desk.specs.port_model.DeskAnswers as meaning
 use Rattle.port_requests.specs.declared.answer.Answer.{Answer}
 use Rattle.port_requests.specs.declared.answer.Answer.TheVariants.{Unknown, Done, Ports, Failed}
 

@@ -1,7 +1,7 @@
 -- A desk and the tickets of its requests. No claim needs this file.
 
 use Rattle.std.specs.Prelude.{◌≡◌, ◌<◌, List, All}
-use Rattle.port_model.specs.Desk.{Desk, Standing}
+use Rattle.branch_desk.specs.port_model.Desk.{Desk, Standing}
 use Rattle.branch_desk.specs.Requests.{AreApart, AreRising}
 
 -- the tickets are exactly those of the requests that stand, in the same order

@@ -1,2 +1,3 @@
+pub use Rattle.branch_desk.specs as branch_desk
 pub mod Book
 pub mod Answers

@@ -16,7 +16,7 @@ pub struct Redeemable {
 
 impl Model for Redeemable {
     ghost use Rattle.std.specs.Prelude.{◌≡◌};
-    ghost use Rattle.port_model.specs.Desk.{Standing};
+    ghost use Rattle.branch_desk.specs.port_model.Desk.{Standing};
 
     ghost Value = { Standing };
 

@@ -5,9 +5,9 @@ ghost use Rattle.std.specs.List.{list_any, remove};
 ghost use Rattle.std.specs.Option.{option_map};
 ghost use Rattle.gsmp_wire.specs.Range.{IsInRange};
 ghost use Rattle.gsmp_wire.specs.declared.request.Request.TheVariants.{DeleteAll};
-ghost use Rattle.port_model.specs.DeskAnswers.{answered, after_answer};
-ghost use Rattle.port_model.specs.Desk.{asked, emptied, empty_desk, is_led_home, last_transaction, message_at, withdrawn};
-ghost use Rattle.port_model.specs.Requests.{withdraws};
+ghost use Rattle.branch_desk.specs.port_model.DeskAnswers.{answered, after_answer};
+ghost use Rattle.branch_desk.specs.port_model.Desk.{asked, emptied, empty_desk, is_led_home, last_transaction, message_at, withdrawn};
+ghost use Rattle.branch_desk.specs.port_model.Requests.{withdraws};
 ghost use Rattle.branch_desk.specs.Requests.{AreApart, AreRising, has_function};
 ghost use Rattle.port_requests.specs.Answers.{told};
 
@@ -43,7 +43,7 @@ pub struct RequestBook {
 }
 
 impl Model for RequestBook {
-    ghost use Rattle.port_model.specs.Desk as desk_model;
+    ghost use Rattle.branch_desk.specs.port_model.Desk as desk_model;
     ghost use Rattle.port_requests.specs.Book.{IsBook};
 
     ghost Value = { desk_model.Desk };

@@ -22,7 +22,7 @@ pub(crate) struct Tickets {
 impl Model for Tickets {
     ghost use Rattle.std.specs.Prelude.{◌≤◌, List};
     ghost use Rattle.std.specs.Vec.{vec_capacity};
-    ghost use Rattle.port_model.specs.Desk.{Standing};
+    ghost use Rattle.branch_desk.specs.port_model.Desk.{Standing};
 
     ghost Value = { List Standing };
 

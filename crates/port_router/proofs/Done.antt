@@ -4,7 +4,7 @@ use Rattle.std.proofs.Common.{ℕ, List}
 use Rattle.port_model.specs.declared.action.Action.{Action}
 use Rattle.port_model.specs.Setup.{Policy}
 use Rattle.port_model.specs.Port.{Work}
-use Rattle.port_state.specs.Engine.{Engine, setup_of}
+use Rattle.redirect_state.specs.port_state.Engine.{Engine, setup_of}
 use Rattle.redirect_state.specs.Calls as engine
 use Rattle.controller_router.specs.Engine.{HasDone}
 

@@ -7,8 +7,8 @@ use Rattle.keyed_lists.specs.Keyed.{at, put}
 use Rattle.port_model.specs.Joins.{joins_label}
 use Rattle.port_model.specs.Labels.{Label, label_number}
 use Rattle.port_model.specs.Port.{Port, Session, label_at, labels_of}
-use Rattle.port_session.proofs.Keyed.{at_key}
-use Rattle.port_saying.proofs.Keys.{put_found}
+use Rattle.redirect_state.proofs.port_session.Keyed.{at_key}
+use Rattle.redirect_state.proofs.port_saying.Keys.{put_found}
 
 found_again : (port : Port) (number : ℕ) (label : Label) → label_at port number ≡ Some label → label_at port label.number ≡ Some label
 found_again port number label found = subst (λ (k : ℕ). label_at port k ≡ Some label) (sym (at_key label_number number (labels_of port) label found)) found

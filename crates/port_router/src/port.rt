@@ -55,7 +55,7 @@ impl<P: Policy> RouterPort<P> {
 }
 
 impl<P: Policy + Copy> PortEngine for RouterPort<P> {
-    ghost use Rattle.port_state.specs.Engine.{setup_of};
+    ghost use Rattle.redirect_state.specs.port_state.Engine.{setup_of};
 
     ghost seen = { λ p. record { setup = setup_of P.meaning p.link.fixed; port = p.link.port } };
 

@@ -8,7 +8,7 @@ use Rattle.port_labels.specs.Book as book
 use Rattle.port_labels.specs.Read.{label_of}
 use Rattle.port_labels.specs.declared.view.HeldLabel.{HeldLabel}
 use Rattle.label_pool.specs.Pool.{Pool, labels_between}
-use Rattle.port_model.specs.Labels.{Label, is_spare, label_number}
+use Rattle.branch_desk.specs.port_model.Labels.{Label, is_spare, label_number}
 use Rattle.port_session.specs.Session.{AreTied, changed}
 use Rattle.port_session.proofs.Keyed.{at_key, held_by_keys, keys_put}
 

@@ -9,7 +9,7 @@ use Rattle.net_types.specs.Label.{is_label_number}
 use Rattle.keyed_lists.specs.Keyed.{at, entered, key_le, without}
 use Rattle.port_labels.specs.Book.{Book, with_new_label, without_label}
 use Rattle.label_pool.specs.Pool.{Pool, given_back, is_label_between, is_offered_by, labels_between, lowest, opened, taken}
-use Rattle.port_model.specs.Labels.{Label, LabelState, is_spare, label_number}
+use Rattle.branch_desk.specs.port_model.Labels.{Label, LabelState, is_spare, label_number}
 use Rattle.port_session.specs.Session.{AreTied}
 
 pub filter_filter : {X : Type 0} (p r : X → Bool) (xs : List X) → filter p (filter r xs) ≡ filter (λ x. r x && p x) xs

@@ -6,9 +6,9 @@ use Rattle.net_types.specs.declared.number.Instance.{Instance}
 use Rattle.keyed_lists.specs.Keyed.{at, put}
 use Rattle.label_pool.specs.Pool.{Pool, labels_between}
 use Rattle.port_labels.specs.Book.{Book}
-use Rattle.port_model.specs.Labels.{Label, is_spare, label_number}
-use Rattle.port_model.specs.Port.{Session}
-use Rattle.port_model.specs.Saying.{last_number, spent_number}
+use Rattle.branch_desk.specs.port_model.Labels.{Label, is_spare, label_number}
+use Rattle.branch_desk.specs.port_model.Port.{Session}
+use Rattle.branch_desk.specs.port_model.Saying.{last_number, spent_number}
 
 -- the session with the range of the port, the window of its counts and the instance that it was opened for
 pub record Opened : Type 0 where

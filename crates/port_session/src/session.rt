@@ -8,12 +8,12 @@ ghost use Rattle.keyed_lists.specs.Keyed.{at, entered, key_le, without};
 ghost use Rattle.label_pool.specs.Label.{wires, unwires};
 ghost use Rattle.port_labels.specs.Book.{IsBook, reclaimed, acknowledged, is_passed, is_recalled, wiring};
 ghost use Rattle.port_labels.specs.Read.{label_of, state_from};
-ghost use Rattle.port_model.specs.Labels as model;
-ghost use Rattle.port_model.specs.Labels.{Label as LabelValue, label_for, label_number, lowest_spare};
-ghost use Rattle.port_model.specs.Counts.{counted_once, moved, packets_in};
-ghost use Rattle.port_model.specs.Setup.{Setup};
-ghost use Rattle.port_model.specs.Ticks.{is_unpassed};
-ghost use Rattle.port_model.specs.Reclaiming.{narrowed};
+ghost use Rattle.branch_desk.specs.port_model.Labels as model;
+ghost use Rattle.branch_desk.specs.port_model.Labels.{Label as LabelValue, label_for, label_number, lowest_spare};
+ghost use Rattle.branch_desk.specs.port_model.Counts.{counted_once, moved, packets_in};
+ghost use Rattle.branch_desk.specs.port_model.Setup.{Setup};
+ghost use Rattle.branch_desk.specs.port_model.Ticks.{is_unpassed};
+ghost use Rattle.branch_desk.specs.port_model.Reclaiming.{narrowed};
 ghost use Rattle.port_session.specs.Session.{IsPoolIn, Opened, after_number, next_number, reclaim_number, with_session, with_labels, with_change};
 
 use branch_desk::BranchDone;

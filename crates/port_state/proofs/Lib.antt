@@ -1,2 +1,3 @@
+pub use Rattle.port_session.proofs as port_session
 pub mod Labelled
 pub mod Sides

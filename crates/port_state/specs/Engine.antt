@@ -9,20 +9,15 @@ use Rattle.ipv4_packet.specs.declared.flow.FlowId.{FlowId}
 use Rattle.label_pool.specs.Pool.{Pool}
 use Rattle.port_labels.specs.Book.{Book}
 use Rattle.grant_table.specs.Table.{Table}
+use Rattle.port_state.specs.declared.setup.PortSetup.{PortSetup}
 use Rattle.port_model.specs.declared.timers.Timers.{Timers}
 use Rattle.port_model.specs.Setup.{Policy, Setup, label_numbers}
 use Rattle.port_model.specs.Labels.{Label, is_bound, is_spare}
 use Rattle.port_model.specs.Port.{Port, Session, label_at}
 
 -- what stays the same of a port, with its policy as the value that the port was given
-pub record Fixed (P : Type 0) : Type 0 where
-  pub node : NodeId
-  pub port : PortNo
-  pub address : Addr
-  pub least : ℕ
-  pub greatest : ℕ
-  pub timers : Timers
-  pub policy : P
+abbrev pub Fixed : (P : Type 0) → Type 0
+Fixed P = PortSetup P
 
 pub record Engine (P : Type 0) : Type 0 where
   pub fixed : Fixed P

@@ -1,2 +1,3 @@
+pub use Rattle.port_session.specs as port_session
 pub mod Engine
 pub mod Parts

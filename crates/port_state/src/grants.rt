@@ -58,8 +58,8 @@ impl<P: Policy> PortState<P> {
         requires { IsTrue (is_label_number vci) }
         ensures { (meaning : P → PolicyValue) (flow : FlowValue) → result ≡ is_new (acceptance_of (setup_of meaning self.now.fixed) self.now.port.grants flow (Some vci)) }
     {
-        self.least <= vci
-            && vci <= self.greatest
+        self.setup.least <= vci
+            && vci <= self.setup.greatest
             && self.grants.get(vci).is_none()
             && self.grants.len() < MOST_GRANTS
     }

@@ -116,16 +116,17 @@ impl<P: Policy> PortState<P> {
     }
 
     /// The lowest spare label is taken for a flow that none serves; none where none can be handed out.
-    /// Where memory is wanting the session is given up.
+    /// A session is open; where memory is wanting it is given up.
     pub fn take_label(&mut self, flow: FlowId) -> Result<Option<u16>, OutOfMemory>
-        requires { label_for (labels_of self.old.port) flow ≡ None }
+        requires open { IsSome self.old.port.session }
+        requires unserved { label_for (labels_of self.old.port) flow ≡ None }
         ensures fixed { self.new.fixed ≡ self.old.fixed }
         ensures range { IfOk result (λ number. IfSome number (λ n. IsTrue (is_label_number n))) }
         ensures number { (s : SessionValue) → self.old.port.session ≡ Some s → IfOk result (λ number. number ≡ lowest_spare (setup_of P.meaning self.old.fixed) s.least s.greatest s.labels) }
         ensures port { IfOk result (λ number. self.new.port ≡ with_taken self.old.port flow number) }
     {
         let Some(session) = mem::replace(&mut self.session, None) else {
-            return Ok(None);
+            unreachable!()
         };
         let (session, number) = session.wire(flow)?;
         if let Some(before) = mem::replace(&mut self.session, Some(session)) {

@@ -5,7 +5,9 @@
 
 mod grants;
 mod labels;
+mod setup;
 mod side;
 mod state;
 
+pub use setup::PortSetup;
 pub use state::PortState;

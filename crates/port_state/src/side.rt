@@ -154,7 +154,7 @@ impl<P: Policy> PortState<P> {
         ensures fixed { self.new.fixed ≡ self.old.fixed }
         ensures port { self.new.port ≡ with_side self.old.port (fresh State.Clearing (record { instance = own; address = self.old.fixed.address })) }
     {
-        self.adjacency = Adjacency::start(own, self.address);
+        self.adjacency = Adjacency::start(own, self.setup.address);
     }
 
     /// A session begins: all labels of the port's range are spare.
@@ -166,9 +166,9 @@ impl<P: Policy> PortState<P> {
         let session = Session::open(
             self.alloc(),
             key,
-            self.least,
-            self.greatest,
-            self.timers.window,
+            self.setup.least,
+            self.setup.greatest,
+            self.setup.timers.window,
         )?;
         if let Some(before) = mem::replace(&mut self.session, Some(session)) {
             before.abandon();

@@ -7,17 +7,16 @@ ghost use Rattle.port_model.specs.Setup.{control_end, label_end};
 ghost use Rattle.port_model.specs.Port.{Session as SessionValue};
 ghost use Rattle.port_state.specs.Engine.{AreTimes, IsBookOf, IsPoolOf, IsTableOf};
 
+use crate::setup::PortSetup;
 use flow_classifier::Policy;
 use grant_table::GrantTable;
 use ifmp_adjacency::{Adjacency, State};
 use ipv4_packet::FlowId;
 use label_pool::LabelPool;
 use net_types::{
-    Addr, CONTROL_PORT, Channel, End, Instance, NodeId, OutOfMemory, PortNo, label_channel,
-    on_control,
+    CONTROL_PORT, Channel, End, Instance, NodeId, OutOfMemory, PortNo, label_channel, on_control,
 };
 use port_labels::LabelBook;
-use port_model::Timers;
 use port_session::Session;
 use std::alloc::Global;
 use std::marker::Model;
@@ -27,14 +26,7 @@ use std::marker::Model;
 #[must_use]
 pub struct PortState<P: Policy> {
     alloc: Global,
-    node: NodeId,
-    port: PortNo,
-    pub(crate) address: Addr,
-    /// The range of labels that the port hands out and takes, by their numbers.
-    pub(crate) least: u16,
-    pub(crate) greatest: u16,
-    pub(crate) timers: Timers,
-    policy: P,
+    pub(crate) setup: PortSetup<P>,
     pub(crate) adjacency: Adjacency,
     pub(crate) session: Option<Session>,
     pub(crate) grants: GrantTable,
@@ -50,15 +42,7 @@ impl<P: Policy> Model for PortState<P> {
     ghost use Rattle.std.specs.Prelude.{option_map};
 
     ghost view = { λ l. record {
-      fixed = record {
-        node = l.node;
-        port = l.port;
-        address = l.address;
-        least = l.least;
-        greatest = l.greatest;
-        timers = l.timers;
-        policy = l.policy;
-      };
+      fixed = l.setup;
       port = record {
         adjacency = l.adjacency;
         session = option_map (λ s. s.session) l.session;
@@ -72,51 +56,39 @@ impl<P: Policy> Model for PortState<P> {
     ghost use Rattle.port_state.specs.Engine.{AreTimes};
 
     ghost invariant = { λ l. record {
-      port : (1 ≤ l.port.0) × (l.port.0 ≤ 8);
-      least : IsTrue (is_label_number l.least);
-      greatest : IsTrue (is_label_number l.greatest);
-      order : l.least ≤ l.greatest;
-      times : AreTimes l.timers;
-      grants : (l.grants.least ≡ l.least) × (l.grants.greatest ≡ l.greatest);
-      range : IfSome l.session (λ s. (s.least ≡ l.least) × (s.greatest ≡ l.greatest));
-      window : IfSome l.session (λ s. s.window ≡ l.timers.window);
+      port : (1 ≤ l.setup.port.0) × (l.setup.port.0 ≤ 8);
+      least : IsTrue (is_label_number l.setup.least);
+      greatest : IsTrue (is_label_number l.setup.greatest);
+      order : l.setup.least ≤ l.setup.greatest;
+      times : AreTimes l.setup.timers;
+      grants : (l.grants.least ≡ l.setup.least) × (l.grants.greatest ≡ l.setup.greatest);
+      range : IfSome l.session (λ s. (s.least ≡ l.setup.least) × (s.greatest ≡ l.setup.greatest));
+      window : IfSome l.session (λ s. s.window ≡ l.setup.timers.window);
       instance : IfSome l.session (λ s. s.instance ≡ l.adjacency.own.instance);
     } };
 }
 
 impl<P: Policy + Drop> PortState<P> {
-    /// A port in Clearing, under the instance `own`: no session, and no grant. Its labels are those from
-    /// `least` to `greatest`, by their numbers.
+    /// A port in Clearing, under the instance `own`: no session, and no grant.
     pub fn open(
         alloc: Global,
-        node: NodeId,
-        port: PortNo,
-        address: Addr,
-        least: u16,
-        greatest: u16,
-        timers: Timers,
-        policy: P,
+        setup: PortSetup<P>,
         own: Instance,
     ) -> Result<PortState<P>, OutOfMemory>
-        requires port { (1 ≤ port.0) × (port.0 ≤ 8) }
-        requires least { IsTrue (is_label_number least) }
-        requires greatest { IsTrue (is_label_number greatest) }
-        requires order { least ≤ greatest }
-        requires times { AreTimes timers }
-        ensures fixed { IfOk result (λ state. state.fixed ≡ record { node = node; port = port; address = address; least = least; greatest = greatest; timers = timers; policy = policy }) }
-        ensures port { IfOk result (λ state. state.port ≡ record { adjacency = fresh State.Clearing (record { instance = own; address = address }); session = None; grants = []; redirects = 0 }) }
+        requires port { (1 ≤ setup.port.0) × (setup.port.0 ≤ 8) }
+        requires least { IsTrue (is_label_number setup.least) }
+        requires greatest { IsTrue (is_label_number setup.greatest) }
+        requires order { setup.least ≤ setup.greatest }
+        requires times { AreTimes setup.timers }
+        ensures fixed { IfOk result (λ state. state.fixed ≡ setup) }
+        ensures port { IfOk result (λ state. state.port ≡ record { adjacency = fresh State.Clearing (record { instance = own; address = setup.address }); session = None; grants = []; redirects = 0 }) }
     {
-        let grants = GrantTable::open(alloc, least, greatest)?;
+        let grants = GrantTable::open(alloc, setup.least, setup.greatest)?;
+        let adjacency = Adjacency::start(own, setup.address);
         Ok(PortState {
             alloc,
-            node,
-            port,
-            address,
-            least,
-            greatest,
-            timers,
-            policy,
-            adjacency: Adjacency::start(own, address),
+            setup,
+            adjacency,
             session: None,
             grants,
             redirects: 0,
@@ -127,13 +99,7 @@ impl<P: Policy + Drop> PortState<P> {
     pub fn abandon(self) {
         let PortState {
             alloc: _,
-            node: _,
-            port: _,
-            address: _,
-            least: _,
-            greatest: _,
-            timers: _,
-            policy: _,
+            setup: _,
             adjacency: _,
             session,
             grants,
@@ -156,7 +122,7 @@ impl<P: Policy> PortState<P> {
     pub fn node(&self) -> NodeId
         ensures { result ≡ self.now.fixed.node }
     {
-        self.node
+        self.setup.node
     }
 
     /// Its number.
@@ -164,42 +130,42 @@ impl<P: Policy> PortState<P> {
         ensures number { result ≡ self.now.fixed.port }
         ensures range { (1 ≤ result.0) × (result.0 ≤ 8) }
     {
-        self.port
+        self.setup.port
     }
 
     /// How long its labels may be used after a REDIRECT, in ticks.
     pub fn lifetime(&self) -> u16
         ensures { result ≡ self.now.fixed.timers.lifetime }
     {
-        self.timers.lifetime
+        self.setup.timers.lifetime
     }
 
     /// How many ticks after a REDIRECT it is sent again.
     pub fn refresh(&self) -> u16
         ensures { result ≡ self.now.fixed.timers.refresh }
     {
-        self.timers.refresh
+        self.setup.timers.refresh
     }
 
     /// The channel of its least label.
     pub fn least_channel(&self) -> Channel
         ensures { result ≡ label_channel_of self.now.fixed.least }
     {
-        label_channel(self.least)
+        label_channel(self.setup.least)
     }
 
     /// The channel of its greatest label.
     pub fn greatest_channel(&self) -> Channel
         ensures { result ≡ label_channel_of self.now.fixed.greatest }
     {
-        label_channel(self.greatest)
+        label_channel(self.setup.greatest)
     }
 
     /// The number of its least label.
     pub fn least(&self) -> u16
         ensures { result ≡ self.now.fixed.least }
     {
-        self.least
+        self.setup.least
     }
 
     /// The number of its greatest label.
@@ -208,21 +174,21 @@ impl<P: Policy> PortState<P> {
         ensures order { self.now.fixed.least ≤ result }
         ensures label { IsTrue (is_label_number result) }
     {
-        self.greatest
+        self.setup.greatest
     }
 
     /// Whether its policy offers a label to a flow of which so many packets were counted.
     pub fn offers(&self, flow: &FlowId, packets: u32) -> bool
         ensures { result ≡ (P.meaning self.now.fixed.policy).offers flow.now packets }
     {
-        self.policy.offer(flow, packets)
+        self.setup.policy.offer(flow, packets)
     }
 
     /// Whether its policy keeps the label of a flow that was idle for so many ticks.
     pub fn keeps(&self, flow: &FlowId, idle: u32) -> bool
         ensures { result ≡ (P.meaning self.now.fixed.policy).keeps flow.now idle }
     {
-        self.policy.keep(flow, idle)
+        self.setup.policy.keep(flow, idle)
     }
 
     /// The channel of a label at the port.
@@ -231,7 +197,7 @@ impl<P: Policy> PortState<P> {
         ensures { result ≡ label_end self.now.fixed.port number }
     {
         End {
-            port: self.port,
+            port: self.setup.port,
             channel: label_channel(number),
         }
     }
@@ -243,7 +209,7 @@ impl<P: Policy> PortState<P> {
     {
         End {
             port: CONTROL_PORT,
-            channel: on_control(self.port, label_channel(number)),
+            channel: on_control(self.setup.port, label_channel(number)),
         }
     }
 

@@ -6,13 +6,13 @@ use Rattle.std.specs.Option.{option_map_or, option_or}
 use Rattle.std.proofs.lemmas.Bool.Decides.{nat_tests}
 use Rattle.net_types.specs.declared.node.NodeId.{NodeId}
 use Rattle.net_types.specs.declared.node.PortNo.{PortNo}
-use Rattle.world_model.specs.network_model.declared.link.LinkEnd.{LinkEnd}
-use Rattle.world_model.specs.Topology.{Topology, Node, Link, node_in, same_link_end, peer_among}
-use Rattle.world_model.specs.Lines.{node_named, is_linked}
-use Rattle.world_model.specs.Conditions.{IsPort, IsLink, IsTopology}
-use Rattle.script_model.specs.Records.{has_node}
-use Rattle.script_model.specs.Texts.{name_of}
-use Rattle.script_model.proofs.ReadForms.{both}
+use Rattle.topology.specs.world_model.network_model.declared.link.LinkEnd.{LinkEnd}
+use Rattle.topology.specs.world_model.Topology.{Topology, Node, Link, node_in, same_link_end, peer_among}
+use Rattle.topology.specs.world_model.Lines.{node_named, is_linked}
+use Rattle.topology.specs.world_model.Conditions.{IsPort, IsLink, IsTopology}
+use Rattle.value_text.specs.script_model.Records.{has_node}
+use Rattle.value_text.specs.script_model.Texts.{name_of}
+use Rattle.value_text.proofs.script_model.ReadForms.{both}
 
 -- a node is found by its name
 

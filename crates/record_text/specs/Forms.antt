@@ -21,8 +21,8 @@ use Rattle.ipv4_packet.specs.declared.identifier.FlowFault.{FlowFault}
 use Rattle.ipv4_packet.specs.Identifier.{first_fault}
 use Rattle.lab_text.specs.Forms.{number_in, parts}
 use Rattle.lab_text.specs.Numeral.{number, below}
-use Rattle.world_model.specs.Topology.{Topology}
-use Rattle.world_model.specs.Lines.{node_named}
+use Rattle.topology.specs.world_model.Topology.{Topology}
+use Rattle.topology.specs.world_model.Lines.{node_named}
 
 -- *Numbers* of 32 and of 64 bits
 abbrev pub number_of : List ℕ → Option ℕ

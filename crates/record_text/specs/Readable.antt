@@ -6,12 +6,12 @@ use Rattle.net_types.specs.declared.number.Mark.{Mark}
 use Rattle.ipv4_packet.specs.Identifier.{FitsFields}
 use Rattle.link_model.specs.declared.record.Record.{Record}
 use Rattle.link_model.specs.declared.record.Record.TheVariants.{Delivered, Dropped, Refused, Loss, Chance, Bad, Opened, Closed, Bind, Free, Join, Part, Forged, Routes}
-use Rattle.world_model.specs.Topology.{Topology}
-use Rattle.world_model.specs.Conditions.{AreOctets}
-use Rattle.world_model.specs.Places.{place_node}
-use Rattle.script_model.specs.Sayable.{IsName}
-use Rattle.script_model.specs.Records.{IsLineOf}
-use Rattle.script_model.specs.Texts.{name_of}
+use Rattle.topology.specs.world_model.Topology.{Topology}
+use Rattle.topology.specs.world_model.Conditions.{AreOctets}
+use Rattle.topology.specs.world_model.Places.{place_node}
+use Rattle.value_text.specs.script_model.Sayable.{IsName}
+use Rattle.value_text.specs.script_model.Records.{IsLineOf}
+use Rattle.value_text.specs.script_model.Texts.{name_of}
 
 -- each number fits its field
 abbrev pub FitsMark : Mark → Type 0

@@ -10,8 +10,8 @@ use Rattle.link_model.specs.declared.record.Record.{Record}
 use Rattle.link_model.specs.declared.record.Record.TheVariants.{Delivered, Dropped, Refused, Loss, Chance, Bad, Opened, Closed, Bind, Free, Join, Part, Forged, Routes}
 use Rattle.lab_text.specs.Names.{cause_text, drop_text, layer_text, refusal_text}
 use Rattle.lab_text.specs.Numeral.{hex_octets}
-use Rattle.world_model.specs.Topology.{Topology}
-use Rattle.world_model.specs.Lines.{node_named}
+use Rattle.topology.specs.world_model.Topology.{Topology}
+use Rattle.topology.specs.world_model.Lines.{node_named}
 use Rattle.record_text.specs.declared.kind.Kind.{Kind}
 use Rattle.record_text.specs.declared.kind.Kind.TheVariants as kind
 use Rattle.record_text.specs.declared.kind.TheConstants.{KINDS}

@@ -3,8 +3,8 @@
 ghost use Rattle.std.specs.Prelude.{◌≡◌, ◌++◌, ◌∷◌, [], OnOk, OnErr, codes, decimal};
 ghost use Rattle.link_model.specs.declared.record.Record.TheVariants as told;
 ghost use Rattle.lab_text.specs.Text.{hex_digits, line_of};
-ghost use Rattle.script_model.specs.Records.{record_line};
-ghost use Rattle.script_model.specs.Texts.{name_of, label_text, port_text, mark_text};
+ghost use Rattle.value_text.specs.script_model.Records.{record_line};
+ghost use Rattle.value_text.specs.script_model.Texts.{name_of, label_text, port_text, mark_text};
 ghost use Rattle.lab_text.specs.Names.{cause_text};
 ghost use Rattle.value_text.specs.Kept.{GoesOn};
 

@@ -1,3 +1,5 @@
+pub use Rattle.port_saying.proofs as port_saying
+pub use Rattle.port_session.proofs as port_session
 pub mod Ages
 pub mod Backs
 pub mod Grown

@@ -1,2 +1,3 @@
+pub use Rattle.port_state.specs as port_state
 pub mod Calls
 pub mod Rules

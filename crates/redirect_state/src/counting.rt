@@ -1,6 +1,6 @@
 //! *Counting*: which flows are offered a label (the policy of Newman, Minshall and Lyon).
 
-ghost use Rattle.std.specs.Prelude.{◌≡◌, ℕ, option_map, IfSome, OnOk, None, Some};
+ghost use Rattle.std.specs.Prelude.{◌≡◌, ℕ, option_map, IsSome, IfSome, OnOk, None, Some};
 ghost use Rattle.ipv4_packet.specs.Packet.{IsPacket};
 ghost use Rattle.port_model.specs.Counts.{packets_in};
 ghost use Rattle.port_model.specs.Labels.{Label, label_for, label_number, lowest_spare};
@@ -88,6 +88,7 @@ fn offer<P: Policy>(
     desk: &Desk,
     out: &mut Actions,
 ) -> Result<(), OutOfMemory>
+    requires open { IsSome state.old.port.session }
     requires packets { IfSome state.old.port.session (λ s. packets ≡ packets_in s.counted flow) }
     requires unserved { label_for (labels_of state.old.port) flow ≡ None }
     ensures fixed { state.new.fixed ≡ state.old.fixed }
@@ -108,7 +109,8 @@ fn wire<P: Policy>(
     flow: FlowId,
     out: &mut Actions,
 ) -> Result<(), OutOfMemory>
-    requires { label_for (labels_of state.old.port) flow ≡ None }
+    requires open { IsSome state.old.port.session }
+    requires unserved { label_for (labels_of state.old.port) flow ≡ None }
     ensures fixed { state.new.fixed ≡ state.old.fixed }
     ensures work { (n : ℕ) (s : Session) → state.old.port.session ≡ Some s → OnOk result (wires (setup_of P.meaning state.old.fixed) (begun state.old.port out.old n) flow (lowest_spare (setup_of P.meaning state.old.fixed) s.least s.greatest s.labels) ≡ begun state.new.port out.new n) }
 {

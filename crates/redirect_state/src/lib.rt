@@ -23,4 +23,5 @@ mod ticks;
 
 pub use link::Link;
 pub use port_actions::Actions;
+pub use port_labels::{LabelBook, LabelState, LabelView};
 pub use port_model::{Action, Timers};

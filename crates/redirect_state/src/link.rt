@@ -40,7 +40,7 @@ use port_labels::LabelBook;
 use port_model::Timers;
 use port_saying::done;
 use port_session::Session;
-use port_state::PortState;
+use port_state::{PortSetup, PortState};
 use std::alloc::Global;
 use std::marker::Model;
 
@@ -81,9 +81,16 @@ impl<P: Policy + Drop> Link<P> {
         ensures fixed { IfOk result (λ link. link.fixed ≡ record { node = node; port = port; address = address; least = least; greatest = greatest; timers = timers; policy = policy }) }
         ensures port { IfOk result (λ link. link.port ≡ record { adjacency = fresh State.Clearing (record { instance = own; address = address }); session = None; grants = []; redirects = 0 }) }
     {
-        let state = PortState::open(
-            alloc, node, port, address, least, greatest, timers, policy, own,
-        )?;
+        let setup = PortSetup {
+            node,
+            port,
+            address,
+            least,
+            greatest,
+            timers,
+            policy,
+        };
+        let state = PortState::open(alloc, setup, own)?;
         Ok(Link { state })
     }
 
@@ -145,6 +152,7 @@ impl<P: Policy> Link<P> {
     /// branches of the grants that end are withdrawn, the joins to its grants are taken back, and Delete
     /// All of it is asked. Grants that are lent stay until their inputs are released.
     pub fn reset(&mut self, own: Instance, out: &mut Actions) -> Result<(), OutOfMemory>
+        requires { 1 ≤ own.0 }
         ensures fixed { self.new.fixed ≡ self.old.fixed }
         ensures work { (n : ℕ) → own ≡ record { 0 = n + 1 } → OnOk result (HasDone self.old self.new out.new (n + 1) (resets (setup_of P.meaning self.old.fixed) (begun self.old.port out.old n))) }
     {

@@ -1,6 +1,6 @@
 //! *Port reset* and *Restart*.
 
-ghost use Rattle.std.specs.Prelude.{◌≡◌, ◌<◌, ◌+◌, ◌++◌, ℕ, flat_map, length, slice_get, take, IsTrue, IfOk, IfSome, OnOk, Some};
+ghost use Rattle.std.specs.Prelude.{◌≡◌, ◌<◌, ◌≤◌, ◌+◌, ◌++◌, ℕ, flat_map, length, slice_get, take, IsTrue, IfOk, IfSome, OnOk, Some};
 ghost use Rattle.keyed_lists.specs.Keyed.{at};
 ghost use Rattle.port_model.specs.Grants as grants;
 ghost use Rattle.port_model.specs.Grants.{grant_label};
@@ -29,6 +29,7 @@ pub(crate) fn reset<P: Policy>(
     own: Instance,
     out: &mut Actions,
 ) -> Result<(), OutOfMemory>
+    requires { 1 ≤ own.0 }
     ensures fixed { state.new.fixed ≡ state.old.fixed }
     ensures work { (n : ℕ) → own ≡ record { 0 = n + 1 } → OnOk result (HasDone state.old state.new out.new (n + 1) (resets (setup_of P.meaning state.old.fixed) (begun state.old.port out.old n))) }
 {

@@ -4,8 +4,8 @@ use Rattle.std.specs.Prelude.{◌≡◌, ℕ, ◌+◌, ◌-◌, ◌^◌, ◌<◌
 use Rattle.std.specs.Option.{option_map_or, option_and_then}
 use Rattle.net_types.specs.declared.prefix.Addr.{Addr}
 use Rattle.net_types.specs.Prefix.{Network, IsNetwork, covers as has_address}
-use Rattle.ipv4_packet.specs.declared.flow.FlowId.{FlowId}
-use Rattle.ipv4_packet.specs.Identifier.{FitsFields}
+use Rattle.port_model.specs.ipv4_packet.declared.flow.FlowId.{FlowId}
+use Rattle.port_model.specs.ipv4_packet.Identifier.{FitsFields}
 use Rattle.rule_model.specs.declared.rule.Protocol.{Protocol}
 use Rattle.rule_model.specs.declared.rule.Protocol.TheVariants as protocols
 use Rattle.rule_model.specs.declared.rule.Ports.{Ports}

@@ -1,3 +1,4 @@
+pub use Rattle.lab_text.specs as lab_text
 pub mod Matching
 pub mod Covering
 pub mod Names

@@ -5,9 +5,9 @@ use Rattle.std.specs.Prelude.{ℕ, Bool, true, false, ◌==◌, ◌&&◌, nat_le
 use Rattle.std.specs.Option.{option_map}
 use Rattle.net_types.specs.declared.prefix.Addr.{Addr}
 use Rattle.net_types.specs.Prefix.{covers}
-use Rattle.ipv4_packet.specs.declared.flow.FlowId.{FlowId}
-use Rattle.ipv4_packet.specs.declared.flow.FlowId.TheVariants.{One, Two}
-use Rattle.ipv4_packet.specs.Flow.{has_ports}
+use Rattle.port_model.specs.ipv4_packet.declared.flow.FlowId.{FlowId}
+use Rattle.port_model.specs.ipv4_packet.declared.flow.FlowId.TheVariants.{One, Two}
+use Rattle.port_model.specs.ipv4_packet.Flow.{has_ports}
 use Rattle.port_model.specs.Setup.{Policy}
 use Rattle.rule_model.specs.declared.rule.Protocol.{Protocol}
 use Rattle.rule_model.specs.declared.rule.Protocol.TheVariants as protocols

@@ -1,9 +1,9 @@
 -- the topology of a script is one that lines make
 
 use Rattle.std.proofs.Common.{◌≡◌, ℕ, List, [], ◌∷◌, take, Option, None, Some, Result, Ok, Err, refl, option_and_then}
-use Rattle.lab_text.specs.Line.{text_fault, line_fault}
-use Rattle.lab_text.specs.Lines.{lines_of}
-use Rattle.lab_text.specs.Words.{line_text}
+use Rattle.rule_model.specs.lab_text.Line.{text_fault, line_fault}
+use Rattle.rule_model.specs.lab_text.Lines.{lines_of}
+use Rattle.rule_model.specs.lab_text.Words.{line_text}
 use Rattle.world_model.specs.Conditions.{IsTopology}
 use Rattle.world_model.proofs.Kept.{line_keeps, empty_is}
 use Rattle.script_model.specs.declared.line.Line.{Line}

@@ -3,7 +3,7 @@
 use Rattle.std.proofs.Common.{◌≡◌, ℕ, List, [], ◌∷◌, refl}
 use Rattle.std.specs.Fmt.{digits}
 use Rattle.std.specs.Prelude.{codes, flat_map, take}
-use Rattle.lab_text.specs.Text.{line_of}
+use Rattle.rule_model.specs.lab_text.Text.{line_of}
 use Rattle.script_model.specs.Drill.{node_count, topology_lines, sends_from, behind}
 
 nodes_are : node_count 1 ≡ 5

@@ -1,3 +1,4 @@
+pub use Rattle.world_model.proofs as world_model
 mod Refusals
 mod Documents
 mod Drills

@@ -9,8 +9,8 @@ use Rattle.std.proofs.lemmas.Bool.Decides.{nat_tests}
 use Rattle.std.proofs.lemmas.Fmt.{digits_decimal, digits_value-decimal, decimal_nonempty, first_decimal, decimal_digit}
 use Rattle.std.proofs.lemmas.Str.Parse.{numerals_by_value, tells_all_ascii_digits}
 use Rattle.std.proofs.Math.Seq.{take-append_seam, drop-append-add}
-use Rattle.lab_text.specs.Numeral.{is_number, number}
-use Rattle.lab_text.specs.Forms.{number_in, parts}
+use Rattle.rule_model.specs.lab_text.Numeral.{is_number, number}
+use Rattle.rule_model.specs.lab_text.Forms.{number_in, parts}
 
 -- *Digits*
 all_is : (ds : List ℕ) → list_all is_ascii_digit ds ≡ all_ascii_digits ds

@@ -11,11 +11,11 @@ use Rattle.net_types.specs.declared.node.Place.TheVariants.{Down, Up, Out}
 use Rattle.net_types.specs.declared.channel.Channel.{Channel}
 use Rattle.net_types.specs.Label.{is_label_number}
 use Rattle.net_types.specs.Prefix.{Network}
-use Rattle.ipv4_forward.specs.declared.table.Next.{Next}
-use Rattle.ipv4_forward.specs.declared.table.Next.TheVariants.{Local, Via}
-use Rattle.lab_text.specs.Forms.{is_letter, is_name_octet}
-use Rattle.lab_text.specs.Text.{hex_digits, line_of}
-use Rattle.lab_text.specs.Words.{line_text, is_blank_text}
+use Rattle.world_model.specs.ipv4_forward.declared.table.Next.{Next}
+use Rattle.world_model.specs.ipv4_forward.declared.table.Next.TheVariants.{Local, Via}
+use Rattle.rule_model.specs.lab_text.Forms.{is_letter, is_name_octet}
+use Rattle.rule_model.specs.lab_text.Text.{hex_digits, line_of}
+use Rattle.rule_model.specs.lab_text.Words.{line_text, is_blank_text}
 use Rattle.world_model.specs.network_model.declared.event.Event.{Event}
 use Rattle.world_model.specs.network_model.declared.event.Event.TheVariants as event
 use Rattle.world_model.specs.network_model.declared.line.TopologyLine.{TopologyLine}

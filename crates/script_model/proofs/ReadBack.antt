@@ -15,9 +15,9 @@ use Rattle.net_types.specs.declared.node.PortNo.{PortNo}
 use Rattle.net_types.specs.declared.channel.Channel.{Channel}
 use Rattle.net_types.specs.Label.{is_label_number, label_channel_of}
 use Rattle.net_types.specs.Prefix.{Network, IsNetwork}
-use Rattle.lab_text.specs.Forms.{is_letter, is_name, is_name_octet, number_in, dotted, address_of, prefix_of}
-use Rattle.lab_text.specs.Numeral.{hex_octets, paired}
-use Rattle.lab_text.specs.Text.{hex_digit, hex_digits}
+use Rattle.rule_model.specs.lab_text.Forms.{is_letter, is_name, is_name_octet, number_in, dotted, address_of, prefix_of}
+use Rattle.rule_model.specs.lab_text.Numeral.{hex_octets, paired}
+use Rattle.rule_model.specs.lab_text.Text.{hex_digit, hex_digits}
 use Rattle.script_model.specs.Forms.{FromController, FromPort, end_of, queue_of, channel_of, label_of}
 use Rattle.world_model.specs.Conditions.{AreOctets}
 use Rattle.script_model.specs.Texts.{dotted_text, address_text, prefix_text, channel_text, end_text}

@@ -11,8 +11,8 @@ use Rattle.net_types.specs.declared.node.PortNo.{PortNo}
 use Rattle.net_types.specs.declared.channel.Channel.{Channel}
 use Rattle.net_types.specs.Label.{is_label_number, is_label_channel, label_number_of, number_of_channel}
 use Rattle.net_types.specs.Prefix.{Network, IsNetwork}
-use Rattle.lab_text.specs.Forms.{is_name, within, number_in, parts, dotted, address_of, network_of, prefix_of}
-use Rattle.lab_text.specs.Numeral.{number, is_hex, hex_octets, paired}
+use Rattle.rule_model.specs.lab_text.Forms.{is_name, within, number_in, parts, dotted, address_of, network_of, prefix_of}
+use Rattle.rule_model.specs.lab_text.Numeral.{number, is_hex, hex_octets, paired}
 use Rattle.world_model.specs.Conditions.{IsWithin, IsPort, AreOctets}
 use Rattle.script_model.specs.declared.refusal.LineRefusal.{LineRefusal}
 use Rattle.script_model.specs.declared.refusal.LineRefusal.TheVariants as why

@@ -9,8 +9,8 @@ use Rattle.std.proofs.lemmas.Slice.Eq.{bytes_eq-Decides}
 use Rattle.net_types.specs.declared.node.NodeId.{NodeId}
 use Rattle.net_types.specs.declared.node.PortNo.{PortNo}
 use Rattle.net_types.specs.Label.{is_label_number}
-use Rattle.ipv4_forward.specs.declared.table.Next.TheVariants.{Local, Via}
-use Rattle.lab_text.specs.Words.{is_blank, words, is_blank_text}
+use Rattle.world_model.specs.ipv4_forward.declared.table.Next.TheVariants.{Local, Via}
+use Rattle.rule_model.specs.lab_text.Words.{is_blank, words, is_blank_text}
 use Rattle.world_model.specs.network_model.declared.event.Event.{Event}
 use Rattle.world_model.specs.network_model.declared.event.Event.TheVariants as event
 use Rattle.world_model.specs.network_model.declared.refusal.EventRefusal.{EventRefusal}

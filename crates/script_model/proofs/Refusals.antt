@@ -3,9 +3,9 @@
 use Rattle.std.proofs.Common.{◌≡◌, ℕ, List, [], ◌∷◌, ◌++◌, map, refl}
 use Rattle.std.specs.Prelude.{codes, Err, Result}
 use Rattle.std.specs.List.{repeat, range_with_len}
-use Rattle.ipv4_forward.specs.declared.table.Route.{Route}
-use Rattle.ipv4_forward.specs.declared.table.Next.TheVariants.{Local}
-use Rattle.lab_text.specs.Lines.{lines_of}
+use Rattle.world_model.specs.ipv4_forward.declared.table.Route.{Route}
+use Rattle.world_model.specs.ipv4_forward.declared.table.Next.TheVariants.{Local}
+use Rattle.rule_model.specs.lab_text.Lines.{lines_of}
 use Rattle.script_model.specs.declared.line.Line.{Line}
 use Rattle.script_model.specs.declared.refusal.LineRefusal.{LineRefusal}
 use Rattle.script_model.specs.declared.refusal.LineRefusal.TheVariants.{ScriptTooLong, LineTooLong, BadByte, UnknownWord, Arity, BadName, BadNumber, BadAddress, BadPrefix, BadPlace, BadChannel, BadHex, BadLength, Late, DuplicateName, UnknownName, SelfLink, PortTaken, NoLink, Duplicate, TableFull, NoPrefix, TooMany}

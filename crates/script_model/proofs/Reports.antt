@@ -5,9 +5,9 @@ use Rattle.std.specs.Fmt.{digits}
 use Rattle.std.specs.Prelude.{codes, Some}
 use Rattle.net_types.specs.declared.node.NodeId.{NodeId}
 use Rattle.net_types.specs.declared.node.Place.TheVariants.{Down, Up}
-use Rattle.link_model.specs.declared.record.Cause.TheVariants.{Lost}
-use Rattle.link_model.specs.declared.record.Record.TheVariants.{Loss}
-use Rattle.lab_text.specs.Numeral.{paired}
+use Rattle.world_model.specs.link_model.declared.record.Cause.TheVariants.{Lost}
+use Rattle.world_model.specs.link_model.declared.record.Record.TheVariants.{Loss}
+use Rattle.rule_model.specs.lab_text.Numeral.{paired}
 use Rattle.world_model.specs.network_model.declared.event.Event.TheVariants.{Inject, Carry, Lose, Tick}
 use Rattle.world_model.specs.Topology.{Topology}
 use Rattle.script_model.specs.declared.refusal.LineRefusal.TheVariants.{UnknownName}

@@ -9,8 +9,8 @@ use Rattle.std.proofs.lemmas.List.Splits.{slice_split_none, slice_split_at}
 use Rattle.std.proofs.lemmas.List.Sums.{AllPass-from_list_all}
 use Rattle.std.proofs.lemmas.List.Folds.{list_all-append}
 use Rattle.std.specs.List.{All}
-use Rattle.lab_text.specs.Words.{is_blank, line_text, words}
-use Rattle.lab_text.specs.Text.{line_of}
+use Rattle.rule_model.specs.lab_text.Words.{is_blank, line_text, words}
+use Rattle.rule_model.specs.lab_text.Text.{line_of}
 use Rattle.script_model.proofs.Numbers.{lacks_sign}
 
 -- an octet of a word

@@ -11,8 +11,8 @@ use Rattle.net_types.specs.declared.prefix.Addr.{Addr}
 use Rattle.net_types.specs.declared.node.PortNo.{PortNo}
 use Rattle.net_types.specs.declared.channel.Channel.{Channel}
 use Rattle.net_types.specs.Prefix.{Network}
-use Rattle.lab_text.specs.Forms.{is_letter, is_name, is_name_octet}
-use Rattle.lab_text.specs.Text.{hex_digits}
+use Rattle.rule_model.specs.lab_text.Forms.{is_letter, is_name, is_name_octet}
+use Rattle.rule_model.specs.lab_text.Text.{hex_digits}
 use Rattle.world_model.specs.Conditions.{AreOctets}
 use Rattle.script_model.specs.Texts.{dotted_text, address_text, prefix_text, channel_text, end_text}
 use Rattle.script_model.proofs.Numbers.{decimal_digits}

@@ -6,7 +6,7 @@ use Rattle.std.specs.Option.{option_map, option_and_then, option_map_or, ok_or}
 use Rattle.std.specs.Str.{is_utf8}
 use Rattle.toml.specs.Data.{Items, no_items, item, Members, no_members, member, get_member, as_str, as_array}
 use Rattle.toml.specs.Parse.{parse_document}
-use Rattle.port_model.specs.Setup.{Policy}
+use Rattle.world_model.specs.port_model.Setup.{Policy}
 use Rattle.world_model.specs.Topology.{Topology, empty_topology, policy_of}
 use Rattle.rule_model.specs.declared.rule.Rule.{Rule}
 use Rattle.rule_model.specs.declared.refusal.RuleRefusal.{RuleRefusal}

@@ -4,8 +4,8 @@
 use Rattle.std.specs.Prelude.{ℕ, ◌+◌, ◌-◌, ◌*◌, ◌/◌, ◌%◌, ◌==◌, nat_lt, List, [], ◌∷◌, ◌++◌, codes, decimal, map, flat_map, if◌then◌else◌}
 use Rattle.std.specs.Int.{w16, to_be_bytes}
 use Rattle.std.specs.List.{range_with_len, repeat}
-use Rattle.ipv4_packet.specs.Packet.{canonical}
-use Rattle.lab_text.specs.Text.{hex_digits, line_of}
+use Rattle.world_model.specs.ipv4_packet.Packet.{canonical}
+use Rattle.rule_model.specs.lab_text.Text.{hex_digits, line_of}
 use Rattle.world_model.specs.Topology.{policy_of}
 use Rattle.script_model.specs.State.{nothing_read}
 use Rattle.script_model.specs.Reading.{line_says}

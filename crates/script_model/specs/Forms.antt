@@ -7,8 +7,8 @@ use Rattle.net_types.specs.declared.node.PortNo.{PortNo}
 use Rattle.net_types.specs.declared.channel.Channel.{Channel}
 use Rattle.net_types.specs.Prefix.{Network}
 use Rattle.net_types.specs.Label.{label_number_of}
-use Rattle.lab_text.specs.Numeral.{hex_octets}
-use Rattle.lab_text.specs.Forms.{is_name, number_in, parts, address_of, prefix_of}
+use Rattle.rule_model.specs.lab_text.Numeral.{hex_octets}
+use Rattle.rule_model.specs.lab_text.Forms.{is_name, number_in, parts, address_of, prefix_of}
 use Rattle.script_model.specs.declared.refusal.LineRefusal.{LineRefusal}
 use Rattle.script_model.specs.declared.refusal.LineRefusal.TheVariants.{UnknownWord, Arity, BadName, BadNumber, BadAddress, BadPrefix, BadPlace, BadChannel, BadHex, BadLength}
 use Rattle.script_model.specs.Limits.{greatest_payload}

@@ -5,8 +5,8 @@ use Rattle.std.specs.Prelude.{ℕ, ◌==◌, nat_lt, List, [], ◌∷◌, length
 use Rattle.net_types.specs.declared.node.PortNo.{PortNo}
 use Rattle.net_types.specs.declared.channel.Channel.{Channel}
 use Rattle.net_types.specs.Prefix.{Network}
-use Rattle.ipv4_forward.specs.declared.table.Next.{Next}
-use Rattle.ipv4_forward.specs.declared.table.Next.TheVariants.{Local, Via}
+use Rattle.world_model.specs.ipv4_forward.declared.table.Next.{Next}
+use Rattle.world_model.specs.ipv4_forward.declared.table.Next.TheVariants.{Local, Via}
 use Rattle.world_model.specs.network_model.declared.line.TopologyLine.{TopologyLine}
 use Rattle.world_model.specs.network_model.declared.line.TopologyLine.TheVariants as lines
 use Rattle.script_model.specs.declared.keyword.Keyword.{Keyword}

@@ -2,11 +2,11 @@
 
 use Rattle.std.specs.Prelude.{ℕ, suc, List, [], ◌∷◌, ◌++◌, length, codes, decimal, count_by, Bool, true, false, Option, None, Some}
 use Rattle.net_types.specs.declared.node.NodeId.{NodeId}
-use Rattle.ipv4_forward.specs.declared.table.Route.{Route}
-use Rattle.lab_text.specs.Text.{line_of}
-use Rattle.link_model.specs.declared.record.Record.{Record}
-use Rattle.link_model.specs.declared.record.Record.TheVariants.{Delivered, Dropped, Refused}
-use Rattle.link_model.specs.declared.record.Refusal.{Refusal}
+use Rattle.world_model.specs.ipv4_forward.declared.table.Route.{Route}
+use Rattle.rule_model.specs.lab_text.Text.{line_of}
+use Rattle.world_model.specs.link_model.declared.record.Record.{Record}
+use Rattle.world_model.specs.link_model.declared.record.Record.TheVariants.{Delivered, Dropped, Refused}
+use Rattle.world_model.specs.link_model.declared.record.Refusal.{Refusal}
 use Rattle.world_model.specs.Packets.{inject_refusal}
 use Rattle.world_model.specs.network_model.declared.event.Event.{Event}
 use Rattle.world_model.specs.network_model.declared.event.Event.TheVariants.{Inject}

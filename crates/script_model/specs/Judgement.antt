@@ -2,7 +2,7 @@
 
 use Rattle.std.specs.Prelude.{ℕ, List, [], ◌∷◌, ◌++◌, length, slice_index, codes, decimal, is_some, Option, None, Some, Result, Ok, Err}
 use Rattle.std.specs.List.{count_by, flat_map, range_with_len}
-use Rattle.lab_text.specs.Text.{line_of}
+use Rattle.rule_model.specs.lab_text.Text.{line_of}
 use Rattle.rule_model.specs.Covering.{covered}
 use Rattle.rule_model.specs.Lines.{RuleLines}
 use Rattle.script_model.specs.declared.refusal.DocumentRefusal.{DocumentRefusal}

@@ -1,3 +1,6 @@
+pub use Rattle.world_model.specs.port_model as port_model
+pub use Rattle.world_model.specs as world_model
+pub use Rattle.rule_model.specs.lab_text as lab_text
 pub mod Limits
 pub mod Names
 pub mod Forms

@@ -1,7 +1,7 @@
 -- The limits of a script, in one place
 
 use Rattle.std.specs.Prelude.{ℕ}
-pub use Rattle.lab_text.specs.Line.{input_limit, line_limit}
+pub use Rattle.rule_model.specs.lab_text.Line.{input_limit, line_limit}
 pub use Rattle.world_model.specs.Limits.{greatest_nodes, greatest_links, greatest_routes, greatest_cells, greatest_time, greatest_packets, greatest_window, greatest_payload}
 
 abbrev pub greatest_event_lines : ℕ

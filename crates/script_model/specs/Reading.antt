@@ -2,10 +2,10 @@
 
 use Rattle.std.specs.Prelude.{ℕ, List, [], ◌∷◌, Option, None, Some, Result, Ok, Err, if◌then◌else◌}
 use Rattle.std.specs.Option.{option_and_then}
-use Rattle.lab_text.specs.declared.line.LineFault.{LineFault}
-use Rattle.lab_text.specs.declared.line.LineFault.TheVariants as fault
-use Rattle.lab_text.specs.Line.{text_fault, line_fault}
-use Rattle.lab_text.specs.Words.{line_text, words, is_blank_text}
+use Rattle.rule_model.specs.lab_text.declared.line.LineFault.{LineFault}
+use Rattle.rule_model.specs.lab_text.declared.line.LineFault.TheVariants as fault
+use Rattle.rule_model.specs.lab_text.Line.{text_fault, line_fault}
+use Rattle.rule_model.specs.lab_text.Words.{line_text, words, is_blank_text}
 use Rattle.script_model.specs.declared.line.Line.{Line}
 use Rattle.script_model.specs.declared.line.Line.TheVariants.{Blank}
 use Rattle.script_model.specs.declared.refusal.LineRefusal.{LineRefusal}

@@ -6,12 +6,12 @@ use Rattle.net_types.specs.declared.node.PortNo.{PortNo}
 use Rattle.net_types.specs.declared.node.Place.{Place}
 use Rattle.net_types.specs.declared.node.Place.TheVariants.{Down, Up, Out}
 use Rattle.net_types.specs.Label.{is_label_number}
-use Rattle.ipv4_packet.specs.Flow.{IsFlow}
-use Rattle.ipv4_packet.specs.Identifier.{identifier}
-use Rattle.link_model.specs.declared.record.Record.{Record}
-use Rattle.link_model.specs.declared.record.Record.TheVariants.{Delivered, Dropped, Refused, Loss, Chance, Bad, Opened, Closed, Bind, Free, Join, Part, Forged, Routes}
-use Rattle.lab_text.specs.Names.{cause_text, drop_text, layer_text, refusal_text}
-use Rattle.lab_text.specs.Text.{hex_digits, line_of}
+use Rattle.world_model.specs.ipv4_packet.Flow.{IsFlow}
+use Rattle.world_model.specs.ipv4_packet.Identifier.{identifier}
+use Rattle.world_model.specs.link_model.declared.record.Record.{Record}
+use Rattle.world_model.specs.link_model.declared.record.Record.TheVariants.{Delivered, Dropped, Refused, Loss, Chance, Bad, Opened, Closed, Bind, Free, Join, Part, Forged, Routes}
+use Rattle.rule_model.specs.lab_text.Names.{cause_text, drop_text, layer_text, refusal_text}
+use Rattle.rule_model.specs.lab_text.Text.{hex_digits, line_of}
 use Rattle.world_model.specs.Topology.{Topology, node_at, vpis_of}
 use Rattle.world_model.specs.Lines.{is_linked}
 use Rattle.script_model.specs.Texts.{name_of, port_text, label_text, mark_text, place_text}

@@ -2,9 +2,9 @@
 
 use Rattle.std.specs.Prelude.{ℕ, List, [], ◌∷◌, ◌++◌, codes, decimal, Option, None, Some}
 use Rattle.std.specs.List.{flat_map}
-use Rattle.lab_text.specs.Text.{line_of}
-use Rattle.link_model.specs.declared.record.Record.{Record}
-use Rattle.port_model.specs.Setup.{Policy}
+use Rattle.rule_model.specs.lab_text.Text.{line_of}
+use Rattle.world_model.specs.link_model.declared.record.Record.{Record}
+use Rattle.world_model.specs.port_model.Setup.{Policy}
 use Rattle.world_model.specs.Topology.{Topology, policy_of}
 use Rattle.world_model.specs.World.{Counts, counts_of, opened}
 use Rattle.world_model.specs.Run.{run, world_after, records_of}

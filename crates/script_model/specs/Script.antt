@@ -2,7 +2,7 @@
 
 use Rattle.std.specs.Prelude.{ℕ, ◌+◌, List, [], ◌∷◌, ◌++◌, take, Option, None, Some, Result, Ok, Err}
 use Rattle.std.specs.List.{repeat}
-use Rattle.lab_text.specs.Lines.{lines_of}
+use Rattle.rule_model.specs.lab_text.Lines.{lines_of}
 use Rattle.world_model.specs.network_model.declared.event.Event.{Event}
 use Rattle.world_model.specs.Topology.{Topology, policy_of}
 use Rattle.world_model.specs.World.{World, opened}

@@ -2,9 +2,9 @@
 
 use Rattle.std.specs.Prelude.{ℕ, List, [], ◌∷◌, codes, decimal, Option, None, Some}
 use Rattle.net_types.specs.Prefix.{Network}
-use Rattle.ipv4_forward.specs.declared.table.Next.{Next}
-use Rattle.ipv4_forward.specs.declared.table.Next.TheVariants.{Local, Via}
-use Rattle.lab_text.specs.Text.{hex_digits, line_of}
+use Rattle.world_model.specs.ipv4_forward.declared.table.Next.{Next}
+use Rattle.world_model.specs.ipv4_forward.declared.table.Next.TheVariants.{Local, Via}
+use Rattle.rule_model.specs.lab_text.Text.{hex_digits, line_of}
 use Rattle.world_model.specs.network_model.declared.event.Event.{Event}
 use Rattle.world_model.specs.network_model.declared.event.Event.TheVariants as event
 use Rattle.world_model.specs.network_model.declared.line.TopologyLine.{TopologyLine}

@@ -1,7 +1,7 @@
 //! Lines are read as they are written, and what lines describe is a topology.
 
 ghost use Rattle.std.specs.Prelude.{◌≡◌, ℕ, List, Ok};
-ghost use Rattle.lab_text.specs.Words.{line_text};
+ghost use Rattle.rule_model.specs.lab_text.Words.{line_text};
 ghost use Rattle.world_model.specs.Conditions.{IsTopology};
 ghost use Rattle.script_model.specs.declared.line.Line.{Line};
 ghost use Rattle.script_model.specs.State.{ScriptState};

@@ -19,8 +19,8 @@ use Rattle.script_model.specs.declared.refusal.Refused.{Refused}
 use Rattle.script_model.specs.declared.refusal.Refused.TheVariants.{Line as LineIs}
 use Rattle.script_model.specs.Reading.{line_says}
 use Rattle.script_model.specs.Script.{Script, number_of, script_of}
-use Rattle.telling_model.specs.Placed.{Placed, placed_of}
-use Rattle.telling_model.specs.Tale.{Tale, end_of, told_of}
+use Rattle.network_run.specs.telling_model.Placed.{Placed, placed_of}
+use Rattle.network_run.specs.telling_model.Tale.{Tale, end_of, told_of}
 use Rattle.world.specs.declared.counts.Meter.{Meter}
 use Rattle.network_run.specs.declared.stop.Stop.{Stop}
 use Rattle.network_run.specs.declared.stop.Stop.TheVariants as stop

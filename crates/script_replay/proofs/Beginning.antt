@@ -10,8 +10,8 @@ use Rattle.world_model.specs.Topology.{Topology}
 use Rattle.script_model.specs.Reading.{line_says}
 use Rattle.script_model.specs.Script.{Script}
 use Rattle.script_model.specs.State.{ScriptState}
-use Rattle.telling_model.specs.Placed.{Placed, events_in}
-use Rattle.telling_model.specs.Tale.{Tale}
+use Rattle.network_run.specs.telling_model.Placed.{Placed, events_in}
+use Rattle.network_run.specs.telling_model.Tale.{Tale}
 use Rattle.world.specs.declared.counts.Meter.{Meter}
 use Rattle.network_run.specs.Telling.{StaysWithin}
 use Rattle.network_replay.specs.Along.{IsGoing}

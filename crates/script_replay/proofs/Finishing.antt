@@ -12,7 +12,7 @@ use Rattle.port_model.specs.Setup.{Policy}
 use Rattle.world_model.specs.Topology.{Topology}
 use Rattle.script_model.specs.declared.refusal.Refused.{Refused}
 use Rattle.script_model.specs.Script.{Script, script_of}
-use Rattle.telling_model.specs.Placed.{Placed, placed_of}
+use Rattle.network_run.specs.telling_model.Placed.{Placed, placed_of}
 use Rattle.world.specs.declared.counts.Meter.{Meter}
 use Rattle.network_run.specs.declared.stop.Stop.TheVariants as stop
 use Rattle.script_replay.specs.Report as report

@@ -18,7 +18,7 @@ use Rattle.script_model.specs.declared.refusal.LineRefusal.TheVariants.{LineTooL
 use Rattle.script_model.specs.Reading.{fault_name, line_says, says_by, text_says}
 use Rattle.script_model.specs.Script.{Script, script_from, script_of}
 use Rattle.script_model.specs.State.{ScriptState, nothing_read}
-use Rattle.telling_model.specs.Placed.{Placed, placed_from, placed_of}
+use Rattle.network_run.specs.telling_model.Placed.{Placed, placed_from, placed_of}
 use Rattle.script_replay.proofs.InputLines.{IsFirst, all_of_it, by_test, feed_at, feed_later, front_line, lines_at, lines_later, with_end}
 
 -- *A script, and the events of its lines*: of some lines, and of the octets of an input

@@ -7,7 +7,7 @@ use Rattle.lab_io.specs.Report.{Writer}
 use Rattle.port_model.specs.Setup.{Policy}
 use Rattle.world_model.specs.Topology.{Topology}
 use Rattle.script_model.specs.Script.{Script, script_of}
-use Rattle.telling_model.specs.Placed.{Placed}
+use Rattle.network_run.specs.telling_model.Placed.{Placed}
 use Rattle.world.specs.declared.counts.Meter.{Meter}
 use Rattle.network_run.specs.declared.stop.Stop.{Stop}
 use Rattle.network_run.specs.declared.stop.Stop.TheVariants as stop

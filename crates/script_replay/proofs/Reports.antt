@@ -6,9 +6,9 @@ use Rattle.lab_io.specs.Transfer.{AppendsFront}
 use Rattle.port_model.specs.Setup.{Policy}
 use Rattle.world_model.specs.Topology.{Topology}
 use Rattle.script_model.specs.Script.{script_of}
-use Rattle.telling_model.specs.Placed.{placed_of}
+use Rattle.network_run.specs.telling_model.Placed.{placed_of}
 use Rattle.world.specs.declared.counts.Meter.{Meter}
-use Rattle.telling_model.proofs.Scripts.{events_of_script}
+use Rattle.network_run.proofs.telling_model.Scripts.{events_of_script}
 use Rattle.tell_report.specs.Report.{report_tale}
 use Rattle.law_told_scripts.proofs.Eventless.{none_in_octets}
 use Rattle.law_told_scripts.proofs.Reports.{account_is_report, body_is_report}

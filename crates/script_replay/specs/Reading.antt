@@ -15,8 +15,8 @@ use Rattle.script_model.specs.Limits.{input_limit}
 use Rattle.script_model.specs.Reading.{line_says}
 use Rattle.script_model.specs.Script.{Script, script_of}
 use Rattle.script_model.specs.State.{ScriptState}
-use Rattle.telling_model.specs.Placed.{Placed, placed_of}
-use Rattle.telling_model.specs.Tale.{Tale}
+use Rattle.network_run.specs.telling_model.Placed.{Placed, placed_of}
+use Rattle.network_run.specs.telling_model.Tale.{Tale}
 use Rattle.world.specs.declared.counts.Meter.{Meter}
 use Rattle.network_run.specs.declared.stop.Stop.{Stop}
 use Rattle.network_run.specs.declared.stop.Stop.TheVariants as stop

@@ -10,9 +10,9 @@ use Rattle.world_model.specs.Topology.{Topology}
 use Rattle.world_model.specs.World.{opened}
 use Rattle.script_model.specs.Reports.{body_under, report_under}
 use Rattle.script_model.specs.Script.{Script, script_of}
-use Rattle.telling_model.specs.Placed.{Placed, placed_of}
-use Rattle.telling_model.specs.Tale as tales
-use Rattle.telling_model.specs.Tale.{Tale}
+use Rattle.network_run.specs.telling_model.Placed.{Placed, placed_of}
+use Rattle.network_run.specs.telling_model.Tale as tales
+use Rattle.network_run.specs.telling_model.Tale.{Tale}
 use Rattle.world.specs.declared.counts.Meter.{Meter}
 use Rattle.network_run.specs.Telling.{meter_behind}
 use Rattle.script_replay.specs.declared.fault.ReplayFault.{ReplayFault}

@@ -6,7 +6,7 @@ ghost use Rattle.lab_io.specs.Report.{Writer};
 ghost use Rattle.port_model.specs.Setup.{Policy};
 ghost use Rattle.script_model.specs.Script.{Script, script_of};
 ghost use Rattle.script_replay.specs.Faults.{is_read_fault, is_write_fault};
-ghost use Rattle.telling_model.specs.Placed.{Placed};
+ghost use Rattle.network_run.specs.telling_model.Placed.{Placed};
 ghost use Rattle.world.specs.declared.counts.Meter.{Meter as Reading};
 ghost use Rattle.world_model.specs.Topology.{Topology as Described};
 ghost use Rattle.script_replay.specs.Report.{Finished, IsDone, IsLeft, account_by, body_by, report_by, telling_by};

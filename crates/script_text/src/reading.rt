@@ -2,6 +2,7 @@
 
 ghost use Rattle.std.specs.Prelude.{◌≡◌, IfOk};
 ghost use Rattle.lab_text.specs.Words.{line_text};
+ghost use Rattle.script_model.specs.Grammar.{Routes};
 ghost use Rattle.script_model.specs.Meaning.{meant, place_at};
 ghost use Rattle.script_model.specs.Sayable.{IsSayable};
 ghost use Rattle.script_model.specs.Reading.{text_says, line_says, string_says};
@@ -13,9 +14,9 @@ use crate::fault::ReadFault;
 use crate::names::fault_name;
 use crate::state::ScriptState;
 use crate::text::text_refusal;
-use ipv4_forward::RouteChange;
+use ipv4_forward::{Next, RouteChange};
 use lab_text::check_line;
-use net_types::{NodeId, Place, PortNo};
+use net_types::{NodeId, Place, PortNo, Prefix};
 use script_model::Line;
 use script_words::{Said, Side, read_words};
 use world_model::Event;
@@ -29,6 +30,19 @@ fn place_at(side: Side, node: NodeId) -> Place
         Side::FromPort(PortNo(0)) => Place::Up(node),
         Side::FromPort(port) => Place::Out(node, port),
     }
+}
+
+/// A route of the node of this name is set, or ended, behind the lines before, or it can't be.
+fn mean_routes(
+    state: &mut ScriptState,
+    name: &[u8],
+    prefix: Prefix,
+    next: Option<Next>,
+) -> Result<Line, ReadFault>
+    ensures { Takes state.old (meant state.old (Routes name.now prefix next)) state.new result }
+{
+    let node = state.named(name)?;
+    state.take_change(node, RouteChange { prefix, next })
 }
 
 /// What is said means something behind the lines before, or it can't.
@@ -77,14 +91,7 @@ fn mean(state: &mut ScriptState, said: &Said<'_>) -> Result<Line, ReadFault>
             let place = place_at(*side, state.named(name)?);
             state.take_frame(place, *channel, digits)
         }
-        Said::Routes { name, prefix, next } => {
-            let node = state.named(name)?;
-            let change = RouteChange {
-                prefix: *prefix,
-                next: *next,
-            };
-            state.take_change(node, change)
-        }
+        Said::Routes { name, prefix, next } => mean_routes(state, name, *prefix, *next),
     }
 }
 

@@ -11,9 +11,9 @@ use Rattle.script_model.specs.Forms as forms
 use Rattle.script_model.specs.Forms.{after}
 use Rattle.script_model.specs.Grammar as grammar
 use Rattle.script_model.specs.Grammar.{said, said_of}
-use Rattle.world_model.specs.network_model.declared.line.TopologyLine.{TopologyLine}
-use Rattle.world_model.specs.network_model.declared.line.TopologyLine.TheVariants as lines
-use Rattle.world_model.specs.Conditions.{HasItsNumbers}
+use Rattle.script_model.specs.world_model.network_model.declared.line.TopologyLine.{TopologyLine}
+use Rattle.script_model.specs.world_model.network_model.declared.line.TopologyLine.TheVariants as lines
+use Rattle.script_model.specs.world_model.Conditions.{HasItsNumbers}
 use Rattle.script_words.specs.declared.said.Side.{Side}
 use Rattle.script_words.specs.declared.said.Side.TheVariants.{FromController, FromPort}
 use Rattle.script_words.specs.declared.said.Described.{Described}

@@ -5,9 +5,9 @@ use Rattle.ipv4_forward.specs.declared.table.Next.TheVariants.{Local, Via}
 use Rattle.net_types.specs.Prefix.{Network}
 use Rattle.script_model.specs.Grammar.{Said, Describes, Routes}
 use Rattle.std.specs.Prelude.{ℕ, List, Some}
-use Rattle.world_model.specs.network_model.declared.line.TopologyLine.{TopologyLine}
-use Rattle.world_model.specs.network_model.declared.line.TopologyLine.TheVariants as lines
-use Rattle.world_model.specs.Conditions.{IsPort}
+use Rattle.script_model.specs.world_model.network_model.declared.line.TopologyLine.{TopologyLine}
+use Rattle.script_model.specs.world_model.network_model.declared.line.TopologyLine.TheVariants as lines
+use Rattle.script_model.specs.world_model.Conditions.{IsPort}
 use Rattle.script_words.specs.declared.routes.Way.{Way}
 
 -- as a line of the topology

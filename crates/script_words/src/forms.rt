@@ -7,7 +7,7 @@ ghost use Rattle.std.specs.Option.{option_map};
 ghost use Rattle.lab_text.specs.Forms.{is_name, is_letter, is_name_octet};
 ghost use Rattle.lab_text.specs.Numeral.{paired};
 ghost use Rattle.script_model.specs.Forms.{NameWord, NameOrAll, AddressWord, PrefixWord, NumberWord, HexWord, PayloadWord, read};
-ghost use Rattle.world_model.specs.Conditions.{IsPort, IsWithin};
+ghost use Rattle.script_model.specs.world_model.Conditions.{IsPort, IsWithin};
 ghost use Rattle.script_words.specs.Faults.{ok_as};
 
 use lab_text::is_hex;

@@ -4,7 +4,7 @@ ghost use Rattle.std.specs.Prelude.{◌≡◌, IfSome, IfOk, IsTrue, true};
 ghost use Rattle.std.specs.Option.{option_map};
 ghost use Rattle.net_types.specs.Label.{is_label_number};
 ghost use Rattle.script_model.specs.Forms.{EndWord, QueueWord, ChannelWord, LabelWord, read, port_of, end_of, side_of, queue_of, channel_of, label_of};
-ghost use Rattle.world_model.specs.Conditions.{IsPort};
+ghost use Rattle.script_model.specs.world_model.Conditions.{IsPort};
 ghost use Rattle.script_words.specs.Faults.{ok_as};
 ghost use Rattle.script_words.specs.Told.{side_told};
 

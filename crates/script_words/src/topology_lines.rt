@@ -6,7 +6,7 @@ ghost use Rattle.lab_text.specs.Words.{words};
 ghost use Rattle.script_model.specs.declared.keyword.Keyword.TheVariants as word;
 ghost use Rattle.script_model.specs.Forms.{NumberWord, read};
 ghost use Rattle.script_model.specs.Grammar.{said, ranged};
-ghost use Rattle.world_model.specs.Conditions.{HasItsNumbers, IsPort, IsWithin};
+ghost use Rattle.script_model.specs.world_model.Conditions.{HasItsNumbers, IsPort, IsWithin};
 ghost use Rattle.script_words.specs.Faults.{ok_as};
 ghost use Rattle.script_words.specs.Told.{told, described, said_alike, HasNumbers};
 ghost use Rattle.script_words.specs.Ways.{route_described, HasPort};

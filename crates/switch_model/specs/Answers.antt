@@ -9,7 +9,7 @@ use Rattle.gsmp_wire.specs.declared.message.BranchKind.TheVariants as kinds
 use Rattle.gsmp_wire.specs.declared.message.Message.{Message}
 use Rattle.gsmp_wire.specs.declared.message.Message.TheVariants.{Adjacency, Branch, Move, Port, AllPorts}
 use Rattle.gsmp_wire.specs.declared.rows.PortRow.{PortRow}
-use Rattle.link_model.specs.Notes.{Journal}
+use Rattle.frame_model.specs.link_model.Notes.{Journal}
 use Rattle.crossbar_model.specs.Crossbar.{Branches, output_of}
 use Rattle.switch_model.specs.declared.port.PortState.{PortState}
 use Rattle.switch_model.specs.declared.request.Asked.{Asked}

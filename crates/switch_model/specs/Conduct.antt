@@ -9,7 +9,7 @@ use Rattle.net_types.specs.declared.channel.Channel.{Channel}
 use Rattle.net_types.specs.declared.adjacency.Greeting.{Greeting}
 use Rattle.net_types.specs.declared.adjacency.Party.{Party}
 use Rattle.net_types.specs.Number.{next_control, with_control, next_instance, with_instance}
-use Rattle.atm_cells.specs.declared.cell.Cell.{Cell}
+use Rattle.crossbar_model.specs.atm_cells.declared.cell.Cell.{Cell}
 use Rattle.adjacency_table.specs.declared.State.TheVariants.{SynSent}
 use Rattle.adjacency_table.specs.declared.message.Answer.{Answer}
 use Rattle.adjacency_table.specs.declared.message.Answer.TheVariants.{Quiet, Send, Open, Reset}
@@ -20,10 +20,10 @@ use Rattle.gsmp_wire.specs.declared.message.Message.{Message}
 use Rattle.gsmp_wire.specs.declared.message.Message.TheVariants.{Adjacency}
 use Rattle.gsmp_wire.specs.Layout.{octets_of}
 use Rattle.gsmp_wire.specs.Fields.{decoded}
-use Rattle.link_model.specs.declared.record.Record.TheVariants.{Loss, Bad}
-use Rattle.link_model.specs.declared.record.Cause.TheVariants.{Unconnected, PoolFull}
-use Rattle.link_model.specs.declared.record.Layer.TheVariants.{Gsmp}
-use Rattle.link_model.specs.Notes.{noted}
+use Rattle.frame_model.specs.link_model.declared.record.Record.TheVariants.{Loss, Bad}
+use Rattle.frame_model.specs.link_model.declared.record.Cause.TheVariants.{Unconnected, PoolFull}
+use Rattle.frame_model.specs.link_model.declared.record.Layer.TheVariants.{Gsmp}
+use Rattle.frame_model.specs.link_model.Notes.{noted}
 use Rattle.refusal_names.specs.Names.{gsmp_refusal}
 use Rattle.frame_model.specs.Reassembly.{Taken, taken, cut, nothing_taken}
 use Rattle.frame_model.specs.Frame.{Tested, tested}

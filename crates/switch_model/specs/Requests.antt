@@ -11,9 +11,9 @@ use Rattle.gsmp_wire.specs.declared.message.BranchKind.{BranchKind}
 use Rattle.gsmp_wire.specs.declared.message.BranchKind.TheVariants as kinds
 use Rattle.gsmp_wire.specs.declared.message.Message.{Message}
 use Rattle.gsmp_wire.specs.declared.message.Message.TheVariants as messages
-use Rattle.link_model.specs.declared.record.Record.TheVariants.{Loss}
-use Rattle.link_model.specs.declared.record.Cause.TheVariants.{Cut}
-use Rattle.link_model.specs.Notes.{Journal, noted}
+use Rattle.frame_model.specs.link_model.declared.record.Record.TheVariants.{Loss}
+use Rattle.frame_model.specs.link_model.declared.record.Cause.TheVariants.{Cut}
+use Rattle.frame_model.specs.link_model.Notes.{Journal, noted}
 use Rattle.crossbar_model.specs.declared.branch.Branch.{Branch}
 use Rattle.crossbar_model.specs.Crossbar.{Branches, new_branch, moved, cut_by_move}
 use Rattle.switch_model.specs.declared.port.PortState.{PortState}

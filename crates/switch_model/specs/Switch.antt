@@ -13,7 +13,7 @@ use Rattle.net_types.specs.declared.adjacency.Party.{Party}
 use Rattle.net_types.specs.Number.{GivenOut}
 use Rattle.adjacency_table.specs.declared.State.TheVariants.{SynSent}
 use Rattle.adjacency_table.specs.Side.{Side, fresh}
-use Rattle.link_model.specs.Notes.{Journal}
+use Rattle.frame_model.specs.link_model.Notes.{Journal}
 use Rattle.frame_model.specs.Reassembly.{Reassembly, nothing_taken}
 use Rattle.crossbar_model.specs.Crossbar.{Branches, Crossbar}
 use Rattle.switch_model.specs.declared.port.PortState.{PortState}

@@ -18,11 +18,11 @@ use Rattle.world_model.specs.World.{World}
 use Rattle.world.specs.declared.world.World.{World as Network}
 use Rattle.world.specs.Network.{IsNodeIn, world_of}
 use Rattle.world.specs.Running.{Runs}
-use Rattle.law_world_pace.proofs.Ports.{linked_port}
+use Rattle.world.proofs.law_world_pace.Ports.{linked_port}
 use Rattle.world.proofs.Conditions.{node_in, place_in, queue_low}
 use Rattle.telling_model.specs.Passing.{standing, taken_from}
-use Rattle.law_passing.specs.declared.reached.Reached.{Reached}
-use Rattle.law_passing.specs.declared.reached.Reached.TheVariants.{Nobody, Controller, Switch}
+use Rattle.law_passing.specs.telling_model.declared.reached.Reached.{Reached}
+use Rattle.law_passing.specs.telling_model.declared.reached.Reached.TheVariants.{Nobody, Controller, Switch}
 use Rattle.law_passing.specs.Reached.{carried_to, led_to, reached}
 use Rattle.tell_passing.specs.Look.{CanBe, IsActorIn, IsQueueIn}
 use Rattle.tell_passing.proofs.Reaching.{IsActorOf, led_is, reached_is}

@@ -11,9 +11,9 @@ use Rattle.world_model.specs.network_model.declared.link.LinkEnd.{LinkEnd}
 use Rattle.world_model.specs.Places.{queue_at}
 use Rattle.world_model.specs.Topology.{Topology, peer_of}
 use Rattle.world_model.specs.World.{World}
-use Rattle.law_world_pace.proofs.Ports.{far_node}
-use Rattle.law_passing.specs.declared.reached.Reached.{Reached}
-use Rattle.law_passing.specs.declared.reached.Reached.TheVariants.{Nobody, Controller, Switch}
+use Rattle.world.proofs.law_world_pace.Ports.{far_node}
+use Rattle.law_passing.specs.telling_model.declared.reached.Reached.{Reached}
+use Rattle.law_passing.specs.telling_model.declared.reached.Reached.TheVariants.{Nobody, Controller, Switch}
 use Rattle.law_passing.specs.Reached.{carried_to, led_to, owner_of, reached, switch_at}
 
 abbrev pub IsActorOf : Topology → Reached → Type 0

@@ -19,12 +19,12 @@ use Rattle.world_model.specs.World.{World}
 use Rattle.world_model.proofs.Lists.{by_eq}
 use Rattle.world.specs.declared.world.World.{World as Network}
 use Rattle.world.specs.Network.{no_notes, world_of}
-use Rattle.law_world_pace.specs.Running.{IsRunning, numbered}
-use Rattle.law_world_pace.proofs.Running.{places_are, places_at, places_from}
+use Rattle.world.specs.law_world_pace.Running.{IsRunning, numbered}
+use Rattle.world.proofs.law_world_pace.Running.{places_are, places_at, places_from}
 use Rattle.telling_model.specs.Passing.{left, left_of, put, put_at, source_of, standing}
 use Rattle.telling_model.specs.declared.standing.Standing.{Standing}
-use Rattle.law_passing.specs.declared.reached.Reached.{Reached}
-use Rattle.law_passing.specs.declared.reached.Reached.TheVariants as actors
+use Rattle.law_passing.specs.telling_model.declared.reached.Reached.{Reached}
+use Rattle.law_passing.specs.telling_model.declared.reached.Reached.TheVariants as actors
 use Rattle.law_passing.specs.Reached.{owns, reached}
 use Rattle.law_passing.proofs.Worlds.{of_the_actor, owned_left}
 use Rattle.tell_passing.specs.declared.before.Before.{Before}

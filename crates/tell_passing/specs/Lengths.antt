@@ -13,8 +13,8 @@ use Rattle.world_model.specs.Topology.{Topology}
 use Rattle.world_model.specs.World.{World}
 use Rattle.telling_model.specs.Passing.{standing}
 use Rattle.telling_model.specs.declared.standing.Standing.{Standing}
-use Rattle.law_passing.specs.declared.reached.Reached.{Reached}
-use Rattle.law_passing.specs.declared.reached.Reached.TheVariants as actors
+use Rattle.law_passing.specs.telling_model.declared.reached.Reached.{Reached}
+use Rattle.law_passing.specs.telling_model.declared.reached.Reached.TheVariants as actors
 use Rattle.tell_passing.specs.declared.lengths.Lengths.{Lengths}
 use Rattle.tell_passing.specs.declared.lengths.Lengths.TheVariants.{Nobody, Controller, Switch}
 

@@ -11,12 +11,12 @@ use Rattle.world_model.specs.Topology.{Topology}
 use Rattle.world_model.specs.World.{World}
 use Rattle.world.specs.declared.world.World.{World as Network}
 use Rattle.world.specs.Network.{IsNodeIn, world_of}
-use Rattle.law_world_pace.specs.Running.{IsRunning}
+use Rattle.world.specs.law_world_pace.Running.{IsRunning}
 use Rattle.world.specs.Running.{Runs}
 use Rattle.telling_model.specs.Passing.{left, taken}
 use Rattle.network_run.specs.Coming.{IsComing}
-use Rattle.law_passing.specs.declared.reached.Reached.{Reached}
-use Rattle.law_passing.specs.declared.reached.Reached.TheVariants as actors
+use Rattle.law_passing.specs.telling_model.declared.reached.Reached.{Reached}
+use Rattle.law_passing.specs.telling_model.declared.reached.Reached.TheVariants as actors
 use Rattle.law_passing.specs.Reached.{reached}
 use Rattle.tell_passing.specs.declared.before.Before.{Before}
 use Rattle.tell_passing.specs.declared.lengths.Lengths.{Lengths}

@@ -11,9 +11,8 @@ ghost use Rattle.world.specs.Running.{Runs};
 ghost use Rattle.tell_passing.specs.Lengths.{AreLengths, all_behind, behind, behind_at, link_ports};
 ghost use Rattle.tell_passing.specs.Look.{IsActorIn, IsInRun, IsOwnerIn};
 
-use law_passing::Reached;
 use net_types::{NodeId, OutOfMemory, PORTS, Place, PortNo};
-use telling_model::Standing;
+use telling_model::{Reached, Standing};
 use world::{NodeController, World};
 
 /// The queue lengths of an actor, in cells.

@@ -8,9 +8,8 @@ ghost use Rattle.telling_model.specs.Passing.{taken as taken_cell, taken_from};
 ghost use Rattle.law_passing.specs.Reached.{led_to as led, owner_of as owner, reached as reached_actor};
 ghost use Rattle.tell_passing.specs.Look.{CanBe, IsActorIn, IsQueueIn};
 
-use law_passing::Reached;
 use net_types::Place;
-use telling_model::Standing;
+use telling_model::{Reached, Standing};
 use world::{NodeController, World};
 use world_model::Event;
 

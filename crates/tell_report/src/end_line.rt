@@ -1,7 +1,7 @@
 //! The last line of a report.
 
 ghost use Rattle.std.specs.Prelude.{◌≡◌, ◌++◌, IfOk, OnOk, decimal};
-ghost use Rattle.script_model.specs.Reports.{end_line, last_line_by};
+ghost use Rattle.refusal_text.specs.script_model.Reports.{end_line, last_line_by};
 
 use lab_text::Text;
 use net_types::OutOfMemory;

@@ -3,7 +3,7 @@
 use Rattle.std.proofs.Common.{◌≡◌, ◌∙◌, length, Option, Some, ap, sym}
 use Rattle.std.specs.Option.{option_map}
 use Rattle.net_types.specs.declared.node.NodeId.{NodeId}
-use Rattle.controller_gsmp.specs.Client.{PortEnd}
+use Rattle.controller_router.specs.controller_gsmp.Client.{PortEnd}
 use Rattle.port_model.specs.Port.{labels_of}
 use Rattle.controller_router.specs.Node.{end_of}
 use Rattle.world_model.specs.Controller.{Linked}

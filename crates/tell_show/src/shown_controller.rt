@@ -2,7 +2,7 @@
 
 ghost use Rattle.std.specs.Prelude.{◌≡◌, ◌++◌, ◌<◌, length, slice_get, OnOk, Some};
 ghost use Rattle.std.specs.List.{flat_map};
-ghost use Rattle.controller_joining.specs.Joining.{controller_of};
+ghost use Rattle.controller.specs.Controlling.{controller_of};
 ghost use Rattle.world_model.specs.Conditions.{IsNode};
 ghost use Rattle.world_model.specs.Controller.{Linked, free_slots};
 ghost use Rattle.show_text.specs.Node.{node_line, request_lines, route_lines, waiting_lines};

@@ -1,9 +1,9 @@
 -- the events of a script, with the numbers of their lines and without
 
 use Rattle.std.proofs.Common.{◌≡◌, ℕ, List, [], ◌∷◌, ◌++◌, Result, Ok, Err, refl, ◌∙◌, ap}
-use Rattle.lab_text.specs.Lines.{lines_of}
+use Rattle.script_model.specs.lab_text.Lines.{lines_of}
 use Rattle.std.specs.Prelude.{take}
-use Rattle.world_model.specs.network_model.declared.event.Event.{Event}
+use Rattle.script_model.specs.world_model.network_model.declared.event.Event.{Event}
 use Rattle.script_model.specs.declared.line.Line.{Line}
 use Rattle.script_model.specs.declared.refusal.LineRefusal.{LineRefusal}
 use Rattle.script_model.specs.Limits.{input_limit}

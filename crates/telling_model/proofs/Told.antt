@@ -1,11 +1,11 @@
 -- what is told of some events, and of those behind them
 
 use Rattle.std.proofs.Common.{◌≡◌, ℕ, suc, List, [], ◌∷◌, ◌++◌, append_assoc, refl, sym, ◌∙◌, ap}
-use Rattle.port_model.specs.Setup.{Policy}
-use Rattle.world_model.specs.network_model.declared.event.Event.{Event}
-use Rattle.world_model.specs.Run.{next, put_away, world_after}
-use Rattle.world_model.specs.Topology.{Node, Topology}
-use Rattle.world_model.specs.World.{World, empty_world, opened, opens_each, with_opened}
+use Rattle.script_model.specs.port_model.Setup.{Policy}
+use Rattle.script_model.specs.world_model.network_model.declared.event.Event.{Event}
+use Rattle.script_model.specs.world_model.Run.{next, put_away, world_after}
+use Rattle.script_model.specs.world_model.Topology.{Node, Topology}
+use Rattle.script_model.specs.world_model.World.{World, empty_world, opened, opens_each, with_opened}
 use Rattle.telling_model.specs.Placed.{Placed, events_in, placed, placed_events}
 use Rattle.telling_model.specs.Tale.{Tale, Telling, told}
 

@@ -5,12 +5,12 @@ use Rattle.std.specs.Option.{option_map}
 use Rattle.atm_cells.specs.declared.cell.Cell.{Cell}
 use Rattle.link_model.specs.declared.frames.Frame.{Frame}
 use Rattle.net_types.specs.declared.node.Place.{Place}
-use Rattle.world_model.specs.network_model.declared.event.Event.{Event}
-use Rattle.world_model.specs.network_model.declared.event.Event.TheVariants.{Carry, Lose}
-use Rattle.world_model.specs.Places.{places, queue_at, same_queue}
-use Rattle.world_model.specs.Run.{next}
-use Rattle.world_model.specs.Topology.{Topology}
-use Rattle.world_model.specs.World.{World}
+use Rattle.script_model.specs.world_model.network_model.declared.event.Event.{Event}
+use Rattle.script_model.specs.world_model.network_model.declared.event.Event.TheVariants.{Carry, Lose}
+use Rattle.script_model.specs.world_model.Places.{places, queue_at, same_queue}
+use Rattle.script_model.specs.world_model.Run.{next}
+use Rattle.script_model.specs.world_model.Topology.{Topology}
+use Rattle.script_model.specs.world_model.World.{World}
 use Rattle.telling_model.specs.declared.standing.Standing.{Standing}
 
 -- a cell that stands, or stood, in a queue

@@ -1,8 +1,8 @@
 -- The events of a script, each with the number of its line
 
 use Rattle.std.specs.Prelude.{ℕ, List, [], ◌∷◌, ◌++◌, map, take, Result, Ok, Err}
-use Rattle.lab_text.specs.Lines.{lines_of}
-use Rattle.world_model.specs.network_model.declared.event.Event.{Event}
+use Rattle.script_model.specs.lab_text.Lines.{lines_of}
+use Rattle.script_model.specs.world_model.network_model.declared.event.Event.{Event}
 use Rattle.script_model.specs.declared.line.Line.{Line}
 use Rattle.script_model.specs.declared.refusal.LineRefusal.{LineRefusal}
 use Rattle.script_model.specs.Limits.{input_limit}

@@ -1,10 +1,10 @@
 -- The account of a script: what is told where its network opens, of each event, and at last
 
 use Rattle.std.specs.Prelude.{ℕ, ◌==◌, List, [], ◌∷◌, ◌++◌, if◌then◌else◌}
-use Rattle.port_model.specs.Setup.{Policy}
-use Rattle.world_model.specs.Run.{next, put_away, world_after}
-use Rattle.world_model.specs.Topology.{Topology}
-use Rattle.world_model.specs.World.{World, opened}
+use Rattle.script_model.specs.port_model.Setup.{Policy}
+use Rattle.script_model.specs.world_model.Run.{next, put_away, world_after}
+use Rattle.script_model.specs.world_model.Topology.{Topology}
+use Rattle.script_model.specs.world_model.World.{World, opened}
 use Rattle.script_model.specs.Script.{Script}
 use Rattle.telling_model.specs.declared.ended.Ended.{Ended}
 use Rattle.telling_model.specs.Placed.{Placed}

@@ -5,7 +5,9 @@
 #![tactic(auto)]
 
 mod ended;
+mod reached;
 mod standing;
 
 pub use ended::Ended;
+pub use reached::Reached;
 pub use standing::Standing;

@@ -1,3 +1,4 @@
+pub use Rattle.world_model.specs as world_model
 pub mod Taking
 pub mod Indexes
 pub mod Settings

@@ -6,3 +6,4 @@ pub mod Known
 pub mod Judgement
 pub mod Names
 pub mod Audit
+pub mod Meaning

@@ -20,7 +20,7 @@ use Rattle.script_model.specs.Documents.{Lines, document_of, script_in, rules_in
 use Rattle.script_model.specs.Reports.{report, report_under}
 use Rattle.script_model.specs.Script.{Script, script_of}
 use Rattle.telling_model.specs.Placed.{Placed, placed_of}
-use Rattle.script_replay.specs.Report as replays
+use Rattle.commands.specs.script_replay.Report as replays
 use Rattle.commands.specs.declared.task.Task.{Task}
 use Rattle.commands.specs.declared.task.Task.TheVariants.{Replay, View, Document, Drill, Whole, Lined}
 use Rattle.commands.specs.declared.task.View as views

@@ -15,7 +15,7 @@ use Rattle.script_model.specs.Documents.{document_script, document_policy}
 use Rattle.script_model.specs.Drill.{drill_script}
 use Rattle.script_model.specs.Reports.{body_under, report, report_under, last_line}
 use Rattle.script_model.specs.Script.{Script, script_of}
-use Rattle.script_replay.specs.Report as replays
+use Rattle.commands.specs.script_replay.Report as replays
 use Rattle.command_line.specs.declared.command.Command.{Command}
 use Rattle.command_line.specs.declared.command.Command.TheVariants as command
 use Rattle.command_line.specs.Commands.{words_of, HasItsNumber, AskFor}

@@ -4,11 +4,11 @@
 use Rattle.std.specs.Prelude.{◌≡◌, ℕ, List, ◌++◌, Some}
 use Rattle.line_by_line.specs.declared.task.Ending.TheVariants.{Done}
 use Rattle.world_model.specs.Topology.{policy_of}
-use Rattle.law_true_runs.specs.Law.{IsTrueRun}
+use Rattle.truth_model.specs.Run.{IsTrueRun}
 use Rattle.script_model.specs.Script.{Script, script_of}
 use Rattle.script_model.specs.Documents.{document_script, document_policy}
 use Rattle.script_model.specs.Drill.{drill_script}
-use Rattle.law_trace.specs.Meaning.{trace_of, AtEach, IsClean}
+use Rattle.trace_model.specs.Meaning.{trace_of, AtEach, IsClean}
 use Rattle.console_model.specs.declared.event.ConsoleEvent.{ConsoleEvent}
 use Rattle.console_model.specs.Lab.{opened}
 use Rattle.console_model.specs.Steps.{lab_after}

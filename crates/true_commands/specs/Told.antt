@@ -7,7 +7,7 @@ use Rattle.script_model.specs.Script.{script_of}
 use Rattle.script_model.specs.Documents.{document_script, document_policy}
 use Rattle.script_model.specs.Drill.{drill_script}
 use Rattle.script_model.specs.Reports.{report, report_under, last_line}
-use Rattle.law_true_lines.specs.Lines.{AreTrueLines}
+use Rattle.truth_model.specs.Lines.{AreTrueLines}
 use Rattle.commands.specs.declared.task.Task as tasks
 use Rattle.commands.specs.declared.task.Task.TheVariants.{Replay, View, Document, Drill, Whole, Lined}
 

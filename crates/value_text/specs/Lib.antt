@@ -1,1 +1,2 @@
+pub use Rattle.script_model.specs as script_model
 pub mod Kept

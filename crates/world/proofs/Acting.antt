@@ -32,7 +32,7 @@ use Rattle.world_model.proofs.Lists.{by_eq, at_key, at_put_other, at_put_same}
 use Rattle.world.specs.declared.site.Site.{Site as Node}
 use Rattle.world.specs.declared.world.World.{World as Network}
 use Rattle.world.specs.Network.{site_of, sites_of, world_of, no_notes, peers_in, IsNodeIn}
-use Rattle.world.specs.Nodes.{acted}
+use Rattle.node_controller.specs.Nodes.{acted}
 use Rattle.law_world_pace.specs.Running.{AreNumbered}
 use Rattle.world.specs.Coming.{IsSteady, HasCome, HasTaken}
 use Rattle.world.specs.NodeSet.{IsInserted, is_in}

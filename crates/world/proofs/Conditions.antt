@@ -30,7 +30,7 @@ use Rattle.world.specs.declared.site.Site.{Site as Node}
 use Rattle.world.specs.declared.world.World.{World as Network}
 use Rattle.world.specs.Coming.{CanChange, HasQueue, HasWay, IsPeerIn, IsSteady}
 use Rattle.world.specs.Network.{IsNodeIn, no_notes, peers_in, site_of, sites_of, world_of}
-use Rattle.world.specs.Nodes.{NamesLinkedNext}
+use Rattle.node_controller.specs.Nodes.{NamesLinkedNext}
 use Rattle.world.specs.Running.{Runs}
 use Rattle.law_world_pace.specs.Running.{ArePeersOf, HavePeers, IsRunningSite, most_frame}
 use Rattle.world.proofs.Acting.{a_head, found, map_length}
@@ -134,5 +134,5 @@ module _ {C : Type 0} (seen : C → Controller) (t : Topology) (n : Network C) (
   -- the head of a queue
   pub head_low : (place : Place) (cell : Cell) → n.events < 100000000 → slice_get (queue_at (world_of seen n no_notes) place) 0 ≡ Some cell → cell.mark.frame < 2 ^ 63
   head_low place cell few first =
-      let up = subst (Rattle.law_actor_pace.specs.Pace.AreUpTo (most_frame n.events)) (a_head seen (queue_at (world_of seen n no_notes) place) cell first) (queue_up t n.events (world_of seen n no_notes) place r.world.sites) in
+      let up = subst (Rattle.law_world_pace.specs.law_actor_pace.Pace.AreUpTo (most_frame n.events)) (a_head seen (queue_at (world_of seen n no_notes) place) cell first) (queue_up t n.events (world_of seen n no_notes) place r.world.sites) in
       omega (arith, up.0, few)

@@ -27,7 +27,7 @@ use Rattle.world_model.specs.Topology as topologies
 use Rattle.world_model.specs.Topology.{Topology, Node, PolicyLine, Xy, Never, default_range, node_at, node_in, peer_of, range_among, ranges_of, timers_of, vpis_of, window_of}
 use Rattle.world_model.specs.World.{Site, numbers_after, opened_site, redirects_at}
 use Rattle.world_model.proofs.Opening.{site_ports}
-use Rattle.world.specs.Nodes.{AreRoutesOf, AreTimes, IsLabelRange, NamesOneOf}
+use Rattle.node_controller.specs.Nodes.{AreRoutesOf, AreTimes, IsLabelRange, NamesOneOf}
 use Rattle.law_world_pace.specs.Running.{AreRunning, IsRunningSite, numbered}
 use Rattle.law_world_pace.proofs.Ports.{is_port_of}
 

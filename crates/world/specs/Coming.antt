@@ -21,11 +21,11 @@ use Rattle.link_model.specs.declared.record.Refusal.{Refusal}
 use Rattle.world_model.specs.Packets.{injected}
 use Rattle.world_model.specs.network_model.declared.link.LinkEnd.{LinkEnd}
 use Rattle.world_model.specs.World.{World, Site, at_controller, site_key, redirects_at, switched_at}
-use Rattle.law_actor_pace.specs.Pace.{changes_of}
+use Rattle.law_world_pace.specs.law_actor_pace.Pace.{changes_of}
 use Rattle.world.specs.declared.site.Site.{Site as Node}
 use Rattle.world.specs.declared.world.World.{World as Network}
 use Rattle.world.specs.Network.{no_notes, peers_in, sites_of, world_of}
-use Rattle.world.specs.Nodes.{NamesLinked}
+use Rattle.node_controller.specs.Nodes.{NamesLinked}
 use Rattle.world.specs.Waiting.{AreMarked}
 
 -- the nodes are few and numbered in order, those at which cells wait are marked, and the sums over them are kept

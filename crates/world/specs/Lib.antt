@@ -1,4 +1,5 @@
-pub mod Nodes
+pub use Rattle.node_controller.specs as node_controller
+pub use Rattle.law_world_pace.specs as law_world_pace
 pub mod Counted
 pub mod Network
 pub mod NodeSet

@@ -7,7 +7,6 @@
 mod counts;
 mod law;
 mod links;
-mod node;
 mod node_set;
 mod opening;
 mod rounds;
@@ -18,5 +17,5 @@ mod world;
 
 pub use counts::{Counts, Meter};
 pub use law::empty_carries_count;
-pub use node::{InjectFault, NodeController};
+pub use node_controller::{InjectFault, NodeController, NodeSetup};
 pub use world::World;

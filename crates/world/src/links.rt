@@ -5,9 +5,9 @@ ghost use Rattle.world_model.specs.Topology.{Topology as Described, peer_of};
 ghost use Rattle.world.specs.Network.{IsNodeIn};
 ghost use Rattle.world.specs.Running.{Runs};
 
-use crate::node::NodeController;
 use crate::world::World;
 use net_types::{NodeId, PortNo};
+use node_controller::NodeController;
 use world_model::LinkEnd;
 
 impl<C: NodeController> World<C> {

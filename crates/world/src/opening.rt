@@ -10,13 +10,13 @@ ghost use Rattle.world.specs.Opening.{IsNew, IsOpening, HasOpened, places_of};
 ghost use Rattle.law_world_pace.specs.Running.{ArePeersOf};
 ghost use Rattle.world.specs.Running.{Runs};
 
-use crate::node::NodeController;
 use crate::node_set::NodeSet;
 use crate::site::{STARTS, Site};
 use crate::tally::{Tally, Total};
 use crate::world::World;
 use gsmp_switch::Switch;
 use net_types::{NodeId, Numbers, OutOfMemory, PORTS, Place, PortNo};
+use node_controller::{NodeController, NodeSetup};
 use std::alloc::Global;
 use topology::Topology;
 use world_model::{LinkEnd, PortRange};
@@ -66,17 +66,14 @@ fn open_site<C: NodeController>(
     let ports = ports_of(alloc, ranges)?;
     let table = topology.table(node)?;
     let cells = topology.cells(node);
-    let controller = C::open(
-        alloc,
+    let setup = NodeSetup {
         node,
-        topology.address(node),
-        table,
-        ranges,
+        address: topology.address(node),
+        ports: ranges,
         cells,
-        topology.port_timers(),
-        policy,
-        numbers,
-    )?;
+        timers: topology.port_timers(),
+    };
+    let controller = C::open(alloc, &setup, table, policy, numbers)?;
     match Switch::open(
         alloc,
         node,

@@ -10,9 +10,9 @@ ghost use Rattle.world.specs.Running.{Runs};
 ghost use Rattle.world.specs.Waiting.{IsFirstHolding, node_place};
 
 use crate::counts::Meter;
-use crate::node::NodeController;
 use crate::world::World;
 use net_types::Place;
+use node_controller::NodeController;
 
 /// The index of a queue's node in the order of the nodes, counted from 0.
 fn node_place(place: Place) -> usize

@@ -1,8 +1,8 @@
 //! A node of a network.
 
-use crate::node::NodeController;
 use gsmp_switch::Switch;
 use net_types::PORTS;
+use node_controller::NodeController;
 use world_model::LinkEnd;
 
 /// One more than the most nodes of a network.

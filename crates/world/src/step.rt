@@ -22,12 +22,12 @@ ghost use Rattle.world.specs.Network.{IsNodeIn, world_of};
 ghost use Rattle.world.specs.Running.{Runs};
 
 use crate::counts::Meter;
-use crate::node::{InjectFault, NodeController};
 use crate::world::World;
 use atm_cells::Cell;
 use ipv4_forward::RouteChange;
 use link_model::{Cause, Notes, Record, Refusal};
 use net_types::{CONTROL_PORT, Channel, Mark, NodeId, OutOfMemory, Place, PortNo};
+use node_controller::{InjectFault, NodeController};
 use refusal_names::packet_refusal;
 use world_model::{Event, LinkEnd};
 

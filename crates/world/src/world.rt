@@ -8,13 +8,13 @@ ghost use Rattle.world.specs.Network.{IsNodeIn, no_notes, world_of};
 ghost use Rattle.world.specs.Running.{Runs};
 
 use crate::counts::Counts;
-use crate::node::NodeController;
 use crate::node_set::NodeSet;
 use crate::site::{STARTS, Site};
 use crate::tally::{Tally, Total};
 use atm_cells::Cell;
 use gsmp_switch::Switch;
 use net_types::{CONTROL_PORT, NodeId, Numbers, Place};
+use node_controller::NodeController;
 
 /// The state of a network between two events (a world): its nodes, its queues, and what its run has
 /// given out. This project's own. It must be given up by [`World::abandon`].

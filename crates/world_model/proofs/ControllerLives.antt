@@ -1,18 +1,18 @@
 -- worked lives of a controller: which joins it makes, and what its last transaction number does
 
 use Rattle.std.proofs.Common.{◌≡◌, ℕ, ◌==◌, true, false, List, [], ◌∷◌, map, None, Some, refl, if◌then◌else◌}
-use Rattle.net_types.specs.declared.prefix.Addr.{Addr}
-use Rattle.net_types.specs.declared.node.PortNo.{PortNo}
-use Rattle.net_types.specs.declared.channel.End.{End}
-use Rattle.ipv4_forward.specs.declared.table.Next.TheVariants.{Local, Via}
-use Rattle.ipv4_forward.specs.declared.table.Route.{Route}
-use Rattle.ipv4_packet.specs.declared.flow.FlowId.{FlowId}
-use Rattle.ipv4_packet.specs.declared.flow.FlowId.TheVariants.{One, Two}
-use Rattle.adjacency_table.specs.declared.State.TheVariants.{SynSent, Estab}
-use Rattle.gsmp_wire.specs.declared.request.Request.TheVariants.{DeleteTree, DeleteAll, MoveBranch}
-use Rattle.link_model.specs.Notes.{Journal}
-use Rattle.port_model.specs.Setup.{Policy, label_end, home_of}
-use Rattle.port_model.specs.Grants.{Grant, GrantState, Idle, ByController, ByInput, Leaving}
+use Rattle.network_model.specs.net_types.declared.prefix.Addr.{Addr}
+use Rattle.network_model.specs.net_types.declared.node.PortNo.{PortNo}
+use Rattle.network_model.specs.net_types.declared.channel.End.{End}
+use Rattle.network_model.specs.ipv4_forward.declared.table.Next.TheVariants.{Local, Via}
+use Rattle.network_model.specs.ipv4_forward.declared.table.Route.{Route}
+use Rattle.network_model.specs.ipv4_packet.declared.flow.FlowId.{FlowId}
+use Rattle.network_model.specs.ipv4_packet.declared.flow.FlowId.TheVariants.{One, Two}
+use Rattle.network_model.specs.adjacency_table.declared.State.TheVariants.{SynSent, Estab}
+use Rattle.network_model.specs.gsmp_wire.declared.request.Request.TheVariants.{DeleteTree, DeleteAll, MoveBranch}
+use Rattle.network_model.specs.link_model.Notes.{Journal}
+use Rattle.network_model.specs.port_model.Setup.{Policy, label_end, home_of}
+use Rattle.network_model.specs.port_model.Grants.{Grant, GrantState, Idle, ByController, ByInput, Leaving}
 use Rattle.world_model.specs.controller_model.declared.range.PortRange.{PortRange}
 use Rattle.world_model.specs.Controller.{Controller, Acted, Linked}
 use Rattle.world_model.specs.Opening.{opened}

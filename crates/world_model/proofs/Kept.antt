@@ -5,15 +5,15 @@ use Rattle.std.specs.Option.{option_or, option_map_or}
 use Rattle.std.proofs.lemmas.Bool.Decides.{nat_tests}
 use Rattle.std.proofs.lemmas.List.Elements.{All-push}
 use Rattle.std.proofs.lemmas.Option.{slice_get-get_or}
-use Rattle.net_types.specs.declared.node.NodeId.{NodeId}
-use Rattle.net_types.specs.declared.node.PortNo.{PortNo}
-use Rattle.net_types.specs.declared.prefix.Addr.{Addr}
-use Rattle.net_types.specs.Prefix.{Network}
-use Rattle.ipv4_forward.specs.Best.{has_prefix}
-use Rattle.ipv4_forward.specs.declared.table.Next.{Next}
-use Rattle.ipv4_forward.specs.declared.table.Next.TheVariants.{Local, Via}
-use Rattle.ipv4_forward.specs.declared.table.Route.{Route}
-use Rattle.ipv4_forward.proofs.Passing.{distinct_push}
+use Rattle.network_model.specs.net_types.declared.node.NodeId.{NodeId}
+use Rattle.network_model.specs.net_types.declared.node.PortNo.{PortNo}
+use Rattle.network_model.specs.net_types.declared.prefix.Addr.{Addr}
+use Rattle.network_model.specs.net_types.Prefix.{Network}
+use Rattle.network_model.specs.ipv4_forward.Best.{has_prefix}
+use Rattle.network_model.specs.ipv4_forward.declared.table.Next.{Next}
+use Rattle.network_model.specs.ipv4_forward.declared.table.Next.TheVariants.{Local, Via}
+use Rattle.network_model.specs.ipv4_forward.declared.table.Route.{Route}
+use Rattle.network_model.proofs.ipv4_forward.Passing.{distinct_push}
 use Rattle.world_model.specs.controller_model.declared.range.PortRange.{PortRange}
 use Rattle.world_model.specs.network_model.declared.link.LinkEnd.{LinkEnd}
 use Rattle.world_model.specs.network_model.declared.line.TopologyLine.{TopologyLine}

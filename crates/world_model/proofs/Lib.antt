@@ -1,8 +1,9 @@
-pub use Rattle.net_types.proofs as net_types
-pub use Rattle.ipv4_packet.proofs as ipv4_packet
-pub use Rattle.flow_encaps.proofs as flow_encaps
-pub use Rattle.adjacency_table.proofs as adjacency_table
-pub use Rattle.link_model.proofs as link_model
+pub use Rattle.network_model.proofs.net_types as net_types
+pub use Rattle.network_model.proofs.ipv4_packet as ipv4_packet
+pub use Rattle.network_model.proofs.flow_encaps as flow_encaps
+pub use Rattle.network_model.proofs.adjacency_table as adjacency_table
+pub use Rattle.network_model.proofs.link_model as link_model
+pub use Rattle.network_model.proofs.aal5_frames as aal5_frames
 mod ControllerLives
 pub mod Lists
 pub mod Queues

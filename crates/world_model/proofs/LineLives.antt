@@ -1,11 +1,11 @@
 -- a topology that is made of its lines, and a refusal of each name
 
 use Rattle.std.proofs.Common.{◌≡◌, ℕ, List, [], ◌∷◌, None, Some, Result, Ok, Err, refl}
-use Rattle.net_types.specs.declared.node.PortNo.{PortNo}
-use Rattle.net_types.specs.declared.node.Place.TheVariants.{Out}
-use Rattle.net_types.specs.Prefix.{Network}
-use Rattle.ipv4_forward.specs.declared.change.RouteChange.{RouteChange}
-use Rattle.ipv4_forward.specs.declared.table.Next.TheVariants.{Via}
+use Rattle.network_model.specs.net_types.declared.node.PortNo.{PortNo}
+use Rattle.network_model.specs.net_types.declared.node.Place.TheVariants.{Out}
+use Rattle.network_model.specs.net_types.Prefix.{Network}
+use Rattle.network_model.specs.ipv4_forward.declared.change.RouteChange.{RouteChange}
+use Rattle.network_model.specs.ipv4_forward.declared.table.Next.TheVariants.{Via}
 use Rattle.world_model.specs.network_model.declared.event.Event.TheVariants.{Carry, Route}
 use Rattle.world_model.specs.network_model.declared.line.TopologyLine.{TopologyLine}
 use Rattle.world_model.specs.network_model.declared.line.TopologyLine.TheVariants as lines

@@ -4,7 +4,7 @@ use Rattle.std.proofs.Common.{◌≡◌, ◌≢◌, ℕ, zero, suc, ◌<◌, ◌
 use Rattle.std.specs.Prelude.{nat_eq}
 use Rattle.std.proofs.lemmas.Bool.Decides.{nat_tests}
 use Rattle.std.proofs.lemmas.List.Sums.{sum_by-cons, sum_by-append}
-use Rattle.keyed_lists.specs.Keyed.{at, put}
+use Rattle.network_model.specs.keyed_lists.Keyed.{at, put}
 
 -- a test of two numbers is the one or the other, with the fact
 pub by_eq : {P : Type 0} (a b : ℕ) → (a ≡ b → nat_eq a b ≡ true → P) → (a ≢ b → nat_eq a b ≡ false → P) → P

@@ -1,12 +1,12 @@
 -- worked runs of a network, as far as they unfold
 
 use Rattle.std.proofs.Common.{◌≡◌, ℕ, List, [], ◌∷◌, length, refl}
-use Rattle.net_types.specs.declared.node.NodeId.{NodeId}
-use Rattle.ipv4_forward.specs.declared.table.Next.TheVariants.{Local, Via}
-use Rattle.ipv4_forward.specs.declared.table.Route.{Route}
-use Rattle.link_model.specs.declared.record.DropCause.TheVariants.{Expired}
-use Rattle.link_model.specs.declared.record.Record.TheVariants.{Delivered, Dropped, Refused}
-use Rattle.link_model.specs.declared.record.Refusal.TheVariants.{Short}
+use Rattle.network_model.specs.net_types.declared.node.NodeId.{NodeId}
+use Rattle.network_model.specs.ipv4_forward.declared.table.Next.TheVariants.{Local, Via}
+use Rattle.network_model.specs.ipv4_forward.declared.table.Route.{Route}
+use Rattle.network_model.specs.link_model.declared.record.DropCause.TheVariants.{Expired}
+use Rattle.network_model.specs.link_model.declared.record.Record.TheVariants.{Delivered, Dropped, Refused}
+use Rattle.network_model.specs.link_model.declared.record.Refusal.TheVariants.{Short}
 use Rattle.world_model.specs.network_model.declared.event.Event.TheVariants.{Inject}
 use Rattle.world_model.specs.Topology.{Topology, Node, empty_topology, new_node, policy_of}
 use Rattle.world_model.specs.World.{World, opened}

@@ -7,10 +7,10 @@ use Rattle.std.proofs.lemmas.List.Sums.{prefix_len-le-length}
 use Rattle.std.proofs.lemmas.List.Folds.{position_or_len_push, position_or_len-set}
 use Rattle.std.proofs.lemmas.Option.{get_or_from_slice_get, slice_get_within}
 use Rattle.std.proofs.lemmas.Slice.Eq.{bytes_eq-Decides}
-use Rattle.net_types.specs.declared.node.NodeId.{NodeId}
-use Rattle.net_types.specs.declared.prefix.Addr.{Addr}
-use Rattle.ipv4_forward.specs.declared.table.Next.{Next}
-use Rattle.ipv4_forward.specs.declared.table.Next.TheVariants.{Local, Via}
+use Rattle.network_model.specs.net_types.declared.node.NodeId.{NodeId}
+use Rattle.network_model.specs.net_types.declared.prefix.Addr.{Addr}
+use Rattle.network_model.specs.ipv4_forward.declared.table.Next.{Next}
+use Rattle.network_model.specs.ipv4_forward.declared.table.Next.TheVariants.{Local, Via}
 use Rattle.world_model.specs.Topology.{Topology, Node, Link, new_node, peer_among}
 use Rattle.world_model.specs.Lines.{is_named, node_named}
 use Rattle.world_model.specs.Conditions.{IsTopology, IsNodeOf, IsLink, IsLinkedNext}

@@ -5,11 +5,11 @@ use Rattle.std.specs.List.{range_with_len}
 use Rattle.std.specs.List.Sorted.{IsStrictlyIncreasing}
 use Rattle.std.specs.Option.{option_map_or}
 use Rattle.std.proofs.lemmas.Bool.Decides.{nat_tests}
-use Rattle.net_types.specs.declared.node.NodeId.{NodeId}
-use Rattle.net_types.specs.declared.node.PortNo.{PortNo}
-use Rattle.net_types.specs.Number.{GivenOut}
-use Rattle.crossbar_model.specs.Channels.{IsLinkPort, ArePorts}
-use Rattle.port_model.specs.Setup.{Policy, Setup}
+use Rattle.network_model.specs.net_types.declared.node.NodeId.{NodeId}
+use Rattle.network_model.specs.net_types.declared.node.PortNo.{PortNo}
+use Rattle.network_model.specs.net_types.Number.{GivenOut}
+use Rattle.network_model.specs.crossbar_model.Channels.{IsLinkPort, ArePorts}
+use Rattle.network_model.specs.port_model.Setup.{Policy, Setup}
 use Rattle.world_model.specs.controller_model.declared.range.PortRange.{PortRange}
 use Rattle.world_model.specs.Controller.{Linked, ports_of}
 use Rattle.world_model.specs.Opening.{opens_ports}

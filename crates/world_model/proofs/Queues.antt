@@ -7,13 +7,13 @@ use Rattle.std.specs.List.Sorted.{IsStrictlyIncreasing}
 use Rattle.std.specs.Option.{option_map_or}
 use Rattle.std.proofs.lemmas.Bool.Decides.{nat_tests}
 use Rattle.std.proofs.lemmas.List.Concat.{flat_map-cons}
-use Rattle.net_types.specs.declared.node.NodeId.{NodeId}
-use Rattle.net_types.specs.declared.node.PortNo.{PortNo}
-use Rattle.net_types.specs.declared.node.Place.{Place}
-use Rattle.net_types.specs.declared.node.Place.TheVariants.{Down, Up, Out}
-use Rattle.atm_cells.specs.declared.cell.Cell.{Cell}
-use Rattle.keyed_lists.specs.Keyed.{at, put}
-use Rattle.crossbar_model.specs.Channels.{ArePorts}
+use Rattle.network_model.specs.net_types.declared.node.NodeId.{NodeId}
+use Rattle.network_model.specs.net_types.declared.node.PortNo.{PortNo}
+use Rattle.network_model.specs.net_types.declared.node.Place.{Place}
+use Rattle.network_model.specs.net_types.declared.node.Place.TheVariants.{Down, Up, Out}
+use Rattle.network_model.specs.atm_cells.declared.cell.Cell.{Cell}
+use Rattle.network_model.specs.keyed_lists.Keyed.{at, put}
+use Rattle.network_model.specs.crossbar_model.Channels.{ArePorts}
 use Rattle.world_model.specs.Controller.{ports_of}
 use Rattle.world_model.specs.World.{World, Site, site_key, site_at, with_site}
 use Rattle.world_model.specs.Places.{place_node, queue_in, queue_at, with_queue, with_queue_of, with_queue_in, queue_number, same_queue, places_of, places, IsShapedSite, AreShaped, IsShaped, IsPlaceOf, IsPlaceIn}

@@ -2,14 +2,14 @@
 
 use Rattle.std.proofs.Common.{◌≡◌, ℕ, false, List, [], ◌∷◌, replicate, None, Some, refl, ap}
 use Rattle.std.specs.FinMap.{get}
-use Rattle.net_types.specs.declared.channel.End.{End}
-use Rattle.net_types.specs.declared.node.Place.TheVariants.{Down, Out}
-use Rattle.atm_cells.specs.declared.cell.Cell.{Cell}
-use Rattle.link_model.specs.declared.record.Cause.TheVariants.{Unconnected}
-use Rattle.link_model.specs.declared.record.Record.{Record}
-use Rattle.link_model.specs.declared.record.Record.TheVariants.{Loss}
-use Rattle.crossbar_model.specs.declared.branch.Branch.{Branch}
-use Rattle.crossbar_model.specs.Crossbar.{Branches, Crossbar, queue_of, switched_on}
+use Rattle.network_model.specs.net_types.declared.channel.End.{End}
+use Rattle.network_model.specs.net_types.declared.node.Place.TheVariants.{Down, Out}
+use Rattle.network_model.specs.atm_cells.declared.cell.Cell.{Cell}
+use Rattle.network_model.specs.link_model.declared.record.Cause.TheVariants.{Unconnected}
+use Rattle.network_model.specs.link_model.declared.record.Record.{Record}
+use Rattle.network_model.specs.link_model.declared.record.Record.TheVariants.{Loss}
+use Rattle.network_model.specs.crossbar_model.declared.branch.Branch.{Branch}
+use Rattle.network_model.specs.crossbar_model.Crossbar.{Branches, Crossbar, queue_of, switched_on}
 use Rattle.world_model.specs.network_model.declared.event.Event.TheVariants.{Carry}
 use Rattle.world_model.specs.Topology.{policy_of}
 use Rattle.world_model.specs.World.{World, Site, opened}

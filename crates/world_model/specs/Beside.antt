@@ -2,12 +2,12 @@
 
 use Rattle.std.specs.Prelude.{◌≡◌, ℕ, ◌<◌, Bool, true, false, List, slice_get, Some}
 use Rattle.std.specs.List.{list_any}
-use Rattle.net_types.specs.declared.number.Mark.{Mark}
-use Rattle.atm_cells.specs.declared.cell.Cell.{Cell}
-use Rattle.link_model.specs.declared.entries.Entry.{Entry}
-use Rattle.link_model.specs.declared.record.Cause.{Cause}
-use Rattle.link_model.specs.declared.record.Cause.TheVariants.{Broken}
-use Rattle.link_model.specs.Ledger.{same_mark}
+use Rattle.network_model.specs.net_types.declared.number.Mark.{Mark}
+use Rattle.network_model.specs.atm_cells.declared.cell.Cell.{Cell}
+use Rattle.network_model.specs.link_model.declared.entries.Entry.{Entry}
+use Rattle.network_model.specs.link_model.declared.record.Cause.{Cause}
+use Rattle.network_model.specs.link_model.declared.record.Cause.TheVariants.{Broken}
+use Rattle.network_model.specs.link_model.Ledger.{same_mark}
 
 abbrev pub is_broken : Cause → Bool
 is_broken Broken = true

@@ -1,12 +1,12 @@
 -- Which losses have a cause beside them: the law of frames that are reported as broken
 
 use Rattle.std.specs.Prelude.{◌≡◌, ℕ, ◌≤◌, List, [], ◌∷◌, ◌++◌, length, slice_get, Some, IsSome}
-use Rattle.atm_cells.specs.declared.cell.Cell.{Cell}
-use Rattle.link_model.specs.declared.entries.Entry.{Entry}
-use Rattle.link_model.specs.declared.record.Cause.TheVariants.{Broken}
-use Rattle.frame_model.specs.Stretch.{open_stretch}
+use Rattle.network_model.specs.atm_cells.declared.cell.Cell.{Cell}
+use Rattle.network_model.specs.link_model.declared.entries.Entry.{Entry}
+use Rattle.network_model.specs.link_model.declared.record.Cause.TheVariants.{Broken}
+use Rattle.network_model.specs.frame_model.Stretch.{open_stretch}
 use Rattle.world_model.specs.Beside.{StandsBesideCause}
-use Rattle.port_model.specs.Setup.{Policy}
+use Rattle.network_model.specs.port_model.Setup.{Policy}
 use Rattle.network_model.specs.declared.event.Event.{Event}
 use Rattle.network_model.specs.Topology.{Topology}
 use Rattle.network_model.specs.World.{World, opened}

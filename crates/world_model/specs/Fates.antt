@@ -2,15 +2,15 @@
 
 use Rattle.std.specs.Prelude.{ℕ, ◌==◌, Bool, false, List, Option, None, Some}
 use Rattle.std.specs.List.{list_any}
-use Rattle.net_types.specs.declared.node.NodeId.{NodeId}
-use Rattle.net_types.specs.declared.node.PortNo.{PortNo}
-use Rattle.ipv4_forward.specs.declared.table.Next.{Next}
-use Rattle.ipv4_forward.specs.declared.table.Next.TheVariants.{Local, Via}
-use Rattle.link_model.specs.declared.entries.Entry.{Entry}
-use Rattle.link_model.specs.declared.record.DropCause.{DropCause}
-use Rattle.link_model.specs.declared.record.DropCause.TheVariants.{NoRoute}
-use Rattle.link_model.specs.declared.record.Record.{Record}
-use Rattle.link_model.specs.declared.record.Record.TheVariants.{Delivered, Dropped}
+use Rattle.network_model.specs.net_types.declared.node.NodeId.{NodeId}
+use Rattle.network_model.specs.net_types.declared.node.PortNo.{PortNo}
+use Rattle.network_model.specs.ipv4_forward.declared.table.Next.{Next}
+use Rattle.network_model.specs.ipv4_forward.declared.table.Next.TheVariants.{Local, Via}
+use Rattle.network_model.specs.link_model.declared.entries.Entry.{Entry}
+use Rattle.network_model.specs.link_model.declared.record.DropCause.{DropCause}
+use Rattle.network_model.specs.link_model.declared.record.DropCause.TheVariants.{NoRoute}
+use Rattle.network_model.specs.link_model.declared.record.Record.{Record}
+use Rattle.network_model.specs.link_model.declared.record.Record.TheVariants.{Delivered, Dropped}
 
 -- where a packet ends, and as which octets
 pub data Fate : Type 0 where

@@ -3,18 +3,18 @@
 
 use Rattle.std.specs.Prelude.{◌≡◌, ℕ, suc, ◌==◌, ◌||◌, ◌≤◌, Bool, true, false, List, ◌∷◌, ◌++◌, length, count_by, slice_get, Contains, Option, None, Some}
 use Rattle.std.specs.List.{list_all, list_any}
-use Rattle.net_types.specs.declared.node.NodeId.{NodeId}
-use Rattle.net_types.specs.Label.{is_label_number}
-use Rattle.ipv4_packet.specs.declared.flow.FlowId.{FlowId}
-use Rattle.ifmp_wire.specs.declared.message.Message.{Message}
-use Rattle.ifmp_wire.specs.declared.message.Message.TheVariants.{Error}
-use Rattle.link_model.specs.declared.frames.Frame.{Frame}
-use Rattle.link_model.specs.declared.record.DropCause.{DropCause}
-use Rattle.link_model.specs.declared.record.Record.{Record}
-use Rattle.link_model.specs.declared.record.Record.TheVariants.{Delivered, Dropped, Chance, Forged, Bad, Bind}
-use Rattle.port_model.specs.Setup.{Policy}
+use Rattle.network_model.specs.net_types.declared.node.NodeId.{NodeId}
+use Rattle.network_model.specs.net_types.Label.{is_label_number}
+use Rattle.network_model.specs.ipv4_packet.declared.flow.FlowId.{FlowId}
+use Rattle.network_model.specs.ifmp_wire.declared.message.Message.{Message}
+use Rattle.network_model.specs.ifmp_wire.declared.message.Message.TheVariants.{Error}
+use Rattle.network_model.specs.link_model.declared.frames.Frame.{Frame}
+use Rattle.network_model.specs.link_model.declared.record.DropCause.{DropCause}
+use Rattle.network_model.specs.link_model.declared.record.Record.{Record}
+use Rattle.network_model.specs.link_model.declared.record.Record.TheVariants.{Delivered, Dropped, Chance, Forged, Bad, Bind}
+use Rattle.network_model.specs.port_model.Setup.{Policy}
 use Rattle.world_model.specs.Fates.{Fate, IsDelivered, IsDropped, is_fate_of, has_loss_of}
-use Rattle.controller_model.specs.Packets.{inject_refusal}
+use Rattle.network_model.specs.controller_model.Packets.{inject_refusal}
 use Rattle.network_model.specs.declared.event.Event.{Event}
 use Rattle.network_model.specs.Topology.{Topology}
 use Rattle.network_model.specs.World.{World, opened}

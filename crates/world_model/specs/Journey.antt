@@ -2,12 +2,12 @@
 -- (RFC 1812 5.2.1 and 5.3.1)
 
 use Rattle.std.specs.Prelude.{ℕ, zero, suc, List, Option, None, Some}
-use Rattle.net_types.specs.declared.node.NodeId.{NodeId}
-use Rattle.ipv4_packet.specs.Packet.{ttl_of, destination_of}
-use Rattle.ipv4_forward.specs.Best.{best}
-use Rattle.ipv4_forward.specs.Hop.{onward}
-use Rattle.ipv4_forward.specs.declared.table.Route.{Route}
-use Rattle.link_model.specs.declared.record.DropCause.TheVariants.{NoRoute, Expired}
+use Rattle.network_model.specs.net_types.declared.node.NodeId.{NodeId}
+use Rattle.network_model.specs.ipv4_packet.Packet.{ttl_of, destination_of}
+use Rattle.network_model.specs.ipv4_forward.Best.{best}
+use Rattle.network_model.specs.ipv4_forward.Hop.{onward}
+use Rattle.network_model.specs.ipv4_forward.declared.table.Route.{Route}
+use Rattle.network_model.specs.link_model.declared.record.DropCause.TheVariants.{NoRoute, Expired}
 use Rattle.world_model.specs.Fates.{Fate, IsDropped, by_route}
 use Rattle.network_model.specs.declared.link.LinkEnd.{LinkEnd}
 use Rattle.network_model.specs.Topology.{Topology, peer_of}

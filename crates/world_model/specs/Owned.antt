@@ -1,20 +1,20 @@
 -- Ownership of a label: what is so of it in every world
 
 use Rattle.std.specs.Prelude.{◌≡◌, ℕ, suc, true, Contains, slice_get, Option, None, Some}
-use Rattle.net_types.specs.declared.channel.End.{End}
-use Rattle.net_types.specs.declared.number.Instance.{Instance}
-use Rattle.net_types.specs.declared.adjacency.Peer.{Peer}
-use Rattle.net_types.specs.Label.{label_channel_of}
-use Rattle.adjacency_table.specs.declared.State.TheVariants.{Clearing, Estab}
-use Rattle.adjacency_table.specs.Side.{Side}
-use Rattle.atm_cells.specs.declared.cell.Cell.{Cell}
-use Rattle.ipv4_packet.specs.declared.flow.FlowId.{FlowId}
-use Rattle.ifmp_wire.specs.declared.message.Message.TheVariants.{Reclaim, ReclaimAck}
-use Rattle.keyed_lists.specs.Keyed.{at}
-use Rattle.port_model.specs.Setup.{label_end, control_end}
-use Rattle.port_model.specs.Labels.{Label, LabelState, Wiring, Offered, Recalled, Wired, label_number}
-use Rattle.port_model.specs.Grants.{Grant, Leaving}
-use Rattle.port_model.specs.Port.{Session}
+use Rattle.network_model.specs.net_types.declared.channel.End.{End}
+use Rattle.network_model.specs.net_types.declared.number.Instance.{Instance}
+use Rattle.network_model.specs.net_types.declared.adjacency.Peer.{Peer}
+use Rattle.network_model.specs.net_types.Label.{label_channel_of}
+use Rattle.network_model.specs.adjacency_table.declared.State.TheVariants.{Clearing, Estab}
+use Rattle.network_model.specs.adjacency_table.Side.{Side}
+use Rattle.network_model.specs.atm_cells.declared.cell.Cell.{Cell}
+use Rattle.network_model.specs.ipv4_packet.declared.flow.FlowId.{FlowId}
+use Rattle.network_model.specs.ifmp_wire.declared.message.Message.TheVariants.{Reclaim, ReclaimAck}
+use Rattle.network_model.specs.keyed_lists.Keyed.{at}
+use Rattle.network_model.specs.port_model.Setup.{label_end, control_end}
+use Rattle.network_model.specs.port_model.Labels.{Label, LabelState, Wiring, Offered, Recalled, Wired, label_number}
+use Rattle.network_model.specs.port_model.Grants.{Grant, Leaving}
+use Rattle.network_model.specs.port_model.Port.{Session}
 use Rattle.network_model.specs.declared.link.LinkEnd.{LinkEnd}
 use Rattle.network_model.specs.World.{World}
 use Rattle.world_model.specs.Ways.{session_at, grants_at, side_at, output_at, on_the_way, ifmp_under}

@@ -2,11 +2,11 @@
 
 use Rattle.std.specs.Prelude.{ℕ, ◌==◌, ◌&&◌, List, [], ◌∷◌, Option, None, Some, if◌then◌else◌}
 use Rattle.std.specs.Option.{option_or}
-use Rattle.ipv4_packet.specs.declared.flow.FlowId.{FlowId}
-use Rattle.link_model.specs.declared.frames.Frame.{Frame}
-use Rattle.link_model.specs.declared.record.Record.{Record}
-use Rattle.link_model.specs.declared.record.Record.TheVariants.{Bind}
-use Rattle.port_model.specs.Setup.{Policy}
+use Rattle.network_model.specs.ipv4_packet.declared.flow.FlowId.{FlowId}
+use Rattle.network_model.specs.link_model.declared.frames.Frame.{Frame}
+use Rattle.network_model.specs.link_model.declared.record.Record.{Record}
+use Rattle.network_model.specs.link_model.declared.record.Record.TheVariants.{Bind}
+use Rattle.network_model.specs.port_model.Setup.{Policy}
 use Rattle.network_model.specs.declared.event.Event.{Event}
 use Rattle.network_model.specs.declared.link.LinkEnd.{LinkEnd}
 use Rattle.network_model.specs.Topology.{Topology}

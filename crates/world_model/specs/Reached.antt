@@ -3,16 +3,16 @@
 
 use Rattle.std.specs.Prelude.{◌≡◌, ℕ, suc, ◌≤◌, List, [], ◌∷◌, slice_get, None, Some}
 use Rattle.std.specs.Option.{option_map_or}
-use Rattle.net_types.specs.declared.node.NodeId.{NodeId}
-use Rattle.net_types.specs.declared.node.PortNo.{PortNo}
-use Rattle.ipv4_packet.specs.Packet.{ttl_of, destination_of}
-use Rattle.ipv4_forward.specs.Best.{best}
-use Rattle.ipv4_forward.specs.Hop.{onward}
-use Rattle.ipv4_forward.specs.declared.table.Next.TheVariants.{Local, Via}
-use Rattle.ipv4_forward.specs.declared.table.Route.{Route}
-use Rattle.link_model.specs.declared.record.DropCause.TheVariants.{NoRoute, Expired}
+use Rattle.network_model.specs.net_types.declared.node.NodeId.{NodeId}
+use Rattle.network_model.specs.net_types.declared.node.PortNo.{PortNo}
+use Rattle.network_model.specs.ipv4_packet.Packet.{ttl_of, destination_of}
+use Rattle.network_model.specs.ipv4_forward.Best.{best}
+use Rattle.network_model.specs.ipv4_forward.Hop.{onward}
+use Rattle.network_model.specs.ipv4_forward.declared.table.Next.TheVariants.{Local, Via}
+use Rattle.network_model.specs.ipv4_forward.declared.table.Route.{Route}
+use Rattle.network_model.specs.link_model.declared.record.DropCause.TheVariants.{NoRoute, Expired}
 use Rattle.world_model.specs.Fates.{Fate, IsDelivered, IsDropped}
-use Rattle.controller_model.specs.Packets.{inject_refusal}
+use Rattle.network_model.specs.controller_model.Packets.{inject_refusal}
 use Rattle.network_model.specs.declared.event.Event.{Event}
 use Rattle.network_model.specs.declared.event.Event.TheVariants.{Inject}
 use Rattle.network_model.specs.declared.link.LinkEnd.{LinkEnd}

@@ -1,16 +1,16 @@
 -- Facts on order, of the messages between the two ends of a link
 
 use Rattle.std.specs.Prelude.{◌≡◌, ℕ, ◌≤◌, Contains, Option, None, Some}
-use Rattle.net_types.specs.declared.number.Instance.{Instance}
-use Rattle.net_types.specs.declared.adjacency.Hello.{Hello}
-use Rattle.net_types.specs.declared.adjacency.HelloKind.TheVariants.{Ack}
-use Rattle.net_types.specs.declared.adjacency.Peer.{Peer}
-use Rattle.adjacency_table.specs.declared.State.TheVariants.{Estab}
-use Rattle.adjacency_table.specs.Side.{Side}
-use Rattle.atm_cells.specs.declared.cell.Cell.{Cell}
-use Rattle.ifmp_wire.specs.declared.message.Message.{Message}
-use Rattle.ifmp_wire.specs.declared.message.Message.TheVariants.{Adjacency, Redirect, Reclaim, ReclaimAck, LabelRange, Error}
-use Rattle.port_model.specs.Port.{Session}
+use Rattle.network_model.specs.net_types.declared.number.Instance.{Instance}
+use Rattle.network_model.specs.net_types.declared.adjacency.Hello.{Hello}
+use Rattle.network_model.specs.net_types.declared.adjacency.HelloKind.TheVariants.{Ack}
+use Rattle.network_model.specs.net_types.declared.adjacency.Peer.{Peer}
+use Rattle.network_model.specs.adjacency_table.declared.State.TheVariants.{Estab}
+use Rattle.network_model.specs.adjacency_table.Side.{Side}
+use Rattle.network_model.specs.atm_cells.declared.cell.Cell.{Cell}
+use Rattle.network_model.specs.ifmp_wire.declared.message.Message.{Message}
+use Rattle.network_model.specs.ifmp_wire.declared.message.Message.TheVariants.{Adjacency, Redirect, Reclaim, ReclaimAck, LabelRange, Error}
+use Rattle.network_model.specs.port_model.Port.{Session}
 use Rattle.network_model.specs.declared.link.LinkEnd.{LinkEnd}
 use Rattle.network_model.specs.World.{World}
 use Rattle.world_model.specs.Ways.{session_at, side_at, on_the_way, ifmp_under}

@@ -3,18 +3,18 @@
 
 use Rattle.std.specs.Prelude.{◌≡◌, ℕ, ◌==◌, Bool, true, false, not, ◌&&◌, nat_lt, List, [], ◌∷◌, ◌++◌, length, Option, None, Some, option_map, if◌then◌else◌}
 use Rattle.std.specs.Option.{option_map_or, option_and_then}
-use Rattle.net_types.specs.declared.node.NodeId.{NodeId}
-use Rattle.net_types.specs.declared.node.Place.TheVariants.{Down, Up}
-use Rattle.net_types.specs.declared.channel.Channel.{Channel}
-use Rattle.atm_cells.specs.declared.cell.Cell.{Cell}
-use Rattle.frame_model.specs.Reassembly.{Reassembly, Taken, taken}
-use Rattle.frame_model.specs.Stretch.{Turn, Takes, IsCut}
-use Rattle.frame_model.specs.Frame.{payload_in, octets_of, last_mark}
-use Rattle.link_model.specs.Ledger.{payload_of}
-use Rattle.switch_model.specs.Switch as switch
-use Rattle.switch_model.specs.Switch.{gsmp_channel}
-use Rattle.controller_model.specs.Controller.{free_slots}
-use Rattle.controller_model.specs.Cells.{same_channel, taker_of, reassembly_of}
+use Rattle.network_model.specs.net_types.declared.node.NodeId.{NodeId}
+use Rattle.network_model.specs.net_types.declared.node.Place.TheVariants.{Down, Up}
+use Rattle.network_model.specs.net_types.declared.channel.Channel.{Channel}
+use Rattle.network_model.specs.atm_cells.declared.cell.Cell.{Cell}
+use Rattle.network_model.specs.frame_model.Reassembly.{Reassembly, Taken, taken}
+use Rattle.network_model.specs.frame_model.Stretch.{Turn, Takes, IsCut}
+use Rattle.network_model.specs.frame_model.Frame.{payload_in, octets_of, last_mark}
+use Rattle.network_model.specs.link_model.Ledger.{payload_of}
+use Rattle.network_model.specs.switch_model.Switch as switch
+use Rattle.network_model.specs.switch_model.Switch.{gsmp_channel}
+use Rattle.network_model.specs.controller_model.Controller.{free_slots}
+use Rattle.network_model.specs.controller_model.Cells.{same_channel, taker_of, reassembly_of}
 use Rattle.network_model.specs.declared.event.Event.{Event}
 use Rattle.network_model.specs.declared.event.Event.TheVariants.{Carry}
 use Rattle.network_model.specs.Topology.{Topology}

@@ -2,28 +2,28 @@
 -- and takes it back before it hands it out again)
 
 use Rattle.std.specs.Prelude.{◌≡◌, ℕ, ◌<◌, List, length, Contains, Option, None, Some}
-use Rattle.net_types.specs.declared.node.NodeId.{NodeId}
-use Rattle.net_types.specs.declared.node.Place.TheVariants.{Down, Up, Out}
-use Rattle.net_types.specs.declared.channel.End.{End}
-use Rattle.net_types.specs.declared.number.Instance.{Instance}
-use Rattle.net_types.specs.declared.number.Mark.{Mark}
-use Rattle.net_types.specs.declared.adjacency.Peer.{Peer}
-use Rattle.net_types.specs.Label.{label_channel_of, label_number_of}
-use Rattle.adjacency_table.specs.Side.{Side}
-use Rattle.atm_cells.specs.declared.cell.Cell.{Cell}
-use Rattle.ipv4_packet.specs.declared.flow.FlowId.{FlowId}
-use Rattle.ipv4_packet.specs.Flow.{next_hop_of}
-use Rattle.ipv4_packet.specs.Parts.{flow_destination}
-use Rattle.flow_encaps.specs.Labelled.{Carries}
-use Rattle.gsmp_wire.specs.declared.request.Request.{Request}
-use Rattle.gsmp_wire.specs.declared.request.Request.TheVariants.{AddBranch, MoveBranch}
-use Rattle.ifmp_wire.specs.declared.message.Message.TheVariants.{Redirect}
-use Rattle.ipv4_forward.specs.Best.{best}
-use Rattle.ipv4_forward.specs.declared.table.Next.TheVariants.{Via}
-use Rattle.link_model.specs.Ledger.{payload_of}
-use Rattle.port_model.specs.Desk.{Standing}
-use Rattle.port_model.specs.Setup.{label_end, control_end}
-use Rattle.port_model.specs.Grants.{Grant}
+use Rattle.network_model.specs.net_types.declared.node.NodeId.{NodeId}
+use Rattle.network_model.specs.net_types.declared.node.Place.TheVariants.{Down, Up, Out}
+use Rattle.network_model.specs.net_types.declared.channel.End.{End}
+use Rattle.network_model.specs.net_types.declared.number.Instance.{Instance}
+use Rattle.network_model.specs.net_types.declared.number.Mark.{Mark}
+use Rattle.network_model.specs.net_types.declared.adjacency.Peer.{Peer}
+use Rattle.network_model.specs.net_types.Label.{label_channel_of, label_number_of}
+use Rattle.network_model.specs.adjacency_table.Side.{Side}
+use Rattle.network_model.specs.atm_cells.declared.cell.Cell.{Cell}
+use Rattle.network_model.specs.ipv4_packet.declared.flow.FlowId.{FlowId}
+use Rattle.network_model.specs.ipv4_packet.Flow.{next_hop_of}
+use Rattle.network_model.specs.ipv4_packet.Parts.{flow_destination}
+use Rattle.network_model.specs.flow_encaps.Labelled.{Carries}
+use Rattle.network_model.specs.gsmp_wire.declared.request.Request.{Request}
+use Rattle.network_model.specs.gsmp_wire.declared.request.Request.TheVariants.{AddBranch, MoveBranch}
+use Rattle.network_model.specs.ifmp_wire.declared.message.Message.TheVariants.{Redirect}
+use Rattle.network_model.specs.ipv4_forward.Best.{best}
+use Rattle.network_model.specs.ipv4_forward.declared.table.Next.TheVariants.{Via}
+use Rattle.network_model.specs.link_model.Ledger.{payload_of}
+use Rattle.network_model.specs.port_model.Desk.{Standing}
+use Rattle.network_model.specs.port_model.Setup.{label_end, control_end}
+use Rattle.network_model.specs.port_model.Grants.{Grant}
 use Rattle.network_model.specs.declared.link.LinkEnd.{LinkEnd}
 use Rattle.network_model.specs.Topology.{Topology, peer_of}
 use Rattle.network_model.specs.World.{World}

@@ -2,33 +2,33 @@
 
 use Rattle.std.specs.Prelude.{ℕ, ◌==◌, List, [], ◌++◌, filter, drop, Option, None, Some, Result, Ok, Err, option_map, if◌then◌else◌}
 use Rattle.std.specs.Option.{option_map_or, option_and_then}
-use Rattle.net_types.specs.declared.node.NodeId.{NodeId}
-use Rattle.net_types.specs.declared.node.Place.TheVariants.{Down, Up, Out}
-use Rattle.net_types.specs.declared.channel.Channel.{Channel}
-use Rattle.net_types.specs.declared.channel.End.{End}
-use Rattle.net_types.specs.declared.number.Mark.{Mark}
-use Rattle.net_types.specs.declared.adjacency.Peer.{Peer}
-use Rattle.net_types.specs.declared.adjacency.Party.{Party}
-use Rattle.adjacency_table.specs.Side.{Side}
-use Rattle.ipv4_packet.specs.Packet.{protocol_of}
-use Rattle.atm_cells.specs.declared.cell.Cell.{Cell}
-use Rattle.flow_encaps.specs.Unwrapped.{default_unwrapped}
-use Rattle.ifmp_wire.specs.declared.message.Message.{Message as IfmpMessage}
-use Rattle.ifmp_wire.specs.Fields.{decoded as ifmp_decoded}
-use Rattle.gsmp_wire.specs.declared.message.Message.{Message as GsmpMessage}
-use Rattle.gsmp_wire.specs.Fields.{decoded as gsmp_decoded}
-use Rattle.link_model.specs.declared.frames.Frame.{Frame}
-use Rattle.link_model.specs.Ledger.{payload_of}
-use Rattle.crossbar_model.specs.Crossbar.{output_of}
-use Rattle.port_model.specs.Desk.{Standing}
-use Rattle.port_model.specs.DeskAnswers.{Head, head_of}
-use Rattle.switch_model.specs.Requests.{asked_in, is_request}
-use Rattle.switch_model.specs.declared.request.Asked.{Asked}
-use Rattle.port_model.specs.Grants.{Grant}
-use Rattle.port_model.specs.Port.{Session}
-use Rattle.controller_model.specs.Controller.{Linked, linked_at, default_channel, default_home}
-use Rattle.controller_model.specs.Cells.{same_channel}
-use Rattle.controller_model.specs.Packets.{control_protocol}
+use Rattle.network_model.specs.net_types.declared.node.NodeId.{NodeId}
+use Rattle.network_model.specs.net_types.declared.node.Place.TheVariants.{Down, Up, Out}
+use Rattle.network_model.specs.net_types.declared.channel.Channel.{Channel}
+use Rattle.network_model.specs.net_types.declared.channel.End.{End}
+use Rattle.network_model.specs.net_types.declared.number.Mark.{Mark}
+use Rattle.network_model.specs.net_types.declared.adjacency.Peer.{Peer}
+use Rattle.network_model.specs.net_types.declared.adjacency.Party.{Party}
+use Rattle.network_model.specs.adjacency_table.Side.{Side}
+use Rattle.network_model.specs.ipv4_packet.Packet.{protocol_of}
+use Rattle.network_model.specs.atm_cells.declared.cell.Cell.{Cell}
+use Rattle.network_model.specs.flow_encaps.Unwrapped.{default_unwrapped}
+use Rattle.network_model.specs.ifmp_wire.declared.message.Message.{Message as IfmpMessage}
+use Rattle.network_model.specs.ifmp_wire.Fields.{decoded as ifmp_decoded}
+use Rattle.network_model.specs.gsmp_wire.declared.message.Message.{Message as GsmpMessage}
+use Rattle.network_model.specs.gsmp_wire.Fields.{decoded as gsmp_decoded}
+use Rattle.network_model.specs.link_model.declared.frames.Frame.{Frame}
+use Rattle.network_model.specs.link_model.Ledger.{payload_of}
+use Rattle.network_model.specs.crossbar_model.Crossbar.{output_of}
+use Rattle.network_model.specs.port_model.Desk.{Standing}
+use Rattle.network_model.specs.port_model.DeskAnswers.{Head, head_of}
+use Rattle.network_model.specs.switch_model.Requests.{asked_in, is_request}
+use Rattle.network_model.specs.switch_model.declared.request.Asked.{Asked}
+use Rattle.network_model.specs.port_model.Grants.{Grant}
+use Rattle.network_model.specs.port_model.Port.{Session}
+use Rattle.network_model.specs.controller_model.Controller.{Linked, linked_at, default_channel, default_home}
+use Rattle.network_model.specs.controller_model.Cells.{same_channel}
+use Rattle.network_model.specs.controller_model.Packets.{control_protocol}
 use Rattle.network_model.specs.declared.link.LinkEnd.{LinkEnd}
 use Rattle.network_model.specs.World.{World, site_at, controller_at}
 use Rattle.network_model.specs.Places.{queue_at}

@@ -4,6 +4,7 @@
 //! `switch_model`, `controller_model` and `network_model`.
 #![tactic(auto)]
 
-pub use controller_model::PortRange;
-pub use network_model::{Event, EventRefusal, LinkEnd, TopologyLine, TopologyRefusal};
-pub use switch_model::{Asked, Failure, PortState, Request};
+pub use network_model::{
+    Asked, Event, EventRefusal, Failure, LinkEnd, PortRange, PortState, Request, TopologyLine,
+    TopologyRefusal,
+};

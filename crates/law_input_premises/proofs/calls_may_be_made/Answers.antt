@@ -1,5 +1,5 @@
 use Rattle.law_controller.proofs.law_port_facts.Hearings.{hears_goes}
-use Rattle.world_model.specs.Words.{begins, hears}
+use Rattle.law_controller.specs.world_model.Words.{begins, hears}
 use Rattle.law_controller.proofs.Whole.{holds_of}
 use Rattle.law_input_premises.proofs.Reading.{are_read}
 use Rattle.law_input_premises.proofs.Steady.{steady_whole, steady_read}

@@ -1,5 +1,5 @@
 use Rattle.std.proofs.Common.{◌≡◌, List, ◌∷◌, sym, subst}
-use Rattle.world_model.specs.Words.{Cell}
+use Rattle.law_input_views.specs.world_model.Words.{Cell}
 use Rattle.law_input_views.proofs.ordered_lists.Parts.{IsPart, left, part_whole}
 use Rattle.law_input_steps.proofs.Queues.{queue_loses, back_loses}
 use Rattle.law_input_steps.proofs.SwitchCells.{gsmp_cell_comes}

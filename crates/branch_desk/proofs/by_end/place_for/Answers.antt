@@ -1,6 +1,6 @@
 use Rattle.std.proofs.Common.{ap}
 use Rattle.std.specs.Cmp.{on_total}
-use Rattle.crossbar_model.specs.Channels.{end_cmp}
+use Rattle.port_model.specs.crossbar_model.Channels.{end_cmp}
 use Rattle.branch_desk.specs.declared.by_end.Numbered.{Numbered}
 use Rattle.branch_desk.proofs.Ends.{end_cmp_total}
 use Rattle.branch_desk.proofs.Ordered.{sorted-insert_tied, sorted-insert_gap}

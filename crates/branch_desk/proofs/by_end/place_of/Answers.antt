@@ -3,7 +3,7 @@ use Rattle.std.proofs.lemmas.Fn.{always_returns_same}
 use Rattle.std.specs.List.Sorted.{IsSorted, IsSearchInRange, IsBinarySearchResult}
 use Rattle.std.proofs.lemmas.List.Sorted.{searchable_from_sorted}
 use Rattle.net_types.specs.declared.channel.End.{End}
-use Rattle.crossbar_model.specs.Channels.{end_cmp}
+use Rattle.port_model.specs.crossbar_model.Channels.{end_cmp}
 use Rattle.branch_desk.specs.declared.by_end.Numbered.{Numbered}
 use Rattle.branch_desk.specs.ByEnd.{IsPlaceOf, IsGapFor}
 use Rattle.branch_desk.proofs.Ends.{end_cmp_total, end_from_tie}

@@ -9,8 +9,8 @@ use Rattle.controller_router.specs.Node as node
 use Rattle.controller_router.specs.Node.{Node, linked_range}
 use Rattle.controller_joining.specs.Joining.{acted}
 use Rattle.controller_joining.proofs.Kept.{ok_onward}
-use Rattle.law_controller_conditions.specs.Routes.{HasLinkRoutes}
-use Rattle.law_controller_conditions.proofs.Cells.{cells_can_come}
+use Rattle.law_joining_conditions.specs.law_controller_conditions.Routes.{HasLinkRoutes}
+use Rattle.law_joining_conditions.proofs.law_controller_conditions.Cells.{cells_can_come}
 use Rattle.law_joining_conditions.proofs.Frames.{frames_can_be_taken}
 use Rattle.controller.specs.Frames.{CanAct, IsActing}
 use Rattle.controller.proofs.Frames.{acts_after, can_act, frame_ended, nothing_ended, routes_after, taker_is}

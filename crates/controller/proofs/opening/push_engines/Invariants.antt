@@ -5,6 +5,6 @@ use Rattle.controller.proofs.opening.push_engines.Given as goal
 
 abbrev pub invariant-loop-range : goal.invariant-loop-range
 invariant-loop-range g l = record {
-  engines : map g.E.PortEngine.seen l.engines.items ++ opened_ends (setup_of l.node l.address l.timers (g.E.OpenEngine.meaning l.policy)) l.numbers.instances (drop l.range-index l.ports) ≡ opened_ends (setup_of l.node l.address l.timers (g.E.OpenEngine.meaning l.policy)) l.fn.numbers.instances l.ports;
+  engines : map g.E.PortEngine.seen l.engines.items ++ opened_ends (setup_of l.setup.node l.setup.address l.setup.timers (g.E.OpenEngine.meaning l.policy)) l.numbers.instances (drop l.range-index l.setup.ports.now) ≡ opened_ends (setup_of l.setup.node l.setup.address l.setup.timers (g.E.OpenEngine.meaning l.policy)) l.fn.numbers.instances l.setup.ports.now;
   numbers : l.numbers ≡ record l.fn.numbers { instances = l.fn.numbers.instances + l.range-index };
 }

@@ -11,7 +11,7 @@ use Rattle.world_model.specs.Performing.{at_port}
 use Rattle.controller_joining.specs.Conditions.{CanWorkOn}
 use Rattle.controller_joining.specs.Joining.{acted}
 use Rattle.controller_joining.proofs.Kept.{ok_onward}
-use Rattle.law_controller_conditions.specs.Calls.{hearing}
+use Rattle.law_joining_conditions.specs.law_controller_conditions.Calls.{hearing}
 use Rattle.controller.proofs.Decoded.{decoded_refused, decoded_told}
 use Rattle.controller.proofs.packets.hear_peer.Goals as goal
 

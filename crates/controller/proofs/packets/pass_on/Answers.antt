@@ -2,8 +2,8 @@ use Rattle.std.proofs.Common.{sym, subst}
 use Rattle.world_model.specs.Controller.{Acted}
 use Rattle.controller_joining.specs.Conditions.{CanWorkOn}
 use Rattle.controller_joining.specs.Joining.{controller_of}
-use Rattle.law_controller_conditions.specs.Calls.{counting}
-use Rattle.law_controller_conditions.proofs.Leading.{routes_lead_to_links}
+use Rattle.law_joining_conditions.specs.law_controller_conditions.Calls.{counting}
+use Rattle.law_joining_conditions.proofs.law_controller_conditions.Leading.{routes_lead_to_links}
 use Rattle.controller.proofs.packets.pass_on.Goals as goal
 
 pub route-requires-clause-port : goal.route-requires-clause-port

@@ -7,7 +7,7 @@ use Rattle.ipv4_packet.specs.declared.flow.FlowId.{FlowId}
 use Rattle.flow_encaps.specs.Labelled.{Carries, unwrap_fault}
 use Rattle.link_model.specs.declared.record.Layer.TheVariants.{Encaps}
 use Rattle.link_model.specs.declared.record.Record.TheVariants.{Bad}
-use Rattle.port_state.specs.Engine.{flow_at}
+use Rattle.controller_router.specs.port_state.Engine.{flow_at}
 use Rattle.world_model.specs.Cells.{label_holds}
 use Rattle.world_model.specs.Controller.{Linked, linked_at, note}
 use Rattle.controller_router.specs.Node as node

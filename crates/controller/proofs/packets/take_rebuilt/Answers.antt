@@ -1,7 +1,7 @@
 use Rattle.std.proofs.Common.{ap, ◌∙◌}
 use Rattle.world_model.specs.Controller.{Acted}
 use Rattle.controller_joining.specs.Joining.{acted, controller_of}
-use Rattle.law_controller_conditions.proofs.Leading.{routes_lead_to_links}
+use Rattle.law_joining_conditions.proofs.law_controller_conditions.Leading.{routes_lead_to_links}
 use Rattle.controller.specs.Frames.{used_at}
 use Rattle.controller.proofs.Frames.{still_bound}
 use Rattle.controller.proofs.packets.take_rebuilt.Goals as goal

@@ -16,7 +16,7 @@ returns-in-Ok c =
     let m = c.in-Ok.message in
     let whole : take (length p - 20) (drop 20 p) ≡ drop 20 p = take_all (length p - 20) (drop 20 p) (rw length-drop (omega arith)) in
     let told = subst (λ (part : List ℕ). Tells part m) whole ((c.decode.ensures.ok m).0 c.in-Ok.is) in
-    on_ok c.write_ifmp.result _ _ (λ is. is ∙ ap (λ (r : Result Message Fault). c.args.out.now ++ message_or p r) (sym (message_told (drop 20 p) m told))) c.write_ifmp.ensures
+    on_ok c.write_ifmp.result _ _ (λ is. is ∙ ap (λ (r : Result Message Fault). c.args.out.now ++ message_or p r) (sym (message_told (drop 20 p) m told))) c.write_ifmp.ensures.ok
 
 pub returns-in-Err : goal.returns-in-Err
 returns-in-Err c =

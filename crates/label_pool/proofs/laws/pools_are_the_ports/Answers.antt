@@ -2,8 +2,8 @@ use Rattle.std.proofs.Common.{◌≡◌, ℕ, Bool, List, [], ◌∷◌, refl, i
 use Rattle.std.specs.Prelude.{find, filter, ◌&&◌}
 use Rattle.std.proofs.lemmas.Bool.{cases_Bool}
 use Rattle.net_types.specs.Label.{label_channel_of}
-use Rattle.port_model.specs.Setup.{is_between, label_numbers}
-use Rattle.port_model.specs.Labels.{is_spare}
+use Rattle.branch_desk.specs.port_model.Setup.{is_between, label_numbers}
+use Rattle.branch_desk.specs.port_model.Labels.{is_spare}
 use Rattle.label_pool.proofs.laws.pools_are_the_ports.Goals as goal
 
 -- the first of those that are left is the first that passes both tests

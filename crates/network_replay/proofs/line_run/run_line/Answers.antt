@@ -1,13 +1,13 @@
 use Rattle.std.proofs.Common.{◌≡◌, ◌∙◌, ◌+◌, ◌≤◌, List, OnErr, OnOk, ap, length, subst, sym, arith}
 use Rattle.std.specs.List.{repeat}
-use Rattle.world_model.specs.network_model.declared.event.Event.{Event}
-use Rattle.world_model.specs.Limits.{event_limit}
-use Rattle.world_model.specs.Run.{put_away, round, tick_of_all, world_after}
-use Rattle.world_model.specs.World.{World}
+use Rattle.script_model.specs.world_model.network_model.declared.event.Event.{Event}
+use Rattle.script_model.specs.world_model.Limits.{event_limit}
+use Rattle.script_model.specs.world_model.Run.{put_away, round, tick_of_all, world_after}
+use Rattle.script_model.specs.world_model.World.{World}
 use Rattle.script_model.specs.Script.{events_of}
 use Rattle.world.specs.Network.{world_of}
-use Rattle.telling_model.specs.Placed.{placed_events}
-use Rattle.telling_model.specs.Tale.{told}
+use Rattle.network_run.specs.telling_model.Placed.{placed_events}
+use Rattle.network_run.specs.telling_model.Tale.{told}
 use Rattle.network_run.specs.Telling.{IsMeterIn, Puts, meter_behind}
 use Rattle.network_run.proofs.AllTicks.{at_notes}
 use Rattle.network_replay.proofs.Metered.{one_in}

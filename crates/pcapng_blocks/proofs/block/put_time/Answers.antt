@@ -1,7 +1,16 @@
 use Rattle.pcapng_blocks.specs.Blocks.{time_octets}
 use Rattle.pcapng_blocks.proofs.Parts.{two_parts}
+use Rattle.pcapng_blocks.proofs.Fronts.{begun, next, said}
 use Rattle.pcapng_blocks.proofs.block.put_time.Goals as goal
 
-pub returns : goal.returns
+pub returns-clause-ok : goal.returns-clause-ok
 unfolding time_octets
-returns c = two_parts _ _ _ _ _ c.in_ok-put_u32.ensures c.in_ok-put_u32-2.ensures
+returns-clause-ok c = two_parts _ _ _ _ _ c.in_ok-put_u32.ensures.ok c.in_ok-put_u32-2.ensures.ok
+
+pub returns-in_err-put_u32-clause-err : goal.returns-in_err-put_u32-clause-err
+unfolding time_octets
+returns-in_err-put_u32-clause-err c = said c.from_residual.result _ (begun _ _ _ c.in_err-put_u32.ensures.err)
+
+pub returns-in_err-put_u32-2-clause-err : goal.returns-in_err-put_u32-2-clause-err
+unfolding time_octets
+returns-in_err-put_u32-2-clause-err c = said c.from_residual-in_err-put_u32-2.result _ (next _ _ _ _ _ c.in_ok-put_u32.ensures.ok (begun _ _ _ c.in_err-put_u32-2.ensures.err))

@@ -1,9 +1,26 @@
 use Rattle.std.proofs.Common.{arith}
 use Rattle.pcapng_blocks.proofs.Lengths.{interface_length}
-use Rattle.pcapng_blocks.proofs.Parts.{block_told}
+use Rattle.pcapng_blocks.proofs.Parts.{block_parts, block_told}
+use Rattle.pcapng_blocks.proofs.Fronts.{as_text, begun, here, next, said}
 use Rattle.pcapng_blocks.proofs.block.write_interface_description.Goals as goal
 
-pub returns : goal.returns
-returns c =
-    block_told _ _ _ _ _ _ _ _ c.in_ok-put_u32.ensures c.in_ok-put_u32-2.ensures c.in_ok-put_interface_body.ensures c.in_ok-put_u32-3.ensures
+pub returns-clause-ok : goal.returns-clause-ok
+returns-clause-ok c =
+    block_told _ _ _ _ _ _ _ _ c.in_ok-put_u32.ensures.ok c.in_ok-put_u32-2.ensures.ok c.in_ok-put_interface_body.ensures.ok c.in_ok-put_u32-3.ensures.ok
     (omega (arith, interface_length c.args.link_type c.args.resolution c.args.name.now c.args.description.now, c.option_length.ensures.len, c.option_length-2.ensures.len, c.option_length-3.ensures.len))
+
+pub returns-in_err-put_u32-clause-err : goal.returns-in_err-put_u32-clause-err
+returns-in_err-put_u32-clause-err c =
+    said c.from_residual.result _ (begun _ _ _ c.in_err-put_u32.ensures.err)
+
+pub returns-in_err-put_u32-2-clause-err : goal.returns-in_err-put_u32-2-clause-err
+returns-in_err-put_u32-2-clause-err c =
+    said c.from_residual-in_err-put_u32-2.result _ (next _ _ _ _ _ c.in_ok-put_u32.ensures.ok (begun _ _ _ c.in_err-put_u32-2.ensures.err))
+
+pub returns-in_err-put_interface_body-clause-err : goal.returns-in_err-put_interface_body-clause-err
+returns-in_err-put_interface_body-clause-err c =
+    said c.from_residual-in_err-put_interface_body.result _ (as_text _ _ _ _ (block_parts _ 1 _ (omega (arith, interface_length c.args.link_type c.args.resolution c.args.name.now c.args.description.now, c.option_length.ensures.len, c.option_length-2.ensures.len, c.option_length-3.ensures.len))) (next _ _ _ _ _ c.in_ok-put_u32.ensures.ok (next _ _ _ _ _ c.in_ok-put_u32-2.ensures.ok (here _ _ _ _ c.in_err-put_interface_body.ensures.err))))
+
+pub returns-in_err-put_u32-3-clause-err : goal.returns-in_err-put_u32-3-clause-err
+returns-in_err-put_u32-3-clause-err c =
+    said c.from_residual-in_err-put_u32-3.result _ (as_text _ _ _ _ (block_parts _ 1 _ (omega (arith, interface_length c.args.link_type c.args.resolution c.args.name.now c.args.description.now, c.option_length.ensures.len, c.option_length-2.ensures.len, c.option_length-3.ensures.len))) (next _ _ _ _ _ c.in_ok-put_u32.ensures.ok (next _ _ _ _ _ c.in_ok-put_u32-2.ensures.ok (next _ _ _ _ _ c.in_ok-put_interface_body.ensures.ok (begun _ _ _ c.in_err-put_u32-3.ensures.err)))))

@@ -3,7 +3,7 @@ use Rattle.port_actions.specs.Outlook.{Foresees}
 use Rattle.port_model.specs.declared.action.Action.{Action}
 use Rattle.port_labels.specs.Read.{label_of}
 use Rattle.port_model.specs.Labels.{Recalled}
-use Rattle.port_session.specs.Session.{reclaim_number}
+use Rattle.port_state.specs.port_session.Session.{reclaim_number}
 use Rattle.port_hearing.proofs.Reclaims.{reclaimed_numbers}
 use Rattle.port_hearing.proofs.reclaiming.recall.Goals as goal
 

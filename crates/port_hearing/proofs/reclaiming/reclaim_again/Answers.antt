@@ -1,7 +1,7 @@
 use Rattle.std.proofs.Common.{◌∙◌}
 use Rattle.port_labels.specs.Book.{reclaimed}
 use Rattle.port_labels.specs.Read.{label_of}
-use Rattle.port_session.specs.Session.{reclaim_number}
+use Rattle.port_state.specs.port_session.Session.{reclaim_number}
 use Rattle.port_hearing.proofs.Reclaims.{reclaimed_numbers}
 use Rattle.port_hearing.proofs.reclaiming.reclaim_again.Goals as goal
 

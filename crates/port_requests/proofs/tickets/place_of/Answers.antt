@@ -2,7 +2,7 @@ use Rattle.std.proofs.Common.{◌≡◌, ◌==◌, ◌∙◌, false, rules, sym}
 use Rattle.std.specs.Ordering.{nat_cmp}
 use Rattle.std.specs.List.{list_any}
 use Rattle.std.proofs.lemmas.Fn.{always_returns_same}
-use Rattle.port_model.specs.Desk.{Standing}
+use Rattle.branch_desk.specs.port_model.Desk.{Standing}
 use Rattle.branch_desk.proofs.Numbers.{searched}
 use Rattle.port_requests.proofs.tickets.place_of.Goals as goal
 

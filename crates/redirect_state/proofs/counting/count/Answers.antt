@@ -1,4 +1,4 @@
-use Rattle.std.proofs.Common.{◌≡◌, ◌∙◌, sym, ap, subst, OnOk, option_map}
+use Rattle.std.proofs.Common.{◌≡◌, ◌∙◌, sym, ap, subst, OnOk, is_some, option_map}
 use Rattle.port_model.specs.Labels.{label_for, label_number}
 use Rattle.port_model.specs.Port.{Port, Work, labels_of}
 use Rattle.port_model.specs.Counting.{offers}
@@ -6,6 +6,11 @@ use Rattle.port_state.specs.Engine.{Fixed, setup_of}
 use Rattle.port_saying.specs.Rules.{begun}
 use Rattle.redirect_state.proofs.Served.{counts_unserved, none_of, once_more, some_of}
 use Rattle.redirect_state.proofs.counting.count.Goals as goal
+
+pub offer-requires-clause-open : goal.offer-requires-clause-open
+offer-requires-clause-open g c =
+    let is_open = some_of c.args.state.now.port.session (sym c.has_session.ensures ∙ c.if-not-has_session.false) in
+    ap is_some (ap (λ (p : Port). p.session) c.in_ok-packets.ensures.port ∙ ap (option_map (once_more c.args.flow)) is_open.1)
 
 pub returns-clause-work : goal.returns-clause-work
 returns-clause-work g c = λ n.

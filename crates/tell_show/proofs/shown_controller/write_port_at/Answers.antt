@@ -1,6 +1,6 @@
 use Rattle.std.proofs.Common.{◌≡◌, ◌++◌, List, ℕ, subst}
 use Rattle.std.specs.Prelude.{OnOk, slice_get}
-use Rattle.controller_joining.specs.Joining.{controller_of}
+use Rattle.controller.specs.Controlling.{controller_of}
 use Rattle.tell_show.proofs.Ends.{lines_are}
 use Rattle.tell_show.proofs.shown_controller.write_port_at.Goals as goal
 

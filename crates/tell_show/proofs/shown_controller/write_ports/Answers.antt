@@ -1,5 +1,5 @@
 use Rattle.std.proofs.Common.{List, arith}
-use Rattle.controller_joining.specs.Joining.{controller_of}
+use Rattle.controller.specs.Controlling.{controller_of}
 use Rattle.world_model.specs.Controller.{Linked}
 use Rattle.show_text.specs.Shown.{linked_lines}
 use Rattle.tell_show.proofs.Along.{Item, item_at, line_put}

@@ -1,5 +1,5 @@
 use Rattle.std.proofs.Common.{◌≡◌, ◌++◌, take, flat_map}
-use Rattle.controller_joining.specs.Joining.{controller_of}
+use Rattle.controller.specs.Controlling.{controller_of}
 use Rattle.show_text.specs.Shown.{linked_lines}
 use Rattle.tell_show.proofs.shown_controller.write_ports.Given as goal
 

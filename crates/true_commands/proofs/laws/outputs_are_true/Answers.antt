@@ -6,7 +6,7 @@ use Rattle.world_model.specs.Topology.{policy_of}
 use Rattle.script_model.specs.Script.{Script, script_of}
 use Rattle.script_model.specs.Documents.{document_script, document_policy}
 use Rattle.script_model.specs.Drill.{drill_script}
-use Rattle.law_true_runs.specs.Law.{IsTrueRun}
+use Rattle.truth_model.specs.Run.{IsTrueRun}
 use Rattle.law_true_lines.specs.Law.{HasNames, IsTrueOf}
 use Rattle.commands.specs.declared.task.Task.{Task}
 use Rattle.commands.specs.declared.task.Task.TheVariants.{Replay, View, Document, Drill, Whole, Lined}

@@ -3,7 +3,7 @@
 use Rattle.std.proofs.Common.{◌≡◌, ℕ, List, ◌++◌, Some, refl}
 use Rattle.line_by_line.specs.declared.task.Ending.TheVariants.{Done}
 use Rattle.trace_model.specs.Audit.{Outcome, Yes, Breaks, Refuses, Unended, audit_of}
-use Rattle.law_trace.specs.Meaning.{trace_of, AtEach, IsClean}
+use Rattle.trace_model.specs.Meaning.{trace_of, AtEach, IsClean}
 use Rattle.audit_run.specs.Audit.{ending_of}
 use Rattle.world_model.specs.Topology.{policy_of}
 use Rattle.script_model.specs.Script.{Script, script_of}

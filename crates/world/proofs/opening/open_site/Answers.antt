@@ -4,7 +4,7 @@ use Rattle.crossbar_model.specs.Channels.{ArePorts}
 use Rattle.world_model.specs.Switch as switches
 use Rattle.world_model.specs.Topology.{node_at}
 use Rattle.world_model.proofs.Opening.{ports_are}
-use Rattle.world.specs.Nodes.{AreTimes}
+use Rattle.node_controller.specs.Nodes.{AreTimes}
 use Rattle.world.proofs.Opened.{are_times, cells_given, few_given, ports_given, ranges_given, site_opened, table_given, vpis_low}
 use Rattle.world.proofs.opening.open_site.Goals as goal
 

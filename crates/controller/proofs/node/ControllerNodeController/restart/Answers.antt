@@ -1,6 +1,9 @@
-use Rattle.law_controller_facts.specs.Inputs.{Restarts}
+use Rattle.std.proofs.Common.{refl, ap}
+use Rattle.law_joining_conditions.specs.law_controller_facts.Inputs.{Restarts}
 use Rattle.controller_joining.specs.Joining.{acted}
 use Rattle.law_joining_conditions.proofs.Events.{node_can_restart}
+use Rattle.controller.specs.Controlling.{has_failed}
+use Rattle.controller.proofs.Ended.{ends_by, was_ended}
 use Rattle.controller.proofs.Rights.{draws, right_after, right_before, right_unless}
 use Rattle.controller.proofs.node.ControllerNodeController.restart.Goals as goal
 
@@ -25,3 +28,9 @@ returns-clause-drawn g c =
     let old = c.self.inside.router in
     let right = right_before seen old c.self.inside.failure c.in_default.is c.self.invariant in
     draws seen c.restart_node-result.result old c.restart_node-result.new.self c.args.notes.now c.restart_node-result.new.notes c.args.numbers.now c.restart_node-result.new.numbers (Restarts) tt right c.restart_node-result.ensures.acted
+
+pub returns-in-Some-clause-ends : goal.returns-in-Some-clause-ends
+returns-in-Some-clause-ends g c = was_ended _ c.in-Some.error c.self.inside.failure c.args.self.now.failed refl c.in-Some.is (ap has_failed c.self.view_is)
+
+pub returns-clause-ends : goal.returns-clause-ends
+returns-clause-ends g c = ends_by c.restart_node-result.result c.err-self-inside.result c.self.inside.failure c.args.self.now.failed c.err-self-inside.ensures.value c.in_default.is (ap has_failed c.self.view_is)

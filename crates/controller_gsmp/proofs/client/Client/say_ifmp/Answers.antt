@@ -7,7 +7,7 @@ use Rattle.flow_encaps.specs.Default.{default_payload}
 use Rattle.ifmp_wire.specs.Message.{octets_of}
 use Rattle.world_model.specs.Controller.{Acted, default_home}
 use Rattle.world_model.specs.Sending.{sends_control}
-use Rattle.port_model.specs.Setup.{home_of}
+use Rattle.world_model.specs.port_model.Setup.{home_of}
 use Rattle.controller_gsmp.specs.Client.{acted}
 use Rattle.controller_gsmp.proofs.client.Client.say_ifmp.Goals as goal
 

@@ -5,7 +5,7 @@ use Rattle.std.proofs.lemmas.List.Sums.{fold_more}
 use Rattle.std.proofs.lemmas.Option.{slice_get-get_or}
 use Rattle.net_types.specs.Number.{GivenOut}
 use Rattle.gsmp_wire.specs.declared.request.Request.TheVariants.{AllPorts}
-use Rattle.port_model.specs.Desk.{Desk, Standing}
+use Rattle.world_model.specs.port_model.Desk.{Desk, Standing}
 use Rattle.world_model.specs.Controller.{Acted}
 use Rattle.world_model.specs.Asking.{sends_request}
 use Rattle.controller_gsmp.specs.Client.{Client, acted}

@@ -1,7 +1,7 @@
 use Rattle.std.proofs.Common.{Bool, fold, refl, ap, sym, subst, ◌∙◌, if◌then◌else◌}
 use Rattle.adjacency_table.specs.Side.{is_estab}
-use Rattle.world_model.specs.Controller.{Acted}
-use Rattle.world_model.specs.Changes.{changed_joins, takes_join_back}
+use Rattle.controller_joins.specs.world_model.Controller.{Acted}
+use Rattle.controller_joins.specs.world_model.Changes.{changed_joins, takes_join_back}
 use Rattle.law_join_facts.specs.Joins.{HaveNumbers, joined_in}
 use Rattle.law_join_facts.proofs.Changing.{Begun, begins_keeps, begins_lasts}
 use Rattle.law_join_facts.proofs.Lasts.{Lasts}

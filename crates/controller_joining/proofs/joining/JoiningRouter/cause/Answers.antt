@@ -5,7 +5,7 @@ use Rattle.controller_router.specs.Node as node
 use Rattle.controller_router.specs.Node.{Node}
 use Rattle.controller_joining.specs.Joining.{Joining, acted}
 use Rattle.controller_joining.proofs.Kept.{settled_by}
-use Rattle.world_model.specs.Meeting.{causes}
+use Rattle.controller_joins.specs.world_model.Meeting.{causes}
 use Rattle.law_join_facts.proofs.Spent.{causes_lasts}
 use Rattle.controller_joining.proofs.joining.JoiningRouter.cause.Goals as goal
 

@@ -1,6 +1,6 @@
 use Rattle.std.proofs.Common.{ap, sym, subst, ◌∙◌}
-use Rattle.world_model.specs.Controller.{Acted}
-use Rattle.world_model.specs.Changes.{takes_changes}
+use Rattle.controller_joins.specs.world_model.Controller.{Acted}
+use Rattle.controller_joins.specs.world_model.Changes.{takes_changes}
 use Rattle.law_join_facts.specs.Joins.{joined_in}
 use Rattle.controller_router.specs.Meeting.{with_change}
 use Rattle.controller_joining.specs.Conditions.{CanTakeChanges}

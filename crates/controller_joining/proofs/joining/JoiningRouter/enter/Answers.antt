@@ -1,6 +1,6 @@
 use Rattle.std.proofs.Common.{subst, sym}
 use Rattle.net_types.specs.Number.{GivenOut}
-use Rattle.world_model.specs.Packets.{injected}
+use Rattle.controller_joins.specs.world_model.Packets.{injected}
 use Rattle.controller_router.specs.Node as node
 use Rattle.controller_joining.specs.Joining.{AreJoined}
 use Rattle.controller_joining.proofs.Kept.{ok_joined, stayed}

@@ -2,9 +2,9 @@ use Rattle.std.proofs.Common.{◌≡◌, true, Some, ap, sym, subst, ◌∙◌}
 use Rattle.adjacency_table.specs.Side.{is_estab}
 use Rattle.net_types.specs.declared.node.PortNo.{PortNo}
 use Rattle.port_model.specs.Answers as port_answers
-use Rattle.world_model.specs.Controller.{Acted, ports_of}
-use Rattle.world_model.specs.Changes.{takes_changes}
-use Rattle.world_model.specs.Meeting.{causes, clears, port_of}
+use Rattle.controller_joins.specs.world_model.Controller.{Acted, ports_of}
+use Rattle.controller_joins.specs.world_model.Changes.{takes_changes}
+use Rattle.controller_joins.specs.world_model.Meeting.{causes, clears, port_of}
 use Rattle.law_join_facts.specs.Joins.{joined_in}
 use Rattle.law_join_facts.proofs.Spent.{clears_stays}
 use Rattle.controller_router.specs.Meeting.{CanCause}

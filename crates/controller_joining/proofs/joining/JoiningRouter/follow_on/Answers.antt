@@ -1,6 +1,6 @@
 use Rattle.std.proofs.Common.{ap, sym, subst, ◌∙◌}
 use Rattle.adjacency_table.specs.Side.{is_estab}
-use Rattle.world_model.specs.Gsmp.{answers}
+use Rattle.controller_joins.specs.world_model.Gsmp.{answers}
 use Rattle.law_join_facts.proofs.Lasts.{Lasts}
 use Rattle.law_join_facts.proofs.Spent.{answers_last}
 use Rattle.controller_router.specs.Node as node

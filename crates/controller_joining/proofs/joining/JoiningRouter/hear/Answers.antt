@@ -5,7 +5,7 @@ use Rattle.controller_router.specs.Node as node
 use Rattle.controller_router.specs.Node.{Node}
 use Rattle.controller_joining.specs.Joining.{Joining, acted}
 use Rattle.controller_joining.proofs.Kept.{settled_by}
-use Rattle.world_model.specs.Performing.{at_port}
+use Rattle.controller_joins.specs.world_model.Performing.{at_port}
 use Rattle.port_model.specs.Hearing.{hears}
 use Rattle.controller_joining.proofs.joining.JoiningRouter.hear.Goals as goal
 

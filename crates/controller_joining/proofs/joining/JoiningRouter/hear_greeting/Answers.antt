@@ -1,7 +1,7 @@
 use Rattle.std.proofs.Common.{ap, sym, subst, ◌∙◌}
 use Rattle.adjacency_table.specs.Greeting.{gsmp_answer, gsmp_received}
-use Rattle.world_model.specs.Controller.{Acted}
-use Rattle.world_model.specs.Gsmp.{answers}
+use Rattle.controller_joins.specs.world_model.Controller.{Acted}
+use Rattle.controller_joins.specs.world_model.Gsmp.{answers}
 use Rattle.law_join_facts.specs.Joins.{joined_in}
 use Rattle.controller_router.specs.Conditions.{CanFollow, turned_to}
 use Rattle.controller_joining.specs.Joining.{Joining, acted}

@@ -1,7 +1,7 @@
 use Rattle.std.proofs.Common.{◌≡◌, drop, length}
 use Rattle.std.specs.List.{list_any}
-use Rattle.world_model.specs.Changes.{is_changed}
-use Rattle.world_model.specs.Joins.{joins_of}
+use Rattle.controller_joins.specs.world_model.Changes.{is_changed}
+use Rattle.controller_joins.specs.world_model.Joins.{joins_of}
 use Rattle.controller_joining.specs.Joining.{controller_of}
 use Rattle.controller_joining.proofs.joining.JoiningRouter.is_held_up.Given as goal
 

@@ -1,10 +1,10 @@
-use Rattle.std.proofs.Common.{Some, refl, ap, sym, subst, ◌∙◌}
+use Rattle.std.proofs.Common.{Option, Some, IsSome, refl, ap, sym, subst, ◌∙◌}
 use Rattle.keyed_lists.specs.Keyed.{entered as entered_in}
 use Rattle.adjacency_table.specs.Side.{is_estab}
 use Rattle.port_model.specs.Joins as port_joins
-use Rattle.world_model.specs.Controller.{Acted, linked_at}
-use Rattle.world_model.specs.Joins.{Join, enters_grant, joins}
-use Rattle.world_model.specs.Performing.{at_port}
+use Rattle.controller_joins.specs.world_model.Controller.{Acted, Linked, linked_at}
+use Rattle.controller_joins.specs.world_model.Joins.{Join, enters_grant, joins}
+use Rattle.controller_joins.specs.world_model.Performing.{at_port}
 use Rattle.law_join_facts.proofs.Comes.{le}
 use Rattle.law_join_facts.proofs.Lasts.{Lasts}
 use Rattle.controller_router.specs.Node as node
@@ -19,6 +19,13 @@ pub enter-requires : goal.enter-requires
 enter-requires g c =
     let a = acted g.E.PortEngine.seen c.args.self.now c.args.notes.now c.args.numbers.now in
     enter_ok a c.args.number c.args.joined c.requires.join c.self.inside.joins (c.requires.joined ∙ ap (λ (j : Joining _). j.joins) (sym c.self.view_is))
+
+pub lend-requires-clause-linked : goal.lend-requires-clause-linked
+lend-requires-clause-linked g c =
+    let seen = g.E.PortEngine.seen in
+    let a = acted seen c.args.self.now c.args.notes.now c.args.numbers.now in
+    let found = ap (λ (j : Joining _). linked_at (node.controller_of seen j.router) c.args.joined.port) c.self.view_is ∙ found_at a c.args.number c.args.joined c.requires.join in
+    subst (λ (o : Option Linked). IsSome o) (sym found) refl
 
 pub join_label-requires : goal.join_label-requires
 join_label-requires g c =

@@ -1,7 +1,7 @@
 use Rattle.std.proofs.Common.{List, ap, sym, ◌∙◌}
 use Rattle.std.specs.Option.{option_map}
 use Rattle.ipv4_forward.specs.declared.table.Route.{Route}
-use Rattle.world_model.specs.Controller.{Linked, linked_at}
+use Rattle.controller_joins.specs.world_model.Controller.{Linked, linked_at}
 use Rattle.cut_through.specs.Plan.{way_of}
 use Rattle.controller_joining.specs.Joining.{Joining, controller_of}
 use Rattle.controller_joining.proofs.Tried.{join_is}

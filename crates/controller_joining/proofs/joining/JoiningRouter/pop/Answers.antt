@@ -1,5 +1,5 @@
 use Rattle.std.proofs.Common.{ap, subst, sym, ◌∙◌}
-use Rattle.world_model.specs.Controller.{Controller}
+use Rattle.controller_joins.specs.world_model.Controller.{Controller}
 use Rattle.law_join_facts.specs.Joins.{joined_in}
 use Rattle.controller_joining.specs.Joining.{AreJoined}
 use Rattle.controller_joining.proofs.joining.JoiningRouter.pop.Goals as goal

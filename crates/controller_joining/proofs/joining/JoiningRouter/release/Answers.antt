@@ -5,8 +5,8 @@ use Rattle.controller_router.specs.Node as node
 use Rattle.controller_router.specs.Node.{Node}
 use Rattle.controller_joining.specs.Joining.{Joining, acted, controller_of}
 use Rattle.controller_joining.proofs.Kept.{settled_by}
-use Rattle.world_model.specs.Controller.{ports_of}
-use Rattle.world_model.specs.Joins.{resets_spent}
+use Rattle.controller_joins.specs.world_model.Controller.{ports_of}
+use Rattle.controller_joins.specs.world_model.Joins.{resets_spent}
 use Rattle.law_join_facts.proofs.Spent.{all_spent_last}
 use Rattle.controller_joining.proofs.joining.JoiningRouter.release.Goals as goal
 

@@ -1,5 +1,5 @@
 use Rattle.std.proofs.Common.{◌≡◌, fold, length}
-use Rattle.world_model.specs.Joins.{released_inputs, releases_input}
+use Rattle.controller_joins.specs.world_model.Joins.{released_inputs, releases_input}
 use Rattle.controller_joining.specs.Conditions.{EachCanBeReleased}
 use Rattle.controller_joining.specs.Joining.{AreJoined, acted, controller_of}
 use Rattle.controller_joining.proofs.joining.JoiningRouter.release_all.Given as goal

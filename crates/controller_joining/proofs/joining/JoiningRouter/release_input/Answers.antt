@@ -2,7 +2,7 @@ use Rattle.std.proofs.Common.{◌≡◌, true, find, Some, ap, sym, subst, ◌�
 use Rattle.net_types.specs.declared.channel.End.{End}
 use Rattle.port_model.specs.Requests.{leads_home}
 use Rattle.port_model.specs.Setup.{home_of}
-use Rattle.world_model.specs.Joins.{releases_input}
+use Rattle.controller_joins.specs.world_model.Joins.{releases_input}
 use Rattle.law_join_facts.proofs.Comes.{is_for}
 use Rattle.controller_joining.specs.Conditions.{CanReleaseInput}
 use Rattle.controller_joining.specs.Joining.{Joining, acted}

@@ -1,6 +1,6 @@
-use Rattle.std.proofs.Common.{ap, sym, filter, ◌∙◌}
-use Rattle.world_model.specs.Controller.{Acted}
-use Rattle.world_model.specs.Joins.{parts}
+use Rattle.std.proofs.Common.{Option, IsSome, ap, sym, subst, refl, filter, ◌∙◌}
+use Rattle.controller_joins.specs.world_model.Controller.{Acted, Linked}
+use Rattle.controller_joins.specs.world_model.Joins.{parts}
 use Rattle.law_join_facts.specs.Joins.{joined_in}
 use Rattle.law_join_facts.proofs.Comes.{is_other, kept_apart}
 use Rattle.controller_router.specs.Node as node
@@ -13,6 +13,15 @@ pub part-requires : goal.part-requires
 part-requires g c =
     let a = acted g.E.PortEngine.seen c.args.self.now c.args.notes.now c.args.numbers.now in
     label_ok a c.args.joined.now (known a c.args.joined.now c.args.self.now.joins c.requires.joined c.requires.found c.requires.can)
+
+pub give_back-requires-clause-linked : goal.give_back-requires-clause-linked
+give_back-requires-clause-linked g c =
+    let seen = g.E.PortEngine.seen in
+    let a = acted seen c.args.self.now c.args.notes.now c.args.numbers.now in
+    let b = node.acted seen c.part.new.self c.part.new.notes c.args.numbers.now in
+    let r = known a c.args.joined.now c.args.self.now.joins c.requires.joined c.requires.found c.requires.can in
+    let is = c.in_ok-part.ensures.acted c.args.numbers.now ∙ ap (λ (j : Joining _). parts (acted seen j c.args.notes.now c.args.numbers.now) c.args.joined.now.input) c.self.view_is in
+    subst (λ (o : Option Linked). IsSome o) (sym (there a b c.args.joined.now r is).found) refl
 
 pub give_back-requires-clause-released : goal.give_back-requires-clause-released
 give_back-requires-clause-released g c =

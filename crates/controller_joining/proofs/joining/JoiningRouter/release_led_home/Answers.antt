@@ -2,7 +2,7 @@ use Rattle.std.proofs.Common.{◌≡◌, find, fold, refl, ap, sym, subst, ◌�
 use Rattle.gsmp_wire.specs.declared.request.Request.{Request}
 use Rattle.gsmp_wire.specs.declared.request.Request.TheVariants.{AddBranch, AllPorts, DeleteTree, MoveBranch, PortManagement, VerifyTree}
 use Rattle.branch_desk.proofs.Ends.{same_itself}
-use Rattle.world_model.specs.Joins.{released_inputs, releases_input}
+use Rattle.controller_joins.specs.world_model.Joins.{released_inputs, releases_input}
 use Rattle.controller_joins.specs.Joined.{AreInOrder}
 use Rattle.law_join_facts.proofs.Comes.{is_for, kept_apart}
 use Rattle.controller_joining.specs.Conditions.{EachCanBeReleased}

@@ -1,7 +1,7 @@
 use Rattle.std.proofs.Common.{ap, sym, ◌∙◌}
 use Rattle.keyed_lists.specs.Keyed.{in_order}
-use Rattle.world_model.specs.Controller.{Acted}
-use Rattle.world_model.specs.Resets.{node_resets}
+use Rattle.controller_joins.specs.world_model.Controller.{Acted}
+use Rattle.controller_joins.specs.world_model.Resets.{node_resets}
 use Rattle.law_join_facts.proofs.Comes.{le}
 use Rattle.law_join_facts.proofs.Flat.{joined_is}
 use Rattle.law_join_facts.proofs.Lasts.{joined_to, node_reset}

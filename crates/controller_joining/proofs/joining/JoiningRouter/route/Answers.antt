@@ -1,5 +1,5 @@
 use Rattle.std.proofs.Common.{subst, sym}
-use Rattle.world_model.specs.Packets.{routes}
+use Rattle.controller_joins.specs.world_model.Packets.{routes}
 use Rattle.controller_router.specs.Node as node
 use Rattle.controller_joining.specs.Joining.{AreJoined}
 use Rattle.controller_joining.proofs.Kept.{ok_joined, stayed}

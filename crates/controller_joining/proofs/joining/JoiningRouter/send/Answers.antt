@@ -1,6 +1,6 @@
 use Rattle.std.proofs.Common.{subst, sym}
 use Rattle.net_types.specs.Number.{GivenOut}
-use Rattle.world_model.specs.Sending.{sends}
+use Rattle.controller_joins.specs.world_model.Sending.{sends}
 use Rattle.law_join_facts.proofs.Lasts.{stays_sent}
 use Rattle.controller_router.specs.Node as node
 use Rattle.controller_joining.specs.Joining.{AreJoined}

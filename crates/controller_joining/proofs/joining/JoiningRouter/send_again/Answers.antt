@@ -1,5 +1,5 @@
 use Rattle.std.proofs.Common.{ap, sym, ◌∙◌}
-use Rattle.world_model.specs.Ticks.{sends_again}
+use Rattle.controller_joins.specs.world_model.Ticks.{sends_again}
 use Rattle.law_join_facts.proofs.Spent.{again_stays}
 use Rattle.controller_joining.specs.Joining.{Joining, acted}
 use Rattle.controller_joining.proofs.Kept.{ok_joined, ok_onward, stayed}

@@ -3,9 +3,9 @@ use Rattle.gsmp_wire.specs.declared.request.Request.{Request}
 use Rattle.port_model.specs.DeskAnswers.{after_answer, answered}
 use Rattle.port_model.specs.Desk.{Standing}
 use Rattle.port_requests.specs.Answers.{told}
-use Rattle.world_model.specs.Controller.{Acted, with_desk}
-use Rattle.world_model.specs.Meeting.{answers_desk, done, empties}
-use Rattle.world_model.specs.Resets.{node_resets}
+use Rattle.controller_joins.specs.world_model.Controller.{Acted, with_desk}
+use Rattle.controller_joins.specs.world_model.Meeting.{answers_desk, done, empties}
+use Rattle.controller_joins.specs.world_model.Resets.{node_resets}
 use Rattle.law_join_facts.specs.Joins.{joined_in}
 use Rattle.controller_router.specs.Conditions.{CanResetNode}
 use Rattle.controller_router.specs.Meeting.{CanEmpty}

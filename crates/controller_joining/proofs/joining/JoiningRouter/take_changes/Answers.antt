@@ -1,9 +1,9 @@
 use Rattle.std.proofs.Common.{drop, length, ap, sym, subst, ◌∙◌, arith}
 use Rattle.std.specs.Prelude.{slice_get}
 use Rattle.std.specs.List.{list_any}
-use Rattle.world_model.specs.Controller.{Acted}
-use Rattle.world_model.specs.Changes.{begins_change, is_changed, takes_change, takes_changes}
-use Rattle.world_model.specs.Joins.{joins_of}
+use Rattle.controller_joins.specs.world_model.Controller.{Acted}
+use Rattle.controller_joins.specs.world_model.Changes.{begins_change, is_changed, takes_change, takes_changes}
+use Rattle.controller_joins.specs.world_model.Joins.{joins_of}
 use Rattle.law_join_facts.specs.Joins.{joined_in}
 use Rattle.controller_joining.specs.Conditions.{CanTakeChanges}
 use Rattle.controller_joining.specs.Joining.{Joining, acted, controller_of}

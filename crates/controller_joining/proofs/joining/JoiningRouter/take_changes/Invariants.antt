@@ -1,5 +1,5 @@
 use Rattle.std.proofs.Common.{◌≡◌, length}
-use Rattle.world_model.specs.Changes.{takes_changes}
+use Rattle.controller_joins.specs.world_model.Changes.{takes_changes}
 use Rattle.controller_joining.specs.Conditions.{CanTakeChanges}
 use Rattle.controller_joining.specs.Joining.{AreJoined, acted}
 use Rattle.controller_joining.proofs.joining.JoiningRouter.take_changes.Given as goal

@@ -1,11 +1,14 @@
 use Rattle.std.proofs.Common.{Bool, ap, sym, ◌∙◌, if◌then◌else◌}
 use Rattle.port_model.specs.Setup.{label_end}
-use Rattle.world_model.specs.Asking.{takes_back}
-use Rattle.world_model.specs.Changes.{takes_join_back}
+use Rattle.controller_joins.specs.world_model.Asking.{takes_back}
+use Rattle.controller_joins.specs.world_model.Changes.{takes_join_back}
 use Rattle.controller_joins.specs.declared.places.Joined.{Joined}
 use Rattle.controller_joining.specs.Joining.{Joining, acted}
 use Rattle.controller_joining.proofs.Kept.{ok_onward}
 use Rattle.controller_joining.proofs.joining.JoiningRouter.take_join_back.Goals as goal
+
+pub is_changed-requires : goal.is_changed-requires
+is_changed-requires g c = (c.requires.0, c.requires.1, c.requires.2)
 
 pub returns-clause-acted : goal.returns-clause-acted
 returns-clause-acted g c = λ join is grant.

@@ -1,7 +1,7 @@
 use Rattle.std.proofs.Common.{suc, drop, length, refl, ap, sym, subst, ◌∙◌}
 use Rattle.std.specs.Prelude.{slice_get}
 use Rattle.adjacency_table.specs.Side.{is_estab}
-use Rattle.world_model.specs.Joins.{joins_of}
+use Rattle.controller_joins.specs.world_model.Joins.{joins_of}
 use Rattle.law_join_facts.proofs.Changing.{past}
 use Rattle.controller_joining.specs.Joining.{Joining, acted}
 use Rattle.controller_joining.proofs.Changes.{Taking, at_grant, at_joined, back_can_if, closed_ends, drop_next, grant_on_same, none_left, same_here, takes_or_skips, taking_begins}

@@ -1,5 +1,5 @@
 use Rattle.std.proofs.Common.{◌≡◌, drop, length}
-use Rattle.world_model.specs.Joins.{joins_of}
+use Rattle.controller_joins.specs.world_model.Joins.{joins_of}
 use Rattle.controller_joining.specs.Joining.{acted, controller_of}
 use Rattle.controller_joining.proofs.Changes.{Taking}
 use Rattle.controller_joining.proofs.joining.JoiningRouter.take_joins_back.Given as goal

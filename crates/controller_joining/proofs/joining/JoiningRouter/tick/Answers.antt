@@ -1,11 +1,11 @@
 use Rattle.std.proofs.Common.{ap, sym, subst, ◌∙◌}
 use Rattle.adjacency_table.specs.Greeting.{gsmp_answer}
 use Rattle.adjacency_table.specs.Side.{ticked}
-use Rattle.world_model.specs.Controller.{Acted}
-use Rattle.world_model.specs.Gsmp.{answers}
-use Rattle.world_model.specs.Joins.{tries_joins}
-use Rattle.world_model.specs.Resets.{node_resets}
-use Rattle.world_model.specs.Ticks.{sends_again, ticks_ports}
+use Rattle.controller_joins.specs.world_model.Controller.{Acted}
+use Rattle.controller_joins.specs.world_model.Gsmp.{answers}
+use Rattle.controller_joins.specs.world_model.Joins.{tries_joins}
+use Rattle.controller_joins.specs.world_model.Resets.{node_resets}
+use Rattle.controller_joins.specs.world_model.Ticks.{sends_again, ticks_ports}
 use Rattle.law_join_facts.specs.Joins.{joined_in}
 use Rattle.controller_router.specs.Conditions.{CanResetNode, turned_to}
 use Rattle.controller_joining.specs.Conditions.{CanTickOn}

@@ -5,8 +5,8 @@ use Rattle.controller_router.specs.Node as node
 use Rattle.controller_router.specs.Node.{Node}
 use Rattle.controller_joining.specs.Joining.{Joining, acted}
 use Rattle.controller_joining.proofs.Kept.{settled_by}
-use Rattle.world_model.specs.Controller.{ports_of}
-use Rattle.world_model.specs.Ticks.{ticks_ports}
+use Rattle.controller_joins.specs.world_model.Controller.{ports_of}
+use Rattle.controller_joins.specs.world_model.Ticks.{ticks_ports}
 use Rattle.controller_router.specs.Conditions.{EachCanTick}
 use Rattle.controller_joining.specs.Conditions.{EachCanTickOn}
 use Rattle.controller_joining.proofs.Ticked.{all_ticked, each_can}

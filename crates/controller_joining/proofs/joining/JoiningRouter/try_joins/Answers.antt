@@ -1,8 +1,8 @@
 use Rattle.std.proofs.Common.{◌+◌, ◌<◌, drop, length, refl, ap, subst, ◌∙◌, arith, ◌≡◌}
 use Rattle.std.specs.Prelude.{flat_map}
 use Rattle.crossbar_model.specs.Channels.{ArePorts}
-use Rattle.world_model.specs.Controller.{ports_of}
-use Rattle.world_model.specs.Joins.{tries_joins}
+use Rattle.controller_joins.specs.world_model.Controller.{ports_of}
+use Rattle.controller_joins.specs.world_model.Joins.{tries_joins}
 use Rattle.law_join_facts.specs.Joins.{inputs_on}
 use Rattle.controller_router.specs.Node.{ports_in}
 use Rattle.controller_router.proofs.Turns.{later}

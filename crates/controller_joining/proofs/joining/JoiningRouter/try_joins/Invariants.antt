@@ -1,6 +1,6 @@
 use Rattle.std.proofs.Common.{◌≡◌, drop, length}
 use Rattle.std.specs.Prelude.{flat_map}
-use Rattle.world_model.specs.Joins.{tries_joins}
+use Rattle.controller_joins.specs.world_model.Joins.{tries_joins}
 use Rattle.law_join_facts.specs.Joins.{inputs_on}
 use Rattle.controller_router.specs.Node.{ports_in}
 use Rattle.controller_joining.specs.Joining.{AreJoined, acted, controller_of}

@@ -1,7 +1,7 @@
 use Rattle.std.proofs.Common.{fold, refl, ap, sym, ◌∙◌, arith}
 use Rattle.port_labels.specs.Read.{label_of}
 use Rattle.std.specs.Option.{option_map}
-use Rattle.world_model.specs.Joins.{tries_join}
+use Rattle.controller_joins.specs.world_model.Joins.{tries_join}
 use Rattle.law_join_facts.specs.Joins.{inputs_on}
 use Rattle.law_join_facts.proofs.Tries.{held_at}
 use Rattle.controller_joining.specs.Joining.{Joining, acted, controller_of}

@@ -1,5 +1,5 @@
 use Rattle.std.proofs.Common.{◌≡◌, drop, fold}
-use Rattle.world_model.specs.Joins.{tries_join}
+use Rattle.controller_joins.specs.world_model.Joins.{tries_join}
 use Rattle.law_join_facts.specs.Joins.{inputs_on}
 use Rattle.controller_router.specs.Node.{ports_in}
 use Rattle.controller_joining.specs.Joining.{AreJoined, acted, controller_of}

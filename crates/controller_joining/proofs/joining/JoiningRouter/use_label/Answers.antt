@@ -2,8 +2,8 @@ use Rattle.std.proofs.Common.{[], ap, subst, sym, ◌∙◌}
 use Rattle.net_types.specs.Number.{GivenOut}
 use Rattle.link_model.specs.Notes.{Journal}
 use Rattle.port_model.specs.Counting.{used}
-use Rattle.world_model.specs.Controller.{Acted}
-use Rattle.world_model.specs.Performing.{at_port}
+use Rattle.controller_joins.specs.world_model.Controller.{Acted}
+use Rattle.controller_joins.specs.world_model.Performing.{at_port}
 use Rattle.law_join_facts.specs.Joins.{joined_in}
 use Rattle.controller_router.specs.Node as node
 use Rattle.controller_joining.specs.Joining.{AreJoined}

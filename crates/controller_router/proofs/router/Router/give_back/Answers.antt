@@ -1,11 +1,11 @@
 use Rattle.std.proofs.Common.{◌≡◌, ap, sym, subst, ◌∙◌, Some}
+use Rattle.std.specs.Prelude.{IsSome}
 use Rattle.std.proofs.lemmas.Result.{on_ok_weaker}
 use Rattle.keyed_lists.specs.Keyed.{at}
 use Rattle.port_model.specs.Grants.{Grant, grant_label}
 use Rattle.port_model.specs.Joins.{given_back}
 use Rattle.port_model.specs.Port.{Port}
 use Rattle.world_model.specs.Controller.{Linked, linked_at}
-use Rattle.world_model.specs.Performing.{works}
 use Rattle.controller_router.specs.Conditions.{CanWork}
 use Rattle.controller_router.specs.Engine.{IsReleased}
 use Rattle.controller_router.specs.Node.{IsPlaceOf, Node, acted, controller_of, ports_in}
@@ -13,10 +13,10 @@ use Rattle.controller_router.proofs.AtWork.{linked_after, places_after, ports_af
 use Rattle.controller_router.proofs.Joined.{at_engine, back_can, back_done, granted_at}
 use Rattle.controller_router.proofs.router.Router.give_back.Goals as goal
 
-pub returns-in_default-clause-acted : goal.returns-in_default-clause-acted
-returns-in_default-clause-acted g c = λ linked grant found granted.
-    let a = acted g.E.PortEngine.seen c.args.self.now c.args.notes.now c.args.numbers.now in
-    ap (works a (λ setup desk w. given_back w grant)) (sym (unlinked g.E.PortEngine.seen c.args.self.now c.args.port c.in_default.ensures.none))
+pub unreachable-requires : goal.unreachable-requires
+unreachable-requires g c =
+    let some = subst IsSome (unlinked g.E.PortEngine.seen c.args.self.now c.args.port c.in_default.ensures.none) c.requires.linked in
+    cc some
 
 pub invariant_of-self : goal.invariant_of-self
 invariant_of-self g c =

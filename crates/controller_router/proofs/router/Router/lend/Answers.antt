@@ -1,7 +1,6 @@
 use Rattle.std.proofs.Common.{◌≡◌, ap, sym, subst, ◌∙◌, Some}
-use Rattle.port_model.specs.Joins.{lent}
-use Rattle.world_model.specs.Performing.{works}
-use Rattle.controller_router.specs.Node.{IsPlaceOf, Node, acted, controller_of, ports_in}
+use Rattle.std.specs.Prelude.{IsSome}
+use Rattle.controller_router.specs.Node.{IsPlaceOf, Node, controller_of, ports_in}
 use Rattle.controller_router.proofs.AtWork.{linked_after, places_after, ports_after, unlinked}
 use Rattle.world_model.specs.Controller.{Linked, linked_at}
 use Rattle.port_model.specs.Port.{Port}
@@ -9,10 +8,10 @@ use Rattle.controller_router.specs.Engine.{IsSentUnder}
 use Rattle.controller_router.proofs.Joined.{at_engine, granted_at, lent_done}
 use Rattle.controller_router.proofs.router.Router.lend.Goals as goal
 
-pub returns-in_default-clause-acted : goal.returns-in_default-clause-acted
-returns-in_default-clause-acted g c = λ notes numbers linked grant found granted.
-    let a = acted g.E.PortEngine.seen c.args.self.now notes numbers in
-    ap (works a (λ setup desk w. lent w grant c.args.input)) (sym (unlinked g.E.PortEngine.seen c.args.self.now c.args.port c.in_default.ensures.none))
+pub unreachable-requires : goal.unreachable-requires
+unreachable-requires g c =
+    let some = subst IsSome (unlinked g.E.PortEngine.seen c.args.self.now c.args.port c.in_default.ensures.none) c.requires.linked in
+    cc some
 
 pub lend-requires : goal.lend-requires
 lend-requires g c =
@@ -20,7 +19,7 @@ lend-requires g c =
     let is = c.self.view_is in
     let place = subst (λ n. IsPlaceOf (ports_in seen n) c.args.port c.in-Some.place) (sym is) c.in-Some.ensures.some in
     let n0 : Node _ = record { node = c.self.inside.node; address = c.self.inside.address; routes = c.self.inside.routes; links = c.self.inside.links.items; client = c.self.inside.client } in
-    let sent = subst (λ n. (linked : Linked) → linked_at (controller_of seen n) c.args.port ≡ Some linked → IsSentUnder linked.port c.args.number) (sym is) c.requires in
+    let sent = subst (λ n. (linked : Linked) → linked_at (controller_of seen n) c.args.port ≡ Some linked → IsSentUnder linked.port c.args.number) (sym is) c.requires.sent in
     at_engine seen (λ (port : Port). IsSentUnder port c.args.number) n0 c.args.port c.in-Some.place c.index_mut.result.now c.self.invariant.linked place c.index_mut.ensures.value sent
 
 pub invariant_of-self : goal.invariant_of-self

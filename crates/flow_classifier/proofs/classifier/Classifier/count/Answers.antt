@@ -1,8 +1,9 @@
-use Rattle.std.proofs.Common.{◌≡◌, ◌≤◌, [], length, ◌∙◌, sym, ap, arith}
-use Rattle.port_model.specs.Counts.{most_flows, one_more, total}
+use Rattle.std.proofs.Common.{◌≡◌, ◌≤◌, [], length, ◌∙◌, sym, ap, arith, is_some, None}
+use Rattle.port_model.specs.Counts.{counted_of, most_flows, one_more, total}
+use Rattle.flow_classifier.specs.Counting.{Counting}
 use Rattle.flow_classifier.specs.Rows.{standing}
 use Rattle.flow_classifier.proofs.Derived.{eq_is}
-use Rattle.flow_classifier.proofs.Orders.{found, put_once, put_packets}
+use Rattle.flow_classifier.proofs.Orders.{found, not_counted, put_once, put_packets}
 use Rattle.flow_classifier.proofs.Tallies.{counted_up, up_to_date}
 use Rattle.flow_classifier.proofs.Turning.{new_is_put, ring_of, rows_put, set_is_put}
 use Rattle.flow_classifier.proofs.classifier.Classifier.count.Goals as goal
@@ -80,3 +81,13 @@ returns-in_ok-put-in-None-clause-ok c =
     let more = up ∙ ap one_more none ∙ ap (λ o. one_more (found inside.ticks o)) c.in-None.ensures.value in
     let once = put_once _ eq_is inside.ticks c.args.flow tally inside.rows.entries c.len-len.ensures.valid.0 more in
     rw (c.in_ok-put-in-None.ensures.entries, new_is_put _ eq_is c.args.flow tally inside.rows (sym c.in-None.ensures.value) c.self.invariant.rows.most, ← c.self.view_is) (λ i. record { window = inside.window; counts = once i })
+
+pub returns-in_err-tally-in-None-clause-memory : goal.returns-in_err-tally-in-None-clause-memory
+returns-in_err-tally-in-None-clause-memory c =
+    let none : counted_of c.args.self.now.counts c.args.flow ≡ None = ap (λ (k : Counting). counted_of k.counts c.args.flow) (sym c.self.view_is) ∙ not_counted _ eq_is c.self.inside.ticks c.args.flow c.self.inside.rows.entries (sym c.in-None.ensures.value) in
+    λ there. absurd (cc (sym (ap is_some none) ∙ there))
+
+pub returns-in_err-put-in-None-clause-memory : goal.returns-in_err-put-in-None-clause-memory
+returns-in_err-put-in-None-clause-memory c =
+    let none : counted_of c.args.self.now.counts c.args.flow ≡ None = ap (λ (k : Counting). counted_of k.counts c.args.flow) (sym c.self.view_is) ∙ not_counted _ eq_is c.self.inside.ticks c.args.flow c.self.inside.rows.entries (sym c.in-None.ensures.value) in
+    λ there. absurd (cc (sym (ap is_some none) ∙ there))

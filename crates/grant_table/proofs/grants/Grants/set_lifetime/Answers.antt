@@ -1,6 +1,6 @@
 use Rattle.std.proofs.Common.{◌≡◌, ◌∙◌, ◌<◌, length, map, sym, ap, arith}
 use Rattle.std.proofs.lemmas.List.{length-map, length-set}
-use Rattle.port_model.specs.Grants.{Grant}
+use Rattle.branch_desk.specs.port_model.Grants.{Grant}
 use Rattle.grant_table.specs.Held.{shown}
 use Rattle.grant_table.specs.Tags.{flow_tag, held_tag}
 use Rattle.grant_table.proofs.Places.{set_shown}

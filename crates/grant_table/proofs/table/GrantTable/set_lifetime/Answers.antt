@@ -1,6 +1,6 @@
 use Rattle.std.proofs.Common.{◌≡◌, ◌<◌, ◌∙◌, length, Some, refl}
 use Rattle.std.specs.Prelude.{slice_get}
-use Rattle.port_model.specs.Grants.{Grant, grant_label}
+use Rattle.branch_desk.specs.port_model.Grants.{Grant, grant_label}
 use Rattle.keyed_lists.specs.Keyed.{put}
 use Rattle.grant_table.proofs.Apart.{set_at, apart_put}
 use Rattle.grant_table.proofs.OfLabels.{labels_put}

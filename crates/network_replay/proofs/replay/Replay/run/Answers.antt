@@ -1,7 +1,7 @@
 use Rattle.std.proofs.Common.{◌≡◌, ◌∙◌, ◌+◌, ◌≤◌, true, false, ap, length, refl, subst, sym, arith}
-use Rattle.telling_model.specs.Placed.{events_in}
-use Rattle.world_model.specs.Limits.{event_limit}
-use Rattle.world_model.specs.Topology.{Topology}
+use Rattle.network_run.specs.telling_model.Placed.{events_in}
+use Rattle.script_model.specs.world_model.Limits.{event_limit}
+use Rattle.script_model.specs.world_model.Topology.{Topology}
 use Rattle.script_model.specs.Script.{events_of}
 use Rattle.script_model.specs.State.{ScriptState}
 use Rattle.world.specs.Network.{world_of}

@@ -1,5 +1,5 @@
 use Rattle.std.proofs.Common.{◌∙◌, ap}
-use Rattle.port_model.specs.Labels.{Label, serves}
+use Rattle.branch_desk.specs.port_model.Labels.{Label, serves}
 use Rattle.port_labels.specs.Book.{acknowledged}
 use Rattle.port_labels.specs.Held.{shown}
 use Rattle.port_labels.proofs.Steps.{changed_is, kept, recalled_some, serves_acknowledged}

@@ -1,7 +1,7 @@
 use Rattle.std.proofs.Common.{◌≡◌, ◌∙◌, ℕ, None, refl, ap, subst}
 use Rattle.std.specs.Prelude.{nat_le}
 use Rattle.keyed_lists.specs.Keyed.{entered}
-use Rattle.port_model.specs.Labels.{label_for}
+use Rattle.branch_desk.specs.port_model.Labels.{label_for}
 use Rattle.port_labels.specs.Book.{wiring, with_new_label}
 use Rattle.port_labels.specs.Index.{IsEntered}
 use Rattle.port_labels.proofs.Numbered.{ascending}

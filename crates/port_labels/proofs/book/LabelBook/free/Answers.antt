@@ -1,5 +1,5 @@
 use Rattle.std.proofs.Common.{ap}
-use Rattle.port_model.specs.Labels.{Wired, serves}
+use Rattle.branch_desk.specs.port_model.Labels.{Wired, serves}
 use Rattle.port_labels.specs.Held.{shown}
 use Rattle.port_labels.proofs.Numbered.{ascending}
 use Rattle.port_labels.proofs.Steps.{freed, state_is, state_some}

@@ -1,7 +1,7 @@
 use Rattle.std.proofs.Common.{ℕ, List, ap, ◌∙◌}
 use Rattle.std.specs.Prelude.{slice_get}
 use Rattle.std.proofs.lemmas.Option.{slice_get-map}
-use Rattle.port_model.specs.Labels.{label_number}
+use Rattle.branch_desk.specs.port_model.Labels.{label_number}
 use Rattle.port_labels.proofs.Steps.{number_finds}
 use Rattle.port_labels.proofs.book.LabelBook.number_at.Goals as goal
 

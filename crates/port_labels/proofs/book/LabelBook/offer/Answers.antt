@@ -1,5 +1,5 @@
 use Rattle.std.proofs.Common.{◌∙◌, sym, ap}
-use Rattle.port_model.specs.Labels.{Label, Offered, Wiring, serves}
+use Rattle.branch_desk.specs.port_model.Labels.{Label, Offered, Wiring, serves}
 use Rattle.port_labels.specs.Held.{shown}
 use Rattle.port_labels.proofs.Steps.{changed_is, kept, state_is, state_some}
 use Rattle.port_labels.proofs.book.LabelBook.offer.Goals as goal

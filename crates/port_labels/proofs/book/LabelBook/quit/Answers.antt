@@ -1,6 +1,6 @@
 use Rattle.std.proofs.Common.{◌≡◌, ◌∙◌, sym, ap, subst}
 use Rattle.ipv4_packet.specs.declared.flow.FlowId.{FlowId}
-use Rattle.port_model.specs.Labels.{Label, Wired, serves}
+use Rattle.branch_desk.specs.port_model.Labels.{Label, Wired, serves}
 use Rattle.port_labels.specs.Held.{flow_in, shown, state_in}
 use Rattle.port_labels.specs.Index.{IsRemoved}
 use Rattle.port_labels.proofs.Steps.{kept, kept_is, passed_serves, quitted}

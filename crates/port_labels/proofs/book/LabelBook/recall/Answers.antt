@@ -1,5 +1,5 @@
 use Rattle.std.proofs.Common.{◌∙◌, false, sym, ap}
-use Rattle.port_model.specs.Labels.{Label, Offered, Recalled, serves}
+use Rattle.branch_desk.specs.port_model.Labels.{Label, Offered, Recalled, serves}
 use Rattle.port_labels.specs.Held.{shown}
 use Rattle.port_labels.proofs.Steps.{changed_is, kept, state_is, state_some}
 use Rattle.port_labels.proofs.book.LabelBook.recall.Goals as goal

@@ -2,7 +2,7 @@ use Rattle.std.proofs.Common.{◌≡◌, ◌∙◌, ◌-◌, length, None, Some,
 use Rattle.std.specs.Prelude.{slice_get, option_map}
 use Rattle.std.proofs.lemmas.Option.{slice_get_read}
 use Rattle.keyed_lists.specs.Keyed.{at}
-use Rattle.port_model.specs.Labels.{label_number}
+use Rattle.branch_desk.specs.port_model.Labels.{label_number}
 use Rattle.port_labels.specs.Held.{labels_in, shown}
 use Rattle.port_labels.proofs.InPlace.{absent_below, absent_past, found_in}
 use Rattle.port_labels.proofs.places.Places.find.Goals as goal

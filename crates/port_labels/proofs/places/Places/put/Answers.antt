@@ -2,7 +2,7 @@ use Rattle.std.proofs.Common.{◌≡◌, ◌-◌, ◌+◌, ◌≤◌, None, Some
 use Rattle.std.specs.Prelude.{slice_get}
 use Rattle.std.proofs.lemmas.List.{length-set}
 use Rattle.keyed_lists.specs.Keyed.{at}
-use Rattle.port_model.specs.Labels.{label_number}
+use Rattle.branch_desk.specs.port_model.Labels.{label_number}
 use Rattle.port_labels.specs.Held.{labels_in, number_in, instance_in}
 use Rattle.port_labels.proofs.InPlace.{filled, filled_in_place, is_empty}
 use Rattle.port_labels.proofs.places.Places.put.Goals as goal

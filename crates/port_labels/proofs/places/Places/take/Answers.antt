@@ -2,7 +2,7 @@ use Rattle.std.proofs.Common.{◌≡◌, ◌∙◌, ◌-◌, None, refl, ap, ari
 use Rattle.std.specs.Prelude.{option_map, IsSome}
 use Rattle.std.proofs.lemmas.List.{length-set}
 use Rattle.keyed_lists.specs.Keyed.{at, without}
-use Rattle.port_model.specs.Labels.{label_number}
+use Rattle.branch_desk.specs.port_model.Labels.{label_number}
 use Rattle.port_labels.specs.Held.{labels_in, shown}
 use Rattle.port_labels.proofs.Numbered.{absent_without, entered_back}
 use Rattle.port_labels.proofs.InPlace.{IsTaken, emptied, emptied_in_place, found_in, range_of, rises, some_is, taken}

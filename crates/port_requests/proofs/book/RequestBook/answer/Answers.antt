@@ -1,7 +1,7 @@
 use Rattle.std.proofs.Common.{◌≡◌, ◌∙◌, ap, sym, filter, not, Contains}
-use Rattle.port_model.specs.Desk.{Desk, Standing}
-use Rattle.port_model.specs.DeskAnswers.{answered, after_answer}
-use Rattle.port_model.specs.DeskAnswers as meaning
+use Rattle.branch_desk.specs.port_model.Desk.{Desk, Standing}
+use Rattle.branch_desk.specs.port_model.DeskAnswers.{answered, after_answer}
+use Rattle.branch_desk.specs.port_model.DeskAnswers as meaning
 use Rattle.port_requests.proofs.Answering.{IsFailure, named, named_stands, told_done, told_failed, told_ports}
 use Rattle.port_requests.proofs.Books.{book_filter, failed_left, ticket_is, ticket_number}
 use Rattle.port_requests.proofs.Lists.{number_there}

@@ -1,7 +1,7 @@
 use Rattle.std.proofs.Common.{◌≡◌, ◌∙◌, ◌+◌, ◌++◌, ◌∷◌, [], List, ap, false, filter, length, not, arith}
 use Rattle.std.specs.List.{list_any}
-use Rattle.port_model.specs.Desk.{Desk, Standing, asked}
-use Rattle.port_model.specs.Requests.{withdraws}
+use Rattle.branch_desk.specs.port_model.Desk.{Desk, Standing, asked}
+use Rattle.branch_desk.specs.port_model.Requests.{withdraws}
 use Rattle.branch_desk.proofs.Numbers.{none_left}
 use Rattle.port_requests.proofs.Books.{book_push}
 use Rattle.port_requests.proofs.Lists.{filter_twice, length-filter-le, none_behind}

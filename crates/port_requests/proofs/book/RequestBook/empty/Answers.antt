@@ -1,5 +1,5 @@
 use Rattle.std.proofs.Common.{◌∙◌, ◌++◌, ◌∷◌, [], List, ap, filter, not, sym}
-use Rattle.port_model.specs.Desk.{Desk, Standing}
+use Rattle.branch_desk.specs.port_model.Desk.{Desk, Standing}
 use Rattle.branch_desk.specs.Requests.{AreRising}
 use Rattle.branch_desk.proofs.Numbers.{has}
 use Rattle.port_requests.proofs.Lists.{last_left, rising_front}

@@ -1,6 +1,6 @@
 use Rattle.std.proofs.Common.{◌≡◌, ◌<◌, ◌∙◌, List, ap, sym, length, get_or}
 use Rattle.std.proofs.lemmas.Option.{get_or_from_slice_get}
-use Rattle.port_model.specs.Desk.{Desk, Standing}
+use Rattle.branch_desk.specs.port_model.Desk.{Desk, Standing}
 use Rattle.port_requests.proofs.Books.{book_remove, standing_removed}
 use Rattle.port_requests.proofs.book.RequestBook.withdraw_at.Goals as goal
 

@@ -1,5 +1,5 @@
 use Rattle.std.proofs.Common.{◌≡◌, false, filter, inl, inr, not, refl, sym}
-use Rattle.port_model.specs.Desk.{Standing}
+use Rattle.branch_desk.specs.port_model.Desk.{Standing}
 use Rattle.port_requests.proofs.Lists.{all_kept}
 use Rattle.port_requests.proofs.book.RequestBook.withdraw_for.Goals as goal
 

@@ -1,5 +1,5 @@
 use Rattle.std.proofs.Common.{◌∙◌, List, ap, sym}
-use Rattle.port_model.specs.Desk.{Desk, Standing}
+use Rattle.branch_desk.specs.port_model.Desk.{Desk, Standing}
 use Rattle.branch_desk.specs.Requests.{AreApart, AreRising}
 use Rattle.branch_desk.specs.ByEnd.{IsUnder}
 use Rattle.port_requests.proofs.Books.{found_number_there, found_on, none_on, on_taken}

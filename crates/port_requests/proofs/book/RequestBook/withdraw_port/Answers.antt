@@ -1,7 +1,7 @@
 use Rattle.std.proofs.Common.{◌≡◌, ◌∙◌, ◌+◌, ◌-◌, ap, sym, get_or, true, false, arith}
 use Rattle.gsmp_wire.specs.declared.request.Request.TheVariants.{DeleteAll}
-use Rattle.port_model.specs.Desk.{Desk, Standing}
-use Rattle.port_model.specs.Requests.{withdraws}
+use Rattle.branch_desk.specs.port_model.Desk.{Desk, Standing}
+use Rattle.branch_desk.specs.port_model.Requests.{withdraws}
 use Rattle.port_requests.proofs.Lists.{IsSwept, sweep_kept, sweep_taken, swept_request}
 use Rattle.port_requests.proofs.book.RequestBook.withdraw_port.Goals as goal
 

@@ -1,6 +1,6 @@
 use Rattle.std.proofs.Common.{◌≡◌}
-use Rattle.port_model.specs.Desk.{Standing}
-use Rattle.port_model.specs.Requests.{withdraws}
+use Rattle.branch_desk.specs.port_model.Desk.{Standing}
+use Rattle.branch_desk.specs.port_model.Requests.{withdraws}
 use Rattle.gsmp_wire.specs.declared.request.Request.TheVariants.{DeleteAll}
 use Rattle.port_requests.proofs.Lists.{IsSwept}
 use Rattle.port_requests.proofs.book.RequestBook.withdraw_port.Given as goal

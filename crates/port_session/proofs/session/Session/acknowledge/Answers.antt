@@ -1,6 +1,6 @@
 use Rattle.std.proofs.Common.{refl}
 use Rattle.port_labels.specs.Book.{acknowledged}
-use Rattle.port_model.specs.Labels.{Label}
+use Rattle.branch_desk.specs.port_model.Labels.{Label}
 use Rattle.port_session.proofs.Changed.{changed_labels, tied_changed}
 use Rattle.port_session.proofs.session.Session.acknowledge.Goals as goal
 

@@ -2,7 +2,7 @@ use Rattle.std.proofs.Common.{◌≡◌, ◌≤◌, ◌∙◌, ap, is_some, true
 use Rattle.label_pool.specs.Tag.{Tag}
 use Rattle.label_pool.specs.declared.label.Spare.{Spare}
 use Rattle.keyed_lists.specs.Keyed.{at}
-use Rattle.port_model.specs.Labels.{Wired, label_number}
+use Rattle.branch_desk.specs.port_model.Labels.{Wired, label_number}
 use Rattle.port_session.proofs.Spares.{between, held_absent, held_in_state, tied_given_back}
 use Rattle.port_session.proofs.session.Session.free.Goals as goal
 

@@ -1,5 +1,5 @@
 use Rattle.std.proofs.Common.{refl}
-use Rattle.port_model.specs.Labels.{Label, Offered}
+use Rattle.branch_desk.specs.port_model.Labels.{Label, Offered}
 use Rattle.port_session.proofs.Changed.{changed_labels, tied_changed}
 use Rattle.port_session.proofs.session.Session.offer.Goals as goal
 

@@ -1,6 +1,6 @@
 use Rattle.std.proofs.Common.{Bool, true, false, cond}
 use Rattle.port_labels.specs.Book.{in_state}
-use Rattle.port_model.specs.Labels.{Label, Wired}
+use Rattle.branch_desk.specs.port_model.Labels.{Label, Wired}
 use Rattle.port_session.specs.Session.{AreTied}
 use Rattle.port_session.proofs.Changed.{tied_changed}
 use Rattle.port_session.proofs.session.Session.quit.Goals as goal

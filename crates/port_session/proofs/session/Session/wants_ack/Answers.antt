@@ -1,5 +1,5 @@
-use Rattle.port_model.specs.Labels.{Label}
-use Rattle.port_model.specs.Ticks.{is_unpassed}
+use Rattle.branch_desk.specs.port_model.Labels.{Label}
+use Rattle.branch_desk.specs.port_model.Ticks.{is_unpassed}
 use Rattle.port_session.proofs.Passing.{any_there, none_more}
 use Rattle.port_session.proofs.session.Session.wants_ack.Goals as goal
 

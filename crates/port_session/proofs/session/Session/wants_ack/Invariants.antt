@@ -1,7 +1,7 @@
 use Rattle.std.proofs.Common.{◌≡◌, false, take}
 use Rattle.std.specs.List.{list_any}
-use Rattle.port_model.specs.Labels.{Label}
-use Rattle.port_model.specs.Ticks.{is_unpassed}
+use Rattle.branch_desk.specs.port_model.Labels.{Label}
+use Rattle.branch_desk.specs.port_model.Ticks.{is_unpassed}
 use Rattle.port_session.proofs.session.Session.wants_ack.Given as goal
 
 abbrev pub invariant-loop-place : goal.invariant-loop-place

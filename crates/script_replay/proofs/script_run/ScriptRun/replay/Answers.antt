@@ -1,7 +1,7 @@
 use Rattle.std.proofs.Common.{Option, Result, subst, sym}
 use Rattle.script_model.specs.declared.refusal.Refused.{Refused}
 use Rattle.script_model.specs.Script.{script_of}
-use Rattle.telling_model.specs.Placed.{placed_of}
+use Rattle.network_run.specs.telling_model.Placed.{placed_of}
 use Rattle.network_run.proofs.Telling.{stays_then}
 use Rattle.script_replay.specs.declared.fault.ReplayFault.{ReplayFault}
 use Rattle.script_replay.specs.Reading.{Tells}

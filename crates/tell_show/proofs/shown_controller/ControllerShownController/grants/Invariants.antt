@@ -1,7 +1,7 @@
 use Rattle.std.proofs.Common.{◌≡◌, length, min, take}
 use Rattle.std.specs.List.{sum_by}
 use Rattle.port_model.specs.Redirection.{greatest_tally}
-use Rattle.controller_joining.specs.Joining.{controller_of}
+use Rattle.controller.specs.Controlling.{controller_of}
 use Rattle.tell_show.proofs.shown_controller.ControllerShownController.grants.Given as goal
 
 abbrev pub invariant-loop-place : goal.invariant-loop-place

@@ -1,5 +1,5 @@
 use Rattle.std.proofs.Common.{◌+◌, ◌∙◌, ℕ, List, length, min, slice_get, arith, ap}
-use Rattle.controller_joining.specs.Joining.{controller_of}
+use Rattle.controller.specs.Controlling.{controller_of}
 use Rattle.port_model.specs.Port.{labels_of}
 use Rattle.port_model.specs.Redirection.{greatest_tally}
 use Rattle.world_model.specs.Controller.{Linked}

@@ -2,7 +2,7 @@ use Rattle.std.proofs.Common.{◌≡◌, length, min, take}
 use Rattle.std.specs.List.{sum_by}
 use Rattle.port_model.specs.Port.{labels_of}
 use Rattle.port_model.specs.Redirection.{greatest_tally}
-use Rattle.controller_joining.specs.Joining.{controller_of}
+use Rattle.controller.specs.Controlling.{controller_of}
 use Rattle.tell_show.proofs.shown_controller.ControllerShownController.labels.Given as goal
 
 abbrev pub invariant-loop-place : goal.invariant-loop-place

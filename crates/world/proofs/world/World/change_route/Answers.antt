@@ -1,8 +1,8 @@
 use Rattle.std.proofs.Common.{arith, refl, sym, subst}
 use Rattle.world_model.specs.Changes.{change_comes}
-use Rattle.law_actor_pace.proofs.Controllers.{change_changes}
+use Rattle.law_world_pace.proofs.law_actor_pace.Controllers.{change_changes}
 use Rattle.world.specs.declared.site.Site.{Site as Node}
-use Rattle.world.specs.Nodes.{NamesLinked}
+use Rattle.node_controller.specs.Nodes.{NamesLinked}
 use Rattle.world.proofs.Acting.{controller_came, summand_redirects}
 use Rattle.world.proofs.world.World.change_route.Goals as goal
 

@@ -1,6 +1,6 @@
 use Rattle.std.proofs.Common.{arith, refl, ◌+◌}
 use Rattle.world_model.specs.Cells.{cell_comes}
-use Rattle.law_actor_pace.proofs.Controllers.{cell_follows}
+use Rattle.law_world_pace.proofs.law_actor_pace.Controllers.{cell_follows}
 use Rattle.world.proofs.Acting.{controller_came, summand_redirects}
 use Rattle.world.proofs.world.World.controller_takes.Goals as goal
 

@@ -2,10 +2,10 @@ use Rattle.std.proofs.Common.{◌∙◌, sym, subst, ap, refl, arith, Option, So
 use Rattle.link_model.specs.declared.record.Refusal.{Refusal}
 use Rattle.refusal_names.specs.Names.{packet_refusal}
 use Rattle.world_model.specs.Packets.{inject_refusal, injected}
-use Rattle.law_actor_pace.proofs.Controllers.{injected_paces}
+use Rattle.law_world_pace.proofs.law_actor_pace.Controllers.{injected_paces}
 use Rattle.world.specs.Coming.{entered_by}
 use Rattle.world.specs.Network.{world_of}
-use Rattle.world.specs.Nodes.{refusal_of}
+use Rattle.node_controller.specs.Nodes.{refusal_of}
 use Rattle.world.proofs.Acting.{controller_came, come_as, none_drawn, nothing_came, same_option, stays_put, summand_redirects}
 use Rattle.world.proofs.world.World.enter.Goals as goal
 

@@ -1,6 +1,6 @@
 use Rattle.std.proofs.Common.{arith, refl}
 use Rattle.world_model.specs.Ticks.{ticks}
-use Rattle.law_actor_pace.proofs.Controllers.{ticks_paces}
+use Rattle.law_world_pace.proofs.law_actor_pace.Controllers.{ticks_paces}
 use Rattle.world.proofs.Acting.{controller_came, summand_redirects}
 use Rattle.world.proofs.world.World.tick.Goals as goal
 

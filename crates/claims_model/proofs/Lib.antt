@@ -1,0 +1,1 @@
+pub use Rattle.world_model.proofs as world_model

@@ -1,0 +1,4 @@
+pub mod Places
+pub mod Grants
+pub mod Labels
+pub mod Ticking

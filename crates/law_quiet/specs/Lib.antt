@@ -1,3 +1,0 @@
-pub mod Costs
-pub mod Weights
-pub mod Law

@@ -1,0 +1,3 @@
+pub use Rattle.world_model.specs as world_model
+pub mod Beats
+pub mod Met

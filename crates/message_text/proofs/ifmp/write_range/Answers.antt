@@ -1,0 +1,14 @@
+use Rattle.message_text.proofs.Fronts.{here, next, on_err, said}
+use Rattle.message_text.proofs.ifmp.write_range.Goals as goal
+
+pub returns-in_err-write_head-clause-err : goal.returns-in_err-write_head-clause-err
+returns-in_err-write_head-clause-err c =
+    said c.from_residual.result _ (here _ _ _ _ c.in_err-write_head.ensures.err)
+
+pub returns-in_err-write_channel-clause-err : goal.returns-in_err-write_channel-clause-err
+returns-in_err-write_channel-clause-err c =
+    said c.from_residual-in_err-write_channel.result _ (next _ _ _ _ _ c.in_ok-write_head.ensures.ok (here _ _ _ _ c.in_err-write_channel.ensures.err))
+
+pub returns-clause-err : goal.returns-clause-err
+returns-clause-err c =
+    on_err c.write_channel-2.result _ _ (λ h. next _ _ _ _ _ c.in_ok-write_head.ensures.ok (next _ _ _ _ _ c.in_ok-write_channel.ensures.ok (h))) c.write_channel-2.ensures.err

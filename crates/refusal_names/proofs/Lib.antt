@@ -1,0 +1,1 @@
+pub use Rattle.flow_encaps.proofs as flow_encaps

@@ -1,0 +1,1 @@
+pub use Rattle.script_model.specs as script_model

@@ -1,0 +1,1 @@
+pub use Rattle.script_model.proofs as script_model
