@@ -13,8 +13,6 @@ mod hearing;
 mod keyword;
 mod lab;
 mod script;
-#[cfg(test)]
-mod tests;
 mod words;
 
 pub use console_model::{ConsoleEvent, ConsoleFault, ConsoleLine, Reply, Side};
