@@ -14,4 +14,5 @@ mod ticket;
 pub use answered::{Answered, Ports};
 pub use by_end::MOST_REQUESTS;
 pub use desk::{Desk, DeskFull, MOST_ASKED};
+pub use gsmp_wire::Request;
 pub use ticket::{BranchDone, Ticket, redeem};
