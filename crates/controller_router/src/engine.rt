@@ -84,6 +84,7 @@ pub trait PortEngine {
     /// The port begins anew in Clearing, under the instance `own`, with its controller: its session and
     /// its grants end, and nothing is asked.
     fn restart(&mut self, own: Instance, out: &mut Actions) -> Result<(), OutOfMemory>
+        requires { 1 ≤ own.0 }
         ensures setup { (seen self.new).setup ≡ (seen self.old).setup }
         ensures work { (n : ℕ) → own ≡ record { 0 = n + 1 } → OnOk result (HasDone (seen self.old) (seen self.new) out.new (n + 1) (restarts (seen self.old).setup (begun (seen self.old).port out.old n))) };
 

@@ -162,6 +162,7 @@ impl<P: Policy> Link<P> {
     /// The port begins anew in Clearing, under the instance `own`, with its controller: its session and
     /// its grants end, and nothing is asked.
     pub fn restart(&mut self, own: Instance, out: &mut Actions) -> Result<(), OutOfMemory>
+        requires { 1 ≤ own.0 }
         ensures fixed { self.new.fixed ≡ self.old.fixed }
         ensures work { (n : ℕ) → own ≡ record { 0 = n + 1 } → OnOk result (HasDone self.old self.new out.new (n + 1) (restarts (setup_of P.meaning self.old.fixed) (begun self.old.port out.old n))) }
     {

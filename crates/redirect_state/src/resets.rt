@@ -51,6 +51,7 @@ pub(crate) fn restart<P: Policy>(
     own: Instance,
     out: &mut Actions,
 ) -> Result<(), OutOfMemory>
+    requires { 1 ≤ own.0 }
     ensures fixed { state.new.fixed ≡ state.old.fixed }
     ensures work { (n : ℕ) → own ≡ record { 0 = n + 1 } → OnOk result (HasDone state.old state.new out.new (n + 1) (restarts (setup_of P.meaning state.old.fixed) (begun state.old.port out.old n))) }
 {
