@@ -6,7 +6,7 @@ ghost use Rattle.world_model.specs.Topology.{new_node, range_among};
 
 use crate::routes::RouteList;
 use ipv4_forward::Next;
-use net_types::{Addr, Octets, OutOfMemory, PortNo, Prefix};
+use net_types::{Addr, LEAST_LABEL_VCI, Octets, OutOfMemory, PortNo, Prefix};
 use std::alloc::Global;
 use std::marker::Model;
 use world_model::PortRange;
@@ -14,10 +14,10 @@ use world_model::PortRange;
 /// The slots of a region where no line says how many.
 const CELLS: u32 = 1024;
 
-/// The least label of a port where no line says which.
-const LEAST_LABEL: u16 = 32;
+/// The number of the least label of a port where no line says which: the least that there is.
+const LEAST_LABEL: u16 = LEAST_LABEL_VCI;
 
-/// The greatest.
+/// The number of the greatest label of a port where no line says which.
 const GREATEST_LABEL: u16 = 95;
 
 /// The configuration of an IP switch (a node), with its static routes.

@@ -16,7 +16,7 @@ use crate::node::Node;
 use crate::plan::Plan;
 use crate::routes::RouteList;
 use ipv4_forward::{Next, Table};
-use net_types::{Addr, NodeId, OutOfMemory, PortNo, Prefix};
+use net_types::{Addr, LABEL_VPIS, NodeId, OutOfMemory, PortNo, Prefix};
 use port_model::Timers;
 use std::alloc::Global;
 use std::marker::Model;
@@ -310,7 +310,11 @@ impl Topology {
     pub fn vpis(&self) -> u8
         ensures { result ≡ vpis_of self.now }
     {
-        if self.plan.version == 2 { 16 } else { 1 }
+        if self.plan.version == 2 {
+            LABEL_VPIS as u8
+        } else {
+            1
+        }
     }
 }
 
