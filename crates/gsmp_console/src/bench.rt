@@ -12,7 +12,7 @@ ghost use Rattle.gsmp_console.specs.Bench.{Draws, HasLeft, lab_in, reset_in};
 ghost use Rattle.gsmp_wire.specs.Range.{Bits, IsInRange};
 ghost use Rattle.port_model.specs.Desk.{last_transaction};
 
-use crate::console::Console;
+use crate::console::{CELLS, Console};
 use console_model::Reply;
 use frame_model::send_frame;
 use gsmp_adjacency::Answer as AdjacencyAnswer;
@@ -22,9 +22,6 @@ use link_model::Notes;
 use net_types::{DEFAULT_CHANNEL, Greeting, NodeId, Numbers, OutOfMemory, PortNo};
 use std::alloc::Global;
 use std::marker::Model;
-
-/// The slots of the switch's region.
-const CELLS: usize = 1024;
 
 /// The ports of links at most.
 static PORTS: [PortNo; 8] = [

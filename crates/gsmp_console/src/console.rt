@@ -30,8 +30,8 @@ use port_requests::{Answer, RequestBook};
 use std::alloc::Global;
 use std::marker::Model;
 
-/// The slots of the region.
-const CELLS: usize = 1024;
+/// How many cells the region of the console has room for, and that of its switch.
+pub(crate) const CELLS: usize = 1024;
 
 /// The console. It must be given up by [`Console::abandon`].
 #[must_use]

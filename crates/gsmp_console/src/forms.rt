@@ -7,7 +7,13 @@ ghost use Rattle.console_model.specs.Lines.{end_of, number, port, side_of};
 
 use console_model::{ConsoleFault, Side};
 use lab_text::read_number;
-use net_types::{Channel, End, PortNo};
+use net_types::{Channel, End, LAST_PORT, PortNo};
+
+/// The greatest number of a port for a link, and how many a switch has at most.
+pub(crate) const PORTS: u32 = LAST_PORT as u32;
+
+/// The greatest VCI (I.361 2.2).
+const GREATEST_VCI: u32 = 65_535;
 
 /// The number that `word` spells in decimal, where it is within these bounds.
 fn number_in(word: &[u8], least: u32, greatest: u32) -> Option<u32>
@@ -36,7 +42,7 @@ pub(crate) fn port(word: &[u8]) -> Result<PortNo, ConsoleFault>
     ensures port { result ≡ port word.now }
     ensures within { IfOk result IsPort }
 {
-    let number = number(word, 1, 8)?;
+    let number = number(word, 1, PORTS)?;
     Ok(PortNo(number as u8))
 }
 
@@ -46,7 +52,7 @@ pub(crate) fn end_of(port_word: &[u8], vci: &[u8]) -> Result<End, ConsoleFault>
     ensures within { IfOk result IsEnd }
 {
     let port = port(port_word)?;
-    let vci = number(vci, 0, 65_535)?;
+    let vci = number(vci, 0, GREATEST_VCI)?;
     Ok(End {
         port,
         channel: Channel {

@@ -4,7 +4,7 @@ ghost use Rattle.std.specs.Prelude.{◌≡◌, ◌+◌, IfOk, length};
 ghost use Rattle.console_model.specs.Lines.{event_meant, is_too_many, line_says, meant, nothing_read, rounds_of, text_says, with_counted, with_event_line, with_said};
 ghost use Rattle.gsmp_console.specs.Script.{HasRoom, IsSayable, at_most, counted_up_to, refused_by};
 
-use crate::commands::said;
+use crate::commands::{ROUNDS, said};
 use crate::keyword::keyword_of;
 use console_model::{ConsoleFault, ConsoleLine};
 use lab_text::{LineFault, check_line, is_blank_line, split_word};
@@ -12,9 +12,6 @@ use std::marker::Model;
 
 /// The most lines of events.
 const EVENT_LINES: u32 = 200_000;
-
-/// The most rounds of all lines.
-const ROUNDS: u32 = 100_000;
 
 /// Where the counts of octets and lines stay.
 const LAST: u32 = 4_294_967_295;
