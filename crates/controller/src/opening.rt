@@ -144,7 +144,7 @@ pub(crate) fn open_router<E: OpenEngine>(
                 engines,
                 Actions::new(alloc),
             );
-            Ok(JoiningRouter::new(alloc, router))
+            JoiningRouter::open(alloc, router)
         }
         Err(error) => {
             client.abandon();

@@ -1,6 +1,6 @@
 //! The router and its joins.
 
-ghost use Rattle.std.specs.Prelude.{◌≡◌, ◌&&◌, [], not, if◌then◌else◌};
+ghost use Rattle.std.specs.Prelude.{◌≡◌, ◌&&◌, [], not, IfOk, if◌then◌else◌};
 ghost use Rattle.adjacency_table.specs.Side.{is_estab};
 ghost use Rattle.controller_joins.specs.world_model.Controller.{ports_of};
 ghost use Rattle.law_join_facts.specs.Joins.{HaveNumbers};
@@ -9,6 +9,7 @@ ghost use Rattle.controller_joining.specs.Joining.{controller_of};
 
 use controller_joins::Joins;
 use controller_router::{PortEngine, Router};
+use net_types::OutOfMemory;
 use std::alloc::Global;
 use std::marker::Model;
 
@@ -30,13 +31,16 @@ impl<E: PortEngine> Model for JoiningRouter<E> {
 }
 
 impl<E: PortEngine> JoiningRouter<E> {
-    /// A router of which no label is joined.
-    pub fn new(alloc: Global, router: Router<E>) -> JoiningRouter<E>
-        ensures { result ≡ record { router = router; joins = [] } }
+    /// A router of which no label is joined. Where memory is wanting it is given up.
+    pub fn open(alloc: Global, router: Router<E>) -> Result<JoiningRouter<E>, OutOfMemory>
+        ensures { IfOk result (λ joining. joining ≡ record { router = router; joins = [] }) }
     {
-        JoiningRouter {
-            router,
-            joins: Joins::new(alloc),
+        match Joins::open(alloc) {
+            Ok(joins) => Ok(JoiningRouter { router, joins }),
+            Err(error) => {
+                router.abandon();
+                Err(error)
+            }
         }
     }
 

@@ -1,6 +1,6 @@
 //! All joins of a controller.
 
-ghost use Rattle.std.specs.Prelude.{◌≡◌, ◌==◌, ◌↔◌, [], not, false, filter, find, length, slice_get, IsTrue, OnOk, OnErr};
+ghost use Rattle.std.specs.Prelude.{◌≡◌, ◌==◌, ◌<◌, ◌↔◌, [], not, false, filter, find, length, slice_get, IsTrue, IsOk, IfOk, OnOk, OnErr};
 ghost use Rattle.std.specs.List.{list_any};
 ghost use Rattle.crossbar_model.specs.Crossbar.{same_end};
 ghost use Rattle.keyed_lists.specs.Keyed.{entered};
@@ -12,6 +12,9 @@ use net_types::{Channel, End, OutOfMemory, PortNo};
 use std::alloc::Global;
 use std::marker::Model;
 
+/// For how many joins room is taken at the opening. It is this project's own choice.
+const ROOM: usize = 1024;
+
 /// The cross-connects of a controller (its joins), in ascending order of their inputs, of which
 /// each has one. This project's own.
 #[derive(Debug, Drop)]
@@ -20,7 +23,8 @@ pub struct Joins {
 }
 
 impl Model for Joins {
-    ghost use Rattle.std.specs.Prelude.{List};
+    ghost use Rattle.std.specs.Prelude.{◌≤◌, List};
+    ghost use Rattle.std.specs.Vec.{vec_capacity};
     ghost use Rattle.controller_joins.specs.declared.places.Joined.{Joined as JoinedValue};
     ghost use Rattle.controller_joins.specs.Joined.{AreInOrder};
 
@@ -28,17 +32,20 @@ impl Model for Joins {
 
     ghost view = { λ j. j.list.items };
 
-    ghost invariant = { λ j. AreInOrder j.list.items };
+    ghost invariant = { λ j. record {
+      order : AreInOrder j.list.items;
+      room : 1024 ≤ vec_capacity j.list;
+    } };
 }
 
 impl Joins {
-    /// None yet.
-    pub fn new(alloc: Global) -> Joins
-        ensures { result ≡ [] }
+    /// None yet, with room for 1,024.
+    pub fn open(alloc: Global) -> Result<Joins, OutOfMemory>
+        ensures { IfOk result (λ joins. joins ≡ []) }
     {
-        Joins {
-            list: Vec::new(alloc),
-        }
+        Ok(Joins {
+            list: Vec::with_capacity(alloc, ROOM)?,
+        })
     }
 
     /// How many there are.
@@ -95,11 +102,13 @@ impl Joins {
         }
     }
 
-    /// Enters a join of an input that isn't joined. Want of memory changes nothing.
+    /// Enters a join of an input that isn't joined. Want of memory comes only where 1,024 joins or more
+    /// are there, and changes nothing.
     pub fn enter(&mut self, joined: Joined) -> Result<(), OutOfMemory>
         requires { list_any (λ j. same_end j.input joined.input) self.old ≡ false }
         ensures ok { OnOk result (self.new ≡ entered (λ a b. end_le a.input b.input) joined self.old) }
         ensures err { OnErr result (self.new ≡ self.old) }
+        ensures memory { length self.old < 1024 → IsOk result }
     {
         let Err(gap) = place_of(&self.list, joined.input) else {
             unreachable!()

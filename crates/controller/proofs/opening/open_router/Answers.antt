@@ -1,4 +1,5 @@
 use Rattle.std.proofs.Common.{map, ap, sym, subst, ◌∙◌}
+use Rattle.std.proofs.lemmas.Result.{IfOk-weaker}
 use Rattle.net_types.specs.Number.{GivenOut}
 use Rattle.world_model.specs.Opening.{setup_of}
 use Rattle.controller_gsmp.specs.Client.{Client}
@@ -22,5 +23,7 @@ returns-in-Ok-clause-controller g c =
     let ends = map seen c.in-Ok.engines.items in
     let policy = g.E.OpenEngine.meaning c.args.policy in
     let are = c.in-Ok.ensures.engines ∙ ap (λ (n : GivenOut). opened_ends (setup_of c.args.setup.now.node c.args.setup.now.address c.args.setup.now.timers policy) n.instances c.args.setup.now.ports.now) c.instance-own.ensures.given in
-    ap (λ (j : Joining _). controller_of seen j) c.new-in-Ok-2.ensures ∙ rw (c.new-router.ensures, c.new.ensures, c.in_ok-client.ensures, c.instance-own.ensures.next)
-    (opened_is c.args.setup.now.node c.args.setup.now.address c.args.table c.args.setup.now.ports.now c.args.setup.now.cells c.args.setup.now.timers policy c.args.numbers.now ends are)
+    IfOk-weaker c.open-in-Ok.result _ _
+    (λ j e. ap (λ (j : Joining _). controller_of seen j) e ∙ rw (c.new-router.ensures, c.new.ensures, c.in_ok-client.ensures, c.instance-own.ensures.next)
+    (opened_is c.args.setup.now.node c.args.setup.now.address c.args.table c.args.setup.now.ports.now c.args.setup.now.cells c.args.setup.now.timers policy c.args.numbers.now ends are))
+    c.open-in-Ok.ensures

@@ -1,4 +1,4 @@
-use Rattle.std.proofs.Common.{◌≡◌, ◌∙◌, false, sym}
+use Rattle.std.proofs.Common.{◌≡◌, ◌∙◌, arith, false, sym}
 use Rattle.std.specs.List.{list_any}
 use Rattle.crossbar_model.specs.Crossbar.{same_end}
 use Rattle.controller_joins.specs.Joined.{IsGapFor}
@@ -13,7 +13,10 @@ unreachable-requires c =
 pub invariant_of-self-2 : goal.invariant_of-self-2
 invariant_of-self-2 c =
     let gap : IsGapFor c.self.inside.list.items c.args.joined.input c.in-Err.gap = rw (← c.deref.ensures.value) c.in-Err.ensures.absent in
-    rw c.in_ok-insert.ensures.items (order_entered c.self.inside.list.items c.args.joined c.in-Err.gap gap c.self.invariant)
+    record {
+      order = rw c.in_ok-insert.ensures.items (order_entered c.self.inside.list.items c.args.joined c.in-Err.gap gap c.self.invariant.order);
+      room = omega (arith, c.insert.ensures.capacity, c.self.invariant.room);
+    }
 
 pub returns-clause-ok : goal.returns-clause-ok
 returns-clause-ok c =

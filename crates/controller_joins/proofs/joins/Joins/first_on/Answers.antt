@@ -21,4 +21,4 @@ returns-else-joined-port-clause-found c =
     let first : IsFirstFrom c.self.inside.list.items (least_of c.args.port) c.first_from-place.result = rw (← c.deref.ensures.value) c.first_from-place.ensures in
     let within : c.first_from-place.result < length c.self.inside.list.items = omega (arith, first.within) in
     let here : (get_or c.self.inside.list.items c.first_from-place.result c.index-joined.result.now).input.port.0 == c.args.port.0 ≡ false = rw (← c.index-joined.ensures) (differ _ _ c.if-joined-port.false) in
-    rw (← c.self.view_is) (sym (none_on_port c.self.inside.list.items c.args.port c.first_from-place.result c.index-joined.result.now c.self.invariant first within here))
+    rw (← c.self.view_is) (sym (none_on_port c.self.inside.list.items c.args.port c.first_from-place.result c.index-joined.result.now c.self.invariant.order first within here))
